@@ -1,0 +1,114 @@
+-- No two kinds have one number, and no two print the same.
+use Rattle.std.specs.Prelude.{◌≡◌, ℕ, ◌<◌, ◌+◌, ◌*◌, List, [], ◌∷◌, Bool, map, slice_index_or, true, false, codes, ◌==◌, if◌then◌else◌}
+use Rattle.std.proofs.Common.{refl, sym, ap, ◌∙◌, arith, lit<, get_or}
+use Rattle.std.proofs.lemmas.Fmt.{decimal_injective}
+use Rattle.std.proofs.lemmas.List.{append_cancel_left, append_cancel_right}
+use Rattle.lossless_tree.specs.Kinds.{kind_raw, kind_name, NumbersDiffer, NamesDiffer}
+use Rattle.lossless_tree.specs.declared.syntax_kind.SyntaxKind.{SyntaxKind}
+use Rattle.lossless_tree.specs.declared.syntax_kind.SyntaxKind.TheVariants.{Token, Node, OTHER}
+use Rattle.lossless_tree.specs.declared.syntax_kind.token_kind.TokenKind.{TokenKind}
+use Rattle.lossless_tree.specs.declared.syntax_kind.token_kind.TokenKind.TheVariants as token
+use Rattle.lossless_tree.specs.declared.syntax_kind.node_kind.NodeKind.{NodeKind}
+use Rattle.lossless_tree.specs.declared.syntax_kind.node_kind.NodeKind.TheVariants as node
+use Rattle.lossless_tree.specs.declared.syntax_kind.all.TheConstants.{KINDS}
+
+-- `OTHER` apart, a kind's number is below 264
+pub token_raw_small : (t : TokenKind) → kind_raw (Token t) < 264
+token_raw_small token.WHITESPACE = lit< tt
+token_raw_small _ = lit< tt
+
+pub node_raw_small : (t : NodeKind) → kind_raw (Node t) < 264
+node_raw_small node.SOURCE_FILE = lit< tt
+node_raw_small _ = lit< tt
+
+-- each kind stands in the table at its number
+token_listed : (t : TokenKind) (d : SyntaxKind) → slice_index_or KINDS (kind_raw (Token t)) d ≡ Token t
+token_listed token.WHITESPACE d = refl
+token_listed _ d = refl
+
+node_listed : (t : NodeKind) (d : SyntaxKind) → slice_index_or KINDS (kind_raw (Node t)) d ≡ Node t
+node_listed node.SOURCE_FILE d = refl
+node_listed _ d = refl
+
+pub listed : (k : SyntaxKind) (d : SyntaxKind) → kind_raw k < 264 → slice_index_or KINDS (kind_raw k) d ≡ k
+listed (Token t) d h = token_listed t d
+listed (Node t) d h = node_listed t d
+listed (OTHER n) d h = absurd (omega arith)
+
+listed-injective : (j k : SyntaxKind) → kind_raw j < 264 → kind_raw k < 264 → kind_raw j ≡ kind_raw k → j ≡ k
+listed-injective j k p q e = sym (listed j j p) ∙ ap (λ i. slice_index_or KINDS i j) e ∙ listed k j q
+
+pub kind_raw-injective : NumbersDiffer
+kind_raw-injective (OTHER m) (OTHER n) e = let same : m ≡ n = omega arith in ap OTHER same
+kind_raw-injective (OTHER m) (Token t) e = absurd (omega (arith, token_raw_small t))
+kind_raw-injective (OTHER m) (Node t) e = absurd (omega (arith, node_raw_small t))
+kind_raw-injective (Token t) (OTHER m) e = absurd (omega (arith, token_raw_small t))
+kind_raw-injective (Node t) (OTHER m) e = absurd (omega (arith, node_raw_small t))
+kind_raw-injective (Token t) (Token u) e = listed-injective (Token t) (Token u) (token_raw_small t) (token_raw_small u) e
+kind_raw-injective (Token t) (Node u) e = listed-injective (Token t) (Node u) (token_raw_small t) (node_raw_small u) e
+kind_raw-injective (Node t) (Token u) e = listed-injective (Node t) (Token u) (node_raw_small t) (token_raw_small u) e
+kind_raw-injective (Node t) (Node u) e = listed-injective (Node t) (Node u) (node_raw_small t) (node_raw_small u) e
+
+-- the number that the bytes of a name make, and where it comes among the names of the table
+abbrev number_of : ℕ → List ℕ → ℕ
+number_of n [] = n
+number_of n (b ∷ bs) = number_of (256 * n + b) bs
+
+abbrev place_in : List ℕ → ℕ → ℕ
+place_in [] n = 0
+place_in (x ∷ xs) n = if x == n then 0 else (place_in xs n + 1)
+
+abbrev table_numbers : List ℕ
+table_numbers = map (λ k. number_of 0 (kind_name k)) KINDS
+
+abbrev place_of : List ℕ → ℕ
+place_of name = place_in table_numbers (number_of 0 name)
+
+token_place : (t : TokenKind) → place_of (kind_name (Token t)) ≡ kind_raw (Token t)
+token_place token.WHITESPACE = refl
+token_place _ = refl
+
+node_place : (t : NodeKind) → place_of (kind_name (Node t)) ≡ kind_raw (Node t)
+node_place node.SOURCE_FILE = refl
+node_place _ = refl
+
+place_of-kind_name : (k : SyntaxKind) → kind_raw k < 264 → place_of (kind_name k) ≡ kind_raw k
+place_of-kind_name (Token t) h = token_place t
+place_of-kind_name (Node t) h = node_place t
+place_of-kind_name (OTHER n) h = absurd (omega arith)
+
+-- the bracket of `OTHER(n)` stands in no other name
+abbrev has_bracket : List ℕ → Bool
+has_bracket name = get_or name 5 0 == 40
+
+token_bracket : (t : TokenKind) → has_bracket (kind_name (Token t)) ≡ false
+token_bracket token.WHITESPACE = refl
+token_bracket _ = refl
+
+node_bracket : (t : NodeKind) → has_bracket (kind_name (Node t)) ≡ false
+node_bracket node.SOURCE_FILE = refl
+node_bracket _ = refl
+
+other_bracket : (n : ℕ) → has_bracket (kind_name (OTHER n)) ≡ true
+other_bracket n = refl
+
+other_apart : (n : ℕ) (k : SyntaxKind) → has_bracket (kind_name k) ≡ false → kind_name (OTHER n) ≡ kind_name k → ⊥
+other_apart n k h e =
+    let clash : true ≡ false = sym (other_bracket n) ∙ ap has_bracket e ∙ h in
+    (cc)
+
+named-injective : (j k : SyntaxKind) → kind_raw j < 264 → kind_raw k < 264 → kind_name j ≡ kind_name k → j ≡ k
+named-injective j k p q e =
+    kind_raw-injective j k (sym (place_of-kind_name j p) ∙ ap place_of e ∙ place_of-kind_name k q)
+
+pub kind_name-injective : NamesDiffer
+kind_name-injective (OTHER m) (OTHER n) p q e =
+    ap OTHER (decimal_injective m n (omega arith) (omega arith) (append_cancel_left (codes "OTHER(") _ _ (append_cancel_right _ _ (codes ")") e)))
+kind_name-injective (OTHER m) (Token t) p q e = absurd (other_apart m (Token t) (token_bracket t) e)
+kind_name-injective (OTHER m) (Node t) p q e = absurd (other_apart m (Node t) (node_bracket t) e)
+kind_name-injective (Token t) (OTHER m) p q e = absurd (other_apart m (Token t) (token_bracket t) (sym e))
+kind_name-injective (Node t) (OTHER m) p q e = absurd (other_apart m (Node t) (node_bracket t) (sym e))
+kind_name-injective (Token t) (Token u) p q e = named-injective (Token t) (Token u) (token_raw_small t) (token_raw_small u) e
+kind_name-injective (Token t) (Node u) p q e = named-injective (Token t) (Node u) (token_raw_small t) (node_raw_small u) e
+kind_name-injective (Node t) (Token u) p q e = named-injective (Node t) (Token u) (node_raw_small t) (token_raw_small u) e
+kind_name-injective (Node t) (Node u) p q e = named-injective (Node t) (Node u) (node_raw_small t) (node_raw_small u) e
