@@ -1,11 +1,10 @@
 -- What a name finds.
-use Rattle.std.proofs.Common.{◌≡◌, ℕ, ◌<◌, ◌∙◌, List, sym, ap, subst, Option, Some, None, ◌↔◌, All}
+use Rattle.std.proofs.Common.{◌≡◌, ℕ, ◌<◌, ◌∙◌, List, sym, ap, subst, Option, Some, None, ◌↔◌}
 use Rattle.lossless_tree.specs.Kinds.{kind_raw, kind_name, IsKind}
 use Rattle.lossless_tree.specs.KindText.{IsNamedAs}
-use Rattle.lossless_tree.specs.KindLaws.{kind_name-injective, listed, token_raw_small, node_raw_small}
+use Rattle.lossless_tree.specs.KindLaws.{kind_name-injective, token_raw_small, node_raw_small}
 use Rattle.lossless_tree.specs.declared.syntax_kind.SyntaxKind.{SyntaxKind}
 use Rattle.lossless_tree.specs.declared.syntax_kind.SyntaxKind.TheVariants.{Token, Node, OTHER}
-use Rattle.lossless_tree.specs.declared.syntax_kind.all.TheConstants.{KINDS}
 
 abbrev pub Finds : Option SyntaxKind → List ℕ → Type 0
 Finds r name = (k : SyntaxKind) → IsKind k → (r ≡ Some k) ↔ (kind_name k ≡ name)
@@ -19,13 +18,16 @@ IsNamedAs-kind (Token t) name e = (tt, e)
 IsNamedAs-kind (Node t) name e = (tt, e)
 IsNamedAs-kind (OTHER n) name e = absurd e
 
-not_listed : (k : SyntaxKind) (name : List ℕ) → All (λ k. ¬ (IsNamedAs k name)) KINDS → kind_raw k < 264 → ¬ (IsNamedAs k name)
-not_listed k name all h = subst (λ k. ¬ (IsNamedAs k name)) (listed k k h) (all (kind_raw k) k h)
+pub Finds-none : (name : List ℕ) → ((k : SyntaxKind) → ¬ (IsNamedAs k name)) → ((n : ℕ) → n < 65536 → ¬ (kind_name (OTHER n) ≡ name)) → Finds None name
+Finds-none name no_name no_number (Token t) q = (λ (h : None ≡ Some (Token t)). (cc), λ e. absurd (no_name (Token t) e))
+Finds-none name no_name no_number (Node t) q = (λ (h : None ≡ Some (Node t)). (cc), λ e. absurd (no_name (Node t) e))
+Finds-none name no_name no_number (OTHER n) q = (λ (h : None ≡ Some (OTHER n)). (cc), λ e. absurd (no_number n q e))
 
-pub Finds-none : (name : List ℕ) → All (λ k. ¬ (IsNamedAs k name)) KINDS → ((n : ℕ) → n < 65536 → ¬ (kind_name (OTHER n) ≡ name)) → Finds None name
-Finds-none name all none (Token t) q = (λ (h : None ≡ Some (Token t)). (cc), λ e. absurd (not_listed (Token t) name all (token_raw_small t) e))
-Finds-none name all none (Node t) q = (λ (h : None ≡ Some (Node t)). (cc), λ e. absurd (not_listed (Node t) name all (node_raw_small t) e))
-Finds-none name all none (OTHER n) q = (λ (h : None ≡ Some (OTHER n)). (cc), λ e. absurd (none n q e))
+-- a kind of this name is the one that the tables point to
+pub named-candidate : (r : Option SyntaxKind) (name : List ℕ) → ((k : SyntaxKind) → kind_raw k < 264 → kind_name k ≡ name → r ≡ Some k) → (k : SyntaxKind) → IsNamedAs k name → r ≡ Some k
+named-candidate r name only (Token t) e = only (Token t) (token_raw_small t) e
+named-candidate r name only (Node t) e = only (Node t) (node_raw_small t) e
+named-candidate r name only (OTHER n) e = absurd e
 
 pub none_is_some : {A : Type 0} (x : A) → None ≡ Some x → ⊥
 none_is_some x e = cc

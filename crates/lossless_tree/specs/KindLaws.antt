@@ -1,9 +1,10 @@
 -- No two kinds have one number, and no two print the same.
-use Rattle.std.specs.Prelude.{◌≡◌, ℕ, ◌<◌, ◌+◌, ◌*◌, List, [], ◌∷◌, Bool, map, slice_index_or, true, false, codes, ◌==◌, if◌then◌else◌}
+use Rattle.std.specs.Prelude.{◌≡◌, ℕ, ◌<◌, List, Bool, slice_index_or, true, false, codes, ◌==◌}
 use Rattle.std.proofs.Common.{refl, sym, ap, ◌∙◌, arith, lit<, get_or}
 use Rattle.std.proofs.lemmas.Fmt.{decimal_injective}
 use Rattle.std.proofs.lemmas.List.{append_cancel_left, append_cancel_right}
 use Rattle.lossless_tree.specs.Kinds.{kind_raw, kind_name, NumbersDiffer, NamesDiffer}
+use Rattle.lossless_tree.specs.KindText.{hash_of, number_at}
 use Rattle.lossless_tree.specs.declared.syntax_kind.SyntaxKind.{SyntaxKind}
 use Rattle.lossless_tree.specs.declared.syntax_kind.SyntaxKind.TheVariants.{Token, Node, OTHER}
 use Rattle.lossless_tree.specs.declared.syntax_kind.token_kind.TokenKind.{TokenKind}
@@ -49,33 +50,19 @@ kind_raw-injective (Token t) (Node u) e = listed-injective (Token t) (Node u) (t
 kind_raw-injective (Node t) (Token u) e = listed-injective (Node t) (Token u) (node_raw_small t) (token_raw_small u) e
 kind_raw-injective (Node t) (Node u) e = listed-injective (Node t) (Node u) (node_raw_small t) (node_raw_small u) e
 
--- the number that the bytes of a name make, and where it comes among the names of the table
-abbrev number_of : ℕ → List ℕ → ℕ
-number_of n [] = n
-number_of n (b ∷ bs) = number_of (256 * n + b) bs
+-- the tables find each name
+token_number : (t : TokenKind) → number_at (hash_of (kind_name (Token t))) ≡ kind_raw (Token t)
+token_number token.WHITESPACE = refl
+token_number _ = refl
 
-abbrev place_in : List ℕ → ℕ → ℕ
-place_in [] n = 0
-place_in (x ∷ xs) n = if x == n then 0 else (place_in xs n + 1)
+node_number : (t : NodeKind) → number_at (hash_of (kind_name (Node t))) ≡ kind_raw (Node t)
+node_number node.SOURCE_FILE = refl
+node_number _ = refl
 
-abbrev table_numbers : List ℕ
-table_numbers = map (λ k. number_of 0 (kind_name k)) KINDS
-
-abbrev place_of : List ℕ → ℕ
-place_of name = place_in table_numbers (number_of 0 name)
-
-token_place : (t : TokenKind) → place_of (kind_name (Token t)) ≡ kind_raw (Token t)
-token_place token.WHITESPACE = refl
-token_place _ = refl
-
-node_place : (t : NodeKind) → place_of (kind_name (Node t)) ≡ kind_raw (Node t)
-node_place node.SOURCE_FILE = refl
-node_place _ = refl
-
-place_of-kind_name : (k : SyntaxKind) → kind_raw k < 264 → place_of (kind_name k) ≡ kind_raw k
-place_of-kind_name (Token t) h = token_place t
-place_of-kind_name (Node t) h = node_place t
-place_of-kind_name (OTHER n) h = absurd (omega arith)
+pub number_at-kind_name : (k : SyntaxKind) → kind_raw k < 264 → number_at (hash_of (kind_name k)) ≡ kind_raw k
+number_at-kind_name (Token t) h = token_number t
+number_at-kind_name (Node t) h = node_number t
+number_at-kind_name (OTHER n) h = absurd (omega arith)
 
 -- the bracket of `OTHER(n)` stands in no other name
 abbrev has_bracket : List ℕ → Bool
@@ -99,7 +86,7 @@ other_apart n k h e =
 
 named-injective : (j k : SyntaxKind) → kind_raw j < 264 → kind_raw k < 264 → kind_name j ≡ kind_name k → j ≡ k
 named-injective j k p q e =
-    kind_raw-injective j k (sym (place_of-kind_name j p) ∙ ap place_of e ∙ place_of-kind_name k q)
+    kind_raw-injective j k (sym (number_at-kind_name j p) ∙ ap (λ name. number_at (hash_of name)) e ∙ number_at-kind_name k q)
 
 pub kind_name-injective : NamesDiffer
 kind_name-injective (OTHER m) (OTHER n) p q e =

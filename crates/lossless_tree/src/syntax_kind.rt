@@ -5,6 +5,7 @@ ghost use Rattle.lossless_tree.specs.Kinds.{kind_raw, kind_name, is_trivia, IsKi
 mod all;
 mod constants;
 mod find;
+mod name_table;
 mod node_kind;
 mod token_kind;
 
@@ -76,7 +77,7 @@ impl SyntaxKind {
         ensures exact { (k : SyntaxKind) → IsKind k → (result ≡ Some k) ↔ (kind_name k ≡ name.now) }
         ensures kind { IfSome result IsKind }
     {
-        if let Some(kind) = find(&KINDS, name) {
+        if let Some(kind) = find(name) {
             return Some(kind);
         }
         Some(SyntaxKind::OTHER(other_number(name)?))

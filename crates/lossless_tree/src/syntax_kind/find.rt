@@ -1,20 +1,42 @@
 //! Kinds by their names.
-ghost use Rattle.std.specs.Prelude.{◌≡◌, ◌↔◌, ◌<◌, IsTrue, MatchOption, All, Some, ℕ, decimal};
-ghost use Rattle.lossless_tree.specs.Kinds.{kind_name};
-ghost use Rattle.lossless_tree.specs.KindText.{IsNamedAs, has_plain_start};
+ghost use Rattle.std.specs.Prelude.{◌≡◌, ◌↔◌, ◌<◌, IsTrue, MatchOption, Some, ℕ, decimal};
+ghost use Rattle.lossless_tree.specs.Kinds.{kind_raw, kind_name};
+ghost use Rattle.lossless_tree.specs.KindText.{IsNamedAs, has_plain_start, hash_of};
 
 use super::SyntaxKind;
+use super::name_table::{NUMBERS, SHIFTS};
 
-/// The first of `kinds` that has this name, `OTHER` apart.
-pub(super) fn find(kinds: &[SyntaxKind], name: &str) -> Option<SyntaxKind>
-    ensures { MatchOption result (All (λ k. ¬ (IsNamedAs k name.now)) kinds.now) (λ k. IsNamedAs k name.now) }
+/// The kind of this name, `OTHER` apart.
+pub(super) fn find(name: &str) -> Option<SyntaxKind>
+    ensures { MatchOption result ((k : SyntaxKind) → ¬ (IsNamedAs k name.now)) (λ k. IsNamedAs k name.now) }
 {
-    for kind in kinds {
-        if is_named(*kind, name) {
-            return Some(*kind);
-        }
+    let kind = candidate(name)?;
+    if is_named(kind, name) {
+        Some(kind)
+    } else {
+        None
     }
-    None
+}
+
+/// The one kind that may have this name, `OTHER` apart.
+fn candidate(name: &str) -> Option<SyntaxKind>
+    ensures { (k : SyntaxKind) → kind_raw k < 264 → kind_name k ≡ name.now → result ≡ Some k }
+{
+    let hash = hash_of(name.as_bytes());
+    let shift = SHIFTS[(hash % 128) as usize] as u32;
+    let slot = (hash / 128 + shift) % 264;
+    SyntaxKind::from_raw(NUMBERS[slot as usize] as u32)
+}
+
+/// The hash by which a name's place in the table is found.
+fn hash_of(name: &[u8]) -> u32
+    ensures { result ≡ hash_of name.now }
+{
+    let mut hash = 0u32;
+    for byte in name {
+        hash = (hash * 9 + *byte as u32) % 65_536;
+    }
+    hash
 }
 
 /// Whether the kind has this name and is not `OTHER`.
