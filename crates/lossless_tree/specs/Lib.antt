@@ -1,3 +1,4 @@
 pub mod KindLaws
 pub mod Kinds
 pub mod KindText
+pub mod TextRange
