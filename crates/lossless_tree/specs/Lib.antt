@@ -1,4 +1,5 @@
 pub mod KindLaws
 pub mod Kinds
 pub mod KindText
+pub mod SharedOwnership
 pub mod TextRange
