@@ -3,3 +3,15 @@ pub mod Kinds
 pub mod KindText
 pub mod SharedOwnership
 pub mod TextRange
+pub mod Tree
+pub mod Events
+pub mod TreeCode
+pub mod Rows
+pub mod Cursor
+pub mod Element
+pub mod Builder
+pub mod Scan
+pub mod Run
+pub mod WalkEvent
+pub mod Dump
+pub mod RowLemmas
