@@ -113,6 +113,8 @@ impl<T: Eq, A: Allocator> Eq for Shared<T, A> {
 }
 
 impl<T: Debug, A: Allocator> Debug for Shared<T, A> {
+    ghost debug_output = { λ s. T.debug_output s.value };
+
     fn fmt<W: fmt::Write>(&self, f: &mut fmt::Formatter<W>) -> fmt::Result {
         (**self).fmt(f)
     }
