@@ -1,6 +1,8 @@
--- What a walk ends with, where it opens the count's invariant and so needs the thread's token. Assumes `Logic`.
---     with_turn       the contract with the token beside its `requires` and its `ensures`
---     meets_in_turn    the walks of the MIR over the tables `turns` meet the contract
+-- How a function that opens an invariant of its thread meets its contract: its walk has the thread's token from the start to
+-- the end. Assumes `Logic`.
+--     with_turn            the contract with the token beside its `requires` and its `ensures`
+--     tables_with_turn     what the walk's calls are proved to do, where the token is carried along
+--     meets_in_turn        a walk for the contract with the token meets the contract
 use mathlib.Core.Path.{subst}
 use seplogic.Ra.Ura.{Ura}
 use mir.Syntax.{Fn}
@@ -32,9 +34,14 @@ module _ {M : Type 1} {𝓤 : Ura M} (𝓛 : Logic 𝓤) (T : Ended) (c : Clause
     abbrev pub tables_with_turn : Tables 𝓤 H
     tables_with_turn = tables_of 𝓤 H 𝓒.inner (bare_tables 𝓤 H 𝓒.inner 𝓡.allowed 𝓡.how 𝓡.env)
 
-    pub meets_in_turn : (k : Callee) (e : Fn) → over 𝓡.env e ≼⁺ 𝓡.env k → AllGo 𝓛 T.signature.lifetimes T.signature.params T.kept hs → Walks 𝓛 T hs (WpFn 𝓤 H tables_with_turn.C tables_with_turn.Λ e) with_turn
+    pub meets_in_turn : (k : Callee) (e : Fn) → over 𝓡.env e ≼⁺ 𝓡.env k
+        → AllGo 𝓛 T.signature.lifetimes T.signature.params T.kept hs
+        → Walks 𝓛 T hs (WpFn 𝓤 H tables_with_turn.C tables_with_turn.Λ e) with_turn
         → Meets 𝓛 T.signature (𝓡.run (𝓡.env k)) (closing 𝓛 T c)
     unfolding tables_of
     meets_in_turn k e is go walks =
-        hands 𝓛 T (A.tok every) c 𝓜 𝓒 𝓡 (𝓡.env k) (entered 𝓤 H (triple_of 𝓛 T.signature (closing 𝓛 T with_turn)) tables_with_turn.C tables_with_turn.Λ k e (bare_unfolds 𝓤 H 𝓒.inner 𝓡.allowed 𝓡.how 𝓡.env k e is)
-        (walk_Meets 𝓛 T hs go with_turn (WpFn 𝓤 H tables_with_turn.C tables_with_turn.Λ e) (WpFn-mono 𝓤 H 𝓛.laws tables_with_turn e) walks))
+        hands 𝓛 T (A.tok every) c 𝓜 𝓒 𝓡 (𝓡.env k)
+        (entered 𝓤 H (triple_of 𝓛 T.signature (closing 𝓛 T with_turn)) tables_with_turn.C tables_with_turn.Λ k e
+        (bare_unfolds 𝓤 H 𝓒.inner 𝓡.allowed 𝓡.how 𝓡.env k e is)
+        (walk_Meets 𝓛 T hs go with_turn (WpFn 𝓤 H tables_with_turn.C tables_with_turn.Λ e)
+        (WpFn-mono 𝓤 H 𝓛.laws tables_with_turn e) walks))

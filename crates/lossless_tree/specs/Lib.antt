@@ -2,6 +2,7 @@ pub mod KindLaws
 pub mod Kinds
 pub mod KindText
 pub mod SharedOwnership
+pub mod SharedPlace
 pub mod TextRange
 pub mod Tree
 pub mod Events

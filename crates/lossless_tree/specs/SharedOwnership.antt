@@ -45,17 +45,34 @@ key a = (a.alive, a.name)
 abbrev pub full_count : ℕ
 full_count = 2 ^ 64 - 1
 
+-- a part of the token of `alive`, and `alive` is over
+abbrev pub part_of : Marks → Share → Fml
+part_of a e = flft (a.alive ∷ []) e
+
+abbrev pub any_part : Marks → Fml
+any_part a = fex Share (part_of a)
+
+abbrev pub gone : Marks → Fml
+gone a = fdead (a.alive ∷ [])
+
+-- the whole token of `counting`, and `counting` is over
+abbrev pub counts : Marks → Fml
+counts a = flft (a.counting ∷ []) full_share
+
+abbrev pub full_for_good : Marks → Fml
+full_for_good a = fdead (a.counting ∷ [])
+
 -- why the part e is a ticket: it is one counted part, or nothing is counted any more
 abbrev pub standing : Marks → Share → Bool → Fml
 standing a e true = fex (Counts 64 e 1) (λ _. ftrue)
-standing a e false = fdead (a.counting ∷ [])
+standing a e false = full_for_good a
 
 abbrev pub stands : Marks → Share → Fml
 stands a e = fex Bool (standing a e)
 
--- a part of the token of `alive`, held by an owner
+-- what an owner holds of the token of `alive`
 abbrev pub ticket_of : Marks → Share → Fml
-ticket_of a e = fsep (flft (a.alive ∷ []) e) (stands a e)
+ticket_of a e = fsep (part_of a e) (stands a e)
 
 abbrev pub ticket : Marks → Fml
 ticket a = fex Share (ticket_of a)
@@ -63,8 +80,8 @@ ticket a = fex Share (ticket_of a)
 -- The till beside a count of n. While there is counting, it has the parts that are left of 2 ^ 64 when n are out, and
 -- then some part.
 abbrev pub till : Marks → Bool → ℕ → Fml
-till a true n = fsep (rest 64 a.alive n) (flft (a.counting ∷ []) full_share)
-till a false n = fex (n ≡ full_count) (λ _. fsep (fdead (a.counting ∷ [])) (fex Share (λ s. flft (a.alive ∷ []) s)))
+till a true n = fsep (rest 64 a.alive n) (counts a)
+till a false n = fex (n ≡ full_count) (λ _. fsep (full_for_good a) (any_part a))
 
 -- `count n` is the count's cell with n in it, and `contents` is what the last owner gets
 module _ (count : ℕ → Fml) (contents : Fml) where
@@ -78,7 +95,7 @@ module _ (count : ℕ → Fml) (contents : Fml) where
   -- the value is there and its owners are counted, or it is gone
   abbrev pub state : Marks → Bool → Fml
   state a true = fex (Bool × ℕ) (count_and_vault a)
-  state a false = fdead (a.alive ∷ [])
+  state a false = gone a
 
   abbrev pub Invariant : Marks → Fml
   Invariant a = fex Bool (state a)
@@ -98,7 +115,7 @@ module _ (count : ℕ → Fml) (contents : Fml) (tag : Gv) (view : Lft → Fml) 
   -- a `&` to an owner: a share of its part, and what it sees while that is held
   abbrev pub lent : Marks → Lft → Fml
   lent a =
-      beside (one (λ q. flft (a.alive ∷ []) q))
+      beside (one (part_of a))
       (beside (kept (key a) (Invariant count contents a)) (held (a.alive ∷ []) (shown a)))
 
   abbrev pub owned : Fml

@@ -57,10 +57,12 @@ impl<T, A: Allocator> Shared<T, A> {
 
 // As for `Box::leak`, `T` is to be `Drop`, since a value with that many owners is never dropped.
 impl<T: Drop, A: Allocator> Shared<T, A> {
+    ghost use Rattle.lossless_tree.specs.SharedPlace.{place_of};
+
     /// One more owner of the value. It takes no memory, and always succeeds.
     pub fn share(&self) -> Shared<T, A>
         ensures value { result.value ≡ self.now.value }
-        ensures place { result.ptr ≡ self.now.ptr }
+        ensures place { place_of result ≡ place_of self.now }
     {
         self.add_owner()
     }
@@ -113,6 +115,8 @@ impl<T: Eq, A: Allocator> Eq for Shared<T, A> {
 }
 
 impl<T: Debug, A: Allocator> Debug for Shared<T, A> {
+    ghost debug_output = { λ s. T.debug_output s.value };
+
     fn fmt<W: fmt::Write>(&self, f: &mut fmt::Formatter<W>) -> fmt::Result {
         (**self).fmt(f)
     }

@@ -6,6 +6,8 @@ use std::alloc::Allocator;
 use std_alloc::room::Vacant;
 
 impl<T, A: Allocator> Shared<T, A> {
+    ghost use Rattle.lossless_tree.specs.SharedPlace.{place_of};
+
     /// The first owner, made of an empty block and the value.
     pub(super) fn first_owner(block: Vacant<Block<T, A>, A>, value: T) -> Shared<T, A>
         ensures { result.value ≡ value }
@@ -31,7 +33,7 @@ impl<T, A: Allocator> Shared<T, A> {
     /// One more owner. A full count stays as it is.
     pub(super) fn add_owner(&self) -> Shared<T, A>
         ensures value { result.value ≡ self.now.value }
-        ensures place { result.ptr ≡ self.now.ptr }
+        ensures place { place_of result ≡ place_of self.now }
     {
         let ptr = self.ptr.cast_mut();
         unsafe {
@@ -69,8 +71,8 @@ impl<T, A: Allocator> Shared<T, A> {
     // Pointers into two different blocks may not be compared. So this lowers the count through the
     // first owner for a moment, and looks for that through the second.
     pub fn ptr_eq(this: &Shared<T, A>, other: &Shared<T, A>) -> bool
-        ensures place { IsTrue result ↔ this.now.ptr ≡ other.now.ptr }
-        ensures value { IsTrue result → this.now.value ≡ other.now.value }
+        ensures place { IsTrue result ↔ (place_of this.now ≡ place_of other.now) }
+        ensures value { IsTrue result → (this.now.value ≡ other.now.value) }
     {
         let here = this.ptr.cast_mut();
         let there = other.ptr.cast_mut();

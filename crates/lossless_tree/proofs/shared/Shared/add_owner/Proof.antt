@@ -1,4 +1,4 @@
--- `another` makes one more owner. At the full_count count it leaves the count as it is.
+-- `add_owner` opens the invariant, adds 1 to the count unless it is full, and shuts it: the till gives a ticket either way.
 use mathlib.Core.Path.{◌≡◌, refl, sym, ap}
 use mathlib.Core.Bool.{true, false}
 use mathlib.Core.List.{List, [], ◌∷◌}
@@ -9,14 +9,14 @@ use mir.Syntax.{Fn, Sym, named}
 use mir.MapTy.{inst_fn}
 use mir.Val.{Val, vptr}
 use base.Logic.{emp, SProp, ent, id⊢}
-use base.Fml.{Lft, Share, ftrue, flft, fhide, ftok}
+use base.Fml.{Lft, Share, ftrue, fsep, flft, fhide, ftok}
 use base.Mask.{every}
 use prog.Memory.{Memory}
 use prog.Routine.{Routine}
 use prog.Wp.{Env, Calls, Loops, WpFn}
 use contract.Monad.{Fun, fact_i}
 use types.Logic.{Logic}
-use types.Kit.{by, Item, ‵, raw, ◌⊛◌, at_ret, ◌$◌, ◌∵◌, !, qed, move, keep, use1, split, join, fsplit, fjoin, suffices, frame}
+use types.Kit.{by, Item, ⋆, ‵, raw, ◌⊛◌, at_ret, ◌$◌, ◌∵◌, !, qed, move, keep, use1, split, join, fsplit, fjoin, suffices, frame}
 use types.Run.{look, store, stop, fld, load, lit, neg_lit, bin, of_opd, and_then, no_more, assigns_last, first, blocks, skips, branches, exec, returns, enter}
 use types.Part.{look_in, sub, whole, agg}
 use types.ByLocal.{alloc_all, pass_all, free_all, look_at, get, through, sets, is, env}
@@ -35,7 +35,8 @@ use Rattle.std.proofs.RcSteps.{is_not, is_so, word, word-Good, word_made, Word}
 use Rattle.std.proofs.VecSteps.Shapes.{after}
 use Rattle.lossless_tree.specs.SharedOwnership.{full_count}
 use Rattle.lossless_tree.proofs.Turns.{with_turn, tables_with_turn, meets_in_turn}
-use Rattle.lossless_tree.proofs.SharedSteps.{Lent, borrow_opened, borrow_shut, count_opened, count_shut, one_more, one_more_at_full, owner_joined}
+use Rattle.lossless_tree.proofs.SharedBlock.{Lent, Owned}
+use Rattle.lossless_tree.proofs.SharedSteps.{borrow_opened, borrow_shut, count_opened, count_shut, one_more, one_more_at_full, owner_joined}
 use Rattle.lossless_tree.specs.contracts.shared.Shared as SH
 use Rattle.lossless_tree.specs.contracts.shared.Shared.add_owner as F
 use Rattle.lossless_tree.specs.contracts.shared.Shared.add_owner.Key.{name as #self}
@@ -99,34 +100,57 @@ module _ (E : Bx) {M : Type 1} {𝓤 : Ura M} (𝓛 : Logic 𝓤) (at_mem : Memo
     abbrev Post : Val → SProp 𝓤
     Post = (walk_of 𝓛 (ended E) (stayed E) held).post bound
 
+    -- the new owner, as the call's result
+    abbrev result : (Row E).Denot
+    result = record { ptr = c; value = x }
+
+    exits : ent 𝓤 (⋆ 𝓛 (‵ (fsep ((Word E (ν E)).own_val (c, tt) (word c ∷ [])) (Owned E c x)) ∷ ‵ (flft κ q) ∷ others ∷ ‵ (ftok every) ∷ [])) (Post (word c))
+    exits =
+        qed 𝓛 (‵ (fsep ((Word E (ν E)).own_val (c, tt) (word c ∷ [])) (Owned E c x)) ∷ ‵ (flft κ q) ∷ others ∷ ‵ (ftok every) ∷ []) ∵
+        suffices ! _ (ends_at 𝓛 (ended E) (stayed E) held bound (word c) result (tt, tt) (tt, tt)) $
+        nothing ! $ nothing ! $ fjoin ! $ join ! $ move ! (1 ∷ 2 ∷ []) $ join ! $ join ! $
+        frame ! $ frame ! $ says ! refl $ by ! (fact_i 𝓤 (x ≡ x) (emp 𝓤) refl)
+
     walks : ent 𝓤 ((walk_of 𝓛 (ended E) (stayed E) held).pre bound) (WpFn 𝓤 H C Λ (fn' E) us Post)
     walks =
-        let result : (Row E).Denot = record { ptr = c; value = x } in
         qed 𝓛 (((‵ (flft κ q) ⊛ others) ⊛ ‵ (owns (types_at (ended E).signature.params z.0.0) z.0.3 (us, tt))) ∷ (‵ (ftok every) ⊛ asked) ∷ []) ∵
-        split ! $ split ! $ move ! (3 ∷ []) $ split ! $ move ! (4 ∷ []) $ fsplit ! $ fsplit ! $ keep ! (1 ∷ 5 ∷ 3 ∷ 6 ∷ []) $
+        split ! $ split ! $ move ! (3 ∷ []) $ split ! $ move ! (4 ∷ []) $ fsplit ! $ fsplit ! $
+        keep ! (1 ∷ 5 ∷ 3 ∷ 6 ∷ []) $
         use1 𝓛 (‵ (hidden_shr (Word E (ν E)) κ (c, tt) b o) ⊛ ‵ (fhide (Lent E c x κ))) (id⊢ 𝓤 _) $ split ! $
         enter ! C Λ (fn' E) us _ $ alloc_all ! (λ l. pass_all ! refl ((tt, tt), tt) $
         let En : Env 𝓤 H = env (fn' E).locals l in
-        borrow_opened E c x (ν E) κ q b o ! tt (λ a s q'. move ! (1 ∷ 0 ∷ 6 ∷ []) $ count_opened E c x a ! tt every refl s (λ y n cb co e fn some_n.
-        -- [the count; what is beside it; what shuts; the part; the word; the way back; the invariant; what is seen; the other till]
-        sets ! (is ! (of_opd ! (load ! (through ! refl (fld ! refl (stop !))) (look_in ! 4 (sub ! 0 refl (whole !))))) (ap ptr_val e)) refl (tt, tt) $ sets ! (of_opd ! (get ! refl)) refl (tt, tt) $ first ! $ blocks ! $
-        sets ! (of_opd ! (load ! (through ! refl (fld ! refl (stop !))) (look ! 0 refl))) refl (tt, record { fits = fn }) $
+        borrow_opened E c x (ν E) κ q b o ! tt (λ a s q'. move ! (1 ∷ 0 ∷ 6 ∷ []) $
+        count_opened E c x a ! tt every refl s (λ y n cb co e fits some_n.
+        -- [the count; the vault; what shuts; the part; the word; the way back; the invariant; what is shown; the other tokens]
+        -- `let ptr = self.ptr.cast_mut();`
+        sets ! (is ! (of_opd ! (load ! (through ! refl (fld ! refl (stop !))) (look_in ! 4 (sub ! 0 refl (whole !))))) (ap ptr_val e)) refl (tt, tt) $
+        sets ! (of_opd ! (get ! refl)) refl (tt, tt) $ first ! $ blocks ! $
+        -- `let count = (*ptr).count;  if count != usize::MAX`
+        sets ! (of_opd ! (load ! (through ! refl (fld ! refl (stop !))) (look ! 0 refl))) refl (tt, record { fits = fits }) $
         sets ! (bin ! (get ! refl) (neg_lit ! tt) tt) refl (tt, tt) $ branches ! (get ! refl)
         (λ room.
-        let f₁ : n + 1 < 2 ^ 64 = omega (arith, is_not n full_count room) in
-        sets ! (bin ! (get ! refl) (lit ! tt) (record { fits = f₁ })) refl (tt, record { fits = f₁ }) $ assigns_last ! (of_opd ! (get ! refl)) (through ! refl (fld ! refl (stop !))) (store ! 0 refl (tt, record { fits = f₁ })) $
-        exec ! C Λ En (after 3 (fn' E).body) (at_ret En Post) $ sets ! (is ! (agg ! (and_then ! (get ! refl) (no_more !))) (ap word (sym e))) refl (word-Good (ν E) c) $
-        move ! (1 ∷ []) $ one_more E c x a ! y n f₁ $ move ! (2 ∷ 0 ∷ 3 ∷ []) $ count_shut E c x a ! tt every refl true (n + 1) cb co e f₁ $
-        -- [the thread's token; the ticket; the part; the word; the way back; the invariant; what is seen; the other till]
-        move ! (2 ∷ 3 ∷ 4 ∷ []) $ borrow_shut E c x (ν E) κ q b o ! tt a.alive s q' $ move ! (2 ∷ 3 ∷ 4 ∷ []) $ owner_joined E c x ! a $ word_made E (ν E) c ! $ fjoin ! $
-        returns ! (look_at ! 0 refl) $ free_all ! refl $ keep ! (0 ∷ 1 ∷ 3 ∷ 2 ∷ []) $
-        suffices ! _ (ends_at 𝓛 (ended E) (stayed E) held bound (word c) result (tt, tt) (tt, tt)) $ nothing ! $ nothing ! $ fjoin ! $ join ! $ move ! (1 ∷ 2 ∷ []) $ join ! $ join ! $ frame ! $ frame ! $ says ! refl $ by ! (fact_i 𝓤 (x ≡ x) (emp 𝓤) refl))
-        (λ stuck. skips ! $
-        exec ! C Λ En (after 3 (fn' E).body) (at_ret En Post) $ sets ! (is ! (agg ! (and_then ! (get ! refl) (no_more !))) (ap word (sym e))) refl (word-Good (ν E) c) $
-        move ! (1 ∷ []) $ one_more_at_full E c x a ! tt y n (is_so n full_count stuck) $ move ! (2 ∷ 0 ∷ 3 ∷ []) $ count_shut E c x a ! tt every refl false n cb co e fn $
-        move ! (2 ∷ 3 ∷ 4 ∷ []) $ borrow_shut E c x (ν E) κ q b o ! tt a.alive s q' $ move ! (2 ∷ 3 ∷ 4 ∷ []) $ owner_joined E c x ! a $ word_made E (ν E) c ! $ fjoin ! $
-        returns ! (look_at ! 0 refl) $ free_all ! refl $ keep ! (0 ∷ 1 ∷ 3 ∷ 2 ∷ []) $
-        suffices ! _ (ends_at 𝓛 (ended E) (stayed E) held bound (word c) result (tt, tt) (tt, tt)) $ nothing ! $ nothing ! $ fjoin ! $ join ! $ move ! (1 ∷ 2 ∷ []) $ join ! $ join ! $ frame ! $ frame ! $ says ! refl $ by ! (fact_i 𝓤 (x ≡ x) (emp 𝓤) refl)))))
+        let fits₁ : n + 1 < 2 ^ 64 = omega (arith, is_not n full_count room) in
+        -- `(*ptr).count = count + 1;`
+        sets ! (bin ! (get ! refl) (lit ! tt) (record { fits = fits₁ })) refl (tt, record { fits = fits₁ }) $
+        assigns_last ! (of_opd ! (get ! refl)) (through ! refl (fld ! refl (stop !))) (store ! 0 refl (tt, record { fits = fits₁ })) $
+        -- `Shared { ptr }`
+        exec ! C Λ En (after 3 (fn' E).body) (at_ret En Post) $
+        sets ! (is ! (agg ! (and_then ! (get ! refl) (no_more !))) (ap word (sym e))) refl (word-Good (ν E) c) $
+        move ! (1 ∷ []) $ one_more E c x a ! y n fits₁ $
+        move ! (2 ∷ 0 ∷ 3 ∷ []) $ count_shut E c x a ! tt every refl true (n + 1) cb co e fits₁ $
+        -- [the thread's token; the ticket; the part; the word; the way back; the invariant; what is shown; the other tokens]
+        move ! (2 ∷ 3 ∷ 4 ∷ []) $ borrow_shut E c x (ν E) κ q b o ! tt a s q' $
+        move ! (2 ∷ 3 ∷ 4 ∷ []) $ owner_joined E c x ! a $ word_made E (ν E) c ! $ fjoin ! $
+        returns ! (look_at ! 0 refl) $ free_all ! refl $ keep ! (0 ∷ 1 ∷ 3 ∷ 2 ∷ []) $ by ! exits)
+        (λ at_full.
+        -- the count stays: `Shared { ptr }`
+        skips ! $ exec ! C Λ En (after 3 (fn' E).body) (at_ret En Post) $
+        sets ! (is ! (agg ! (and_then ! (get ! refl) (no_more !))) (ap word (sym e))) refl (word-Good (ν E) c) $
+        move ! (1 ∷ []) $ one_more_at_full E c x a ! tt y n (is_so n full_count at_full) $
+        move ! (2 ∷ 0 ∷ 3 ∷ []) $ count_shut E c x a ! tt every refl false n cb co e fits $
+        move ! (2 ∷ 3 ∷ 4 ∷ []) $ borrow_shut E c x (ν E) κ q b o ! tt a s q' $
+        move ! (2 ∷ 3 ∷ 4 ∷ []) $ owner_joined E c x ! a $ word_made E (ν E) c ! $ fjoin ! $
+        returns ! (look_at ! 0 refl) $ free_all ! refl $ keep ! (0 ∷ 1 ∷ 3 ∷ 2 ∷ []) $ by ! exits))))
 
 pub add_owner_spec : {M : Type 1} → stated.statement M
 unfolding code

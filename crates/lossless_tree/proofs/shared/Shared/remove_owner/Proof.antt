@@ -1,4 +1,5 @@
--- `release` gives an owner up. The last one gets the value and the block, and no one does once the count is full_count.
+-- `remove_owner` opens the invariant and takes 1 from the count. The last owner gets the value and the block, and at the full
+-- count no one does.
 use mathlib.Core.Path.{refl, sym, subst, ap}
 use mathlib.Core.Bool.{true}
 use mathlib.Core.List.{List, [], ◌∷◌, ◌++◌}
@@ -41,8 +42,9 @@ use Rattle.std_alloc.proofs.OfVacant.{Vacant, vacant_ty, vacant_val, vacant_type
 use Rattle.std_alloc.proofs.Pairs.{pair_val, pair_Typed, pair_of}
 use Rattle.lossless_tree.specs.SharedOwnership.{full_count, ticket}
 use Rattle.lossless_tree.proofs.SharedTickets.{ticket_in}
+use Rattle.lossless_tree.proofs.SharedBlock.{Owned, contents_split, block_joined}
+use Rattle.lossless_tree.proofs.SharedSteps.{owner_split, count_opened, count_shut, one_less, last_one}
 use Rattle.lossless_tree.proofs.Turns.{with_turn, tables_with_turn, meets_in_turn}
-use Rattle.lossless_tree.proofs.SharedSteps.{Owned, owner_split, count_opened, count_shut, one_less, last_one, contents_split, block_joined}
 use Rattle.lossless_tree.specs.contracts.shared.Shared as SH
 use Rattle.lossless_tree.specs.contracts.shared.Block as BL
 use Rattle.lossless_tree.specs.contracts.shared.Shared.remove_owner as F
@@ -104,52 +106,88 @@ module _ (E : Bx) {M : Type 1} {𝓤 : Ura M} (𝓛 : Logic 𝓤) (at_mem : Memo
     abbrev Had : List (Item 𝓤)
     Had = ‵ (Owned E c x) ∷ toks ∷ ‵ (ftok every) ∷ []
 
+    -- the end of a walk that hands nothing out
+    exits_with_none : ent 𝓤 (⋆ 𝓛 (‵ ((Opt.the_row (Pair E)).own_val None (live 0 vnil ∷ [])) ∷ toks ∷ ‵ (ftok every) ∷ [])) (Post (live 0 vnil))
+    exits_with_none =
+        qed 𝓛 (‵ ((Opt.the_row (Pair E)).own_val None (live 0 vnil ∷ [])) ∷ toks ∷ ‵ (ftok every) ∷ []) ∵
+        suffices ! _ (ends_at 𝓛 (ended E) (stayed E) held z (live 0 vnil) None (tt, tt) (tt, tt)) $
+        nothing ! $ nothing ! $ fjoin ! $ join ! $ move ! (1 ∷ 0 ∷ []) $ join ! $ frame ! $ says ! tt $ done !
+
     walk : ent 𝓤 (⋆ 𝓛 Had) (WpFn 𝓤 H C Λ (fn' E) (word c ∷ []) Post)
     walk =
-        qed 𝓛 Had ∵ enter ! C Λ (fn' E) (word c ∷ []) _ $ alloc_all ! (λ l. pass_all ! refl (word-Good (ν E) c, tt) $
+        qed 𝓛 Had ∵ enter ! C Λ (fn' E) (word c ∷ []) _ $
+        alloc_all ! (λ l. pass_all ! refl (word-Good (ν E) c, tt) $
         let En : Env 𝓤 H = env (fn' E).locals l in
         let Within : Posts 𝓤 H = any_q (after_block 𝓤 H (after_seq 𝓤 H (Wp 𝓤 H C Λ En (after 3 (fn' E).body) (at_return 𝓤 H En Post)) (at_return 𝓤 H En Post))) in
-        owner_split E c x ! (λ a. fpick ! (λ s. fsplit ! $ move ! (2 ∷ 0 ∷ 5 ∷ []) $ count_opened E c x a ! tt every refl s (λ y n cb co e fn some_n.
+        owner_split E c x ! (λ a. fpick ! (λ s. fsplit ! $ move ! (2 ∷ 0 ∷ 5 ∷ []) $
+        count_opened E c x a ! tt every refl s (λ y n cb co e fits some_n.
         move ! (3 ∷ 4 ∷ []) $ use2 𝓛 (‵ (ticket a)) (ticket_in 𝓛 a s) $ move ! (1 ∷ 2 ∷ 3 ∷ 0 ∷ []) $
-        -- [the count; what is beside it; what shuts; the ticket; what is seen; the till]
-        sets ! (is ! (of_opd ! (get_in ! (fld ! refl (stop !)) (sub ! 0 refl (whole !)))) (ap ptr_val e)) refl (tt, tt) $ sets ! (of_opd ! (get ! refl)) refl (tt, tt) $ first ! $ blocks ! $
-        sets ! (of_opd ! (load ! (through ! refl (fld ! refl (stop !))) (look ! 0 refl))) refl (tt, record { fits = fn }) $ sets ! (bin ! (get ! refl) (neg_lit ! tt) tt) refl (tt, tt) $ first ! $ branches ! (get ! refl)
-        (λ stuck.
-        sets ! (agg ! (and_then ! (lit ! tt) (no_more !))) refl (tt, (record { fits = lit< tt }, tt)) $ count_shut E c x a ! tt every refl y n cb co e fn $
-        use0 𝓛 (‵ ((Opt.the_row (Pair E)).own_val None (live 0 vnil ∷ []))) (none_of 𝓛 (Pair E)) $ returns_within ! Post refl (look_at ! 0 refl) $ free_all ! refl $ keep ! (0 ∷ 4 ∷ 1 ∷ []) $
-        suffices ! _ (ends_at 𝓛 (ended E) (stayed E) held z (live 0 vnil) None (tt, tt) (tt, tt)) $ nothing ! $ nothing ! $ fjoin ! $ join ! $ move ! (1 ∷ 0 ∷ []) $ join ! $ frame ! $ says ! tt $ done !)
-        (λ room. skips ! $ exec ! C Λ En (after 3 (inside (head (after 2 (fn' E).body)))) Within $
-        sets ! (bin ! (get ! refl) (lit ! tt) tt) refl (tt, tt) $ first ! $ branches ! (get ! refl)
-        (λ many. let more : 1 < n = omega (arith, is_not n 1 many) in let f₁ : n - 1 < 2 ^ 64 = omega arith in
-        sets ! (bin ! (get ! refl) (lit ! tt) some_n) refl (tt, record { fits = f₁ }) $ assigns ! (of_opd ! (get ! refl)) (through ! refl (fld ! refl (stop !))) (store ! 0 refl (tt, record { fits = f₁ })) $
+        -- [the count; the vault; what shuts; the ticket; what is shown; the tokens]
+        -- `let Shared { ptr } = self;`
+        sets ! (is ! (of_opd ! (get_in ! (fld ! refl (stop !)) (sub ! 0 refl (whole !)))) (ap ptr_val e)) refl (tt, tt) $
+        sets ! (of_opd ! (get ! refl)) refl (tt, tt) $ first ! $ blocks ! $
+        -- `let count = (*ptr).count;  if count == usize::MAX`
+        sets ! (of_opd ! (load ! (through ! refl (fld ! refl (stop !))) (look ! 0 refl))) refl (tt, record { fits = fits }) $
+        sets ! (bin ! (get ! refl) (neg_lit ! tt) tt) refl (tt, tt) $ first ! $ branches ! (get ! refl)
+        (λ at_full.
+        -- `return None;` and the ticket is thrown away
         sets ! (agg ! (and_then ! (lit ! tt) (no_more !))) refl (tt, (record { fits = lit< tt }, tt)) $
-        move ! (1 ∷ 3 ∷ []) $ one_less E c x a ! y n (is_not n full_count room) more $ move ! (1 ∷ 0 ∷ 2 ∷ []) $ count_shut E c x a ! tt every refl true (n - 1) cb co e f₁ $
-        use0 𝓛 (‵ ((Opt.the_row (Pair E)).own_val None (live 0 vnil ∷ []))) (none_of 𝓛 (Pair E)) $ returns_within ! Post refl (look_at ! 0 refl) $ free_all ! refl $ keep ! (0 ∷ 3 ∷ 1 ∷ []) $
-        suffices ! _ (ends_at 𝓛 (ended E) (stayed E) held z (live 0 vnil) None (tt, tt) (tt, tt)) $ nothing ! $ nothing ! $ fjoin ! $ join ! $ move ! (1 ∷ 0 ∷ []) $ join ! $ frame ! $ says ! tt $ done !)
-        (λ last. skips ! $ exec ! C Λ En (after 5 (inside (head (after 2 (fn' E).body)))) Within $
-        move ! (1 ∷ 3 ∷ 2 ∷ []) $ last_one E c x a ! tt every refl y n (is_so n 1 last) $ contents_split E c x ! cb co e (λ v h hv good fa.
-        -- [the value's cell; the allocator's; what each owns; the right to free; the way back; the thread's token; the count; what is seen; the till]
+        count_shut E c x a ! tt every refl y n cb co e fits $
+        use0 𝓛 (‵ ((Opt.the_row (Pair E)).own_val None (live 0 vnil ∷ []))) (none_of 𝓛 (Pair E)) $
+        returns_within ! Post refl (look_at ! 0 refl) $ free_all ! refl $ keep ! (0 ∷ 4 ∷ 1 ∷ []) $
+        by ! exits_with_none)
+        (λ room. skips ! $ exec ! C Λ En (after 3 (inside (head (after 2 (fn' E).body)))) Within $
+        -- `if count != 1`
+        sets ! (bin ! (get ! refl) (lit ! tt) tt) refl (tt, tt) $ first ! $ branches ! (get ! refl)
+        (λ many.
+        let more : 1 < n = omega (arith, is_not n 1 many) in
+        let fits₁ : n - 1 < 2 ^ 64 = omega arith in
+        -- `(*ptr).count = count - 1;  return None;`
+        sets ! (bin ! (get ! refl) (lit ! tt) some_n) refl (tt, record { fits = fits₁ }) $
+        assigns ! (of_opd ! (get ! refl)) (through ! refl (fld ! refl (stop !))) (store ! 0 refl (tt, record { fits = fits₁ })) $
+        sets ! (agg ! (and_then ! (lit ! tt) (no_more !))) refl (tt, (record { fits = lit< tt }, tt)) $
+        move ! (1 ∷ 3 ∷ []) $ one_less E c x a ! y n (is_not n full_count room) more $ move ! (1 ∷ 0 ∷ 2 ∷ []) $
+        count_shut E c x a ! tt every refl true (n - 1) cb co e fits₁ $
+        use0 𝓛 (‵ ((Opt.the_row (Pair E)).own_val None (live 0 vnil ∷ []))) (none_of 𝓛 (Pair E)) $
+        returns_within ! Post refl (look_at ! 0 refl) $ free_all ! refl $ keep ! (0 ∷ 3 ∷ 1 ∷ []) $
+        by ! exits_with_none)
+        (λ last.
+        -- the last owner: the invariant is shut for good, and what it lent comes back
+        skips ! $ exec ! C Λ En (after 5 (inside (head (after 2 (fn' E).body)))) Within $
+        move ! (1 ∷ 3 ∷ 2 ∷ []) $ last_one E c x a ! tt every refl y n (is_so n 1 last) $
+        contents_split E c x ! cb co e (λ v h hv good fa.
+        -- [the value's cell; the allocator's; what each owns; the right to free; the way back; the thread's token; the count; what is shown; the tokens]
         let freed : (Room E).Denot = record { ptr = block_ptr cb co; alloc = h } in
         let room_val : Val = vacant_val hv cb co in
         let room_typed = vacant_typed E.al (Block E) hv cb co fa in
         let both : Val = pair_val v room_val in
         let typed : Good (lone (Pair E).mir) both = pair_Typed (τ E) (vacant_ty E.al (Block E)) v room_val good room_typed in
         let some_typed = some_Good (lone (Pair E).mir) both typed in
-        sets ! (addr ! (through ! refl (fld ! refl (stop !)))) refl (tt, tt) $ sets ! (of_opd ! (load ! (through ! refl (stop !)) (look ! 0 refl))) refl good $
-        sets ! (addr ! (through ! refl (fld ! refl (stop !)))) refl (tt, tt) $ sets ! (of_opd ! (load ! (through ! refl (stop !)) (look ! 1 refl))) refl fa $
+        -- `let value = (&raw const (*ptr).value).read();  let alloc = (&raw const (*ptr).alloc).read();`
+        sets ! (addr ! (through ! refl (fld ! refl (stop !)))) refl (tt, tt) $
+        sets ! (of_opd ! (load ! (through ! refl (stop !)) (look ! 0 refl))) refl good $
+        sets ! (addr ! (through ! refl (fld ! refl (stop !)))) refl (tt, tt) $
+        sets ! (of_opd ! (load ! (through ! refl (stop !)) (look ! 1 refl))) refl fa $
+        -- `Some((value, Vacant { ptr, alloc }))`
         sets ! (of_opd ! (get ! refl)) refl good $ sets ! (of_opd ! (get ! refl)) refl fa $
-        sets ! (agg ! (and_then ! (get ! refl) (and_then ! (get ! refl) (no_more !)))) refl room_typed $ sets ! (agg ! (and_then ! (get ! refl) (and_then ! (get ! refl) (no_more !)))) refl typed $
+        sets ! (agg ! (and_then ! (get ! refl) (and_then ! (get ! refl) (no_more !)))) refl room_typed $
+        sets ! (agg ! (and_then ! (get ! refl) (and_then ! (get ! refl) (no_more !)))) refl typed $
         sets_last ! (agg ! (and_then ! (lit ! tt) (and_then ! (get ! refl) (no_more !)))) refl some_typed $
         exec ! C Λ En (after 3 (fn' E).body) (at_ret En Post) $ sets ! (of_opd ! (get ! refl)) refl some_typed $
-        move ! (7 ∷ 1 ∷ 0 ∷ 5 ∷ []) $ block_joined E c x ! n cb co v hv $ move ! (0 ∷ 3 ∷ 2 ∷ []) $ Vacant-made E.al (Block E) ! h cb co $
-        move ! (1 ∷ 0 ∷ []) $ use2 𝓛 (‵ ((Pair E).own_val (x, freed) (both ∷ []))) (pair_of 𝓛 (R E) (Room E) x freed v room_val) $
+        move ! (7 ∷ 1 ∷ 0 ∷ 5 ∷ []) $ block_joined E c x ! n cb co v hv $ move ! (0 ∷ 3 ∷ 2 ∷ []) $
+        Vacant-made E.al (Block E) ! h cb co $
+        move ! (1 ∷ 0 ∷ []) $
+        use2 𝓛 (‵ ((Pair E).own_val (x, freed) (both ∷ []))) (pair_of 𝓛 (R E) (Room E) x freed v room_val) $
         use1 𝓛 (‵ ((Opt.the_row (Pair E)).own_val (Some (x, freed)) (live 1 (vcons both vnil) ∷ []))) (Some-of 𝓛 (Pair E) (x, freed) both) $
         returns ! (look_at ! 0 refl) $ free_all ! refl $ keep ! (0 ∷ 3 ∷ 1 ∷ []) $
-        suffices ! _ (ends_at 𝓛 (ended E) (stayed E) held z (live 1 (vcons both vnil)) (Some (x, freed)) (tt, tt) (tt, tt)) $ nothing ! $ nothing ! $ fjoin ! $ join ! $ move ! (1 ∷ 0 ∷ []) $ join ! $ frame ! $ says ! refl $ done !)))))))
+        suffices ! _ (ends_at 𝓛 (ended E) (stayed E) held z (live 1 (vcons both vnil)) (Some (x, freed)) (tt, tt) (tt, tt)) $
+        nothing ! $ nothing ! $ fjoin ! $ join ! $ move ! (1 ∷ 0 ∷ []) $ join ! $ frame ! $ says ! refl $
+        done !)))))))
 
     walks : ent 𝓤 ((walk_of 𝓛 (ended E) (stayed E) held).pre z) (WpFn 𝓤 H C Λ (fn' E) (us ++ []) Post)
     walks =
-        qed 𝓛 ((toks ⊛ ‵ (owns (types_at (ended E).signature.params z.0.0) z.0.3 (us, tt))) ∷ (‵ (ftok every) ⊛ asked) ∷ []) ∵ split ! $ move ! (2 ∷ []) $ split ! $ move ! (3 ∷ []) $ fsplit ! $ fsplit ! $
+        qed 𝓛 ((toks ⊛ ‵ (owns (types_at (ended E).signature.params z.0.0) z.0.3 (us, tt))) ∷ (‵ (ftok every) ⊛ asked) ∷ []) ∵ split ! $
+        move ! (2 ∷ []) $ split ! $ move ! (3 ∷ []) $ fsplit ! $ fsplit ! $
         word_had E (ν E) c ! us (λ is. keep ! (0 ∷ 4 ∷ 2 ∷ []) $
         by ! (subst (λ (ws : List Val). ent 𝓤 (⋆ 𝓛 Had) (WpFn 𝓤 H C Λ (fn' E) (ws ++ []) Post)) (sym is) walk))
 

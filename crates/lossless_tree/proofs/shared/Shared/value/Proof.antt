@@ -1,4 +1,4 @@
--- `value` shows what every owner sees.
+-- `value` hands out what every owner sees. The count is not touched, so the invariant stays shut.
 use mathlib.Core.Path.{refl, sym}
 use mathlib.Core.List.{List, [], ◌∷◌}
 use Prim.Native.Nat.{ℕ, ◌+◌}
@@ -34,8 +34,8 @@ use Rattle.std.proofs.BoxSteps.Form.{Bx, args, X, R, P}
 use Rattle.std.proofs.RcSteps.{word, word_ty, Word, reads, read}
 use Rattle.std.proofs.raw_atomic.Walks.{proved}
 use Rattle.std.proofs.VecSteps.Shapes.{after}
-use Rattle.lossless_tree.proofs.SharedTickets.{sees}
-use Rattle.lossless_tree.proofs.SharedSteps.{tag, value_at, counter, contents, view, Lent}
+use Rattle.lossless_tree.proofs.SharedLending.{sees}
+use Rattle.lossless_tree.proofs.SharedBlock.{tag, value_at, counter, contents, view, Lent}
 use Rattle.lossless_tree.specs.contracts.shared.Shared as SH
 use Rattle.lossless_tree.specs.contracts.shared.Shared.value as F
 use Rattle.lossless_tree.specs.contracts.shared.Shared.value.Key.{name as #self}
@@ -102,20 +102,28 @@ module _ (E : Bx) {M : Type 1} {𝓤 : Ura M} (𝓛 : Logic 𝓤) (at_mem : Memo
     walks =
         qed 𝓛 (((‵ (flft κ q) ⊛ others) ⊛ ‵ (owns (types_at (ended E).signature.params z.0.0) z.0.3 (us, tt))) ∷ asked ∷ []) ∵
         split ! $ split ! $ move ! (2 ∷ []) $ fsplit ! $ fsplit ! $ keep ! (1 ∷ 3 ∷ 4 ∷ []) $
-        use1 𝓛 (‵ (hidden_shr (Word E (ν E)) κ (c, tt) b o) ⊛ ‵ (fhide (Lent E c x κ))) (id⊢ 𝓤 _) $ split ! $ move ! (1 ∷ []) $ unhide ! $
+        use1 𝓛 (‵ (hidden_shr (Word E (ν E)) κ (c, tt) b o) ⊛ ‵ (fhide (Lent E c x κ))) (id⊢ 𝓤 _) $ split ! $
+        move ! (1 ∷ []) $ unhide ! $
         use1 𝓛 (‵ (view E c x κ)) (sees (counter E c x) (contents E c x) (tag E c x) (view E c x) 𝓛 (lent_at_shr_laws (R E) E.laws.shr_laws (c +ₚ value_at E) x) κ) $
-        in_a_block ! c (λ r. lent_at (R E) (r +ₚ value_at E) x κ) (fst∗ 𝓤 (never 𝓤) (sem 𝓛 (shared_of (R E) x 0 0 κ))) (λ cb co e. fsplit ! $ drop ! $ hide ! $
-        -- [what is seen; the word; κ's token; the other till]
+        in_a_block ! c (λ r. lent_at (R E) (r +ₚ value_at E) x κ) (fst∗ 𝓤 (never 𝓤) (sem 𝓛 (shared_of (R E) x 0 0 κ))) (λ cb co e. fsplit ! $
+        drop ! $ hide ! $
+        -- [what is shown; the word; κ's token; the other tokens]
         enter ! C Λ (fn' E) us _ $ alloc_all ! (λ l. pass_all ! refl ((tt, tt), tt) $
         let En : Env 𝓤 H = env (fn' E).locals l in
         let at : Val = vptr cb (co + value_at E) in
-        move ! (1 ∷ 2 ∷ []) $ reads E (ν E) c ! tt b o (λ q'. rewrite ! 0 (λ (r : Ptr). ‵ (fat q' (word_ty (ν E)) b o (word r))) e refl $ first ! $ blocks ! $
+        move ! (1 ∷ 2 ∷ []) $
+        reads E (ν E) c ! tt b o (λ q'. rewrite ! 0 (λ (r : Ptr). ‵ (fat q' (word_ty (ν E)) b o (word r))) e refl $
+        -- `&(*self.ptr).value`
+        first ! $ blocks ! $
         sets_last ! (addr ! (through ! refl (fld ! refl (hop ! (look_in ! 0 (sub ! 0 refl (whole !))) (fld ! refl (stop !)))))) refl (tt, tt) $
         exec ! C Λ En (after 1 (fn' E).body) (at_ret En Post) $ sets ! (of_opd ! (get ! refl)) refl (tt, tt) $
-        rewrite ! 0 (λ (r : Ptr). ‵ (fat q' (word_ty (ν E)) b o (word r))) (sym e) refl $ read E (ν E) c ! tt b o q' $
-        move ! (1 ∷ []) $ feq_i ! (List Val) (at ∷ []) (at ∷ []) refl $ fjoin ! $ returns ! (look_at ! 0 refl) $ free_all ! refl $ keep ! (0 ∷ 1 ∷ 2 ∷ []) $
+        rewrite ! 0 (λ (r : Ptr). ‵ (fat q' (word_ty (ν E)) b o (word r))) (sym e) refl $
+        read E (ν E) c ! tt b o q' $
+        move ! (1 ∷ []) $ feq_i ! (List Val) (at ∷ []) (at ∷ []) refl $ fjoin ! $ returns ! (look_at ! 0 refl) $
+        free_all ! refl $ keep ! (0 ∷ 1 ∷ 2 ∷ []) $
         suffices ! _ (ends_at 𝓛 (ended E) (stayed E) held bound at (record { ref_ptr = (cb, co + value_at E); now = x }) (tt, tt) (tt, tt)) $
-        says ! refl $ nothing ! $ nothing ! $ fjoin ! $ join ! $ move ! (1 ∷ 2 ∷ []) $ join ! $ join ! $ done !)))
+        says ! refl $ nothing ! $ nothing ! $ fjoin ! $ join ! $ move ! (1 ∷ 2 ∷ []) $ join ! $ join ! $
+        done !)))
 
 pub value_spec : {M : Type 1} → stated.statement M
 value_spec 𝓤 𝓛 𝓜 𝓡 wired Y Z L LZ g d dd met md =
