@@ -2,8 +2,14 @@
 #![tactic(auto)]
 
 #[cfg(test)]
+mod events;
+#[cfg(test)]
 mod kinds;
 #[cfg(test)]
 mod shared;
 #[cfg(test)]
+mod streams;
+#[cfg(test)]
 mod text;
+#[cfg(test)]
+mod trees;

@@ -1,0 +1,95 @@
+//! Trees made by the builder: what its calls and those of a cursor answer.
+use lossless_tree::{FinishError, NodeOrToken, SyntaxKind, SyntaxNode, TreeBuilder, WalkEvent};
+use std::test::Fail;
+
+// SOURCE_FILE over IDENT `a`, NAME without children, IDENT `b` of two bytes.
+fn sample(rt: &HostRuntime) -> Result<SyntaxNode, Fail> {
+    let mut builder = TreeBuilder::new(rt.alloc());
+    builder.start_node(SyntaxKind::SOURCE_FILE)?;
+    builder.token(SyntaxKind::IDENT, "a")?;
+    builder.start_node(SyntaxKind::NAME)?;
+    builder.finish_node()?;
+    builder.token(SyntaxKind::IDENT, "\u{e9}")?;
+    builder.finish_node()?;
+    Ok(builder.finish()?)
+}
+
+#[test]
+fn a_tree_keeps_its_text(rt: HostRuntime) -> Result<(), Fail> {
+    let root = sample(&rt)?;
+    assert_eq!(rt; root.kind(), SyntaxKind::SOURCE_FILE);
+    assert_eq!(rt; root.as_str(), "a\u{e9}");
+    let text = root.dump(rt.alloc())?;
+    assert_eq!(rt;
+        text.as_str(),
+        "SOURCE_FILE@0..3\n  IDENT@0..1 \"a\"\n  NAME@1..1\n  IDENT@1..3 \"\u{e9}\"\n"
+    );
+    Ok(())
+}
+
+#[test]
+fn a_walk_enters_and_leaves(rt: HostRuntime) -> Result<(), Fail> {
+    let root = sample(&rt)?;
+    let mut seen = String::new(rt.alloc());
+    for event in root.preorder_with_tokens() {
+        match event {
+            WalkEvent::Enter(NodeOrToken::Node(node)) => write!(seen, "({} ", node.kind())?,
+            WalkEvent::Enter(NodeOrToken::Token(token)) => write!(
+                seen,
+                "[{} {}",
+                token.text(),
+                token.text_range()
+            )?,
+            WalkEvent::Leave(NodeOrToken::Node(_)) => seen.push_str(")")?,
+            WalkEvent::Leave(NodeOrToken::Token(_)) => seen.push_str("]")?,
+        }
+    }
+    assert_eq!(rt; seen.as_str(), "(SOURCE_FILE [a 0..1](NAME )[\u{e9} 1..3])");
+    let mut count: usize = 0;
+    for _element in root.descendants_with_tokens() {
+        count = count.saturating_add(1);
+    }
+    assert_eq!(rt; count, 4);
+    Ok(())
+}
+
+#[test]
+fn cursors_step(rt: HostRuntime) -> Result<(), Fail> {
+    let root = sample(&rt)?;
+    assert!(rt; root.parent().is_none());
+    assert!(rt; root.next_sibling_or_token().is_none());
+    let Some(NodeOrToken::Token(first)) = root.first_child_or_token() else {
+        return Err(Fail::from("no first child"));
+    };
+    assert_eq!(rt; first.kind(), SyntaxKind::IDENT);
+    let copy = first.clone()?;
+    assert_eq!(rt; copy.text(), "a");
+    let text = copy.dump(rt.alloc())?;
+    assert_eq!(rt; text.as_str(), "IDENT@0..1 \"a\"\n");
+    Ok(())
+}
+
+#[test]
+fn cursors_outlive_their_root(rt: HostRuntime) -> Result<(), Fail> {
+    let root = sample(&rt)?;
+    let inner = root.clone()?;
+    drop(root);
+    let Some(NodeOrToken::Token(first)) = inner.first_child_or_token() else {
+        return Err(Fail::from("no first child"));
+    };
+    drop(inner);
+    assert_eq!(rt; first.text(), "a");
+    Ok(())
+}
+
+#[test]
+fn refusals_come_in_their_order(rt: HostRuntime) -> Result<(), Fail> {
+    let mut builder = TreeBuilder::new(rt.alloc());
+    assert!(rt; matches!(&builder.finish(), Err(FinishError::Empty)));
+    builder = TreeBuilder::new(rt.alloc());
+    builder.finish_node()?;
+    builder.start_node(SyntaxKind::NAME)?;
+    builder.start_node(SyntaxKind::NAME)?;
+    assert!(rt; matches!(&builder.finish(), Err(FinishError::OverClosed)));
+    Ok(())
+}
