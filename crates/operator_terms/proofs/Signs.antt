@@ -1,0 +1,105 @@
+-- What each token may be, and that a term's tokens are its signs.
+use Rattle.std.proofs.Common.{◌≡◌, ℕ, List, [], ◌∷◌, ◌++◌, Bool, true, false, refl, ap, ap₂, ◌∙◌}
+use Rattle.lossless_tree.specs.declared.syntax_kind.SyntaxKind.TheVariants.{Token as OfToken}
+use Rattle.operator_terms.specs.Token.{Token}
+use Rattle.operator_terms.specs.Operators.{Add, And, Assign, AssignBy, BitAnd, BitOr, BitXor, Byte, ByteStr, CStr, Char, Compare, Compute, Dereference, Divide, Equal, False, Float, Greater, GreaterOrEqual, Int, Less, LessOrEqual, LiteralKind, Multiply, Negate, Not, NotEqual, Operator, Or, PrefixOperator, Remainder, ShiftLeft, ShiftRight, Str, Subtract, True, operator_kind, prefix_kind, range_kind}
+use Rattle.operator_terms.specs.Term.{Await, Binary, Borrow, Call, Cast, Field, Index, Last, Literal, Method, More, Name, NoTerms, Paren, Prefix, Range, RangeFrom, RangeFull, RangeTo, Term, Terms, Try, argument_tokens, literal, tokens}
+use Rattle.operator_terms.specs.Sign.{As, AwaitWord, Closes, ClosesIndex, Comma, Dot, Lit, MutWord, Op, Opens, OpensIndex, Question, Sign, To, Word, sign_of}
+use Rattle.operator_terms.proofs.Machine.{prefix_sign, emit, emit_all}
+
+-- the signs of tokens, before others
+abbrev pub signs : List Token → List Sign → List Sign
+signs [] rest = rest
+signs (t ∷ ts) rest = sign_of t.kind t.text ∷ signs ts rest
+
+signs-append : (xs ys : List Token) (rest : List Sign) → signs (xs ++ ys) rest ≡ signs xs (signs ys rest)
+signs-append [] ys rest = refl
+signs-append (t ∷ ts) ys rest = ap (◌∷◌ (sign_of t.kind t.text)) (signs-append ts ys rest)
+
+sign-literal : (kind : LiteralKind) (x : List ℕ) → sign_of (literal kind x).kind x ≡ Lit kind x
+sign-literal Int x = refl
+sign-literal Float x = refl
+sign-literal Char x = refl
+sign-literal Byte x = refl
+sign-literal Str x = refl
+sign-literal ByteStr x = refl
+sign-literal CStr x = refl
+sign-literal True x = refl
+sign-literal False x = refl
+
+sign-operator : (op : Operator) (x : List ℕ) → sign_of (OfToken (operator_kind op)) x ≡ Op op
+sign-operator Or x = refl
+sign-operator And x = refl
+sign-operator (Compare Equal) x = refl
+sign-operator (Compare NotEqual) x = refl
+sign-operator (Compare Less) x = refl
+sign-operator (Compare LessOrEqual) x = refl
+sign-operator (Compare Greater) x = refl
+sign-operator (Compare GreaterOrEqual) x = refl
+sign-operator (Compute Add) x = refl
+sign-operator (Compute Subtract) x = refl
+sign-operator (Compute Multiply) x = refl
+sign-operator (Compute Divide) x = refl
+sign-operator (Compute Remainder) x = refl
+sign-operator (Compute ShiftLeft) x = refl
+sign-operator (Compute ShiftRight) x = refl
+sign-operator (Compute BitXor) x = refl
+sign-operator (Compute BitOr) x = refl
+sign-operator (Compute BitAnd) x = refl
+sign-operator Assign x = refl
+sign-operator (AssignBy Add) x = refl
+sign-operator (AssignBy Subtract) x = refl
+sign-operator (AssignBy Multiply) x = refl
+sign-operator (AssignBy Divide) x = refl
+sign-operator (AssignBy Remainder) x = refl
+sign-operator (AssignBy ShiftLeft) x = refl
+sign-operator (AssignBy ShiftRight) x = refl
+sign-operator (AssignBy BitXor) x = refl
+sign-operator (AssignBy BitOr) x = refl
+sign-operator (AssignBy BitAnd) x = refl
+
+sign-prefix : (op : PrefixOperator) (x : List ℕ) → sign_of (OfToken (prefix_kind op)) x ≡ prefix_sign op
+sign-prefix Dereference x = refl
+sign-prefix Not x = refl
+sign-prefix Negate x = refl
+
+sign-range : (inclusive : Bool) (x : List ℕ) → sign_of (OfToken (range_kind inclusive)) x ≡ To inclusive
+sign-range true x = refl
+sign-range false x = refl
+
+mutual
+  unfolding tokens
+
+  pub signs-tokens : (t : Term) (rest : List Sign) → signs (tokens t) rest ≡ emit t rest
+  signs-tokens (Literal kind text) rest = ap (λ c. c ∷ rest) (sign-literal kind text)
+  signs-tokens (Name text) rest = refl
+  signs-tokens (Paren e) rest = ap (◌∷◌ Opens) (signs-append (tokens e) _ rest ∙ signs-tokens e (Closes ∷ rest))
+  signs-tokens (Field e n) rest = signs-append (tokens e) _ rest ∙ signs-tokens e (Dot ∷ Word n ∷ rest)
+  signs-tokens (Await e) rest = signs-append (tokens e) _ rest ∙ signs-tokens e (Dot ∷ AwaitWord ∷ rest)
+  signs-tokens (Cast e n) rest = signs-append (tokens e) _ rest ∙ signs-tokens e (As ∷ Word n ∷ rest)
+  signs-tokens (Try e) rest = signs-append (tokens e) _ rest ∙ signs-tokens e (Question ∷ rest)
+  signs-tokens (Method e n args) rest =
+      signs-append (tokens e) _ rest ∙ signs-tokens e _
+      ∙ ap (λ cs. emit e (Dot ∷ Word n ∷ Opens ∷ cs)) (signs-append (argument_tokens args) _ rest ∙ signs-arguments args (Closes ∷ rest))
+  signs-tokens (Call e args) rest =
+      signs-append (tokens e) _ rest ∙ signs-tokens e _
+      ∙ ap (λ cs. emit e (Opens ∷ cs)) (signs-append (argument_tokens args) _ rest ∙ signs-arguments args (Closes ∷ rest))
+  signs-tokens (Index e i) rest =
+      signs-append (tokens e) _ rest ∙ signs-tokens e _
+      ∙ ap (λ cs. emit e (OpensIndex ∷ cs)) (signs-append (tokens i) _ rest ∙ signs-tokens i (ClosesIndex ∷ rest))
+  signs-tokens (Prefix op e) rest = ap₂ ◌∷◌ (sign-prefix op _) (signs-tokens e rest)
+  signs-tokens (Borrow true e) rest = ap (λ cs. Op (Compute BitAnd) ∷ MutWord ∷ cs) (signs-tokens e rest)
+  signs-tokens (Borrow false e) rest = ap (λ cs. Op (Compute BitAnd) ∷ cs) (signs-tokens e rest)
+  signs-tokens (Binary op l r) rest =
+      signs-append (tokens l) _ rest ∙ signs-tokens l _ ∙ ap (emit l) (ap₂ ◌∷◌ (sign-operator op _) (signs-tokens r rest))
+  signs-tokens RangeFull rest = refl
+  signs-tokens (RangeFrom l) rest = signs-append (tokens l) _ rest ∙ signs-tokens l (To false ∷ rest)
+  signs-tokens (RangeTo inclusive r) rest = ap₂ ◌∷◌ (sign-range inclusive _) (signs-tokens r rest)
+  signs-tokens (Range inclusive l r) rest =
+      signs-append (tokens l) _ rest ∙ signs-tokens l _ ∙ ap (emit l) (ap₂ ◌∷◌ (sign-range inclusive _) (signs-tokens r rest))
+
+  pub signs-arguments : (ts : Terms) (rest : List Sign) → signs (argument_tokens ts) rest ≡ emit_all ts rest
+  signs-arguments NoTerms rest = refl
+  signs-arguments (Last e) rest = signs-tokens e rest
+  signs-arguments (More e es) rest =
+      signs-append (tokens e) _ rest ∙ signs-tokens e _ ∙ ap (λ cs. emit e (Comma ∷ cs)) (signs-arguments es rest)

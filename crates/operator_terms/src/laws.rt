@@ -1,0 +1,112 @@
+//! What is proved of operator expressions, from the grammar to the theorem.
+//!
+//! Each law is the contract of a function that does nothing. A crate above uses one by calling the function, which costs
+//! nothing, or by naming its lemma in a proof.
+ghost use Rattle.std.specs.Prelude.{◌≡◌, ◌↔◌, ◌++◌, ◌∷◌, [], ℕ, List, Bool, true, false};
+ghost use Rattle.lossless_tree.specs.declared.syntax_kind.token_kind.TokenKind.TheVariants as token;
+ghost use Rattle.operator_terms.specs.AllFit.{all_fit};
+ghost use Rattle.operator_terms.specs.Headline.{IsOneReading, AsksNowhere, FindsNeedless, has_as};
+ghost use Rattle.operator_terms.specs.Pairs.{paired, without};
+ghost use Rattle.operator_terms.specs.Places.{Demand, Callee, Meets, some_part, part, operand, tokens_behind, ends_in_cast, MayStandBefore, Fits};
+ghost use Rattle.operator_terms.specs.Powers.{needs_pair_at};
+ghost use Rattle.operator_terms.specs.Precedence.{precedence, needs_parentheses_in};
+ghost use Rattle.operator_terms.specs.Reading.{Reads};
+ghost use Rattle.operator_terms.specs.Term.{Term, Terms, Paren, Field, Method, Call, is_field, tokens};
+ghost use Rattle.operator_terms.specs.Token.{Token, fixed};
+
+// ---- reading
+
+/// What reads as a term, at any level, are the term's tokens.
+pub fn reads_its_tokens()
+    ensures { (k : ℕ) (ts : List Token) (t : Term) → Reads k ts t → ts ≡ tokens t }
+{}
+
+/// One reading: two terms that read the same tokens, at whatever levels, are equal. This covers open ranges, the
+/// operators `-`, `*` and `&` that are both prefix and binary, and a called field against a method call.
+pub fn one_reading()
+    ensures { (j k : ℕ) (ts : List Token) (t u : Term) → Reads j ts t → Reads k ts u → t ≡ u }
+{}
+
+/// A term's tokens read as the term exactly where every operand fits its place.
+pub fn reads_where_all_fit()
+    ensures { (t : Term) → Reads 0 (tokens t) t ↔ ((q : List ℕ) → Fits t q) }
+{}
+
+/// The test `all_fit` decides whether every operand fits.
+pub fn all_fit_decides()
+    ensures { (t : Term) → all_fit t ≡ true ↔ ((q : List ℕ) → Fits t q) }
+{}
+
+/// The call of a field has the tokens of a method call. So the first never reads.
+pub fn a_called_field_is_a_method_call()
+    ensures tokens { (e : Term) (name : List ℕ) (args : Terms) → tokens (Call (Field e name) args) ≡ tokens (Method e name args) }
+    ensures unread { (e : Term) (name : List ℕ) (args : Terms) (k : ℕ) (ts : List Token) → Reads k ts (Call (Field e name) args) → ⊥ }
+{}
+
+// ---- pairs
+
+/// With a pair round each operand that doesn't fit, the tokens always read as the term.
+pub fn paired_reads()
+    ensures { (t : Term) → Reads 0 (tokens (paired t)) (paired t) }
+{}
+
+/// Where every operand fits, no pair is put in, and only there.
+pub fn paired_keeps_what_reads()
+    ensures { (t : Term) → paired t ≡ t ↔ Reads 0 (tokens t) t }
+{}
+
+/// Without a pair exactly its two tokens are gone.
+pub fn tokens_without_a_pair()
+    ensures { (t : Term) (q : List ℕ) (d : Demand) (e : Term) → operand t q ≡ some_part d (Paren e)
+        → (before : List Token) × (after : List Token)
+        × (tokens t ≡ before ++ (fixed token.L_PAREN ∷ (tokens e ++ (fixed token.R_PAREN ∷ after))))
+        × (tokens (without q t) ≡ before ++ (tokens e ++ after)) }
+{}
+
+/// In a term that its tokens read as, a pair may go exactly where what it holds fits the pair's place: then the tokens
+/// without the pair read as the term without it.
+pub fn pair_may_go()
+    ensures { (t : Term) (q : List ℕ) (d : Demand) (e : Term) → Reads 0 (tokens t) t → operand t q ≡ some_part d (Paren e)
+        → (Meets d e × MayStandBefore (tokens_behind q t) e) ↔ Reads 0 (tokens (without q t)) (without q t) }
+{}
+
+// ---- the tests
+
+/// The test by binding powers asks for a pair exactly where an operand doesn't fit: for any term `own` in place of any part,
+/// before `<` or `<<` (`angle`) or not.
+pub fn powers_ask_where_unfit()
+    ensures { (t : Term) (i : ℕ) (d : Demand) (e own : Term) (angle : Bool) → part t i ≡ some_part d e
+        → needs_pair_at t i angle own ≡ false ↔ (Meets d own × (ends_in_cast (tokens own) ≡ true → angle ≡ false)) }
+{}
+
+/// Where the test by precedences asks for no parentheses, the test by binding powers asks for none: save for a field that
+/// is called, and for an operand that ends in a cast's name before `<` or `<<`.
+pub fn precedences_ask_enough()
+    ensures { (t : Term) (i : ℕ) (d : Demand) (e : Term) (angle : Bool) → part t i ≡ some_part d e
+        → needs_parentheses_in (precedence e) (precedence t) ≡ false
+        → (d ≡ Callee → is_field e ≡ false) → (ends_in_cast (tokens e) ≡ true → angle ≡ false)
+        → needs_pair_at t i angle e ≡ false }
+{}
+
+// ---- the theorem
+
+/// The operator theorem, over terms.
+///
+/// `readings`: a term is the one reading of its tokens exactly where the test by binding powers asks for a pair at no
+/// operand. `pairs`: in such a term, the test asks for none at what a pair holds exactly where the tokens without the pair
+/// read as the term without it.
+///
+/// The term may stand before any tokens, `following`; where it, or it without the pair, ends in a cast's name, these must
+/// not begin with `<` or `<<`.
+pub fn the_operator_theorem()
+    ensures readings { (following : List Token) (t : Term) → MayStandBefore following t → IsOneReading t ↔ AsksNowhere following t }
+    ensures pairs { (following : List Token) (t : Term) → MayStandBefore following t → IsOneReading t → FindsNeedless following t }
+{}
+
+/// A term without casts may stand before any tokens, and without a pair it still has no casts. So for such a term the
+/// theorem asks nothing of what follows.
+pub fn without_casts_all_may_follow()
+    ensures stands { (following : List Token) (t : Term) → has_as (tokens t) ≡ false → MayStandBefore following t }
+    ensures without_a_pair { (t : Term) (q : List ℕ) (d : Demand) (e : Term) → operand t q ≡ some_part d (Paren e)
+        → has_as (tokens t) ≡ false → has_as (tokens (without q t)) ≡ false }
+{}
