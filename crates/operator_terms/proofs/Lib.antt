@@ -19,3 +19,4 @@ pub mod Headlines
 pub mod AllFit
 pub mod Precedences
 pub mod CastFree
+pub mod Rows

@@ -1,15 +1,15 @@
 -- With casts: every operand fits, by places, exactly where the tokens read as the term.
-use Rattle.std.proofs.Common.{◌≡◌, ◌↔◌, ℕ, suc, List, [], ◌∷◌, ◌++◌, true, false, Option, Some, None, IfSome, option_and_then, refl, sym, ◌∙◌, subst, append_assoc, append-nil}
+use Rattle.std.proofs.Common.{◌≡◌, ◌≤◌, ◌↔◌, ℕ, suc, List, [], ◌∷◌, ◌++◌, true, false, Option, Some, None, IfSome, option_and_then, refl, sym, ◌∙◌, subst, append_assoc, append-nil, arith}
 use Rattle.lossless_tree.specs.declared.syntax_kind.token_kind.TokenKind.TheVariants as token
 use Rattle.operator_terms.specs.Token.{Token, fixed}
 use Rattle.operator_terms.specs.Operators.{left_demand, right_demand}
-use Rattle.operator_terms.specs.Term.{Await, Binary, Borrow, Call, Cast, Field, Index, Last, Literal, Method, More, Name, NoTerms, Paren, Prefix, Range, RangeFrom, RangeFull, RangeTo, Term, Terms, Try, tokens}
+use Rattle.operator_terms.specs.Term.{Await, Binary, Borrow, Call, Cast, Field, Index, Last, Literal, Method, More, Name, NoTerms, Paren, Prefix, Range, RangeFrom, RangeFull, RangeTo, Term, Terms, Try, level, tokens}
 use Rattle.operator_terms.specs.Reading.{Derives, Reads, begins_with_angle, no_cast_before_angle}
 use Rattle.operator_terms.specs.Places.{AtLeast, Callee, Demand, Fits, Meets, Part, argument, behind_argument, behind_in, behind_part, MayStandBefore, operand, part, part_at, tokens_behind}
 use Rattle.operator_terms.proofs.Clear.{cast_at_end, Clear, AllClear, facts_of_rule, rule_of_facts, no_typed_angle}
 use Rattle.operator_terms.proofs.Ends.{ends-tokens, clear_end, ClearBefore, part-clear}
 use Rattle.operator_terms.proofs.Fitting.{derives_exactly}
-use Rattle.operator_terms.proofs.Deriving.{Derives-tokens, Derives-parts, one_derivation}
+use Rattle.operator_terms.proofs.Deriving.{Derives-tokens, Derives-level, Derives-parts, Derives_of_parts, one_derivation}
 
 clear-next : (q : List ℕ) (o : Option Part) (ts rest : List Token) → ((d : Demand) (e : Term) (rest : List Token) → Clear (begins_with_angle rest) e → IfSome (part_at d e q) (ClearBefore (tokens_behind q e ++ rest))) → IfSome o (ClearBefore (ts ++ rest)) → IfSome (option_and_then (λ p. part_at p.demand p.term q) o) (ClearBefore (behind_in (tokens_behind q) o ts ++ rest))
 clear-next q None ts rest each h = tt
@@ -151,3 +151,18 @@ called-field-tokens e n args = simp append_assoc
 
 pub called-field-unread : (e : Term) (n : List ℕ) (args : Terms) (k : ℕ) (ts : List Token) → Reads k ts (Call (Field e n) args) → ⊥
 called-field-unread e n args k ts h = let parts = Derives-parts (Call (Field e n) args) k ts (reads-derives k ts (Call (Field e n) args) h) in let no : true ≡ false = parts.1 in absurd (cc)
+
+-- ---- at a level
+
+pub reads_at_level : (k : ℕ) (t : Term) → Reads k (tokens t) t ↔ ((k ≤ level t) × ((q : List ℕ) → Fits t q))
+reads_at_level k t = (
+  (λ h.
+      let derives = reads-derives k (tokens t) t h in
+      let rule = reads-rule k (tokens t) t h in
+      let reads = reads_of_both 0 (tokens t) t (Derives_of_parts t 0 (omega arith) (Derives-parts t k (tokens t) derives)) rule in
+      (Derives-level t k (tokens t) derives, (reads_exactly t).0 reads)),
+  (λ h.
+      let reads = (reads_exactly t).1 h.1 in
+      let parts = Derives-parts t 0 (tokens t) (reads-derives 0 (tokens t) t reads) in
+      reads_of_both k (tokens t) t (Derives_of_parts t k h.0 parts) (reads-rule 0 (tokens t) t reads)),
+)

@@ -10,3 +10,7 @@ pub mod Powers
 pub mod Precedence
 pub mod Headline
 pub mod Sign
+pub mod Notation
+pub mod WorkedTerms
+pub mod WorkedPlaces
+pub mod WorkedPairs

@@ -1,10 +1,12 @@
 -- What a token may be in an operator expression. A sign says as much of a token as the grammar asks: so whoever reads trees
 -- or tokens goes by a small set of cases and not by all kinds.
-use Rattle.std.specs.Prelude.{ℕ, List, Bool, true, false}
+use Rattle.std.specs.Prelude.{◌≡◌, ℕ, List, [], ◌∷◌, Bool, true, false, Option, Some, None}
 use Rattle.lossless_tree.specs.declared.syntax_kind.SyntaxKind.{SyntaxKind}
 use Rattle.lossless_tree.specs.declared.syntax_kind.SyntaxKind.TheVariants.{Token as OfToken}
 use Rattle.lossless_tree.specs.declared.syntax_kind.token_kind.TokenKind.TheVariants as token
-use Rattle.operator_terms.specs.Operators.{LiteralKind, Int, Float, Char, Byte, Str, ByteStr, CStr, True, False, Add, Subtract, Multiply, Divide, Remainder, ShiftLeft, ShiftRight, BitXor, BitOr, BitAnd, Equal, NotEqual, Less, LessOrEqual, Greater, GreaterOrEqual, Operator, Or, And, Compare, Compute, Assign, AssignBy}
+use Rattle.operator_terms.specs.Token.{Token, fixed_text, fixed}
+use Rattle.operator_terms.specs.Term.{literal, name}
+use Rattle.operator_terms.specs.Operators.{LiteralKind, Int, Float, Char, Byte, Str, ByteStr, CStr, True, False, Add, Subtract, Multiply, Divide, Remainder, ShiftLeft, ShiftRight, BitXor, BitOr, BitAnd, Equal, NotEqual, Less, LessOrEqual, Greater, GreaterOrEqual, Operator, Or, And, Compare, Compute, Assign, AssignBy, operator_kind, range_kind}
 
 -- A literal or a word with its text, a delimiter, a keyword, `..` or `..=`, an operator; `Strange` is all else. `-`, `*` and
 -- `&` are operators here, also where they stand as a prefix: the place decides.
@@ -70,3 +72,31 @@ sign_of (OfToken token.AMPEQ) x = Op (AssignBy BitAnd)
 sign_of (OfToken token.DOT2) x = To false
 sign_of (OfToken token.DOT2EQ) x = To true
 sign_of _ x = Strange
+
+-- the token of a sign
+abbrev pub token_of : Sign → Option Token
+token_of (Lit kind text) = Some (literal kind text)
+token_of (Word text) = Some (name text)
+token_of Opens = Some (fixed token.L_PAREN)
+token_of Closes = Some (fixed token.R_PAREN)
+token_of OpensIndex = Some (fixed token.L_BRACK)
+token_of ClosesIndex = Some (fixed token.R_BRACK)
+token_of Comma = Some (fixed token.COMMA)
+token_of Dot = Some (fixed token.DOT)
+token_of Question = Some (fixed token.QUESTION)
+token_of AwaitWord = Some (fixed token.AWAIT_KW)
+token_of MutWord = Some (fixed token.MUT_KW)
+token_of Bang = Some (fixed token.BANG)
+token_of As = Some (fixed token.AS_KW)
+token_of (To inclusive) = Some (fixed (range_kind inclusive))
+token_of (Op op) = Some (fixed (operator_kind op))
+token_of Strange = None
+
+abbrev pub is_empty : List ℕ → Bool
+is_empty [] = true
+is_empty (c ∷ cs) = false
+
+-- where a kind has a fixed text, this is the text
+abbrev pub CarriesFixedText : SyntaxKind → List ℕ → Type 0
+CarriesFixedText (OfToken k) text = is_empty (fixed_text k) ≡ false → text ≡ fixed_text k
+CarriesFixedText _ text = Unit {0}

@@ -2,7 +2,7 @@
 //!
 //! Each law is the contract of a function that does nothing. A crate above uses one by calling the function, which costs
 //! nothing, or by naming its lemma in a proof.
-ghost use Rattle.std.specs.Prelude.{◌≡◌, ◌↔◌, ◌++◌, ◌∷◌, [], ℕ, List, Bool, true, false};
+ghost use Rattle.std.specs.Prelude.{◌≡◌, ◌≤◌, ◌↔◌, ◌++◌, ◌∷◌, ℕ, List, Bool, true, false, IfSome, IfNone, codes};
 ghost use Rattle.lossless_tree.specs.declared.syntax_kind.token_kind.TokenKind.TheVariants as token;
 ghost use Rattle.operator_terms.specs.AllFit.{all_fit};
 ghost use Rattle.operator_terms.specs.Headline.{IsOneReading, AsksNowhere, FindsNeedless, has_as};
@@ -11,8 +11,13 @@ ghost use Rattle.operator_terms.specs.Places.{Demand, Callee, Meets, some_part, 
 ghost use Rattle.operator_terms.specs.Powers.{needs_pair_at};
 ghost use Rattle.operator_terms.specs.Precedence.{precedence, needs_parentheses_in};
 ghost use Rattle.operator_terms.specs.Reading.{Reads};
-ghost use Rattle.operator_terms.specs.Term.{Term, Terms, Paren, Field, Method, Call, is_field, tokens};
+ghost use Rattle.operator_terms.specs.Sign.{Sign, Strange, sign_of, token_of, CarriesFixedText};
+ghost use Rattle.operator_terms.specs.Term.{Term, Terms, Last, Paren, Field, Method, Call, level, is_field, tokens};
 ghost use Rattle.operator_terms.specs.Token.{Token, fixed};
+ghost use Rattle.operator_terms.specs.Notation.{a, b, c, x, less, dot_f, calling};
+ghost use Rattle.operator_terms.specs.WorkedPairs.{IsRightPair, pairs, IsRightChange, changes};
+ghost use Rattle.operator_terms.specs.WorkedPlaces.{IsRightAt, strong_places, sides};
+ghost use Rattle.operator_terms.specs.WorkedTerms.{EachRow, IsRight, grouping, ranges, prefixes, postfixes, casts};
 
 // ---- reading
 
@@ -27,9 +32,11 @@ pub fn one_reading()
     ensures { (j k : ℕ) (ts : List Token) (t u : Term) → Reads j ts t → Reads k ts u → t ≡ u }
 {}
 
-/// A term's tokens read as the term exactly where every operand fits its place.
+/// A term's tokens read as the term exactly where every operand fits its place; and where a level is wanted, exactly where
+/// the term has that level too.
 pub fn reads_where_all_fit()
-    ensures { (t : Term) → Reads 0 (tokens t) t ↔ ((q : List ℕ) → Fits t q) }
+    ensures anywhere { (t : Term) → Reads 0 (tokens t) t ↔ ((q : List ℕ) → Fits t q) }
+    ensures at_level { (k : ℕ) (t : Term) → Reads k (tokens t) t ↔ ((k ≤ level t) × ((q : List ℕ) → Fits t q)) }
 {}
 
 /// The test `all_fit` decides whether every operand fits.
@@ -41,6 +48,14 @@ pub fn all_fit_decides()
 pub fn a_called_field_is_a_method_call()
     ensures tokens { (e : Term) (name : List ℕ) (args : Terms) → tokens (Call (Field e name) args) ≡ tokens (Method e name args) }
     ensures unread { (e : Term) (name : List ℕ) (args : Terms) (k : ℕ) (ts : List Token) → Reads k ts (Call (Field e name) args) → ⊥ }
+{}
+
+/// A token and its sign: a sign that isn't `Strange` has one token, whose sign it is; and a token whose sign has a token is
+/// that token, if it carries the text that its kind fixes.
+pub fn a_sign_is_its_token()
+    ensures sign { (s : Sign) → IfSome (token_of s) (λ t. sign_of t.kind t.text ≡ s) }
+    ensures strange { (s : Sign) → IfNone (token_of s) (s ≡ Strange) }
+    ensures token { (t : Token) → CarriesFixedText t.kind t.text → IfSome (token_of (sign_of t.kind t.text)) (λ u. u ≡ t) }
 {}
 
 // ---- pairs
@@ -109,4 +124,33 @@ pub fn without_casts_all_may_follow()
     ensures stands { (following : List Token) (t : Term) → has_as (tokens t) ≡ false → MayStandBefore following t }
     ensures without_a_pair { (t : Term) (q : List ℕ) (d : Demand) (e : Term) → operand t q ≡ some_part d (Paren e)
         → has_as (tokens t) ≡ false → has_as (tokens (without q t)) ≡ false }
+{}
+
+// ---- worked terms
+
+/// Worked terms: for each row of the tables the test `all_fit` answers what the row says. Of two terms it is said in the
+/// grammar's words too: `a < b < c` doesn't read as a comparison of a comparison, and the tokens of a call over the field
+/// `a.f` read as the method call.
+pub fn worked_terms()
+    ensures grouping { EachRow IsRight grouping }
+    ensures ranges { EachRow IsRight ranges }
+    ensures prefixes { EachRow IsRight prefixes }
+    ensures postfixes { EachRow IsRight postfixes }
+    ensures casts { EachRow IsRight casts }
+    ensures no_chain { (k : ℕ) → Reads k (tokens (less (less a b) c)) (less (less a b) c) → ⊥ }
+    ensures method { Reads 0 (tokens (calling (dot_f a) x)) (Method a (codes "f") (Last x)) }
+{}
+
+/// For each place of an operand and samples of all forms: which of them the test by binding powers lets stand there bare,
+/// and for which it asks for a pair.
+pub fn worked_places()
+    ensures strong { EachRow IsRightAt strong_places }
+    ensures sides { EachRow IsRightAt sides }
+{}
+
+/// Worked pairs: which may go, by the test and by the reading without them; and which are put in round operands that don't
+/// fit.
+pub fn worked_pairs()
+    ensures pairs { EachRow IsRightPair pairs }
+    ensures changes { EachRow IsRightChange changes }
 {}
