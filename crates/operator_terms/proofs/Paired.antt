@@ -1,9 +1,11 @@
 -- With casts: pairs round the operands that don't fit are enough.
-use Rattle.std.proofs.Common.{◌≡◌, ◌≤◌, ◌↔◌, ℕ, Bool, true, false, not, ◌&&◌, leb, refl, sym, ap, ap₂, subst, ◌∙◌, arith, leb-true}
+use Rattle.std.proofs.Common.{◌≡◌, ◌≤◌, ◌↔◌, ℕ, zero, suc, List, [], ◌∷◌, ◌++◌, Bool, true, false, not, ◌&&◌, leb, Option, IfSome, refl, sym, ap, ap₂, subst, ◌∙◌, arith, leb-true}
+use Rattle.lossless_tree.specs.declared.syntax_kind.token_kind.TokenKind.TheVariants as token
+use Rattle.operator_terms.specs.Token.{Token, fixed}
 use Rattle.operator_terms.specs.Operators.{left_demand, right_demand}
 use Rattle.operator_terms.specs.Term.{Await, Binary, Borrow, Call, Cast, Field, Index, Last, Literal, Method, More, Name, NoTerms, Paren, Prefix, Range, RangeFrom, RangeFull, RangeTo, Term, Terms, Try, is_field, level, tokens}
-use Rattle.operator_terms.specs.Reading.{Reads}
-use Rattle.operator_terms.specs.Places.{Demand, AtLeast, Callee, Meets, meets, ends_in_cast}
+use Rattle.operator_terms.specs.Reading.{Reads, begins_with_angle}
+use Rattle.operator_terms.specs.Places.{Demand, AtLeast, Callee, Meets, meets, Part, some_part, argument, part, behind_argument, behind_part, ends_in_cast}
 use Rattle.operator_terms.specs.Pairs.{all_paired, fits_before, is_angle_operator, pair_unless, paired, paired_before}
 use Rattle.operator_terms.proofs.Bools.{both-true, true-both, nand-known, and-of}
 use Rattle.operator_terms.proofs.Demands.{meets-true, true-meets}
@@ -186,3 +188,53 @@ paired_keeps t = (
   (λ same. subst (λ u. Reads 0 (tokens u) u) same (paired_reads t)),
   (λ reads. kept t false (Derives-parts t 0 (tokens t) (reads-derives 0 (tokens t) t reads)) (clear_of_tokens t (reads-rule 0 (tokens t) t reads))),
 )
+
+-- ---- part by part: a pair stands round a part exactly where the test for its place says so
+
+pub fits_before-fits : (d : Demand) (angle : Bool) (e : Term) → fits_before d angle e ≡ true ↔ (Meets d e × (ends_in_cast (tokens e) ≡ true → angle ≡ false))
+fits_before-fits d angle e = (
+  (λ h. let both = both-true (meets d e) (not (ends_in_cast (tokens e) && angle)) h in (true-meets d e both.0, λ ends. nand-known (ends_in_cast (tokens e)) angle both.1 ends)),
+  (λ h. true-both (meets d e) (not (ends_in_cast (tokens e) && angle)) (meets-true d e h.0) (ap not (and-of (ends_in_cast (tokens e)) angle h.1))),
+)
+
+abbrev pub paired_part : Demand → Bool → Term → Option Part
+paired_part d angle e = some_part d (pair_unless (fits_before d angle e) (paired_before angle e))
+
+-- where anything may stand, before no `<`, there is no pair
+anywhere : (e : Term) → some_part (AtLeast 0) (paired_before false e) ≡ paired_part (AtLeast 0) false e
+anywhere e = ap (λ b. some_part (AtLeast 0) (pair_unless b (paired_before false e))) (sym ((fits_before-fits (AtLeast 0) false e).1 (omega arith, λ ends. refl)))
+
+paired-argument : (following : List Token) (es : Terms) (i : ℕ) → IfSome (argument es i) (λ p. argument (all_paired es) i ≡ paired_part p.demand (begins_with_angle ((behind_argument es i ++ (fixed token.R_PAREN ∷ [])) ++ following)) p.term)
+paired-argument following NoTerms i = tt
+paired-argument following (Last e) zero = anywhere e
+paired-argument following (Last e) (suc i) = tt
+paired-argument following (More e es) zero = anywhere e
+paired-argument following (More e es) (suc i) = paired-argument following es i
+
+paired-part : (following : List Token) (t : Term) (i : ℕ) → IfSome (part t i) (λ p. part (paired_before (begins_with_angle following) t) i ≡ paired_part p.demand (begins_with_angle (behind_part t i ++ following)) p.term)
+paired-part following (Paren e) zero = anywhere e
+paired-part following (Field e n) zero = refl
+paired-part following (Await e) zero = refl
+paired-part following (Try e) zero = refl
+paired-part following (Cast e n) zero = refl
+paired-part following (Method e n args) zero = refl
+paired-part following (Method e n args) (suc i) = paired-argument following args i
+paired-part following (Call e args) zero = refl
+paired-part following (Call e args) (suc i) = paired-argument following args i
+paired-part following (Index e i) zero = refl
+paired-part following (Index e i) (suc zero) = anywhere i
+paired-part following (Prefix op e) zero = refl
+paired-part following (Borrow mutable e) zero = refl
+paired-part following (Binary op l r) zero = refl
+paired-part following (Binary op l r) (suc zero) = refl
+paired-part following (RangeFrom l) zero = refl
+paired-part following (RangeTo inclusive r) zero = refl
+paired-part following (Range true l r) zero = refl
+paired-part following (Range false l r) zero = refl
+paired-part following (Range inclusive l r) (suc zero) = refl
+paired-part following _ _ = tt
+
+pub paired_by_parts : (following : List Token) (t : Term) (i : ℕ) (d : Demand) (e : Term) → part t i ≡ some_part d e → part (paired_before (begins_with_angle following) t) i ≡ paired_part d (begins_with_angle (behind_part t i ++ following)) e
+paired_by_parts following t i d e at =
+    subst (λ o. IfSome o (λ p. part (paired_before (begins_with_angle following) t) i ≡ paired_part p.demand (begins_with_angle (behind_part t i ++ following)) p.term)) at
+    (paired-part following t i)

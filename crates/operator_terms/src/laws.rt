@@ -6,11 +6,11 @@ ghost use Rattle.std.specs.Prelude.{◌≡◌, ◌≤◌, ◌↔◌, ◌++◌, �
 ghost use Rattle.lossless_tree.specs.declared.syntax_kind.token_kind.TokenKind.TheVariants as token;
 ghost use Rattle.operator_terms.specs.AllFit.{all_fit};
 ghost use Rattle.operator_terms.specs.Headline.{IsOneReading, AsksNowhere, FindsNeedless, has_as};
-ghost use Rattle.operator_terms.specs.Pairs.{paired, without};
-ghost use Rattle.operator_terms.specs.Places.{Demand, Callee, Meets, some_part, part, operand, tokens_behind, ends_in_cast, MayStandBefore, Fits};
+ghost use Rattle.operator_terms.specs.Pairs.{fits_before, pair_unless, paired_before, paired, without};
+ghost use Rattle.operator_terms.specs.Places.{Demand, Callee, Meets, some_part, part, operand, behind_part, tokens_behind, ends_in_cast, MayStandBefore, Fits};
 ghost use Rattle.operator_terms.specs.Powers.{needs_pair_at};
 ghost use Rattle.operator_terms.specs.Precedence.{precedence, needs_parentheses_in};
-ghost use Rattle.operator_terms.specs.Reading.{Reads};
+ghost use Rattle.operator_terms.specs.Reading.{begins_with_angle, Reads};
 ghost use Rattle.operator_terms.specs.Sign.{Sign, Strange, sign_of, token_of, CarriesFixedText};
 ghost use Rattle.operator_terms.specs.Term.{Term, Terms, Last, Paren, Field, Method, Call, level, is_field, tokens};
 ghost use Rattle.operator_terms.specs.Token.{Token, fixed};
@@ -68,6 +68,17 @@ pub fn paired_reads()
 /// Where every operand fits, no pair is put in, and only there.
 pub fn paired_keeps_what_reads()
     ensures { (t : Term) → paired t ≡ t ↔ Reads 0 (tokens t) t }
+{}
+
+/// Pairs stand where they must and nowhere else. `test`: the test that puts them in asks whether an operand fits. `parts`: a
+/// part of the paired term is the paired part, in a pair unless it fits before the tokens that stand behind it.
+pub fn pairs_where_unfit()
+    ensures test { (d : Demand) (angle : Bool) (e : Term)
+        → fits_before d angle e ≡ true ↔ (Meets d e × (ends_in_cast (tokens e) ≡ true → angle ≡ false)) }
+    ensures parts { (following : List Token) (t : Term) (i : ℕ) (d : Demand) (e : Term) → part t i ≡ some_part d e
+        → part (paired_before (begins_with_angle following) t) i
+        ≡ some_part d (pair_unless (fits_before d (begins_with_angle (behind_part t i ++ following)) e)
+        (paired_before (begins_with_angle (behind_part t i ++ following)) e)) }
 {}
 
 /// Without a pair exactly its two tokens are gone.
