@@ -4,7 +4,7 @@ use Rattle.lossless_tree.specs.declared.syntax_kind.token_kind.TokenKind.TheVari
 use Rattle.operator_terms.specs.Token.{Token, fixed}
 use Rattle.operator_terms.specs.Term.{Term, Paren, tokens}
 use Rattle.operator_terms.specs.Reading.{is_as}
-use Rattle.operator_terms.specs.Places.{Demand, some_part, operand, is_one_name, ends_in_cast, MayStandBefore}
+use Rattle.operator_terms.specs.Places.{tokens_behind, Demand, some_part, operand, is_one_name, ends_in_cast, MayStandBefore}
 use Rattle.operator_terms.specs.Pairs.{without}
 use Rattle.operator_terms.specs.Headline.{has_as}
 use Rattle.operator_terms.proofs.Bools.{or-false}
@@ -37,8 +37,8 @@ pub cast_free_without : (t : Term) (q : List ℕ) (d : Demand) (e : Term) → op
 cast_free_without t q d e at h =
     let gone = tokens_without t q d e at in
     let before = gone.0 in
-    let after = gone.1 in
-    let whole : has_as (before ++ (fixed token.L_PAREN ∷ (tokens e ++ (fixed token.R_PAREN ∷ after)))) ≡ false = ap has_as (sym gone.2) ∙ h in
+    let after = tokens_behind q t in
+    let whole : has_as (before ++ (fixed token.L_PAREN ∷ (tokens e ++ (fixed token.R_PAREN ∷ after)))) ≡ false = ap has_as (sym gone.1) ∙ h in
     let front = split before (fixed token.L_PAREN ∷ (tokens e ++ (fixed token.R_PAREN ∷ after))) whole in
     let back = split (tokens e) (fixed token.R_PAREN ∷ after) front.1 in
-    ap has_as gone.3 ∙ join before (tokens e ++ after) front.0 (join (tokens e) after back.0 back.1)
+    ap has_as gone.2 ∙ join before (tokens e ++ after) front.0 (join (tokens e) after back.0 back.1)

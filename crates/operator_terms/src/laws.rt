@@ -39,6 +39,12 @@ pub fn reads_where_all_fit()
     ensures at_level { (k : ℕ) (t : Term) → Reads k (tokens t) t ↔ ((k ≤ level t) × ((q : List ℕ) → Fits t q)) }
 {}
 
+/// The tokens of an operand stand in those of the whole term, and what `tokens_behind` says stands behind them.
+pub fn tokens_of_an_operand()
+    ensures { (t : Term) (q : List ℕ) (d : Demand) (e : Term) → operand t q ≡ some_part d e
+        → (before : List Token) × (tokens t ≡ before ++ (tokens e ++ tokens_behind q t)) }
+{}
+
 /// The test `all_fit` decides whether every operand fits.
 pub fn all_fit_decides()
     ensures { (t : Term) → all_fit t ≡ true ↔ ((q : List ℕ) → Fits t q) }
@@ -84,9 +90,9 @@ pub fn pairs_where_unfit()
 /// Without a pair exactly its two tokens are gone.
 pub fn tokens_without_a_pair()
     ensures { (t : Term) (q : List ℕ) (d : Demand) (e : Term) → operand t q ≡ some_part d (Paren e)
-        → (before : List Token) × (after : List Token)
-        × (tokens t ≡ before ++ (fixed token.L_PAREN ∷ (tokens e ++ (fixed token.R_PAREN ∷ after))))
-        × (tokens (without q t) ≡ before ++ (tokens e ++ after)) }
+        → (before : List Token)
+        × (tokens t ≡ before ++ (fixed token.L_PAREN ∷ (tokens e ++ (fixed token.R_PAREN ∷ tokens_behind q t))))
+        × (tokens (without q t) ≡ before ++ (tokens e ++ tokens_behind q t)) }
 {}
 
 /// In a term that its tokens read as, a pair may go exactly where what it holds fits the pair's place: then the tokens
