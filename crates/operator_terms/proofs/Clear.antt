@@ -1,4 +1,9 @@
--- The rule on `<` behind casts, by structure.
+-- The rule on casts, from tokens to terms.
+--
+-- `no_cast_before_angle` speaks of neighbours in a token list. `Clear angle t` says the same by the structure of the term: no
+-- cast in t stands before `<` or `<<`, where `angle` says whether one of these follows t. The flag goes down the right edge
+-- of the term; the left operand of an operator gets the operator itself; inside delimiters it is false. `rule-term` is the
+-- equivalence, with any tokens following.
 use Rattle.std.proofs.Common.{◌≡◌, ◌↔◌, List, [], ◌∷◌, ◌++◌, Bool, true, false, not, ◌&&◌, refl, ap, subst, append_assoc}
 use Rattle.lossless_tree.specs.declared.syntax_kind.SyntaxKind.TheVariants.{Token as OfToken}
 use Rattle.lossless_tree.specs.declared.syntax_kind.token_kind.TokenKind.TheVariants as token
@@ -98,43 +103,43 @@ alone = (λ a. (tt, a), λ x. x.1)
 mutual
   unfolding tokens
 
-  pub no_typed_angle : (t : Term) (rest : List Token) → NoCastBeforeAngle (tokens t ++ rest) ↔ (Clear (begins_with_angle rest) t × NoCastBeforeAngle rest)
-  no_typed_angle (Literal kind text) rest = through (skip (literal kind text) rest (plain_literal kind)) alone
-  no_typed_angle (Name text) rest = through (skip (name text) rest refl) alone
-  no_typed_angle (Paren e) rest =
-      through (skip (fixed token.L_PAREN) _ refl) (simp append_assoc (through (no_typed_angle e (fixed token.R_PAREN ∷ rest)) (beside (skip (fixed token.R_PAREN) rest refl))))
-  no_typed_angle (Field e n) rest =
-      simp append_assoc (through (no_typed_angle e (fixed token.DOT ∷ name n ∷ rest)) (beside (through (skip (fixed token.DOT) (name n ∷ rest) refl) (skip (name n) rest refl))))
-  no_typed_angle (Await e) rest =
-      simp append_assoc (through (no_typed_angle e (fixed token.DOT ∷ fixed token.AWAIT_KW ∷ rest)) (beside (through (skip (fixed token.DOT) (fixed token.AWAIT_KW ∷ rest) refl) (skip (fixed token.AWAIT_KW) rest refl))))
-  no_typed_angle (Try e) rest = simp append_assoc (through (no_typed_angle e (fixed token.QUESTION ∷ rest)) (beside (skip (fixed token.QUESTION) rest refl)))
-  no_typed_angle (Cast e n) rest =
-      simp append_assoc (through (no_typed_angle e (fixed token.AS_KW ∷ name n ∷ rest)) (λ x. ((x.1.0, x.0), x.1.1.1), λ x. (x.0.1, (x.0.0, (refl, x.1)))))
-  no_typed_angle (Method e n args) rest =
-      simp append_assoc (through (no_typed_angle e (fixed token.DOT ∷ name n ∷ fixed token.L_PAREN ∷ (argument_tokens args ++ (fixed token.R_PAREN ∷ rest))))
-      (through (beside (through (skip (fixed token.DOT) (name n ∷ fixed token.L_PAREN ∷ (argument_tokens args ++ (fixed token.R_PAREN ∷ rest))) refl) (through (skip (name n) (fixed token.L_PAREN ∷ (argument_tokens args ++ (fixed token.R_PAREN ∷ rest))) refl) (through (skip (fixed token.L_PAREN) _ refl) (through (no_typed_angles args (fixed token.R_PAREN ∷ rest) refl) (beside (skip (fixed token.R_PAREN) rest refl))))))) regroup))
-  no_typed_angle (Call e args) rest =
-      simp append_assoc (through (no_typed_angle e (fixed token.L_PAREN ∷ (argument_tokens args ++ (fixed token.R_PAREN ∷ rest))))
-      (through (beside (through (skip (fixed token.L_PAREN) _ refl) (through (no_typed_angles args (fixed token.R_PAREN ∷ rest) refl) (beside (skip (fixed token.R_PAREN) rest refl))))) regroup))
-  no_typed_angle (Index e i) rest =
-      simp append_assoc (through (no_typed_angle e (fixed token.L_BRACK ∷ (tokens i ++ (fixed token.R_BRACK ∷ rest))))
-      (through (beside (through (skip (fixed token.L_BRACK) _ refl) (through (no_typed_angle i (fixed token.R_BRACK ∷ rest)) (beside (skip (fixed token.R_BRACK) rest refl))))) regroup))
-  no_typed_angle (Prefix op e) rest = through (skip (fixed (prefix_kind op)) _ (plain_prefix op)) (no_typed_angle e rest)
-  no_typed_angle (Borrow true e) rest = through (skip (fixed token.AMP) (fixed token.MUT_KW ∷ (tokens e ++ rest)) refl) (through (skip (fixed token.MUT_KW) _ refl) (no_typed_angle e rest))
-  no_typed_angle (Borrow false e) rest = through (skip (fixed token.AMP) _ refl) (no_typed_angle e rest)
-  no_typed_angle (Binary op l r) rest =
-      simp append_assoc (through (no_typed_angle l (fixed (operator_kind op) ∷ (tokens r ++ rest)))
-      (through (beside (through (skip (fixed (operator_kind op)) _ (plain_operator op).0) (no_typed_angle r rest))) regroup))
-  no_typed_angle RangeFull rest = through (skip (fixed token.DOT2) rest refl) alone
-  no_typed_angle (RangeFrom l) rest = simp append_assoc (through (no_typed_angle l (fixed token.DOT2 ∷ rest)) (beside (skip (fixed token.DOT2) rest refl)))
-  no_typed_angle (RangeTo inclusive r) rest = through (skip (fixed (range_kind inclusive)) _ (plain_range inclusive).0) (no_typed_angle r rest)
-  no_typed_angle (Range true l r) rest =
-      simp append_assoc (through (no_typed_angle l (fixed token.DOT2EQ ∷ (tokens r ++ rest))) (through (beside (through (skip (fixed token.DOT2EQ) _ refl) (no_typed_angle r rest))) regroup))
-  no_typed_angle (Range false l r) rest =
-      simp append_assoc (through (no_typed_angle l (fixed token.DOT2 ∷ (tokens r ++ rest))) (through (beside (through (skip (fixed token.DOT2) _ refl) (no_typed_angle r rest))) regroup))
+  pub rule-term : (t : Term) (rest : List Token) → NoCastBeforeAngle (tokens t ++ rest) ↔ (Clear (begins_with_angle rest) t × NoCastBeforeAngle rest)
+  rule-term (Literal kind text) rest = through (skip (literal kind text) rest (plain_literal kind)) alone
+  rule-term (Name text) rest = through (skip (name text) rest refl) alone
+  rule-term (Paren e) rest =
+      through (skip (fixed token.L_PAREN) _ refl) (simp append_assoc (through (rule-term e (fixed token.R_PAREN ∷ rest)) (beside (skip (fixed token.R_PAREN) rest refl))))
+  rule-term (Field e n) rest =
+      simp append_assoc (through (rule-term e (fixed token.DOT ∷ name n ∷ rest)) (beside (through (skip (fixed token.DOT) (name n ∷ rest) refl) (skip (name n) rest refl))))
+  rule-term (Await e) rest =
+      simp append_assoc (through (rule-term e (fixed token.DOT ∷ fixed token.AWAIT_KW ∷ rest)) (beside (through (skip (fixed token.DOT) (fixed token.AWAIT_KW ∷ rest) refl) (skip (fixed token.AWAIT_KW) rest refl))))
+  rule-term (Try e) rest = simp append_assoc (through (rule-term e (fixed token.QUESTION ∷ rest)) (beside (skip (fixed token.QUESTION) rest refl)))
+  rule-term (Cast e n) rest =
+      simp append_assoc (through (rule-term e (fixed token.AS_KW ∷ name n ∷ rest)) (λ x. ((x.1.0, x.0), x.1.1.1), λ x. (x.0.1, (x.0.0, (refl, x.1)))))
+  rule-term (Method e n args) rest =
+      simp append_assoc (through (rule-term e (fixed token.DOT ∷ name n ∷ fixed token.L_PAREN ∷ (argument_tokens args ++ (fixed token.R_PAREN ∷ rest))))
+      (through (beside (through (skip (fixed token.DOT) (name n ∷ fixed token.L_PAREN ∷ (argument_tokens args ++ (fixed token.R_PAREN ∷ rest))) refl) (through (skip (name n) (fixed token.L_PAREN ∷ (argument_tokens args ++ (fixed token.R_PAREN ∷ rest))) refl) (through (skip (fixed token.L_PAREN) _ refl) (through (rule-arguments args (fixed token.R_PAREN ∷ rest) refl) (beside (skip (fixed token.R_PAREN) rest refl))))))) regroup))
+  rule-term (Call e args) rest =
+      simp append_assoc (through (rule-term e (fixed token.L_PAREN ∷ (argument_tokens args ++ (fixed token.R_PAREN ∷ rest))))
+      (through (beside (through (skip (fixed token.L_PAREN) _ refl) (through (rule-arguments args (fixed token.R_PAREN ∷ rest) refl) (beside (skip (fixed token.R_PAREN) rest refl))))) regroup))
+  rule-term (Index e i) rest =
+      simp append_assoc (through (rule-term e (fixed token.L_BRACK ∷ (tokens i ++ (fixed token.R_BRACK ∷ rest))))
+      (through (beside (through (skip (fixed token.L_BRACK) _ refl) (through (rule-term i (fixed token.R_BRACK ∷ rest)) (beside (skip (fixed token.R_BRACK) rest refl))))) regroup))
+  rule-term (Prefix op e) rest = through (skip (fixed (prefix_kind op)) _ (plain_prefix op)) (rule-term e rest)
+  rule-term (Borrow true e) rest = through (skip (fixed token.AMP) (fixed token.MUT_KW ∷ (tokens e ++ rest)) refl) (through (skip (fixed token.MUT_KW) _ refl) (rule-term e rest))
+  rule-term (Borrow false e) rest = through (skip (fixed token.AMP) _ refl) (rule-term e rest)
+  rule-term (Binary op l r) rest =
+      simp append_assoc (through (rule-term l (fixed (operator_kind op) ∷ (tokens r ++ rest)))
+      (through (beside (through (skip (fixed (operator_kind op)) _ (plain_operator op).0) (rule-term r rest))) regroup))
+  rule-term RangeFull rest = through (skip (fixed token.DOT2) rest refl) alone
+  rule-term (RangeFrom l) rest = simp append_assoc (through (rule-term l (fixed token.DOT2 ∷ rest)) (beside (skip (fixed token.DOT2) rest refl)))
+  rule-term (RangeTo inclusive r) rest = through (skip (fixed (range_kind inclusive)) _ (plain_range inclusive).0) (rule-term r rest)
+  rule-term (Range true l r) rest =
+      simp append_assoc (through (rule-term l (fixed token.DOT2EQ ∷ (tokens r ++ rest))) (through (beside (through (skip (fixed token.DOT2EQ) _ refl) (rule-term r rest))) regroup))
+  rule-term (Range false l r) rest =
+      simp append_assoc (through (rule-term l (fixed token.DOT2 ∷ (tokens r ++ rest))) (through (beside (through (skip (fixed token.DOT2) _ refl) (rule-term r rest))) regroup))
 
-  pub no_typed_angles : (es : Terms) (rest : List Token) → begins_with_angle rest ≡ false → NoCastBeforeAngle (argument_tokens es ++ rest) ↔ (AllClear es × NoCastBeforeAngle rest)
-  no_typed_angles NoTerms rest none = alone
-  no_typed_angles (Last e) rest none = subst (λ b. NoCastBeforeAngle (tokens e ++ rest) ↔ (Clear b e × NoCastBeforeAngle rest)) none (no_typed_angle e rest)
-  no_typed_angles (More e es) rest none =
-      simp append_assoc (through (no_typed_angle e (fixed token.COMMA ∷ (argument_tokens es ++ rest))) (through (beside (through (skip (fixed token.COMMA) _ refl) (no_typed_angles es rest none))) regroup))
+  pub rule-arguments : (es : Terms) (rest : List Token) → begins_with_angle rest ≡ false → NoCastBeforeAngle (argument_tokens es ++ rest) ↔ (AllClear es × NoCastBeforeAngle rest)
+  rule-arguments NoTerms rest none = alone
+  rule-arguments (Last e) rest none = subst (λ b. NoCastBeforeAngle (tokens e ++ rest) ↔ (Clear b e × NoCastBeforeAngle rest)) none (rule-term e rest)
+  rule-arguments (More e es) rest none =
+      simp append_assoc (through (rule-term e (fixed token.COMMA ∷ (argument_tokens es ++ rest))) (through (beside (through (skip (fixed token.COMMA) _ refl) (rule-arguments es rest none))) regroup))

@@ -1,4 +1,8 @@
--- The machine reads the tokens of each term that fits, whatever follows.
+-- The machine reads the tokens of each term that fits, whatever follows. This is the heart of the uniqueness proof.
+--
+-- `reading`: where an operand is wanted, at a stack whose top demands no more than k, and the term t has level k at least and
+-- fits, going over t's signs leads to the stack with t's right edge pushed on it. By induction on the term. For a form with
+-- a left operand: read that operand, let its right edge be taken back by the form's own sign (`Reduce`), and go on.
 use Rattle.std.proofs.Common.{◌≡◌, ◌≤◌, ℕ, List, ◌∷◌, true, false, cond, refl, ap, ◌∙◌, arith, le_refl}
 use Rattle.operator_terms.specs.Operators.{BitAnd, Compute, Dereference, Multiply, Negate, Not, Subtract, left_demand, operator_level, right_demand}
 use Rattle.operator_terms.specs.Term.{Await, Binary, Borrow, Call, Cast, Field, Index, Last, Literal, Method, More, Name, NoTerms, Paren, Prefix, Range, RangeFrom, RangeFull, RangeTo, Term, Terms, Try, level}

@@ -1,4 +1,6 @@
--- Without a pair, its two tokens are gone and all others stay.
+-- Tokens round an operand. For each part of a form, the form's tokens are some tokens before the part, the part's, and those
+-- behind it, and they stay when the part is changed (`in_term`). Along a place this gives: without a pair exactly its two
+-- tokens are gone, and `tokens_behind` is what stands behind an operand.
 use Rattle.std.proofs.Common.{◌≡◌, ℕ, zero, suc, List, [], ◌∷◌, ◌++◌, Option, Some, None, IfSome, option_and_then, refl, sym, ◌∙◌, subst, append_assoc, append-nil}
 use Rattle.lossless_tree.specs.declared.syntax_kind.token_kind.TokenKind.TheVariants as token
 use Rattle.operator_terms.specs.Token.{Token, fixed}

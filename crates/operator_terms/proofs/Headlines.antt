@@ -1,4 +1,5 @@
--- The operator theorem over terms: both halves, from the laws on fitting, on pairs and on the test.
+-- The operator theorem over terms: both halves, from the laws on fitting, on pairs and on the test. What is left to do here
+-- is to go from "each part of each operand" to "each place", and to carry along the tokens that follow the whole term.
 use Rattle.std.proofs.Common.{◌≡◌, ◌↔◌, ℕ, List, [], ◌∷◌, ◌++◌, false, Option, Some, None, IfSome, option_and_then, refl, ap, ◌∙◌, arith, subst, append_assoc}
 use Rattle.operator_terms.specs.Token.{Token}
 use Rattle.operator_terms.specs.Term.{Term, Paren, tokens}
@@ -8,7 +9,8 @@ use Rattle.operator_terms.specs.Powers.{needs_pair_at}
 use Rattle.operator_terms.specs.Headline.{IsOneReading, AsksNowhere, FindsNeedless}
 use Rattle.operator_terms.proofs.Ends.{ClearBefore}
 use Rattle.operator_terms.proofs.Readings.{Fine, stands_of_clear, clear-places, clear_of_tokens, reads_exactly, reads-rule, one_reading}
-use Rattle.operator_terms.proofs.MayGo.{clear_before, pair_may_go_before, needs_where_unfit}
+use Rattle.operator_terms.proofs.MayGo.{clear_before, pair_may_go_before}
+use Rattle.operator_terms.proofs.Power.{needs_where_unfit}
 
 -- ---- a part of what stands at a place stands at the place one step longer
 

@@ -1,5 +1,11 @@
--- A machine that reads the tokens of a term, one after the other, with a stack of what waits for an operand.
--- It needn't refuse what isn't in the grammar.
+-- The machine: a parser by shift and reduce, with which it is proved that tokens read as one term at most.
+--
+-- It goes over the signs of the tokens once, with a stack of what waits for an operand. Each entry of the stack is kept as the
+-- function from that operand to the term that will be made, so three kinds of entries serve all forms: behind an operator
+-- or a prefix (with the level that it demands of the operand), in brackets round one term, in brackets round arguments.
+--
+-- The machine needn't refuse what isn't in the grammar, and nothing is claimed of it there. `step` is one case a state, and
+-- `run` a fold over the list, so there is nothing to show about its end.
 use Rattle.std.proofs.Common.{ℕ, suc, List, [], ◌∷◌, Bool, true, false, cond, leb, Option, Some, None}
 use Rattle.operator_terms.specs.Operators.{BitAnd, Compute, Dereference, Multiply, Negate, Not, Operator, PrefixOperator, Subtract, operator_level, right_demand}
 use Rattle.operator_terms.specs.Term.{Await, Binary, Borrow, Call, Cast, Field, Index, Last, Literal, Method, More, Name, NoTerms, Paren, Prefix, Range, RangeFrom, RangeFull, RangeTo, Term, Terms, Try}

@@ -1,18 +1,16 @@
--- With casts: a pair may go exactly where what it holds fits its place.
-use Rattle.std.proofs.Common.{◌≡◌, ◌↔◌, ℕ, zero, suc, List, [], ◌∷◌, ◌++◌, Bool, true, false, ◌&&◌, ◌||◌, Option, Some, None, IfSome, option_and_then, refl, sym, ap, ◌∙◌, subst, append_assoc, append-nil}
+-- A pair may go exactly where what it holds fits its place: levels (`Without`) and the rule on casts together. What follows the
+-- whole term may be any tokens before which it may stand, with and without the pair.
+use Rattle.std.proofs.Common.{◌≡◌, ◌↔◌, ℕ, zero, suc, List, [], ◌∷◌, ◌++◌, true, false, Option, Some, None, IfSome, option_and_then, refl, sym, ◌∙◌, subst, append_assoc, append-nil}
 use Rattle.lossless_tree.specs.declared.syntax_kind.token_kind.TokenKind.TheVariants as token
 use Rattle.operator_terms.specs.Token.{Token, fixed}
 use Rattle.operator_terms.specs.Term.{Await, Binary, Borrow, Call, Cast, Field, Index, Last, Method, More, NoTerms, Paren, Prefix, Range, RangeFrom, RangeTo, Term, Terms, Try, tokens}
 use Rattle.operator_terms.specs.Reading.{Reads, begins_with_angle}
-use Rattle.operator_terms.specs.Places.{MayStandBefore, AtLeast, Demand, Meets, Part, argument, behind_argument, behind_in, behind_part, ends_in_cast, operand, part, part_at, some_part, tokens_behind}
+use Rattle.operator_terms.specs.Places.{MayStandBefore, AtLeast, Demand, Meets, Part, argument, behind_argument, behind_in, behind_part, operand, part, part_at, some_part, tokens_behind}
 use Rattle.operator_terms.specs.Pairs.{change_argument, change_part, inside, without}
-use Rattle.operator_terms.specs.Powers.{needs_pair_at, too_weak_at}
-use Rattle.operator_terms.proofs.Bools.{or-false, and-known, and-of}
 use Rattle.operator_terms.proofs.Clear.{cast_at_end, Clear, AllClear}
 use Rattle.operator_terms.proofs.Ends.{ends-tokens, clear_end, clear_raise, clear_lower, ClearBefore, part-clear}
 use Rattle.operator_terms.proofs.Readings.{tokens_of_clear, clear_of_tokens, reads-derives, reads-rule, reads_of_both}
 use Rattle.operator_terms.proofs.Without.{level_may_go}
-use Rattle.operator_terms.proofs.Power.{too_weak_where_unmet}
 
 -- where the other parts are clear, the changed part decides
 Settled : (Term → Term) → Type 0 → List Token → Part → Type 0
@@ -121,12 +119,3 @@ pub pair_may_go : (t : Term) (q : List ℕ) (d : Demand) (e : Term) → Reads 0 
 pair_may_go t q d e h at =
     subst (λ xs. (Meets d e × MayStandBefore xs e) ↔ Reads 0 (tokens (without q t)) (without q t)) (append-nil (tokens_behind q t))
     (pair_may_go_before [] t q d e h at (λ ends. refl) (λ ends. refl))
-
--- ---- the test by powers, with the rule on casts
-
-pub needs_where_unfit : (t : Term) (i : ℕ) (d : Demand) (e self : Term) (angle : Bool) → part t i ≡ some_part d e → needs_pair_at t i angle self ≡ false ↔ (Meets d self × (ends_in_cast (tokens self) ≡ true → angle ≡ false))
-needs_where_unfit t i d e self angle at =
-    let levels = too_weak_where_unmet t i d e self at in (
-      (λ h. let parts = or-false (ends_in_cast (tokens self) && angle) (too_weak_at t i self) h in (levels.0 parts.1, and-known (ends_in_cast (tokens self)) angle parts.0)),
-      (λ m. ap (λ b. b || too_weak_at t i self) (and-of (ends_in_cast (tokens self)) angle m.1) ∙ levels.1 m.0),
-    )

@@ -1,9 +1,15 @@
 -- The test by powers asks for a pair exactly where the operand doesn't fit.
+--
+-- The test sees little of a term: of the operand only its shape, of the parent only which place of which form it is. There
+-- are seven shapes, one of them with its operator, and eleven kinds of places, two of them with their operator. So the
+-- test by powers and the test by levels are compared by computing, one line for each kind of place and operator, and
+-- each such line covers all shapes (`tests-agree`). The rest carries this over to terms and adds the rule on casts.
 use Rattle.std.proofs.Common.{◌≡◌, ◌↔◌, ℕ, zero, suc, Bool, true, false, not, ◌&&◌, ◌||◌, leb, if◌then◌else◌, IfSome, refl, sym, ap, ◌∙◌, arith, leb-true, le-leb, subst}
 use Rattle.operator_terms.specs.Operators.{Add, And, Assign, AssignBy, BitAnd, BitOr, BitXor, Compare, Compute, Divide, Multiply, Operator, Or, Remainder, ShiftLeft, ShiftRight, Subtract, left_demand, operator_level, right_demand}
-use Rattle.operator_terms.specs.Term.{Await, Binary, Borrow, Call, Cast, Field, Index, Last, Literal, Method, More, Name, NoTerms, Paren, Prefix, Range, RangeFrom, RangeFull, RangeTo, Term, Terms, Try, is_field, level}
-use Rattle.operator_terms.specs.Places.{AtLeast, Callee, Demand, Meets, argument, part, some_part}
-use Rattle.operator_terms.specs.Powers.{Powers, binds_less, is_call, is_compare, is_comparison, is_excused, is_range, needs_pair_by_power, operator_powers, pow, powers, too_weak_at}
+use Rattle.operator_terms.specs.Term.{Await, Binary, Borrow, Call, Cast, Field, Index, Last, Literal, Method, More, Name, NoTerms, Paren, Prefix, Range, RangeFrom, RangeFull, RangeTo, Term, Terms, Try, is_field, level, tokens}
+use Rattle.operator_terms.specs.Places.{AtLeast, Callee, Demand, Meets, argument, ends_in_cast, part, some_part}
+use Rattle.operator_terms.specs.Powers.{needs_pair_at, Powers, binds_less, is_call, is_compare, is_comparison, is_excused, is_range, needs_pair_by_power, operator_powers, pow, powers, too_weak_at}
+use Rattle.operator_terms.proofs.Bools.{both-true, true-both, not-true, not-false, or-false, and-known, and-of}
 
 -- the forms, as far as the test sees them
 data Shape : Type 0 where
@@ -222,34 +228,18 @@ needs-shape : (self parent : Term) (before : Bool) → needs_pair_by_power self 
 needs-shape (Paren e) parent before = refl
 needs-shape _ parent before = refl
 
-both : (a b : Bool) → a && b ≡ true → (a ≡ true) × (b ≡ true)
-both true b h = (refl, h)
-both false b h = absurd (cc)
-
-both_of : (a b : Bool) → a ≡ true → b ≡ true → a && b ≡ true
-both_of true b g h = h
-both_of false b g h = absurd (cc)
-
-not_not : (b : Bool) → not b ≡ true → b ≡ false
-not_not true h = absurd (cc)
-not_not false h = refl
-
-not_false : (b : Bool) → not b ≡ false → b ≡ true
-not_false true h = refl
-not_false false h = absurd (cc)
-
 meets-shape : (d : Demand) (t : Term) → shape_meets d (shape t) ≡ true ↔ Meets d t
 meets-shape (AtLeast k) t = (λ h. leb-true k (level t) (sym (least-shape k t) ∙ h), λ h. least-shape k t ∙ le-leb k (level t) h)
 meets-shape Callee t = (
-  (λ h. let parts = both (shape_least 13 (shape t)) (not (shape_field (shape t))) h in
-      (leb-true 13 (level t) (sym (least-shape 13 t) ∙ parts.0), sym (field-shape t) ∙ not_not (shape_field (shape t)) parts.1)),
-  (λ h. both_of (shape_least 13 (shape t)) (not (shape_field (shape t))) (least-shape 13 t ∙ le-leb 13 (level t) h.0) (ap not (field-shape t ∙ h.1))),
+  (λ h. let parts = both-true (shape_least 13 (shape t)) (not (shape_field (shape t))) h in
+      (leb-true 13 (level t) (sym (least-shape 13 t) ∙ parts.0), sym (field-shape t) ∙ not-true (shape_field (shape t)) parts.1)),
+  (λ h. true-both (shape_least 13 (shape t)) (not (shape_field (shape t))) (least-shape 13 t ∙ le-leb 13 (level t) h.0) (ap not (field-shape t ∙ h.1))),
 )
 
 exact : (spot : Spot) (self : Term) (answer : Bool) → answer ≡ shape_needs (shape self) spot → answer ≡ false ↔ Meets (spot_demand spot) self
 exact spot self answer e =
     let agree = tests-agree spot (shape self) in (
-      (λ no. (meets-shape (spot_demand spot) self).0 (not_false _ (sym agree ∙ sym e ∙ no))),
+      (λ no. (meets-shape (spot_demand spot) self).0 (not-false _ (sym agree ∙ sym e ∙ no))),
       (λ m. e ∙ agree ∙ ap not ((meets-shape (spot_demand spot) self).1 m)),
     )
 
@@ -285,3 +275,12 @@ too_weak_exactly _ _ = tt
 -- for any operand at the place of a part
 pub too_weak_where_unmet : (t : Term) (i : ℕ) (d : Demand) (e self : Term) → part t i ≡ some_part d e → too_weak_at t i self ≡ false ↔ Meets d self
 too_weak_where_unmet t i d e self at = let found : (x : Term) → too_weak_at t i x ≡ false ↔ Meets d x = subst (λ o. IfSome o (λ p. (x : Term) → too_weak_at t i x ≡ false ↔ Meets p.demand x)) at (too_weak_exactly t i) in found self
+
+-- ---- the test by powers, with the rule on casts
+
+pub needs_where_unfit : (t : Term) (i : ℕ) (d : Demand) (e self : Term) (angle : Bool) → part t i ≡ some_part d e → needs_pair_at t i angle self ≡ false ↔ (Meets d self × (ends_in_cast (tokens self) ≡ true → angle ≡ false))
+needs_where_unfit t i d e self angle at =
+    let levels = too_weak_where_unmet t i d e self at in (
+      (λ h. let parts = or-false (ends_in_cast (tokens self) && angle) (too_weak_at t i self) h in (levels.0 parts.1, and-known (ends_in_cast (tokens self)) angle parts.0)),
+      (λ m. ap (λ b. b || too_weak_at t i self) (and-of (ends_in_cast (tokens self)) angle m.1) ∙ levels.1 m.0),
+    )

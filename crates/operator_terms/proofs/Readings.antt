@@ -1,4 +1,5 @@
--- With casts: every operand fits, by places, exactly where the tokens read as the term.
+-- Readings: derivations with the rule on casts. Every operand fits, by places, exactly where the tokens read as the term. The
+-- rule goes from the term to its places (`clear-places`) and back (`clear_of_places`) just as levels do in `Fitting`.
 use Rattle.std.proofs.Common.{◌≡◌, ◌≤◌, ◌↔◌, ℕ, suc, List, [], ◌∷◌, ◌++◌, true, false, Option, Some, None, IfSome, option_and_then, refl, sym, ◌∙◌, subst, append_assoc, append-nil, arith}
 use Rattle.lossless_tree.specs.declared.syntax_kind.token_kind.TokenKind.TheVariants as token
 use Rattle.operator_terms.specs.Token.{Token, fixed}
@@ -6,7 +7,7 @@ use Rattle.operator_terms.specs.Operators.{left_demand, right_demand}
 use Rattle.operator_terms.specs.Term.{Await, Binary, Borrow, Call, Cast, Field, Index, Last, Literal, Method, More, Name, NoTerms, Paren, Prefix, Range, RangeFrom, RangeFull, RangeTo, Term, Terms, Try, level, tokens}
 use Rattle.operator_terms.specs.Reading.{Derives, Reads, begins_with_angle, no_cast_before_angle}
 use Rattle.operator_terms.specs.Places.{AtLeast, Callee, Demand, Fits, Meets, Part, argument, behind_argument, behind_in, behind_part, MayStandBefore, operand, part, part_at, tokens_behind}
-use Rattle.operator_terms.proofs.Clear.{cast_at_end, Clear, AllClear, facts_of_rule, rule_of_facts, no_typed_angle}
+use Rattle.operator_terms.proofs.Clear.{cast_at_end, Clear, AllClear, facts_of_rule, rule_of_facts, rule-term}
 use Rattle.operator_terms.proofs.Ends.{ends-tokens, clear_end, ClearBefore, part-clear}
 use Rattle.operator_terms.proofs.Fitting.{derives_exactly}
 use Rattle.operator_terms.proofs.Deriving.{Derives-tokens, Derives-level, Derives-parts, Derives_of_parts, one_derivation}
@@ -86,10 +87,10 @@ mutual
 -- ---- readings with the rule
 
 pub clear_of_tokens : (t : Term) → no_cast_before_angle (tokens t) ≡ true → Clear false t
-clear_of_tokens t h = ((no_typed_angle t []).0 (rw append-nil (facts_of_rule (tokens t) h))).0
+clear_of_tokens t h = ((rule-term t []).0 (rw append-nil (facts_of_rule (tokens t) h))).0
 
 pub tokens_of_clear : (t : Term) → Clear false t → no_cast_before_angle (tokens t) ≡ true
-tokens_of_clear t h = rule_of_facts (tokens t) (rw append-nil at ((no_typed_angle t []).1 (h, tt)))
+tokens_of_clear t h = rule_of_facts (tokens t) (rw append-nil at ((rule-term t []).1 (h, tt)))
 
 -- the part meets its demand and may stand before these tokens
 abbrev pub Fine : List Token → Part → Type 0

@@ -1,4 +1,5 @@
--- What each token may be, and that a term's tokens are its signs.
+-- Signs. A term's tokens, taken as signs, are those that `emit` writes for the machine; and a sign and its token determine
+-- each other.
 use Rattle.std.proofs.Common.{◌≡◌, ℕ, List, [], ◌∷◌, ◌++◌, Bool, true, false, IfSome, IfNone, refl, sym, ap, ap₂, ◌∙◌}
 use Rattle.lossless_tree.specs.declared.syntax_kind.token_kind.TokenKind.TheVariants as token
 use Rattle.lossless_tree.specs.declared.syntax_kind.SyntaxKind.{SyntaxKind}

@@ -1,4 +1,5 @@
--- A pair may go exactly where what it holds fits its place.
+-- A pair may go exactly where what it holds has the level that the pair's place demands. Taking a pair out keeps the form and
+-- the level of every term above it (`level-change`), so nothing changes but the fit at the pair's own place (`free_at`).
 use Rattle.std.proofs.Common.{◌≡◌, ◌≤◌, ◌↔◌, ℕ, zero, suc, List, [], ◌∷◌, false, Option, Some, None, IfSome, option_and_then, refl, ◌∙◌, arith, subst}
 use Rattle.operator_terms.specs.Term.{Await, Binary, Borrow, Call, Cast, Field, Index, Last, Method, More, NoTerms, Paren, Prefix, Range, RangeFrom, RangeTo, Term, Terms, Try, is_field, level, tokens}
 use Rattle.operator_terms.specs.Reading.{Derives}
