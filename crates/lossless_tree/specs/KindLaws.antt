@@ -1,9 +1,10 @@
 -- No two kinds have one number, and no two print the same.
-use Rattle.std.specs.Prelude.{◌≡◌, ℕ, ◌<◌, List, Bool, slice_index_or, true, false, codes, ◌==◌}
+use Rattle.std.specs.Prelude.{◌≡◌, ◌↔◌, IsTrue, ℕ, ◌<◌, List, Bool, slice_index_or, true, false, codes, ◌==◌}
 use Rattle.std.proofs.Common.{refl, sym, ap, ◌∙◌, arith, lit<, get_or}
 use Rattle.std.proofs.lemmas.Fmt.{decimal_injective}
 use Rattle.std.proofs.lemmas.List.{append_cancel_left, append_cancel_right}
-use Rattle.lossless_tree.specs.Kinds.{kind_raw, kind_name, NumbersDiffer, NamesDiffer}
+use Rattle.std.proofs.lemmas.Bool.{eqb-true, eq-eqb}
+use Rattle.lossless_tree.specs.Kinds.{kind_raw, kind_name, is_same_kind, NumbersDiffer, NamesDiffer}
 use Rattle.lossless_tree.specs.KindText.{hash_of, number_at}
 use Rattle.lossless_tree.specs.declared.syntax_kind.SyntaxKind.{SyntaxKind}
 use Rattle.lossless_tree.specs.declared.syntax_kind.SyntaxKind.TheVariants.{Token, Node, OTHER}
@@ -49,6 +50,13 @@ kind_raw-injective (Token t) (Token u) e = listed-injective (Token t) (Token u) 
 kind_raw-injective (Token t) (Node u) e = listed-injective (Token t) (Node u) (token_raw_small t) (node_raw_small u) e
 kind_raw-injective (Node t) (Token u) e = listed-injective (Node t) (Token u) (node_raw_small t) (token_raw_small u) e
 kind_raw-injective (Node t) (Node u) e = listed-injective (Node t) (Node u) (node_raw_small t) (node_raw_small u) e
+
+-- the test of `is_same_kind` is equality
+pub is_same_kind-equal : (j k : SyntaxKind) → IsTrue (is_same_kind j k) ↔ (j ≡ k)
+is_same_kind-equal j k = (
+  λ same. kind_raw-injective j k (eqb-true (kind_raw j) (kind_raw k) same),
+  λ e. eq-eqb (kind_raw j) (kind_raw k) (ap kind_raw e),
+)
 
 -- the tables find each name
 token_number : (t : TokenKind) → number_at (hash_of (kind_name (Token t))) ≡ kind_raw (Token t)

@@ -93,14 +93,14 @@ impl TextRange {
     pub fn is_empty(self) -> bool
         ensures { IsTrue result ↔ (self.start ≡ self.end) }
     {
-        self.start == self.end
+        self.len().raw() == 0
     }
 
     /// Whether `other` lies within this range, its ends included.
     pub fn contains_range(self, other: TextRange) -> bool
         ensures { IsTrue result ↔ (self.start ≤ other.start) × (other.end ≤ self.end) }
     {
-        self.start <= other.start && other.end <= self.end
+        other.end <= self.end && self.start <= other.start
     }
 
     /// The range `offset` bytes later; `None` where it would end past 32 bits.
