@@ -6,10 +6,11 @@ use Rattle.operator_terms.specs.Reading.{Reads}
 use Rattle.operator_terms.specs.AllFit.{all_fit}
 use Rattle.operator_terms.specs.Pairs.{without}
 use Rattle.operator_terms.specs.Powers.{needs_pair_at}
+use Rattle.operator_terms.specs.Precedence.{needs_parentheses_in}
 use Rattle.operator_terms.specs.Headline.{angle_behind}
 use Rattle.operator_terms.specs.Notation.{a, b, c, x, less, dot_f, calling}
 use Rattle.operator_terms.specs.WorkedTerms.{EachRow, Row, IsRight, grouping, ranges, prefixes, postfixes, casts}
-use Rattle.operator_terms.specs.WorkedPlaces.{Place, IsRightAt, strong_places, sides}
+use Rattle.operator_terms.specs.WorkedPlaces.{Place, IsRightAt, strong_places, sides, IsRightIn, precedences}
 use Rattle.operator_terms.specs.WorkedPairs.{Pair, asked, IsRightPair, pairs, IsRightChange, changes}
 use Rattle.operator_terms.proofs.Bools.{both-true, not-true}
 use Rattle.operator_terms.proofs.Deriving.{Derives-parts}
@@ -84,6 +85,9 @@ strong_places-right = places strong_places refl
 pub sides-right : EachRow IsRightAt sides
 unfolding tokens
 sides-right = places sides refl
+
+pub precedences-right : EachRow IsRightIn precedences
+precedences-right = each_row IsRightIn (λ p. same (needs_parentheses_in p.self p.other) p.needs) (λ p it. same-true (needs_parentheses_in p.self p.other) p.needs it) precedences refl
 
 -- ---- pairs
 

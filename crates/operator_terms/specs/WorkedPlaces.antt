@@ -1,8 +1,10 @@
 -- For each place of an operand, which of the forms need a pair there and which may stand bare, as the test by binding
 -- powers answers it. The forms are samples, of each level and shape.
-use Rattle.std.specs.Prelude.{◌≡◌, ℕ, List, [], ◌∷◌, ◌++◌, true, false}
+use Rattle.std.specs.Prelude.{◌≡◌, ℕ, List, [], ◌∷◌, ◌++◌, Bool, true, false}
 use Rattle.operator_terms.specs.Term.{Term, Paren, Await, Try, Index, RangeFull, RangeFrom}
 use Rattle.operator_terms.specs.Powers.{needs_pair_at}
+use Rattle.operator_terms.specs.Precedence.{Precedence, needs_parentheses_in}
+use Rattle.operator_terms.specs.Precedence as of
 use Rattle.operator_terms.specs.Headline.{angle_behind}
 use Rattle.operator_terms.specs.WorkedTerms.{EachRow}
 use Rattle.operator_terms.specs.Notation.{a, b, x, y, one, assign, add_assign, or, and, less, at_most, equal, bit_or, bit_xor, bit_and, shl, shr, plus, minus, times, over, up_to, through, to, to_and_with, neg, inverse, deref, borrow, borrow_mut, as_T, dot_f, dot_g, calling}
@@ -220,4 +222,43 @@ sides =
     ∷ at (assign x y) 1 any none  -- `x = _`
     ∷ at (add_assign x y) 0 from_ranges below_ranges  -- `_ += y`
     ∷ at (add_assign x y) 1 any none  -- `x += _`
+    ∷ []
+
+-- ---- the coarser test
+
+-- an expression of the first precedence, in one of the second, and whether it needs parentheses
+pub record Precedences : Type 0 where
+  pub self : Precedence
+  pub other : Precedence
+  pub needs : Bool
+
+abbrev pub bare_in : Precedence → Precedence → Precedences
+bare_in self other = record { self = self; other = other; needs = false }
+
+abbrev pub wrapped_in : Precedence → Precedence → Precedences
+wrapped_in self other = record { self = self; other = other; needs = true }
+
+abbrev pub IsRightIn : Precedences → Type 0
+IsRightIn p = needs_parentheses_in p.self p.other ≡ p.needs
+
+abbrev pub precedences : List Precedences
+precedences =
+    wrapped_in of.Sum of.Sum  -- sides don't count, so also where `(a + b) + c` could do without
+    ∷ wrapped_in of.Sum of.Product
+    ∷ bare_in of.Product of.Sum
+    ∷ wrapped_in of.Compare of.Compare
+    ∷ bare_in of.Range of.Assign
+    ∷ wrapped_in of.Assign of.Range
+    ∷ wrapped_in of.Assign of.Assign
+    ∷ wrapped_in of.Jump of.Assign
+    ∷ bare_in of.Jump of.Prefix  -- `-return`
+    ∷ wrapped_in of.Cast of.Prefix
+    ∷ bare_in of.Prefix of.Prefix
+    ∷ bare_in of.Prefix of.Cast
+    ∷ wrapped_in of.Cast of.Cast
+    ∷ wrapped_in of.Prefix of.Postfix
+    ∷ wrapped_in of.Jump of.Postfix
+    ∷ bare_in of.Postfix of.Postfix
+    ∷ bare_in of.Jump of.Unambiguous
+    ∷ bare_in of.Unambiguous of.Product
     ∷ []

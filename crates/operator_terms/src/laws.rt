@@ -16,7 +16,7 @@ ghost use Rattle.operator_terms.specs.Term.{Term, Terms, Last, Paren, Field, Met
 ghost use Rattle.operator_terms.specs.Token.{Token, fixed};
 ghost use Rattle.operator_terms.specs.Notation.{a, b, c, x, less, dot_f, calling};
 ghost use Rattle.operator_terms.specs.WorkedPairs.{IsRightPair, pairs, IsRightChange, changes};
-ghost use Rattle.operator_terms.specs.WorkedPlaces.{IsRightAt, strong_places, sides};
+ghost use Rattle.operator_terms.specs.WorkedPlaces.{IsRightAt, strong_places, sides, IsRightIn, precedences};
 ghost use Rattle.operator_terms.specs.WorkedTerms.{EachRow, IsRight, grouping, ranges, prefixes, postfixes, casts};
 
 // ---- reading
@@ -159,10 +159,11 @@ pub fn worked_terms()
 {}
 
 /// For each place of an operand and samples of all forms: which of them the test by binding powers lets stand there bare,
-/// and for which it asks for a pair.
+/// and for which it asks for a pair. And what the test by precedences says of some of them.
 pub fn worked_places()
     ensures strong { EachRow IsRightAt strong_places }
     ensures sides { EachRow IsRightAt sides }
+    ensures precedences { EachRow IsRightIn precedences }
 {}
 
 /// Worked pairs: which may go, by the test and by the reading without them; and which are put in round operands that don't
