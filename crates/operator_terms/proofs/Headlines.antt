@@ -1,6 +1,6 @@
 -- The operator theorem over terms: both halves, from the laws on fitting, on pairs and on the test. What is left to do here
 -- is to go from "each part of each operand" to "each place", and to carry along the tokens that follow the whole term.
-use Rattle.std.proofs.Common.{◌≡◌, ◌↔◌, ℕ, List, [], ◌∷◌, ◌++◌, false, Option, Some, None, IfSome, option_and_then, refl, ap, ◌∙◌, arith, subst, append_assoc}
+use Rattle.std.proofs.Common.{◌≡◌, ◌↔◌, ℕ, List, [], ◌∷◌, ◌++◌, false, Option, Some, None, IfSome, option_and_then, refl, sym, ap, ◌∙◌, arith, subst, append_assoc, append-nil}
 use Rattle.operator_terms.specs.Token.{Token}
 use Rattle.operator_terms.specs.Term.{Term, Paren, tokens}
 use Rattle.operator_terms.specs.Reading.{Reads, begins_with_angle}
@@ -28,6 +28,32 @@ part_at-last (j ∷ q) d t i = onward (part t j) (λ r. part_at-last q r.demand 
 
 pub operand-last : (t : Term) (q : List ℕ) (i : ℕ) (holder held : Part) → operand t q ≡ Some holder → part holder.term i ≡ Some held → operand t (q ++ (i ∷ [])) ≡ Some held
 operand-last t q i holder held e f = part_at-last q (AtLeast 0) t i ∙ ap (option_and_then (λ p. part p.term i)) e ∙ f
+
+-- and behind it stand, first, what its holder has behind it
+
+behind_of : (f : Term → List Token) (o : Option Part) (r : Part) (ts : List Token) → o ≡ Some r → behind_in f o ts ≡ f r.term ++ ts
+behind_of f o r ts e = ap (λ x. behind_in f x ts) e
+
+abbrev BehindLast : List ℕ → ℕ → Term → Part → Type 0
+BehindLast q i t holder = tokens_behind (q ++ (i ∷ [])) t ≡ behind_part holder.term i ++ tokens_behind q t
+
+behind_next : (j : ℕ) (q : List ℕ) (t : Term) (i : ℕ) (holder held : Part) → ((r : Part) → part_at r.demand r.term q ≡ Some holder → BehindLast q i r.term holder) → (o : Option Part) → part t j ≡ o → option_and_then (λ p. part_at p.demand p.term q) o ≡ Some holder → BehindLast (j ∷ q) i t holder
+behind_next j q t i holder held each None e at = absurd (cc)
+behind_next j q t i holder held each (Some r) e at =
+    behind_of (tokens_behind (q ++ (i ∷ []))) (part t j) r (behind_part t j) e
+    ∙ ap (λ ts. ts ++ behind_part t j) (each r at)
+    ∙ append_assoc (behind_part holder.term i) (tokens_behind q r.term) (behind_part t j)
+    ∙ ap (λ ts. behind_part holder.term i ++ ts) (sym (behind_of (tokens_behind q) (part t j) r (behind_part t j) e))
+
+behind_at : (q : List ℕ) (d : Demand) (t : Term) (i : ℕ) (holder held : Part) → part_at d t q ≡ Some holder → part holder.term i ≡ Some held → BehindLast q i t holder
+behind_at [] d t i holder held at e =
+    let same : record { demand = d; term = t } ≡ holder = let found : Some (record { demand = d; term = t }) ≡ Some holder = at in cc in
+    let here : part t i ≡ Some held = ap (λ p. part p.term i) same ∙ e in
+    behind_of (tokens_behind []) (part t i) held (behind_part t i) here ∙ ap (λ p. behind_part p.term i) same ∙ sym (append-nil (behind_part holder.term i))
+behind_at (j ∷ q) d t i holder held at e = behind_next j q t i holder held (λ r f. behind_at q r.demand r.term i holder held f e) (part t j) refl at
+
+pub behind-last : (t : Term) (q : List ℕ) (i : ℕ) (holder held : Part) → operand t q ≡ Some holder → part holder.term i ≡ Some held → tokens_behind (q ++ (i ∷ [])) t ≡ behind_part holder.term i ++ tokens_behind q t
+behind-last t q i holder held at e = behind_at q (AtLeast 0) t i holder held at e
 
 -- ---- where every operand fits, the test asks nowhere
 

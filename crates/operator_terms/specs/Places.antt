@@ -115,11 +115,16 @@ abbrev pub ends_in_cast : List Token → Bool
 ends_in_cast [] = false
 ends_in_cast (t ∷ ts) = (is_as t.kind && is_one_name ts) || ends_in_cast ts
 
--- a term may stand before these tokens: where it ends in a cast's name, they don't begin with `<` or `<<`
+-- A term fits a place: it meets what is demanded there, and if it ends in a cast's name, neither `<` nor `<<` follows. The
+-- flag says whether one of them does.
+abbrev pub FitsPlace : Demand → (angle : Bool) → Term → Type 0
+FitsPlace d angle e = Meets d e × (ends_in_cast (tokens e) ≡ true → angle ≡ false)
+
+-- The operand at the place q fits, before the tokens that stand behind it in the whole term. (Nothing is said where q is no
+-- place of the term.)
+abbrev pub Fits : Term → List ℕ → Type 0
+Fits t q = IfSome (operand t q) (λ p. FitsPlace p.demand (begins_with_angle (tokens_behind q t)) p.term)
+
+-- a whole term may stand before these tokens: if it ends in a cast's name, they don't begin with `<` or `<<`
 abbrev pub MayStandBefore : List Token → Term → Type 0
 MayStandBefore following t = ends_in_cast (tokens t) ≡ true → begins_with_angle following ≡ false
-
--- The operand at the place q fits: it meets what its place demands, and it may stand before the tokens that follow it in
--- the whole term. (Nothing is said where q is no place of the term.)
-abbrev pub Fits : Term → List ℕ → Type 0
-Fits t q = IfSome (operand t q) (λ p. Meets p.demand p.term × MayStandBefore (tokens_behind q t) p.term)
