@@ -98,7 +98,8 @@ named-injective j k p q e =
 
 pub kind_name-injective : NamesDiffer
 kind_name-injective (OTHER m) (OTHER n) p q e =
-    ap OTHER (decimal_injective m n (omega arith) (omega arith) (append_cancel_left (codes "OTHER(") _ _ (append_cancel_right _ _ (codes ")") e)))
+    ap OTHER (decimal_injective m n (omega arith) (omega arith)
+    (append_cancel_left (codes "OTHER(") _ _ (append_cancel_right _ _ (codes ")") e)))
 kind_name-injective (OTHER m) (Token t) p q e = absurd (other_apart m (Token t) (token_bracket t) e)
 kind_name-injective (OTHER m) (Node t) p q e = absurd (other_apart m (Node t) (node_bracket t) e)
 kind_name-injective (Token t) (OTHER m) p q e = absurd (other_apart m (Token t) (token_bracket t) (sym e))
