@@ -4,3 +4,15 @@ pub mod KindText
 pub mod SharedOwnership
 pub mod SharedPlace
 pub mod TextRange
+pub mod Tree
+pub mod Events
+pub mod TreeCode
+pub mod Rows
+pub mod Cursor
+pub mod Element
+pub mod Builder
+pub mod Scan
+pub mod Run
+pub mod WalkEvent
+pub mod Dump
+pub mod RowLemmas
