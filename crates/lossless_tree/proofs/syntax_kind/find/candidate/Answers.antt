@@ -1,7 +1,7 @@
 use Rattle.std.proofs.Common.{◌≡◌, ◌∙◌, sym, ap}
 use Rattle.lossless_tree.specs.Kinds.{kind_raw}
 use Rattle.lossless_tree.specs.KindText.{hash_of, number_at}
-use Rattle.lossless_tree.specs.KindLaws.{number_at-kind_name}
+use Rattle.lossless_tree.proofs.KindLaws.{number_at-kind_name}
 use Rattle.lossless_tree.proofs.KindTable.{small-IsKind}
 use Rattle.lossless_tree.proofs.syntax_kind.find.candidate.Goals as goal
 
