@@ -1,4 +1,5 @@
 //! Laws of the definitions that contracts cite. The functions do nothing: the contract is the law.
+ghost use Rattle.lossless_tree.specs.Events.{RefusalsHold};
 ghost use Rattle.lossless_tree.specs.Kinds.{NumbersDiffer, NamesDiffer};
 
 /// No two kinds have one raw number.
@@ -9,4 +10,11 @@ pub fn kind_numbers_differ()
 /// No two kinds print the same.
 pub fn kind_names_differ()
     ensures { NamesDiffer }
+{}
+
+/// What the contract of `TreeBuilder::finish` calls the first refusal is the first that holds: a text that is too long,
+/// then some front of the events with more exits than enters, then more enters than exits in all, then what the
+/// balanced events build.
+pub fn refusals_hold()
+    ensures { RefusalsHold }
 {}

@@ -1,14 +1,28 @@
 //! Lossless syntax trees: every byte of a text stays in its tree.
 #![tactic(auto)]
 
+mod builder;
+mod cursor;
+mod dump;
+mod error;
+mod finish;
 mod language;
 pub mod laws;
 mod macros;
 mod shared;
+mod step;
 mod syntax_kind;
+mod table;
 mod text_range;
 mod text_size;
 
+pub use builder::TreeBuilder;
+pub use cursor::descendants::DescendantsWithTokens;
+pub use cursor::element::{NodeOrToken, SyntaxElement};
+pub use cursor::node::SyntaxNode;
+pub use cursor::preorder::{PreorderWithTokens, WalkEvent};
+pub use cursor::token::SyntaxToken;
+pub use error::FinishError;
 pub use language::{Language, RustLanguage};
 pub use shared::Shared;
 pub use syntax_kind::{KINDS, NodeKind, SyntaxKind, TokenKind};

@@ -17,13 +17,17 @@ pub use token_kind::TokenKind;
 
 /// The kind of a token or a node.
 ///
-/// Each kind but `OTHER` has a constant here: `SyntaxKind::PLUS`, `SyntaxKind::BIN_EXPR`, and
-/// `T![+]` for punctuation and keywords. They are values and patterns alike. `OTHER` stands for
-/// the kinds that have no name.
+/// Each kind but `OTHER` has a constant here, by the name that it has in rust-analyzer:
+/// `SyntaxKind::PLUS`, `SyntaxKind::BIN_EXPR`. `T![+]` names punctuation and keywords by their
+/// text. Both are values and patterns, so the two families need not be named. Kinds are ordered as
+/// their numbers are. A kind prints as its name, and `OTHER(7)` as `OTHER(7)`.
 #[derive(Clone, Copy, PartialEq, Eq, PartialOrd, Ord, Hash)]
 pub enum SyntaxKind {
+    /// A kind of token.
     Token(TokenKind),
+    /// A kind of node.
     Node(NodeKind),
+    /// A kind without a name.
     OTHER(u16),
 }
 
@@ -72,7 +76,7 @@ impl SyntaxKind {
     /// The kind that prints as `name`, if there is one.
     ///
     /// A name is matched by its very bytes. The number of `OTHER(n)` is decimal, from 0 to 65535,
-    /// with no sign and no leading zero.
+    /// with no sign and no leading zero. It reads `name` at most twice, whatever the kind.
     pub fn from_name(name: &str) -> Option<SyntaxKind>
         ensures exact { (k : SyntaxKind) → IsKind k → (result ≡ Some k) ↔ (kind_name k ≡ name.now) }
         ensures kind { IfSome result IsKind }

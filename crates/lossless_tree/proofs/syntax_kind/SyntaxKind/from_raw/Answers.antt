@@ -1,5 +1,5 @@
 use Rattle.std.proofs.Common.{arith}
-use Rattle.lossless_tree.proofs.Table.{reads_table, IsKind-KINDS}
+use Rattle.lossless_tree.proofs.KindTable.{reads_table, IsKind-KINDS}
 use Rattle.lossless_tree.proofs.syntax_kind.SyntaxKind.from_raw.Goals as goal
 
 pub returns-in-0-to-263-clause-exact : goal.returns-in-0-to-263-clause-exact

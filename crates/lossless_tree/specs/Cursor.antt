@@ -1,0 +1,96 @@
+-- A cursor is a whole tree and a place in it, and every step from one cursor to another.
+-- (Upstream: `rowan`'s `SyntaxNode`, `SyntaxToken` and their methods of these names.)
+use Rattle.std.specs.Prelude.{◌≡◌, ℕ, ◌+◌, List, [], ◌++◌, length, Option, None, Some, refl, option_map, map, drop, Bool, true, false, ◌-◌, ◌<◌, ◌≤◌, ◌⊎◌}
+use Rattle.std.specs.List.{range_with_len}
+use Rattle.lossless_tree.specs.Rows.{place_at, tree_at, row_at}
+use Rattle.std.specs.Coded.{Coded, code_by, coded×, coded_ℕ, coded_list}
+use Rattle.lossless_tree.specs.Tree.{Tree, text, Place, subtree, start, places, size, walk, parent_place, first_child_place, next_sibling_place}
+use Rattle.lossless_tree.specs.TextRange.{Bounds}
+use Rattle.lossless_tree.specs.TreeCode.{tree_code}
+
+pub record Cursor : Type 0 where
+  pub tree : Tree
+  pub place : Place
+
+abbrev pub cursor_code : Coded Cursor
+cursor_code = code_by (Tree × List ℕ) (coded× tree_code (coded_list coded_ℕ)) (λ c. (c.tree, c.place)) (λ p. record { tree = p.0; place = p.1 }) (λ _. refl)
+
+-- the subtree at the cursor
+abbrev pub focus : Cursor → Tree
+focus c = subtree c.tree c.place
+
+-- where the cursor's text starts in the whole text, and where it ends, in bytes
+abbrev pub range_start : Cursor → ℕ
+range_start c = start c.tree c.place
+
+abbrev pub range_end : Cursor → ℕ
+range_end c = start c.tree c.place + length (text (focus c))
+
+-- the cursor stands at the root of its tree
+abbrev pub IsRoot : Cursor → Type 0
+IsRoot c = c.place ≡ []
+
+-- the range of bytes of the cursor's text in the whole text
+abbrev pub range_of : Cursor → Bounds
+range_of c = record { start = range_start c; end = range_end c }
+
+-- the same tree, at another place
+abbrev pub at_place : Cursor → Place → Cursor
+at_place c p = record { tree = c.tree; place = p }
+
+-- the parent, the first child and the next sibling, node or token
+abbrev pub parent_of : Cursor → Option Cursor
+parent_of c = option_map (at_place c) (parent_place c.place)
+
+abbrev pub first_child_of : Cursor → Option Cursor
+first_child_of c = option_map (at_place c) (first_child_place c.tree c.place)
+
+abbrev pub next_sibling_of : Cursor → Option Cursor
+next_sibling_of c = option_map (at_place c) (next_sibling_place c.tree c.place)
+
+-- the places of the subtree in preorder, itself first
+abbrev pub descendants_of : Cursor → List Cursor
+descendants_of c = map (λ q. at_place c (c.place ++ q)) (places (focus c))
+
+-- ---- by row numbers, for the proofs
+
+-- the cursors at n rows from a row on
+abbrev pub cursor_at : Tree → ℕ → Cursor
+cursor_at tree n = record { tree = tree; place = place_at tree n }
+
+abbrev pub cursors_from : Tree → ℕ → ℕ → List Cursor
+cursors_from tree a n = map (cursor_at tree) (range_with_len a n)
+
+-- the walk of the subtree: its places in preorder, entered (true) and left (false)
+abbrev pub walk_of : Cursor → List (Bool × Cursor)
+walk_of c = map (λ w. (w.0, at_place c (c.place ++ w.1))) (walk (focus c))
+
+-- how many nodes and tokens are open, from the start of a walk to the innermost
+abbrev pub open_count : Tree → ℕ → Option ℕ → ℕ
+open_count tree start None = 0
+open_count tree start (Some o) = length (place_at tree o) + 1 - length (place_at tree start)
+
+-- what is left of the walk from row start on, when the rows before next have been entered
+abbrev pub walk_left : Tree → ℕ → ℕ → Option ℕ → List (Bool × Cursor)
+walk_left tree start next o = drop ((next - start) + (next - start) - open_count tree start o) (walk_of (cursor_at tree start))
+
+abbrev pub OpenAt : Tree → ℕ → ℕ → Option ℕ → Type 0
+OpenAt tree start next None = (next ≡ start) ⊎ (next ≡ start + size (tree_at tree start))
+OpenAt tree start next (Some o) =
+    (start ≤ o) × (o < next) × (next ≤ o + size (tree_at tree o)) × ((k : ℕ) → o < k → k < next → (row_at tree k).end ≤ next)
+
+-- how far the cursor d is below the cursor c
+abbrev pub level_below : Cursor → Cursor → ℕ
+level_below c d = length d.place - length c.place
+
+-- a step that enters a row opens it, so many levels below the start as were open before; one that leaves a row closes it
+abbrev pub MovesLevel : Tree → ℕ → Option ℕ → Bool → ℕ → Option ℕ → Type 0
+MovesLevel tree start o enters row after =
+    (enters ≡ true → (open_count tree start after ≡ open_count tree start o + 1) × (level_below (cursor_at tree start) (cursor_at tree row) ≡ open_count tree start o))
+    × (enters ≡ false → open_count tree start after + 1 ≡ open_count tree start o)
+
+pub record IsWalk (tree : Tree) (start next : ℕ) (o : Option ℕ) : Type 0 where
+  pub start_is_row : start < size tree
+  pub begun : start ≤ next
+  pub within : next ≤ start + size (tree_at tree start)
+  pub open_at : OpenAt tree start next o

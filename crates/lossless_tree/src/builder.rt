@@ -1,0 +1,128 @@
+//! Events to a tree.
+ghost use Rattle.std.specs.Prelude.{◌≡◌, [], ◌∷◌, ◌++◌, OnOk, OnErr, IfOk, IfErr, None};
+ghost use Rattle.lossless_tree.specs.Events.{enter, leaf, exit, BuildsNode, first_refusal, refusal_of};
+ghost use Rattle.lossless_tree.specs.Cursor.{IsRoot};
+
+use crate::cursor::node::SyntaxNode;
+use crate::error::FinishError;
+use crate::finish::{build_rows, first_refusal};
+use crate::shared::Shared;
+use crate::step::Step;
+use crate::syntax_kind::SyntaxKind;
+use crate::table::Table;
+use std::alloc::{AllocError, Global};
+use std::marker::Model;
+
+/// Builds a tree from events: a node is entered, tokens come, the node is left.
+///
+/// The three calls that append an event take it as it comes, in any order, and refuse only for want of memory; the
+/// builder is then as before. Whether the events build a tree is looked at in `finish`. It has the name and the calls
+/// of `GreenNodeBuilder` in the crate `rowan`. A clause sees the list of events.
+///
+/// ```text
+/// let mut builder = TreeBuilder::new(alloc);
+/// builder.start_node(SyntaxKind::NAME)?;
+/// builder.token(SyntaxKind::IDENT, "foo")?;
+/// builder.finish_node()?;
+/// let root = builder.finish()?;
+/// ```
+#[derive(Drop)]
+pub struct TreeBuilder {
+    alloc: Global,
+    steps: Vec<Step>,
+    text: String,
+}
+
+impl Model for TreeBuilder {
+    ghost use Rattle.std.specs.Prelude.{List, string_bytes};
+    ghost use Rattle.std.specs.Coded.{coded_list};
+    ghost use Rattle.lossless_tree.specs.Events.{Event};
+    ghost use Rattle.lossless_tree.specs.TreeCode.{event_code};
+    ghost use Rattle.lossless_tree.specs.Builder.{events_from, TextsFit};
+
+    ghost Value = { List Event };
+
+    ghost coded = { coded_list event_code };
+
+    ghost view = { λ a. events_from a.steps.items (string_bytes a.text) };
+
+    ghost invariant = { λ a. TextsFit a.steps.items (string_bytes a.text) };
+}
+
+impl TreeBuilder {
+    /// A builder without events. It takes no memory yet.
+    pub fn new(alloc: Global) -> Self
+        ensures { result ≡ [] }
+    {
+        TreeBuilder {
+            alloc,
+            steps: Vec::new(alloc),
+            text: String::new(alloc),
+        }
+    }
+
+    /// Enters a node: what comes up to the matching `finish_node` is inside it.
+    pub fn start_node(&mut self, kind: SyntaxKind) -> Result<(), AllocError>
+        ensures ok { OnOk result (self.new ≡ self.old ++ enter kind ∷ []) }
+        ensures err { OnErr result (self.new ≡ self.old) }
+    {
+        self.steps.push(Step::Enter(kind))?;
+        Ok(())
+    }
+
+    /// A token; its text may be empty.
+    pub fn token(&mut self, kind: SyntaxKind, text: &str) -> Result<(), AllocError>
+        ensures ok { OnOk result (self.new ≡ self.old ++ leaf kind text.now ∷ []) }
+        ensures err { OnErr result (self.new ≡ self.old) }
+    {
+        self.steps.reserve(1)?;
+        self.text.push_str(text)?;
+        self.steps.push(Step::Token(kind, text.len()))?;
+        Ok(())
+    }
+
+    /// Leaves the node that was entered last and is still open.
+    pub fn finish_node(&mut self) -> Result<(), AllocError>
+        ensures ok { OnOk result (self.new ≡ self.old ++ exit ∷ []) }
+        ensures err { OnErr result (self.new ≡ self.old) }
+    {
+        self.steps.push(Step::Exit)?;
+        Ok(())
+    }
+
+    /// The root of the tree that the events build, in time linear in the events and their text.
+    ///
+    /// Else the first refusal that holds of all the events, in the order of [`FinishError`]; the builder is then gone.
+    /// The text is not copied.
+    pub fn finish(self) -> Result<SyntaxNode, FinishError>
+        ensures ok { IfOk result (λ root. BuildsNode self root.tree × IsRoot root) }
+        ensures accepted { OnOk result (first_refusal self ≡ None) }
+        ensures refused { IfErr result (λ e. refusal_of e ≡ first_refusal self) }
+    {
+        let alloc = self.alloc;
+        let table = self.build()?;
+        match Shared::new(alloc, table) {
+            Ok(table) => Ok(SyntaxNode::root(table)),
+            Err(_) => Err(FinishError::Memory),
+        }
+    }
+
+    // The table of the tree.
+    fn build(self) -> Result<Table, FinishError>
+        ensures ok { IfOk result (BuildsNode self) }
+        ensures accepted { OnOk result (first_refusal self ≡ None) }
+        ensures refused { IfErr result (λ e. refusal_of e ≡ first_refusal self) }
+    {
+        let TreeBuilder { alloc, steps, text } = self;
+        if text.len() > u32::MAX as usize {
+            return Err(FinishError::TooLong);
+        }
+        match first_refusal(steps.as_slice()) {
+            Some(refusal) => Err(refusal),
+            None => match build_rows(alloc, steps.as_slice()) {
+                Ok(rows) => Ok(Table::from_parts(text, rows)),
+                Err(_) => Err(FinishError::Memory),
+            },
+        }
+    }
+}

@@ -1,0 +1,7 @@
+//! Cursors: places in a shared tree, and the walks from one to the next.
+
+pub mod descendants;
+pub mod element;
+pub mod node;
+pub mod preorder;
+pub mod token;

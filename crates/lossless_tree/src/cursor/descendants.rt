@@ -1,0 +1,66 @@
+//! Every node and token of a subtree, in preorder.
+ghost use Rattle.std.specs.Prelude.{◌≡◌, map};
+ghost use Rattle.std.specs.Iterator.{YieldsFirst, item_count};
+ghost use Rattle.lossless_tree.specs.Rows.{IsRow};
+ghost use Rattle.lossless_tree.specs.Cursor.{descendants_of, cursor_at};
+ghost use Rattle.lossless_tree.specs.Element.{element_of};
+
+use super::element::{SyntaxElement, element};
+use crate::shared::Shared;
+use crate::table::Table;
+use std::marker::Model;
+
+/// The nodes and tokens of a subtree in preorder, itself first. A clause sees the cursors that are left.
+#[derive(Drop)]
+pub struct DescendantsWithTokens {
+    table: Shared<Table>,
+    next: usize,
+    end: usize,
+}
+
+impl Model for DescendantsWithTokens {
+    ghost use Rattle.std.specs.Prelude.{List, ◌-◌};
+    ghost use Rattle.std.specs.Coded.{coded_list};
+    ghost use Rattle.lossless_tree.specs.Cursor.{Cursor, cursor_code, cursors_from};
+    ghost use Rattle.lossless_tree.specs.Rows.{EndsWithin};
+
+    ghost Value = { List Cursor };
+
+    ghost coded = { coded_list cursor_code };
+
+    ghost view = { λ a. cursors_from a.table.value a.next (a.end - a.next) };
+
+    ghost invariant = { λ a. EndsWithin a.table.value a.end };
+}
+
+impl DescendantsWithTokens {
+    pub(crate) fn new(table: Shared<Table>, row: usize) -> Self
+        requires { IsRow table.value row }
+        ensures { result ≡ descendants_of (cursor_at table.value row) }
+    {
+        let end = table.row(row).end;
+        DescendantsWithTokens {
+            table,
+            next: row,
+            end,
+        }
+    }
+}
+
+impl Iterator for DescendantsWithTokens {
+    type Item = SyntaxElement;
+
+    ghost next_gives = { YieldsFirst (map element_of) };
+
+    ghost remaining = { item_count (map element_of) };
+
+    fn next(&mut self) -> Option<SyntaxElement> {
+        let row = self.next;
+        if row < self.end {
+            self.next = row + 1;
+            Some(element(&self.table, row))
+        } else {
+            None
+        }
+    }
+}

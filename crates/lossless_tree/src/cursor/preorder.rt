@@ -1,0 +1,141 @@
+//! The walk that enters and leaves each node and token of a subtree.
+ghost use Rattle.std.specs.Prelude.{◌≡◌, ◌∷◌, [], true, false, map, length, None, MatchOption, IfSome};
+ghost use Rattle.std.specs.Iterator.{YieldsFirst, item_count};
+ghost use Rattle.lossless_tree.specs.Rows.{IsRow};
+ghost use Rattle.lossless_tree.specs.Cursor.{walk_of, walk_left, cursor_at, IsWalk, MovesLevel};
+ghost use Rattle.lossless_tree.specs.WalkEvent.{walk_event};
+
+use super::element::{SyntaxElement, element};
+use crate::shared::Shared;
+use crate::table::Table;
+use std::marker::Model;
+
+/// What a walk does at an element: it enters it, walks what is below, and leaves it.
+#[derive(Drop)]
+pub enum WalkEvent<T> {
+    Enter(T),
+    Leave(T),
+}
+
+/// The walk of a subtree. A clause sees what is left: cursors that are entered (true) or left (false).
+#[derive(Drop)]
+pub struct PreorderWithTokens {
+    table: Shared<Table>,
+    start: usize,
+    next: usize,
+    innermost: Option<usize>,
+}
+
+impl Model for PreorderWithTokens {
+    ghost use Rattle.std.specs.Prelude.{List, Bool};
+    ghost use Rattle.std.specs.Coded.{coded_list, coded×, coded_bool};
+    ghost use Rattle.lossless_tree.specs.Cursor.{Cursor, cursor_code, walk_left, IsWalk};
+
+    ghost Value = { List (Bool × Cursor) };
+
+    ghost coded = { coded_list (coded× coded_bool cursor_code) };
+
+    ghost view = { λ a. walk_left a.table.value a.start a.next a.innermost };
+
+    ghost invariant = { λ a. IsWalk a.table.value a.start a.next a.innermost };
+}
+
+// One step of a walk: the row that is entered or left, and where the walk stands then.
+#[derive(Clone, Copy)]
+pub(crate) struct WalkStep {
+    pub enters: bool,
+    pub row: usize,
+    pub next: usize,
+    pub innermost: Option<usize>,
+}
+
+// The walk of the rows from `start` on, when those before `next` have been entered and `innermost` is open.
+pub(crate) fn walk_step(
+    table: &Table,
+    start: usize,
+    next: usize,
+    innermost: Option<usize>,
+) -> Option<WalkStep>
+    requires { IsWalk table.now start next innermost }
+    ensures rest { MatchOption result (walk_left table.now start next innermost ≡ [])
+        (λ s. walk_left table.now start next innermost
+        ≡ (s.enters, cursor_at table.now s.row) ∷ walk_left table.now start s.next s.innermost) }
+    ensures state { MatchOption result (IsWalk table.now start next innermost)
+        (λ s. IsRow table.now s.row × IsWalk table.now start s.next s.innermost) }
+    ensures level { IfSome result (λ s. MovesLevel table.now start innermost s.enters s.row s.innermost) }
+{
+    match innermost {
+        None => {
+            if next != start {
+                return None;
+            }
+            let _end = table.row(start);
+            let next = start + 1;
+            Some(WalkStep {
+                enters: true,
+                row: start,
+                next,
+                innermost: Some(start),
+            })
+        }
+        Some(inner) => {
+            if next < table.row(inner).end {
+                let after = next + 1;
+                Some(WalkStep {
+                    enters: true,
+                    row: next,
+                    next: after,
+                    innermost: Some(next),
+                })
+            } else if inner == start {
+                Some(WalkStep {
+                    enters: false,
+                    row: inner,
+                    next,
+                    innermost: None,
+                })
+            } else {
+                Some(WalkStep {
+                    enters: false,
+                    row: inner,
+                    next,
+                    innermost: table.parent_row(inner),
+                })
+            }
+        }
+    }
+}
+
+impl PreorderWithTokens {
+    pub(crate) fn new(table: Shared<Table>, row: usize) -> Self
+        requires { IsRow table.value row }
+        ensures { result ≡ walk_of (cursor_at table.value row) }
+    {
+        PreorderWithTokens {
+            table,
+            start: row,
+            next: row,
+            innermost: None,
+        }
+    }
+}
+
+impl Iterator for PreorderWithTokens {
+    type Item = WalkEvent<SyntaxElement>;
+
+    ghost next_gives = { YieldsFirst (map walk_event) };
+
+    ghost remaining = { item_count (map walk_event) };
+
+    fn next(&mut self) -> Option<WalkEvent<SyntaxElement>> {
+        let step = walk_step(&self.table, self.start, self.next, self.innermost)?;
+        self.next = step.next;
+        self.innermost = step.innermost;
+        let element = element(&self.table, step.row);
+        if step.enters {
+            Some(WalkEvent::Enter(element))
+        } else {
+            Some(WalkEvent::Leave(element))
+        }
+    }
+}

@@ -1,0 +1,98 @@
+//! Tokens.
+ghost use Rattle.std.specs.Prelude.{◌≡◌, IfOk, string_bytes};
+ghost use Rattle.lossless_tree.specs.Tree.{text, kind_of};
+ghost use Rattle.lossless_tree.specs.Cursor.{focus, range_of};
+ghost use Rattle.lossless_tree.specs.Dump.{dump_of};
+
+use crate::dump;
+use crate::shared::Shared;
+use crate::syntax_kind::SyntaxKind;
+use crate::table::Table;
+use crate::text_range::TextRange;
+use std::alloc::{AllocError, Global};
+use std::marker::Model;
+
+/// A token of a tree: a cursor, which shares the whole tree with every other cursor of it.
+///
+/// Cloning one takes no memory and always succeeds. A clause sees the whole tree and the token's place in it.
+#[derive(Drop)]
+pub struct SyntaxToken {
+    table: Shared<Table>,
+    row: usize,
+}
+
+impl Model for SyntaxToken {
+    ghost use Rattle.lossless_tree.specs.Cursor.{Cursor, cursor_code};
+
+    ghost Value = { Cursor };
+
+    ghost coded = { cursor_code };
+
+    ghost use Rattle.lossless_tree.specs.Tree.{IsToken};
+    ghost use Rattle.lossless_tree.specs.Rows.{place_at, tree_at, IsRow};
+
+    ghost view = { λ a. record { tree = a.table.value; place = place_at a.table.value a.row } };
+
+    ghost invariant = { λ a. IsRow a.table.value a.row × IsToken (tree_at a.table.value a.row) };
+}
+
+impl SyntaxToken {
+    ghost use Rattle.std.specs.Prelude.{◌≡◌};
+    ghost use Rattle.lossless_tree.specs.Tree.{IsToken};
+    ghost use Rattle.lossless_tree.specs.Rows.{IsRow, tree_at};
+    ghost use Rattle.lossless_tree.specs.Cursor.{cursor_at};
+
+    // The token at a row.
+    pub(crate) fn at(table: Shared<Table>, row: usize) -> SyntaxToken
+        requires is_row { IsRow table.value row }
+        requires is_token { IsToken (tree_at table.value row) }
+        ensures { result ≡ cursor_at table.value row }
+    {
+        SyntaxToken { table, row }
+    }
+}
+
+impl SyntaxToken {
+    /// The token's kind.
+    pub fn kind(&self) -> SyntaxKind
+        ensures { result ≡ kind_of (focus self.now) }
+    {
+        self.table.kind_at(self.row)
+    }
+
+    /// The range of the token's text in the whole tree's text, in bytes. A token without text has an empty range.
+    pub fn text_range(&self) -> TextRange
+        ensures { result ≡ range_of self.now }
+    {
+        self.table.range_at(self.row)
+    }
+
+    /// The token's text, a slice of the tree's one text.
+    pub fn text(&self) -> &str
+        ensures { result.now ≡ text (focus self.now) }
+    {
+        self.table.text_at(self.row)
+    }
+
+    /// The token's one line, as in the dump of a tree around it.
+    pub fn dump(&self, alloc: Global) -> Result<String, AllocError>
+        ensures { IfOk result (λ text. string_bytes text ≡ dump_of self.now) }
+    {
+        dump::dump(alloc, &self.table, self.row)
+    }
+}
+
+impl Clone for SyntaxToken {
+    ghost use Rattle.std.specs.Prelude.{◌≡◌, ⊤};
+
+    ghost is_clone = { λ s copy. copy ≡ s };
+
+    ghost is_infallible = { λ _. ⊤ };
+
+    fn clone(&self) -> Result<SyntaxToken, AllocError> {
+        Ok(SyntaxToken {
+            table: self.table.share(),
+            row: self.row,
+        })
+    }
+}

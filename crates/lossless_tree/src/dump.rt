@@ -1,0 +1,122 @@
+//! How a tree prints.
+ghost use Rattle.std.specs.Prelude.{◌≡◌, ◌++◌, ◌*◌, OnOk, IfOk, string_bytes, replicate};
+ghost use Rattle.std.specs.List.{flat_map};
+ghost use Rattle.std.specs.Str.{chars};
+ghost use Rattle.lossless_tree.specs.Rows.{IsRow, tree_at};
+ghost use Rattle.lossless_tree.specs.Cursor.{cursor_at};
+ghost use Rattle.lossless_tree.specs.Dump.{escaped, shortest_front, shown, shown_text, dump_line, dump_of};
+
+use crate::cursor::preorder::walk_step;
+use crate::table::Table;
+use std::alloc::{AllocError, Global};
+use std::fmt::Write;
+
+// A token's text of fewer bytes is shown whole.
+const WHOLE_BELOW: usize = 25;
+
+// Of a longer one so many bytes are shown, and what is left of the last character.
+const SHOWN: usize = 21;
+
+// A character as it stands between quotes.
+fn push_escaped(out: &mut String, c: char) -> Result<(), AllocError>
+    ensures { OnOk result (string_bytes out.new ≡ string_bytes out.old ++ escaped c) }
+{
+    match c {
+        '"' => out.push_str("\\\""),
+        '\\' => out.push_str("\\\\"),
+        '\n' => out.push_str("\\n"),
+        '\r' => out.push_str("\\r"),
+        '\t' => out.push_str("\\t"),
+        '\0' => out.push_str("\\0"),
+        '\u{1}'..='\u{1f}' | '\u{7f}' => write!(out, "\\u{{{:x}}}", c as u32),
+        _ => out.push(c),
+    }
+}
+
+// The shortest front of whole characters that has at least so many bytes, or all of them.
+fn push_front(out: &mut String, text: &str, bytes: usize) -> Result<(), AllocError>
+    ensures { OnOk result (string_bytes out.new ≡ string_bytes out.old ++ flat_map escaped (shortest_front bytes (chars text.now))) }
+{
+    let mut missing = bytes;
+    for c in text.chars() {
+        if missing == 0 {
+            break;
+        }
+        push_escaped(out, c)?;
+        missing = missing.saturating_sub(c.len_utf8());
+    }
+    Ok(())
+}
+
+// What is shown of a token's text.
+fn push_shown(out: &mut String, text: &str) -> Result<(), AllocError>
+    ensures { OnOk result (string_bytes out.new ≡ string_bytes out.old ++ shown text.now) }
+{
+    let len = text.len();
+    if len < WHOLE_BELOW {
+        push_front(out, text, len)
+    } else {
+        push_front(out, text, SHOWN)?;
+        out.push_str(" ...")
+    }
+}
+
+// What stands behind the range of a row: a token's text.
+fn push_text(out: &mut String, table: &Table, row: usize) -> Result<(), AllocError>
+    requires { IsRow table.now row }
+    ensures { OnOk result (string_bytes out.new ≡ string_bytes out.old ++ shown_text (tree_at table.now row)) }
+{
+    if !table.row(row).is_token {
+        return Ok(());
+    }
+    out.push_str(" \"")?;
+    push_shown(out, table.text_at(row))?;
+    out.push_str("\"")?;
+    Ok(())
+}
+
+fn push_indent(out: &mut String, level: usize) -> Result<(), AllocError>
+    ensures { OnOk result (string_bytes out.new ≡ string_bytes out.old ++ replicate (2 * level) 32) }
+{
+    for _i in 0..level {
+        out.push_str("  ")?;
+    }
+    Ok(())
+}
+
+// The line of a row, so many levels below the one that is dumped.
+fn push_line(out: &mut String, level: usize, table: &Table, row: usize) -> Result<(), AllocError>
+    requires { IsRow table.now row }
+    ensures { OnOk result (string_bytes out.new ≡ string_bytes out.old ++ dump_line level (cursor_at table.now row)) }
+{
+    push_indent(out, level)?;
+    let kind = table.kind_at(row);
+    let range = table.range_at(row);
+    write!(out, "{kind}@{range}")?;
+    push_text(out, table, row)?;
+    out.push_str("\n")?;
+    Ok(())
+}
+
+// The lines of the subtree at a row.
+pub(crate) fn dump(alloc: Global, table: &Table, start: usize) -> Result<String, AllocError>
+    requires { IsRow table.now start }
+    ensures { IfOk result (λ s. string_bytes s ≡ dump_of (cursor_at table.now start)) }
+{
+    let _count = table.len();
+    let mut out = String::new(alloc);
+    let mut level: usize = 0;
+    let mut next = start;
+    let mut innermost = None;
+    while let Some(step) = walk_step(table, start, next, innermost) {
+        next = step.next;
+        innermost = step.innermost;
+        if step.enters {
+            push_line(&mut out, level, table, step.row)?;
+            level += 1;
+        } else {
+            level -= 1;
+        }
+    }
+    Ok(out)
+}

@@ -1,0 +1,5 @@
+pub mod Cuts
+pub mod EscapeLemmas
+pub mod LineLemmas
+pub mod ReadLemmas
+pub mod OutputLemmas
