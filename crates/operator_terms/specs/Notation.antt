@@ -12,9 +12,6 @@ b = Name (codes "b")
 abbrev pub c : Term
 c = Name (codes "c")
 
-abbrev pub d : Term
-d = Name (codes "d")
-
 abbrev pub f : Term
 f = Name (codes "f")
 
