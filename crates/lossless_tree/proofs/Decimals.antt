@@ -34,12 +34,14 @@ zero_alone [] h e = absurd (cc)
 zero_alone (b ∷ []) h e = refl
 zero_alone (b ∷ c ∷ bs) h e = absurd (eqb-false b 48 (not-true _ (and_parts _ _ h).1) e)
 
-pub reads : {E : Type 0} (bs : List ℕ) (r : Result ℕ E) → ParsesUnsigned 16 10 bs r → has_plain_start bs ≡ true → (n : ℕ) → n < 65536 → (result_ok r ≡ Some n) ↔ (decimal n ≡ bs)
+pub reads : {E : Type 0} (bs : List ℕ) (r : Result ℕ E) → ParsesUnsigned 16 10 bs r → has_plain_start bs ≡ true → (n : ℕ)
+    → n < 65536 → (result_ok r ≡ Some n) ↔ (decimal n ≡ bs)
 reads bs (Err e) p plain n small =
     (λ (q : None ≡ Some n). (cc), λ q. let parsed = parse-decimal 16 n bs (Err e) small (omega arith) (sym q) p in absurd (cc))
 reads {E} bs (Ok x) p plain n small =
     let digits = parse_plain numerals {E = E} 16 bs (Ok x) p (no_plus bs plain) in
-    let back : decimal (digits_value 10 bs) ≡ bs = decimal-digits_value numerals bs digits.0.0 digits.0.1 (zero_alone bs plain) (omega (arith, digits.0.2)) in
+    let back : decimal (digits_value 10 bs) ≡ bs = decimal-digits_value numerals bs digits.0.0 digits.0.1
+    (zero_alone bs plain) (omega (arith, digits.0.2)) in
     let printed : decimal x ≡ bs = ap decimal digits.1 ∙ back in (
       λ (q : Some x ≡ Some n). let same : x ≡ n = cc in ap decimal (sym same) ∙ printed,
       λ q. ap Some (decimal_injective x n (omega (arith, digits.0.2, digits.1)) (omega arith) (printed ∙ sym q)),

@@ -118,7 +118,8 @@ module _ (E : Bx) {M : Type 1} {𝓤 : Ura M} (𝓛 : Logic 𝓤) (ν : Sym) (b 
   rejoins : ent 𝓤 Joins (sem 𝓛 (rejoined E b o))
   rejoins =
       qed 𝓛 (raw Joins ∷ []) ∵
-      assume ! (‵ (froom (ty_int w64) b (o + 0)) ⊛ ‵ (froom (bare (α E.al)) b (o + allocator_at E)) ⊛ ‵ (froom (bare (τ E)) b (o + value_at E))) $
+      assume ! (‵ (froom (ty_int w64) b (o + 0)) ⊛ ‵ (froom (bare (α E.al)) b (o + allocator_at E)) ⊛
+      ‵ (froom (bare (τ E)) b (o + value_at E))) $
       split3 ! $ move ! (1 ∷ []) $ as_written ! (α E.al) b (o + allocator_at E) $
       move ! (2 ∷ []) $ as_written ! (τ E) b (o + value_at E) $ nothing ! $
       move ! (3 ∷ 2 ∷ 1 ∷ 0 ∷ []) $ group ! 4 $
@@ -139,7 +140,8 @@ module _ (E : Bx) {M : Type 1} {𝓤 : Ura M} (𝓛 : Logic 𝓤) (ν : Sym) (b 
       (sep 𝓤 (sem 𝓛 (counter E (block_ptr b o) x 1)) (sem 𝓛 (contents E (block_ptr b o) x)))
   block_filled h x hv v =
       let vs : Vals = vcons (vint w64 1) (vcons hv (vcons v vnil)) in
-      qed 𝓛 (‵ (fat full_share Block b o (block_val E hv v)) ∷ ‵ (right_to_free E h b o) ∷ ‵ (E.al.row.own_val h (hv ∷ [])) ∷ ‵ (own E x (v ∷ [])) ∷ []) ∵
+      qed 𝓛 (‵ (fat full_share Block b o (block_val E hv v)) ∷ ‵ (right_to_free E h b o) ∷
+      ‵ (E.al.row.own_val h (hv ∷ [])) ∷ ‵ (own E x (v ∷ [])) ∷ []) ∵
       use1 𝓛 ((‵ (cell b o 1) ⊛ ‵ (allocator_cell E b o hv) ⊛ ‵ (value_cell E b o v) ⊛ ‵ ftrue) ⊛ raw Joins) (cells_apart vs) $
       split ! $ split3 ! $ flt_i ! 1 (2 ^ 64) (lit< tt) $ fjoin ! $ frame ! $
       -- [the allocator's cell; the value's, and nothing; the way back; the right; what the allocator owns; what the value owns]
@@ -190,5 +192,7 @@ module _ (E : Bx) (c : Ptr) (x : X E) {M : Type 1} {𝓤 : Ura M} {𝓛 : Logic 
       as_raw w (τ E) b (o + value_at E) $
       move w (2 ∷ 1 ∷ 0 ∷ []) $ group w 3 $
       use2 𝓛 (‵ (froom (block_ty E) b o))
-      (apply∗ 𝓤 (sep 𝓤 (H.room (ty_int w64) b (o + 0)) (sep 𝓤 (H.room (bare (α E.al)) b (o + allocator_at E)) (H.room (bare (τ E)) b (o + value_at E)))) (H.room (block_ty E) b o)) $
+      (apply∗ 𝓤 (sep 𝓤 (H.room (ty_int w64) b (o + 0))
+      (sep 𝓤 (H.room (bare (α E.al)) b (o + allocator_at E)) (H.room (bare (τ E)) b (o + value_at E))))
+      (H.room (block_ty E) b o)) $
       next)

@@ -73,7 +73,8 @@ module _ (E : Bx) (c : Ptr) (x : X E) {M : Type 1} {𝓤 : Ura M} {𝓛 : Logic 
         → ((y : Bool) (n b o : ℕ) → c ≡ block_ptr b o → n < 2 ^ 64 → 0 < n → Seq K 𝓛 (Counting E c x 𝓛 a m s y n b o Γ) G)
         → Seq K 𝓛 (‵ (guarded_by E c x a) ∷ ‵ (part_of a s) ∷ ‵ (ftok m) ∷ Γ) G
     count_opened w z m has s k =
-        use3 𝓛 (later (some (λ (u : Bool × ℕ). ‵ (counter E c x u.1) ⊛ ‵ (vault_by E c x a u.0 u.1) ⊛ ‵ (part_of a s) ⊛ Shutting E c x 𝓛 a m)))
+        use3 𝓛 (later (some (λ (u : Bool × ℕ). ‵ (counter E c x u.1) ⊛ ‵ (vault_by E c x a u.0 u.1) ⊛ ‵ (part_of a s) ⊛
+        Shutting E c x 𝓛 a m)))
         (opens (counter E c x) (contents E c x) 𝓛 a m has s) $
         await w z $ pick w (λ u. split3 w $ move w (2 ∷ []) $ split w $
         -- [the part; what shuts; the count; the vault]

@@ -1,4 +1,3 @@
-pub mod KindLaws
 pub mod Kinds
 pub mod KindText
 pub mod SharedOwnership

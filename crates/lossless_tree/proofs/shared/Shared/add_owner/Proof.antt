@@ -104,7 +104,8 @@ module _ (E : Bx) {M : Type 1} {𝓤 : Ura M} (𝓛 : Logic 𝓤) (at_mem : Memo
     abbrev result : (Row E).Denot
     result = record { ptr = c; value = x }
 
-    exits : ent 𝓤 (⋆ 𝓛 (‵ (fsep ((Word E (ν E)).own_val (c, tt) (word c ∷ [])) (Owned E c x)) ∷ ‵ (flft κ q) ∷ others ∷ ‵ (ftok every) ∷ [])) (Post (word c))
+    exits : ent 𝓤 (⋆ 𝓛 (‵ (fsep ((Word E (ν E)).own_val (c, tt) (word c ∷ [])) (Owned E c x)) ∷ ‵ (flft κ q) ∷ others ∷
+        ‵ (ftok every) ∷ [])) (Post (word c))
     exits =
         qed 𝓛 (‵ (fsep ((Word E (ν E)).own_val (c, tt) (word c ∷ [])) (Owned E c x)) ∷ ‵ (flft κ q) ∷ others ∷ ‵ (ftok every) ∷ []) ∵
         suffices ! _ (ends_at 𝓛 (ended E) (stayed E) held bound (word c) result (tt, tt) (tt, tt)) $
@@ -113,7 +114,8 @@ module _ (E : Bx) {M : Type 1} {𝓤 : Ura M} (𝓛 : Logic 𝓤) (at_mem : Memo
 
     walks : ent 𝓤 ((walk_of 𝓛 (ended E) (stayed E) held).pre bound) (WpFn 𝓤 H C Λ (fn' E) us Post)
     walks =
-        qed 𝓛 (((‵ (flft κ q) ⊛ others) ⊛ ‵ (owns (types_at (ended E).signature.params z.0.0) z.0.3 (us, tt))) ∷ (‵ (ftok every) ⊛ asked) ∷ []) ∵
+        qed 𝓛 (((‵ (flft κ q) ⊛ others) ⊛ ‵ (owns (types_at (ended E).signature.params z.0.0) z.0.3 (us, tt))) ∷
+        (‵ (ftok every) ⊛ asked) ∷ []) ∵
         split ! $ split ! $ move ! (3 ∷ []) $ split ! $ move ! (4 ∷ []) $ fsplit ! $ fsplit ! $
         keep ! (1 ∷ 5 ∷ 3 ∷ 6 ∷ []) $
         use1 𝓛 (‵ (hidden_shr (Word E (ν E)) κ (c, tt) b o) ⊛ ‵ (fhide (Lent E c x κ))) (id⊢ 𝓤 _) $ split ! $
@@ -123,7 +125,8 @@ module _ (E : Bx) {M : Type 1} {𝓤 : Ura M} (𝓛 : Logic 𝓤) (at_mem : Memo
         count_opened E c x a ! tt every refl s (λ y n cb co e fits some_n.
         -- [the count; the vault; what shuts; the part; the word; the way back; the invariant; what is shown; the other tokens]
         -- `let ptr = self.ptr.cast_mut();`
-        sets ! (is ! (of_opd ! (load ! (through ! refl (fld ! refl (stop !))) (look_in ! 4 (sub ! 0 refl (whole !))))) (ap ptr_val e)) refl (tt, tt) $
+        sets ! (is ! (of_opd ! (load ! (through ! refl (fld ! refl (stop !))) (look_in ! 4 (sub ! 0 refl (whole !)))))
+        (ap ptr_val e)) refl (tt, tt) $
         sets ! (of_opd ! (get ! refl)) refl (tt, tt) $ first ! $ blocks ! $
         -- `let count = (*ptr).count;  if count != usize::MAX`
         sets ! (of_opd ! (load ! (through ! refl (fld ! refl (stop !))) (look ! 0 refl))) refl (tt, record { fits = fits }) $
@@ -157,6 +160,8 @@ unfolding code
 add_owner_spec 𝓤 𝓛 𝓜 𝓡 wired Y Z L LZ g d dd met md =
     let E : Bx = record { row = Y; laws = L; al = record { row = Z; laws = LZ; g = g; d = d; drops = dd } } in
     let c = F.clauses Y Z g d dd 𝓛 𝓜.mem 𝓡.returns in let 𝓣 = tables_with_turn 𝓛 (ended E) c (stayed E) 𝓜 𝓡 in let k = #self (args E) in
-    meets_in_turn 𝓛 (ended E) c (stayed E) 𝓜 𝓡 k (fn' E) (wired.0.0 k refl) (Goes-dropped 𝓛 3 (RefOf (0 ∷ []) tt (plain (λ _. Row E)) (λ _. tt)) yes (λ κs x f. refl), tt)
-    (walked 𝓛 (ended E) (stayed E) (with_turn 𝓛 (ended E) c) (WpFn 𝓤 𝓛.H 𝓣.C 𝓣.Λ (fn' E)) (λ κs. (shr_vals, tt)) (λ κs. (shr_Tells (named 0) κs.0 (Row E), tt))
+    meets_in_turn 𝓛 (ended E) c (stayed E) 𝓜 𝓡 k (fn' E) (wired.0.0 k refl)
+    (Goes-dropped 𝓛 3 (RefOf (0 ∷ []) tt (plain (λ _. Row E)) (λ _. tt)) yes (λ κs x f. refl), tt)
+    (walked 𝓛 (ended E) (stayed E) (with_turn 𝓛 (ended E) c) (WpFn 𝓤 𝓛.H 𝓣.C 𝓣.Λ (fn' E)) (λ κs. (shr_vals, tt))
+    (λ κs. (shr_Tells (named 0) κs.0 (Row E), tt))
     (λ κs qs bounds a g are. walks E 𝓛 𝓜.mem 𝓡.returns 𝓣.C 𝓣.Λ ((κs, qs, bounds, a, (shr_vals a.0, tt)), g)))

@@ -128,11 +128,14 @@ module _ (E : Bx) {M : Type 1} {𝓤 : Ura M} (𝓛 : Logic 𝓤) (at_mem : Memo
         group ! 4 $
         use1 𝓛 (‵ (counter E c x 1) ⊛ ‵ (contents E c x)) (block_filled E 𝓛 (BL.the_type (R E) (P E)).name b o h x hv v) $
         split ! $ group ! 3 $
-        use1 𝓛 (later (‵ (Owned E c x) ⊛ ‵ (flft κ q))) (first_owner_made (counter E c x) (contents E c x) (tag E c x) (view E c x) 𝓛 κ (contents_lend E c x 𝓛 κ lt) κ q (Incl-refl κ)) $
+        use1 𝓛 (later (‵ (Owned E c x) ⊛ ‵ (flft κ q)))
+        (first_owner_made (counter E c x) (contents E c x) (tag E c x) (view E c x) 𝓛 κ (contents_lend E c x 𝓛 κ lt) κ q
+        (Incl-refl κ)) $
         await ! tt $ split ! $
         word_made E (ν E) c ! $ fjoin ! $
         returns ! (look_at ! 0 refl) $ free_all ! refl $ move ! (1 ∷ 2 ∷ []) $ join ! $ keep ! (1 ∷ 0 ∷ []) $
-        suffices ! _ (ends_at 𝓛 (ended E) (stayed E) held z (word c) (record { ptr = c; value = x }) ((tt, (tt, tt)), (tt, tt)) (tt, (tt, tt))) $
+        suffices ! _ (ends_at 𝓛 (ended E) (stayed E) held z (word c) (record { ptr = c; value = x })
+        ((tt, (tt, tt)), (tt, tt)) (tt, (tt, tt))) $
         says ! refl $ nothing ! $ nothing ! $ fjoin ! $ nothing ! $ fjoin ! $ join ! $ move ! (1 ∷ 0 ∷ []) $
         join ! $ done !)
 
@@ -145,7 +148,8 @@ module _ (E : Bx) {M : Type 1} {𝓤 : Ura M} (𝓛 : Logic 𝓤) (at_mem : Memo
         move ! (1 ∷ []) $
         Vacant-had E.al (Block E) ! z.0.3.0 us (λ b o hv e eu fa. keep ! (0 ∷ 1 ∷ 2 ∷ 3 ∷ 5 ∷ 6 ∷ []) $
         by ! (subst (λ (ws : List Val). ent 𝓤 (⋆ 𝓛 (Had b o hv v)) (WpFn 𝓤 H C Λ (fn' E) (ws ++ (vs ++ [])) Post)) (sym eu)
-        (subst (λ (ws : List Val). ent 𝓤 (⋆ 𝓛 (Had b o hv v)) (WpFn 𝓤 H C Λ (fn' E) (vacant_val hv b o ∷ (ws ++ [])) Post)) (sym ev) (walk b o hv v lt fa good))))))
+        (subst (λ (ws : List Val). ent 𝓤 (⋆ 𝓛 (Had b o hv v))
+        (WpFn 𝓤 H C Λ (fn' E) (vacant_val hv b o ∷ (ws ++ [])) Post)) (sym ev) (walk b o hv v lt fa good))))))
 
 pub first_owner_spec : {M : Type 1} → stated.statement M
 first_owner_spec 𝓤 𝓛 𝓜 𝓡 wired Y Z L LZ g d dd met md =

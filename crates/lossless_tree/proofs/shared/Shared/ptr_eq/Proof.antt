@@ -71,7 +71,8 @@ module _ {M : Type 1} {𝓤 : Ura M} (𝓛 : Logic 𝓤) (𝓜 : Model 𝓤 𝓛
   cell_once : (b o n m : ℕ) → ent 𝓤 (sep 𝓤 (sem 𝓛 (cell b o n)) (sem 𝓛 (cell b o m))) (never 𝓤)
   cell_once b o n m =
       via 𝓤 _ (mono_l 𝓤 (sem 𝓛 (cell b o m)) (𝓛.laws.at_room (ty_int w64) b (o + 0) (vint w64 n)))
-      (𝓜.room_at (ty_int w64) (ty_int w64) b (o + 0) (o + 0) (o + 0) full_share (vint w64 m) (omega arith, omega arith) (omega arith, omega arith))
+      (𝓜.room_at (ty_int w64) (ty_int w64) b (o + 0) (o + 0) (o + 0) full_share (vint w64 m) (omega arith, omega arith)
+      (omega arith, omega arith))
 
 module _ (E : Bx) where
   abbrev fn' : Fn
@@ -84,7 +85,10 @@ module _ (E : Bx) where
   Row = SH.the_row (R E) (P E) E.al.g
 
   abbrev stayed : Stays ended.signature.params ended.kept
-  stayed = (stay_dropped (RefOf (0 ∷ []) tt (plain (λ _. Row)) (λ _. tt)) exit.yes, (stay_dropped (RefOf (1 ∷ []) tt (plain (λ _. Row)) (λ _. tt)) exit.yes, tt))
+  stayed = (
+    stay_dropped (RefOf (0 ∷ []) tt (plain (λ _. Row)) (λ _. tt)) exit.yes,
+    (stay_dropped (RefOf (1 ∷ []) tt (plain (λ _. Row)) (λ _. tt)) exit.yes, tt),
+  )
 
   abbrev ν : Sym
   ν = (SH.the_type (R E) (P E) E.al.g).name
@@ -170,7 +174,8 @@ module _ (E : Bx) {M : Type 1} {𝓤 : Ura M} (𝓛 : Logic 𝓤) (𝓜 : Model 
 
     walks : ent 𝓤 ((walk_of 𝓛 (ended E) (stayed E) held).pre bound) (WpFn 𝓤 H C Λ (fn' E) (us ++ vs) Post)
     walks =
-        qed 𝓛 (((‵ (flft κ q) ⊛ ‵ (flft μ r) ⊛ others) ⊛ ‵ (owns (types_at (ended E).signature.params z.0.0) z.0.3 (us, (vs, tt)))) ∷ (‵ (ftok every) ⊛ asked) ∷ []) ∵
+        qed 𝓛 (((‵ (flft κ q) ⊛ ‵ (flft μ r) ⊛ others) ⊛
+        ‵ (owns (types_at (ended E).signature.params z.0.0) z.0.3 (us, (vs, tt)))) ∷ (‵ (ftok every) ⊛ asked) ∷ []) ∵
         split ! $ split3 ! $ move ! (3 ∷ []) $ fsplit ! $ fsplit ! $ move ! (2 ∷ []) $ fsplit ! $ fsplit ! $
         move ! (8 ∷ []) $ split ! $ keep ! (6 ∷ 7 ∷ 3 ∷ 8 ∷ 9 ∷ 0 ∷ []) $
         use1 𝓛 (‵ (hidden_shr (Word E (ν E)) κ (c, tt) b o) ⊛ ‵ (fhide (Lent E c x κ))) (id⊢ 𝓤 _) $ split ! $
@@ -195,12 +200,15 @@ module _ (E : Bx) {M : Type 1} {𝓤 : Ura M} (𝓛 : Logic 𝓤) (𝓜 : Model 
         move ! (6 ∷ 5 ∷ 11 ∷ []) $
         count_opened E c x a ! tt every refl s (λ y n cb co e fits some_n.
         let fits₁ : n - 1 < 2 ^ 64 = omega arith in
-        -- [the count; the vault; what shuts; the first's part; the second's part; invariant; word; way back; invariant; the first's word; way back; invariant; the other tokens]
+        -- [the count; the vault; what shuts; the first's part; the second's part; invariant; word; way back; invariant;
+        -- the first's word; way back; invariant; the other tokens]
         -- `let here = this.ptr.cast_mut();`
-        sets ! (is ! (of_opd ! (load ! (through ! refl (fld ! refl (stop !))) (look_in ! 9 (sub ! 0 refl (whole !))))) (ap ptr_val e)) refl (tt, tt) $
+        sets ! (is ! (of_opd ! (load ! (through ! refl (fld ! refl (stop !))) (look_in ! 9 (sub ! 0 refl (whole !)))))
+        (ap ptr_val e)) refl (tt, tt) $
         sets ! (of_opd ! (get ! refl)) refl (tt, tt) $
         -- `let there = other.ptr.cast_mut();`
-        sets ! (is ! (of_opd ! (load ! (through ! refl (fld ! refl (stop !))) (look_in ! 6 (sub ! 0 refl (whole !))))) (ap ptr_val (sym place ∙ e))) refl (tt, tt) $
+        sets ! (is ! (of_opd ! (load ! (through ! refl (fld ! refl (stop !))) (look_in ! 6 (sub ! 0 refl (whole !)))))
+        (ap ptr_val (sym place ∙ e))) refl (tt, tt) $
         sets ! (of_opd ! (get ! refl)) refl (tt, tt) $ first ! $ blocks ! $
         -- `let count = (*here).count;  let before = (*there).count;`
         sets ! (of_opd ! (load ! (through ! refl (fld ! refl (stop !))) (look ! 0 refl))) refl (tt, record { fits = fits }) $
@@ -227,17 +235,21 @@ module _ (E : Bx) {M : Type 1} {𝓤 : Ura M} (𝓛 : Logic 𝓤) (𝓜 : Model 
         move ! (2 ∷ []) $ use1 𝓛 (raw (Way E 𝓛 c x a) ⊛ ‵ (ftok (less every (key a)))) (id⊢ 𝓤 _) $ split ! $
         move ! (6 ∷ 5 ∷ 1 ∷ []) $
         count_opened E d w a₂ ! tt (less every (key a)) has s₂ (λ y₂ m db dp e₂ fm some_m.
-        -- [the second's count; the vault; what shuts; the part; what shuts the first's; its count; the vault; the part; the second's word; way back; invariant; what is shown; the first's word; way back; invariant; what is shown; the other tokens]
+        -- [the second's count; the vault; what shuts; the part; what shuts the first's; its count; the vault; the part;
+        -- the second's word; way back; invariant; what is shown; the first's word; way back; invariant; what is shown;
+        -- the other tokens]
         by_keys (Key-Dec (cb, co) (db, dp)) !
         (λ one_place. move ! (5 ∷ 0 ∷ []) $ rewrite ! 0 (λ (k : Key). ‵ (cell k.0 k.1 n)) one_place refl $
         use2 𝓛 (given ⊥ (raw (emp 𝓤))) (via 𝓤 (never 𝓤) (cell_once 𝓛 𝓜 db dp n m) (never_e 𝓤 (guard 𝓤 ⊥ (emp 𝓤)))) $
         learn ! (λ no. absurd no))
         (λ two_places.
         -- `let here = this.ptr.cast_mut();`
-        sets ! (is ! (of_opd ! (load ! (through ! refl (fld ! refl (stop !))) (look_in ! 12 (sub ! 0 refl (whole !))))) (ap ptr_val e)) refl (tt, tt) $
+        sets ! (is ! (of_opd ! (load ! (through ! refl (fld ! refl (stop !))) (look_in ! 12 (sub ! 0 refl (whole !)))))
+        (ap ptr_val e)) refl (tt, tt) $
         sets ! (of_opd ! (get ! refl)) refl (tt, tt) $
         -- `let there = other.ptr.cast_mut();`
-        sets ! (is ! (of_opd ! (load ! (through ! refl (fld ! refl (stop !))) (look_in ! 8 (sub ! 0 refl (whole !))))) (ap ptr_val e₂)) refl (tt, tt) $
+        sets ! (is ! (of_opd ! (load ! (through ! refl (fld ! refl (stop !))) (look_in ! 8 (sub ! 0 refl (whole !)))))
+        (ap ptr_val e₂)) refl (tt, tt) $
         sets ! (of_opd ! (get ! refl)) refl (tt, tt) $ first ! $ blocks ! $
         -- `let count = (*here).count;  let before = (*there).count;`
         sets ! (of_opd ! (load ! (through ! refl (fld ! refl (stop !))) (look ! 5 refl))) refl (tt, record { fits = fits }) $
@@ -257,14 +269,22 @@ module _ (E : Bx) {M : Type 1} {𝓤 : Ura M} (𝓛 : Logic 𝓤) (𝓜 : Model 
         borrow_shut E d w (ν E) μ r b₂ o₂ ! tt a₂ s₂ q₂ $
         returns ! (look_at ! 0 refl) $ free_all ! refl $ keep ! (1 ∷ 0 ∷ 7 ∷ 2 ∷ []) $
         let no : not (eqb m m) ≡ true → ⊥ = not_so (eqb m m) (eqb_refl m) in
-        by ! (exits (not (eqb m m)) ((λ t. absurd (no t)), (λ p. absurd (two_places (ap (λ (u : Ptr). (block_of u, count_of u)) (sym e ∙ p ∙ e₂))))) (λ t. absurd (no t))))))))))
+        by ! (exits (not (eqb m m)) (
+          (λ t. absurd (no t)),
+          (λ p. absurd (two_places (ap (λ (u : Ptr). (block_of u, count_of u)) (sym e ∙ p ∙ e₂)))),
+        )
+        (λ t. absurd (no t))))))))))
 
 pub ptr_eq_spec : {M : Type 1} → stated.statement M
 unfolding code
 ptr_eq_spec 𝓤 𝓛 𝓜 𝓡 wired Y Z L LZ g d dd met md =
     let E : Bx = record { row = Y; laws = L; al = record { row = Z; laws = LZ; g = g; d = d; drops = dd } } in
     let c = F.clauses Y Z g d dd 𝓛 𝓜.mem 𝓡.returns in let 𝓣 = tables_with_turn 𝓛 (ended E) c (stayed E) 𝓜 𝓡 in let k = #self (args E) in
-    meets_in_turn 𝓛 (ended E) c (stayed E) 𝓜 𝓡 k (fn' E) (wired.0.0 k refl)
-    (Goes-dropped 𝓛 4 (RefOf (0 ∷ []) tt (plain (λ _. Row E)) (λ _. tt)) exit.yes (λ κs x f. refl), (Goes-dropped 𝓛 4 (RefOf (1 ∷ []) tt (plain (λ _. Row E)) (λ _. tt)) exit.yes (λ κs x f. refl), tt))
-    (walked 𝓛 (ended E) (stayed E) (with_turn 𝓛 (ended E) c) (WpFn 𝓤 𝓛.H 𝓣.C 𝓣.Λ (fn' E)) (λ κs. (shr_vals, (shr_vals, tt))) (λ κs. (shr_Tells (named 0) κs.0 (Row E), (shr_Tells (named 1) κs.1.0 (Row E), tt)))
+    meets_in_turn 𝓛 (ended E) c (stayed E) 𝓜 𝓡 k (fn' E) (wired.0.0 k refl) (
+      Goes-dropped 𝓛 4 (RefOf (0 ∷ []) tt (plain (λ _. Row E)) (λ _. tt)) exit.yes (λ κs x f. refl),
+      (Goes-dropped 𝓛 4 (RefOf (1 ∷ []) tt (plain (λ _. Row E)) (λ _. tt)) exit.yes (λ κs x f. refl), tt),
+    )
+    (walked 𝓛 (ended E) (stayed E) (with_turn 𝓛 (ended E) c) (WpFn 𝓤 𝓛.H 𝓣.C 𝓣.Λ (fn' E))
+    (λ κs. (shr_vals, (shr_vals, tt)))
+    (λ κs. (shr_Tells (named 0) κs.0 (Row E), (shr_Tells (named 1) κs.1.0 (Row E), tt)))
     (λ κs qs bounds a g are. walks E 𝓛 𝓜 𝓜.mem 𝓡.returns 𝓣.C 𝓣.Λ ((κs, qs, bounds, a, (shr_vals a.0, (shr_vals a.1.0, tt))), g)))

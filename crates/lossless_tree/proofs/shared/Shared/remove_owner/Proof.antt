@@ -107,7 +107,8 @@ module _ (E : Bx) {M : Type 1} {𝓤 : Ura M} (𝓛 : Logic 𝓤) (at_mem : Memo
     Had = ‵ (Owned E c x) ∷ toks ∷ ‵ (ftok every) ∷ []
 
     -- the end of a walk that hands nothing out
-    exits_with_none : ent 𝓤 (⋆ 𝓛 (‵ ((Opt.the_row (Pair E)).own_val None (live 0 vnil ∷ [])) ∷ toks ∷ ‵ (ftok every) ∷ [])) (Post (live 0 vnil))
+    exits_with_none : ent 𝓤 (⋆ 𝓛 (‵ ((Opt.the_row (Pair E)).own_val None (live 0 vnil ∷ [])) ∷ toks ∷ ‵ (ftok every) ∷
+        [])) (Post (live 0 vnil))
     exits_with_none =
         qed 𝓛 (‵ ((Opt.the_row (Pair E)).own_val None (live 0 vnil ∷ [])) ∷ toks ∷ ‵ (ftok every) ∷ []) ∵
         suffices ! _ (ends_at 𝓛 (ended E) (stayed E) held z (live 0 vnil) None (tt, tt) (tt, tt)) $
@@ -118,7 +119,8 @@ module _ (E : Bx) {M : Type 1} {𝓤 : Ura M} (𝓛 : Logic 𝓤) (at_mem : Memo
         qed 𝓛 Had ∵ enter ! C Λ (fn' E) (word c ∷ []) _ $
         alloc_all ! (λ l. pass_all ! refl (word-Good (ν E) c, tt) $
         let En : Env 𝓤 H = env (fn' E).locals l in
-        let Within : Posts 𝓤 H = any_q (after_block 𝓤 H (after_seq 𝓤 H (Wp 𝓤 H C Λ En (after 3 (fn' E).body) (at_return 𝓤 H En Post)) (at_return 𝓤 H En Post))) in
+        let Within : Posts 𝓤 H = any_q (after_block 𝓤 H
+        (after_seq 𝓤 H (Wp 𝓤 H C Λ En (after 3 (fn' E).body) (at_return 𝓤 H En Post)) (at_return 𝓤 H En Post))) in
         owner_split E c x ! (λ a. fpick ! (λ s. fsplit ! $ move ! (2 ∷ 0 ∷ 5 ∷ []) $
         count_opened E c x a ! tt every refl s (λ y n cb co e fits some_n.
         move ! (3 ∷ 4 ∷ []) $ use2 𝓛 (‵ (ticket a)) (ticket_in 𝓛 a s) $ move ! (1 ∷ 2 ∷ 3 ∷ 0 ∷ []) $
@@ -156,7 +158,8 @@ module _ (E : Bx) {M : Type 1} {𝓤 : Ura M} (𝓛 : Logic 𝓤) (at_mem : Memo
         skips ! $ exec ! C Λ En (after 5 (inside (head (after 2 (fn' E).body)))) Within $
         move ! (1 ∷ 3 ∷ 2 ∷ []) $ last_one E c x a ! tt every refl y n (is_so n 1 last) $
         contents_split E c x ! cb co e (λ v h hv good fa.
-        -- [the value's cell; the allocator's; what each owns; the right to free; the way back; the thread's token; the count; what is shown; the tokens]
+        -- [the value's cell; the allocator's; what each owns; the right to free; the way back; the thread's token; the
+        -- count; what is shown; the tokens]
         let freed : (Room E).Denot = record { ptr = block_ptr cb co; alloc = h } in
         let room_val : Val = vacant_val hv cb co in
         let room_typed = vacant_typed E.al (Block E) hv cb co fa in
@@ -196,4 +199,5 @@ unfolding code
 remove_owner_spec 𝓤 𝓛 𝓜 𝓡 wired Y Z L LZ g d dd met md =
     let E : Bx = record { row = Y; laws = L; al = record { row = Z; laws = LZ; g = g; d = d; drops = dd } } in
     let c = F.clauses Y Z g d dd 𝓛 𝓜.mem 𝓡.returns in let 𝓣 = tables_with_turn 𝓛 (ended E) c (stayed E) 𝓜 𝓡 in let k = #self (args E) in
-    meets_in_turn 𝓛 (ended E) c (stayed E) 𝓜 𝓡 k (fn' E) (wired.0.0 k refl) (Goes-dropped 𝓛 2 (plain (λ _. Row E)) no (λ κs x f. refl), tt) (λ z. walks E 𝓛 𝓜.mem 𝓡.returns 𝓣.C 𝓣.Λ z)
+    meets_in_turn 𝓛 (ended E) c (stayed E) 𝓜 𝓡 k (fn' E) (wired.0.0 k refl)
+    (Goes-dropped 𝓛 2 (plain (λ _. Row E)) no (λ κs x f. refl), tt) (λ z. walks E 𝓛 𝓜.mem 𝓡.returns 𝓣.C 𝓣.Λ z)

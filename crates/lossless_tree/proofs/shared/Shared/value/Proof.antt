@@ -104,8 +104,10 @@ module _ (E : Bx) {M : Type 1} {𝓤 : Ura M} (𝓛 : Logic 𝓤) (at_mem : Memo
         split ! $ split ! $ move ! (2 ∷ []) $ fsplit ! $ fsplit ! $ keep ! (1 ∷ 3 ∷ 4 ∷ []) $
         use1 𝓛 (‵ (hidden_shr (Word E (ν E)) κ (c, tt) b o) ⊛ ‵ (fhide (Lent E c x κ))) (id⊢ 𝓤 _) $ split ! $
         move ! (1 ∷ []) $ unhide ! $
-        use1 𝓛 (‵ (view E c x κ)) (sees (counter E c x) (contents E c x) (tag E c x) (view E c x) 𝓛 (lent_at_shr_laws (R E) E.laws.shr_laws (c +ₚ value_at E) x) κ) $
-        in_a_block ! c (λ r. lent_at (R E) (r +ₚ value_at E) x κ) (fst∗ 𝓤 (never 𝓤) (sem 𝓛 (shared_of (R E) x 0 0 κ))) (λ cb co e. fsplit ! $
+        use1 𝓛 (‵ (view E c x κ)) (sees (counter E c x) (contents E c x) (tag E c x) (view E c x) 𝓛
+        (lent_at_shr_laws (R E) E.laws.shr_laws (c +ₚ value_at E) x) κ) $
+        in_a_block ! c (λ r. lent_at (R E) (r +ₚ value_at E) x κ) (fst∗ 𝓤 (never 𝓤) (sem 𝓛 (shared_of (R E) x 0 0 κ)))
+        (λ cb co e. fsplit ! $
         drop ! $ hide ! $
         -- [what is shown; the word; κ's token; the other tokens]
         enter ! C Λ (fn' E) us _ $ alloc_all ! (λ l. pass_all ! refl ((tt, tt), tt) $
@@ -115,13 +117,15 @@ module _ (E : Bx) {M : Type 1} {𝓤 : Ura M} (𝓛 : Logic 𝓤) (at_mem : Memo
         reads E (ν E) c ! tt b o (λ q'. rewrite ! 0 (λ (r : Ptr). ‵ (fat q' (word_ty (ν E)) b o (word r))) e refl $
         -- `&(*self.ptr).value`
         first ! $ blocks ! $
-        sets_last ! (addr ! (through ! refl (fld ! refl (hop ! (look_in ! 0 (sub ! 0 refl (whole !))) (fld ! refl (stop !)))))) refl (tt, tt) $
+        sets_last ! (addr ! (through ! refl
+        (fld ! refl (hop ! (look_in ! 0 (sub ! 0 refl (whole !))) (fld ! refl (stop !)))))) refl (tt, tt) $
         exec ! C Λ En (after 1 (fn' E).body) (at_ret En Post) $ sets ! (of_opd ! (get ! refl)) refl (tt, tt) $
         rewrite ! 0 (λ (r : Ptr). ‵ (fat q' (word_ty (ν E)) b o (word r))) (sym e) refl $
         read E (ν E) c ! tt b o q' $
         move ! (1 ∷ []) $ feq_i ! (List Val) (at ∷ []) (at ∷ []) refl $ fjoin ! $ returns ! (look_at ! 0 refl) $
         free_all ! refl $ keep ! (0 ∷ 1 ∷ 2 ∷ []) $
-        suffices ! _ (ends_at 𝓛 (ended E) (stayed E) held bound at (record { ref_ptr = (cb, co + value_at E); now = x }) (tt, tt) (tt, tt)) $
+        suffices ! _ (ends_at 𝓛 (ended E) (stayed E) held bound at (record { ref_ptr = (cb, co + value_at E); now = x })
+        (tt, tt) (tt, tt)) $
         says ! refl $ nothing ! $ nothing ! $ fjoin ! $ join ! $ move ! (1 ∷ 2 ∷ []) $ join ! $ join ! $
         done !)))
 
@@ -129,6 +133,8 @@ pub value_spec : {M : Type 1} → stated.statement M
 value_spec 𝓤 𝓛 𝓜 𝓡 wired Y Z L LZ g d dd met md =
     let E : Bx = record { row = Y; laws = L; al = record { row = Z; laws = LZ; g = g; d = d; drops = dd } } in
     let 𝓣 = tables 𝓤 𝓛.H 𝓜 𝓡 𝓡.env in
-    proved 𝓛 (ended E) (stayed E) (F.clauses Y Z g d dd 𝓛 𝓜.mem 𝓡.returns) 𝓜 𝓡 (Goes-dropped 𝓛 3 (RefOf (0 ∷ []) tt (plain (λ _. Row E)) (λ _. tt)) yes (λ κs x f. refl), tt)
-    (#self (args E)) (fn' E) (code.unfolded 𝓤 𝓛.H 𝓜 𝓡 wired (Y, (Z, tt)) d dd) (λ κs. (shr_vals, tt)) (λ κs. (shr_Tells (named 0) κs.0 (Row E), tt))
+    proved 𝓛 (ended E) (stayed E) (F.clauses Y Z g d dd 𝓛 𝓜.mem 𝓡.returns) 𝓜 𝓡
+    (Goes-dropped 𝓛 3 (RefOf (0 ∷ []) tt (plain (λ _. Row E)) (λ _. tt)) yes (λ κs x f. refl), tt)
+    (#self (args E)) (fn' E) (code.unfolded 𝓤 𝓛.H 𝓜 𝓡 wired (Y, (Z, tt)) d dd) (λ κs. (shr_vals, tt))
+    (λ κs. (shr_Tells (named 0) κs.0 (Row E), tt))
     (λ κs qs bounds a g' are. walks E 𝓛 𝓜.mem 𝓡.returns 𝓣.C 𝓣.Λ ((κs, qs, bounds, a, (shr_vals a.0, tt)), g'))

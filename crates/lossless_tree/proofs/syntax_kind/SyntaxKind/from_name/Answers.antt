@@ -11,7 +11,8 @@ returns-in-Some-clause-exact c =
 
 pub returns-in_err-other_number-clause-exact : goal.returns-in_err-other_number-clause-exact
 returns-in_err-other_number-clause-exact c =
-    let none : (n : ℕ) → n < 65536 → ¬ (kind_name (OTHER n) ≡ c.args.name.now) = λ n small e. none_is_some n ((c.in_err-other_number.ensures n small).1 e) in
+    let none : (n : ℕ) → n < 65536 → ¬ (kind_name (OTHER n) ≡ c.args.name.now) = λ n small e. none_is_some n
+    ((c.in_err-other_number.ensures n small).1 e) in
     subst (λ r. Finds r c.args.name.now) (sym c.from_residual.ensures) (Finds-none c.args.name.now c.in_default.ensures none)
 
 pub returns-clause-exact : goal.returns-clause-exact

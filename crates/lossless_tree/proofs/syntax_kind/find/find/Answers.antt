@@ -7,7 +7,8 @@ use Rattle.lossless_tree.proofs.syntax_kind.find.find.Goals as goal
 pub returns-in_err-kind : goal.returns-in_err-kind
 returns-in_err-kind c =
     let none : (k : SyntaxKind) → ¬ (IsNamedAs k c.args.name.now) = λ k e. none_is_some k (named-candidate _ _ c.in_err-kind.ensures k e) in
-    subst (λ r. MatchOption r ((k : SyntaxKind) → ¬ (IsNamedAs k c.args.name.now)) (λ k. IsNamedAs k c.args.name.now)) (sym c.from_residual.ensures) none
+    subst (λ r. MatchOption r ((k : SyntaxKind) → ¬ (IsNamedAs k c.args.name.now)) (λ k. IsNamedAs k c.args.name.now))
+    (sym c.from_residual.ensures) none
 
 pub returns-else-is_named : goal.returns-else-is_named
 returns-else-is_named c = λ k e.

@@ -1,0 +1,23 @@
+-- The definitions, in the order in which to read them.
+
+-- terms, their tokens, and how tokens read
+pub mod Token
+pub mod Operators
+pub mod Term
+pub mod Reading
+-- places, what fits there, and pairs
+pub mod Places
+pub mod Pairs
+pub mod AllFit
+-- the tests
+pub mod Powers
+pub mod Precedence
+-- the theorem
+pub mod Headline
+-- what a token may be
+pub mod Sign
+-- worked terms
+pub mod Notation
+pub mod WorkedTerms
+pub mod WorkedPlaces
+pub mod WorkedPairs
