@@ -1,0 +1,153 @@
+-- The pieces of a content, each by one row of the table of escapes, and what each reports.
+use Rattle.std.specs.Prelude.{◌≡◌, ◌≢◌, ℕ, ◌+◌, ◌*◌, Bool, true, false, not, nat_le, nat_lt, ◌==◌, ◌&&◌, ◌||◌, if◌then◌else◌, Option, Some, None, Result, Ok, Err, List, [], ◌∷◌, ◌++◌, flat_map, sum_by}
+use Rattle.std.specs.List.{AllPass, list_any}
+use Rattle.std.specs.Char.{digit_value, len_utf8, is_whitespace}
+use Rattle.literal_escape.specs.declared.error.EscapeError.{EscapeError}
+use Rattle.literal_escape.specs.declared.error.EscapeError.TheVariants.{LoneSlash, InvalidEscape, TooShortHexEscape, InvalidCharInHexEscape, NoBraceInUnicodeEscape, InvalidCharInUnicodeEscape, EmptyUnicodeEscape, UnclosedUnicodeEscape, LeadingUnderscoreUnicodeEscape, MultipleSkippedLinesWarning, UnskippedWhitespaceWarning, ZeroChars, MoreThanOneChar}
+use Rattle.literal_escape.specs.declared.mode.Mode.{Mode}
+use Rattle.literal_escape.specs.declared.mode.MixedUnit.{MixedUnit}
+use Rattle.literal_escape.specs.declared.reader.Report.{Report}
+use Rattle.literal_escape.specs.Literal.{is_string, meaning, plain, is_simple, simple, is_hex, hex, unicode, is_blank}
+
+-- the front of an escape that is not whole: \, \x, \x and a digit, \u, \u{, and \u{ with a digit and what follows it
+pub data Begun : Type 0 where
+  backslash : Begun
+  x : Begun
+  x_digit : ℕ → Begun
+  u : Begun
+  u_brace : Begun
+  u_digits : ℕ → List ℕ → Begun
+
+-- a character for itself; an escape of two characters; \x with two digits; \u{..}; a front of an escape with the
+-- character that shows the fault, or none at the content's end; a continuation with the blanks that it skips
+pub data Piece : Type 0 where
+  character : ℕ → Piece
+  letter : ℕ → Piece
+  pair : ℕ → ℕ → Piece
+  braced : ℕ → List ℕ → Piece
+  faulty : Begun → Option ℕ → Piece
+  continuation : List ℕ → Piece
+
+-- the characters of the front: 92 is \, 120 is x, 117 is u, 123 and 125 are the braces
+abbrev pub front : Begun → List ℕ
+front backslash = 92 ∷ []
+front x = 92 ∷ 120 ∷ []
+front (x_digit a) = 92 ∷ 120 ∷ a ∷ []
+front u = 92 ∷ 117 ∷ []
+front u_brace = 92 ∷ 117 ∷ 123 ∷ []
+front (u_digits first more) = 92 ∷ 117 ∷ 123 ∷ first ∷ more
+
+-- the character, if there is one
+abbrev pub shown : Option ℕ → List ℕ
+shown None = []
+shown (Some c) = c ∷ []
+
+-- the characters of a piece
+abbrev pub spelling : Piece → List ℕ
+spelling (character c) = c ∷ []
+spelling (letter c) = 92 ∷ c ∷ []
+spelling (pair a b) = 92 ∷ 120 ∷ a ∷ b ∷ []
+spelling (braced first more) = (92 ∷ 117 ∷ 123 ∷ first ∷ more) ++ 125 ∷ []
+spelling (faulty begun next) = front begun ++ shown next
+spelling (continuation blanks) = 92 ∷ 10 ∷ blanks
+
+-- what may stand within the braces after the first digit
+abbrev pub is_inside : ℕ → Bool
+is_inside c = is_hex c || c == 95
+
+abbrev pub IsBegun : Begun → Type 0
+IsBegun backslash = Unit {0}
+IsBegun x = Unit {0}
+IsBegun (x_digit a) = is_hex a ≡ true
+IsBegun u = Unit {0}
+IsBegun u_brace = Unit {0}
+IsBegun (u_digits first more) = (is_hex first ≡ true) × AllPass is_inside more
+
+-- whether the character after the front makes neither a longer front nor an escape
+abbrev pub shows_fault : Mode → Begun → ℕ → Bool
+shows_fault mode backslash c = not (is_simple c || c == 120 || c == 117 || (is_string mode && c == 10))
+shows_fault mode x c = not (is_hex c)
+shows_fault mode (x_digit a) c = not (is_hex c)
+shows_fault mode u c = not (c == 123)
+shows_fault mode u_brace c = not (is_hex c)
+shows_fault mode (u_digits first more) c = not (is_inside c || c == 125)
+
+-- no blank follows
+abbrev pub StartsWithNoBlank : List ℕ → Type 0
+StartsWithNoBlank [] = Unit {0}
+StartsWithNoBlank (c ∷ cs) = is_blank c ≡ false
+
+-- the row of each piece, before what follows it in the content: a fault without a character stands at the end,
+-- and a continuation skips each blank that there is
+abbrev pub IsPiece : Mode → Piece → List ℕ → Type 0
+IsPiece mode (character c) rest = (c == 92) ≡ false
+IsPiece mode (letter c) rest = is_simple c ≡ true
+IsPiece mode (pair a b) rest = (is_hex a ≡ true) × (is_hex b ≡ true)
+IsPiece mode (braced first more) rest = (is_hex first ≡ true) × AllPass is_inside more
+IsPiece mode (faulty begun None) rest = IsBegun begun × (rest ≡ [])
+IsPiece mode (faulty begun (Some c)) rest = IsBegun begun × (shows_fault mode begun c ≡ true)
+IsPiece mode (continuation blanks) rest = (is_string mode ≡ true) × AllPass is_blank blanks × StartsWithNoBlank rest
+
+-- The pieces cut the content: each character lies in one of them, in order.
+abbrev pub IsCut : Mode → List ℕ → List Piece → Type 0
+IsCut mode content [] = content ≡ []
+IsCut mode content (p ∷ ps) = (rest : List ℕ) × (content ≡ spelling p ++ rest) × IsPiece mode p rest × IsCut mode rest ps
+
+-- the fault of a front, by the character that shows it
+abbrev pub fault : Begun → Option ℕ → EscapeError
+fault backslash None = LoneSlash
+fault backslash (Some c) = InvalidEscape
+fault x None = TooShortHexEscape
+fault x (Some c) = InvalidCharInHexEscape
+fault (x_digit a) None = TooShortHexEscape
+fault (x_digit a) (Some c) = InvalidCharInHexEscape
+fault u next = NoBraceInUnicodeEscape
+fault u_brace None = UnclosedUnicodeEscape
+fault u_brace (Some c) = if c == 125 then EmptyUnicodeEscape else (if c == 95 then LeadingUnderscoreUnicodeEscape else InvalidCharInUnicodeEscape)
+fault (u_digits first more) None = UnclosedUnicodeEscape
+fault (u_digits first more) (Some c) = InvalidCharInUnicodeEscape
+
+-- how many bytes the characters take
+abbrev pub size : List ℕ → ℕ
+size cs = sum_by len_utf8 cs
+
+-- one report: from where to where, in bytes, and the meaning or the fault
+abbrev pub unit_at : ℕ → List ℕ → Result MixedUnit EscapeError → List Report
+unit_at at text unit = (record { start = at; end = at + size text; unit = unit }) ∷ []
+
+-- the warning where what is skipped after the first newline holds another one
+abbrev pub lines_warning : ℕ → List ℕ → List Report
+lines_warning at blanks = if list_any (λ c. c == 10) blanks then unit_at at (92 ∷ 10 ∷ blanks) (Err MultipleSkippedLinesWarning) else []
+
+-- the warning where white space follows that is not skipped; it reaches through that character
+abbrev pub white_warning : ℕ → List ℕ → List ℕ → List Report
+white_warning at blanks [] = []
+white_warning at blanks (c ∷ cs) = if is_whitespace c then unit_at at ((92 ∷ 10 ∷ blanks) ++ c ∷ []) (Err UnskippedWhitespaceWarning) else []
+
+-- what a piece that begins at this offset reports, before what follows it: a unit each, but a continuation its warnings
+abbrev pub piece_reports : Mode → ℕ → Piece → List ℕ → List Report
+piece_reports mode at (character c) rest = unit_at at (c ∷ []) (plain mode c)
+piece_reports mode at (letter c) rest = unit_at at (spelling (letter c)) (meaning mode (simple c))
+piece_reports mode at (pair a b) rest = unit_at at (spelling (pair a b)) (hex mode (digit_value a * 16 + digit_value b))
+piece_reports mode at (braced first more) rest = unit_at at (spelling (braced first more)) (unicode mode (first ∷ more))
+piece_reports mode at (faulty begun next) rest = unit_at at (spelling (faulty begun next)) (Err (fault begun next))
+piece_reports mode at (continuation blanks) rest = lines_warning at blanks ++ white_warning at blanks rest
+
+-- what the pieces from this offset on report, in order
+abbrev pub reports_from : Mode → ℕ → List Piece → List Report
+reports_from mode at [] = []
+reports_from mode at (p ∷ ps) = piece_reports mode at p (flat_map spelling ps) ++ reports_from mode (at + size (spelling p)) ps
+
+-- P holds of the reports of the content's cut
+abbrev pub OfReports : Mode → List ℕ → (List Report → Type 0) → Type 0
+OfReports mode content P = (pieces : List Piece) × IsCut mode content pieces × P (reports_from mode 0 pieces)
+
+-- the answer for a literal of one unit: the unit's meaning or fault, but a good one must be the last
+abbrev pub alone : Result MixedUnit EscapeError → Result MixedUnit EscapeError
+alone (Ok unit) = Err MoreThanOneChar
+alone (Err e) = Err e
+
+abbrev pub single : List Report → Result MixedUnit EscapeError
+single [] = Err ZeroChars
+single (r ∷ []) = r.unit
+single (r ∷ s ∷ more) = alone r.unit

@@ -1,0 +1,1 @@
+// The calls: each is a walk over the reports.

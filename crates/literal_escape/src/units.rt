@@ -1,0 +1,54 @@
+// The reports of a content, one by one.
+ghost use Rattle.std.specs.Prelude.{◌≡◌, ◌<◌, ◌+◌, ◌^◌, length};
+
+use crate::mode::Mode;
+use crate::progress::State;
+use crate::reader::{Reader, Report};
+
+/// The reports of a content's pieces, in order.
+#[derive(Drop)]
+pub struct Units<'a> {
+    pub reader: Reader,
+    pub rest: &'a str,
+    ghost in_memory: { reader.at + length rest.now < 2 ^ 64 },
+}
+
+impl<'a> Units<'a> {
+    ghost use Rattle.literal_escape.specs.Reading.{to_come, Gives};
+
+    pub fn new(mode: Mode, content: &'a str) -> Units<'a>
+        ensures rest { result.rest.now ≡ content.now }
+        ensures mode { result.reader.mode ≡ mode }
+        ensures start { result.reader.start ≡ 0 }
+        ensures at { result.reader.at ≡ 0 }
+        ensures state { result.reader.state ≡ State.Start }
+    {
+        Units {
+            reader: Reader {
+                mode,
+                start: 0,
+                at: 0,
+                state: State::Start,
+            },
+            rest: content,
+        }
+    }
+
+    /// The next report.
+    pub fn next(&mut self) -> Option<Report>
+        ensures { Gives (to_come self.old) result (to_come self.new) }
+    {
+        let mut rest = self.rest.chars();
+        while let Some(c) = rest.next() {
+            if let Some(warning) = self.reader.warn(c) {
+                return Some(warning);
+            }
+            let report = self.reader.read(c);
+            self.rest = rest.as_str();
+            if report.is_some() {
+                return report;
+            }
+        }
+        self.reader.end()
+    }
+}
