@@ -91,7 +91,8 @@ impl Reader {
     #[tactic(auto, unfolding(crate::specs::Reading::end_report_of))]
     pub fn end(&mut self) -> Option<Report>
         ensures report { result ≡ end_report_of self.old }
-        ensures reader { end_report_of self.new ≡ None }
+        ensures over { end_report_of self.new ≡ None }
+        ensures at { self.new.at ≡ self.old.at }
     {
         match end_fault(self.state) {
             Some(fault) => Some(self.finish(Err(fault))),
