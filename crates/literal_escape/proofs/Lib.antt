@@ -1,1 +1,4 @@
+pub mod Cutting
+pub mod Digits
+pub mod Partial
 pub mod Remaining

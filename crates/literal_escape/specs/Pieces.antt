@@ -1,6 +1,7 @@
 -- The pieces of a content, each by one row of the table of escapes, and what each reports.
 use Rattle.std.specs.Prelude.{◌≡◌, ◌≢◌, ℕ, ◌+◌, ◌*◌, Bool, true, false, not, nat_le, nat_lt, ◌==◌, ◌&&◌, ◌||◌, if◌then◌else◌, Option, Some, None, Result, Ok, Err, List, [], ◌∷◌, ◌++◌, flat_map, sum_by}
-use Rattle.std.specs.List.{AllPass, list_any}
+use Rattle.std.specs.List.{list_all, list_any}
+use Rattle.std.specs.declared.ops.Range.{Range}
 use Rattle.std.specs.Char.{digit_value, len_utf8, is_whitespace}
 use Rattle.literal_escape.specs.declared.error.EscapeError.{EscapeError}
 use Rattle.literal_escape.specs.declared.error.EscapeError.TheVariants.{LoneSlash, InvalidEscape, TooShortHexEscape, InvalidCharInHexEscape, NoBraceInUnicodeEscape, InvalidCharInUnicodeEscape, EmptyUnicodeEscape, UnclosedUnicodeEscape, LeadingUnderscoreUnicodeEscape, MultipleSkippedLinesWarning, UnskippedWhitespaceWarning, ZeroChars, MoreThanOneChar}
@@ -11,12 +12,12 @@ use Rattle.literal_escape.specs.Literal.{is_string, meaning, plain, is_simple, s
 
 -- the front of an escape that is not whole: \, \x, \x and a digit, \u, \u{, and \u{ with a digit and what follows it
 pub data Begun : Type 0 where
-  backslash : Begun
-  x : Begun
-  x_digit : ℕ → Begun
-  u : Begun
-  u_brace : Begun
-  u_digits : ℕ → List ℕ → Begun
+  slash : Begun
+  slash_x : Begun
+  slash_x_digit : ℕ → Begun
+  slash_u : Begun
+  slash_u_brace : Begun
+  slash_u_digits : ℕ → List ℕ → Begun
 
 -- a character for itself; an escape of two characters; \x with two digits; \u{..}; a front of an escape with the
 -- character that shows the fault, or none at the content's end; a continuation with the blanks that it skips
@@ -30,12 +31,12 @@ pub data Piece : Type 0 where
 
 -- the characters of the front: 92 is \, 120 is x, 117 is u, 123 and 125 are the braces
 abbrev pub front : Begun → List ℕ
-front backslash = 92 ∷ []
-front x = 92 ∷ 120 ∷ []
-front (x_digit a) = 92 ∷ 120 ∷ a ∷ []
-front u = 92 ∷ 117 ∷ []
-front u_brace = 92 ∷ 117 ∷ 123 ∷ []
-front (u_digits first more) = 92 ∷ 117 ∷ 123 ∷ first ∷ more
+front slash = 92 ∷ []
+front slash_x = 92 ∷ 120 ∷ []
+front (slash_x_digit a) = 92 ∷ 120 ∷ a ∷ []
+front slash_u = 92 ∷ 117 ∷ []
+front slash_u_brace = 92 ∷ 117 ∷ 123 ∷ []
+front (slash_u_digits first more) = 92 ∷ 117 ∷ 123 ∷ first ∷ more
 
 -- the character, if there is one
 abbrev pub shown : Option ℕ → List ℕ
@@ -56,21 +57,21 @@ abbrev pub is_inside : ℕ → Bool
 is_inside c = is_hex c || c == 95
 
 abbrev pub IsBegun : Begun → Type 0
-IsBegun backslash = Unit {0}
-IsBegun x = Unit {0}
-IsBegun (x_digit a) = is_hex a ≡ true
-IsBegun u = Unit {0}
-IsBegun u_brace = Unit {0}
-IsBegun (u_digits first more) = (is_hex first ≡ true) × AllPass is_inside more
+IsBegun slash = Unit {0}
+IsBegun slash_x = Unit {0}
+IsBegun (slash_x_digit a) = is_hex a ≡ true
+IsBegun slash_u = Unit {0}
+IsBegun slash_u_brace = Unit {0}
+IsBegun (slash_u_digits first more) = (is_hex first ≡ true) × (list_all is_inside more ≡ true)
 
 -- whether the character after the front makes neither a longer front nor an escape
 abbrev pub shows_fault : Mode → Begun → ℕ → Bool
-shows_fault mode backslash c = not (is_simple c || c == 120 || c == 117 || (is_string mode && c == 10))
-shows_fault mode x c = not (is_hex c)
-shows_fault mode (x_digit a) c = not (is_hex c)
-shows_fault mode u c = not (c == 123)
-shows_fault mode u_brace c = not (is_hex c)
-shows_fault mode (u_digits first more) c = not (is_inside c || c == 125)
+shows_fault mode slash c = not (is_simple c || c == 120 || c == 117 || (is_string mode && c == 10))
+shows_fault mode slash_x c = not (is_hex c)
+shows_fault mode (slash_x_digit a) c = not (is_hex c)
+shows_fault mode slash_u c = not (c == 123)
+shows_fault mode slash_u_brace c = not (is_hex c)
+shows_fault mode (slash_u_digits first more) c = not (is_inside c || c == 125)
 
 -- no blank follows
 abbrev pub StartsWithNoBlank : List ℕ → Type 0
@@ -83,10 +84,10 @@ abbrev pub IsPiece : Mode → Piece → List ℕ → Type 0
 IsPiece mode (character c) rest = (c == 92) ≡ false
 IsPiece mode (letter c) rest = is_simple c ≡ true
 IsPiece mode (pair a b) rest = (is_hex a ≡ true) × (is_hex b ≡ true)
-IsPiece mode (braced first more) rest = (is_hex first ≡ true) × AllPass is_inside more
+IsPiece mode (braced first more) rest = (is_hex first ≡ true) × (list_all is_inside more ≡ true)
 IsPiece mode (faulty begun None) rest = IsBegun begun × (rest ≡ [])
 IsPiece mode (faulty begun (Some c)) rest = IsBegun begun × (shows_fault mode begun c ≡ true)
-IsPiece mode (continuation blanks) rest = (is_string mode ≡ true) × AllPass is_blank blanks × StartsWithNoBlank rest
+IsPiece mode (continuation blanks) rest = (is_string mode ≡ true) × (list_all is_blank blanks ≡ true) × StartsWithNoBlank rest
 
 -- The pieces cut the content: each character lies in one of them, in order.
 abbrev pub IsCut : Mode → List ℕ → List Piece → Type 0
@@ -95,17 +96,17 @@ IsCut mode content (p ∷ ps) = (rest : List ℕ) × (content ≡ spelling p ++ 
 
 -- the fault of a front, by the character that shows it
 abbrev pub fault : Begun → Option ℕ → EscapeError
-fault backslash None = LoneSlash
-fault backslash (Some c) = InvalidEscape
-fault x None = TooShortHexEscape
-fault x (Some c) = InvalidCharInHexEscape
-fault (x_digit a) None = TooShortHexEscape
-fault (x_digit a) (Some c) = InvalidCharInHexEscape
-fault u next = NoBraceInUnicodeEscape
-fault u_brace None = UnclosedUnicodeEscape
-fault u_brace (Some c) = if c == 125 then EmptyUnicodeEscape else (if c == 95 then LeadingUnderscoreUnicodeEscape else InvalidCharInUnicodeEscape)
-fault (u_digits first more) None = UnclosedUnicodeEscape
-fault (u_digits first more) (Some c) = InvalidCharInUnicodeEscape
+fault slash None = LoneSlash
+fault slash (Some c) = InvalidEscape
+fault slash_x None = TooShortHexEscape
+fault slash_x (Some c) = InvalidCharInHexEscape
+fault (slash_x_digit a) None = TooShortHexEscape
+fault (slash_x_digit a) (Some c) = InvalidCharInHexEscape
+fault slash_u next = NoBraceInUnicodeEscape
+fault slash_u_brace None = UnclosedUnicodeEscape
+fault slash_u_brace (Some c) = if c == 125 then EmptyUnicodeEscape else (if c == 95 then LeadingUnderscoreUnicodeEscape else InvalidCharInUnicodeEscape)
+fault (slash_u_digits first more) None = UnclosedUnicodeEscape
+fault (slash_u_digits first more) (Some c) = InvalidCharInUnicodeEscape
 
 -- how many bytes the characters take
 abbrev pub size : List ℕ → ℕ
@@ -137,6 +138,10 @@ piece_reports mode at (continuation blanks) rest = lines_warning at blanks ++ wh
 abbrev pub reports_from : Mode → ℕ → List Piece → List Report
 reports_from mode at [] = []
 reports_from mode at (p ∷ ps) = piece_reports mode at p (flat_map spelling ps) ++ reports_from mode (at + size (spelling p)) ps
+
+-- where a report stands, as the calls give it
+abbrev pub range_of : Report → Range ℕ
+range_of r = record { start = r.start; end = r.end }
 
 -- P holds of the reports of the content's cut
 abbrev pub OfReports : Mode → List ℕ → (List Report → Type 0) → Type 0

@@ -19,3 +19,6 @@ mod units;
 
 pub use crate::error::EscapeError;
 pub use crate::mode::{MixedUnit, Mode};
+pub use crate::unescape::{
+    unescape_byte, unescape_byte_str, unescape_c_str, unescape_char, unescape_str,
+};

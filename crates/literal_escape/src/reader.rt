@@ -1,11 +1,13 @@
 // Reports, and how far the reading is.
 ghost use Rattle.std.specs.Prelude.{◌≡◌, ◌<◌, ◌+◌, ◌^◌};
+ghost use Rattle.std.specs.Result.{ForOk};
 ghost use Rattle.std.specs.Char.{len_utf8};
 ghost use Rattle.literal_escape.specs.Reading.{report_of, fresh_of, warning_of, warned_of, read_report_of, read_of, end_report_of};
 
 use crate::error::EscapeError;
 use crate::mode::{MixedUnit, Mode};
 use crate::progress::{State, Step, advance, end_fault, is_blank};
+use std::ops::Range;
 
 /// Where a unit or a warning stands, in bytes, and the meaning or the fault.
 #[derive(Clone, Copy)]
@@ -13,6 +15,36 @@ pub struct Report {
     pub start: usize,
     pub end: usize,
     pub unit: Result<MixedUnit, EscapeError>,
+}
+
+impl Report {
+    ghost use Rattle.literal_escape.specs.Literal.{numbered, number_of};
+    ghost use Rattle.literal_escape.specs.Pieces.{range_of};
+
+    pub fn range(self) -> Range<usize>
+        ensures { result ≡ range_of self }
+    {
+        self.start..self.end
+    }
+
+    pub fn as_char(self) -> Result<char, EscapeError>
+        ensures { result ≡ numbered self.unit }
+    {
+        match self.unit {
+            Ok(unit) => Ok(unit.as_char()),
+            Err(fault) => Err(fault),
+        }
+    }
+
+    pub fn as_byte(self) -> Result<u8, EscapeError>
+        requires { ForOk self.unit (λ unit. number_of unit < 256) }
+        ensures { result ≡ numbered self.unit }
+    {
+        match self.unit {
+            Ok(unit) => Ok(unit.as_byte()),
+            Err(fault) => Err(fault),
+        }
+    }
 }
 
 /// How far the reading is: `at` is the offset of the next character, `start` that of the piece
