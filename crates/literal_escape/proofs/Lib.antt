@@ -1,4 +1,6 @@
+pub mod Bytes
 pub mod Cutting
 pub mod Digits
 pub mod Partial
 pub mod Remaining
+pub mod Single

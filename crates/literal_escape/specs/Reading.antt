@@ -150,6 +150,10 @@ reports_of r (c ∷ cs) =
     before (warning_of r c) (before (if has_lines r.state then warning_of (warned_of r c) c else None)
     (before (read_report_of (left_of r c) c) (reports_of (read_of (left_of r c) c) cs)))
 
+-- what a reader of this content reports, from its start on
+abbrev pub all_reports : Mode → List ℕ → List Report
+all_reports mode content = reports_of (record { mode = mode; start = 0; at = 0; state = states.Start }) content
+
 abbrev pub to_come : Units → List Report
 to_come u = reports_of u.reader (chars u.rest.now)
 
@@ -157,7 +161,3 @@ to_come u = reports_of u.reader (chars u.rest.now)
 abbrev pub Gives : List Report → Option Report → List Report → Type 0
 Gives old None new = (old ≡ []) × (new ≡ [])
 Gives old (Some r) new = old ≡ r ∷ new
-
--- a unit that is one byte
-abbrev pub is_byte : MixedUnit → Bool
-is_byte unit = nat_lt (number_of unit) 256

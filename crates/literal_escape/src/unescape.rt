@@ -1,8 +1,8 @@
 // The calls: each walks over the reports of a content.
-ghost use Rattle.std.specs.Prelude.{◌≡◌};
+ghost use Rattle.std.specs.Prelude.{◌≡◌, ◌<◌, true, IfOk};
 ghost use Rattle.std.specs.Str.{chars};
 ghost use Rattle.std.specs.List.{FoldsTo};
-ghost use Rattle.literal_escape.specs.Literal.{numbered};
+ghost use Rattle.literal_escape.specs.Literal.{numbered, number_of, is_bytes};
 ghost use Rattle.literal_escape.specs.Pieces.{OfReports, range_of, single};
 
 use crate::error::EscapeError;
@@ -13,7 +13,8 @@ use std::ops::Range;
 
 // The answer for the reports of a literal of one unit.
 fn one(content: &str, mode: Mode) -> Result<MixedUnit, EscapeError>
-    ensures { OfReports mode (chars content.now) (λ reports. result ≡ single reports) }
+    ensures byte { is_bytes mode ≡ true → IfOk result (λ unit. number_of unit < 256) }
+    ensures single { OfReports mode (chars content.now) (λ reports. result ≡ single reports) }
 {
     let mut units = Units::new(mode, content);
     let Some(first) = units.next() else {

@@ -1,5 +1,6 @@
 // The reports of a content, one by one.
 ghost use Rattle.std.specs.Prelude.{◌≡◌, ◌<◌, ◌+◌, ◌^◌, length};
+ghost use Rattle.std.specs.Str.{chars};
 
 use crate::mode::Mode;
 use crate::progress::State;
@@ -14,14 +15,10 @@ pub struct Units<'a> {
 }
 
 impl<'a> Units<'a> {
-    ghost use Rattle.literal_escape.specs.Reading.{to_come, Gives};
+    ghost use Rattle.literal_escape.specs.Reading.{to_come, all_reports, Gives};
 
     pub fn new(mode: Mode, content: &'a str) -> Units<'a>
-        ensures rest { result.rest.now ≡ content.now }
-        ensures mode { result.reader.mode ≡ mode }
-        ensures start { result.reader.start ≡ 0 }
-        ensures at { result.reader.at ≡ 0 }
-        ensures state { result.reader.state ≡ State.Start }
+        ensures { to_come result ≡ all_reports mode (chars content.now) }
     {
         Units {
             reader: Reader {
