@@ -1,9 +1,8 @@
 -- In a literal of bytes each unit is a byte.
-use Rattle.std.proofs.Common.{◌≡◌, ℕ, ◌+◌, ◌*◌, ◌<◌, Bool, true, false, Option, Some, None, Result, Ok, Err, List, [], ◌∷◌, ◌++◌, refl, sym, ap, ◌∙◌, length, arith, subst}
-use Rattle.std.specs.Prelude.{if◌then◌else◌, ◌==◌, ◌&&◌, ◌||◌, nat_le, nat_lt, IfOk}
+use Rattle.std.proofs.Common.{◌≡◌, ℕ, ◌+◌, ◌*◌, ◌<◌, Bool, true, false, Result, Err, List, [], ◌∷◌, ◌++◌, refl, sym, length, arith, subst}
+use Rattle.std.specs.Prelude.{if◌then◌else◌, ◌==◌, nat_le, nat_lt, IfOk}
 use Rattle.std.specs.List.{AllByRecursion, list_any, flat_map}
 use Rattle.std.specs.Char.{digit_value, is_whitespace}
-use Rattle.std.proofs.lemmas.Bool.{eqb-true}
 use Rattle.std.proofs.lemmas.Bool.Decides.{nat_tests}
 use Rattle.literal_escape.specs.declared.error.EscapeError.{EscapeError}
 use Rattle.literal_escape.specs.declared.error.EscapeError.TheVariants.{MultipleSkippedLinesWarning, UnskippedWhitespaceWarning}
@@ -11,8 +10,8 @@ use Rattle.literal_escape.specs.declared.mode.Mode.{Mode}
 use Rattle.literal_escape.specs.declared.mode.Mode.TheVariants as modes
 use Rattle.literal_escape.specs.declared.mode.MixedUnit.{MixedUnit}
 use Rattle.literal_escape.specs.declared.reader.Report.{Report}
-use Rattle.literal_escape.specs.Literal.{is_bytes, is_hex, is_simple, simple, must_be_escaped, meaning, plain, hex, code, unicode, digits, number, number_of}
-use Rattle.literal_escape.specs.Pieces.{Piece, character, letter, pair, braced, faulty, continuation, spelling, IsPiece, IsCut, fault, size, unit_at, lines_warning, white_warning, piece_reports, reports_from}
+use Rattle.literal_escape.specs.Literal.{is_bytes, is_simple, simple, must_be_escaped, meaning, plain, hex, code, digits, number, number_of}
+use Rattle.literal_escape.specs.Pieces.{Piece, character, letter, pair, braced, faulty, continuation, spelling, IsPiece, IsCut, size, lines_warning, white_warning, piece_reports, reports_from}
 use Rattle.literal_escape.specs.Reading.{all_reports}
 use Rattle.literal_escape.proofs.Digits.{hex_small}
 use Rattle.literal_escape.proofs.Partial.{fresh}

@@ -1,7 +1,7 @@
 -- A function that cuts a content into its pieces, and that the reader reports these.
-use Rattle.std.proofs.Common.{◌≡◌, ℕ, ◌+◌, Bool, true, false, not, cond, ◌||◌, Option, Some, None, Result, Ok, Err, List, [], ◌∷◌, ◌++◌, refl, sym, ap, ◌∙◌, arith, subst, append_assoc, append-nil, add-zero}
+use Rattle.std.proofs.Common.{◌≡◌, ℕ, ◌+◌, Bool, true, false, Option, Some, None, Result, Err, List, [], ◌∷◌, ◌++◌, refl, sym, ap, ◌∙◌, arith, subst, append_assoc, append-nil}
 use Rattle.std.specs.Prelude.{if◌then◌else◌, ◌==◌}
-use Rattle.std.specs.List.{list_all, list_any, flat_map, sum_by}
+use Rattle.std.specs.List.{list_any, flat_map}
 use Rattle.std.specs.Char.{len_utf8, is_whitespace}
 use Rattle.std.proofs.lemmas.List.Sums.{sum_by-append}
 use Rattle.literal_escape.specs.declared.error.EscapeError.{EscapeError}
@@ -12,11 +12,10 @@ use Rattle.literal_escape.specs.declared.reader.Report.{Report}
 use Rattle.literal_escape.specs.declared.reader.Reader.{Reader}
 use Rattle.literal_escape.specs.declared.progress.State.{State}
 use Rattle.literal_escape.specs.declared.progress.State.TheVariants as states
-use Rattle.literal_escape.specs.declared.progress.Step.{Step}
 use Rattle.literal_escape.specs.declared.progress.Step.TheVariants.{Go, Unit as Ends}
-use Rattle.literal_escape.specs.Literal.{is_string, is_blank}
-use Rattle.literal_escape.specs.Pieces.{Begun, slash, slash_x, slash_x_digit, slash_u, slash_u_brace, slash_u_digits, Piece, character, letter, pair, braced, faulty, continuation, front, shown, spelling, IsBegun, IsPiece, IsCut, StartsWithNoBlank, fault, size, unit_at, lines_warning, white_warning, piece_reports, reports_from, OfReports}
-use Rattle.literal_escape.specs.Reading.{step_of, is_over, has_lines, report_of, fresh_of, found, behind, past, warning_of, warned_of, read_report_of, read_of, end_fault_of, end_report_of, before, reports_of, all_reports}
+use Rattle.literal_escape.specs.Literal.{is_blank}
+use Rattle.literal_escape.specs.Pieces.{Begun, slash, slash_x, slash_x_digit, slash_u, slash_u_brace, slash_u_digits, Piece, faulty, continuation, front, spelling, IsCut, fault, size, lines_warning, white_warning, reports_from, OfReports}
+use Rattle.literal_escape.specs.Reading.{step_of, is_over, has_lines, fresh_of, found, behind, past, warning_of, warned_of, read_report_of, read_of, end_fault_of, end_report_of, before, reports_of, all_reports}
 use Rattle.literal_escape.proofs.Partial.{Part, fresh, begun, blanks, Next, more, done, text, IsPart, after, state_of, unit_of, Sound, sound}
 
 -- the piece that the content's end cuts off

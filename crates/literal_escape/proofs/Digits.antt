@@ -1,14 +1,13 @@
 -- The reader's number and count of digits, which stop at what 32 and 8 bits hold, give each \u{..} its meaning.
-use Rattle.std.proofs.Common.{◌≡◌, ◌≢◌, ℕ, zero, suc, ◌+◌, ◌-◌, ◌*◌, ◌^◌, ◌<◌, ◌≤◌, min, Bool, true, false, not, cond, ◌||◌, ◌&&◌, Result, Ok, Err, List, [], ◌∷◌, ◌++◌, refl, sym, ap, ◌∙◌, length, arith, subst, add-zero, add-suc, add_assoc, add-one, lit<, lit≤}
+use Rattle.std.proofs.Common.{◌≡◌, ℕ, ◌+◌, ◌*◌, ◌^◌, ◌<◌, ◌≤◌, min, Bool, true, false, ◌&&◌, List, [], ◌∷◌, refl, ap, ◌∙◌, length, arith, subst, add-zero, add-one, lit<}
 use Rattle.std.specs.Prelude.{if◌then◌else◌, ◌==◌, nat_lt}
-use Rattle.std.specs.List.{fold, list_all, filter}
+use Rattle.std.specs.List.{fold, list_all}
 use Rattle.std.specs.Char.{digit_value}
 use Rattle.std.proofs.lemmas.Bool.{eqb-true}
 use Rattle.std.proofs.lemmas.Bool.Decides.{nat_tests}
 use Rattle.std.proofs.Math.Nat.{pow-suc, pow-le-pow_right}
-use Rattle.literal_escape.specs.declared.error.EscapeError.{EscapeError}
 use Rattle.literal_escape.specs.declared.mode.Mode.{Mode}
-use Rattle.literal_escape.specs.Literal.{is_hex, code, unicode, digits, number}
+use Rattle.literal_escape.specs.Literal.{is_hex, code, unicode, digits}
 use Rattle.literal_escape.specs.Pieces.{is_inside}
 use Rattle.literal_escape.specs.Reading.{longer_code, more_digits}
 

@@ -1,6 +1,7 @@
 pub mod Bytes
 pub mod Cutting
 pub mod Digits
+pub mod OneCut
 pub mod Partial
 pub mod Remaining
 pub mod Single

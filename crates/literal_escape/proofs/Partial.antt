@@ -1,5 +1,5 @@
 -- A piece of which some characters are read, and what the next one does to it.
-use Rattle.std.proofs.Common.{◌≡◌, ℕ, ◌+◌, ◌*◌, ◌^◌, ◌<◌, ◌≤◌, Bool, true, false, not, cond, ◌||◌, ◌&&◌, Option, Some, None, Result, Ok, Err, List, [], ◌∷◌, ◌++◌, refl, sym, ap, ◌∙◌, length, arith, subst}
+use Rattle.std.proofs.Common.{◌≡◌, ℕ, ◌+◌, ◌*◌, Bool, true, false, not, ◌||◌, ◌&&◌, Some, Result, Err, List, [], ◌∷◌, ◌++◌, refl, sym, ap, ◌∙◌}
 use Rattle.std.specs.Prelude.{if◌then◌else◌, ◌==◌}
 use Rattle.std.specs.List.{fold, list_all, list_any}
 use Rattle.std.specs.Char.{digit_value}
@@ -12,11 +12,10 @@ use Rattle.literal_escape.specs.declared.mode.Mode.{Mode}
 use Rattle.literal_escape.specs.declared.mode.MixedUnit.{MixedUnit}
 use Rattle.literal_escape.specs.declared.progress.State.{State}
 use Rattle.literal_escape.specs.declared.progress.State.TheVariants as states
-use Rattle.literal_escape.specs.declared.progress.Step.{Step}
 use Rattle.literal_escape.specs.declared.progress.Step.TheVariants.{Go, Unit as Ends}
 use Rattle.literal_escape.specs.Literal.{is_string, is_simple, simple, is_hex, is_blank, code, unicode, plain, meaning, hex}
-use Rattle.literal_escape.specs.Pieces.{Begun, slash, slash_x, slash_x_digit, slash_u, slash_u_brace, slash_u_digits, Piece, character, letter, pair, braced, faulty, continuation, front, shown, spelling, is_inside, IsBegun, IsPiece, fault, unit_at, piece_reports}
-use Rattle.literal_escape.specs.Reading.{longer_code, more_digits, step_of, is_over}
+use Rattle.literal_escape.specs.Pieces.{Begun, slash, slash_x, slash_x_digit, slash_u, slash_u_brace, slash_u_digits, Piece, character, letter, pair, braced, faulty, continuation, front, spelling, is_inside, IsBegun, IsPiece, fault, unit_at, piece_reports}
+use Rattle.literal_escape.specs.Reading.{step_of, is_over}
 use Rattle.literal_escape.proofs.Digits.{code_step, count_step, and_left, and_right, body_code}
 
 -- nothing, a front of an escape, or a continuation with the blanks so far

@@ -1,7 +1,7 @@
 -- What a reader still reports, step by step.
-use Rattle.std.proofs.Common.{◌≡◌, ℕ, ◌+◌, Bool, true, false, not, cond, Option, Some, None, List, [], ◌∷◌, ◌++◌, refl, sym, ap, ◌∙◌, rules}
+use Rattle.std.proofs.Common.{◌≡◌, ℕ, ◌+◌, Bool, true, false, not, Option, Some, None, List, [], ◌∷◌, refl, sym, ap, ◌∙◌}
 use Rattle.std.specs.Prelude.{is_some, if◌then◌else◌}
-use Rattle.std.specs.Char.{len_utf8, is_whitespace}
+use Rattle.std.specs.Char.{len_utf8}
 use Rattle.literal_escape.specs.declared.reader.Report.{Report}
 use Rattle.literal_escape.specs.declared.reader.Reader.{Reader}
 use Rattle.literal_escape.specs.declared.progress.State.{State}
@@ -9,7 +9,7 @@ use Rattle.literal_escape.specs.declared.progress.State.TheVariants as states
 use Rattle.literal_escape.specs.declared.progress.Step.{Step}
 use Rattle.literal_escape.specs.declared.progress.Step.TheVariants.{Go, Unit as Ends}
 use Rattle.literal_escape.specs.Literal.{is_blank}
-use Rattle.literal_escape.specs.Reading.{is_over, has_lines, report_of, fresh_of, warning_of, warned_of, found, behind, past, step_of, read_report_of, read_of, end_report_of, before, left_of, reports_of, Gives}
+use Rattle.literal_escape.specs.Reading.{is_over, has_lines, fresh_of, warning_of, warned_of, behind, past, step_of, read_report_of, read_of, end_report_of, before, reports_of, Gives}
 
 behind-at : (r : Reader) (s : Step) → (behind r s).at ≡ r.at
 behind-at r (Go state) = refl

@@ -1,5 +1,5 @@
 -- The answer for a literal of one unit, by its first report and those behind it.
-use Rattle.std.proofs.Common.{◌≡◌, Bool, true, false, Option, Some, None, Result, Ok, Err, List, [], ◌∷◌, refl, sym, ap, ◌∙◌}
+use Rattle.std.proofs.Common.{◌≡◌, true, false, Option, Some, None, Result, Ok, Err, List, [], ◌∷◌, refl}
 use Rattle.std.specs.Prelude.{is_some, is_ok}
 use Rattle.literal_escape.specs.declared.error.EscapeError.{EscapeError}
 use Rattle.literal_escape.specs.declared.error.EscapeError.TheVariants.{MoreThanOneChar}

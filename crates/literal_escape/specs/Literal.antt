@@ -1,6 +1,6 @@
 -- What one character, escape or code means in each of the five literals. Characters are numbers, their codes.
 -- Source: the Rust Reference, "Tokens", on character and string literals.
-use Rattle.std.specs.Prelude.{◌≡◌, ℕ, ◌+◌, ◌*◌, Bool, true, false, not, nat_le, nat_lt, ◌==◌, ◌&&◌, ◌||◌, if◌then◌else◌, Result, Ok, Err, List, [], ◌∷◌, length, filter, fold}
+use Rattle.std.specs.Prelude.{ℕ, ◌+◌, ◌*◌, Bool, true, false, not, nat_le, nat_lt, ◌==◌, ◌&&◌, ◌||◌, if◌then◌else◌, Result, Ok, Err, List, length, filter, fold}
 use Rattle.std.specs.Char.{digit_value}
 use Rattle.literal_escape.specs.declared.error.EscapeError.{EscapeError}
 use Rattle.literal_escape.specs.declared.error.EscapeError.TheVariants.{BareCarriageReturn, EscapeOnlyChar, NonAsciiCharInByte, NulInCStr, OutOfRangeHexEscape, OverlongUnicodeEscape, UnicodeEscapeInByte, OutOfRangeUnicodeEscape, LoneSurrogateUnicodeEscape, MultipleSkippedLinesWarning, UnskippedWhitespaceWarning}

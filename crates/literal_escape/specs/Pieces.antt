@@ -1,5 +1,5 @@
 -- The pieces of a content, each by one row of the table of escapes, and what each reports.
-use Rattle.std.specs.Prelude.{◌≡◌, ◌≢◌, ℕ, ◌+◌, ◌*◌, Bool, true, false, not, nat_le, nat_lt, ◌==◌, ◌&&◌, ◌||◌, if◌then◌else◌, Option, Some, None, Result, Ok, Err, List, [], ◌∷◌, ◌++◌, flat_map, sum_by}
+use Rattle.std.specs.Prelude.{◌≡◌, ℕ, ◌+◌, ◌*◌, Bool, true, false, not, ◌==◌, ◌&&◌, ◌||◌, if◌then◌else◌, Option, Some, None, Result, Ok, Err, List, [], ◌∷◌, ◌++◌, flat_map, sum_by}
 use Rattle.std.specs.List.{list_all, list_any}
 use Rattle.std.specs.declared.ops.Range.{Range}
 use Rattle.std.specs.Char.{digit_value, len_utf8, is_whitespace}
@@ -93,6 +93,10 @@ IsPiece mode (continuation blanks) rest = (is_string mode ≡ true) × (list_all
 abbrev pub IsCut : Mode → List ℕ → List Piece → Type 0
 IsCut mode content [] = content ≡ []
 IsCut mode content (p ∷ ps) = (rest : List ℕ) × (content ≡ spelling p ++ rest) × IsPiece mode p rest × IsCut mode rest ps
+
+-- there is a cut, and no other
+abbrev pub HasOneCut : Mode → List ℕ → Type 0
+HasOneCut mode content = (pieces : List Piece) × IsCut mode content pieces × ((others : List Piece) → IsCut mode content others → others ≡ pieces)
 
 -- the fault of a front, by the character that shows it
 abbrev pub fault : Begun → Option ℕ → EscapeError

@@ -1,6 +1,6 @@
 -- What the reader's private functions answer, by the state that they stand in. No public clause cites this file:
 -- the pieces are in Pieces.
-use Rattle.std.specs.Prelude.{◌≡◌, ℕ, ◌+◌, ◌-◌, ◌*◌, ◌^◌, min, Bool, true, false, not, nat_lt, ◌==◌, ◌&&◌, ◌||◌, if◌then◌else◌, Option, Some, None, Result, Ok, Err, List, [], ◌∷◌, ◌++◌}
+use Rattle.std.specs.Prelude.{◌≡◌, ℕ, ◌+◌, ◌-◌, ◌*◌, ◌^◌, min, Bool, false, not, ◌==◌, ◌&&◌, ◌||◌, if◌then◌else◌, Option, Some, None, Result, Err, List, [], ◌∷◌}
 use Rattle.std.specs.Char.{digit_value, len_utf8, is_whitespace}
 use Rattle.std.specs.Str.{chars}
 use Rattle.literal_escape.specs.declared.error.EscapeError.{EscapeError}
@@ -14,7 +14,7 @@ use Rattle.literal_escape.specs.declared.progress.Step.TheVariants.{Go, Unit as 
 use Rattle.literal_escape.specs.declared.reader.Report.{Report}
 use Rattle.literal_escape.specs.declared.reader.Reader.{Reader}
 use Rattle.literal_escape.specs.declared.units.Units.{Units}
-use Rattle.literal_escape.specs.Literal.{is_string, meaning, plain, is_simple, simple, is_hex, hex, code, is_blank, number_of}
+use Rattle.literal_escape.specs.Literal.{is_string, meaning, plain, is_simple, simple, is_hex, hex, code, is_blank}
 
 -- the code of an escape of two characters, and the value of two digits
 abbrev pub simple_code : ℕ → Option ℕ

@@ -1,9 +1,8 @@
-use Rattle.std.proofs.Common.{◌≡◌, ℕ, ◌<◌, Err, sym, ap, ◌∙◌, subst, refl, IfOk}
+use Rattle.std.proofs.Common.{◌≡◌, Err, sym, ap, ◌∙◌, subst}
 use Rattle.std.specs.Str.{chars}
 use Rattle.std.specs.List.{AllByRecursion}
 use Rattle.literal_escape.specs.declared.error.EscapeError.TheVariants.{ZeroChars, MoreThanOneChar}
 use Rattle.literal_escape.specs.Pieces.{single}
-use Rattle.literal_escape.specs.Reading.{to_come}
 use Rattle.literal_escape.proofs.Cutting.{of_reports}
 use Rattle.literal_escape.proofs.Bytes.{IsByteReport, all_bytes}
 use Rattle.literal_escape.proofs.Single.{more_than_one, only_one, faulty_first}

@@ -1,4 +1,4 @@
-use Rattle.std.proofs.Common.{ℕ, length}
+use Rattle.std.proofs.Common.{length}
 use Rattle.std.specs.Str.{chars}
 use Rattle.std.specs.List.{FoldsTo, AllByRecursion}
 use Rattle.literal_escape.specs.declared.mode.Mode.TheVariants.{ByteStr}

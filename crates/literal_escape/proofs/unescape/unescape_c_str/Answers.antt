@@ -1,12 +1,9 @@
-use Rattle.std.proofs.Common.{◌≡◌, ℕ, ◌<◌, sym, subst, refl, IfOk}
+use Rattle.std.proofs.Common.{sym, subst, refl}
 use Rattle.std.specs.Str.{chars}
-use Rattle.std.specs.List.{FoldsTo, AllByRecursion}
+use Rattle.std.specs.List.{FoldsTo}
 use Rattle.literal_escape.specs.declared.mode.Mode.TheVariants.{CStr}
-use Rattle.literal_escape.specs.Literal.{numbered, number_of}
 use Rattle.literal_escape.specs.Pieces.{range_of}
-use Rattle.literal_escape.specs.Reading.{to_come}
 use Rattle.literal_escape.proofs.Cutting.{of_reports}
-use Rattle.literal_escape.proofs.Bytes.{IsByteReport, all_bytes}
 use Rattle.literal_escape.proofs.unescape.unescape_c_str.Goals as goal
 
 pub returns : goal.returns

@@ -1,11 +1,9 @@
-use Rattle.std.proofs.Common.{ℕ, length}
+use Rattle.std.proofs.Common.{length}
 use Rattle.std.specs.Str.{chars}
-use Rattle.std.specs.List.{FoldsTo, AllByRecursion}
+use Rattle.std.specs.List.{FoldsTo}
 use Rattle.literal_escape.specs.declared.mode.Mode.TheVariants.{CStr}
-use Rattle.literal_escape.specs.Literal.{numbered}
 use Rattle.literal_escape.specs.Pieces.{range_of}
 use Rattle.literal_escape.specs.Reading.{to_come, all_reports}
-use Rattle.literal_escape.proofs.Bytes.{IsByteReport}
 use Rattle.literal_escape.proofs.unescape.unescape_c_str.Given as goal
 
 -- calls at the reports that are left end what the calls so far began

@@ -1,4 +1,4 @@
-use Rattle.std.proofs.Common.{rules, ◌≡◌, ◌<◌, ◌+◌, ◌^◌, length, ℕ, ◌-◌, ◌*◌, ◌≤◌, ◌/◌, ◌%◌, Bool, true, false, nat_eq, nat_lt, List, [], ◌∷◌, ◌++◌, slice_index_or, slice_set, bit_and, bit_or, Fits, w8, w32, w64, Bor, MutBor}
+use Rattle.std.proofs.Common.{◌≡◌, ◌+◌, length, ℕ, List, [], ◌∷◌, ◌++◌}
 use Rattle.std.proofs.Common.{arith, sym, ap, refl, subst, ◌∙◌, length-append}
 use Rattle.std.proofs.lemmas.Str.{length-encode, chars_past_char}
 use Rattle.std.specs.Char.{len_utf8, encode_utf8}
@@ -6,7 +6,7 @@ use Rattle.std.specs.Str.{chars}
 use Rattle.std.specs.Str.Iter.{chars_rest}
 use Rattle.literal_escape.proofs.Remaining.{read-at, warned-at, reports-warned, reports-taken, Gives-end, Gives-before, before-none}
 use Rattle.literal_escape.specs.declared.reader.Reader.{Reader}
-use Rattle.literal_escape.specs.Reading.{to_come, Gives, reports_of}
+use Rattle.literal_escape.specs.Reading.{Gives, reports_of}
 use Rattle.literal_escape.proofs.units.Units.next.Goals as goal
 
 -- the step of the characters: what was left is this character and what is left
