@@ -1,4 +1,5 @@
-//! Rows of the calls' documentation and tables, as tests.
+//! Rows of the crates' tables and documentation, as tests.
 #![tactic(auto)]
 
+#[cfg(test)]
 mod escapes;
