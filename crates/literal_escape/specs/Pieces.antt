@@ -1,6 +1,6 @@
 -- The pieces of a content, each by one row of the table of escapes, and what each reports.
-use Rattle.std.specs.Prelude.{◌≡◌, ℕ, ◌+◌, ◌*◌, Bool, true, false, not, ◌==◌, ◌&&◌, ◌||◌, if◌then◌else◌, Option, Some, None, Result, Ok, Err, List, [], ◌∷◌, ◌++◌, flat_map, sum_by}
-use Rattle.std.specs.List.{list_all, list_any}
+use Rattle.std.specs.Prelude.{◌≡◌, ℕ, ◌+◌, ◌*◌, ◌<◌, ◌≤◌, Bool, true, false, not, ◌==◌, ◌&&◌, ◌||◌, if◌then◌else◌, Option, Some, None, Result, Ok, Err, List, [], ◌∷◌, ◌++◌, flat_map, sum_by}
+use Rattle.std.specs.List.{list_all, list_any, AllByRecursion}
 use Rattle.std.specs.declared.ops.Range.{Range}
 use Rattle.std.specs.Char.{digit_value, len_utf8, is_whitespace}
 use Rattle.literal_escape.specs.declared.error.EscapeError.{EscapeError}
@@ -8,7 +8,7 @@ use Rattle.literal_escape.specs.declared.error.EscapeError.TheVariants.{LoneSlas
 use Rattle.literal_escape.specs.declared.mode.Mode.{Mode}
 use Rattle.literal_escape.specs.declared.mode.MixedUnit.{MixedUnit}
 use Rattle.literal_escape.specs.declared.reader.Report.{Report}
-use Rattle.literal_escape.specs.Literal.{is_string, meaning, plain, is_simple, simple, is_hex, hex, unicode, is_blank}
+use Rattle.literal_escape.specs.Literal.{is_warning, is_string, meaning, plain, is_simple, simple, is_hex, hex, unicode, is_blank}
 
 -- the front of an escape that is not whole: \, \x, \x and a digit, \u, \u{, and \u{ with a digit and what follows it
 pub data Begun : Type 0 where
@@ -160,3 +160,24 @@ abbrev pub single : List Report → Result MixedUnit EscapeError
 single [] = Err ZeroChars
 single (r ∷ []) = r.unit
 single (r ∷ s ∷ more) = alone r.unit
+
+-- an offset in the content: as many bytes as the characters before some place take
+abbrev pub IsOffset : List ℕ → ℕ → Type 0
+IsOffset content n = (before : List ℕ) × (behind : List ℕ) × (content ≡ before ++ behind) × (n ≡ size before)
+
+-- where the next report may begin: a unit is over at its end, but a warning covers the reports behind it
+abbrev pub is_warned : Result MixedUnit EscapeError → Bool
+is_warned (Ok unit) = false
+is_warned (Err e) = is_warning e
+
+abbrev pub next_start : Report → ℕ
+next_start r = if is_warned r.unit then r.start else r.end
+
+-- Reports follow each other from an offset on: none is empty, and none begins within the unit before it.
+abbrev pub Follow : ℕ → List Report → Type 0
+Follow at [] = Unit {0}
+Follow at (r ∷ rs) = (at ≤ r.start) × (r.start < r.end) × Follow (next_start r) rs
+
+-- each range of the reports begins and ends at a character, and they follow each other
+abbrev pub AreRanges : List ℕ → List Report → Type 0
+AreRanges content rs = Follow 0 rs × AllByRecursion (λ r. IsOffset content r.start × IsOffset content r.end) rs
