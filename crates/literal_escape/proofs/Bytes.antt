@@ -76,7 +76,7 @@ bytes_from : (mode : Mode) (at : ℕ) (ps : List Piece) (cs : List ℕ) → is_b
 bytes_from mode at [] cs b h = tt
 bytes_from mode at (p ∷ ps) cs b h =
     all-append (piece_reports mode at p (flat_map spelling ps)) (reports_from mode (at + size (spelling p)) ps)
-        (piece_bytes mode at p (flat_map spelling ps) b (subst (IsPiece mode p) (sym (cut-text mode h.0 ps h.3)) h.2)) (bytes_from mode (at + size (spelling p)) ps h.0 b h.3)
+    (piece_bytes mode at p (flat_map spelling ps) b (subst (IsPiece mode p) (sym (cut-text mode h.0 ps h.3)) h.2)) (bytes_from mode (at + size (spelling p)) ps h.0 b h.3)
 
 pub all_bytes : (mode : Mode) (cs : List ℕ) → is_bytes mode ≡ true → AllByRecursion IsByteReport (all_reports mode cs)
 all_bytes mode cs b = let w = works cs mode fresh tt in subst (AllByRecursion IsByteReport) (w.reports 0) (bytes_from mode 0 (pieces_of mode fresh cs) cs b w.cut)

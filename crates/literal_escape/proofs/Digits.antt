@@ -61,7 +61,7 @@ body_on : (b : Bool) (c : ℕ) (cs : List ℕ) (k n count value : ℕ) → is_he
     → Tracks (fold count_step k (c ∷ cs)) (fold code_step n (c ∷ cs)) (count + length (digits (c ∷ cs))) (fold number_step value (digits (c ∷ cs)))
 body_on true c cs k n count value e i h t next =
     rw (hex_not_low c e) (rw e (subst (λ m. Tracks (fold count_step (more_digits k) cs) (fold code_step (longer_code n (digit_value c)) cs) m (fold number_step (value * 16 + digit_value c) (digits cs)))
-        (omega arith) (next (more_digits k) (longer_code n (digit_value c)) (count + 1) (value * 16 + digit_value c) (Tracks-digit k n count value (digit_value c) (hex_small c e) t))))
+    (omega arith) (next (more_digits k) (longer_code n (digit_value c)) (count + 1) (value * 16 + digit_value c) (Tracks-digit k n count value (digit_value c) (hex_small c e) t))))
 body_on false c cs k n count value e i h t next = let low = rw e at i in rw low (rw e (next k n count value t))
 
 Tracks-body : (body : List ℕ) (k n count value : ℕ) → list_all is_inside body ≡ true → Tracks k n count value

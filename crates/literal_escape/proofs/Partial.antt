@@ -157,10 +157,13 @@ unclosed mode f m c e ec = rw (outside_hex (is_hex c) (c == 95) e) (rw (outside_
 digits_by : (b close : Bool) (mode : Mode) (f : ℕ) (m : List ℕ) (c : ℕ) → is_hex f ≡ true → list_all is_inside m ≡ true → is_inside c ≡ b → (c == 125) ≡ close
     → Sound mode (begun (slash_u_digits f m)) c (after mode (begun (slash_u_digits f m)) c)
 digits_by true close mode f m c h k e ec =
-    rw e ((h, list_all-append is_inside m (c ∷ []) k (rw e refl)), refl,
-        inside_by (is_hex c) mode f m c refl e
-        ∙ ap (λ n. Go (states.Digits n (count_step (fold count_step 1 m) c))) (sym (fold-append code_step (digit_value f) m (c ∷ [])))
-        ∙ ap (λ n. Go (states.Digits (fold code_step (digit_value f) (m ++ c ∷ [])) n)) (sym (fold-append count_step 1 m (c ∷ []))))
+    rw e (
+      (h, list_all-append is_inside m (c ∷ []) k (rw e refl)),
+      refl,
+      inside_by (is_hex c) mode f m c refl e
+          ∙ ap (λ n. Go (states.Digits n (count_step (fold count_step 1 m) c))) (sym (fold-append code_step (digit_value f) m (c ∷ [])))
+          ∙ ap (λ n. Go (states.Digits (fold code_step (digit_value f) (m ++ c ∷ [])) n)) (sym (fold-append count_step 1 m (c ∷ []))),
+    )
 digits_by false true mode f m c h k e ec =
     rw e (rw ec (ap (λ d. (92 ∷ 117 ∷ 123 ∷ f ∷ m) ++ d ∷ []) (sym (eqb-true c 125 ec)), λ rest. (h, k), closed mode f m c e ec ∙ ap Ends (body_code mode f m h k), λ at rest. refl))
 digits_by false false mode f m c h k e ec = rw e (rw ec (refl, λ rest. ((h, k), rw e (rw ec refl)), unclosed mode f m c e ec, λ at rest. refl))

@@ -1,5 +1,5 @@
 -- The ranges of a cut's reports follow each other and lie on characters.
-use Rattle.std.proofs.Common.{◌≡◌, ℕ, ◌+◌, ◌<◌, ◌≤◌, Bool, true, false, Option, Some, None, Result, Ok, Err, List, [], ◌∷◌, ◌++◌, refl, sym, ap, ◌∙◌, arith, subst, append_assoc, append-nil}
+use Rattle.std.proofs.Common.{◌≡◌, ℕ, ◌+◌, ◌<◌, ◌≤◌, Bool, true, false, Option, Result, Err, List, [], ◌∷◌, ◌++◌, refl, sym, ap, ◌∙◌, arith, subst, append_assoc}
 use Rattle.std.specs.Prelude.{if◌then◌else◌, ◌==◌}
 use Rattle.std.specs.List.{AllByRecursion, list_any, flat_map}
 use Rattle.std.specs.Char.{len_utf8, is_whitespace}
@@ -10,7 +10,7 @@ use Rattle.literal_escape.specs.declared.error.EscapeError.TheVariants.{Multiple
 use Rattle.literal_escape.specs.declared.mode.Mode.{Mode}
 use Rattle.literal_escape.specs.declared.mode.MixedUnit.{MixedUnit}
 use Rattle.literal_escape.specs.declared.reader.Report.{Report}
-use Rattle.literal_escape.specs.Pieces.{Begun, slash, slash_x, slash_x_digit, slash_u, slash_u_brace, slash_u_digits, Piece, character, letter, pair, braced, faulty, continuation, front, shown, spelling, IsCut, size, lines_warning, white_warning, piece_reports, reports_from, IsOffset, is_warned, next_start, Follow, AreRanges}
+use Rattle.literal_escape.specs.Pieces.{Begun, slash, slash_x, slash_x_digit, slash_u, slash_u_brace, slash_u_digits, Piece, character, letter, pair, braced, faulty, continuation, front, shown, spelling, IsCut, size, lines_warning, white_warning, piece_reports, reports_from, IsOffset, is_warned, Follow, AreRanges}
 use Rattle.literal_escape.proofs.Cutting.{cut-text}
 use Rattle.literal_escape.proofs.Partial.{unit_of}
 
@@ -68,7 +68,7 @@ piece_follow mode at (continuation bs) rest rs f =
     let h = size_pos 92 (10 ∷ bs) in
     let sooner = Follow-sooner at (at + size (92 ∷ 10 ∷ bs)) rs (omega arith) f in
     subst (Follow at) (sym (append_assoc (lines_warning at bs) (white_warning at bs rest) rs))
-        (warning_follow (list_any (λ c. c == 10) bs) at (at + size (92 ∷ 10 ∷ bs)) (white_warning at bs rest ++ rs) (omega (arith, h)) (after_white at bs rest rs sooner))
+    (warning_follow (list_any (λ c. c == 10) bs) at (at + size (92 ∷ 10 ∷ bs)) (white_warning at bs rest ++ rs) (omega (arith, h)) (after_white at bs rest rs sooner))
 
 follow_from : (mode : Mode) (at : ℕ) (ps : List Piece) → Follow at (reports_from mode at ps)
 follow_from mode at [] = tt
@@ -112,8 +112,8 @@ lie_from mode content before cs at (p ∷ ps) e a h =
     let text = e ∙ ap (λ ds. before ++ ds) h.1 in
     let same = cut-text mode h.0 ps h.3 in
     all-append content (piece_reports mode at p (flat_map spelling ps)) (reports_from mode (at + size (spelling p)) ps)
-        (piece_lies mode content before p (flat_map spelling ps) at (text ∙ ap (λ ds. before ++ (spelling p ++ ds)) (sym same)) a)
-        (lie_from mode content (before ++ spelling p) h.0 (at + size (spelling p)) ps (text ∙ sym (append_assoc before (spelling p) h.0)) (omega (arith, size-append before (spelling p))) h.3)
+    (piece_lies mode content before p (flat_map spelling ps) at (text ∙ ap (λ ds. before ++ (spelling p ++ ds)) (sym same)) a)
+    (lie_from mode content (before ++ spelling p) h.0 (at + size (spelling p)) ps (text ∙ sym (append_assoc before (spelling p) h.0)) (omega (arith, size-append before (spelling p))) h.3)
 
 pub ranges : (mode : Mode) (content : List ℕ) (ps : List Piece) → IsCut mode content ps → AreRanges content (reports_from mode 0 ps)
 ranges mode content ps h = (follow_from mode 0 ps, lie_from mode content [] content 0 ps refl refl h)

@@ -22,7 +22,11 @@ pub fn str_rows(alloc: Global, content: &str) -> Result<Vec<Row>, AllocError> {
     let mut pushed = Ok(());
     unescape_str(content, |range, unit| {
         let unit = unit.map(|c| c as u32);
-        let row = Row { start: range.start, end: range.end, unit };
+        let row = Row {
+            start: range.start,
+            end: range.end,
+            unit,
+        };
         if pushed.is_ok() {
             pushed = rows.push(row);
         }
@@ -36,7 +40,11 @@ pub fn byte_str_rows(alloc: Global, content: &str) -> Result<Vec<Row>, AllocErro
     let mut pushed = Ok(());
     unescape_byte_str(content, |range, unit| {
         let unit = unit.map(|byte| byte as u32);
-        let row = Row { start: range.start, end: range.end, unit };
+        let row = Row {
+            start: range.start,
+            end: range.end,
+            unit,
+        };
         if pushed.is_ok() {
             pushed = rows.push(row);
         }
@@ -57,7 +65,11 @@ pub fn c_str_rows(alloc: Global, content: &str) -> Result<Vec<Row>, AllocError> 
     let mut pushed = Ok(());
     unescape_c_str(content, |range, unit| {
         let unit = unit.map(mixed);
-        let row = Row { start: range.start, end: range.end, unit };
+        let row = Row {
+            start: range.start,
+            end: range.end,
+            unit,
+        };
         if pushed.is_ok() {
             pushed = rows.push(row);
         }

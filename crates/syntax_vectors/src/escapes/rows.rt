@@ -15,10 +15,16 @@ mod tests {
         ("😀\\n", "0..4 1f600, 4..6 a"),
         ("\\n\\r\\t", "0..2 a, 2..4 d, 4..6 9"),
         ("\\\\\\0\\'\\\"", "0..2 5c, 2..4 0, 4..6 27, 6..8 22"),
-        ("\\x41\\x00\\x7F\\x7f", "0..4 41, 4..8 0, 8..12 7f, 12..16 7f"),
+        (
+            "\\x41\\x00\\x7F\\x7f",
+            "0..4 41, 4..8 0, 8..12 7f, 12..16 7f",
+        ),
         ("\\u{41}\\u{0}", "0..6 41, 6..11 0"),
         ("\\u{1_F6_00_}", "0..12 1f600"),
-        ("\\u{10FFFF}\\u{d7ff}\\u{E000}", "0..10 10ffff, 10..18 d7ff, 18..26 e000"),
+        (
+            "\\u{10FFFF}\\u{d7ff}\\u{E000}",
+            "0..10 10ffff, 10..18 d7ff, 18..26 e000",
+        ),
         ("'\n\t", "0..1 27, 1..2 a, 2..3 9"),
         ("a\\", "0..1 61, 1..2 LoneSlash"),
         ("\\qa", "0..2 InvalidEscape, 2..3 61"),
@@ -48,10 +54,16 @@ mod tests {
         ("\\u{1234567}", "0..11 OverlongUnicodeEscape"),
         ("\\u{0_000041}", "0..12 OverlongUnicodeEscape"),
         ("\\u{FFFFFFFFFFFFFFFFFF}", "0..22 OverlongUnicodeEscape"),
-        ("\\u{D800}\\u{dfff}", "0..8 LoneSurrogateUnicodeEscape, 8..16 LoneSurrogateUnicodeEscape"),
+        (
+            "\\u{D800}\\u{dfff}",
+            "0..8 LoneSurrogateUnicodeEscape, 8..16 LoneSurrogateUnicodeEscape",
+        ),
         ("\\u{110000}", "0..10 OutOfRangeUnicodeEscape"),
         ("a\\\n \t\rb", "0..1 61, 6..7 62"),
-        ("a\\\n  \nb", "0..1 61, 1..6 MultipleSkippedLinesWarning, 6..7 62"),
+        (
+            "a\\\n  \nb",
+            "0..1 61, 1..6 MultipleSkippedLinesWarning, 6..7 62",
+        ),
         ("\\\n\u{a0}", "0..4 UnskippedWhitespaceWarning, 2..4 a0"),
         (
             "\\\n\n\u{3000}\\",
@@ -63,17 +75,35 @@ mod tests {
     // Contents of byte strings, where they differ from strings.
     const BYTE_STRINGS: [(&str, &str); 12] = [
         ("", ""),
-        ("a\\n\\'\\\"\\0", "0..1 61, 1..3 a, 3..5 27, 5..7 22, 7..9 0"),
-        ("\\x00\\x7f\\x80\\xFF", "0..4 0, 4..8 7f, 8..12 80, 12..16 ff"),
+        (
+            "a\\n\\'\\\"\\0",
+            "0..1 61, 1..3 a, 3..5 27, 5..7 22, 7..9 0",
+        ),
+        (
+            "\\x00\\x7f\\x80\\xFF",
+            "0..4 0, 4..8 7f, 8..12 80, 12..16 ff",
+        ),
         ("é€", "0..2 NonAsciiCharInByte, 2..5 NonAsciiCharInByte"),
         ("😀a", "0..4 NonAsciiCharInByte, 4..5 61"),
         ("\\u{41}a", "0..6 UnicodeEscapeInByte, 6..7 61"),
-        ("\\u{110000}\\u{D800}", "0..10 UnicodeEscapeInByte, 10..18 UnicodeEscapeInByte"),
+        (
+            "\\u{110000}\\u{D800}",
+            "0..10 UnicodeEscapeInByte, 10..18 UnicodeEscapeInByte",
+        ),
         ("\\u{1234567}", "0..11 OverlongUnicodeEscape"),
-        ("\\u{}\\u{g", "0..4 EmptyUnicodeEscape, 4..8 InvalidCharInUnicodeEscape"),
-        ("\"\r'", "0..1 EscapeOnlyChar, 1..2 BareCarriageReturn, 2..3 27"),
+        (
+            "\\u{}\\u{g",
+            "0..4 EmptyUnicodeEscape, 4..8 InvalidCharInUnicodeEscape",
+        ),
+        (
+            "\"\r'",
+            "0..1 EscapeOnlyChar, 1..2 BareCarriageReturn, 2..3 27",
+        ),
         ("\\\n    ", ""),
-        ("\\\n\n\u{a0}", "0..3 MultipleSkippedLinesWarning, 0..5 UnskippedWhitespaceWarning, 3..5 NonAsciiCharInByte"),
+        (
+            "\\\n\n\u{a0}",
+            "0..3 MultipleSkippedLinesWarning, 0..5 UnskippedWhitespaceWarning, 3..5 NonAsciiCharInByte",
+        ),
     ];
 
     // Contents of C strings, where they differ. A byte from 80 on is its number past 200000.
@@ -85,7 +115,10 @@ mod tests {
         ("\\0a\\x00", "0..2 NulInCStr, 2..3 61, 3..7 NulInCStr"),
         ("\\u{0}\0", "0..5 NulInCStr, 5..6 NulInCStr"),
         ("\\u{0000000}", "0..11 OverlongUnicodeEscape"),
-        ("\"\r\\q", "0..1 EscapeOnlyChar, 1..2 BareCarriageReturn, 2..4 InvalidEscape"),
+        (
+            "\"\r\\q",
+            "0..1 EscapeOnlyChar, 1..2 BareCarriageReturn, 2..4 InvalidEscape",
+        ),
         ("\\\n    ", ""),
     ];
 
@@ -129,23 +162,63 @@ mod tests {
         ("\\u", "NoBraceInUnicodeEscape", "NoBraceInUnicodeEscape"),
         ("\\u{", "UnclosedUnicodeEscape", "UnclosedUnicodeEscape"),
         ("\\u{}", "EmptyUnicodeEscape", "EmptyUnicodeEscape"),
-        ("\\u{_1}", "LeadingUnderscoreUnicodeEscape", "LeadingUnderscoreUnicodeEscape"),
-        ("\\u{1g}", "InvalidCharInUnicodeEscape", "InvalidCharInUnicodeEscape"),
-        ("\\u{1234567}", "OverlongUnicodeEscape", "OverlongUnicodeEscape"),
-        ("\\u{110000}", "OutOfRangeUnicodeEscape", "UnicodeEscapeInByte"),
-        ("\\u{D800}", "LoneSurrogateUnicodeEscape", "UnicodeEscapeInByte"),
+        (
+            "\\u{_1}",
+            "LeadingUnderscoreUnicodeEscape",
+            "LeadingUnderscoreUnicodeEscape",
+        ),
+        (
+            "\\u{1g}",
+            "InvalidCharInUnicodeEscape",
+            "InvalidCharInUnicodeEscape",
+        ),
+        (
+            "\\u{1234567}",
+            "OverlongUnicodeEscape",
+            "OverlongUnicodeEscape",
+        ),
+        (
+            "\\u{110000}",
+            "OutOfRangeUnicodeEscape",
+            "UnicodeEscapeInByte",
+        ),
+        (
+            "\\u{D800}",
+            "LoneSurrogateUnicodeEscape",
+            "UnicodeEscapeInByte",
+        ),
         ("\u{2028}", "2028", "NonAsciiCharInByte"),
     ];
 
     // The message of each fault, and whether it leaves no value.
     const MESSAGES: [(EscapeError, &str, bool); 23] = [
         (EscapeError::ZeroChars, "Literal must not be empty", true),
-        (EscapeError::MoreThanOneChar, "Literal must be one character long", true),
-        (EscapeError::LoneSlash, "Character must be escaped: `\\`", true),
+        (
+            EscapeError::MoreThanOneChar,
+            "Literal must be one character long",
+            true,
+        ),
+        (
+            EscapeError::LoneSlash,
+            "Character must be escaped: `\\`",
+            true,
+        ),
         (EscapeError::InvalidEscape, "Invalid escape", true),
-        (EscapeError::BareCarriageReturn, "Character must be escaped: `\r`", true),
-        (EscapeError::BareCarriageReturnInRawString, "Character must be escaped: `\r`", true),
-        (EscapeError::EscapeOnlyChar, "Escape character `\\` must be escaped itself", true),
+        (
+            EscapeError::BareCarriageReturn,
+            "Character must be escaped: `\r`",
+            true,
+        ),
+        (
+            EscapeError::BareCarriageReturnInRawString,
+            "Character must be escaped: `\r`",
+            true,
+        ),
+        (
+            EscapeError::EscapeOnlyChar,
+            "Escape character `\\` must be escaped itself",
+            true,
+        ),
         (
             EscapeError::TooShortHexEscape,
             "ASCII hex escape code must have exactly two digits",
@@ -156,21 +229,41 @@ mod tests {
             "ASCII hex escape code must contain only hex characters",
             true,
         ),
-        (EscapeError::OutOfRangeHexEscape, "ASCII hex escape code must be at most 0x7F", true),
-        (EscapeError::NoBraceInUnicodeEscape, "Missing `{` to begin the unicode escape", true),
+        (
+            EscapeError::OutOfRangeHexEscape,
+            "ASCII hex escape code must be at most 0x7F",
+            true,
+        ),
+        (
+            EscapeError::NoBraceInUnicodeEscape,
+            "Missing `{` to begin the unicode escape",
+            true,
+        ),
         (
             EscapeError::InvalidCharInUnicodeEscape,
             "Unicode escape must contain only hex characters and underscores",
             true,
         ),
-        (EscapeError::EmptyUnicodeEscape, "Unicode escape must not be empty", true),
-        (EscapeError::UnclosedUnicodeEscape, "Missing `}` to terminate the unicode escape", true),
+        (
+            EscapeError::EmptyUnicodeEscape,
+            "Unicode escape must not be empty",
+            true,
+        ),
+        (
+            EscapeError::UnclosedUnicodeEscape,
+            "Missing `}` to terminate the unicode escape",
+            true,
+        ),
         (
             EscapeError::LeadingUnderscoreUnicodeEscape,
             "Unicode escape code must not begin with an underscore",
             true,
         ),
-        (EscapeError::OverlongUnicodeEscape, "Unicode escape code must have at most 6 digits", true),
+        (
+            EscapeError::OverlongUnicodeEscape,
+            "Unicode escape code must have at most 6 digits",
+            true,
+        ),
         (
             EscapeError::LoneSurrogateUnicodeEscape,
             "Unicode escape code must not be a surrogate",
@@ -181,13 +274,21 @@ mod tests {
             "Unicode escape code must be at most 0x10FFFF",
             true,
         ),
-        (EscapeError::UnicodeEscapeInByte, "Byte literals must not contain unicode escapes", true),
+        (
+            EscapeError::UnicodeEscapeInByte,
+            "Byte literals must not contain unicode escapes",
+            true,
+        ),
         (
             EscapeError::NonAsciiCharInByte,
             "Byte literals must not contain non-ASCII characters",
             true,
         ),
-        (EscapeError::NulInCStr, "C strings literals must not contain null characters", true),
+        (
+            EscapeError::NulInCStr,
+            "C strings literals must not contain null characters",
+            true,
+        ),
         (
             EscapeError::MultipleSkippedLinesWarning,
             "Multiple lines are skipped by one escaped newline",

@@ -43,7 +43,7 @@ returns-then-is_some c =
     let new = reports_of c.read-report.new.self (chars c.as_str-self.result.now) in
     let split = chars_past_char c.loop-c.self.rest.now _ c.in-Some.c c.loop-c.invariant.text (sym c.loop-c.invariant.rest ∙ (c.in-Some.ensures.steps.0 ∙ ap (λ bs. encode_utf8 c.in-Some.c ++ bs) (sym c.as_str-self.ensures))) in
     let same = sym c.loop-c.invariant.same ∙ (ap (reports_of c.loop-c.self.reader) split
-        ∙ reports-taken c.loop-c.self.reader c.warn.new.self c.read-report.new.self c.read-report.result c.in-Some.c _ (sym c.in_default-warn.ensures.report) c.warn.ensures.reader c.read-report.ensures.report c.read-report.ensures.reader) in
+    ∙ reports-taken c.loop-c.self.reader c.warn.new.self c.read-report.new.self c.read-report.result c.in-Some.c _ (sym c.in_default-warn.ensures.report) c.warn.ensures.reader c.read-report.ensures.report c.read-report.ensures.reader) in
     subst (λ old. Gives old c.read-report.result new) (sym same) (Gives-before c.read-report.result new (sym c.is_some.ensures ∙ c.if-is_some.true))
 
 pub loop-c-preserved : goal.loop-c-preserved
@@ -51,7 +51,7 @@ loop-c-preserved c =
     let new = reports_of c.read-report.new.self (chars c.as_str-self.result.now) in
     let split = chars_past_char c.loop-c.self.rest.now _ c.in-Some.c c.loop-c.invariant.text (sym c.loop-c.invariant.rest ∙ (c.in-Some.ensures.steps.0 ∙ ap (λ bs. encode_utf8 c.in-Some.c ++ bs) (sym c.as_str-self.ensures))) in
     let same = sym c.loop-c.invariant.same ∙ (ap (reports_of c.loop-c.self.reader) split
-        ∙ reports-taken c.loop-c.self.reader c.warn.new.self c.read-report.new.self c.read-report.result c.in-Some.c _ (sym c.in_default-warn.ensures.report) c.warn.ensures.reader c.read-report.ensures.report c.read-report.ensures.reader) in
+    ∙ reports-taken c.loop-c.self.reader c.warn.new.self c.read-report.new.self c.read-report.result c.in-Some.c _ (sym c.in_default-warn.ensures.report) c.warn.ensures.reader c.read-report.ensures.report c.read-report.ensures.reader) in
     record {
       can_next = tt;
       is_finite = tt;
@@ -69,5 +69,5 @@ returns c =
     let none = chars_empty bs (omega (arith, c.in_default.ensures.steps.0, ap length c.loop-c.invariant.rest)) in
     let same = sym c.loop-c.invariant.same ∙ ap (reports_of c.loop-c.self.reader) none in
     subst (λ old. Gives old c.end.result (reports_of c.end.new.self (chars bs))) (sym same)
-        (subst (λ cs. Gives (reports_of c.loop-c.self.reader []) c.end.result (reports_of c.end.new.self cs)) (sym none)
-        (Gives-end c.loop-c.self.reader c.end.result c.end.new.self c.end.ensures.report c.end.ensures.over))
+    (subst (λ cs. Gives (reports_of c.loop-c.self.reader []) c.end.result (reports_of c.end.new.self cs)) (sym none)
+    (Gives-end c.loop-c.self.reader c.end.result c.end.new.self c.end.ensures.report c.end.ensures.over))
