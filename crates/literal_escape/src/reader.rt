@@ -1,5 +1,5 @@
 // Reports, and how far the reading is.
-ghost use Rattle.std.specs.Prelude.{◌≡◌, ◌<◌, ◌+◌, ◌^◌};
+ghost use Rattle.std.specs.Prelude.{◌≡◌, ◌<◌, ◌+◌, ◌^◌, MatchOption};
 ghost use Rattle.std.specs.Result.{ForOk};
 ghost use Rattle.std.specs.Char.{len_utf8};
 ghost use Rattle.literal_escape.specs.Reading.{report_of, fresh_of, warning_of, warned_of, read_report_of, read_of, end_report_of};
@@ -123,6 +123,7 @@ impl Reader {
     #[tactic(auto, unfolding(crate::specs::Reading::end_report_of))]
     pub fn end(&mut self) -> Option<Report>
         ensures report { result ≡ end_report_of self.old }
+        ensures reader { MatchOption result (self.new ≡ self.old) (λ _. self.new ≡ fresh_of self.old) }
         ensures over { end_report_of self.new ≡ None }
         ensures at { self.new.at ≡ self.old.at }
     {

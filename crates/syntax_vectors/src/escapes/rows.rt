@@ -73,8 +73,9 @@ mod tests {
     ];
 
     // Contents of byte strings, where they differ from strings.
-    const BYTE_STRINGS: [(&str, &str); 12] = [
+    const BYTE_STRINGS: [(&str, &str); 13] = [
         ("", ""),
+        ("\\r\\t\\\\\\x41", "0..2 d, 2..4 9, 4..6 5c, 6..10 41"),
         (
             "a\\n\\'\\\"\\0",
             "0..1 61, 1..3 a, 3..5 27, 5..7 22, 7..9 0",
@@ -107,8 +108,12 @@ mod tests {
     ];
 
     // Contents of C strings, where they differ. A byte from 80 on is its number past 200000.
-    const C_STRINGS: [(&str, &str); 9] = [
+    const C_STRINGS: [(&str, &str); 10] = [
         ("", ""),
+        (
+            "\\r\\t\\\\\\x41\\u{41}",
+            "0..2 d, 2..4 9, 4..6 5c, 6..10 41, 10..16 41",
+        ),
         ("aé\\n\\'\\\"", "0..1 61, 1..3 e9, 3..5 a, 5..7 27, 7..9 22"),
         ("\\x7f\\x80\\xFF", "0..4 7f, 4..8 200080, 8..12 2000ff"),
         ("\\u{e9}é", "0..6 e9, 6..8 e9"),
