@@ -74,10 +74,10 @@ pub enum EscapeError {
     #[error("C strings literals must not contain null characters")]
     NulInCStr,
     /// A warning: what a continuation skips holds a second newline.
-    #[error("Multiple lines are skipped by one escaped newline")]
+    #[error("Multiple lines are skipped by this escape")]
     MultipleSkippedLinesWarning,
     /// A warning: white space that is not skipped follows a continuation.
-    #[error("White space after an escaped newline is not skipped")]
+    #[error("Whitespace after this escape is not skipped")]
     UnskippedWhitespaceWarning,
 }
 

@@ -296,12 +296,12 @@ mod tests {
         ),
         (
             EscapeError::MultipleSkippedLinesWarning,
-            "Multiple lines are skipped by one escaped newline",
+            "Multiple lines are skipped by this escape",
             false,
         ),
         (
             EscapeError::UnskippedWhitespaceWarning,
-            "White space after an escaped newline is not skipped",
+            "Whitespace after this escape is not skipped",
             false,
         ),
     ];
