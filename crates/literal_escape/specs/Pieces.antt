@@ -1,6 +1,7 @@
 -- The pieces of a content, each by one row of the table of escapes, and what each reports.
+-- Source: the Rust Reference, "Tokens", on escapes and string continuations; the faults are those of upstream's `unescape`.
 use Rattle.std.specs.Prelude.{◌≡◌, ℕ, ◌+◌, ◌*◌, ◌<◌, ◌≤◌, Bool, true, false, not, ◌==◌, ◌&&◌, ◌||◌, if◌then◌else◌, Option, Some, None, Result, Ok, Err, List, [], ◌∷◌, ◌++◌, flat_map, sum_by}
-use Rattle.std.specs.List.{list_all, list_any, AllByRecursion}
+use Rattle.std.specs.List.{list_all, list_any, AllByRecursion, FoldsTo}
 use Rattle.std.specs.declared.ops.Range.{Range}
 use Rattle.std.specs.Char.{digit_value, len_utf8, is_whitespace}
 use Rattle.literal_escape.specs.declared.error.EscapeError.{EscapeError}
@@ -146,6 +147,11 @@ reports_from mode at (p ∷ ps) = piece_reports mode at p (flat_map spelling ps)
 -- where a report stands, as the calls give it
 abbrev pub range_of : Report → Range ℕ
 range_of r = record { start = r.start; end = r.end }
+
+-- Calls of a closure, by its step, lead from its state on to some last one: one call for each report, in order, with
+-- where it stands and with the meaning or fault as view shows it
+abbrev pub CalledOnEach : {F U : Type 0} → (Result MixedUnit EscapeError → U) → (F → Range ℕ → U → F → Type 0) → F → List Report → Type 0
+CalledOnEach {F} view step f reports = (last : F) × FoldsTo (λ p r q. step p (range_of r) (view r.unit) q) f reports last
 
 -- P holds of the reports of the content's cut
 abbrev pub OfReports : Mode → List ℕ → (List Report → Type 0) → Type 0

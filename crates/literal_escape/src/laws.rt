@@ -12,5 +12,6 @@ pub fn one_cut()
 /// The ranges of a cut's reports lie on characters and follow each other: none is empty, and none
 /// begins within the unit before it. (A warning covers what it warns of.)
 pub fn ranges()
-    ensures { (mode : Mode) (content : List ℕ) (pieces : List Piece) → IsCut mode content pieces → AreRanges content (reports_from mode 0 pieces) }
+    ensures { (mode : Mode) (content : List ℕ) (pieces : List Piece)
+        → IsCut mode content pieces → AreRanges content (reports_from mode 0 pieces) }
 {}

@@ -1,9 +1,8 @@
 // The calls: each walks over the reports of a content.
 ghost use Rattle.std.specs.Prelude.{◌≡◌, ◌<◌, true, IfOk};
 ghost use Rattle.std.specs.Str.{chars};
-ghost use Rattle.std.specs.List.{FoldsTo};
 ghost use Rattle.literal_escape.specs.Literal.{numbered, number_of, is_bytes};
-ghost use Rattle.literal_escape.specs.Pieces.{OfReports, range_of, single};
+ghost use Rattle.literal_escape.specs.Pieces.{OfReports, CalledOnEach, single};
 
 use crate::error::EscapeError;
 use crate::mode::{MixedUnit, Mode};
@@ -60,7 +59,8 @@ pub fn unescape_str<F: FnMut(Range<usize>, Result<char, EscapeError>)>(
     mut callback: F,
 )
     requires { F.IsAlwaysCallable callback }
-    ensures { OfReports Mode.Str (chars content.now) (λ reports. (last : F) × FoldsTo (λ f report g. F.step f (range_of report) (numbered report.unit) tt g) callback reports last) }
+    ensures { OfReports Mode.Str (chars content.now)
+        (CalledOnEach numbered (λ f range unit g. F.step f range unit tt g) callback) }
 {
     let mut units = Units::new(Mode::Str, content);
     while let Some(report) = units.next() {
@@ -74,7 +74,8 @@ pub fn unescape_byte_str<F: FnMut(Range<usize>, Result<u8, EscapeError>)>(
     mut callback: F,
 )
     requires { F.IsAlwaysCallable callback }
-    ensures { OfReports Mode.ByteStr (chars content.now) (λ reports. (last : F) × FoldsTo (λ f report g. F.step f (range_of report) (numbered report.unit) tt g) callback reports last) }
+    ensures { OfReports Mode.ByteStr (chars content.now)
+        (CalledOnEach numbered (λ f range unit g. F.step f range unit tt g) callback) }
 {
     let mut units = Units::new(Mode::ByteStr, content);
     while let Some(report) = units.next() {
@@ -89,7 +90,8 @@ pub fn unescape_c_str<F: FnMut(Range<usize>, Result<MixedUnit, EscapeError>)>(
     mut callback: F,
 )
     requires { F.IsAlwaysCallable callback }
-    ensures { OfReports Mode.CStr (chars content.now) (λ reports. (last : F) × FoldsTo (λ f report g. F.step f (range_of report) report.unit tt g) callback reports last) }
+    ensures { OfReports Mode.CStr (chars content.now)
+        (CalledOnEach (λ unit. unit) (λ f range unit g. F.step f range unit tt g) callback) }
 {
     let mut units = Units::new(Mode::CStr, content);
     while let Some(report) = units.next() {
