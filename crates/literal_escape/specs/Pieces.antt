@@ -148,10 +148,10 @@ reports_from mode at (p ∷ ps) = piece_reports mode at p (flat_map spelling ps)
 abbrev pub range_of : Report → Range ℕ
 range_of r = record { start = r.start; end = r.end }
 
--- Calls of a closure, by its step, lead from its state on to some last one: one call for each report, in order, with
--- where it stands and with the meaning or fault as view shows it
-abbrev pub CalledOnEach : {F U : Type 0} → (Result MixedUnit EscapeError → U) → (F → Range ℕ → U → F → Type 0) → F → List Report → Type 0
-CalledOnEach {F} view step f reports = (last : F) × FoldsTo (λ p r q. step p (range_of r) (view r.unit) q) f reports last
+-- Calls of a closure, by its step, lead from one state to another: one call for each report, in order, with where it
+-- stands and with the meaning or fault as view shows it
+abbrev pub CalledOnEach : {F U : Type 0} → (Result MixedUnit EscapeError → U) → (F → Range ℕ → U → F → Type 0) → F → F → List Report → Type 0
+CalledOnEach view step old new reports = FoldsTo (λ f r g. step f (range_of r) (view r.unit) g) old reports new
 
 -- P holds of the reports of the content's cut
 abbrev pub OfReports : Mode → List ℕ → (List Report → Type 0) → Type 0

@@ -60,12 +60,9 @@ pub fn unescape_str<F: FnMut(Range<usize>, Result<char, EscapeError>)>(
 )
     requires { F.IsAlwaysCallable callback }
     ensures { OfReports Mode.Str (chars content.now)
-        (CalledOnEach numbered (λ f range unit g. F.step f range unit tt g) callback) }
+        (λ reports. (last : F) × CalledOnEach numbered (λ f range unit g. F.step f range unit tt g) callback last reports) }
 {
-    let mut units = Units::new(Mode::Str, content);
-    while let Some(report) = units.next() {
-        callback(report.range(), report.as_char());
-    }
+    each_char(content, &mut callback);
 }
 
 /// As [`unescape_str`], of a byte string's content: a unit is a byte.
@@ -75,12 +72,9 @@ pub fn unescape_byte_str<F: FnMut(Range<usize>, Result<u8, EscapeError>)>(
 )
     requires { F.IsAlwaysCallable callback }
     ensures { OfReports Mode.ByteStr (chars content.now)
-        (CalledOnEach numbered (λ f range unit g. F.step f range unit tt g) callback) }
+        (λ reports. (last : F) × CalledOnEach numbered (λ f range unit g. F.step f range unit tt g) callback last reports) }
 {
-    let mut units = Units::new(Mode::ByteStr, content);
-    while let Some(report) = units.next() {
-        callback(report.range(), report.as_byte());
-    }
+    each_byte(content, &mut callback);
 }
 
 /// As [`unescape_str`], of a C string's content: a unit is a character, or a byte from 80 on that
@@ -91,7 +85,43 @@ pub fn unescape_c_str<F: FnMut(Range<usize>, Result<MixedUnit, EscapeError>)>(
 )
     requires { F.IsAlwaysCallable callback }
     ensures { OfReports Mode.CStr (chars content.now)
-        (CalledOnEach (λ unit. unit) (λ f range unit g. F.step f range unit tt g) callback) }
+        (λ reports. (last : F) × CalledOnEach (λ unit. unit) (λ f range unit g. F.step f range unit tt g) callback last reports) }
+{
+    each_mixed(content, &mut callback);
+}
+
+/// As [`unescape_str`], for a callback that the caller keeps: the calls that were made are all that
+/// changed it.
+pub fn each_char<F: FnMut(Range<usize>, Result<char, EscapeError>)>(content: &str, callback: &mut F)
+    requires { F.IsAlwaysCallable callback.old }
+    ensures { OfReports Mode.Str (chars content.now)
+        (CalledOnEach numbered (λ f range unit g. F.step f range unit tt g) callback.old callback.new) }
+{
+    let mut units = Units::new(Mode::Str, content);
+    while let Some(report) = units.next() {
+        callback(report.range(), report.as_char());
+    }
+}
+
+/// As [`unescape_byte_str`], for a callback that the caller keeps: the calls that were made are all that
+/// changed it.
+pub fn each_byte<F: FnMut(Range<usize>, Result<u8, EscapeError>)>(content: &str, callback: &mut F)
+    requires { F.IsAlwaysCallable callback.old }
+    ensures { OfReports Mode.ByteStr (chars content.now)
+        (CalledOnEach numbered (λ f range unit g. F.step f range unit tt g) callback.old callback.new) }
+{
+    let mut units = Units::new(Mode::ByteStr, content);
+    while let Some(report) = units.next() {
+        callback(report.range(), report.as_byte());
+    }
+}
+
+/// As [`unescape_c_str`], for a callback that the caller keeps: the calls that were made are all that
+/// changed it.
+pub fn each_mixed<F: FnMut(Range<usize>, Result<MixedUnit, EscapeError>)>(content: &str, callback: &mut F)
+    requires { F.IsAlwaysCallable callback.old }
+    ensures { OfReports Mode.CStr (chars content.now)
+        (CalledOnEach (λ unit. unit) (λ f range unit g. F.step f range unit tt g) callback.old callback.new) }
 {
     let mut units = Units::new(Mode::CStr, content);
     while let Some(report) = units.next() {
