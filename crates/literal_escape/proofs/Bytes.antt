@@ -12,10 +12,8 @@ use Rattle.literal_escape.specs.declared.mode.MixedUnit.{MixedUnit}
 use Rattle.literal_escape.specs.declared.reader.Report.{Report}
 use Rattle.literal_escape.specs.Literal.{is_bytes, is_simple, simple, must_be_escaped, meaning, plain, hex, code, digits, number, number_of}
 use Rattle.literal_escape.specs.Pieces.{Piece, character, letter, pair, braced, faulty, continuation, spelling, IsPiece, IsCut, size, lines_warning, white_warning, piece_reports, reports_from}
-use Rattle.literal_escape.specs.Reading.{all_reports}
 use Rattle.literal_escape.proofs.Digits.{hex_small}
-use Rattle.literal_escape.proofs.Partial.{fresh}
-use Rattle.literal_escape.proofs.Cutting.{pieces_of, cut-text, works}
+use Rattle.literal_escape.proofs.Cutting.{cut-text}
 
 abbrev pub IsByteReport : Report → Type 0
 IsByteReport r = IfOk r.unit (λ unit. number_of unit < 256)
@@ -72,11 +70,8 @@ piece_bytes mode at (faulty s next) rest b h = (tt, tt)
 piece_bytes mode at (continuation bs) rest b h =
     all-append (lines_warning at bs) (white_warning at bs rest) (one_warning (list_any (λ c. c == 10) bs) at (at + size (92 ∷ 10 ∷ bs)) MultipleSkippedLinesWarning) (white_bytes at bs rest)
 
-bytes_from : (mode : Mode) (at : ℕ) (ps : List Piece) (cs : List ℕ) → is_bytes mode ≡ true → IsCut mode cs ps → AllByRecursion IsByteReport (reports_from mode at ps)
+pub bytes_from : (mode : Mode) (at : ℕ) (ps : List Piece) (cs : List ℕ) → is_bytes mode ≡ true → IsCut mode cs ps → AllByRecursion IsByteReport (reports_from mode at ps)
 bytes_from mode at [] cs b h = tt
 bytes_from mode at (p ∷ ps) cs b h =
     all-append (piece_reports mode at p (flat_map spelling ps)) (reports_from mode (at + size (spelling p)) ps)
     (piece_bytes mode at p (flat_map spelling ps) b (subst (IsPiece mode p) (sym (cut-text mode h.0 ps h.3)) h.2)) (bytes_from mode (at + size (spelling p)) ps h.0 b h.3)
-
-pub all_bytes : (mode : Mode) (cs : List ℕ) → is_bytes mode ≡ true → AllByRecursion IsByteReport (all_reports mode cs)
-all_bytes mode cs b = let w = works cs mode fresh tt in subst (AllByRecursion IsByteReport) (w.reports 0) (bytes_from mode 0 (pieces_of mode fresh cs) cs b w.cut)

@@ -15,7 +15,7 @@ use Rattle.literal_escape.specs.declared.progress.State.TheVariants as states
 use Rattle.literal_escape.specs.declared.progress.Step.TheVariants.{Go, Unit as Ends}
 use Rattle.literal_escape.specs.Literal.{is_blank}
 use Rattle.literal_escape.specs.Pieces.{Begun, slash, slash_x, slash_x_digit, slash_u, slash_u_brace, slash_u_digits, Piece, faulty, continuation, front, spelling, IsCut, fault, size, lines_warning, white_warning, reports_from, OfReports}
-use Rattle.literal_escape.specs.Reading.{step_of, is_over, has_lines, fresh_of, found, behind, past, warning_of, warned_of, read_report_of, read_of, end_fault_of, end_report_of, before, reports_of, all_reports}
+use Rattle.literal_escape.specs.Reading.{step_of, is_over, has_lines, fresh_of, found, behind, past, warning_of, warned_of, read_report_of, read_of, end_fault_of, end_report_of, before, reports_of}
 use Rattle.literal_escape.proofs.Partial.{Part, fresh, begun, blanks, Next, more, done, text, IsPart, after, state_of, unit_of, Sound, sound}
 
 -- the piece that the content's end cuts off
@@ -215,6 +215,6 @@ works (c ∷ cs) mode fresh h = step mode fresh c cs h refl (λ q k. works cs mo
 works (c ∷ cs) mode (begun b) h = step mode (begun b) c cs h (not_over b c) (λ q k. works cs mode q k)
 works (c ∷ cs) mode (blanks bs) h = blanks_by (is_blank c) mode bs c cs refl h (λ q k. works cs mode q k)
 
--- what holds of what the reader reports holds of the reports of the cut
-pub of_reports : (mode : Mode) (cs : List ℕ) (P : List Report → Type 0) → P (all_reports mode cs) → OfReports mode cs P
-of_reports mode cs P h = let w = works cs mode fresh tt in (pieces_of mode fresh cs, w.cut, subst P (sym (w.reports 0)) h)
+-- what a reader at the start of a content still reports is what some cut of it does
+pub starts : (mode : Mode) (cs : List ℕ) → OfReports mode cs (λ rs. reports_of (reader mode 0 fresh) cs ≡ rs)
+starts mode cs = let w = works cs mode fresh tt in (pieces_of mode fresh cs, w.cut, sym (w.reports 0))

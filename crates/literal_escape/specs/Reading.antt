@@ -1,5 +1,5 @@
--- What the reader's private functions answer, by the state that they stand in. No public clause cites this file:
--- the pieces are in Pieces.
+-- What the reader's private functions answer, by the state that they stand in. Of these, public clauses cite to_come
+-- and Gives alone: the pieces are in Pieces.
 use Rattle.std.specs.Prelude.{◌≡◌, ℕ, ◌+◌, ◌-◌, ◌*◌, ◌^◌, min, Bool, false, not, ◌==◌, ◌&&◌, ◌||◌, if◌then◌else◌, Option, Some, None, Result, Err, List, [], ◌∷◌}
 use Rattle.std.specs.Char.{digit_value, len_utf8, is_whitespace}
 use Rattle.std.specs.Str.{chars}
@@ -150,10 +150,7 @@ reports_of r (c ∷ cs) =
     before (warning_of r c) (before (if has_lines r.state then warning_of (warned_of r c) c else None)
     (before (read_report_of (left_of r c) c) (reports_of (read_of (left_of r c) c) cs)))
 
--- what a reader of this content reports, from its start on
-abbrev pub all_reports : Mode → List ℕ → List Report
-all_reports mode content = reports_of (record { mode = mode; start = 0; at = 0; state = states.Start }) content
-
+-- the reports that are still to be given
 abbrev pub to_come : Units → List Report
 to_come u = reports_of u.reader (chars u.rest.now)
 

@@ -15,10 +15,12 @@ pub mod mode;
 mod progress;
 mod reader;
 pub mod unescape;
-mod units;
+pub mod units;
 
 pub use crate::error::EscapeError;
 pub use crate::mode::{MixedUnit, Mode};
+pub use crate::reader::Report;
 pub use crate::unescape::{
     unescape_byte, unescape_byte_str, unescape_c_str, unescape_char, unescape_str,
 };
+pub use crate::units::Units;

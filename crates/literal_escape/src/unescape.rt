@@ -118,7 +118,10 @@ pub fn each_byte<F: FnMut(Range<usize>, Result<u8, EscapeError>)>(content: &str,
 
 /// As [`unescape_c_str`], for a callback that the caller keeps: the calls that were made are all that
 /// changed it.
-pub fn each_mixed<F: FnMut(Range<usize>, Result<MixedUnit, EscapeError>)>(content: &str, callback: &mut F)
+pub fn each_mixed<F: FnMut(Range<usize>, Result<MixedUnit, EscapeError>)>(
+    content: &str,
+    callback: &mut F,
+)
     requires { F.IsAlwaysCallable callback.old }
     ensures { OfReports Mode.CStr (chars content.now)
         (CalledOnEach (λ unit. unit) (λ f range unit g. F.step f range unit tt g) callback.old callback.new) }

@@ -6,19 +6,22 @@ use crate::mode::Mode;
 use crate::progress::State;
 use crate::reader::{Reader, Report};
 
-/// The reports of a content's pieces, in order.
+/// The reports of a content's pieces, in order: the units of [`crate::unescape_str`] and the other
+/// calls, one by one.
 #[derive(Drop)]
 pub struct Units<'a> {
-    pub reader: Reader,
-    pub rest: &'a str,
+    reader: Reader,
+    rest: &'a str,
     ghost in_memory: { reader.at + length rest.now < 2 ^ 64 },
 }
 
 impl<'a> Units<'a> {
-    ghost use Rattle.literal_escape.specs.Reading.{to_come, all_reports, Gives};
+    ghost use Rattle.literal_escape.specs.Pieces.{OfReports};
+    ghost use Rattle.literal_escape.specs.Reading.{to_come, Gives};
 
+    /// The reports of this content, of which none is given yet.
     pub fn new(mode: Mode, content: &'a str) -> Units<'a>
-        ensures { to_come result ≡ all_reports mode (chars content.now) }
+        ensures { OfReports mode (chars content.now) (λ reports. to_come result ≡ reports) }
     {
         Units {
             reader: Reader {
@@ -31,7 +34,7 @@ impl<'a> Units<'a> {
         }
     }
 
-    /// The next report.
+    /// The next report. After the last one it is None, again and again.
     pub fn next(&mut self) -> Option<Report>
         ensures { Gives (to_come self.old) result (to_come self.new) }
     {
