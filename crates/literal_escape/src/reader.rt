@@ -21,22 +21,19 @@ impl Report {
     ghost use Rattle.literal_escape.specs.Literal.{numbered, number_of};
     ghost use Rattle.literal_escape.specs.Pieces.{range_of};
 
-    pub fn range(self) -> Range<usize>
+    pub(crate) fn range(self) -> Range<usize>
         ensures { result ≡ range_of self }
     {
         self.start..self.end
     }
 
-    pub fn as_char(self) -> Result<char, EscapeError>
+    pub(crate) fn as_char(self) -> Result<char, EscapeError>
         ensures { result ≡ numbered self.unit }
     {
-        match self.unit {
-            Ok(unit) => Ok(unit.as_char()),
-            Err(fault) => Err(fault),
-        }
+        self.unit.map(MixedUnit::as_char)
     }
 
-    pub fn as_byte(self) -> Result<u8, EscapeError>
+    pub(crate) fn as_byte(self) -> Result<u8, EscapeError>
         requires { ForOk self.unit (λ unit. number_of unit < 256) }
         ensures { result ≡ numbered self.unit }
     {

@@ -32,10 +32,7 @@ fn one(content: &str, mode: Mode) -> Result<MixedUnit, EscapeError>
 pub fn unescape_char(content: &str) -> Result<char, EscapeError>
     ensures { OfReports Mode.Char (chars content.now) (λ reports. result ≡ numbered (single reports)) }
 {
-    match one(content, Mode::Char) {
-        Ok(unit) => Ok(unit.as_char()),
-        Err(fault) => Err(fault),
-    }
+    one(content, Mode::Char).map(MixedUnit::as_char)
 }
 
 /// The byte of a byte literal with this content, as `\xff` or `a`. Its faults are as those of
