@@ -1,6 +1,8 @@
-//! Tests of what no contract of the crates below says.
+//! Tests of what no contract of the crates below says, and the rows of their tables and documentation.
 #![tactic(auto)]
 
+#[cfg(test)]
+mod escapes;
 #[cfg(test)]
 mod events;
 #[cfg(test)]

@@ -1,0 +1,4 @@
+use Rattle.literal_escape.proofs.unescape.unescape_str.Goals as goal
+
+pub returns : goal.returns
+returns g c = let calls = c.each_char.ensures in (calls.0, calls.1, (_, calls.2))

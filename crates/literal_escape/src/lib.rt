@@ -1,0 +1,26 @@
+//! What the text of a Rust literal means: characters, bytes, strings, byte strings and C strings.
+//!
+//! A *content* is what stands between the quotes of a literal that is not raw. It is cut into
+//! pieces: a character for itself, an escape, a faulty piece, or a continuation, which is a
+//! backslash before a newline with the blanks after it. A string's continuation means nothing;
+//! each other piece is a *unit*, with a meaning or a fault. All places are byte offsets into the
+//! content. No call takes memory, and each reads the content once.
+//!
+//! Source: the Rust Reference, "Tokens", its section on character and string literals.
+#![tactic(auto)]
+
+pub mod error;
+pub mod laws;
+pub mod mode;
+mod progress;
+mod reader;
+pub mod unescape;
+pub mod units;
+
+pub use crate::error::EscapeError;
+pub use crate::mode::{MixedUnit, Mode};
+pub use crate::reader::Report;
+pub use crate::unescape::{
+    unescape_byte, unescape_byte_str, unescape_c_str, unescape_char, unescape_str,
+};
+pub use crate::units::Units;

@@ -1,0 +1,130 @@
+// The calls: each walks over the reports of a content.
+ghost use Rattle.std.specs.Prelude.{◌≡◌, ◌<◌, true, IfOk};
+ghost use Rattle.std.specs.Str.{chars};
+ghost use Rattle.literal_escape.specs.Literal.{numbered, number_of, is_bytes};
+ghost use Rattle.literal_escape.specs.Pieces.{OfReports, CalledOnEach, single};
+
+use crate::error::EscapeError;
+use crate::mode::{MixedUnit, Mode};
+use crate::reader::Report;
+use crate::units::Units;
+use std::ops::Range;
+
+// The answer for the reports of a literal of one unit.
+fn one(content: &str, mode: Mode) -> Result<MixedUnit, EscapeError>
+    ensures byte { is_bytes mode ≡ true → IfOk result (λ unit. number_of unit < 256) }
+    ensures single { OfReports mode (chars content.now) (λ reports. result ≡ single reports) }
+{
+    let mut units = Units::new(mode, content);
+    let Some(first) = units.next() else {
+        return Err(EscapeError::ZeroChars);
+    };
+    if first.unit.is_ok() && units.next().is_some() {
+        return Err(EscapeError::MoreThanOneChar);
+    }
+    first.unit
+}
+
+/// The character of a character literal with this content, as `\n` or `é`.
+///
+/// The first unit's fault comes before [`EscapeError::MoreThanOneChar`], which says that something
+/// follows a good one. An empty content is [`EscapeError::ZeroChars`].
+pub fn unescape_char(content: &str) -> Result<char, EscapeError>
+    ensures { OfReports Mode.Char (chars content.now) (λ reports. result ≡ numbered (single reports)) }
+{
+    one(content, Mode::Char).map(MixedUnit::as_char)
+}
+
+/// The byte of a byte literal with this content, as `\xff` or `a`. Its faults are as those of
+/// [`unescape_char`].
+pub fn unescape_byte(content: &str) -> Result<u8, EscapeError>
+    ensures { OfReports Mode.Byte (chars content.now) (λ reports. result ≡ numbered (single reports)) }
+{
+    match one(content, Mode::Byte) {
+        Ok(unit) => Ok(unit.as_byte()),
+        Err(fault) => Err(fault),
+    }
+}
+
+/// Calls `callback` on each unit of a string's content, in order: where it stands, in bytes, and
+/// its character or its fault. After a fault the reading goes on. The warnings of a continuation
+/// come among the units as faults that are not fatal.
+///
+/// The characters of `a\tb` are at `0..1`, `1..3` and `3..4`.
+pub fn unescape_str<F: FnMut(Range<usize>, Result<char, EscapeError>)>(
+    content: &str,
+    mut callback: F,
+)
+    requires { F.IsAlwaysCallable callback }
+    ensures { OfReports Mode.Str (chars content.now)
+        (λ reports. (last : F) × CalledOnEach numbered (λ f range unit g. F.step f range unit tt g) callback last reports) }
+{
+    each_char(content, &mut callback);
+}
+
+/// As [`unescape_str`], of a byte string's content: a unit is a byte.
+pub fn unescape_byte_str<F: FnMut(Range<usize>, Result<u8, EscapeError>)>(
+    content: &str,
+    mut callback: F,
+)
+    requires { F.IsAlwaysCallable callback }
+    ensures { OfReports Mode.ByteStr (chars content.now)
+        (λ reports. (last : F) × CalledOnEach numbered (λ f range unit g. F.step f range unit tt g) callback last reports) }
+{
+    each_byte(content, &mut callback);
+}
+
+/// As [`unescape_str`], of a C string's content: a unit is a character, or a byte from 80 on that
+/// `\x` names.
+pub fn unescape_c_str<F: FnMut(Range<usize>, Result<MixedUnit, EscapeError>)>(
+    content: &str,
+    mut callback: F,
+)
+    requires { F.IsAlwaysCallable callback }
+    ensures { OfReports Mode.CStr (chars content.now)
+        (λ reports. (last : F) × CalledOnEach (λ unit. unit) (λ f range unit g. F.step f range unit tt g) callback last reports) }
+{
+    each_mixed(content, &mut callback);
+}
+
+/// As [`unescape_str`], for a callback that the caller keeps: the calls that were made are all that
+/// changed it.
+pub fn each_char<F: FnMut(Range<usize>, Result<char, EscapeError>)>(content: &str, callback: &mut F)
+    requires { F.IsAlwaysCallable callback.old }
+    ensures { OfReports Mode.Str (chars content.now)
+        (CalledOnEach numbered (λ f range unit g. F.step f range unit tt g) callback.old callback.new) }
+{
+    let mut units = Units::new(Mode::Str, content);
+    while let Some(report) = units.next() {
+        callback(report.range(), report.as_char());
+    }
+}
+
+/// As [`unescape_byte_str`], for a callback that the caller keeps: the calls that were made are all that
+/// changed it.
+pub fn each_byte<F: FnMut(Range<usize>, Result<u8, EscapeError>)>(content: &str, callback: &mut F)
+    requires { F.IsAlwaysCallable callback.old }
+    ensures { OfReports Mode.ByteStr (chars content.now)
+        (CalledOnEach numbered (λ f range unit g. F.step f range unit tt g) callback.old callback.new) }
+{
+    let mut units = Units::new(Mode::ByteStr, content);
+    while let Some(report) = units.next() {
+        callback(report.range(), report.as_byte());
+    }
+}
+
+/// As [`unescape_c_str`], for a callback that the caller keeps: the calls that were made are all that
+/// changed it.
+pub fn each_mixed<F: FnMut(Range<usize>, Result<MixedUnit, EscapeError>)>(
+    content: &str,
+    callback: &mut F,
+)
+    requires { F.IsAlwaysCallable callback.old }
+    ensures { OfReports Mode.CStr (chars content.now)
+        (CalledOnEach (λ unit. unit) (λ f range unit g. F.step f range unit tt g) callback.old callback.new) }
+{
+    let mut units = Units::new(Mode::CStr, content);
+    while let Some(report) = units.next() {
+        callback(report.range(), report.unit);
+    }
+}

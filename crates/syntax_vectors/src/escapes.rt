@@ -1,0 +1,5 @@
+// The calls of `literal_escape`.
+mod calls;
+mod every;
+mod plain;
+mod rows;
