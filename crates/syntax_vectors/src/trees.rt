@@ -93,3 +93,60 @@ fn refusals_come_in_their_order(rt: HostRuntime) -> Result<(), Fail> {
     assert!(rt; matches!(&builder.finish(), Err(FinishError::OverClosed)));
     Ok(())
 }
+
+// Many nodes, one in the other.
+#[test]
+fn deep_trees_need_no_stack(rt: HostRuntime) -> Result<(), Fail> {
+    let mut builder = TreeBuilder::new(rt.alloc());
+    for _depth in 0..100_000 {
+        builder.start_node(SyntaxKind::NAME)?;
+    }
+    for _depth in 0..100_000 {
+        builder.finish_node()?;
+    }
+    let root = builder.finish()?;
+    let mut events: usize = 0;
+    for _event in root.preorder_with_tokens() {
+        events = events.saturating_add(1);
+    }
+    assert_eq!(rt; events, 200_000);
+    let mut count: usize = 0;
+    for _element in root.descendants_with_tokens() {
+        count = count.saturating_add(1);
+    }
+    assert_eq!(rt; count, 100_000);
+    Ok(())
+}
+
+// Each step of a walk takes constant time, among many siblings too.
+#[test]
+fn wide_trees_take_linear_time(rt: HostRuntime) -> Result<(), Fail> {
+    let mut builder = TreeBuilder::new(rt.alloc());
+    builder.start_node(SyntaxKind::SOURCE_FILE)?;
+    for _child in 0..100_000 {
+        builder.start_node(SyntaxKind::NAME)?;
+        builder.token(SyntaxKind::IDENT, "a")?;
+        builder.finish_node()?;
+    }
+    builder.finish_node()?;
+    let root = builder.finish()?;
+    let mut events: usize = 0;
+    for _event in root.preorder_with_tokens() {
+        events = events.saturating_add(1);
+    }
+    assert_eq!(rt; events, 400_002);
+    let mut next = root.first_child_or_token();
+    let mut children: usize = 0;
+    for _turn in 0..100_001 {
+        let Some(NodeOrToken::Node(child)) = next else {
+            break;
+        };
+        children = children.saturating_add(1);
+        next = child.next_sibling_or_token();
+    }
+    assert_eq!(rt; children, 100_000);
+    let text = root.dump(rt.alloc())?;
+    assert_eq!(rt; root.as_str().len(), 100_000);
+    assert!(rt; text.len() > 1_000_000);
+    Ok(())
+}
