@@ -149,8 +149,14 @@ fn names_are_read_back(rt: HostRuntime) {
 
 #[test]
 fn other_has_a_plain_number(rt: HostRuntime) {
-    assert_eq!(rt; SyntaxKind::from_name("OTHER(0)"), Some(SyntaxKind::OTHER(0)));
-    assert_eq!(rt; SyntaxKind::from_name("OTHER(65535)"), Some(SyntaxKind::OTHER(65_535)));
+    assert_eq!(rt;
+        SyntaxKind::from_name("OTHER(0)"),
+        Some(SyntaxKind::OTHER(0))
+    );
+    assert_eq!(rt;
+        SyntaxKind::from_name("OTHER(65535)"),
+        Some(SyntaxKind::OTHER(65_535))
+    );
     assert_eq!(rt; SyntaxKind::from_name("OTHER(65536)"), None);
     assert_eq!(rt; SyntaxKind::from_name("OTHER(07)"), None);
     assert_eq!(rt; SyntaxKind::from_name("OTHER(+7)"), None);
@@ -162,7 +168,12 @@ fn other_has_a_plain_number(rt: HostRuntime) {
 #[test]
 fn kinds_print_their_names(rt: HostRuntime) -> Result<(), Fail> {
     let alloc = rt.alloc();
-    let text = format!(in alloc; "{} {} {}", SyntaxKind::BIN_EXPR, T![match], SyntaxKind::OTHER(7))?;
+    let text = format!(in alloc;
+        "{} {} {}",
+        SyntaxKind::BIN_EXPR,
+        T![match],
+        SyntaxKind::OTHER(7)
+    )?;
     assert_eq!(rt; text.as_str(), "BIN_EXPR MATCH_KW OTHER(7)");
     let text = format!(in alloc; "{:?} {:?}", SyntaxKind::BIN_EXPR, SyntaxKind::OTHER(7))?;
     assert_eq!(rt; text.as_str(), "BIN_EXPR OTHER(7)");
@@ -186,7 +197,10 @@ fn numbers_at_their_edges(rt: HostRuntime) {
     assert_eq!(rt; read::<RustLanguage>(264), None);
     assert_eq!(rt; read::<RustLanguage>(65_535), None);
     assert_eq!(rt; read::<RustLanguage>(65_536), Some(SyntaxKind::OTHER(0)));
-    assert_eq!(rt; read::<RustLanguage>(131_071), Some(SyntaxKind::OTHER(65_535)));
+    assert_eq!(rt;
+        read::<RustLanguage>(131_071),
+        Some(SyntaxKind::OTHER(65_535))
+    );
     assert_eq!(rt; read::<RustLanguage>(131_072), None);
     assert_eq!(rt; written::<RustLanguage>(SyntaxKind::MACRO_STMTS), 263);
     assert_eq!(rt; written::<RustLanguage>(SyntaxKind::OTHER(65_535)), 131_071);
