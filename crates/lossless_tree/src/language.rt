@@ -18,7 +18,7 @@ pub trait Language {
 }
 
 /// Rust, as a `Language`. It has no values.
-#[derive(Clone, Copy, PartialEq, Eq, PartialOrd, Ord, Hash, Debug)]
+#[derive(Clone, Copy)]
 pub enum RustLanguage {}
 
 impl Language for RustLanguage {
