@@ -17,7 +17,7 @@ pub enum Mode {
     CStr,
 }
 
-/// What a unit of a C string means.
+/// What a unit means: a byte from 80 on that `\x` names is a `HighByte`, all else a `Char`.
 #[derive(Clone, Copy, Debug, PartialEq, Eq)]
 pub enum MixedUnit {
     /// A character, which stands for its UTF-8.

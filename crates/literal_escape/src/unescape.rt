@@ -35,7 +35,7 @@ pub fn unescape_char(content: &str) -> Result<char, EscapeError>
     one(content, Mode::Char).map(MixedUnit::as_char)
 }
 
-/// The byte of a byte literal with this content, as `\xff` or `a`. Its faults are as those of
+/// The byte of a byte literal with this content, as `\xff` or `a`. Faults come in the order of
 /// [`unescape_char`].
 pub fn unescape_byte(content: &str) -> Result<u8, EscapeError>
     ensures { OfReports Mode.Byte (chars content.now) (λ reports. result ≡ numbered (single reports)) }

@@ -4,7 +4,7 @@ use Rattle.std.specs.Prelude.{◌≡◌, ℕ, ◌+◌, List, [], ◌++◌, lengt
 use Rattle.std.specs.List.{range_with_len}
 use Rattle.lossless_tree.specs.Rows.{place_at, tree_at, row_at}
 use Rattle.std.specs.Coded.{Coded, code_by, coded×, coded_ℕ, coded_list}
-use Rattle.lossless_tree.specs.Tree.{Tree, text, Place, subtree, start, places, size, walk, parent_place, first_child_place, next_sibling_place}
+use Rattle.lossless_tree.specs.Tree.{Tree, text, Place, subtree, start, places, size, walk, parent_place, ancestor_places, first_child_place, next_sibling_place}
 use Rattle.lossless_tree.specs.TextRange.{Bounds}
 use Rattle.lossless_tree.specs.TreeCode.{tree_code}
 
@@ -42,6 +42,15 @@ at_place c p = record { tree = c.tree; place = p }
 abbrev pub parent_of : Cursor → Option Cursor
 parent_of c = option_map (at_place c) (parent_place c.place)
 
+-- the cursor, its parent, and so on up to the root
+abbrev pub ancestors_of : Cursor → List Cursor
+ancestors_of c = map (at_place c) (ancestor_places c.place)
+
+-- the same from the cursor that is next, if there is one
+abbrev pub ancestors_from : Option Cursor → List Cursor
+ancestors_from None = []
+ancestors_from (Some c) = ancestors_of c
+
 abbrev pub first_child_of : Cursor → Option Cursor
 first_child_of c = option_map (at_place c) (first_child_place c.tree c.place)
 
@@ -52,6 +61,14 @@ next_sibling_of c = option_map (at_place c) (next_sibling_place c.tree c.place)
 abbrev pub descendants_of : Cursor → List Cursor
 descendants_of c = map (λ q. at_place c (c.place ++ q)) (places (focus c))
 
+-- the walk of the subtree: its places in preorder, entered (true) and left (false)
+abbrev pub walk_of : Cursor → List (Bool × Cursor)
+walk_of c = map (λ w. (w.0, at_place c (c.place ++ w.1))) (walk (focus c))
+
+-- how far the cursor d is below the cursor c
+abbrev pub level_below : Cursor → Cursor → ℕ
+level_below c d = length d.place - length c.place
+
 -- ---- by row numbers, for the proofs
 
 -- the cursors at n rows from a row on
@@ -60,10 +77,6 @@ cursor_at tree n = record { tree = tree; place = place_at tree n }
 
 abbrev pub cursors_from : Tree → ℕ → ℕ → List Cursor
 cursors_from tree a n = map (cursor_at tree) (range_with_len a n)
-
--- the walk of the subtree: its places in preorder, entered (true) and left (false)
-abbrev pub walk_of : Cursor → List (Bool × Cursor)
-walk_of c = map (λ w. (w.0, at_place c (c.place ++ w.1))) (walk (focus c))
 
 -- how many nodes and tokens are open, from the start of a walk to the innermost
 abbrev pub open_count : Tree → ℕ → Option ℕ → ℕ
@@ -78,10 +91,6 @@ abbrev pub OpenAt : Tree → ℕ → ℕ → Option ℕ → Type 0
 OpenAt tree start next None = (next ≡ start) ⊎ (next ≡ start + size (tree_at tree start))
 OpenAt tree start next (Some o) =
     (start ≤ o) × (o < next) × (next ≤ o + size (tree_at tree o)) × ((k : ℕ) → o < k → k < next → (row_at tree k).end ≤ next)
-
--- how far the cursor d is below the cursor c
-abbrev pub level_below : Cursor → Cursor → ℕ
-level_below c d = length d.place - length c.place
 
 -- a step that enters a row opens it, so many levels below the start as were open before; one that leaves a row closes it
 abbrev pub MovesLevel : Tree → ℕ → Option ℕ → Bool → ℕ → Option ℕ → Type 0

@@ -1,4 +1,5 @@
 -- A node or a token, as its cursor.
+use Rattle.std.specs.Prelude.{Option, Some, None}
 use Rattle.lossless_tree.specs.declared.cursor.element.NodeOrToken.{NodeOrToken}
 use Rattle.lossless_tree.specs.declared.cursor.element.NodeOrToken.TheVariants.{Node, Token}
 use Rattle.lossless_tree.specs.Tree.{Tree, node, token}
@@ -11,3 +12,17 @@ element_by (token k t) cursor = Token cursor
 -- the cursor as an element of its kind
 abbrev pub element_of : Cursor → NodeOrToken Cursor Cursor
 element_of c = element_by (focus c) c
+
+-- the cursor of an element
+abbrev pub cursor_of : NodeOrToken Cursor Cursor → Cursor
+cursor_of (Node c) = c
+cursor_of (Token c) = c
+
+-- the node that it is, or the token, if it is one
+abbrev pub node_part : {N T : Type 0} → NodeOrToken N T → Option N
+node_part (Node n) = Some n
+node_part (Token t) = None
+
+abbrev pub token_part : {N T : Type 0} → NodeOrToken N T → Option T
+token_part (Node n) = None
+token_part (Token t) = Some t

@@ -112,6 +112,11 @@ abbrev pub parent_place : Place → Option Place
 parent_place [] = None
 parent_place (i ∷ p) = Some (place_above (i ∷ p))
 
+-- the place, its parent's, and so on up to the root's
+abbrev pub ancestor_places : Place → List Place
+ancestor_places [] = [] ∷ []
+ancestor_places (i ∷ p) = map (λ q. i ∷ q) (ancestor_places p) ++ [] ∷ []
+
 abbrev pub first_child_place : Tree → Place → Option Place
 first_child_place tree p = if nat_lt 0 (child_count (forest_of_children (subtree tree p))) then Some (p ++ 0 ∷ []) else None
 

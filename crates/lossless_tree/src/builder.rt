@@ -16,8 +16,8 @@ use std::marker::Model;
 /// Builds a tree from events: a node is entered, tokens come, the node is left.
 ///
 /// The three calls that append an event take it as it comes, in any order, and refuse only for want of memory; the
-/// builder is then as before. Whether the events build a tree is looked at in `finish`. It has the name and the calls
-/// of `GreenNodeBuilder` in the crate `rowan`. A clause sees the list of events.
+/// builder is then as before. Whether the events build a tree is looked at in `finish`. It has the calls of
+/// these names of `GreenNodeBuilder` in the crate `rowan`. A clause sees the list of events.
 ///
 /// ```text
 /// let mut builder = TreeBuilder::new(alloc);

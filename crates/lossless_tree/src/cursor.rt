@@ -1,5 +1,6 @@
 //! Cursors: places in a shared tree, and the walks from one to the next.
 
+pub mod ancestors;
 pub mod descendants;
 pub mod element;
 pub mod node;

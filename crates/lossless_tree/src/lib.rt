@@ -17,6 +17,7 @@ mod text_range;
 mod text_size;
 
 pub use builder::TreeBuilder;
+pub use cursor::ancestors::Ancestors;
 pub use cursor::descendants::DescendantsWithTokens;
 pub use cursor::element::{NodeOrToken, SyntaxElement};
 pub use cursor::node::SyntaxNode;

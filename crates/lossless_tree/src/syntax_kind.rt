@@ -76,7 +76,8 @@ impl SyntaxKind {
     /// The kind that prints as `name`, if there is one.
     ///
     /// A name is matched by its very bytes. The number of `OTHER(n)` is decimal, from 0 to 65535,
-    /// with no sign and no leading zero. It reads `name` at most twice, whatever the kind.
+    /// with no sign and no leading zero. It reads `name` a fixed number of times,
+    /// whatever the kind.
     pub fn from_name(name: &str) -> Option<SyntaxKind>
         ensures exact { (k : SyntaxKind) → IsKind k → (result ≡ Some k) ↔ (kind_name k ≡ name.now) }
         ensures kind { IfSome result IsKind }

@@ -9,7 +9,7 @@ use std::marker::Model;
 
 /// The bytes of a text from `start` up to and without `end`.
 ///
-/// It has the name and the calls of the type in the crate `text-size`. It prints as `start..end`.
+/// It has the name, and calls, of the type in the crate `text-size`. It prints as `start..end`.
 #[derive(Clone, Copy, PartialEq, Eq, Hash)]
 pub struct TextRange {
     start: TextSize,

@@ -7,7 +7,7 @@ use std::marker::Model;
 
 /// An offset into a text or the length of a text, in bytes: a number of 32 bits.
 ///
-/// It has the name and the calls of the type in the crate `text-size`.
+/// It has the name, and calls, of the type in the crate `text-size`.
 #[derive(Clone, Copy, PartialEq, Eq, PartialOrd, Ord, Hash)]
 pub struct TextSize {
     raw: u32,

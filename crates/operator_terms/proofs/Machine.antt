@@ -53,7 +53,8 @@ pub data Stack : Type 0 where
   Enclosed : (Term → Term) → Stack → Stack
   Arguments : (Terms → Term) → Stack → Stack
 
--- An operand is wanted, or one was read, or a dot behind one, or a `&` in front of one.
+-- An operand is wanted, or one was read, or a dot behind one, or a `&` in front of one, or an `as` behind one; or no reading
+-- goes on from here.
 pub data State : Type 0 where
   Wants : Stack → State
   Has : Stack → Term → State

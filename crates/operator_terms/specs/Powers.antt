@@ -1,11 +1,13 @@
--- The test for parentheses by binding powers, as `Expr::needs_parens_in` asks it: each form has a left and a right power,
+-- The test for parentheses by binding powers, as rust-analyzer's `Expr::needs_parens_in` asks it (but for three
+-- answers, which docs/DIFFERENCES.md tells): each form has a left and a right power,
 -- and a part stands before or behind the operator of the form that holds it.
 use Rattle.std.specs.Prelude.{ℕ, zero, suc, Bool, true, false, not, ◌&&◌, ◌||◌, nat_eq, nat_lt, if◌then◌else◌}
 use Rattle.operator_terms.specs.Operators.{Arithmetic, Add, Subtract, Multiply, Divide, Remainder, ShiftLeft, ShiftRight, BitXor, BitOr, BitAnd, Operator, Or, And, Compare, Compute, Assign, AssignBy}
 use Rattle.operator_terms.specs.Term.{Term, Literal, Name, Paren, Field, Await, Try, Cast, Method, Call, Index, Prefix, Borrow, Binary, RangeFull, RangeFrom, RangeTo, Range, is_field, tokens}
 use Rattle.operator_terms.specs.Places.{ends_in_cast}
 
--- how strongly a form binds what stands on its left and on its right; 0 where it has no such side
+-- how strongly a form binds what stands on its left and on its right. Powers of 0 mark prefixes, postfixes and wholes; a
+-- field and an open range have both all the same.
 pub record Powers : Type 0 where
   pub left : ℕ
   pub right : ℕ
@@ -82,8 +84,8 @@ like_prefix p = nat_eq p.left 0 && not (nat_eq p.right 0)
 abbrev pub like_postfix : Powers → Bool
 like_postfix p = not (nat_eq p.left 0) && nat_eq p.right 0
 
--- The powers don't matter: one of the two is like a pair; or the operand is like a prefix and the parent's operator is on
--- its other side or is a prefix too; or it is like a postfix and the parent's operator is behind it or is a postfix.
+-- The powers don't matter: one of the two is like a pair; or the operand is like a prefix and the parent's operator stands
+-- in front of it or is a prefix too; or it is like a postfix and the parent's operator is behind it or is a postfix.
 abbrev pub is_excused : Powers → Powers → Bool → Bool
 is_excused self parent before =
     like_paren self || like_paren parent

@@ -1,4 +1,5 @@
--- What a token may be in an operator expression. A sign says as much of a token as the grammar asks: so whoever reads trees
+-- What a token may be in an operator expression. A sign says as much of a token as the grammar asks, but for the
+-- text of fixed kinds, which `CarriesFixedText` asks for: so whoever reads trees
 -- or tokens goes by a small set of cases and not by all kinds.
 use Rattle.std.specs.Prelude.{◌≡◌, ℕ, List, [], ◌∷◌, Bool, true, false, Option, Some, None}
 use Rattle.lossless_tree.specs.declared.syntax_kind.SyntaxKind.{SyntaxKind}

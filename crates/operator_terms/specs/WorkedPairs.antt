@@ -38,6 +38,7 @@ IsRightPair p = (all_fit p.term ≡ true) × (asked p ≡ Some (not p.may_go)) �
 abbrev pub pairs : List Pair
 pairs =
     needed (times (Paren (plus a b)) c) [] 0  -- `(a + b) * c`
+    ∷ needless (plus (Paren a) b) [] 0  -- `(a) + b`
     ∷ needless (plus a (Paren (times b c))) [] 1  -- `a + (b * c)`, on the right
     ∷ needless (minus (Paren (minus a b)) c) [] 0  -- `(a - b) - c`
     ∷ needed (minus a (Paren (minus b c))) [] 1  -- `a - (b - c)`, on the right

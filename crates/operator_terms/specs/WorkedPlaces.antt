@@ -1,4 +1,4 @@
--- For each place of an operand, which of the forms need a pair there and which may stand bare, as the test by binding
+-- For each place of an operand, with one operator of each level, which of the forms need a pair there and which may stand bare, as the test by binding
 -- powers answers it. The forms are samples, of each level and shape.
 use Rattle.std.specs.Prelude.{◌≡◌, ℕ, List, [], ◌∷◌, ◌++◌, Bool, true, false}
 use Rattle.operator_terms.specs.Term.{Term, Paren, Await, Try, Index, RangeFull, RangeFrom}

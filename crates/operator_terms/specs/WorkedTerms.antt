@@ -28,6 +28,9 @@ IsRight r = all_fit r.term ≡ r.fits
 abbrev pub grouping : List Row
 grouping =
     reads (plus one b)  -- `1 + b`
+    ∷ reads (Paren a)  -- `(a)`
+    ∷ reads (plus (Paren a) b)  -- `(a) + b`
+    ∷ reads (plus (times a b) c)  -- `a * b + c`
     ∷ reads (plus a (times b c))  -- `a + b * c`
     ∷ fails (times (plus a b) c)  -- `⟨a + b⟩ * c`
     ∷ reads (times (Paren (plus a b)) c)  -- `(a + b) * c`

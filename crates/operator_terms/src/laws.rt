@@ -192,7 +192,7 @@ pub fn worked_terms()
     ensures method { Reads 0 (tokens (calling (dot_f a) x)) (Method a (codes "f") (Last x)) }
 {}
 
-/// For each place of an operand and samples of all forms: which of them the test by binding powers
+/// For each place of an operand, with one operator of each level, and samples of all forms: which of them the test by binding powers
 /// lets stand there bare, and for which it asks for a pair. And what the test by precedences says.
 pub fn worked_places()
     ensures strong { EachRow IsRightAt strong_places }

@@ -1,5 +1,5 @@
 -- What was read, and what goes out.
-use Rattle.std.proofs.Common.{◌≡◌, ℕ, ◌-◌, ◌⊎◌, inl, inr, List, [], ◌++◌, length, take, drop, refl, sym, ap, subst, ◌∙◌, arith, append_assoc}
+use Rattle.std.proofs.Common.{◌≡◌, ℕ, ◌-◌, ◌<◌, zero, suc, append-nil, length-append, ◌⊎◌, inl, inr, List, [], ◌++◌, length, take, drop, refl, sym, ap, subst, ◌∙◌, arith, append_assoc}
 use Rattle.std.specs.Prelude.{Option, None, Some, Result, Err, codes, Bool, true, false, not, ◌==◌}
 use Rattle.std.specs.Cmp.{unsigned_Decides}
 use Rattle.std.specs.Cmp.Lexicographic.{pointwise, pointwise_decides}
@@ -21,6 +21,13 @@ appends-keeps (Some a) None c xs h k = absurd h
 appends-keeps (Some a) (Some b) None xs h k = absurd k
 appends-keeps (Some a) (Some b) (Some c) xs h k = k ∙ h
 
+pub nothing_more : (a b c : Option (List ℕ)) (done rest : List ℕ) (n : ℕ) → n ≡ 0 → Appends a b done → Appends b c (take n rest) → Appends a c done
+nothing_more a b c done rest n z h k = subst (Appends a c) (ap (λ m. done ++ take m rest) z ∙ append-nil done) (appends-appends a b c done (take n rest) h k)
+
+pub some_left : (n : ℕ) → false ≡ (n == 0) → 0 < n
+some_left zero h = (let bad : false ≡ true = h in cc)
+some_left (suc n) h = omega arith
+
 -- what is left, cut again
 pub cut_again : (bytes done rest : List ℕ) (n m : ℕ) → m ≡ length rest - n → bytes ≡ done ++ rest → bytes ≡ (done ++ take n rest) ++ take m (drop n rest)
 cut_again bytes done rest n m is_m is =
@@ -28,8 +35,8 @@ cut_again bytes done rest n m is_m is =
     ∙ ap (λ l. (done ++ take n rest) ++ l) (sym (take_all m (drop n rest) (omega (arith, is_m, length-drop n rest))))
 
 -- a front that was written
-pub front_written : (before after : Option (List ℕ)) (bytes done rest : List ℕ) → bytes ≡ done ++ rest → Appends before after done → (n : ℕ) × Appends before after (take n bytes)
-front_written before after bytes done rest is h = (length done, subst (Appends before after) (sym (ap (take (length done)) is ∙ take-append_seam done rest)) h)
+pub front_written : (before after : Option (List ℕ)) (bytes done rest : List ℕ) → bytes ≡ done ++ rest → 0 < length rest → Appends before after done → (n : ℕ) × (n < length bytes) × Appends before after (take n bytes)
+front_written before after bytes done rest is some h = (length done, omega (arith, some, ap length is, length-append done rest), subst (Appends before after) (sym (ap (take (length done)) is ∙ take-append_seam done rest)) h)
 
 was_left : Option (List ℕ) → List ℕ
 was_left None = []

@@ -1,5 +1,5 @@
 -- What the program writes, and its exit status, for a command and what was read.
-use Rattle.std.specs.Prelude.{◌≡◌, ℕ, ◌⊎◌, List, [], ◌++◌, take, Option, IfSome, MatchOption, Result, Ok, Err, codes, IsUtf8}
+use Rattle.std.specs.Prelude.{◌≡◌, ℕ, ◌<◌, length, ◌⊎◌, List, [], ◌++◌, take, Option, IfSome, MatchOption, Result, Ok, Err, codes, IsUtf8}
 use Rattle.std.specs.Io.KnownBytes.{Appends}
 use Rattle.lossless_tree.specs.Tree.{Tree}
 use Rattle.lossless_tree.specs.Events.{Event, BuildsNode, first_refusal}
@@ -79,7 +79,7 @@ IsCutShort command out = (command ≡ codes "events") × ((out ≡ refused Read)
 abbrev pub Wrote : Option (List ℕ) → Option (List ℕ) → ℕ → Output → Type 0
 Wrote before after status out =
     (Appends before after out.text × (status ≡ out.status))
-    ⊎ ((n : ℕ) × Appends before after (take n out.text) × (status ≡ 1))
+    ⊎ ((n : ℕ) × (n < length out.text) × Appends before after (take n out.text) × (status ≡ 1))
 
 -- the input is all that the reader was known to have left
 abbrev pub WasLeft : Option (List ℕ) → List ℕ → Type 0

@@ -1,5 +1,5 @@
 //! What goes out.
-ghost use Rattle.std.specs.Prelude.{◌≡◌, ◌⊎◌, ℕ, take, IsTrue, MatchBool};
+ghost use Rattle.std.specs.Prelude.{◌≡◌, ◌⊎◌, ℕ, ◌<◌, length, take, IsTrue, MatchBool};
 ghost use Rattle.std.specs.Io.KnownBytes.{Appends};
 ghost use Rattle.syntax_tool.specs.Output.{Wrote};
 
@@ -8,7 +8,7 @@ use std::io::Write;
 // Writes all of `bytes`, or a front of them where the writer fails: by an error, or by taking none of what is left.
 fn write_all<W: Write>(writer: &mut W, bytes: &[u8]) -> bool
     ensures { MatchBool result (Appends (W.contents writer.old) (W.contents writer.new) bytes.now)
-        ((n : ℕ) × Appends (W.contents writer.old) (W.contents writer.new) (take n bytes.now)) }
+        ((n : ℕ) × (n < length bytes.now) × Appends (W.contents writer.old) (W.contents writer.new) (take n bytes.now)) }
 {
     let mut rest = bytes;
     while !rest.is_empty() {

@@ -207,6 +207,20 @@ fn numbers_at_their_edges(rt: HostRuntime) {
 }
 
 #[test]
+fn kinds_are_ordered_by_number(rt: HostRuntime) {
+    let mut before = SyntaxKind::WHITESPACE;
+    for raw in 1..264 {
+        if let Some(kind) = read::<RustLanguage>(raw) {
+            assert!(rt; before < kind);
+            before = kind;
+        }
+    }
+    assert_eq!(rt; before, SyntaxKind::MACRO_STMTS);
+    assert!(rt; before < SyntaxKind::OTHER(0));
+    assert!(rt; SyntaxKind::OTHER(0) < SyntaxKind::OTHER(65_535));
+}
+
+#[test]
 fn trivia(rt: HostRuntime) {
     assert!(rt; SyntaxKind::WHITESPACE.is_trivia());
     assert!(rt; SyntaxKind::COMMENT.is_trivia());

@@ -1,5 +1,7 @@
 //! Trees made by the builder: what its calls and those of a cursor answer.
-use lossless_tree::{FinishError, NodeOrToken, SyntaxKind, SyntaxNode, TreeBuilder, WalkEvent};
+use lossless_tree::{
+    FinishError, NodeOrToken, SyntaxElement, SyntaxKind, SyntaxNode, TreeBuilder, WalkEvent,
+};
 use std::test::Fail;
 
 // SOURCE_FILE over IDENT `a`, NAME without children, IDENT `b` of two bytes.
@@ -27,24 +29,28 @@ fn a_tree_keeps_its_text(rt: HostRuntime) -> Result<(), Fail> {
     Ok(())
 }
 
+// Nodes in round brackets, tokens in square ones.
+fn show(seen: &mut String, event: WalkEvent<SyntaxElement>) -> Result<(), Fail> {
+    match event {
+        WalkEvent::Enter(NodeOrToken::Node(_node)) => seen.push_str("(")?,
+        WalkEvent::Leave(NodeOrToken::Node(_node)) => seen.push_str(")")?,
+        WalkEvent::Enter(NodeOrToken::Token(token)) => {
+            seen.push_str("[")?;
+            seen.push_str(token.text())?;
+        }
+        WalkEvent::Leave(NodeOrToken::Token(_token)) => seen.push_str("]")?,
+    }
+    Ok(())
+}
+
 #[test]
 fn a_walk_enters_and_leaves(rt: HostRuntime) -> Result<(), Fail> {
     let root = sample(&rt)?;
     let mut seen = String::new(rt.alloc());
     for event in root.preorder_with_tokens() {
-        match event {
-            WalkEvent::Enter(NodeOrToken::Node(node)) => write!(seen, "({} ", node.kind())?,
-            WalkEvent::Enter(NodeOrToken::Token(token)) => write!(
-                seen,
-                "[{} {}",
-                token.text(),
-                token.text_range()
-            )?,
-            WalkEvent::Leave(NodeOrToken::Node(_)) => seen.push_str(")")?,
-            WalkEvent::Leave(NodeOrToken::Token(_)) => seen.push_str("]")?,
-        }
+        show(&mut seen, event)?;
     }
-    assert_eq!(rt; seen.as_str(), "(SOURCE_FILE [a 0..1](NAME )[\u{e9} 1..3])");
+    assert_eq!(rt; seen.as_str(), "([a]()[\u{e9}])");
     let mut count: usize = 0;
     for _element in root.descendants_with_tokens() {
         count = count.saturating_add(1);
@@ -70,6 +76,37 @@ fn cursors_step(rt: HostRuntime) -> Result<(), Fail> {
 }
 
 #[test]
+fn elements_step_and_ancestors_go_up(rt: HostRuntime) -> Result<(), Fail> {
+    let root = sample(&rt)?;
+    let Some(first) = root.first_child_or_token() else {
+        return Err(Fail::from("no first child"));
+    };
+    assert_eq!(rt; first.kind(), SyntaxKind::IDENT);
+    assert!(rt; first.as_node().is_none());
+    assert!(rt; first.as_token().is_some());
+    let Some(second) = first.next_sibling_or_token() else {
+        return Err(Fail::from("no second child"));
+    };
+    assert_eq!(rt; second.text_range().start().raw(), 1);
+    let Some(up) = second.parent() else {
+        return Err(Fail::from("no parent"));
+    };
+    assert_eq!(rt; up.kind(), SyntaxKind::SOURCE_FILE);
+    let Some(name) = second.into_node() else {
+        return Err(Fail::from("no node"));
+    };
+    let mut ancestors = name.ancestors();
+    let mut kinds = String::new(rt.alloc());
+    for _step in 0..4 {
+        if let Some(above) = ancestors.next() {
+            write!(kinds, "{} ", above.kind())?;
+        }
+    }
+    assert_eq!(rt; kinds.as_str(), "NAME SOURCE_FILE ");
+    Ok(())
+}
+
+#[test]
 fn cursors_outlive_their_root(rt: HostRuntime) -> Result<(), Fail> {
     let root = sample(&rt)?;
     let inner = root.clone()?;
@@ -91,6 +128,28 @@ fn refusals_come_in_their_order(rt: HostRuntime) -> Result<(), Fail> {
     builder.start_node(SyntaxKind::NAME)?;
     builder.start_node(SyntaxKind::NAME)?;
     assert!(rt; matches!(&builder.finish(), Err(FinishError::OverClosed)));
+    Ok(())
+}
+
+#[test]
+fn refusals_print(rt: HostRuntime) -> Result<(), Fail> {
+    let refusals = [
+        FinishError::TooLong,
+        FinishError::OverClosed,
+        FinishError::Unclosed,
+        FinishError::Empty,
+        FinishError::ManyRoots,
+        FinishError::TokenRoot,
+        FinishError::Memory,
+    ];
+    let mut text = String::new(rt.alloc());
+    for refusal in refusals {
+        write!(text, "{refusal}; ")?;
+    }
+    assert_eq!(rt;
+        text.as_str(),
+        "the text is longer than 4294967295 bytes; more nodes are left than were entered; a node is not left; there are no events; there is more than one root; the root is a token; out of memory; "
+    );
     Ok(())
 }
 

@@ -1,10 +1,11 @@
 //! Nodes.
 ghost use Rattle.std.specs.Prelude.{◌≡◌, option_map, IfOk, string_bytes};
 ghost use Rattle.lossless_tree.specs.Tree.{text, kind_of};
-ghost use Rattle.lossless_tree.specs.Cursor.{focus, range_of, parent_of, first_child_of, next_sibling_of, descendants_of, walk_of};
+ghost use Rattle.lossless_tree.specs.Cursor.{focus, range_of, parent_of, ancestors_of, first_child_of, next_sibling_of, descendants_of, walk_of};
 ghost use Rattle.lossless_tree.specs.Element.{element_of};
 ghost use Rattle.lossless_tree.specs.Dump.{dump_of};
 
+use super::ancestors::Ancestors;
 use super::descendants::DescendantsWithTokens;
 use super::element::{SyntaxElement, element};
 use super::preorder::PreorderWithTokens;
@@ -93,6 +94,13 @@ impl SyntaxNode {
     {
         let row = self.table.parent_row(self.row)?;
         Some(SyntaxNode::at(self.table.share(), row))
+    }
+
+    /// This node, its parent, its parent's parent, up to the root.
+    pub fn ancestors(&self) -> Ancestors
+        ensures { result ≡ ancestors_of self.now }
+    {
+        Ancestors::new(SyntaxNode::at(self.table.share(), self.row))
     }
 
     /// The first child, node or token; `None` where there is none.

@@ -1,9 +1,12 @@
 //! Tokens.
-ghost use Rattle.std.specs.Prelude.{◌≡◌, IfOk, string_bytes};
+ghost use Rattle.std.specs.Prelude.{◌≡◌, option_map, IfOk, string_bytes};
 ghost use Rattle.lossless_tree.specs.Tree.{text, kind_of};
-ghost use Rattle.lossless_tree.specs.Cursor.{focus, range_of};
+ghost use Rattle.lossless_tree.specs.Cursor.{focus, range_of, parent_of, next_sibling_of};
+ghost use Rattle.lossless_tree.specs.Element.{element_of};
 ghost use Rattle.lossless_tree.specs.Dump.{dump_of};
 
+use super::element::{SyntaxElement, element};
+use super::node::SyntaxNode;
 use crate::dump;
 use crate::shared::Shared;
 use crate::syntax_kind::SyntaxKind;
@@ -72,6 +75,22 @@ impl SyntaxToken {
         ensures { result.now ≡ text (focus self.now) }
     {
         self.table.text_at(self.row)
+    }
+
+    /// The node that this token is a child of. It takes constant time.
+    pub fn parent(&self) -> Option<SyntaxNode>
+        ensures { result ≡ parent_of self.now }
+    {
+        let row = self.table.parent_row(self.row)?;
+        Some(SyntaxNode::at(self.table.share(), row))
+    }
+
+    /// What follows this token in its parent, node or token; `None` for the last child.
+    pub fn next_sibling_or_token(&self) -> Option<SyntaxElement>
+        ensures { result ≡ option_map element_of (next_sibling_of self.now) }
+    {
+        let row = self.table.next_sibling_row(self.row)?;
+        Some(element(&self.table, row))
     }
 
     /// The token's one line, as in the dump of a tree around it.

@@ -7,8 +7,10 @@ mod tests {
     use std::test::Fail;
 
     // Contents of strings.
-    const STRINGS: [(&str, &str); 44] = [
+    const STRINGS: [(&str, &str); 46] = [
         ("", ""),
+        ("\\\n    ", ""),
+        ("abc\\\n", "0..1 61, 1..2 62, 2..3 63"),
         ("ab", "0..1 61, 1..2 62"),
         ("é", "0..2 e9"),
         ("€a", "0..3 20ac, 3..4 61"),
