@@ -143,10 +143,10 @@ parent_by_row whole n q h inner_row is_q =
     not_zero zero e = absurd (e refl)
     not_zero (suc m) e = omega arith
 
-if_above : {A : Type 0} (m n : ℕ) (x y : A) → m < n → (if nat_lt m n then x else y) ≡ x
+pub if_above : {A : Type 0} (m n : ℕ) (x y : A) → m < n → (if nat_lt m n then x else y) ≡ x
 if_above m n x y h = grind (arith, nat_tests)
 
-if_not_above : {A : Type 0} (m n : ℕ) (x y : A) → n ≤ m → (if nat_lt m n then x else y) ≡ y
+pub if_not_above : {A : Type 0} (m n : ℕ) (x y : A) → n ≤ m → (if nat_lt m n then x else y) ≡ y
 if_not_above m n x y h = grind (arith, nat_tests)
 
 -- the first child is in the next row, if that is within the subtree
@@ -176,7 +176,7 @@ no_first_child_found whole n h short = no_child_in (tree_at whole n) refl (omega
 same_place_same_row : (whole : Tree) (n m : ℕ) → n < size whole → m < size whole → place_at whole n ≡ place_at whole m → n ≡ m
 same_place_same_row whole n m h k e = At-same_row (subst (λ p. At (cons whole nil) n (0 ∷ p) (tree_at whole n) (start_at whole n)) e (at_row whole n h)) (at_row whole m k)
 
-sibling_count-append : (whole : Tree) (p : Place) (i : ℕ) → sibling_count whole (p ++ i ∷ []) ≡ child_count (forest_of_children (subtree whole p))
+pub sibling_count-append : (whole : Tree) (p : Place) (i : ℕ) → sibling_count whole (p ++ i ∷ []) ≡ child_count (forest_of_children (subtree whole p))
 sibling_count-append whole [] i = refl
 sibling_count-append whole (j ∷ p) i = ap (λ x. child_count (forest_of_children (subtree whole x))) (place_above-append (j ∷ p) i)
 

@@ -1,10 +1,12 @@
 -- A cursor is a whole tree and a place in it, and every step from one cursor to another.
 -- (Upstream: `rowan`'s `SyntaxNode`, `SyntaxToken` and their methods of these names.)
-use Rattle.std.specs.Prelude.{◌≡◌, ℕ, ◌+◌, List, [], ◌++◌, length, Option, None, Some, refl, option_map, map, drop, Bool, true, false, ◌-◌, ◌<◌, ◌≤◌, ◌⊎◌}
-use Rattle.std.specs.List.{range_with_len}
+use Rattle.std.specs.Prelude.{◌≡◌, ℕ, ◌+◌, List, [], ◌∷◌, ◌++◌, length, Option, None, Some, MatchOption, refl, option_map, map, drop, Bool, true, false, nat_lt, if◌then◌else◌, ◌-◌, ◌<◌, ◌≤◌, ◌⊎◌}
+use Rattle.std.specs.List.{range_with_len, filter}
+use Rattle.lossless_tree.specs.declared.cursor.direction.Direction.{Direction}
+use Rattle.lossless_tree.specs.declared.cursor.direction.Direction.TheVariants.{Next, Prev}
 use Rattle.lossless_tree.specs.Rows.{place_at, tree_at, row_at}
 use Rattle.std.specs.Coded.{Coded, code_by, coded×, coded_ℕ, coded_list}
-use Rattle.lossless_tree.specs.Tree.{Tree, text, Place, subtree, start, places, size, walk, parent_place, ancestor_places, first_child_place, next_sibling_place}
+use Rattle.lossless_tree.specs.Tree.{Tree, text, Place, subtree, start, places, size, walk, parent_place, ancestor_places, first_child_place, last_child_place, next_sibling_place, prev_sibling_place, children_places, following_places, preceding_places, is_node, is_token}
 use Rattle.lossless_tree.specs.TextRange.{Bounds}
 use Rattle.lossless_tree.specs.TreeCode.{tree_code}
 
@@ -57,9 +59,51 @@ first_child_of c = option_map (at_place c) (first_child_place c.tree c.place)
 abbrev pub next_sibling_of : Cursor → Option Cursor
 next_sibling_of c = option_map (at_place c) (next_sibling_place c.tree c.place)
 
+abbrev pub last_child_of : Cursor → Option Cursor
+last_child_of c = option_map (at_place c) (last_child_place c.tree c.place)
+
+abbrev pub prev_sibling_of : Cursor → Option Cursor
+prev_sibling_of c = option_map (at_place c) (prev_sibling_place c.place)
+
+-- the children, nodes and tokens, in order
+abbrev pub children_of : Cursor → List Cursor
+children_of c = map (at_place c) (children_places c.tree c.place)
+
+-- the later siblings in order, and the earlier ones, the nearest first
+abbrev pub following_of : Cursor → List Cursor
+following_of c = map (at_place c) (following_places c.tree c.place)
+
+abbrev pub preceding_of : Cursor → List Cursor
+preceding_of c = map (at_place c) (preceding_places c.place)
+
+-- the cursor and its siblings in a direction, itself first
+abbrev pub siblings_in : Direction → Cursor → List Cursor
+siblings_in Next c = c ∷ following_of c
+siblings_in Prev c = c ∷ preceding_of c
+
+-- the cursor stands at a node; at a token
+abbrev pub at_node : Cursor → Bool
+at_node c = is_node (focus c)
+
+abbrev pub at_token : Cursor → Bool
+at_token c = is_token (focus c)
+
 -- the places of the subtree in preorder, itself first
 abbrev pub descendants_of : Cursor → List Cursor
 descendants_of c = map (λ q. at_place c (c.place ++ q)) (places (focus c))
+
+-- all tokens of the whole tree, in order
+abbrev pub all_tokens : Cursor → List Cursor
+all_tokens c = filter at_token (descendants_of (at_place c []))
+
+-- what stands right behind x in the list, if anything does; and right before it
+abbrev pub IsRightBehind : {A : Type 0} → List A → A → Option A → Type 0
+IsRightBehind {A} l x r =
+    MatchOption r ((front : List A) × (l ≡ front ++ x ∷ [])) (λ y. (front : List A) × (back : List A) × (l ≡ front ++ x ∷ (y ∷ back)))
+
+abbrev pub IsRightBefore : {A : Type 0} → List A → A → Option A → Type 0
+IsRightBefore {A} l x r =
+    MatchOption r ((back : List A) × (l ≡ x ∷ back)) (λ y. (front : List A) × (back : List A) × (l ≡ front ++ y ∷ (x ∷ back)))
 
 -- the walk of the subtree: its places in preorder, entered (true) and left (false)
 abbrev pub walk_of : Cursor → List (Bool × Cursor)
@@ -77,6 +121,13 @@ cursor_at tree n = record { tree = tree; place = place_at tree n }
 
 abbrev pub cursors_from : Tree → ℕ → ℕ → List Cursor
 cursors_from tree a n = map (cursor_at tree) (range_with_len a n)
+
+-- the row n and its later siblings, where their parent's rows end before stop; nothing is left from there on
+abbrev pub siblings_left : Tree → ℕ → ℕ → List Cursor
+siblings_left tree n stop = if nat_lt n stop then siblings_in Next (cursor_at tree n) else []
+
+abbrev pub HaveParentEnd : Tree → ℕ → ℕ → Type 0
+HaveParentEnd tree n stop = n < stop → (0 < n) × (n < size tree) × ((row_at tree (row_at tree n).parent).end ≡ stop)
 
 -- how many nodes and tokens are open, from the start of a walk to the innermost
 abbrev pub open_count : Tree → ℕ → Option ℕ → ℕ

@@ -1,6 +1,7 @@
 -- The nested tree that every contract speaks of: trees, places, texts, starts, and the preorder list of places.
 -- (Upstream: the tree that `rowan`'s `SyntaxNode` shows; here it is plain data, without sharing, offsets or parents.)
-use Rattle.std.specs.Prelude.{ℕ, zero, suc, ◌+◌, List, [], ◌∷◌, ◌++◌, length, map, Contains, Option, None, Some, nat_lt, if◌then◌else◌, ⊤, Bool, true, false}
+use Rattle.std.specs.Prelude.{ℕ, zero, suc, ◌+◌, ◌-◌, List, [], ◌∷◌, ◌++◌, length, map, reverse, Contains, Option, None, Some, nat_lt, if◌then◌else◌, ⊤, Bool, true, false}
+use Rattle.std.specs.List.{range_with_len}
 use Rattle.lossless_tree.specs.declared.syntax_kind.SyntaxKind.{SyntaxKind}
 use Rattle.lossless_tree.specs.declared.syntax_kind.SyntaxKind.TheVariants.{OTHER}
 
@@ -130,6 +131,35 @@ next_sibling_place tree p =
     if nat_lt (suc (last_position p)) (sibling_count tree p)
     then Some (place_above p ++ suc (last_position p) ∷ [])
     else None
+
+abbrev pub last_child_place : Tree → Place → Option Place
+last_child_place tree p =
+    if nat_lt 0 (child_count (forest_of_children (subtree tree p)))
+    then Some (p ++ (child_count (forest_of_children (subtree tree p)) - 1) ∷ [])
+    else None
+
+abbrev pub prev_sibling_place : Place → Option Place
+prev_sibling_place p = if nat_lt 0 (last_position p) then Some (place_above p ++ (last_position p - 1) ∷ []) else None
+
+-- the places of the children, in order
+abbrev pub children_places : Tree → Place → List Place
+children_places tree p = map (λ i. p ++ i ∷ []) (range_with_len 0 (child_count (forest_of_children (subtree tree p))))
+
+-- the places of the later siblings in order, and of the earlier ones, the nearest first
+abbrev pub following_places : Tree → Place → List Place
+following_places tree p =
+    map (λ i. place_above p ++ i ∷ []) (range_with_len (suc (last_position p)) (sibling_count tree p - suc (last_position p)))
+
+abbrev pub preceding_places : Place → List Place
+preceding_places p = map (λ i. place_above p ++ i ∷ []) (reverse (range_with_len 0 (last_position p)))
+
+abbrev pub is_token : Tree → Bool
+is_token (node k c) = false
+is_token (token k t) = true
+
+abbrev pub is_node : Tree → Bool
+is_node (node k c) = true
+is_node (token k t) = false
 
 abbrev pub IsNode : Tree → Type 0
 IsNode (node k c) = ⊤

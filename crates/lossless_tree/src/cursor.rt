@@ -1,7 +1,9 @@
 //! Cursors: places in a shared tree, and the walks from one to the next.
 
 pub mod ancestors;
+pub mod children;
 pub mod descendants;
+pub mod direction;
 pub mod element;
 pub mod node;
 pub mod preorder;

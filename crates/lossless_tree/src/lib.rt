@@ -18,7 +18,9 @@ mod text_size;
 
 pub use builder::TreeBuilder;
 pub use cursor::ancestors::Ancestors;
+pub use cursor::children::{SyntaxElementChildren, SyntaxNodeChildren};
 pub use cursor::descendants::DescendantsWithTokens;
+pub use cursor::direction::Direction;
 pub use cursor::element::{NodeOrToken, SyntaxElement};
 pub use cursor::node::SyntaxNode;
 pub use cursor::preorder::{PreorderWithTokens, WalkEvent};

@@ -13,3 +13,6 @@ returns-else-n-eq0-clause-node c = (parent_by_row c.args.self.now c.args.n c.row
 
 pub returns-else-n-eq0-clause-in_range : goal.returns-else-n-eq0-clause-in_range
 returns-else-n-eq0-clause-in_range c = (parent_by_row c.args.self.now c.args.n c.row.result.parent c.requires c.if-n-eq0.false (ap (λ r. r.parent) c.row.ensures.value)).in_range
+
+pub returns-else-n-eq0-clause-earlier : goal.returns-else-n-eq0-clause-earlier
+returns-else-n-eq0-clause-earlier c = (parent_by_row c.args.self.now c.args.n c.row.result.parent c.requires c.if-n-eq0.false (ap (λ r. r.parent) c.row.ensures.value)).earlier

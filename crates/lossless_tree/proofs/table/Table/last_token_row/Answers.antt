@@ -1,0 +1,25 @@
+use Rattle.std.proofs.Common.{arith, ◌≡◌, ◌+◌, ◌-◌, sym, subst, ℕ}
+use Rattle.lossless_tree.specs.RowSteps.{NoTokens}
+use Rattle.lossless_tree.proofs.StepLemmas.{row_token, row_node}
+use Rattle.lossless_tree.proofs.TokenLemmas.{one_more_before}
+use Rattle.lossless_tree.proofs.table.Table.last_token_row.Goals as goal
+
+pub returns-then-row : goal.returns-then-row
+returns-then-row c =
+    let last : ℕ = c.loop-after.after - 1 in
+    let after_is : last + 1 ≡ c.loop-after.after = omega (arith, c.loop-after-test.true) in (
+      omega (arith, c.loop-after-test.true),
+      omega (arith, c.loop-after-test.true, c.loop-after.invariant.fits),
+      row_token c.args.self.now last c.row.result (omega (arith, c.requires, c.loop-after-test.true, c.loop-after.invariant.fits)) c.row.ensures.value c.if-row.true,
+      λ k from to. c.loop-after.invariant.none k (omega (arith, from, after_is)) to,
+    )
+
+pub loop-after-preserved : goal.loop-after-preserved
+loop-after-preserved c =
+    let last : ℕ = c.loop-after.after - 1 in
+    let after_is : last + 1 ≡ c.loop-after.after = omega (arith, c.loop-after-test.true) in
+    let behind : NoTokens c.args.self.now (last + 1) c.args.to = λ k from to. c.loop-after.invariant.none k (omega (arith, from, after_is)) to in
+    record {
+      fits = omega (arith, c.loop-after.invariant.fits);
+      none = one_more_before c.args.self.now last c.args.to behind (row_node c.args.self.now last c.row.result (omega (arith, c.requires, c.loop-after-test.true, c.loop-after.invariant.fits)) c.row.ensures.value c.if-row.false);
+    }

@@ -1,0 +1,112 @@
+//! The children of a node.
+ghost use Rattle.std.specs.Prelude.{◌≡◌, map};
+ghost use Rattle.std.specs.Iterator.{YieldsFirst, item_count};
+ghost use Rattle.lossless_tree.specs.Rows.{IsRow};
+ghost use Rattle.lossless_tree.specs.Cursor.{children_of, at_node, cursor_at};
+ghost use Rattle.lossless_tree.specs.Element.{element_of};
+
+use super::element::{NodeOrToken, SyntaxElement, element};
+use super::node::SyntaxNode;
+use crate::shared::Shared;
+use crate::table::Table;
+use std::marker::Model;
+
+/// The children of a node, nodes and tokens, in order. A clause sees the cursors that are left.
+#[derive(Clone, Drop)]
+pub struct SyntaxElementChildren {
+    table: Shared<Table>,
+    next: usize,
+    end: usize,
+}
+
+impl Model for SyntaxElementChildren {
+    ghost use Rattle.std.specs.Prelude.{List};
+    ghost use Rattle.std.specs.Coded.{coded_list};
+    ghost use Rattle.lossless_tree.specs.Cursor.{Cursor, cursor_code, siblings_left, HaveParentEnd};
+
+    ghost Value = { List Cursor };
+
+    ghost coded = { coded_list cursor_code };
+
+    ghost view = { λ a. siblings_left a.table.value a.next a.end };
+
+    ghost invariant = { λ a. HaveParentEnd a.table.value a.next a.end };
+}
+
+impl SyntaxElementChildren {
+    pub(crate) fn new(table: Shared<Table>, row: usize) -> Self
+        requires { IsRow table.value row }
+        ensures { result ≡ children_of (cursor_at table.value row) }
+    {
+        let end = table.row(row).end;
+        SyntaxElementChildren {
+            table,
+            next: row + 1,
+            end,
+        }
+    }
+}
+
+impl Iterator for SyntaxElementChildren {
+    type Item = SyntaxElement;
+
+    ghost next_gives = { YieldsFirst (map element_of) };
+
+    ghost remaining = { item_count (map element_of) };
+
+    fn next(&mut self) -> Option<SyntaxElement> {
+        let row = self.next;
+        if row < self.end {
+            self.next = self.table.row(row).end;
+            Some(element(&self.table, row))
+        } else {
+            None
+        }
+    }
+}
+
+/// The child nodes of a node, in order. A clause sees the cursors that are left.
+#[derive(Clone, Drop)]
+pub struct SyntaxNodeChildren {
+    elements: SyntaxElementChildren,
+}
+
+impl Model for SyntaxNodeChildren {
+    ghost use Rattle.std.specs.Prelude.{List};
+    ghost use Rattle.std.specs.List.{filter};
+    ghost use Rattle.std.specs.Coded.{coded_list};
+    ghost use Rattle.lossless_tree.specs.Cursor.{Cursor, cursor_code, at_node};
+
+    ghost Value = { List Cursor };
+
+    ghost coded = { coded_list cursor_code };
+
+    ghost view = { λ a. filter at_node a.elements };
+}
+
+impl SyntaxNodeChildren {
+    ghost use Rattle.std.specs.List.{filter};
+
+    pub(crate) fn new(elements: SyntaxElementChildren) -> Self
+        ensures { result ≡ filter at_node elements }
+    {
+        SyntaxNodeChildren { elements }
+    }
+}
+
+impl Iterator for SyntaxNodeChildren {
+    type Item = SyntaxNode;
+
+    ghost next_gives = { YieldsFirst (λ left. left) };
+
+    ghost remaining = { item_count (λ left. left) };
+
+    fn next(&mut self) -> Option<SyntaxNode> {
+        while let Some(element) = self.elements.next() {
+            if let NodeOrToken::Node(node) = element {
+                return Some(node);
+            }
+        }
+        None
+    }
+}
