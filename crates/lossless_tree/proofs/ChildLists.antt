@@ -1,18 +1,16 @@
 -- Children and siblings, one step at a time: the lists that the iterators give.
-use Rattle.std.proofs.Common.{◌≡◌, ℕ, zero, suc, ◌+◌, ◌-◌, ◌<◌, ◌≤◌, inl, inr, List, [], ◌∷◌, ◌++◌, map, reverse, refl, sym, ap, subst, ◌∙◌, arith}
+use Rattle.std.proofs.Common.{◌≡◌, ℕ, zero, suc, ◌+◌, ◌-◌, ◌<◌, ◌≤◌, inl, inr, List, [], ◌∷◌, ◌++◌, map, reverse, refl, sym, ap, ◌∙◌, arith}
 use Rattle.std.specs.Prelude.{Option, None, Some, option_map, nat_lt, if◌then◌else◌}
 use Rattle.std.specs.List.{range_with_len}
-use Rattle.std.proofs.lemmas.Bool.Decides.{nat_tests}
 use Rattle.std.proofs.lemmas.List.{reverse-append, map-append}
 use native.Mathlib.Decide.{dec_lt}
 use Rattle.lossless_tree.specs.declared.cursor.direction.Direction.{Direction}
 use Rattle.lossless_tree.specs.declared.cursor.direction.Direction.TheVariants.{Next, Prev}
-use Rattle.lossless_tree.specs.Tree.{Tree, Place, size, subtree, child_count, forest_of_children, place_above, last_position, parent_place, sibling_count, first_child_place, last_child_place, next_sibling_place, prev_sibling_place, children_places, following_places, preceding_places}
+use Rattle.lossless_tree.specs.Tree.{Tree, Place, size, subtree, child_count, forest_of_children, place_above, last_position, parent_place, sibling_count, first_child_place, last_child_place, next_sibling_place, prev_sibling_place, children_places, following_places, preceding_places, sibling_place_in}
 use Rattle.lossless_tree.specs.Rows.{row_at, place_at, tree_at}
-use Rattle.lossless_tree.specs.Cursor.{Cursor, at_place, cursor_at, children_of, following_of, preceding_of, first_child_of, last_child_of, next_sibling_of, prev_sibling_of, siblings_in, siblings_left, HaveParentEnd}
-use Rattle.lossless_tree.proofs.At.{cong₂, place_above-append, last_position-append, below_or_after}
-use Rattle.lossless_tree.proofs.TableLemmas.{row_end_fits}
-use Rattle.lossless_tree.proofs.StepLemmas.{hangs, Hangs, same_parent, parent_by_row, parent_place-append, sibling_count-append, first_child_found, no_first_child_found, next_sibling_found, no_next_sibling_found, if_above, if_not_above}
+use Rattle.lossless_tree.specs.Cursor.{Cursor, at_place, cursor_at, children_of, following_of, preceding_of, first_child_of, last_child_of, next_sibling_of, prev_sibling_of, siblings_in, siblings_from, siblings_left, HaveParentEnd}
+use Rattle.lossless_tree.proofs.At.{place_above-append, last_position-append}
+use Rattle.lossless_tree.proofs.StepLemmas.{hangs, same_parent, parent_by_row, parent_place-append, sibling_count-append, first_child_found, no_first_child_found, next_sibling_found, no_next_sibling_found, if_above, if_not_above}
 
 -- the list that begins at what a step finds, if it finds anything
 abbrev pub onward : {A : Type 0} → (A → List A) → Option A → List A
@@ -61,7 +59,7 @@ following_places-step tree [] =
     ap (λ m. map (λ j. [] ++ j ∷ []) (range_with_len 1 m)) none ∙ ap (onward (following_places tree)) (sym (if_not_above 1 0 (Some (0 ∷ [])) None (omega arith)))
 following_places-step tree (i ∷ p) = later-step tree (place_above (i ∷ p)) (suc (last_position (i ∷ p)))
 
-range-last : (n a : ℕ) → range_with_len a (suc n) ≡ range_with_len a n ++ (a + n) ∷ []
+pub range-last : (n a : ℕ) → range_with_len a (suc n) ≡ range_with_len a n ++ (a + n) ∷ []
 range-last zero a = ap (λ x. x ∷ []) (omega arith)
 range-last (suc n) a =
     let e : (a + 1) + n ≡ a + suc n = omega arith in
@@ -120,6 +118,32 @@ children_of-reversed c =
     ∙ onward-map (at_place c) preceding_places preceding_of (λ p. refl) (last_child_place c.tree c.place)
 
 -- ---- rows of siblings
+
+-- what a step by rows finds, in a direction
+onward_from : (d : Direction) (tree : Tree) (f : Cursor → List Cursor) → ((c : Cursor) → siblings_in d c ≡ c ∷ f c) → (c : Cursor) → c.tree ≡ tree → (r : Option ℕ)
+    → onward f (option_map (at_place c) (option_map (place_at tree) r)) ≡ siblings_from d tree r
+onward_from d tree f e c same None = refl
+onward_from d tree f e c same (Some m) = sym (e (at_place c (place_at tree m))) ∙ ap (λ t. siblings_in d (record { tree = t; place = place_at tree m })) same
+
+pub following_is : (tree : Tree) (n : ℕ) (r : Option ℕ) → option_map (place_at tree) r ≡ next_sibling_place tree (place_at tree n) → following_of (cursor_at tree n) ≡ siblings_from Next tree r
+following_is tree n r e =
+    following_of-step (cursor_at tree n) ∙ ap (λ o. onward following_of (option_map (at_place (cursor_at tree n)) o)) (sym e)
+    ∙ onward_from Next tree following_of (λ c. refl) (cursor_at tree n) refl r
+
+pub preceding_is : (tree : Tree) (n : ℕ) (r : Option ℕ) → option_map (place_at tree) r ≡ prev_sibling_place (place_at tree n) → preceding_of (cursor_at tree n) ≡ siblings_from Prev tree r
+preceding_is tree n r e =
+    preceding_of-step (cursor_at tree n) ∙ ap (λ o. onward preceding_of (option_map (at_place (cursor_at tree n)) o)) (sym e)
+    ∙ onward_from Prev tree preceding_of (λ c. refl) (cursor_at tree n) refl r
+
+pub reversed_children_are : (tree : Tree) (n : ℕ) (r : Option ℕ) → option_map (place_at tree) r ≡ last_child_place tree (place_at tree n) → reverse (children_of (cursor_at tree n)) ≡ siblings_from Prev tree r
+reversed_children_are tree n r e =
+    children_of-reversed (cursor_at tree n) ∙ ap (λ o. onward preceding_of (option_map (at_place (cursor_at tree n)) o)) (sym e)
+    ∙ onward_from Prev tree preceding_of (λ c. refl) (cursor_at tree n) refl r
+
+pub siblings_in-step : (d : Direction) (tree : Tree) (n : ℕ) (r : Option ℕ) → option_map (place_at tree) r ≡ sibling_place_in d tree (place_at tree n)
+    → siblings_in d (cursor_at tree n) ≡ cursor_at tree n ∷ siblings_from d tree r
+siblings_in-step Next tree n r e = ap (λ l. cursor_at tree n ∷ l) (following_is tree n r e)
+siblings_in-step Prev tree n r e = ap (λ l. cursor_at tree n ∷ l) (preceding_is tree n r e)
 
 -- a child of row q has q's end as the end of its parent's rows
 kept : (whole : Tree) (q n i stop : ℕ) → q < size whole → n < size whole → place_at whole n ≡ place_at whole q ++ i ∷ [] → (row_at whole q).end ≡ stop → HaveParentEnd whole n stop
@@ -193,5 +217,6 @@ siblings_left-step whole n e stop w lt is_e =
       | yes lt ↦ (let is : Some (place_at whole e) ≡ Some (place_above (place_at whole n) ++ suc (last_position (place_at whole n)) ∷ []) = same ∙ if_above (suc (last_position (place_at whole n))) count (Some (place_above (place_at whole n) ++ suc (last_position (place_at whole n)) ∷ [])) None lt in cc)
       | no past ↦ (let no : Some (place_at whole e) ≡ None = same ∙ if_not_above (suc (last_position (place_at whole n))) count (Some (place_above (place_at whole n) ++ suc (last_position (place_at whole n)) ∷ [])) None (omega (arith, past)) in cc)
     ]
+
     no_parent : (q : ℕ) → place_at whole n ≡ [] → Some (place_at whole q) ≡ parent_place (place_at whole n) → ⊥
     no_parent q root parent = (let no : Some (place_at whole q) ≡ None = parent ∙ ap parent_place root in cc)

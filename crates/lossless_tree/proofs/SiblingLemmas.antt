@@ -1,7 +1,7 @@
 -- The last child and the previous sibling, by row numbers.
-use Rattle.std.proofs.Common.{◌≡◌, ℕ, zero, suc, ◌+◌, ◌-◌, ◌<◌, ◌≤◌, ◌⊎◌, inl, inr, [], ◌∷◌, ◌++◌, refl, sym, ap, subst, ◌∙◌, arith}
-use Rattle.std.specs.Prelude.{Option, None, Some, nat_lt, if◌then◌else◌}
-use Rattle.lossless_tree.specs.Tree.{Tree, node, nil, cons, Forest, size, forest_size, Place, subtree, child_at, child_count, forest_of_children, place_above, last_position, parent_place, last_child_place, prev_sibling_place}
+use Rattle.std.proofs.Common.{◌≡◌, ℕ, suc, ◌+◌, ◌-◌, ◌<◌, ◌≤◌, inl, inr, [], ◌∷◌, ◌++◌, refl, sym, ap, subst, ◌∙◌, arith}
+use Rattle.std.specs.Prelude.{None, Some, nat_lt, if◌then◌else◌}
+use Rattle.lossless_tree.specs.Tree.{Tree, node, nil, cons, Forest, size, forest_size, Place, child_at, child_count, forest_of_children, parent_place, last_child_place, prev_sibling_place}
 use Rattle.lossless_tree.specs.Rows.{row_at, place_at, tree_at}
 use Rattle.lossless_tree.specs.RowSteps.{IsBelow, IsChildOver}
 use Rattle.lossless_tree.proofs.At.{At, here, below, after, lift, next_top, no_empty_place, some_row, At-fits, below_or_after, place_above-append, last_position-append, forest_size-cons}
@@ -113,7 +113,7 @@ prev_sibling_found whole n q e c h k parent is_e lt u =
         | inl next ↦
             let row_is : n ≡ suc w.v.q + (w.v.w.row_within + size (tree_at whole c)) = omega (arith, next_is, child_row whole q c w, w.q_is) in
             let place_is : place_at whole n ≡ place_at whole q ++ suc w.v.w.position ∷ [] =
-                sym (place_from_At (lift w.v.parent next.0 row_is refl)) ∙ ap (λ i. place_at whole i ++ suc w.v.w.position ∷ []) w.q_is in
+            sym (place_from_At (lift w.v.parent next.0 row_is refl)) ∙ ap (λ i. place_at whole i ++ suc w.v.w.position ∷ []) w.q_is in
             let back : suc w.v.w.position - 1 ≡ w.v.w.position = omega arith in
             ap Some (child_place whole q c w ∙ ap (λ i. place_at whole q ++ i ∷ []) (sym back))
             ∙ sym (if_above 0 (suc w.v.w.position) (Some (place_at whole q ++ (suc w.v.w.position - 1) ∷ [])) None (omega arith))

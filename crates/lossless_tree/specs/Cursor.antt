@@ -88,6 +88,10 @@ at_node c = is_node (focus c)
 abbrev pub at_token : Cursor → Bool
 at_token c = is_token (focus c)
 
+-- a step of a walk enters or leaves a node
+abbrev pub moves_at_node : Bool × Cursor → Bool
+moves_at_node w = at_node w.1
+
 -- the places of the subtree in preorder, itself first
 abbrev pub descendants_of : Cursor → List Cursor
 descendants_of c = map (λ q. at_place c (c.place ++ q)) (places (focus c))
@@ -128,6 +132,11 @@ siblings_left tree n stop = if nat_lt n stop then siblings_in Next (cursor_at tr
 
 abbrev pub HaveParentEnd : Tree → ℕ → ℕ → Type 0
 HaveParentEnd tree n stop = n < stop → (0 < n) × (n < size tree) × ((row_at tree (row_at tree n).parent).end ≡ stop)
+
+-- what is left of the siblings in a direction, from the row that is next
+abbrev pub siblings_from : Direction → Tree → Option ℕ → List Cursor
+siblings_from d tree None = []
+siblings_from d tree (Some n) = siblings_in d (cursor_at tree n)
 
 -- how many nodes and tokens are open, from the start of a walk to the innermost
 abbrev pub open_count : Tree → ℕ → Option ℕ → ℕ

@@ -2,6 +2,8 @@
 -- (Upstream: the tree that `rowan`'s `SyntaxNode` shows; here it is plain data, without sharing, offsets or parents.)
 use Rattle.std.specs.Prelude.{ℕ, zero, suc, ◌+◌, ◌-◌, List, [], ◌∷◌, ◌++◌, length, map, reverse, Contains, Option, None, Some, nat_lt, if◌then◌else◌, ⊤, Bool, true, false}
 use Rattle.std.specs.List.{range_with_len}
+use Rattle.lossless_tree.specs.declared.cursor.direction.Direction.{Direction}
+use Rattle.lossless_tree.specs.declared.cursor.direction.Direction.TheVariants.{Next, Prev}
 use Rattle.lossless_tree.specs.declared.syntax_kind.SyntaxKind.{SyntaxKind}
 use Rattle.lossless_tree.specs.declared.syntax_kind.SyntaxKind.TheVariants.{OTHER}
 
@@ -140,6 +142,11 @@ last_child_place tree p =
 
 abbrev pub prev_sibling_place : Place → Option Place
 prev_sibling_place p = if nat_lt 0 (last_position p) then Some (place_above p ++ (last_position p - 1) ∷ []) else None
+
+-- the sibling's place in a direction
+abbrev pub sibling_place_in : Direction → Tree → Place → Option Place
+sibling_place_in Next tree p = next_sibling_place tree p
+sibling_place_in Prev tree p = prev_sibling_place p
 
 -- the places of the children, in order
 abbrev pub children_places : Tree → Place → List Place

@@ -7,4 +7,5 @@ pub mod direction;
 pub mod element;
 pub mod node;
 pub mod preorder;
+pub mod siblings;
 pub mod token;

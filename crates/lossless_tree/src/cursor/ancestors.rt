@@ -1,13 +1,13 @@
 //! A node and the nodes above it.
 ghost use Rattle.std.specs.Prelude.{◌≡◌};
 ghost use Rattle.std.specs.Iterator.{YieldsFirst, item_count};
-ghost use Rattle.lossless_tree.specs.Cursor.{ancestors_of};
+ghost use Rattle.lossless_tree.specs.Cursor.{ancestors_of, ancestors_from};
 
 use super::node::SyntaxNode;
 use std::marker::Model;
 
 /// A node, its parent, and so on up to the root. A clause sees the cursors that are left.
-#[derive(Drop)]
+#[derive(Clone, Drop)]
 pub struct Ancestors {
     next: Option<SyntaxNode>,
 }
@@ -29,6 +29,13 @@ impl Ancestors {
         ensures { result ≡ ancestors_of node }
     {
         Ancestors { next: Some(node) }
+    }
+
+    // From a parent on, if there is one.
+    pub(crate) fn from_parent(next: Option<SyntaxNode>) -> Self
+        ensures { result ≡ ancestors_from next }
+    {
+        Ancestors { next }
     }
 }
 

@@ -1,17 +1,19 @@
-//! Every node and token of a subtree, in preorder.
+//! Every node and token of a subtree, and every node, in preorder.
 ghost use Rattle.std.specs.Prelude.{◌≡◌, map};
+ghost use Rattle.std.specs.List.{filter};
 ghost use Rattle.std.specs.Iterator.{YieldsFirst, item_count};
 ghost use Rattle.lossless_tree.specs.Rows.{IsRow};
-ghost use Rattle.lossless_tree.specs.Cursor.{descendants_of, cursor_at};
+ghost use Rattle.lossless_tree.specs.Cursor.{descendants_of, cursor_at, at_node};
 ghost use Rattle.lossless_tree.specs.Element.{element_of};
 
-use super::element::{SyntaxElement, element};
+use super::element::{NodeOrToken, SyntaxElement, element};
+use super::node::SyntaxNode;
 use crate::shared::Shared;
 use crate::table::Table;
 use std::marker::Model;
 
 /// The nodes and tokens of a subtree in preorder, itself first. A clause sees the cursors that are left.
-#[derive(Drop)]
+#[derive(Clone, Drop)]
 pub struct DescendantsWithTokens {
     table: Shared<Table>,
     next: usize,
@@ -62,5 +64,49 @@ impl Iterator for DescendantsWithTokens {
         } else {
             None
         }
+    }
+}
+
+/// The nodes of a subtree in preorder, itself first. A clause sees the cursors that are left.
+#[derive(Clone, Drop)]
+pub struct Descendants {
+    elements: DescendantsWithTokens,
+}
+
+impl Model for Descendants {
+    ghost use Rattle.std.specs.Prelude.{List};
+    ghost use Rattle.std.specs.List.{filter};
+    ghost use Rattle.std.specs.Coded.{coded_list};
+    ghost use Rattle.lossless_tree.specs.Cursor.{Cursor, cursor_code, at_node};
+
+    ghost Value = { List Cursor };
+
+    ghost coded = { coded_list cursor_code };
+
+    ghost view = { λ a. filter at_node a.elements };
+}
+
+impl Descendants {
+    pub(crate) fn new(elements: DescendantsWithTokens) -> Self
+        ensures { result ≡ filter at_node elements }
+    {
+        Descendants { elements }
+    }
+}
+
+impl Iterator for Descendants {
+    type Item = SyntaxNode;
+
+    ghost next_gives = { YieldsFirst (λ left. left) };
+
+    ghost remaining = { item_count (λ left. left) };
+
+    fn next(&mut self) -> Option<SyntaxNode> {
+        while let Some(element) = self.elements.next() {
+            if let NodeOrToken::Node(node) = element {
+                return Some(node);
+            }
+        }
+        None
     }
 }

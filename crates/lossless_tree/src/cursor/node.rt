@@ -1,14 +1,20 @@
 //! Nodes.
-ghost use Rattle.std.specs.Prelude.{◌≡◌, option_map, IfOk, string_bytes};
+ghost use Rattle.std.specs.Prelude.{◌≡◌, option_map, IfOk, IfSome, reverse, string_bytes};
+ghost use Rattle.std.specs.List.{filter, find};
 ghost use Rattle.lossless_tree.specs.Tree.{text, kind_of};
-ghost use Rattle.lossless_tree.specs.Cursor.{focus, range_of, parent_of, ancestors_of, first_child_of, next_sibling_of, descendants_of, walk_of};
+ghost use Rattle.lossless_tree.specs.Rows.{IsRow};
+ghost use Rattle.lossless_tree.specs.Cursor.{focus, range_of, parent_of, ancestors_of, children_of, first_child_of, last_child_of, next_sibling_of, prev_sibling_of, following_of, preceding_of, siblings_in, siblings_from, at_node, at_token, descendants_of, walk_of, moves_at_node};
 ghost use Rattle.lossless_tree.specs.Element.{element_of};
 ghost use Rattle.lossless_tree.specs.Dump.{dump_of};
 
 use super::ancestors::Ancestors;
-use super::descendants::DescendantsWithTokens;
+use super::children::{SyntaxElementChildren, SyntaxNodeChildren};
+use super::descendants::{Descendants, DescendantsWithTokens};
+use super::direction::Direction;
 use super::element::{SyntaxElement, element};
-use super::preorder::PreorderWithTokens;
+use super::preorder::{Preorder, PreorderWithTokens};
+use super::siblings::{SyntaxElementSiblings, SyntaxNodeSiblings};
+use super::token::SyntaxToken;
 use crate::dump;
 use crate::shared::Shared;
 use crate::syntax_kind::SyntaxKind;
@@ -119,6 +125,115 @@ impl SyntaxNode {
         Some(element(&self.table, row))
     }
 
+    /// The last child, node or token; `None` where there is none. It climbs from the subtree's last row, so it takes
+    /// time in the depth there.
+    pub fn last_child_or_token(&self) -> Option<SyntaxElement>
+        ensures { result ≡ option_map element_of (last_child_of self.now) }
+    {
+        let row = self.table.last_child_row(self.row)?;
+        Some(element(&self.table, row))
+    }
+
+    /// What comes before this node in its parent, node or token; `None` for the first child and the root. It climbs
+    /// from the row before, so it takes time in the depth there; going back through all siblings takes time in the
+    /// size of their subtrees.
+    pub fn prev_sibling_or_token(&self) -> Option<SyntaxElement>
+        ensures { result ≡ option_map element_of (prev_sibling_of self.now) }
+    {
+        let row = self.table.prev_sibling_row(self.row)?;
+        Some(element(&self.table, row))
+    }
+
+    /// The children, nodes and tokens, in order.
+    pub fn children_with_tokens(&self) -> SyntaxElementChildren
+        ensures { result ≡ children_of self.now }
+    {
+        SyntaxElementChildren::new(self.table.share(), self.row)
+    }
+
+    /// The child nodes, in order.
+    pub fn children(&self) -> SyntaxNodeChildren
+        ensures { result ≡ filter at_node (children_of self.now) }
+    {
+        SyntaxNodeChildren::new(self.children_with_tokens())
+    }
+
+    /// The first child node; `None` where there is none. It passes over the tokens before it.
+    pub fn first_child(&self) -> Option<SyntaxNode>
+        ensures { result ≡ find at_node (children_of self.now) }
+    {
+        let mut children = self.children();
+        children.next()
+    }
+
+    /// The last child node; `None` where there is none. It passes over the tokens behind it.
+    pub fn last_child(&self) -> Option<SyntaxNode>
+        ensures { result ≡ find at_node (reverse (children_of self.now)) }
+    {
+        let last = self.table.last_child_row(self.row);
+        nearest_node(&self.table, last, Direction::Prev)
+    }
+
+    /// The nearest sibling node behind this one; `None` where there is none. It passes over the tokens between.
+    pub fn next_sibling(&self) -> Option<SyntaxNode>
+        ensures { result ≡ find at_node (following_of self.now) }
+    {
+        let next = self.table.next_sibling_row(self.row);
+        nearest_node(&self.table, next, Direction::Next)
+    }
+
+    /// The nearest sibling node before this one; `None` where there is none. It passes over the tokens between.
+    pub fn prev_sibling(&self) -> Option<SyntaxNode>
+        ensures { result ≡ find at_node (preceding_of self.now) }
+    {
+        let prev = self.table.prev_sibling_row(self.row);
+        nearest_node(&self.table, prev, Direction::Prev)
+    }
+
+    /// This node and its siblings in a direction, nodes and tokens.
+    pub fn siblings_with_tokens(&self, direction: Direction) -> SyntaxElementSiblings
+        ensures { result ≡ siblings_in direction self.now }
+    {
+        SyntaxElementSiblings::new(self.table.share(), Some(self.row), direction)
+    }
+
+    /// This node and its sibling nodes in a direction.
+    pub fn siblings(&self, direction: Direction) -> SyntaxNodeSiblings
+        ensures { result ≡ filter at_node (siblings_in direction self.now) }
+    {
+        SyntaxNodeSiblings::new(self.siblings_with_tokens(direction))
+    }
+
+    /// The first token below this node; `None` where there is none. It goes past nodes without tokens.
+    pub fn first_token(&self) -> Option<SyntaxToken>
+        ensures { result ≡ find at_token (descendants_of self.now) }
+    {
+        let row = self.table.first_token_in(self.row)?;
+        Some(SyntaxToken::at(self.table.share(), row))
+    }
+
+    /// The last token below this node; `None` where there is none. It goes past nodes without tokens.
+    pub fn last_token(&self) -> Option<SyntaxToken>
+        ensures { result ≡ find at_token (reverse (descendants_of self.now)) }
+    {
+        let row = self.table.last_token_in(self.row)?;
+        Some(SyntaxToken::at(self.table.share(), row))
+    }
+
+    /// The walk of the nodes alone: it enters this node, walks its child nodes in order, and leaves it.
+    pub fn preorder(&self) -> Preorder
+        ensures { result ≡ filter moves_at_node (walk_of self.now) }
+    {
+        Preorder::new(self.preorder_with_tokens())
+    }
+
+    /// The nodes of this subtree in preorder, this node first.
+    pub fn descendants(&self) -> Descendants
+        ensures { result ≡ filter at_node (descendants_of self.now) }
+    {
+        Descendants::new(self.descendants_with_tokens())
+    }
+
     /// The walk that enters this node, walks its children in order, and leaves it.
     pub fn preorder_with_tokens(&self) -> PreorderWithTokens
         ensures { result ≡ walk_of self.now }
@@ -146,6 +261,20 @@ impl SyntaxNode {
     {
         dump::dump(alloc, &self.table, self.row)
     }
+}
+
+// The first node among the siblings from a row on, in a direction.
+fn nearest_node(
+    table: &Shared<Table>,
+    from: Option<usize>,
+    direction: Direction,
+) -> Option<SyntaxNode>
+    requires { IfSome from (IsRow table.now.value) }
+    ensures { result ≡ find at_node (siblings_from direction table.now.value from) }
+{
+    let elements = SyntaxElementSiblings::new(table.share(), from, direction);
+    let mut siblings = SyntaxNodeSiblings::new(elements);
+    siblings.next()
 }
 
 impl Clone for SyntaxNode {

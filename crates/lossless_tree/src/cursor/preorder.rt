@@ -1,11 +1,13 @@
 //! The walk that enters and leaves each node and token of a subtree.
 ghost use Rattle.std.specs.Prelude.{◌≡◌, ◌∷◌, [], true, false, map, length, None, MatchOption, IfSome};
+ghost use Rattle.std.specs.List.{filter};
 ghost use Rattle.std.specs.Iterator.{YieldsFirst, item_count};
 ghost use Rattle.lossless_tree.specs.Rows.{IsRow};
-ghost use Rattle.lossless_tree.specs.Cursor.{walk_of, walk_left, cursor_at, IsWalk, MovesLevel};
-ghost use Rattle.lossless_tree.specs.WalkEvent.{walk_event};
+ghost use Rattle.lossless_tree.specs.Cursor.{walk_of, walk_left, cursor_at, IsWalk, MovesLevel, moves_at_node};
+ghost use Rattle.lossless_tree.specs.WalkEvent.{walk_event, node_event, event_of_node};
 
-use super::element::{SyntaxElement, element};
+use super::element::{NodeOrToken, SyntaxElement, element};
+use super::node::SyntaxNode;
 use crate::shared::Shared;
 use crate::table::Table;
 use std::marker::Model;
@@ -18,7 +20,7 @@ pub enum WalkEvent<T> {
 }
 
 /// The walk of a subtree. A clause sees what is left: cursors that are entered (true) or left (false).
-#[derive(Drop)]
+#[derive(Clone, Drop)]
 pub struct PreorderWithTokens {
     table: Shared<Table>,
     start: usize,
@@ -137,5 +139,60 @@ impl Iterator for PreorderWithTokens {
         } else {
             Some(WalkEvent::Leave(element))
         }
+    }
+}
+
+/// The walk of the nodes of a subtree. A clause sees what is left: cursors that are entered (true) or left (false).
+#[derive(Clone, Drop)]
+pub struct Preorder {
+    events: PreorderWithTokens,
+}
+
+impl Model for Preorder {
+    ghost use Rattle.std.specs.Prelude.{List, Bool};
+    ghost use Rattle.std.specs.List.{filter};
+    ghost use Rattle.std.specs.Coded.{coded_list, coded×, coded_bool};
+    ghost use Rattle.lossless_tree.specs.Cursor.{Cursor, cursor_code, moves_at_node};
+
+    ghost Value = { List (Bool × Cursor) };
+
+    ghost coded = { coded_list (coded× coded_bool cursor_code) };
+
+    ghost view = { λ a. filter moves_at_node a.events };
+}
+
+impl Preorder {
+    pub(crate) fn new(events: PreorderWithTokens) -> Self
+        ensures { result ≡ filter moves_at_node events }
+    {
+        Preorder { events }
+    }
+}
+
+// The event at its node, if it is at one.
+fn event_of_node(event: WalkEvent<SyntaxElement>) -> Option<WalkEvent<SyntaxNode>>
+    ensures { result ≡ event_of_node event }
+{
+    match event {
+        WalkEvent::Enter(NodeOrToken::Node(node)) => Some(WalkEvent::Enter(node)),
+        WalkEvent::Leave(NodeOrToken::Node(node)) => Some(WalkEvent::Leave(node)),
+        _token => None,
+    }
+}
+
+impl Iterator for Preorder {
+    type Item = WalkEvent<SyntaxNode>;
+
+    ghost next_gives = { YieldsFirst (map node_event) };
+
+    ghost remaining = { item_count (map node_event) };
+
+    fn next(&mut self) -> Option<WalkEvent<SyntaxNode>> {
+        while let Some(event) = self.events.next() {
+            if let Some(at_node) = event_of_node(event) {
+                return Some(at_node);
+            }
+        }
+        None
     }
 }

@@ -1,12 +1,15 @@
 //! Tokens.
 ghost use Rattle.std.specs.Prelude.{◌≡◌, option_map, IfOk, string_bytes};
 ghost use Rattle.lossless_tree.specs.Tree.{text, kind_of};
-ghost use Rattle.lossless_tree.specs.Cursor.{focus, range_of, parent_of, next_sibling_of};
+ghost use Rattle.lossless_tree.specs.Cursor.{focus, range_of, parent_of, ancestors_from, next_sibling_of, prev_sibling_of, siblings_in, all_tokens, IsRightBehind, IsRightBefore};
 ghost use Rattle.lossless_tree.specs.Element.{element_of};
 ghost use Rattle.lossless_tree.specs.Dump.{dump_of};
 
+use super::ancestors::Ancestors;
+use super::direction::Direction;
 use super::element::{SyntaxElement, element};
 use super::node::SyntaxNode;
+use super::siblings::SyntaxElementSiblings;
 use crate::dump;
 use crate::shared::Shared;
 use crate::syntax_kind::SyntaxKind;
@@ -91,6 +94,45 @@ impl SyntaxToken {
     {
         let row = self.table.next_sibling_row(self.row)?;
         Some(element(&self.table, row))
+    }
+
+    /// The nodes above this token, the nearest first, up to the root.
+    pub fn parent_ancestors(&self) -> Ancestors
+        ensures { result ≡ ancestors_from (parent_of self.now) }
+    {
+        Ancestors::from_parent(self.parent())
+    }
+
+    /// What comes before this token in its parent, node or token; `None` for the first child. It climbs from the row
+    /// before, so it takes time in the depth there.
+    pub fn prev_sibling_or_token(&self) -> Option<SyntaxElement>
+        ensures { result ≡ option_map element_of (prev_sibling_of self.now) }
+    {
+        let row = self.table.prev_sibling_row(self.row)?;
+        Some(element(&self.table, row))
+    }
+
+    /// This token and its siblings in a direction, nodes and tokens.
+    pub fn siblings_with_tokens(&self, direction: Direction) -> SyntaxElementSiblings
+        ensures { result ≡ siblings_in direction self.now }
+    {
+        SyntaxElementSiblings::new(self.table.share(), Some(self.row), direction)
+    }
+
+    /// The token right behind this one in the whole tree; `None` for the last. It goes past nodes without tokens.
+    pub fn next_token(&self) -> Option<SyntaxToken>
+        ensures { IsRightBehind (all_tokens self.now) self.now result }
+    {
+        let row = self.table.next_token_row(self.row)?;
+        Some(SyntaxToken::at(self.table.share(), row))
+    }
+
+    /// The token right before this one in the whole tree; `None` for the first. It goes past nodes without tokens.
+    pub fn prev_token(&self) -> Option<SyntaxToken>
+        ensures { IsRightBefore (all_tokens self.now) self.now result }
+    {
+        let row = self.table.prev_token_row(self.row)?;
+        Some(SyntaxToken::at(self.table.share(), row))
     }
 
     /// The token's one line, as in the dump of a tree around it.

@@ -1,10 +1,13 @@
 //! Steps from row to row: the last child, the previous sibling, the nearest token.
-ghost use Rattle.std.specs.Prelude.{◌≡◌, ◌<◌, ◌≤◌, option_map, IfSome};
-ghost use Rattle.lossless_tree.specs.Tree.{size, last_child_place, prev_sibling_place};
-ghost use Rattle.lossless_tree.specs.Rows.{place_at};
+ghost use Rattle.std.specs.Prelude.{◌≡◌, ◌+◌, ◌<◌, ◌≤◌, option_map, IfSome, reverse};
+ghost use Rattle.std.specs.List.{find};
+ghost use Rattle.lossless_tree.specs.Tree.{size, IsToken, last_child_place, prev_sibling_place, sibling_place_in};
+ghost use Rattle.lossless_tree.specs.Rows.{place_at, tree_at};
+ghost use Rattle.lossless_tree.specs.Cursor.{cursor_at, at_token, descendants_of, all_tokens, IsRightBehind, IsRightBefore};
 ghost use Rattle.lossless_tree.specs.RowSteps.{IsBelow, IsChildOver, IsFirstToken, IsLastToken};
 
 use super::Table;
+use crate::cursor::direction::Direction;
 
 impl Table {
     // The child of row `parent` whose subtree holds row `n`. It climbs from there.
@@ -48,10 +51,23 @@ impl Table {
         }
     }
 
+    pub(crate) fn sibling_row(&self, n: usize, direction: Direction) -> Option<usize>
+        requires { n < size self.now }
+        ensures place { option_map (place_at self.now) result ≡ sibling_place_in direction self.now (place_at self.now n) }
+        ensures in_range { IfSome result (λ q. q < size self.now) }
+    {
+        match direction {
+            Direction::Next => self.next_sibling_row(n),
+            Direction::Prev => self.prev_sibling_row(n),
+        }
+    }
+
     // The first token among the rows `from..to`.
     pub(crate) fn first_token_row(&self, from: usize, to: usize) -> Option<usize>
         requires { to ≤ size self.now }
-        ensures { IsFirstToken self.now from to result }
+        ensures found { IsFirstToken self.now from to result }
+        ensures token { IfSome result (λ q. IsToken (tree_at self.now q)) }
+        ensures in_range { IfSome result (λ q. q < size self.now) }
     {
         for n in from..to {
             if self.row(n).is_token {
@@ -64,7 +80,9 @@ impl Table {
     // The last token among the rows `from..to`.
     pub(crate) fn last_token_row(&self, from: usize, to: usize) -> Option<usize>
         requires { to ≤ size self.now }
-        ensures { IsLastToken self.now from to result }
+        ensures found { IsLastToken self.now from to result }
+        ensures token { IfSome result (λ q. IsToken (tree_at self.now q)) }
+        ensures in_range { IfSome result (λ q. q < size self.now) }
     {
         let mut after = to;
         while from < after {
@@ -74,5 +92,48 @@ impl Table {
             }
         }
         None
+    }
+
+    // The first token of the subtree at row `n`, and the last.
+    pub(crate) fn first_token_in(&self, n: usize) -> Option<usize>
+        requires { n < size self.now }
+        ensures found { option_map (cursor_at self.now) result ≡ find at_token (descendants_of (cursor_at self.now n)) }
+        ensures token { IfSome result (λ q. IsToken (tree_at self.now q)) }
+        ensures in_range { IfSome result (λ q. q < size self.now) }
+    {
+        let end = self.row(n).end;
+        self.first_token_row(n, end)
+    }
+
+    pub(crate) fn last_token_in(&self, n: usize) -> Option<usize>
+        requires { n < size self.now }
+        ensures found { option_map (cursor_at self.now) result ≡ find at_token (reverse (descendants_of (cursor_at self.now n))) }
+        ensures token { IfSome result (λ q. IsToken (tree_at self.now q)) }
+        ensures in_range { IfSome result (λ q. q < size self.now) }
+    {
+        let end = self.row(n).end;
+        self.last_token_row(n, end)
+    }
+
+    // The token right behind the token at row `n`, and right before it.
+    pub(crate) fn next_token_row(&self, n: usize) -> Option<usize>
+        requires is_row { n < size self.now }
+        requires is_token { IsToken (tree_at self.now n) }
+        ensures found { IsRightBehind (all_tokens (cursor_at self.now n)) (cursor_at self.now n) (option_map (cursor_at self.now) result) }
+        ensures token { IfSome result (λ q. IsToken (tree_at self.now q)) }
+        ensures in_range { IfSome result (λ q. q < size self.now) }
+    {
+        let count = self.len();
+        self.first_token_row(n + 1, count)
+    }
+
+    pub(crate) fn prev_token_row(&self, n: usize) -> Option<usize>
+        requires is_row { n < size self.now }
+        requires is_token { IsToken (tree_at self.now n) }
+        ensures found { IsRightBefore (all_tokens (cursor_at self.now n)) (cursor_at self.now n) (option_map (cursor_at self.now) result) }
+        ensures token { IfSome result (λ q. IsToken (tree_at self.now q)) }
+        ensures in_range { IfSome result (λ q. q < size self.now) }
+    {
+        self.last_token_row(0, n)
     }
 }

@@ -1,6 +1,5 @@
-use Rattle.std.proofs.Common.{◌≡◌, ◌<◌, ◌≤◌, refl, arith, sym, ap, ◌∙◌}
+use Rattle.std.proofs.Common.{◌<◌, arith, ap}
 use Rattle.lossless_tree.specs.Tree.{size}
-use Rattle.lossless_tree.specs.Rows.{row_at}
 use Rattle.lossless_tree.proofs.TableLemmas.{row_end_fits}
 use Rattle.lossless_tree.proofs.SiblingLemmas.{climbs}
 use Rattle.lossless_tree.proofs.StepLemmas.{end_of_row}

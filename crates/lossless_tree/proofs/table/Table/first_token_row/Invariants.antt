@@ -1,4 +1,3 @@
-use Rattle.std.proofs.Common.{◌≡◌, ◌<◌, ◌≤◌}
 use Rattle.lossless_tree.specs.RowSteps.{NoTokens}
 use Rattle.lossless_tree.proofs.table.Table.first_token_row.Given as goal
 

@@ -1,5 +1,5 @@
-use Rattle.std.proofs.Common.{◌≡◌, ◌+◌, suc, arith, ap, ◌∙◌}
-use Rattle.lossless_tree.specs.Rows.{row_at, tree_at}
+use Rattle.std.proofs.Common.{arith, ap}
+use Rattle.lossless_tree.specs.Rows.{tree_at}
 use Rattle.lossless_tree.proofs.At.{some_row}
 use Rattle.lossless_tree.proofs.StepLemmas.{end_of_row}
 use Rattle.lossless_tree.proofs.SiblingLemmas.{last_child_found, no_last_child_found}

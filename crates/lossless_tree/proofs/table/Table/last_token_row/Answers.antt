@@ -1,11 +1,11 @@
-use Rattle.std.proofs.Common.{arith, ◌≡◌, ◌+◌, ◌-◌, sym, subst, ℕ}
+use Rattle.std.proofs.Common.{arith, ◌≡◌, ◌+◌, ◌-◌, ℕ}
 use Rattle.lossless_tree.specs.RowSteps.{NoTokens}
 use Rattle.lossless_tree.proofs.StepLemmas.{row_token, row_node}
 use Rattle.lossless_tree.proofs.TokenLemmas.{one_more_before}
 use Rattle.lossless_tree.proofs.table.Table.last_token_row.Goals as goal
 
-pub returns-then-row : goal.returns-then-row
-returns-then-row c =
+pub returns-then-row-clause-found : goal.returns-then-row-clause-found
+returns-then-row-clause-found c =
     let last : ℕ = c.loop-after.after - 1 in
     let after_is : last + 1 ≡ c.loop-after.after = omega (arith, c.loop-after-test.true) in (
       omega (arith, c.loop-after-test.true),
@@ -23,3 +23,7 @@ loop-after-preserved c =
       fits = omega (arith, c.loop-after.invariant.fits);
       none = one_more_before c.args.self.now last c.args.to behind (row_node c.args.self.now last c.row.result (omega (arith, c.requires, c.loop-after-test.true, c.loop-after.invariant.fits)) c.row.ensures.value c.if-row.false);
     }
+
+pub returns-then-row-clause-token : goal.returns-then-row-clause-token
+returns-then-row-clause-token c =
+    row_token c.args.self.now (c.loop-after.after - 1) c.row.result (omega (arith, c.requires, c.loop-after-test.true, c.loop-after.invariant.fits)) c.row.ensures.value c.if-row.true

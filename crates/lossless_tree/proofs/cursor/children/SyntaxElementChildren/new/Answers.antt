@@ -1,4 +1,4 @@
-use Rattle.std.proofs.Common.{◌≡◌, ◌+◌, suc, ◌∙◌, ap, arith}
+use Rattle.std.proofs.Common.{◌+◌, ◌∙◌, ap, arith}
 use Rattle.lossless_tree.specs.Rows.{row_at}
 use Rattle.lossless_tree.proofs.ChildLists.{children_begin}
 use Rattle.lossless_tree.proofs.cursor.children.SyntaxElementChildren.new.Goals as goal
