@@ -2,7 +2,7 @@
 use Rattle.std.proofs.Common.{◌≡◌, ◌↔◌, ℕ, ◌<◌, ◌∙◌, true, refl, sym, ap, subst, arith, nat_eq, slice_index_or, Some}
 use Rattle.std.proofs.lemmas.Bool.{agree_below, agree_below_at, eqb-true}
 use Rattle.lossless_tree.specs.Kinds.{kind_raw, IsKind}
-use Rattle.lossless_tree.proofs.KindLaws.{kind_raw-injective}
+use Rattle.lossless_tree.specs.KindLaws.{kind_raw-injective}
 use Rattle.lossless_tree.specs.declared.syntax_kind.SyntaxKind.{SyntaxKind}
 use Rattle.lossless_tree.specs.declared.syntax_kind.SyntaxKind.TheVariants.{Token, Node, OTHER}
 use Rattle.lossless_tree.specs.declared.syntax_kind.all.TheConstants.{KINDS}

@@ -2,7 +2,8 @@
 use Rattle.std.proofs.Common.{◌≡◌, ℕ, ◌<◌, ◌∙◌, List, sym, ap, subst, Option, Some, None, ◌↔◌}
 use Rattle.lossless_tree.specs.Kinds.{kind_raw, kind_name, IsKind}
 use Rattle.lossless_tree.specs.KindText.{IsNamedAs}
-use Rattle.lossless_tree.proofs.KindLaws.{kind_name-injective, token_raw_small, node_raw_small}
+use Rattle.lossless_tree.specs.KindLaws.{token_raw_small, node_raw_small}
+use Rattle.lossless_tree.proofs.KindLaws.{kind_name-injective}
 use Rattle.lossless_tree.specs.declared.syntax_kind.SyntaxKind.{SyntaxKind}
 use Rattle.lossless_tree.specs.declared.syntax_kind.SyntaxKind.TheVariants.{Token, Node, OTHER}
 

@@ -173,7 +173,7 @@ no_first_child_found whole n h short = no_child_in (tree_at whole n) refl (omega
     no_child_in (node k nil) e short = ap (λ t. if nat_lt 0 (child_count (forest_of_children t)) then Some (place_at whole n ++ 0 ∷ []) else None) (sym e)
     no_child_in (node k (cons u r)) e short = absurd (omega (arith, forest_size-cons u r, some_row u))
 
-same_place_same_row : (whole : Tree) (n m : ℕ) → n < size whole → m < size whole → place_at whole n ≡ place_at whole m → n ≡ m
+pub same_place_same_row : (whole : Tree) (n m : ℕ) → n < size whole → m < size whole → place_at whole n ≡ place_at whole m → n ≡ m
 same_place_same_row whole n m h k e = At-same_row (subst (λ p. At (cons whole nil) n (0 ∷ p) (tree_at whole n) (start_at whole n)) e (at_row whole n h)) (at_row whole m k)
 
 pub sibling_count-append : (whole : Tree) (p : Place) (i : ℕ) → sibling_count whole (p ++ i ∷ []) ≡ child_count (forest_of_children (subtree whole p))

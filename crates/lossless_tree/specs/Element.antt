@@ -1,9 +1,9 @@
 -- A node or a token, as its cursor.
-use Rattle.std.specs.Prelude.{Option, Some, None}
+use Rattle.std.specs.Prelude.{List, Option, Some, None}
 use Rattle.lossless_tree.specs.declared.cursor.element.NodeOrToken.{NodeOrToken}
 use Rattle.lossless_tree.specs.declared.cursor.element.NodeOrToken.TheVariants.{Node, Token}
 use Rattle.lossless_tree.specs.Tree.{Tree, node, token}
-use Rattle.lossless_tree.specs.Cursor.{Cursor, focus}
+use Rattle.lossless_tree.specs.Cursor.{Cursor, focus, parent_of, ancestors_of, ancestors_from}
 
 abbrev pub element_by : Tree → Cursor → NodeOrToken Cursor Cursor
 element_by (node k c) cursor = Node cursor
@@ -26,3 +26,8 @@ node_part (Token t) = None
 abbrev pub token_part : {N T : Type 0} → NodeOrToken N T → Option T
 token_part (Node n) = None
 token_part (Token t) = Some t
+
+-- a node's ancestors, itself first, and a token's from its parent on
+abbrev pub ancestors_of_element : NodeOrToken Cursor Cursor → List Cursor
+ancestors_of_element (Node c) = ancestors_of c
+ancestors_of_element (Token c) = ancestors_from (parent_of c)

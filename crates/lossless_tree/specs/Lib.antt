@@ -16,3 +16,6 @@ pub mod Run
 pub mod WalkEvent
 pub mod Dump
 pub mod RowLemmas
+pub mod KindLaws
+pub mod Equality
+pub mod EqualityLaws

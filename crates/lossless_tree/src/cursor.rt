@@ -5,6 +5,7 @@ pub mod children;
 pub mod descendants;
 pub mod direction;
 pub mod element;
+mod equality;
 pub mod node;
 pub mod preorder;
 pub mod siblings;

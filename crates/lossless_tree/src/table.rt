@@ -82,6 +82,14 @@ impl Table {
         self.row(n).start
     }
 
+    // How many nodes and tokens stand at row `n` and below.
+    pub(crate) fn size_at(&self, n: usize) -> usize
+        requires { n < size self.now }
+        ensures { result ≡ size (tree_at self.now n) }
+    {
+        self.row(n).end - n
+    }
+
     // Where the text of the subtree at row `n` ends.
     pub(crate) fn end_at(&self, n: usize) -> usize
         requires { n < size self.now }
@@ -152,5 +160,37 @@ impl Table {
         } else {
             None
         }
+    }
+}
+
+impl PartialEq for Row {
+    ghost use Rattle.lossless_tree.specs.Equality.{is_same_row};
+    ghost use Rattle.lossless_tree.specs.EqualityLaws.{row_equivalence};
+    ghost use Rattle.std.specs.Cmp.{partial_equiv_from_equiv};
+
+    ghost eq = { is_same_row };
+
+    ghost laws = { partial_equiv_from_equiv row_equivalence };
+
+    fn eq(&self, other: &Row) -> bool {
+        self.kind.to_raw() == other.kind.to_raw()
+            && self.is_token == other.is_token
+            && self.start == other.start
+            && self.end == other.end
+            && self.parent == other.parent
+    }
+}
+
+impl PartialEq for Table {
+    ghost use Rattle.lossless_tree.specs.Equality.{is_same_tree};
+    ghost use Rattle.lossless_tree.specs.EqualityLaws.{tree_equivalence};
+    ghost use Rattle.std.specs.Cmp.{partial_equiv_from_equiv};
+
+    ghost eq = { is_same_tree };
+
+    ghost laws = { partial_equiv_from_equiv tree_equivalence };
+
+    fn eq(&self, other: &Table) -> bool {
+        self.text.as_str() == other.text.as_str() && self.rows.as_slice() == other.rows.as_slice()
     }
 }

@@ -1,21 +1,28 @@
 //! A node or a token.
-ghost use Rattle.std.specs.Prelude.{◌≡◌, option_map, option_copied};
+ghost use Rattle.std.specs.Prelude.{◌≡◌, option_map, option_copied, IfOk, string_bytes};
 ghost use Rattle.lossless_tree.specs.Tree.{kind_of};
 ghost use Rattle.lossless_tree.specs.Rows.{IsRow};
-ghost use Rattle.lossless_tree.specs.Cursor.{cursor_at, focus, range_of, parent_of, next_sibling_of};
-ghost use Rattle.lossless_tree.specs.Element.{element_of, cursor_of, node_part, token_part};
+ghost use Rattle.lossless_tree.specs.Cursor.{cursor_at, focus, range_of, parent_of, next_sibling_of, prev_sibling_of, siblings_in};
+ghost use Rattle.lossless_tree.specs.Element.{element_of, cursor_of, node_part, token_part, ancestors_of_element};
+ghost use Rattle.lossless_tree.specs.Dump.{dump_of};
 
+use super::ancestors::Ancestors;
+use super::direction::Direction;
 use super::node::SyntaxNode;
+use super::siblings::SyntaxElementSiblings;
 use super::token::SyntaxToken;
 use crate::shared::Shared;
 use crate::syntax_kind::SyntaxKind;
 use crate::table::Table;
 use crate::text_range::TextRange;
+use std::alloc::{AllocError, Global};
 
 /// A node or a token, of any two types that stand for them.
-#[derive(Drop)]
+#[derive(Clone, PartialEq, Eq, Hash, Drop)]
 pub enum NodeOrToken<N, T> {
+    /// A node.
     Node(N),
+    /// A token.
     Token(T),
 }
 
@@ -96,6 +103,47 @@ impl NodeOrToken<SyntaxNode, SyntaxToken> {
         match self {
             NodeOrToken::Node(node) => node.parent(),
             NodeOrToken::Token(token) => token.parent(),
+        }
+    }
+
+    /// The nodes above a token, and a node and the nodes above it, the nearest first, up to the root.
+    pub fn ancestors(&self) -> Ancestors
+        ensures { result ≡ ancestors_of_element self.now }
+    {
+        match self {
+            NodeOrToken::Node(node) => node.ancestors(),
+            NodeOrToken::Token(token) => token.parent_ancestors(),
+        }
+    }
+
+    /// What comes before this in its parent, node or token; `None` for the first child and the root. It takes time in
+    /// the depth of what comes before.
+    pub fn prev_sibling_or_token(&self) -> Option<SyntaxElement>
+        ensures { result ≡ option_map element_of (prev_sibling_of (cursor_of self.now)) }
+    {
+        match self {
+            NodeOrToken::Node(node) => node.prev_sibling_or_token(),
+            NodeOrToken::Token(token) => token.prev_sibling_or_token(),
+        }
+    }
+
+    /// This and its siblings in a direction, nodes and tokens.
+    pub fn siblings_with_tokens(&self, direction: Direction) -> SyntaxElementSiblings
+        ensures { result ≡ siblings_in direction (cursor_of self.now) }
+    {
+        match self {
+            NodeOrToken::Node(node) => node.siblings_with_tokens(direction),
+            NodeOrToken::Token(token) => token.siblings_with_tokens(direction),
+        }
+    }
+
+    /// The dump of the node, or the token's one line.
+    pub fn dump(&self, alloc: Global) -> Result<String, AllocError>
+        ensures { IfOk result (λ text. string_bytes text ≡ dump_of (cursor_of self.now)) }
+    {
+        match self {
+            NodeOrToken::Node(node) => node.dump(alloc),
+            NodeOrToken::Token(token) => token.dump(alloc),
         }
     }
 

@@ -12,6 +12,7 @@ use super::children::{SyntaxElementChildren, SyntaxNodeChildren};
 use super::descendants::{Descendants, DescendantsWithTokens};
 use super::direction::Direction;
 use super::element::{SyntaxElement, element};
+use super::equality::{feed, is_same};
 use super::preorder::{Preorder, PreorderWithTokens};
 use super::siblings::{SyntaxElementSiblings, SyntaxNodeSiblings};
 use super::token::SyntaxToken;
@@ -21,6 +22,7 @@ use crate::syntax_kind::SyntaxKind;
 use crate::table::Table;
 use crate::text_range::TextRange;
 use std::alloc::{AllocError, Global};
+use std::hash::{Hash, Hasher};
 use std::marker::Model;
 
 /// A node of a tree: a cursor, which shares the whole tree with every other cursor of it.
@@ -289,5 +291,40 @@ impl Clone for SyntaxNode {
             table: self.table.share(),
             row: self.row,
         })
+    }
+}
+
+/// Equal where both stand at the same place in equal trees. Of cursors of one tree it takes constant time.
+impl PartialEq for SyntaxNode {
+    ghost use Rattle.lossless_tree.specs.Equality.{is_same_cursor};
+    ghost use Rattle.lossless_tree.specs.EqualityLaws.{cursor_equivalence};
+    ghost use Rattle.std.specs.Cmp.{partial_equiv_from_equiv};
+
+    ghost eq = { is_same_cursor };
+
+    ghost laws = { partial_equiv_from_equiv cursor_equivalence };
+
+    fn eq(&self, other: &SyntaxNode) -> bool {
+        is_same(&self.table, self.row, &other.table, other.row)
+    }
+}
+
+impl Eq for SyntaxNode {
+    ghost use Rattle.lossless_tree.specs.EqualityLaws.{cursor_equivalence};
+
+    ghost laws = { cursor_equivalence };
+}
+
+/// Equal cursors hash alike. It takes constant time.
+impl Hash for SyntaxNode {
+    ghost use Rattle.lossless_tree.specs.Equality.{cursor_hash};
+    ghost use Rattle.lossless_tree.specs.EqualityLaws.{cursors_alike};
+
+    ghost hash_input = { cursor_hash };
+
+    ghost respects_eq = { cursors_alike };
+
+    fn hash<H: Hasher>(&self, state: &mut H) {
+        feed(&self.table, self.row, state);
     }
 }

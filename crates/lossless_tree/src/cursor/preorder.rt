@@ -13,9 +13,11 @@ use crate::table::Table;
 use std::marker::Model;
 
 /// What a walk does at an element: it enters it, walks what is below, and leaves it.
-#[derive(Drop)]
+#[derive(Clone, PartialEq, Eq, Hash, Drop)]
 pub enum WalkEvent<T> {
+    /// It is entered, before what is below.
     Enter(T),
+    /// It is left, behind what is below.
     Leave(T),
 }
 
