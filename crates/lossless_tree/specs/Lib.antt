@@ -9,6 +9,7 @@ pub mod TreeCode
 pub mod Rows
 pub mod Cursor
 pub mod Element
+pub mod Edit
 pub mod Builder
 pub mod Scan
 pub mod Run
