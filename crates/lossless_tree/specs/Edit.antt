@@ -1,7 +1,12 @@
 -- Texts and trees with one piece in the place of another.
 -- (Upstream: `replace_with` of `rowan`'s `SyntaxNode` and `SyntaxToken`, and rust-analyzer's text edit `Indel`.)
 use Rattle.std.specs.Prelude.{◌≡◌, ◌↔◌, ℕ, zero, suc, ◌+◌, ◌-◌, ◌≤◌, List, [], ◌∷◌, ◌++◌, length, take, drop, ⊤, ◌<◌}
+use Rattle.lossless_tree.specs.Cursor.{Cursor}
 use Rattle.lossless_tree.specs.Tree.{Tree, node, token, Forest, nil, cons, text, forest_of_children, child_at, child_count, Place, IsPlace, subtree, start}
+
+-- the cursor at the root of a tree
+abbrev pub root_of : Tree → Cursor
+root_of t = record { tree = t; place = [] }
 
 -- the text with new in place of its bytes from a up to b
 abbrev pub splice : List ℕ → ℕ → ℕ → List ℕ → List ℕ

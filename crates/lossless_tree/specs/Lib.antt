@@ -7,6 +7,7 @@ pub mod Tree
 pub mod Events
 pub mod TreeCode
 pub mod Rows
+pub mod MovedRows
 pub mod Cursor
 pub mod Element
 pub mod Edit

@@ -23,7 +23,7 @@ pub use cursor::element::{NodeOrToken, SyntaxElement};
 pub use cursor::node::SyntaxNode;
 pub use cursor::preorder::{PreorderWithTokens, WalkEvent};
 pub use cursor::token::SyntaxToken;
-pub use error::FinishError;
+pub use error::{FinishError, ReplaceError};
 pub use language::{Language, RustLanguage};
 pub use shared::Shared;
 pub use syntax_kind::{KINDS, NodeKind, SyntaxKind, TokenKind};

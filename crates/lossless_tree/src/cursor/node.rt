@@ -2,6 +2,7 @@
 ghost use Rattle.std.specs.Prelude.{◌≡◌, option_map, IfOk, string_bytes};
 ghost use Rattle.lossless_tree.specs.Tree.{text, kind_of};
 ghost use Rattle.lossless_tree.specs.Cursor.{focus, range_of, parent_of, ancestors_of, first_child_of, next_sibling_of, descendants_of, walk_of};
+ghost use Rattle.lossless_tree.specs.Edit.{root_of};
 ghost use Rattle.lossless_tree.specs.Element.{element_of};
 ghost use Rattle.lossless_tree.specs.Dump.{dump_of};
 
@@ -63,6 +64,19 @@ impl SyntaxNode {
         ensures { result ≡ cursor_at table.value row }
     {
         SyntaxNode { table, row }
+    }
+}
+
+impl SyntaxNode {
+    /// The root of a new tree that equals this subtree, with a text of its own.
+    ///
+    /// It takes time and memory linear in the subtree, whatever the whole tree's size.
+    pub fn clone_subtree(&self, alloc: Global) -> Result<SyntaxNode, AllocError>
+        ensures { IfOk result (λ root. root ≡ root_of (focus self.now)) }
+    {
+        let table = self.table.subtree(alloc, self.row)?;
+        let table = Shared::new(alloc, table)?;
+        Ok(SyntaxNode::root(table))
     }
 }
 
