@@ -2,8 +2,8 @@
 use Rattle.std.proofs.Common.{◌≡◌, ℕ, zero, suc, ◌+◌, ◌-◌, ◌<◌, ◌≤◌, List, [], ◌∷◌, ◌++◌, length, take, drop, refl, sym, ap, ◌∙◌, arith, append_assoc, append-nil, length-append}
 use Rattle.std.proofs.lemmas.List.{take-append-le, drop-append-le}
 use Rattle.std.proofs.Math.Seq.{take-append_seam, drop-append_seam, take-append-add, drop-append-add}
-use Rattle.lossless_tree.specs.Tree.{Tree, node, token, Forest, nil, cons, text, forest_text, child_at, child_count, bytes_before, Place, IsPlace, subtree, start}
-use Rattle.lossless_tree.specs.Edit.{splice, set_child, with_child, replace, Within, end, text_before, text_behind, TextAround, ReplacedText, EditedInside}
+use Rattle.lossless_tree.specs.Tree.{Tree, node, token, Forest, nil, cons, text, forest_text, child_at, child_count, bytes_before, Place, subtree, start}
+use Rattle.lossless_tree.specs.Edit.{splice, set_child, replace, Within, end, text_before, TextAround, ReplacedText, EditedInside}
 use Rattle.lossless_tree.proofs.Texts.{forest_text-cons}
 use Rattle.lossless_tree.proofs.PlaceLemmas.{places_are_reached}
 

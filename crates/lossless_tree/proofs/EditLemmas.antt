@@ -1,20 +1,23 @@
 -- What the rows and texts of a new table show.
-use Rattle.std.proofs.Common.{◌≡◌, ◌↔◌, ℕ, suc, ◌+◌, ◌-◌, ◌<◌, ◌≤◌, List, [], ◌∷◌, ◌++◌, length, map, get_or, take, drop, true, false, inl, inr, refl, sym, ap, subst, ◌∙◌, arith, append_assoc, append-nil, length-append}
-use Rattle.std.specs.Prelude.{◌^◌, IsUtf8}
-use Rattle.std.proofs.lemmas.List.{map-append, take_more, get_or-drop, length-drop}
-use Rattle.std.proofs.Math.Seq.{take-append_seam, drop-append_seam, drop-append-add}
+use Rattle.std.proofs.Common.{◌≡◌, ℕ, suc, ◌+◌, ◌-◌, ◌<◌, ◌≤◌, List, [], ◌∷◌, ◌++◌, length, map, get_or, take, drop, true, false, refl, sym, ap, subst, ◌∙◌, arith, append_assoc, append-nil, length-append}
+use Rattle.std.specs.Prelude.{◌^◌}
+use Rattle.std.specs.Str.{IsCharBoundary}
+use Rattle.std.proofs.lemmas.List.{map-append, take_more, get_or-drop, length-drop, length-take-le}
+use Rattle.std.proofs.Math.Seq.{take-append_seam, drop-append_seam}
+use Rattle.lossless_tree.specs.declared.syntax_kind.SyntaxKind.{SyntaxKind}
 use Rattle.lossless_tree.specs.declared.table.Row.{Row}
 use Rattle.lossless_tree.specs.declared.table.edit.Shift.{Shift}
-use Rattle.lossless_tree.specs.Tree.{Tree, node, token, Forest, nil, cons, text, size, forest_text, forest_size, kind_of, IsNode, IsToken}
-use Rattle.lossless_tree.specs.Rows.{rows_of, row_of, row_at, no_row, place_at, tree_at, start_at, end_at, Represents, TextsAreUtf8, tree_of_rows, forest_of_rows, first_tree}
-use Rattle.lossless_tree.specs.RowLemmas.{forest_of_rows-rows_of}
-use Rattle.lossless_tree.specs.Events.{append_forest}
-use Rattle.lossless_tree.specs.MovedRows.{moved_row, moved_number, MoveFits, rows_between}
-use Rattle.lossless_tree.proofs.At.{At, here, below, after, At-fits, cong₂, forest_size-cons, length-rows_of, some_row, up_of}
-use Rattle.lossless_tree.proofs.TableLemmas.{cut, at_row, up_at, row_at-is, row_of-start, row_of-end}
+use Rattle.lossless_tree.specs.Tree.{Tree, Place, subtree, node, token, Forest, nil, cons, text, size, forest_size, kind_of, IsNode, IsToken}
+use Rattle.lossless_tree.specs.Rows.{rows_of, row_of, row_at, no_row, place_at, tree_at, start_at, end_at, Represents, TextsAreUtf8, tree_of_rows}
+use Rattle.lossless_tree.specs.MovedRows.{moved_row, MoveFits, rows_between, shift_from, moved_before, moved_behind}
+use Rattle.lossless_tree.specs.Edit.{splice, replace}
+use Rattle.lossless_tree.proofs.At.{At, here, below, after, At-fits, cong₂, forest_size-cons, length-rows_of, up_of}
+use Rattle.lossless_tree.proofs.TableLemmas.{cut, at_row, up_at, row_end_fits, tree_of_rows-rows_of}
 use Rattle.lossless_tree.proofs.StepLemmas.{end_of_row, row_start, row_kind, parent_of_row}
-use Rattle.lossless_tree.proofs.Texts.{subtree_utf8}
-use Rattle.lossless_tree.proofs.MovedRows.{Replaced, replaced, rows_behind, rows_of-moved, moved-above, At-inside, At-later, Inside}
+use Rattle.lossless_tree.proofs.Texts.{forest_text-cons, subtree_utf8}
+use Rattle.lossless_tree.proofs.MovedRows.{replaced, replaced_utf8, rows_of-moved, moved-above, At-bytes, At-inside, At-later}
+use Rattle.lossless_tree.proofs.EditLaws.{spliced}
+use Rattle.lossless_tree.proofs.PlaceLemmas.{within_at}
 
 length-all : (whole : Tree) → length (rows_of (cons whole nil) 0 0 0) ≡ size whole
 length-all whole = omega (arith, length-rows_of (cons whole nil) 0 0 0, forest_size-cons whole nil)
@@ -146,3 +149,154 @@ subtree_shown whole n all new s part h is_node w is_new is_part =
 -- a subtree's text is short
 pub text_fits : (all : List Row) (s : List ℕ) (whole : Tree) (n : ℕ) → Represents all s whole → n < size whole → length (text (tree_at whole n)) < 2 ^ 32
 text_fits all s whole n w h = let v = cut all s whole n w h in omega (arith, v.end_in_text, w.short)
+
+-- a subtree's text lies within the whole text
+pub within_text : (whole : Tree) (n : ℕ) → n < size whole → start_at whole n + length (text (tree_at whole n)) ≤ length (text whole)
+within_text whole n h = omega (arith, At-bytes (at_row whole n h), ap length (forest_text-cons whole nil), length-append (text whole) [])
+
+pub length-splice : (s new : List ℕ) (a b : ℕ) → a ≤ b → b ≤ length s → length (splice s a b new) ≡ (length s - (b - a)) + length new
+length-splice s new a b h k = omega (arith, length-append (take a s) (new ++ drop b s), length-append new (drop b s), length-take-le a s (omega arith), length-drop b s)
+
+pub length-spliced : (whole : Tree) (n : ℕ) (new : List ℕ) → n < size whole
+    → length (splice (text whole) (start_at whole n) (end_at whole n) new) ≡ (length (text whole) - length (text (tree_at whole n))) + length new
+length-spliced whole n new h = omega (arith, length-splice (text whole) new (start_at whole n) (end_at whole n) (omega arith) (within_text whole n h), within_text whole n h)
+
+pub fits_before : (whole : Tree) (n k e count : ℕ) → n < size whole → e ≡ n + size (tree_at whole n) → size whole + count < 2 ^ 64 → length (text whole) < 2 ^ 32
+    → k < n → MoveFits (shift_from e (n + count) 0 0) (row_at whole k)
+fits_before whole n k e count h is_e rows_fit short lt =
+    let in_range : k < size whole = omega arith in
+    let ends = row_end_fits whole k in_range in
+    record {
+      byte_is_later = omega arith;
+      byte_fits = omega (arith, row_start whole k in_range, within_text whole k in_range);
+      end_fits = omega (arith, ends, is_e);
+      parent_fits = omega (arith, parent_is_earlier whole k in_range, is_e);
+    }
+
+pub fits_behind : (whole : Tree) (n k e count b bytes : ℕ) → n < size whole → e ≡ n + size (tree_at whole n) → size whole + count < 2 ^ 64
+    → (length (text whole) - length (text (tree_at whole n))) + bytes < 2 ^ 32 → b ≡ end_at whole n
+    → e ≤ k → k < size whole → (d : ℕ) → d ≡ start_at whole n + bytes → MoveFits (shift_from e (n + count) b d) (row_at whole k)
+fits_behind whole n k e count b bytes h is_e rows_fit bytes_fit is_b later in_range d is_d =
+    let ends = row_end_fits whole k in_range in
+    let starts = row_start whole k in_range in
+    let after = At-later (at_row whole n h) (at_row whole k in_range) (omega (arith, later, is_e)) in
+    record {
+      byte_is_later = omega (arith, after, starts, is_b);
+      byte_fits = omega (arith, after, starts, is_b, is_d, within_text whole k in_range, within_text whole n h);
+      end_fits = omega (arith, ends, is_e);
+      parent_fits = omega (arith, parent_is_earlier whole k in_range, is_e);
+    }
+
+pub before_moved : (whole : Tree) (n count e : ℕ) (empty new : List Row) → e ≡ n + size (tree_at whole n) → empty ≡ []
+    → new ≡ empty ++ map (moved_row (shift_from e (n + count) 0 0)) (rows_between whole 0 n) → new ≡ moved_before whole n count
+before_moved whole n count e empty new is_e is_empty is_new =
+    is_new ∙ cong₂ (λ l x. l ++ map (moved_row (shift_from x (n + count) 0 0)) (rows_between whole 0 n)) is_empty is_e
+
+pub behind_moved : (whole : Tree) (n count bytes e b d z : ℕ) (old new : List Row) → e ≡ n + size (tree_at whole n) → b ≡ end_at whole n → d ≡ start_at whole n + bytes → z ≡ size whole
+    → new ≡ old ++ map (moved_row (shift_from e (n + count) b d)) (rows_between whole e z) → new ≡ old ++ moved_behind whole n count bytes
+behind_moved whole n count bytes e b d z old new is_e is_b is_d is_z is_new =
+    is_new ∙ cong₂ (λ x y. old ++ map (moved_row (shift_from x (n + count) y d)) (rows_between whole x z)) is_e is_b
+    ∙ cong₂ (λ x y. old ++ map (moved_row (shift_from (n + size (tree_at whole n)) (n + count) (end_at whole n) x)) (rows_between whole (n + size (tree_at whole n)) y)) is_d is_z
+
+-- the rows of the tree with a piece replaced
+pub rows_replaced : (whole : Tree) (n : ℕ) (h : n < size whole) (u : Tree) (count bytes up : ℕ) (rows : List Row) → count ≡ size u → bytes ≡ length (text u) → up ≡ (row_at whole n).parent
+    → rows ≡ (moved_before whole n count ++ rows_of (cons u nil) n (start_at whole n) up) ++ moved_behind whole n count bytes
+    → rows ≡ rows_of (cons (replace whole (place_at whole n) u) nil) 0 0 0
+rows_replaced whole n h u count bytes up rows is_count is_bytes is_up is_rows =
+    let t = tree_at whole n in
+    let all = rows_of (cons whole nil) 0 0 0 in
+    let w = replaced (at_row whole n h) u 0 0 0 (n + size t) (n + count) (end_at whole n) (start_at whole n + bytes) (omega arith) (omega arith) (omega (arith, is_count)) (omega arith) (omega (arith, is_bytes)) in
+    let piece = rows_of (cons t nil) (0 + n) (0 + start_at whole n) (up_at whole n h) in
+    let front : rows_between whole 0 n ≡ w.before = cut_out all [] w.before (piece ++ w.behind) 0 n w.old refl (omega (arith, w.count)) in
+    let length_piece : length piece ≡ size t = omega (arith, length-rows_of (cons t nil) (0 + n) (0 + start_at whole n) (up_at whole n h), forest_size-cons t nil) in
+    let regrouped : all ≡ (w.before ++ piece) ++ (w.behind ++ []) = w.old ∙ sym (append_assoc w.before piece w.behind) ∙ ap (λ l. (w.before ++ piece) ++ l) (sym (append-nil w.behind)) in
+    let until_here : length (w.before ++ piece) ≡ n + size t = omega (arith, length-append w.before piece, w.count, length_piece) in
+    let total : (n + size t) + length w.behind ≡ size whole = omega (arith, ap length regrouped, length-append (w.before ++ piece) (w.behind ++ []), length-append w.behind [], until_here, length-all whole) in
+    let rear : rows_between whole (n + size t) (size whole) ≡ w.behind = cut_out all (w.before ++ piece) w.behind [] (n + size t) (size whole) regrouped until_here total in
+    let above : up ≡ up_at whole n h = is_up ∙ parent_of_row whole n h in
+    let moved = rows_of (cons u nil) n (start_at whole n) up in
+    let tail = moved_behind whole n count bytes in
+    let same_piece : moved ≡ rows_of (cons u nil) (0 + n) (0 + start_at whole n) (up_at whole n h) =
+    cong₂ (λ i j. rows_of (cons u nil) i j up) (omega arith) (omega arith) ∙ ap (rows_of (cons u nil) (0 + n) (0 + start_at whole n)) above in
+    is_rows ∙ append_assoc (moved_before whole n count) moved tail
+    ∙ cong₂ (λ x y. x ++ (moved ++ y))
+    (ap (map (moved_row (shift_from (n + size t) (n + count) 0 0))) front)
+    (ap (map (moved_row (shift_from (n + size t) (n + count) (end_at whole n) (start_at whole n + bytes)))) rear)
+    ∙ ap (λ p. map (moved_row (shift_from (n + size t) (n + count) 0 0)) w.before ++ (p ++ map (moved_row (shift_from (n + size t) (n + count) (end_at whole n) (start_at whole n + bytes))) w.behind)) same_piece
+    ∙ sym w.new
+
+-- a tree with a piece replaced has a node at its root, where the old piece was a token or the new one is a node
+pub root_after_token : (t : Tree) (p : Place) (u : Tree) → IsNode t → IsToken (subtree t p) → IsNode (replace t p u)
+root_after_token (token k x) p u h j = absurd h
+root_after_token (node k c) [] u h j = absurd j
+root_after_token (node k c) (i ∷ p) u h j = tt
+
+pub root_after_node : (t : Tree) (p : Place) (u : Tree) → IsNode t → IsNode u → IsNode (replace t p u)
+root_after_node (token k x) p u h j = absurd h
+root_after_node (node k c) [] u h j = j
+root_after_node (node k c) (i ∷ p) u h j = tt
+
+-- the table of the tree with a piece replaced
+pub replaced_shown : (whole : Tree) (n : ℕ) (u : Tree) (all new : List Row) (s spliced_s : List ℕ) → n < size whole → Represents all s whole
+    → new ≡ rows_of (cons (replace whole (place_at whole n) u) nil) 0 0 0
+    → spliced_s ≡ splice (text whole) (start_at whole n) (end_at whole n) (text u) → length (splice (text whole) (start_at whole n) (end_at whole n) (text u)) < 2 ^ 32
+    → TextsAreUtf8 (cons u nil) → IsNode (replace whole (place_at whole n) u) → Represents new spliced_s (replace whole (place_at whole n) u)
+replaced_shown whole n u all new s spliced_s h w is_new is_text fits utf8 is_node = record {
+  rows_are = is_new;
+  text_is = is_text ∙ sym (spliced whole (place_at whole n) u (within_at whole n h));
+  texts_are_utf8 = replaced_utf8 (at_row whole n h) u w.texts_are_utf8 utf8;
+  short = omega (arith, ap length is_text);
+  root_is_node = is_node;
+}
+
+-- what the loops of a replacement leave
+pub token_pushed : (whole : Tree) (n : ℕ) (h : n < size whole) (r : Row) (k : SyntaxKind) (new_text : List ℕ) (before middle rows : List Row) (e bytes : ℕ) → r ≡ row_at whole n → e ≡ n + 1 → bytes ≡ length new_text
+    → before ≡ moved_before whole n 1 → middle ≡ before ++ record { kind = k; is_token = true; start = r.start; end = e; parent = r.parent } ∷ []
+    → rows ≡ middle ++ moved_behind whole n 1 bytes → rows ≡ rows_of (cons (replace whole (place_at whole n) (token k new_text)) nil) 0 0 0
+token_pushed whole n h r k new_text before middle rows e bytes is_r is_e is_bytes is_before is_middle is_rows =
+    let starts : r.start ≡ start_at whole n = ap (λ r. r.start) is_r ∙ row_start whole n h in
+    let ends : e ≡ suc n = omega (arith, is_e) in
+    rows_replaced whole n h (token k new_text) 1 bytes r.parent rows refl is_bytes (ap (λ r. r.parent) is_r)
+    (is_rows ∙ ap (λ l. l ++ moved_behind whole n 1 bytes)
+    (is_middle ∙ ap (λ l. l ++ record { kind = k; is_token = true; start = r.start; end = e; parent = r.parent } ∷ []) is_before
+    ∙ cong₂ (λ x y. moved_before whole n 1 ++ record { kind = k; is_token = true; start = x; end = y; parent = r.parent } ∷ []) starts ends))
+
+pub node_replaced : (whole : Tree) (n : ℕ) (h : n < size whole) (r : Row) (piece : Tree) (other : ℕ) (before middle rows : List Row) (count bytes : ℕ) → r ≡ row_at whole n
+    → count ≡ size (tree_at piece other) → bytes ≡ length (text (tree_at piece other))
+    → before ≡ moved_before whole n count → middle ≡ before ++ rows_of (cons (tree_at piece other) nil) n r.start r.parent
+    → rows ≡ middle ++ moved_behind whole n count bytes → rows ≡ rows_of (cons (replace whole (place_at whole n) (tree_at piece other)) nil) 0 0 0
+node_replaced whole n h r piece other before middle rows count bytes is_r is_count is_bytes is_before is_middle is_rows =
+    let starts : r.start ≡ start_at whole n = ap (λ r. r.start) is_r ∙ row_start whole n h in
+    rows_replaced whole n h (tree_at piece other) count bytes r.parent rows is_count is_bytes (ap (λ r. r.parent) is_r)
+    (is_rows ∙ ap (λ l. l ++ moved_behind whole n count bytes)
+    (is_middle ∙ cong₂ (λ l x. l ++ rows_of (cons (tree_at piece other) nil) n x r.parent) is_before starts))
+
+-- where the text is cut
+pub record Cuts (l : List ℕ) (whole : Tree) (a e : ℕ) : Type 0 where
+  pub ordered : a ≤ e
+  pub within : e ≤ length l
+  pub whole_text : l ≡ text whole
+  pub short : length l < 2 ^ 32
+  pub start_boundary : IsCharBoundary l a
+  pub end_boundary : IsCharBoundary l e
+
+pub cuts : (all : List Row) (s l : List ℕ) (whole : Tree) (n a e : ℕ) → Represents all s whole → n < size whole → l ≡ s → a ≡ start_at whole n → e ≡ end_at whole n → Cuts l whole a e
+cuts all s l whole n a e w h is_l is_a is_e =
+    let v = cut all s whole n w h in
+    record {
+      ordered = omega (arith, is_a, is_e, v.start_in_order);
+      within = omega (arith, is_e, ap length is_l, v.end_in_text);
+      whole_text = is_l ∙ w.text_is;
+      short = omega (arith, ap length is_l, w.short);
+      start_boundary = rw (is_l, is_a) v.start_boundary;
+      end_boundary = rw (is_l, is_e) v.end_boundary;
+    }
+
+pub spliced_at : (whole : Tree) (n : ℕ) (u : Tree) → n < size whole → text (replace whole (place_at whole n) u) ≡ splice (text whole) (start_at whole n) (end_at whole n) (text u)
+spliced_at whole n u h = spliced whole (place_at whole n) u (within_at whole n h)
+
+pub subtree_at_utf8 : (all : List Row) (s : List ℕ) (whole : Tree) (n : ℕ) → Represents all s whole → n < size whole → TextsAreUtf8 (cons (tree_at whole n) nil)
+subtree_at_utf8 all s whole n w h = subtree_utf8 (at_row whole n h) w.texts_are_utf8
+
+pub as_table : (t x : Tree) (rows : List Row) (s : List ℕ) → Represents rows s t → x ≡ tree_of_rows rows s → (x ≡ t) × IsNode x
+as_table t x rows s w is = let same : x ≡ t = is ∙ tree_of_rows-rows_of t rows s w.rows_are w.text_is in (same, subst IsNode (sym same) w.root_is_node)

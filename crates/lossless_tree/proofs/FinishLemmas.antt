@@ -1,5 +1,5 @@
 -- What the steps of a builder say once no refusal holds.
-use Rattle.std.proofs.Common.{◌≡◌, ℕ, zero, suc, ◌+◌, ◌<◌, ◌≤◌, List, [], ◌∷◌, ◌++◌, length, take, drop, map, refl, sym, ap, subst, ◌∙◌, arith, append_assoc, append-nil, length-append}
+use Rattle.std.proofs.Common.{◌≡◌, ℕ, zero, suc, ◌<◌, ◌≤◌, List, [], ◌∷◌, ◌++◌, length, take, drop, map, refl, sym, ap, subst, ◌∙◌, arith, append_assoc, append-nil}
 use Rattle.std.specs.Prelude.{Option, None, Some, IsUtf8, ◌^◌, nat_lt, if◌then◌else◌}
 use Rattle.std.proofs.lemmas.List.{length-take-le, take-append-drop, length-drop}
 use Rattle.lossless_tree.proofs.At.{cong₂}
@@ -17,10 +17,9 @@ use Rattle.lossless_tree.specs.Builder.{events_from, TextsFit, step_of}
 use Rattle.lossless_tree.specs.Scan.{scan}
 use Rattle.lossless_tree.specs.Run as run
 use Rattle.lossless_tree.proofs.TableLemmas.{tree_of_rows-rows_of, table_of}
-use Rattle.lossless_tree.specs.Rows.{rows_of, Represents, TextsAreUtf8, tree_of_rows, forest_of_rows, first_tree}
+use Rattle.lossless_tree.specs.Rows.{rows_of, Represents, TextsAreUtf8, tree_of_rows}
 use Rattle.lossless_tree.proofs.Balance.{builds-events_of, events_of-forest_of, scan-balance_refusal}
 use Rattle.lossless_tree.proofs.ScanLemmas.{scan-texts}
-use Rattle.lossless_tree.specs.RowLemmas.{forest_of_rows-rows_of}
 
 -- ---- the texts of events
 

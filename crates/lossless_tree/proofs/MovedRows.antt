@@ -1,17 +1,15 @@
 -- The rows of a subtree stand together, and are its own rows moved; the rows of a tree with a piece replaced.
 use Rattle.std.proofs.Common.{◌≡◌, ℕ, suc, ◌+◌, ◌-◌, ◌<◌, ◌≤◌, List, [], ◌∷◌, ◌++◌, length, map, refl, sym, ap, ◌∙◌, arith, append_assoc, append-nil, length-append}
-use Rattle.std.proofs.Common.{Bool, true, false, take, drop}
-use Rattle.std.specs.Prelude.{nat_lt, if◌then◌else◌}
+use Rattle.std.proofs.Common.{Bool, true, false}
 use Rattle.std.proofs.lemmas.Bool.Decides.{nat_tests}
 use Rattle.std.proofs.lemmas.List.{map-append}
-use Rattle.std.proofs.Math.Seq.{take-append_seam, drop-append_seam}
 use Rattle.lossless_tree.specs.declared.syntax_kind.SyntaxKind.{SyntaxKind}
 use Rattle.lossless_tree.specs.declared.table.Row.{Row}
 use Rattle.lossless_tree.specs.declared.table.edit.Shift.{Shift}
 use Rattle.lossless_tree.specs.Tree.{Tree, node, token, Forest, nil, cons, text, size, forest_text, forest_size, Place, child_at}
 use Rattle.lossless_tree.specs.Rows.{rows_of, row_of, TextsAreUtf8}
 use Rattle.lossless_tree.specs.Edit.{set_child, replace}
-use Rattle.lossless_tree.specs.MovedRows.{moved_number, moved_row}
+use Rattle.lossless_tree.specs.MovedRows.{moved_number, moved_row, shift_from}
 use Rattle.lossless_tree.proofs.Texts.{forest_text-cons, later_utf8}
 use Rattle.lossless_tree.proofs.At.{At, here, below, after, no_empty_place, At-fits, up_of, length-rows_of, cong₂, forest_size-cons, some_row}
 
@@ -37,7 +35,6 @@ rows_of-moved (cons (token k t) r) by m d u m' d' u' h j is_m is_d is_u =
     cong₂ ◌∷◌ (same_row k true d' ((d - by.from_byte) + by.to_byte) (suc m') (moved_number by (suc m)) u' (moved_number by u) is_d (omega (arith, moved-above by (suc m) later, is_m)) is_u)
     (rows_of-moved r by (suc m) (d + length t) u (suc m') (d' + length t) u' later (omega (arith, j)) (omega (arith, is_m)) (omega (arith, is_d, j)) is_u)
 rows_of-moved (cons (node k c) r) by m d u m' d' u' h j is_m is_d is_u =
-
     let later : by.from_row ≤ suc m + forest_size c = omega arith in
     cong₂ ◌∷◌ (same_row k false d' ((d - by.from_byte) + by.to_byte) (suc m' + forest_size c) (moved_number by (suc m + forest_size c)) u' (moved_number by u) is_d (omega (arith, moved-above by (suc m + forest_size c) later, is_m)) is_u)
     (cong₂ ◌++◌
@@ -108,16 +105,12 @@ abbrev pub replace_in : Forest → Place → Tree → Forest
 replace_in f [] u = f
 replace_in f (i ∷ p) u = set_child f i (replace (child_at f i) p u)
 
--- the row numbers and bytes behind a piece, and what they become
-abbrev pub rows_behind : ℕ → ℕ → ℕ → ℕ → Shift
-rows_behind n m b d = record { from_row = n; to_row = m; from_byte = b; to_byte = d }
-
 -- the rows around a piece, and around the one that takes its place
 pub record Replaced {f : Forest} {n : ℕ} {p : Place} {t : Tree} {b : ℕ} (a : At f n p t b) (u : Tree) (m d up x x' y y' : ℕ) : Type 0 where
   pub before : List Row
   pub behind : List Row
   pub old : rows_of f m d up ≡ before ++ (rows_of (cons t nil) (m + n) (d + b) (up_of a m up) ++ behind)
-  pub new : rows_of (replace_in f p u) m d up ≡ map (moved_row (rows_behind x x' 0 0)) before ++ (rows_of (cons u nil) (m + n) (d + b) (up_of a m up) ++ map (moved_row (rows_behind x x' y y')) behind)
+  pub new : rows_of (replace_in f p u) m d up ≡ map (moved_row (shift_from x x' 0 0)) before ++ (rows_of (cons u nil) (m + n) (d + b) (up_of a m up) ++ map (moved_row (shift_from x x' y y')) behind)
   pub count : length before ≡ n
   pub sizes : forest_size (replace_in f p u) + size t ≡ forest_size f + size u
   pub texts : length (forest_text (replace_in f p u)) + length (text t) ≡ length (forest_text f) + length (text u)
@@ -125,7 +118,7 @@ pub record Replaced {f : Forest} {n : ℕ} {p : Place} {t : Tree} {b : ℕ} (a :
 replaced_here : (v : Tree) (r : Forest) (u : Tree) (m d up x x' y y' : ℕ) → up ≤ m → x ≡ m + size v → x' ≡ m + size u → y ≡ d + length (text v) → y' ≡ d + length (text u)
     → Replaced (here {u = v} {r = r}) u m d up x x' y y'
 replaced_here v r u m d up x x' y y' h is_x is_x' is_y is_y' =
-    let by : Shift = rows_behind x x' y y' in
+    let by : Shift = shift_from x x' y y' in
     let later = rows_of r (m + size v) (d + length (text v)) up in
     let zero_m : m ≡ m + 0 = omega arith in
     let zero_d : d ≡ d + 0 = omega arith in
@@ -149,8 +142,8 @@ replaced (below {p = []} a) u m d up x x' y y' h is_x is_x' is_y is_y' = absurd 
 replaced (below {k} {c} {r} {n} {p = i ∷ q} {t} {b} a) u m d up x x' y y' h is_x is_x' is_y is_y' =
     let w = replaced a u (suc m) d m x x' y y' (omega arith) (omega (arith, is_x)) (omega (arith, is_x')) is_y is_y' in
     let c' = replace_in c (i ∷ q) u in
-    let by0 : Shift = rows_behind x x' 0 0 in
-    let by : Shift = rows_behind x x' y y' in
+    let by0 : Shift = shift_from x x' 0 0 in
+    let by : Shift = shift_from x x' y y' in
     let later = rows_of r (suc m + forest_size c) (d + length (forest_text c)) up in
     let first : Row = row_of (node k c) m d up in
     let e : suc m + n ≡ m + suc n = omega arith in
@@ -184,8 +177,8 @@ replaced (after {u = v} {r} {n} {m = q} {i} {p} {t} {b} {d = e} is_m is_d a) u m
     let e2 : (d + length (text v)) + b ≡ d + e = omega (arith, is_d) in
     let w = replaced a u (m + size v) (d + length (text v)) up x x' y y' (omega (arith, h)) (omega (arith, is_x, is_m)) (omega (arith, is_x', is_m)) (omega (arith, is_y, is_d)) (omega (arith, is_y', is_d)) in
     let r' = replace_in r (i ∷ p) u in
-    let by0 : Shift = rows_behind x x' 0 0 in
-    let by : Shift = rows_behind x x' y y' in
+    let by0 : Shift = shift_from x x' 0 0 in
+    let by : Shift = shift_from x x' y y' in
     let own = rows_of (cons v nil) m d up in
     let above = up_of a (m + size v) up in
     let kept : own ≡ map (moved_row by0) own = rows_of-kept (cons v nil) by0 m d up (omega (arith, is_x, is_m, forest_size-cons v nil, some_row t)) (omega (arith, h, is_x, some_row t)) refl refl in

@@ -1,8 +1,8 @@
 -- A place of the list is a place that can be reached child by child.
-use Rattle.std.proofs.Common.{◌≡◌, ◌↔◌, ℕ, zero, suc, ◌+◌, ◌<◌, [], ◌∷◌, length, get_or, refl, sym, subst, ◌∙◌, arith}
+use Rattle.std.proofs.Common.{◌≡◌, ℕ, zero, suc, ◌+◌, ◌<◌, [], ◌∷◌, length, refl, sym, subst, ◌∙◌, arith}
 use Rattle.std.proofs.lemmas.List.{get_or_default}
 use Rattle.lossless_tree.specs.Tree.{Tree, node, token, Forest, nil, cons, text, size, Place, IsPlace, places, child_at, child_count}
-use Rattle.lossless_tree.specs.Rows.{place_at, tree_at, start_at}
+use Rattle.lossless_tree.specs.Rows.{place_at}
 use Rattle.lossless_tree.specs.Edit.{Within, PlacesAreReached}
 use Rattle.lossless_tree.proofs.At.{At, here, below, after, no_empty_place, At-fits, some_row, forest_size-cons}
 use Rattle.lossless_tree.proofs.TableLemmas.{at_row}

@@ -1,8 +1,9 @@
 //! Nodes.
-ghost use Rattle.std.specs.Prelude.{◌≡◌, option_map, IfOk, string_bytes};
+ghost use Rattle.std.specs.Prelude.{◌≡◌, ◌↔◌, ◌≤◌, ◌^◌, length, option_map, IfOk, IsErrOf, string_bytes};
+ghost use Rattle.lossless_tree.specs.declared.error.ReplaceError.TheVariants.{TooLong};
 ghost use Rattle.lossless_tree.specs.Tree.{text, kind_of};
 ghost use Rattle.lossless_tree.specs.Cursor.{focus, range_of, parent_of, ancestors_of, first_child_of, next_sibling_of, descendants_of, walk_of};
-ghost use Rattle.lossless_tree.specs.Edit.{root_of};
+ghost use Rattle.lossless_tree.specs.Edit.{replace, root_of};
 ghost use Rattle.lossless_tree.specs.Element.{element_of};
 ghost use Rattle.lossless_tree.specs.Dump.{dump_of};
 
@@ -11,6 +12,7 @@ use super::descendants::DescendantsWithTokens;
 use super::element::{SyntaxElement, element};
 use super::preorder::PreorderWithTokens;
 use crate::dump;
+use crate::error::ReplaceError;
 use crate::shared::Shared;
 use crate::syntax_kind::SyntaxKind;
 use crate::table::Table;
@@ -77,6 +79,27 @@ impl SyntaxNode {
         let table = self.table.subtree(alloc, self.row)?;
         let table = Shared::new(alloc, table)?;
         Ok(SyntaxNode::root(table))
+    }
+
+    /// The root of a new tree: this node's whole tree with `replacement` in place of this node. The old tree stays as
+    /// it was. Where this node is the root, the new tree equals `replacement`.
+    ///
+    /// It takes time and memory linear in the new tree and the old one.
+    pub fn replace_with(
+        &self,
+        alloc: Global,
+        replacement: &SyntaxNode,
+    ) -> Result<SyntaxNode, ReplaceError>
+        ensures ok { IfOk result (λ root. root ≡ root_of (replace self.now.tree self.now.place (focus replacement.now))) }
+        ensures too_long { IsErrOf result TooLong ↔ (2 ^ 32 ≤ length (text (replace self.now.tree self.now.place (focus replacement.now)))) }
+    {
+        let table = self
+            .table
+            .with_node(alloc, self.row, &replacement.table, replacement.row)?;
+        match Shared::new(alloc, table) {
+            Ok(table) => Ok(SyntaxNode::root(table)),
+            Err(_) => Err(ReplaceError::Memory),
+        }
     }
 }
 

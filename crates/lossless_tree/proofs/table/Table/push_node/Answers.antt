@@ -1,8 +1,8 @@
-use Rattle.std.proofs.Common.{◌≡◌, ◌<◌, ◌+◌, ◌∙◌, ap, arith}
+use Rattle.std.proofs.Common.{◌≡◌, ◌+◌, ◌∙◌, ap, arith}
 use Rattle.std.proofs.lemmas.Result.{on_ok_weaker}
 use Rattle.lossless_tree.specs.Tree.{size}
 use Rattle.lossless_tree.specs.Rows.{tree_at}
-use Rattle.lossless_tree.proofs.At.{some_row, At-fits, forest_size-cons}
+use Rattle.lossless_tree.proofs.At.{some_row}
 use Rattle.lossless_tree.proofs.StepLemmas.{end_of_row}
 use Rattle.lossless_tree.proofs.TableLemmas.{row_end_fits}
 use Rattle.lossless_tree.proofs.EditLemmas.{node_pushed, fits_inside}

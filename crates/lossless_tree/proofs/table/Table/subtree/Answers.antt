@@ -1,9 +1,9 @@
-use Rattle.std.proofs.Common.{◌≡◌, ◌<◌, ◌+◌, ◌∙◌, ◌++◌, ap, arith}
+use Rattle.std.proofs.Common.{◌≡◌, ◌+◌, ◌∙◌, ◌++◌, ap, arith}
 use Rattle.std.specs.Prelude.{string_bytes}
 use Rattle.lossless_tree.specs.Tree.{size, cons, nil}
 use Rattle.lossless_tree.specs.Rows.{tree_at, rows_of, Represents}
 use Rattle.lossless_tree.proofs.StepLemmas.{end_of_row}
-use Rattle.lossless_tree.proofs.TableLemmas.{shown, cut, table_of, tree_of_rows-rows_of}
+use Rattle.lossless_tree.proofs.TableLemmas.{shown, table_of, tree_of_rows-rows_of}
 use Rattle.lossless_tree.proofs.EditLemmas.{subtree_shown, text_fits}
 use Rattle.lossless_tree.proofs.table.Table.subtree.Goals as goal
 use Rattle.lossless_tree.proofs.table.Table.subtree.Goals.{After-row, In_ok-push_node}
