@@ -1,5 +1,5 @@
 -- What the steps of a builder say once no refusal holds.
-use Rattle.std.proofs.Common.{◌≡◌, ℕ, zero, suc, ◌+◌, ◌<◌, ◌≤◌, List, [], ◌∷◌, ◌++◌, length, take, drop, map, refl, sym, ap, subst, ◌∙◌, arith, append_assoc, append-nil, length-append}
+use Rattle.std.proofs.Common.{◌≡◌, ℕ, zero, suc, ◌<◌, ◌≤◌, List, [], ◌∷◌, ◌++◌, length, take, drop, map, refl, sym, ap, subst, ◌∙◌, arith, append_assoc, append-nil}
 use Rattle.std.specs.Prelude.{Option, None, Some, IsUtf8, ◌^◌, nat_lt, if◌then◌else◌}
 use Rattle.std.proofs.lemmas.List.{length-take-le, take-append-drop, length-drop}
 use Rattle.lossless_tree.proofs.At.{cong₂}
@@ -16,10 +16,10 @@ use Rattle.lossless_tree.specs.Events as events
 use Rattle.lossless_tree.specs.Builder.{events_from, TextsFit, step_of}
 use Rattle.lossless_tree.specs.Scan.{scan}
 use Rattle.lossless_tree.specs.Run as run
-use Rattle.lossless_tree.specs.Rows.{rows_of, Represents, TextsAreUtf8, tree_of_rows, forest_of_rows, first_tree}
+use Rattle.lossless_tree.proofs.TableLemmas.{tree_of_rows-rows_of, table_of}
+use Rattle.lossless_tree.specs.Rows.{rows_of, Represents, TextsAreUtf8, tree_of_rows}
 use Rattle.lossless_tree.proofs.Balance.{builds-events_of, events_of-forest_of, scan-balance_refusal}
 use Rattle.lossless_tree.proofs.ScanLemmas.{scan-texts}
-use Rattle.lossless_tree.specs.RowLemmas.{forest_of_rows-rows_of}
 
 -- ---- the texts of events
 
@@ -188,16 +188,10 @@ refusal_of-scan steps e h = balance_named (open_after 0 (events_from steps [])) 
 
 module _ (steps : List Step) (s : List ℕ) (w : Ready steps s) (rows : List Row) (is : rows ≡ rows_of (cons (node w.kind w.children) nil) 0 0 0) where
   pub tree_built : tree_of_rows rows s ≡ node w.kind w.children
-  unfolding forest_of_rows
-  tree_built =
-      let f = cons (node w.kind w.children) nil in
-      let from_start : drop 0 s ≡ forest_text f ++ [] = w.text_is ∙ sym (append-nil (forest_text w.children)) ∙ sym (append-nil (forest_text f)) in
-      let to_end : length s ≡ 0 + length (forest_text f) = omega (arith, ap length w.text_is, length-append (forest_text w.children) []) in
-      ap (λ r. first_tree (forest_of_rows 0 r s)) (is ∙ sym (append-nil (rows_of f 0 0 0)))
-      ∙ ap first_tree (forest_of_rows-rows_of f 0 0 0 [] s [] from_start to_end)
+  tree_built = tree_of_rows-rows_of (node w.kind w.children) rows s is w.text_is
 
   pub table_built : length s < 2 ^ 32 → Represents rows s (tree_of_rows rows s)
-  table_built short = subst (Represents rows s) (sym tree_built) (record { rows_are = is; text_is = w.text_is; texts_are_utf8 = w.utf8; short = short })
+  table_built short = table_of (node w.kind w.children) rows s (record { rows_are = is; text_is = w.text_is; texts_are_utf8 = w.utf8; short = short; root_is_node = tt })
 
   pub node_built : BuildsNode (events_from steps s) (tree_of_rows rows s)
   node_built = subst (BuildsNode (events_from steps s)) (sym tree_built) (subst (λ es. Builds es (cons (node w.kind w.children) nil)) (sym w.events_are) (builds-events_of (cons (node w.kind w.children) nil)), tt)

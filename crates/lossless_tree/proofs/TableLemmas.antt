@@ -7,8 +7,9 @@ use Rattle.std.proofs.Math.Seq.{take-append_seam, drop-append_seam}
 use Rattle.std.proofs.lemmas.List.{get_or_read}
 use Rattle.lossless_tree.specs.declared.table.Row.{Row}
 use Rattle.lossless_tree.proofs.Texts.{next_row, split, forest_text-cons}
-use Rattle.lossless_tree.specs.Tree.{Tree, node, token, nil, cons, text, size}
-use Rattle.lossless_tree.specs.Rows.{row_at, row_of, place_at, tree_at, start_at, end_at, Represents, no_row, tree_of_rows}
+use Rattle.lossless_tree.specs.RowLemmas.{forest_of_rows-rows_of}
+use Rattle.lossless_tree.specs.Tree.{Tree, node, token, nil, cons, text, forest_text, size}
+use Rattle.lossless_tree.specs.Rows.{row_at, row_of, rows_of, place_at, tree_at, start_at, end_at, Represents, no_row, tree_of_rows, forest_of_rows, first_tree}
 use Rattle.lossless_tree.proofs.At.{At, find, up_of, row-At, cong₂, At-fits, some_row, subtree-At, start-At, length-rows_of, forest_size-cons}
 
 -- row n is the place with that number
@@ -121,3 +122,18 @@ piece_at rows s l whole n e x w h is_x is_e is_l =
 
 pub row_end_fits : (whole : Tree) (n : ℕ) → n < size whole → (row_at whole n).end ≤ size whole
 row_end_fits whole n h = omega (arith, ap (λ r. r.end) (row_at-is whole n h), row_of-end (tree_at whole n) n (start_at whole n) (up_at whole n h), At-fits (at_row whole n h), forest_size-cons whole nil)
+
+-- rows that are those of a tree show it
+pub tree_of_rows-rows_of : (t : Tree) (rows : List Row) (s : List ℕ) → rows ≡ rows_of (cons t nil) 0 0 0 → s ≡ text t → tree_of_rows rows s ≡ t
+unfolding forest_of_rows
+tree_of_rows-rows_of t rows s is text_is =
+    let f = cons t nil in
+    let whole_text : forest_text f ≡ text t = forest_text-cons t nil ∙ append-nil (text t) in
+    let from_start : drop 0 s ≡ forest_text f ++ [] = text_is ∙ sym whole_text ∙ sym (append-nil (forest_text f)) in
+    let to_end : length s ≡ 0 + length (forest_text f) = omega (arith, ap length text_is, ap length whole_text) in
+    ap (λ r. first_tree (forest_of_rows 0 r s)) (is ∙ sym (append-nil (rows_of f 0 0 0)))
+    ∙ ap first_tree (forest_of_rows-rows_of f 0 0 0 [] s [] from_start to_end)
+
+-- a table of them
+pub table_of : (t : Tree) (rows : List Row) (s : List ℕ) → Represents rows s t → Represents rows s (tree_of_rows rows s)
+table_of t rows s w = subst (Represents rows s) (sym (tree_of_rows-rows_of t rows s w.rows_are w.text_is)) w

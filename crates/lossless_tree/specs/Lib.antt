@@ -8,8 +8,10 @@ pub mod Events
 pub mod TreeCode
 pub mod Rows
 pub mod RowSteps
+pub mod MovedRows
 pub mod Cursor
 pub mod Element
+pub mod Edit
 pub mod Builder
 pub mod Scan
 pub mod Run

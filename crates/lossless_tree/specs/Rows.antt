@@ -1,7 +1,7 @@
 -- The rows of a tree: one for each place in preorder. No contract outside this crate names them.
 use Rattle.std.specs.Prelude.{◌≡◌, ℕ, zero, suc, ◌+◌, ◌-◌, List, [], ◌∷◌, ◌++◌, length, take, drop, true, false, cond, ⊤, ◌<◌, ◌≤◌, ◌^◌, get_or, IsUtf8}
 use Rattle.lossless_tree.specs.declared.table.Row.{Row}
-use Rattle.lossless_tree.specs.Tree.{Tree, node, token, Forest, nil, cons, no_tree, forest_text, forest_size, size, text, subtree, places, Place, start}
+use Rattle.lossless_tree.specs.Tree.{Tree, node, token, Forest, nil, cons, no_tree, forest_text, forest_size, size, text, subtree, places, Place, start, IsNode}
 use Rattle.lossless_tree.specs.declared.syntax_kind.SyntaxKind.TheVariants.{OTHER}
 
 -- the row of a tree that has row number n, starts at byte b, and whose parent has row number up
@@ -57,12 +57,13 @@ TextsAreUtf8 nil = ⊤
 TextsAreUtf8 (cons (token k t) r) = IsUtf8 t × TextsAreUtf8 r
 TextsAreUtf8 (cons (node k c) r) = TextsAreUtf8 c × TextsAreUtf8 r
 
--- the rows and the text of a table show the tree
+-- the rows and the text of a table show the tree, whose root is a node
 pub record Represents (rows : List Row) (s : List ℕ) (tree : Tree) : Type 0 where
   pub rows_are : rows ≡ rows_of (cons tree nil) 0 0 0
   pub text_is : s ≡ text tree
   pub texts_are_utf8 : TextsAreUtf8 (cons tree nil)
   pub short : length s < 2 ^ 32
+  pub root_is_node : IsNode tree
 
 -- what is read past the last row
 abbrev pub no_row : Row

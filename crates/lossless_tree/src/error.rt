@@ -1,4 +1,8 @@
-//! Why `finish` refuses.
+//! Why `finish` and `replace_with` refuse.
+ghost use Rattle.std.specs.Prelude.{◌≡◌};
+ghost use Rattle.lossless_tree.specs.declared.error.ReplaceError.TheVariants.{Memory};
+
+use std::alloc::AllocError;
 
 /// Why a builder's events make no tree. `finish` looks at all of them, in this order.
 #[derive(Clone, Copy, Debug, PartialEq, Eq, Hash, thiserror::Error)]
@@ -24,4 +28,23 @@ pub enum FinishError {
     /// Want of memory. It comes after every other refusal.
     #[error("out of memory")]
     Memory,
+}
+
+/// Why no tree is made with a piece replaced.
+#[derive(Clone, Copy, Debug, PartialEq, Eq, Hash, thiserror::Error)]
+pub enum ReplaceError {
+    /// The new tree's text would be longer than 4,294,967,295 bytes.
+    #[error("the text is longer than 4294967295 bytes")]
+    TooLong,
+    /// Want of memory. It comes after the other refusal.
+    #[error("out of memory")]
+    Memory,
+}
+
+impl From<AllocError> for ReplaceError {
+    ghost from_gives = { λ _ e. e ≡ Memory };
+
+    fn from(_e: AllocError) -> ReplaceError {
+        ReplaceError::Memory
+    }
 }

@@ -1,4 +1,5 @@
 //! Laws of the definitions that contracts cite. The functions do nothing: the contract is the law.
+ghost use Rattle.lossless_tree.specs.Edit.{PlacesAreReached, TextAround, ReplacedText, EditedInside};
 ghost use Rattle.lossless_tree.specs.Events.{RefusalsHold};
 ghost use Rattle.lossless_tree.specs.Kinds.{NumbersDiffer, NamesDiffer};
 
@@ -17,4 +18,25 @@ pub fn kind_names_differ()
 /// balanced events build.
 pub fn refusals_hold()
     ensures { RefusalsHold }
+{}
+
+/// A place of a tree's list of places is one that can be reached from the root, one child after another.
+pub fn places_are_reached()
+    ensures { PlacesAreReached }
+{}
+
+/// A tree's text is the text before a place, that of the place, and the text behind it.
+pub fn text_around_a_place()
+    ensures { TextAround }
+{}
+
+/// The text of a tree with a piece replaced is the spliced text, and the new piece stands where the old one stood.
+pub fn replaced_text()
+    ensures { ReplacedText }
+{}
+
+/// Where the new piece's text is the old one's with some bytes replaced, the new tree's text is the old one's with the
+/// same bytes replaced.
+pub fn edited_inside_a_piece()
+    ensures { EditedInside }
 {}

@@ -26,7 +26,7 @@ pub use cursor::node::SyntaxNode;
 pub use cursor::preorder::{Preorder, PreorderWithTokens, WalkEvent};
 pub use cursor::siblings::{SyntaxElementSiblings, SyntaxNodeSiblings};
 pub use cursor::token::SyntaxToken;
-pub use error::FinishError;
+pub use error::{FinishError, ReplaceError};
 pub use language::{Language, RustLanguage};
 pub use shared::Shared;
 pub use syntax_kind::{KINDS, NodeKind, SyntaxKind, TokenKind};

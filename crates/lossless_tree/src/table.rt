@@ -10,6 +10,8 @@ use crate::text_range::TextRange;
 use crate::text_size::TextSize;
 use std::marker::Model;
 
+mod edit;
+
 // One node or token. 32 bytes.
 #[derive(Clone, Copy)]
 pub(crate) struct Row {

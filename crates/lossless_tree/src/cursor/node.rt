@@ -1,9 +1,11 @@
 //! Nodes.
-ghost use Rattle.std.specs.Prelude.{◌≡◌, option_map, IfOk, IfSome, reverse, string_bytes};
+ghost use Rattle.std.specs.Prelude.{◌≡◌, option_map, IfOk, IfSome, reverse, string_bytes, ◌↔◌, ◌≤◌, ◌^◌, length, IsErrOf};
 ghost use Rattle.std.specs.List.{filter, find};
 ghost use Rattle.lossless_tree.specs.Tree.{text, kind_of};
 ghost use Rattle.lossless_tree.specs.Rows.{IsRow};
 ghost use Rattle.lossless_tree.specs.Cursor.{focus, range_of, parent_of, ancestors_of, children_of, first_child_of, last_child_of, next_sibling_of, prev_sibling_of, following_of, preceding_of, siblings_in, siblings_from, at_node, at_token, descendants_of, walk_of, moves_at_node};
+ghost use Rattle.lossless_tree.specs.declared.error.ReplaceError.TheVariants.{TooLong};
+ghost use Rattle.lossless_tree.specs.Edit.{replace, root_of};
 ghost use Rattle.lossless_tree.specs.Element.{element_of};
 ghost use Rattle.lossless_tree.specs.Dump.{dump_of};
 
@@ -17,6 +19,7 @@ use super::preorder::{Preorder, PreorderWithTokens};
 use super::siblings::{SyntaxElementSiblings, SyntaxNodeSiblings};
 use super::token::SyntaxToken;
 use crate::dump;
+use crate::error::ReplaceError;
 use crate::shared::Shared;
 use crate::syntax_kind::SyntaxKind;
 use crate::table::Table;
@@ -71,6 +74,40 @@ impl SyntaxNode {
         ensures { result ≡ cursor_at table.value row }
     {
         SyntaxNode { table, row }
+    }
+}
+
+impl SyntaxNode {
+    /// The root of a new tree that equals this subtree, with a text of its own.
+    ///
+    /// It takes time and memory linear in the subtree, whatever the whole tree's size.
+    pub fn clone_subtree(&self, alloc: Global) -> Result<SyntaxNode, AllocError>
+        ensures { IfOk result (λ root. root ≡ root_of (focus self.now)) }
+    {
+        let table = self.table.subtree(alloc, self.row)?;
+        let table = Shared::new(alloc, table)?;
+        Ok(SyntaxNode::root(table))
+    }
+
+    /// The root of a new tree: this node's whole tree with `replacement` in place of this node. The old tree stays as
+    /// it was. Where this node is the root, the new tree equals `replacement`.
+    ///
+    /// It takes time and memory linear in the new tree and the old one.
+    pub fn replace_with(
+        &self,
+        alloc: Global,
+        replacement: &SyntaxNode,
+    ) -> Result<SyntaxNode, ReplaceError>
+        ensures ok { IfOk result (λ root. root ≡ root_of (replace self.now.tree self.now.place (focus replacement.now))) }
+        ensures too_long { IsErrOf result TooLong ↔ (2 ^ 32 ≤ length (text (replace self.now.tree self.now.place (focus replacement.now)))) }
+    {
+        let table = self
+            .table
+            .with_node(alloc, self.row, &replacement.table, replacement.row)?;
+        match Shared::new(alloc, table) {
+            Ok(table) => Ok(SyntaxNode::root(table)),
+            Err(_) => Err(ReplaceError::Memory),
+        }
     }
 }
 

@@ -1,7 +1,9 @@
 //! Tokens.
-ghost use Rattle.std.specs.Prelude.{◌≡◌, option_map, IfOk, string_bytes};
-ghost use Rattle.lossless_tree.specs.Tree.{text, kind_of};
+ghost use Rattle.std.specs.Prelude.{◌≡◌, option_map, IfOk, string_bytes, ◌↔◌, ◌≤◌, ◌^◌, length, IsErrOf};
+ghost use Rattle.lossless_tree.specs.Tree.{text, kind_of, token};
 ghost use Rattle.lossless_tree.specs.Cursor.{focus, range_of, parent_of, ancestors_from, next_sibling_of, prev_sibling_of, siblings_in, all_tokens, IsRightBehind, IsRightBefore};
+ghost use Rattle.lossless_tree.specs.declared.error.ReplaceError.TheVariants.{TooLong};
+ghost use Rattle.lossless_tree.specs.Edit.{replace, root_of};
 ghost use Rattle.lossless_tree.specs.Element.{element_of};
 ghost use Rattle.lossless_tree.specs.Dump.{dump_of};
 
@@ -12,6 +14,7 @@ use super::equality::{feed, is_same};
 use super::node::SyntaxNode;
 use super::siblings::SyntaxElementSiblings;
 use crate::dump;
+use crate::error::ReplaceError;
 use crate::shared::Shared;
 use crate::syntax_kind::SyntaxKind;
 use crate::table::Table;
@@ -57,6 +60,28 @@ impl SyntaxToken {
         ensures { result ≡ cursor_at table.value row }
     {
         SyntaxToken { table, row }
+    }
+}
+
+impl SyntaxToken {
+    /// The root of a new tree: this token's whole tree with a token of the kind and the text `new` in place of this one. The old
+    /// tree stays as it was.
+    ///
+    /// It takes time and memory linear in the whole tree and the new text.
+    pub fn replace_with(
+        &self,
+        alloc: Global,
+        kind: SyntaxKind,
+        new: &str,
+    ) -> Result<SyntaxNode, ReplaceError>
+        ensures ok { IfOk result (λ root. root ≡ root_of (replace self.now.tree self.now.place (token kind new.now))) }
+        ensures too_long { IsErrOf result TooLong ↔ (2 ^ 32 ≤ length (text (replace self.now.tree self.now.place (token kind new.now)))) }
+    {
+        let table = self.table.with_token(alloc, self.row, kind, new)?;
+        match Shared::new(alloc, table) {
+            Ok(table) => Ok(SyntaxNode::root(table)),
+            Err(_) => Err(ReplaceError::Memory),
+        }
     }
 }
 
