@@ -7,6 +7,7 @@ pub mod Tree
 pub mod Events
 pub mod TreeCode
 pub mod Rows
+pub mod RowSearch
 pub mod Cursor
 pub mod Element
 pub mod Builder
