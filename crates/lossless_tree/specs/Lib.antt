@@ -8,6 +8,7 @@ pub mod Events
 pub mod TreeCode
 pub mod Rows
 pub mod RowSearch
+pub mod TokenSearch
 pub mod Cursor
 pub mod Element
 pub mod Builder

@@ -6,3 +6,4 @@ pub mod element;
 pub mod node;
 pub mod preorder;
 pub mod token;
+pub mod token_at_offset;

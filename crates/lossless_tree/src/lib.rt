@@ -23,6 +23,7 @@ pub use cursor::element::{NodeOrToken, SyntaxElement};
 pub use cursor::node::SyntaxNode;
 pub use cursor::preorder::{PreorderWithTokens, WalkEvent};
 pub use cursor::token::SyntaxToken;
+pub use cursor::token_at_offset::TokenAtOffset;
 pub use error::FinishError;
 pub use language::{Language, RustLanguage};
 pub use shared::Shared;

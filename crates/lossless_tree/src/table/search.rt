@@ -1,8 +1,11 @@
 //! Searches of rows by offset: the starts of rows don't decrease with their numbers, so they go by halves.
-ghost use Rattle.std.specs.Prelude.{◌≡◌, ◌≤◌, nat_lt, length};
+ghost use Rattle.std.specs.Prelude.{◌≡◌, ◌≤◌, ◌<◌, ◌^◌, ◌++◌, nat_lt, length, map, IfSome};
+ghost use Rattle.std.specs.Option.{option_to_list};
 ghost use Rattle.lossless_tree.specs.Tree.{nil, cons, size};
 ghost use Rattle.lossless_tree.specs.Rows.{rows_of};
-ghost use Rattle.lossless_tree.specs.RowSearch.{SplitsAt};
+ghost use Rattle.lossless_tree.specs.RowSearch.{SplitsAt, Reaching, IsTokenRow};
+ghost use Rattle.lossless_tree.specs.Cursor.{cursor_at};
+ghost use Rattle.lossless_tree.specs.TokenSearch.{tokens_at};
 
 use super::{Row, Table};
 
@@ -27,5 +30,35 @@ impl Table {
             { (row.start as usize) < offset },
         );
         from + count
+    }
+
+    // The tokens in the subtree at row `n` that have a text and touch the offset: one that starts before it, and one
+    // that starts at it.
+    pub(crate) fn tokens_at(&self, n: usize, offset: usize) -> (Option<usize>, Option<usize>)
+        requires is_row { n < size self.now }
+        requires fits { offset < 2 ^ 32 }
+        ensures tokens { map (cursor_at self.now) (option_to_list result.0 ++ option_to_list result.1) ≡ tokens_at (cursor_at self.now n) offset }
+        ensures left { IfSome result.0 (IsTokenRow self.now) }
+        ensures right { IfSome result.1 (IsTokenRow self.now) }
+    {
+        let end = self.row(n).end;
+        let at = self.first_row_from(n, end, offset);
+        let past = self.first_row_from(at, end, offset + 1);
+        (
+            self.last_reaching(n, at, offset),
+            self.last_reaching(at, past, offset + 1),
+        )
+    }
+
+    // The last of the rows `from..to`, if there is one and its text ends at `offset` or behind it.
+    fn last_reaching(&self, from: usize, to: usize, offset: usize) -> Option<usize>
+        requires { to ≤ size self.now }
+        ensures { Reaching self.now from to offset result }
+    {
+        if from < to && offset <= self.end_at(to - 1) {
+            Some(to - 1)
+        } else {
+            None
+        }
     }
 }
