@@ -175,10 +175,10 @@ tokens_found whole n e offset at past l r h is_e first second left right =
       tight = inr (λ k le lt. first.behind k le (omega (arith, lt, second.within)));
     } in
     let behind : filter p (cursors_from whole past (e - past)) ≡ [] = none_pass p whole past (e - past) (λ k le lt.
-        no_pass (tree_at whole k) (start_at whole k) offset (λ is long from_start to_end. omega (arith, from_start, second.behind k le (omega (arith, lt, second.within))))) in
+    no_pass (tree_at whole k) (start_at whole k) offset (λ is long from_start to_end. omega (arith, from_start, second.behind k le (omega (arith, lt, second.within))))) in
     let rows : cursors_from whole n (e - n) ≡ cursors_from whole n (at - n) ++ (cursors_from whole at (past - at) ++ cursors_from whole past (e - past)) =
-        cursors_from-append whole n (at - n) (e - at) (e - n) at (omega (arith, first.begun, first.within)) (omega (arith, first.begun))
-        ∙ ap (λ x. cursors_from whole n (at - n) ++ x) (cursors_from-append whole at (past - at) (e - past) (e - at) past (omega (arith, second.begun, second.within)) (omega (arith, second.begun))) in
+    cursors_from-append whole n (at - n) (e - at) (e - n) at (omega (arith, first.begun, first.within)) (omega (arith, first.begun))
+    ∙ ap (λ x. cursors_from whole n (at - n) ++ x) (cursors_from-append whole at (past - at) (e - past) (e - at) past (omega (arith, second.begun, second.within)) (omega (arith, second.begun))) in
     record {
       tokens = map-append (cursor_at whole) (option_to_list l) (option_to_list r)
           ∙ sym (ap (filter p) (sym (descendants-cursors_from whole n e h is_e) ∙ rows)

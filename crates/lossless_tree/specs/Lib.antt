@@ -9,6 +9,7 @@ pub mod TreeCode
 pub mod Rows
 pub mod RowSearch
 pub mod TokenSearch
+pub mod Pointer
 pub mod Cursor
 pub mod Element
 pub mod Builder

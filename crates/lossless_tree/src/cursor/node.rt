@@ -142,6 +142,7 @@ impl SyntaxNode {
     ghost use Rattle.lossless_tree.specs.Rows.{IsRow, tree_at};
     ghost use Rattle.lossless_tree.specs.Cursor.{cursor_at};
     ghost use Rattle.lossless_tree.specs.TokenSearch.{tokens_at, found_tokens};
+    ghost use Rattle.lossless_tree.specs.Pointer.{Finds};
 
     /// The tokens of this node at an offset of the whole tree's text: those that have a text and whose range, ends
     /// included, holds the offset. Between two tokens there are two; at an offset outside of the node there is none.
@@ -158,6 +159,17 @@ impl SyntaxNode {
                 TokenAtOffset::Between(self.token(left), self.token(right))
             }
         }
+    }
+
+    // The first node of this tree in preorder with this kind and range; `None` where this node is not the root.
+    pub(crate) fn first_in_root(&self, kind: SyntaxKind, range: TextRange) -> Option<SyntaxNode>
+        ensures { Finds (record { kind = kind; range = range }) self.now result }
+    {
+        if self.row != 0 {
+            return None;
+        }
+        let row = self.table.first_node(kind, range)?;
+        Some(SyntaxNode::at(self.table.share(), row))
     }
 
     // The token at a row of this tree.

@@ -1,13 +1,16 @@
 //! Searches of rows by offset: the starts of rows don't decrease with their numbers, so they go by halves.
-ghost use Rattle.std.specs.Prelude.{◌≡◌, ◌≤◌, ◌<◌, ◌^◌, ◌++◌, nat_lt, length, map, IfSome};
+ghost use Rattle.std.specs.Prelude.{◌≡◌, ◌≤◌, ◌<◌, ◌^◌, ◌++◌, nat_lt, length, map, option_map, IfSome, IsTrue, ◌↔◌};
 ghost use Rattle.std.specs.Option.{option_to_list};
 ghost use Rattle.lossless_tree.specs.Tree.{nil, cons, size};
 ghost use Rattle.lossless_tree.specs.Rows.{rows_of};
-ghost use Rattle.lossless_tree.specs.RowSearch.{SplitsAt, Reaching, IsTokenRow};
-ghost use Rattle.lossless_tree.specs.Cursor.{cursor_at};
+ghost use Rattle.lossless_tree.specs.RowSearch.{SplitsAt, Reaching, IsTokenRow, IsNodeRow};
+ghost use Rattle.lossless_tree.specs.Cursor.{cursor_at, descendants_of};
+ghost use Rattle.lossless_tree.specs.Pointer.{IsFirst, PointsTo};
 ghost use Rattle.lossless_tree.specs.TokenSearch.{tokens_at};
 
 use super::{Row, Table};
+use crate::syntax_kind::SyntaxKind;
+use crate::text_range::TextRange;
 
 impl Table {
     fn rows(&self) -> &[Row]
@@ -61,4 +64,30 @@ impl Table {
             None
         }
     }
+
+    // The first node in preorder with this kind and range.
+    pub(crate) fn first_node(&self, kind: SyntaxKind, range: TextRange) -> Option<usize>
+        ensures first { IsFirst (PointsTo (record { kind = kind; range = range })) (descendants_of (cursor_at self.now 0)) (option_map (cursor_at self.now) result) }
+        ensures node { IfSome result (IsNodeRow self.now) }
+    {
+        let start = range.start().raw() as usize;
+        let end = range.end().raw() as usize;
+        let count = self.len();
+        let from = self.first_row_from(0, count, start);
+        let past = self.first_row_from(from, count, start + 1);
+        for n in from..past {
+            let row = self.row(n);
+            if !row.is_token && same_kind(row.kind, kind) && self.end_at(n) == end {
+                return Some(n);
+            }
+        }
+        None
+    }
+}
+
+// Kinds are the same where their numbers are.
+fn same_kind(kind: SyntaxKind, other: SyntaxKind) -> bool
+    ensures { IsTrue result ↔ (kind ≡ other) }
+{
+    kind.to_raw() == other.to_raw()
 }
