@@ -9,6 +9,9 @@ pub mod TreeCode
 pub mod Rows
 pub mod RowSteps
 pub mod MovedRows
+pub mod RowSearch
+pub mod TokenSearch
+pub mod Pointer
 pub mod Cursor
 pub mod Element
 pub mod Edit

@@ -10,3 +10,4 @@ pub mod node;
 pub mod preorder;
 pub mod siblings;
 pub mod token;
+pub mod token_at_offset;

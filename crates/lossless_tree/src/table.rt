@@ -3,14 +3,14 @@ ghost use Rattle.std.specs.Prelude.{◌≡◌, ◌<◌, ◌^◌, option_map, IfS
 ghost use Rattle.lossless_tree.specs.Tree.{size, text, kind_of, IsNode, parent_place, first_child_place, next_sibling_place};
 ghost use Rattle.lossless_tree.specs.Rows.{row_at, tree_at, start_at, end_at, place_at, tree_of_rows, Represents};
 
+mod edit;
+mod search;
 mod steps;
 
 use crate::syntax_kind::SyntaxKind;
 use crate::text_range::TextRange;
 use crate::text_size::TextSize;
 use std::marker::Model;
-
-mod edit;
 
 // One node or token. 32 bytes.
 #[derive(Clone, Copy)]

@@ -8,6 +8,10 @@ mod events;
 #[cfg(test)]
 mod kinds;
 #[cfg(test)]
+mod plain_tree;
+#[cfg(test)]
+mod searches;
+#[cfg(test)]
 mod shared;
 #[cfg(test)]
 mod streams;

@@ -18,12 +18,14 @@ use super::equality::{feed, is_same};
 use super::preorder::{Preorder, PreorderWithTokens};
 use super::siblings::{SyntaxElementSiblings, SyntaxNodeSiblings};
 use super::token::SyntaxToken;
+use super::token_at_offset::TokenAtOffset;
 use crate::dump;
 use crate::error::ReplaceError;
 use crate::shared::Shared;
 use crate::syntax_kind::SyntaxKind;
 use crate::table::Table;
 use crate::text_range::TextRange;
+use crate::text_size::TextSize;
 use std::alloc::{AllocError, Global};
 use std::hash::{Hash, Hasher};
 use std::marker::Model;
@@ -285,6 +287,51 @@ impl SyntaxNode {
         ensures { result ≡ descendants_of self.now }
     {
         DescendantsWithTokens::new(self.table.share(), self.row)
+    }
+}
+
+impl SyntaxNode {
+    ghost use Rattle.lossless_tree.specs.Tree.{IsToken};
+    ghost use Rattle.lossless_tree.specs.Rows.{IsRow, tree_at};
+    ghost use Rattle.lossless_tree.specs.Cursor.{cursor_at};
+    ghost use Rattle.lossless_tree.specs.TokenSearch.{tokens_at, found_tokens};
+    ghost use Rattle.lossless_tree.specs.Pointer.{Finds};
+
+    /// The tokens of this node at an offset of the whole tree's text: those that have a text and whose range, ends
+    /// included, holds the offset. Between two tokens there are two; at an offset outside of the node there is none.
+    ///
+    /// Empty tokens and nodes are passed over. The time grows with the logarithm of the size of the tree.
+    pub fn token_at_offset(&self, offset: TextSize) -> TokenAtOffset<SyntaxToken>
+        ensures { found_tokens result ≡ tokens_at self.now offset }
+    {
+        let (left, right) = self.table.tokens_at(self.row, offset.raw() as usize);
+        match (left, right) {
+            (None, None) => TokenAtOffset::None,
+            (Some(row), None) | (None, Some(row)) => TokenAtOffset::Single(self.token(row)),
+            (Some(left), Some(right)) => {
+                TokenAtOffset::Between(self.token(left), self.token(right))
+            }
+        }
+    }
+
+    // The first node of this tree in preorder with this kind and range; `None` where this node is not the root.
+    pub(crate) fn first_in_root(&self, kind: SyntaxKind, range: TextRange) -> Option<SyntaxNode>
+        ensures { Finds (record { kind = kind; range = range }) self.now result }
+    {
+        if self.row != 0 {
+            return None;
+        }
+        let row = self.table.first_node(kind, range)?;
+        Some(SyntaxNode::at(self.table.share(), row))
+    }
+
+    // The token at a row of this tree.
+    fn token(&self, row: usize) -> SyntaxToken
+        requires is_row { IsRow self.now.tree row }
+        requires is_token { IsToken (tree_at self.now.tree row) }
+        ensures { result ≡ cursor_at self.now.tree row }
+    {
+        SyntaxToken::at(self.table.share(), row)
     }
 }
 

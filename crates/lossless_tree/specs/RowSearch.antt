@@ -1,0 +1,24 @@
+-- What a search of rows by the offset of their start finds. No contract outside this crate names them.
+use Rattle.std.specs.Prelude.{◌≡◌, ℕ, suc, ◌<◌, ◌≤◌, Option, Some, None}
+use Rattle.lossless_tree.specs.Tree.{Tree, IsNode, IsToken}
+use Rattle.lossless_tree.specs.Rows.{start_at, end_at, tree_at, IsRow}
+
+-- the rows from `from` on that start before the offset end at row i, and from there to `to` each starts at it or behind it
+pub record SplitsAt (tree : Tree) (from to offset i : ℕ) : Type 0 where
+  pub begun : from ≤ i
+  pub within : i ≤ to
+  pub before : (k : ℕ) → from ≤ k → k < i → start_at tree k < offset
+  pub behind : (k : ℕ) → i ≤ k → k < to → offset ≤ start_at tree k
+
+-- the last row before `to`, if it is not before `from` and its text ends at the offset or behind it
+abbrev pub Reaching : Tree → ℕ → ℕ → ℕ → Option ℕ → Type 0
+Reaching tree from to offset None = from < to → (k : ℕ) → suc k ≡ to → end_at tree k < offset
+Reaching tree from to offset (Some k) = (from < to) × (suc k ≡ to) × (offset ≤ end_at tree k)
+
+-- the row of a node
+abbrev pub IsNodeRow : Tree → ℕ → Type 0
+IsNodeRow tree n = IsRow tree n × IsNode (tree_at tree n)
+
+-- the row of a token
+abbrev pub IsTokenRow : Tree → ℕ → Type 0
+IsTokenRow tree n = IsRow tree n × IsToken (tree_at tree n)

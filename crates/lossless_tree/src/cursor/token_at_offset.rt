@@ -1,0 +1,75 @@
+//! The tokens at an offset.
+ghost use Rattle.std.specs.Prelude.{◌≡◌, Some, None};
+ghost use Rattle.std.specs.Iterator.{YieldsFirst, item_count};
+ghost use Rattle.lossless_tree.specs.TokenSearch.{found_tokens, leftmost, rightmost};
+
+use std::mem;
+
+/// The tokens at an offset: none outside of the text, one where the offset is inside a token or at an end of the text,
+/// and two where it is between them.
+///
+/// It gives them in order as an iterator.
+#[derive(Drop)]
+pub enum TokenAtOffset<T> {
+    /// No token: there is none, or the offset is outside of the text.
+    None,
+    /// One token.
+    Single(T),
+    /// The offset is between two tokens.
+    Between(T, T),
+}
+
+impl<T> TokenAtOffset<T> {
+    /// The token, of two the left one.
+    pub fn left_biased(self) -> Option<T>
+    where
+        T: Drop,
+        ensures { result ≡ leftmost self }
+    {
+        match self {
+            TokenAtOffset::None => None,
+            TokenAtOffset::Single(token) => Some(token),
+            TokenAtOffset::Between(left, _) => Some(left),
+        }
+    }
+
+    /// The token, of two the right one.
+    pub fn right_biased(self) -> Option<T>
+    where
+        T: Drop,
+        ensures { result ≡ rightmost self }
+    {
+        match self {
+            TokenAtOffset::None => None,
+            TokenAtOffset::Single(token) => Some(token),
+            TokenAtOffset::Between(_, right) => Some(right),
+        }
+    }
+}
+
+impl<T: Drop> Iterator for TokenAtOffset<T> {
+    type Item = T;
+
+    ghost next_gives = { YieldsFirst found_tokens };
+
+    ghost remaining = { item_count found_tokens };
+
+    fn next(&mut self) -> Option<T> {
+        match mem::replace(self, TokenAtOffset::None) {
+            TokenAtOffset::None => None,
+            TokenAtOffset::Single(token) => Some(token),
+            TokenAtOffset::Between(left, right) => {
+                *self = TokenAtOffset::Single(right);
+                Some(left)
+            }
+        }
+    }
+
+    fn size_hint(&self) -> (usize, Option<usize>) {
+        match self {
+            TokenAtOffset::None => (0, Some(0)),
+            TokenAtOffset::Single(_) => (1, Some(1)),
+            TokenAtOffset::Between(_, _) => (2, Some(2)),
+        }
+    }
+}

@@ -1,0 +1,64 @@
+//! Pointers to nodes that outlive their tree.
+ghost use Rattle.std.specs.Prelude.{◌≡◌};
+ghost use Rattle.lossless_tree.specs.Pointer.{pointer_to, Finds};
+
+use crate::cursor::node::SyntaxNode;
+use crate::syntax_kind::SyntaxKind;
+use crate::text_range::TextRange;
+use std::marker::Model;
+
+/// A node's kind and range, by which it is found again in its tree or in another tree of the same shape.
+///
+/// It holds no tree, so it can be copied, compared and kept.
+#[derive(Clone, Copy, PartialEq, Eq, Hash, Debug)]
+pub struct SyntaxNodePtr {
+    kind: SyntaxKind,
+    range: TextRange,
+}
+
+impl Model for SyntaxNodePtr {
+    ghost use Rattle.lossless_tree.specs.Pointer.{Pointer};
+
+    ghost Value = { Pointer };
+
+    ghost view = { λ p. record { kind = p.kind; range = p.range } };
+
+    ghost inverse = { λ p. record { kind = p.kind; range = p.range } };
+}
+
+impl SyntaxNodePtr {
+    /// The pointer to a node.
+    pub fn new(node: &SyntaxNode) -> SyntaxNodePtr
+        ensures { result ≡ pointer_to node.now }
+    {
+        SyntaxNodePtr {
+            kind: node.kind(),
+            range: node.text_range(),
+        }
+    }
+
+    /// The kind of the node.
+    pub fn kind(&self) -> SyntaxKind
+        ensures { result ≡ self.now.kind }
+    {
+        self.kind
+    }
+
+    /// The range of the node in the text of its tree, in bytes.
+    pub fn text_range(&self) -> TextRange
+        ensures { result ≡ self.now.range }
+    {
+        self.range
+    }
+
+    /// The first node in preorder of the tree of `root` that has this kind and range; `None` where there is none, and
+    /// where `root` has a parent.
+    ///
+    /// That is the node pointed to if it has a text and no node above it has its kind and range. The time grows with
+    /// the logarithm of the size of the tree and with the number of nodes and tokens that start where the range does.
+    pub fn to_node(&self, root: &SyntaxNode) -> Option<SyntaxNode>
+        ensures { Finds self.now root.now result }
+    {
+        root.first_in_root(self.kind, self.range)
+    }
+}

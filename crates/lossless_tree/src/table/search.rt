@@ -1,0 +1,93 @@
+//! Searches of rows by offset: the starts of rows don't decrease with their numbers, so they go by halves.
+ghost use Rattle.std.specs.Prelude.{◌≡◌, ◌≤◌, ◌<◌, ◌^◌, ◌++◌, nat_lt, length, map, option_map, IfSome, IsTrue, ◌↔◌};
+ghost use Rattle.std.specs.Option.{option_to_list};
+ghost use Rattle.lossless_tree.specs.Tree.{nil, cons, size};
+ghost use Rattle.lossless_tree.specs.Rows.{rows_of};
+ghost use Rattle.lossless_tree.specs.RowSearch.{SplitsAt, Reaching, IsTokenRow, IsNodeRow};
+ghost use Rattle.lossless_tree.specs.Cursor.{cursor_at, descendants_of};
+ghost use Rattle.lossless_tree.specs.Pointer.{IsFirst, PointsTo};
+ghost use Rattle.lossless_tree.specs.TokenSearch.{tokens_at};
+
+use super::{Row, Table};
+use crate::syntax_kind::SyntaxKind;
+use crate::text_range::TextRange;
+
+impl Table {
+    fn rows(&self) -> &[Row]
+        ensures rows { result.now ≡ rows_of (cons self.now nil) 0 0 0 }
+        ensures count { length result.now ≡ size self.now }
+    {
+        self.rows.as_slice()
+    }
+
+    // The first of the rows `from..to` that starts at `offset` or behind it; `to` where none does.
+    pub(crate) fn first_row_from(&self, from: usize, to: usize, offset: usize) -> usize
+        requires ordered { from ≤ to }
+        requires in_range { to ≤ size self.now }
+        ensures { SplitsAt self.now from to offset result }
+    {
+        let rows = self.rows();
+        let count = rows[from..to].partition_point(
+            |row: &Row| -> bool
+                ensures { result ≡ nat_lt row.now.start offset }
+            { (row.start as usize) < offset },
+        );
+        from + count
+    }
+
+    // The tokens in the subtree at row `n` that have a text and touch the offset: one that starts before it, and one
+    // that starts at it.
+    pub(crate) fn tokens_at(&self, n: usize, offset: usize) -> (Option<usize>, Option<usize>)
+        requires is_row { n < size self.now }
+        requires fits { offset < 2 ^ 32 }
+        ensures tokens { map (cursor_at self.now) (option_to_list result.0 ++ option_to_list result.1) ≡ tokens_at (cursor_at self.now n) offset }
+        ensures left { IfSome result.0 (IsTokenRow self.now) }
+        ensures right { IfSome result.1 (IsTokenRow self.now) }
+    {
+        let end = self.row(n).end;
+        let at = self.first_row_from(n, end, offset);
+        let past = self.first_row_from(at, end, offset + 1);
+        (
+            self.last_reaching(n, at, offset),
+            self.last_reaching(at, past, offset + 1),
+        )
+    }
+
+    // The last of the rows `from..to`, if there is one and its text ends at `offset` or behind it.
+    fn last_reaching(&self, from: usize, to: usize, offset: usize) -> Option<usize>
+        requires { to ≤ size self.now }
+        ensures { Reaching self.now from to offset result }
+    {
+        if from < to && offset <= self.end_at(to - 1) {
+            Some(to - 1)
+        } else {
+            None
+        }
+    }
+
+    // The first node in preorder with this kind and range.
+    pub(crate) fn first_node(&self, kind: SyntaxKind, range: TextRange) -> Option<usize>
+        ensures first { IsFirst (PointsTo (record { kind = kind; range = range })) (descendants_of (cursor_at self.now 0)) (option_map (cursor_at self.now) result) }
+        ensures node { IfSome result (IsNodeRow self.now) }
+    {
+        let start = range.start().raw() as usize;
+        let end = range.end().raw() as usize;
+        let count = self.len();
+        let from = self.first_row_from(0, count, start);
+        let past = self.first_row_from(from, count, start + 1);
+        for n in from..past {
+            let row = self.row(n);
+            if !row.is_token && same_kind(row.kind, kind) && self.end_at(n) == end {
+                return Some(n);
+            }
+        }
+        None
+    }
+}
+
+// Kinds are the same where their numbers are.
+fn same_kind(kind: SyntaxKind, other: SyntaxKind) -> bool
+    ensures { IsTrue result ↔ (kind ≡ other) }
+{
+    kind.to_raw() == other.to_raw()
+}
