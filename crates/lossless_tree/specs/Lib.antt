@@ -24,3 +24,4 @@ pub mod RowLemmas
 pub mod KindLaws
 pub mod Equality
 pub mod EqualityLaws
+pub mod CursorLaws

@@ -1,4 +1,5 @@
 //! Laws of the definitions that contracts cite. The functions do nothing: the contract is the law.
+ghost use Rattle.lossless_tree.specs.CursorLaws.{ChildrenFillNodes, EqualityIsSameness, EqualCursorsHashAlike};
 ghost use Rattle.lossless_tree.specs.Edit.{PlacesAreReached, TextAround, ReplacedText, EditedInside};
 ghost use Rattle.lossless_tree.specs.Events.{RefusalsHold};
 ghost use Rattle.lossless_tree.specs.Kinds.{NumbersDiffer, NamesDiffer};
@@ -39,4 +40,19 @@ pub fn replaced_text()
 /// same bytes replaced.
 pub fn edited_inside_a_piece()
     ensures { EditedInside }
+{}
+
+/// The ranges of a node's children follow each other without a gap and fill the node's range.
+pub fn children_fill_nodes()
+    ensures { ChildrenFillNodes }
+{}
+
+/// Two cursors are equal exactly where both stand at the same place in equal trees; so equality is an equivalence.
+pub fn equality_is_sameness()
+    ensures { EqualityIsSameness }
+{}
+
+/// Equal cursors feed a hasher alike.
+pub fn equal_cursors_hash_alike()
+    ensures { EqualCursorsHashAlike }
 {}
