@@ -2,6 +2,8 @@
 #![tactic(auto)]
 
 #[cfg(test)]
+mod equality;
+#[cfg(test)]
 mod escapes;
 #[cfg(test)]
 mod events;
@@ -9,6 +11,8 @@ mod events;
 mod kinds;
 #[cfg(test)]
 mod plain_tree;
+#[cfg(test)]
+mod plain_walks;
 #[cfg(test)]
 mod searches;
 #[cfg(test)]
@@ -19,3 +23,5 @@ mod streams;
 mod text;
 #[cfg(test)]
 mod trees;
+#[cfg(test)]
+mod walks;
