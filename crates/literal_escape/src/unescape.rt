@@ -50,28 +50,38 @@ pub fn unescape_byte(content: &str) -> Result<u8, EscapeError>
 /// its character or its fault. After a fault the reading goes on. The warnings of a continuation
 /// come among the units as faults that are not fatal.
 ///
+/// Gives the callback back, as the last call left it; who has no use for it may leave it.
+///
 /// The characters of `a\tb` are at `0..1`, `1..3` and `3..4`.
 pub fn unescape_str<F: FnMut(Range<usize>, Result<char, EscapeError>)>(
     content: &str,
     mut callback: F,
-)
+) -> F
     requires { F.IsAlwaysCallable callback }
     ensures { OfReports Mode.Str (chars content.now)
-        (λ reports. (last : F) × CalledOnEach numbered (λ f range unit g. F.step f range unit tt g) callback last reports) }
+        (CalledOnEach numbered (λ f range unit g. F.step f range unit tt g) callback result) }
 {
-    each_char(content, &mut callback);
+    let mut units = Units::new(Mode::Str, content);
+    while let Some(report) = units.next() {
+        callback(report.range(), report.as_char());
+    }
+    callback
 }
 
 /// As [`unescape_str`], of a byte string's content: a unit is a byte.
 pub fn unescape_byte_str<F: FnMut(Range<usize>, Result<u8, EscapeError>)>(
     content: &str,
     mut callback: F,
-)
+) -> F
     requires { F.IsAlwaysCallable callback }
     ensures { OfReports Mode.ByteStr (chars content.now)
-        (λ reports. (last : F) × CalledOnEach numbered (λ f range unit g. F.step f range unit tt g) callback last reports) }
+        (CalledOnEach numbered (λ f range unit g. F.step f range unit tt g) callback result) }
 {
-    each_byte(content, &mut callback);
+    let mut units = Units::new(Mode::ByteStr, content);
+    while let Some(report) = units.next() {
+        callback(report.range(), report.as_byte());
+    }
+    callback
 }
 
 /// As [`unescape_str`], of a C string's content: a unit is a character, or a byte from 80 on that
@@ -79,52 +89,14 @@ pub fn unescape_byte_str<F: FnMut(Range<usize>, Result<u8, EscapeError>)>(
 pub fn unescape_c_str<F: FnMut(Range<usize>, Result<MixedUnit, EscapeError>)>(
     content: &str,
     mut callback: F,
-)
+) -> F
     requires { F.IsAlwaysCallable callback }
     ensures { OfReports Mode.CStr (chars content.now)
-        (λ reports. (last : F) × CalledOnEach (λ unit. unit) (λ f range unit g. F.step f range unit tt g) callback last reports) }
-{
-    each_mixed(content, &mut callback);
-}
-
-/// As [`unescape_str`], for a callback that the caller keeps: the calls that were made are all that
-/// changed it.
-pub fn each_char<F: FnMut(Range<usize>, Result<char, EscapeError>)>(content: &str, callback: &mut F)
-    requires { F.IsAlwaysCallable callback.old }
-    ensures { OfReports Mode.Str (chars content.now)
-        (CalledOnEach numbered (λ f range unit g. F.step f range unit tt g) callback.old callback.new) }
-{
-    let mut units = Units::new(Mode::Str, content);
-    while let Some(report) = units.next() {
-        callback(report.range(), report.as_char());
-    }
-}
-
-/// As [`unescape_byte_str`], for a callback that the caller keeps: the calls that were made are all that
-/// changed it.
-pub fn each_byte<F: FnMut(Range<usize>, Result<u8, EscapeError>)>(content: &str, callback: &mut F)
-    requires { F.IsAlwaysCallable callback.old }
-    ensures { OfReports Mode.ByteStr (chars content.now)
-        (CalledOnEach numbered (λ f range unit g. F.step f range unit tt g) callback.old callback.new) }
-{
-    let mut units = Units::new(Mode::ByteStr, content);
-    while let Some(report) = units.next() {
-        callback(report.range(), report.as_byte());
-    }
-}
-
-/// As [`unescape_c_str`], for a callback that the caller keeps: the calls that were made are all that
-/// changed it.
-pub fn each_mixed<F: FnMut(Range<usize>, Result<MixedUnit, EscapeError>)>(
-    content: &str,
-    callback: &mut F,
-)
-    requires { F.IsAlwaysCallable callback.old }
-    ensures { OfReports Mode.CStr (chars content.now)
-        (CalledOnEach (λ unit. unit) (λ f range unit g. F.step f range unit tt g) callback.old callback.new) }
+        (CalledOnEach (λ unit. unit) (λ f range unit g. F.step f range unit tt g) callback result) }
 {
     let mut units = Units::new(Mode::CStr, content);
     while let Some(report) = units.next() {
         callback(report.range(), report.unit);
     }
+    callback
 }

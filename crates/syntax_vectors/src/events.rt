@@ -1,12 +1,16 @@
 //! The command `events`: lines to a dump or a refusal, and what becomes of readers and writers that fail.
 use crate::streams::{Sink, Source};
+use std::alloc::Global;
+use std::fmt::Write;
 use std::process::Abort;
 use std::test::Fail;
 use syntax_tool::run;
 
+// A tree of three nodes and a token.
 const STORED: &[u8] =
     b"enter PARAM\nenter IDENT_PAT\nenter NAME\ntoken IDENT name\nexit\nexit\nexit\n";
 
+// Its dump.
 const STORED_DUMP: &[u8] =
     b"PARAM@0..4\n  IDENT_PAT@0..4\n    NAME@0..4\n      IDENT@0..4 \"name\"\n";
 
@@ -26,10 +30,12 @@ fn expect_run<R: Abort + AllocGlobal>(
     Ok(())
 }
 
+// Event lines that make a tree, and its dump.
 fn expect_dump<R: Abort + AllocGlobal>(rt: &R, input: &[u8], output: &[u8]) -> Result<(), Fail> {
     expect_run(rt, "events", input, output, 0)
 }
 
+// Event lines that are refused, and the line that says so.
 fn expect_refusal<R: Abort + AllocGlobal>(rt: &R, input: &[u8], output: &[u8]) -> Result<(), Fail> {
     expect_run(rt, "events", input, output, 1)
 }
@@ -121,6 +127,20 @@ fn refusals_of_finish(rt: HostRuntime) -> Result<(), Fail> {
     )
 }
 
+// The stack of the machine doesn't grow with the depth, where the tree is refused either.
+#[test]
+fn a_deep_input_is_refused(rt: HostRuntime) -> Result<(), Fail> {
+    let mut lines = String::new(rt.alloc());
+    for _depth in 0..100_000 {
+        lines.push_str("enter NAME\n")?;
+    }
+    for _depth in 0..100_000 {
+        lines.push_str("exit\n")?;
+    }
+    lines.push_str("enter NAME\nexit\n")?;
+    expect_refusal(&rt, lines.as_bytes(), b"refused: ManyRoots\n")
+}
+
 #[test]
 fn refusals_of_lines(rt: HostRuntime) -> Result<(), Fail> {
     for line in [
@@ -162,11 +182,12 @@ fn refusals_of_lines(rt: HostRuntime) -> Result<(), Fail> {
 fn other_commands_read_nothing(rt: HostRuntime) -> Result<(), Fail> {
     let usage = b"usage: syntax_tool events|dump|parens|reparse\n";
     for command in ["print", "", "dump", "parens", "reparse", "event", "events "] {
-        let mut reader = Source::new(STORED, usize::MAX, 0);
+        let mut reader = Source::new(STORED, usize::MAX, usize::MAX);
         let mut writer = Sink::new(Vec::new(rt.alloc()), usize::MAX, usize::MAX);
         let status = run(rt.alloc(), &mut reader, &mut writer, command);
         assert!(rt; writer.bytes() == usage.as_slice());
         assert_eq!(rt; status, 2);
+        assert_eq!(rt; reader.reads(), 0);
     }
     Ok(())
 }
@@ -181,6 +202,48 @@ fn small_steps_change_nothing(rt: HostRuntime) -> Result<(), Fail> {
     Ok(())
 }
 
+// The lines of a node with so many tokens of one letter, and their dump.
+fn letters(alloc: Global, count: u32) -> Result<(String, String), Fail> {
+    let mut lines = String::new(alloc);
+    let mut dump = String::new(alloc);
+    lines.push_str("enter NAME\n")?;
+    write!(dump, "NAME@0..{count}\n")?;
+    for at in 0..count {
+        lines.push_str("token IDENT a\n")?;
+        let end = at.saturating_add(1);
+        write!(dump, "  IDENT@{at}..{end} \"a\"\n")?;
+    }
+    lines.push_str("exit\n")?;
+    Ok((lines, dump))
+}
+
+#[test]
+fn thousands_of_small_reads(rt: HostRuntime) -> Result<(), Fail> {
+    let (lines, dump) = letters(rt.alloc(), 500)?;
+    let mut reader = Source::new(lines.as_bytes(), 1, usize::MAX);
+    let mut writer = Sink::new(Vec::new(rt.alloc()), usize::MAX, usize::MAX);
+    let status = run(rt.alloc(), &mut reader, &mut writer, "events");
+    assert!(rt; writer.bytes() == dump.as_bytes());
+    assert_eq!(rt; status, 0);
+    // Each byte, and the end once.
+    assert_eq!(rt; reader.reads(), 7017);
+    Ok(())
+}
+
+#[test]
+fn the_end_is_read_once(rt: HostRuntime) -> Result<(), Fail> {
+    for (step, reads) in [(usize::MAX, 2), (71, 2), (70, 3), (1, 72)] {
+        let mut reader = Source::new(STORED, step, usize::MAX);
+        let mut writer = Sink::new(Vec::new(rt.alloc()), usize::MAX, usize::MAX);
+        let status = run(rt.alloc(), &mut reader, &mut writer, "events");
+        assert!(rt; writer.bytes() == STORED_DUMP);
+        assert_eq!(rt; status, 0);
+        assert_eq!(rt; reader.reads(), reads);
+    }
+    Ok(())
+}
+
+// The reader would go on behind the failure, and is not asked to.
 #[test]
 fn each_read_fails_in_turn(rt: HostRuntime) -> Result<(), Fail> {
     let reads = STORED.len().div_ceil(7);
@@ -190,6 +253,7 @@ fn each_read_fails_in_turn(rt: HostRuntime) -> Result<(), Fail> {
         let status = run(rt.alloc(), &mut reader, &mut writer, "events");
         assert!(rt; writer.bytes() == b"refused: Read\n".as_slice());
         assert_eq!(rt; status, 1);
+        assert_eq!(rt; reader.reads(), n + 1);
     }
     Ok(())
 }

@@ -180,10 +180,12 @@ fn kinds_print_their_names(rt: HostRuntime) -> Result<(), Fail> {
     Ok(())
 }
 
+// The kind of a number, in any language.
 fn read<L: Language>(raw: u32) -> Option<SyntaxKind> {
     L::kind_from_raw(raw)
 }
 
+// The number of a kind, in any language.
 fn written<L: Language>(kind: SyntaxKind) -> u32 {
     L::kind_to_raw(kind)
 }

@@ -11,6 +11,7 @@ struct Noisy<'a> {
 }
 
 impl<'a> Drop for Noisy<'a> {
+    // Counts the drop.
     fn drop(self) {
         self.drops.set(self.drops.get().wrapping_add(1));
         let Noisy {

@@ -1,30 +1,41 @@
 //! Readers and writers over memory that go in small steps and fail.
 use std::io::{self, ErrorKind, Read, Write};
 
-/// Gives some bytes, at most `step` at a time, and fails after so many reads.
+/// Gives some bytes, at most `step` at a time. One read fails, and a reader that then reads on gets the
+/// bytes that are left. It counts its reads, those at its end too.
 #[derive(Drop)]
 pub struct Source<'a> {
     rest: &'a [u8],
     step: usize,
+    fails_at: usize,
     reads: usize,
 }
 
 impl<'a> Source<'a> {
-    pub fn new(bytes: &'a [u8], step: usize, reads: usize) -> Self {
+    /// The read that fails has the number `fails_at`, from 0 on.
+    pub fn new(bytes: &'a [u8], step: usize, fails_at: usize) -> Self {
         Source {
             rest: bytes,
             step,
-            reads,
+            fails_at,
+            reads: 0,
         }
+    }
+
+    /// How many reads were made.
+    pub fn reads(&self) -> usize {
+        self.reads
     }
 }
 
 impl Read for Source<'_> {
+    // The next bytes, or the one failure.
     fn read(&mut self, buf: &mut [u8]) -> io::Result<usize> {
-        if self.reads == 0 {
+        let number = self.reads;
+        self.reads = number.saturating_add(1);
+        if number == self.fails_at {
             return Err(io::Error::from(ErrorKind::Other));
         }
-        self.reads -= 1;
         let count = self.step.min(self.rest.len()).min(buf.len());
         let (front, rest) = self.rest.split_at(count);
         buf[..count].copy_from_slice(front);
@@ -42,6 +53,7 @@ pub struct Sink {
 }
 
 impl Sink {
+    /// What is written goes behind the bytes of `written`.
     pub fn new(written: Vec<u8>, step: usize, writes: usize) -> Self {
         Sink {
             written,
@@ -50,12 +62,14 @@ impl Sink {
         }
     }
 
+    /// What was written.
     pub fn bytes(&self) -> &[u8] {
         self.written.as_slice()
     }
 }
 
 impl Write for Sink {
+    // Takes a front of the bytes, or fails.
     fn write(&mut self, buf: &[u8]) -> io::Result<usize> {
         if self.writes == 0 {
             return Err(io::Error::from(ErrorKind::Other));
@@ -68,6 +82,7 @@ impl Write for Sink {
         Ok(count)
     }
 
+    // Nothing waits to be written.
     fn flush(&mut self) -> io::Result<()> {
         Ok(())
     }

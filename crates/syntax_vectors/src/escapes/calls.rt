@@ -10,6 +10,7 @@ use std::test::Fail;
 /// A byte from 80 on in a C string is shown as its number past this one.
 pub const HIGH_BYTE: u32 = 0x200000;
 
+/// A report: where a unit stands, in bytes, and its number or its fault.
 #[derive(Clone, Copy, Debug, PartialEq, Eq)]
 pub struct Row {
     pub start: usize,
@@ -17,6 +18,7 @@ pub struct Row {
     pub unit: Result<u32, EscapeError>,
 }
 
+/// What `unescape_str` calls its callback on.
 pub fn str_rows(alloc: Global, content: &str) -> Result<Vec<Row>, AllocError> {
     let mut rows = Vec::new(alloc);
     let mut pushed = Ok(());
@@ -35,6 +37,7 @@ pub fn str_rows(alloc: Global, content: &str) -> Result<Vec<Row>, AllocError> {
     Ok(rows)
 }
 
+/// What `unescape_byte_str` calls its callback on.
 pub fn byte_str_rows(alloc: Global, content: &str) -> Result<Vec<Row>, AllocError> {
     let mut rows = Vec::new(alloc);
     let mut pushed = Ok(());
@@ -53,6 +56,7 @@ pub fn byte_str_rows(alloc: Global, content: &str) -> Result<Vec<Row>, AllocErro
     Ok(rows)
 }
 
+// The number of a C string's unit.
 fn mixed(unit: MixedUnit) -> u32 {
     match unit {
         MixedUnit::Char(c) => c as u32,
@@ -60,6 +64,7 @@ fn mixed(unit: MixedUnit) -> u32 {
     }
 }
 
+/// What `unescape_c_str` calls its callback on.
 pub fn c_str_rows(alloc: Global, content: &str) -> Result<Vec<Row>, AllocError> {
     let mut rows = Vec::new(alloc);
     let mut pushed = Ok(());
@@ -78,10 +83,12 @@ pub fn c_str_rows(alloc: Global, content: &str) -> Result<Vec<Row>, AllocError> 
     Ok(rows)
 }
 
+/// The number that `unescape_char` answers, or its fault.
 pub fn char_unit(content: &str) -> Result<u32, EscapeError> {
     unescape_char(content).map(|c| c as u32)
 }
 
+/// The number that `unescape_byte` answers, or its fault.
 pub fn byte_unit(content: &str) -> Result<u32, EscapeError> {
     unescape_byte(content).map(|byte| byte as u32)
 }

@@ -3,7 +3,7 @@ mod tests {
     use crate::escapes::calls::{
         byte_str_rows, byte_unit, c_str_rows, char_unit, shown, shown_unit, str_rows,
     };
-    use literal_escape::EscapeError;
+    use literal_escape::{EscapeError, unescape_str};
     use std::test::Fail;
 
     // Contents of strings.
@@ -344,6 +344,14 @@ mod tests {
             assert_eq!(rt; answer.as_str(), byte, "at {content:?}");
         }
         Ok(())
+    }
+
+    #[test]
+    fn a_callback_is_given_back(rt: HostRuntime) {
+        let mut units = 0u32;
+        let counts = unescape_str("a\\n", |_range, _unit| units = units.wrapping_add(1));
+        unescape_str("\u{e9}\\q", counts);
+        assert_eq!(rt; units, 4);
     }
 
     #[test]

@@ -1,10 +1,9 @@
 use Rattle.std.proofs.Common.{length}
-use Rattle.std.specs.List.{FoldsTo, AllByRecursion}
+use Rattle.std.specs.List.{FoldsTo}
 use Rattle.literal_escape.specs.Literal.{numbered}
 use Rattle.literal_escape.specs.Pieces.{range_of}
 use Rattle.literal_escape.specs.Reading.{to_come}
-use Rattle.literal_escape.proofs.Bytes.{IsByteReport}
-use Rattle.literal_escape.proofs.unescape.each_byte.Given as goal
+use Rattle.literal_escape.proofs.unescape.unescape_str.Given as goal
 
 -- calls at the reports that are left end what the calls so far began
 abbrev pub invariant-loop-report : goal.invariant-loop-report
@@ -12,7 +11,6 @@ invariant-loop-report g l = record {
   callable : goal.F-IsAlwaysCallable g l.callback;
   called : (last : _) → FoldsTo (λ f report h. goal.F-step g f (range_of report) (numbered report.unit) tt h) l.callback (to_come l.units) last
       → FoldsTo (λ f report h. goal.F-step g f (range_of report) (numbered report.unit) tt h) l.fn.callback (to_come l.initial.units) last;
-  bytes : AllByRecursion IsByteReport (to_come l.units);
 }
 
 abbrev pub decreases-loop-report : goal.decreases-loop-report

@@ -1,9 +1,10 @@
 use Rattle.std.proofs.Common.{length}
-use Rattle.std.specs.List.{FoldsTo}
+use Rattle.std.specs.List.{FoldsTo, AllByRecursion}
 use Rattle.literal_escape.specs.Literal.{numbered}
 use Rattle.literal_escape.specs.Pieces.{range_of}
 use Rattle.literal_escape.specs.Reading.{to_come}
-use Rattle.literal_escape.proofs.unescape.each_char.Given as goal
+use Rattle.literal_escape.proofs.Bytes.{IsByteReport}
+use Rattle.literal_escape.proofs.unescape.unescape_byte_str.Given as goal
 
 -- calls at the reports that are left end what the calls so far began
 abbrev pub invariant-loop-report : goal.invariant-loop-report
@@ -11,6 +12,7 @@ invariant-loop-report g l = record {
   callable : goal.F-IsAlwaysCallable g l.callback;
   called : (last : _) → FoldsTo (λ f report h. goal.F-step g f (range_of report) (numbered report.unit) tt h) l.callback (to_come l.units) last
       → FoldsTo (λ f report h. goal.F-step g f (range_of report) (numbered report.unit) tt h) l.fn.callback (to_come l.initial.units) last;
+  bytes : AllByRecursion IsByteReport (to_come l.units);
 }
 
 abbrev pub decreases-loop-report : goal.decreases-loop-report

@@ -2,7 +2,7 @@ use Rattle.std.proofs.Common.{length}
 use Rattle.std.specs.List.{FoldsTo}
 use Rattle.literal_escape.specs.Pieces.{range_of}
 use Rattle.literal_escape.specs.Reading.{to_come}
-use Rattle.literal_escape.proofs.unescape.each_mixed.Given as goal
+use Rattle.literal_escape.proofs.unescape.unescape_c_str.Given as goal
 
 -- calls at the reports that are left end what the calls so far began
 abbrev pub invariant-loop-report : goal.invariant-loop-report
