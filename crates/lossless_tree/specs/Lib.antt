@@ -10,6 +10,7 @@ pub mod Rows
 pub mod RowSearch
 pub mod TokenSearch
 pub mod Pointer
+pub mod Covering
 pub mod Cursor
 pub mod Element
 pub mod Builder

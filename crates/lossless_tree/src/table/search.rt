@@ -3,8 +3,9 @@ ghost use Rattle.std.specs.Prelude.{◌≡◌, ◌≤◌, ◌<◌, ◌^◌, ◌+
 ghost use Rattle.std.specs.Option.{option_to_list};
 ghost use Rattle.lossless_tree.specs.Tree.{nil, cons, size};
 ghost use Rattle.lossless_tree.specs.Rows.{rows_of};
-ghost use Rattle.lossless_tree.specs.RowSearch.{SplitsAt, Reaching, IsTokenRow, IsNodeRow};
+ghost use Rattle.lossless_tree.specs.RowSearch.{SplitsAt, Reaching, IsTokenRow, IsNodeRow, NoneHolds, IsHolding};
 ghost use Rattle.lossless_tree.specs.Cursor.{cursor_at, descendants_of};
+ghost use Rattle.lossless_tree.specs.Covering.{covering_of, holds};
 ghost use Rattle.lossless_tree.specs.Pointer.{IsFirst, PointsTo};
 ghost use Rattle.lossless_tree.specs.TokenSearch.{tokens_at};
 
@@ -83,11 +84,76 @@ impl Table {
         }
         None
     }
+
+    // The row that covers a range in the subtree at row `n`.
+    pub(crate) fn covering_row(&self, n: usize, range: TextRange) -> usize
+        requires { n < size self.now }
+        ensures in_range { result < size self.now }
+        ensures covers { cursor_at self.now result ≡ covering_of (cursor_at self.now n) range }
+    {
+        let row = self.holding_row(n, range);
+        if range.is_empty() {
+            self.row_by_empty_range(row, range)
+        } else {
+            row
+        }
+    }
+
+    // The lowest row in the subtree at row `n` that holds a range; row `n` itself, where none of its children does.
+    fn holding_row(&self, n: usize, range: TextRange) -> usize
+        requires { n < size self.now }
+        ensures { IsHolding self.now n range result }
+    {
+        let end = self.row(n).end;
+        let start = range.start().raw() as usize;
+        let bound = if range.is_empty() { start } else { start + 1 };
+        let mut row = self.first_row_from(n + 1, end, bound) - 1;
+        while row > n && !holds(range, self.range_at(row)) {
+            row = self.row(row).parent;
+        }
+        row
+    }
+
+    // The row that covers an empty range in the subtree at row `n`, of which no child holds it.
+    fn row_by_empty_range(&self, n: usize, range: TextRange) -> usize
+        requires is_row { n < size self.now }
+        requires empty { range.start ≡ range.end }
+        requires none { NoneHolds self.now n range }
+        ensures in_range { result < size self.now }
+        ensures covers { cursor_at self.now result ≡ covering_of (cursor_at self.now n) range }
+    {
+        let offset = range.start().raw() as usize;
+        let mut row = n;
+        while row + 1 < self.row(row).end && offset < self.end_at(row + 1) {
+            row += 1;
+        }
+        let end = self.row(row).end;
+        if row + 1 == end || self.end_at(row) <= offset {
+            return end - 1;
+        }
+        let mut child = self.first_row_from(row + 1, end, offset + 1) - 1;
+        while self.row(child).parent != row {
+            child = self.row(child).parent;
+        }
+        child - 1
+    }
 }
+
 
 // Kinds are the same where their numbers are.
 fn same_kind(kind: SyntaxKind, other: SyntaxKind) -> bool
     ensures { IsTrue result ↔ (kind ≡ other) }
 {
     kind.to_raw() == other.to_raw()
+}
+
+// Whether a range that is not empty lies in another, or an empty one strictly inside it.
+fn holds(asked: TextRange, range: TextRange) -> bool
+    ensures { result ≡ holds asked range }
+{
+    if asked.is_empty() {
+        range.start() < asked.start() && asked.start() < range.end()
+    } else {
+        range.contains_range(asked)
+    }
 }
