@@ -125,13 +125,13 @@ goes_down whole n j v asked x e =
 pub stays : (whole : Tree) (n : ℕ) (asked : Bounds) → child_towards asked (ranges_at whole n) ≡ None → covering_of (cursor_at whole n) asked ≡ cursor_at whole n
 stays whole n asked e = ap (at_place (cursor_at whole n)) (ap (λ p. place_at whole n ++ p) (place_stays asked (tree_at whole n) (start_at whole n) e) ∙ append-nil (place_at whole n))
 
-none_child : (whole : Tree) (n j v : ℕ) (asked : Bounds) → NoneHolds whole n asked → ChildRow whole n j v → holds asked (range_at whole v) ≡ false
+pub none_child : (whole : Tree) (n j v : ℕ) (asked : Bounds) → NoneHolds whole n asked → ChildRow whole n j v → holds asked (range_at whole v) ≡ false
 none_child whole n j v asked none x = ap (holds asked) (sym (child_range whole n j v (range_at whole v) x)) ∙ none j (range_at whole v) (is_listed whole n j v x)
 
-none_holds : (whole : Tree) (n : ℕ) (asked : Bounds) → n < size whole → ((j v : ℕ) → ChildRow whole n j v → Within asked (range_at whole v) → ⊥) → NoneHolds whole n asked
+pub none_holds : (whole : Tree) (n : ℕ) (asked : Bounds) → n < size whole → ((j v : ℕ) → ChildRow whole n j v → Within asked (range_at whole v) → ⊥) → NoneHolds whole n asked
 none_holds whole n asked h f = λ j d lt. each_range (λ r. holds asked r ≡ false) whole n j d h (λ v x. not_held asked (range_at whole v) (f j v x)) lt
 
-later_child_starts : (whole : Tree) (n j v i u : ℕ) → ChildRow whole n j v → ChildRow whole n i u → j < i → end_at whole v ≤ start_at whole u
+pub later_child_starts : (whole : Tree) (n j v i u : ℕ) → ChildRow whole n j v → ChildRow whole n i u → j < i → end_at whole v ≤ start_at whole u
 later_child_starts whole n j v i u x y h = later_starts whole v u x.is_row (in_order whole n j v i u x y h) y.is_row
 
 -- to the child that holds the range
@@ -175,10 +175,10 @@ At-counted here = omega arith
 At-counted (below a) = absurd (no_empty_place a)
 At-counted (after is_m is_d a) = omega (arith, At-counted a)
 
-same_child : (whole : Tree) (n j v u : ℕ) → ChildRow whole n j v → ChildRow whole n j u → v ≡ u
+pub same_child : (whole : Tree) (n j v u : ℕ) → ChildRow whole n j v → ChildRow whole n j u → v ≡ u
 same_child whole n j v u x y = omega (arith, x.row_is, y.row_is, At-same_row x.at y.at)
 
-first_child_row : (whole : Tree) (n : ℕ) → n < size whole → suc n < (row_at whole n).end → ChildRow whole n 0 (suc n)
+pub first_child_row : (whole : Tree) (n : ℕ) → n < size whole → suc n < (row_at whole n).end → ChildRow whole n 0 (suc n)
 first_child_row whole n h long = in_tree (tree_at whole n) refl (omega (arith, long, end_of_row whole n h))
   where
     in_tree : (t : Tree) → tree_at whole n ≡ t → 1 < size t → ChildRow whole n 0 (suc n)
@@ -189,7 +189,7 @@ first_child_row whole n h long = in_tree (tree_at whole n) refl (omega (arith, l
         subst (ChildRow whole n 0) row (child_of_node whole n 0 0 (node k (cons u r)) h e (subst (λ t. At (cons whole nil) n (0 ∷ place_at whole n) t (start_at whole n)) e (at_row whole n h)) here (omega arith))
 
 -- a row that is not the root's is a child of its parent's
-child_of_parent : (whole : Tree) (m : ℕ) (v : Hangs whole m) → ChildRow whole v.q v.w.position m
+pub child_of_parent : (whole : Tree) (m : ℕ) (v : Hangs whole m) → ChildRow whole v.q v.w.position m
 child_of_parent whole m v =
     let at_child : At (children_at whole v.q) v.w.row_within (v.w.position ∷ []) (tree_at whole m) v.w.start_within = subst (λ t. At (forest_of_children t) v.w.row_within (v.w.position ∷ []) (tree_at whole m) v.w.start_within) (sym v.parent_is) v.w.at_child in
     let w = child_row whole v.q v.w.position v.in_range (At-counted at_child) in
@@ -197,7 +197,7 @@ child_of_parent whole m v =
     subst (ChildRow whole v.q v.w.position) same w.1
 
 -- the parent of a row in a subtree whose root it is not is in the subtree
-parent_within : (whole : Tree) (n m : ℕ) → n < size whole → n < m → m < (row_at whole n).end → (v : Hangs whole m) × (n ≤ v.q)
+pub parent_within : (whole : Tree) (n m : ℕ) → n < size whole → n < m → m < (row_at whole n).end → (v : Hangs whole m) × (n ≤ v.q)
 parent_within whole n m h more lt =
     elim (hangs whole m (nested whole n m h (omega (arith, more)) lt).is_row) [
       | inl root ↦ absurd (omega (arith, root.1 n more, lt))

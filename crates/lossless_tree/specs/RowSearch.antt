@@ -2,7 +2,7 @@
 use Rattle.std.specs.Prelude.{◌≡◌, ℕ, suc, ◌<◌, ◌≤◌, Option, Some, None, length, slice_index_or, false}
 use Rattle.lossless_tree.specs.TextRange.{Bounds}
 use Rattle.lossless_tree.specs.Tree.{Tree, IsNode, IsToken, forest_of_children}
-use Rattle.lossless_tree.specs.Rows.{start_at, end_at, tree_at, IsRow}
+use Rattle.lossless_tree.specs.Rows.{start_at, end_at, tree_at, row_at, IsRow}
 use Rattle.lossless_tree.specs.Cursor.{cursor_at}
 use Rattle.lossless_tree.specs.Covering.{child_ranges, holds, covering_of}
 
@@ -37,3 +37,10 @@ pub record IsHolding (tree : Tree) (n : ℕ) (asked : Bounds) (m : ℕ) : Type 0
   pub is_row : IsRow tree m
   pub covers : covering_of (cursor_at tree n) asked ≡ covering_of (cursor_at tree m) asked
   pub none : NoneHolds tree m asked
+
+-- the child of row n in whose subtree a row is
+pub record IsChildAround (tree : Tree) (n inner child : ℕ) : Type 0 where
+  pub behind : n < child
+  pub before : child ≤ inner
+  pub reaches : inner < (row_at tree child).end
+  pub parent : (row_at tree child).parent ≡ n

@@ -1,9 +1,9 @@
 //! Searches of rows by offset: the starts of rows don't decrease with their numbers, so they go by halves.
-ghost use Rattle.std.specs.Prelude.{◌≡◌, ◌≤◌, ◌<◌, ◌^◌, ◌++◌, nat_lt, length, map, option_map, IfSome, IsTrue, ◌↔◌};
+ghost use Rattle.std.specs.Prelude.{◌≡◌, ◌+◌, ◌≤◌, ◌<◌, ◌^◌, ◌++◌, nat_lt, length, map, option_map, IfSome, IsTrue, ◌↔◌};
 ghost use Rattle.std.specs.Option.{option_to_list};
 ghost use Rattle.lossless_tree.specs.Tree.{nil, cons, size};
-ghost use Rattle.lossless_tree.specs.Rows.{rows_of};
-ghost use Rattle.lossless_tree.specs.RowSearch.{SplitsAt, Reaching, IsTokenRow, IsNodeRow, NoneHolds, IsHolding};
+ghost use Rattle.lossless_tree.specs.Rows.{rows_of, row_at, end_at};
+ghost use Rattle.lossless_tree.specs.RowSearch.{SplitsAt, Reaching, IsTokenRow, IsNodeRow, NoneHolds, IsHolding, IsChildAround};
 ghost use Rattle.lossless_tree.specs.Cursor.{cursor_at, descendants_of};
 ghost use Rattle.lossless_tree.specs.Covering.{covering_of, holds};
 ghost use Rattle.lossless_tree.specs.Pointer.{IsFirst, PointsTo};
@@ -122,23 +122,46 @@ impl Table {
         ensures in_range { result < size self.now }
         ensures covers { cursor_at self.now result ≡ covering_of (cursor_at self.now n) range }
     {
-        let offset = range.start().raw() as usize;
-        let mut row = n;
-        while row + 1 < self.row(row).end && offset < self.end_at(row + 1) {
-            row += 1;
-        }
+        let row = self.down_first_children(n, range);
         let end = self.row(row).end;
-        if row + 1 == end || self.end_at(row) <= offset {
+        let offset = range.start().raw() as usize;
+        if end == row + 1 || self.end_at(row) <= offset {
             return end - 1;
         }
-        let mut child = self.first_row_from(row + 1, end, offset + 1) - 1;
-        while self.row(child).parent != row {
+        let last = self.first_row_from(row + 1, end, offset + 1) - 1;
+        self.child_around(row, last) - 1
+    }
+
+    // From row `n` down to first children while these end behind an empty range.
+    fn down_first_children(&self, n: usize, range: TextRange) -> usize
+        requires is_row { n < size self.now }
+        requires empty { range.start ≡ range.end }
+        requires none { NoneHolds self.now n range }
+        ensures holding { IsHolding self.now n range result }
+        ensures first_ends { result + 1 < (row_at self.now result).end → end_at self.now (result + 1) ≤ range.start }
+    {
+        let offset = range.start().raw() as usize;
+        let mut row = n;
+        while self.row(row).end > row + 1 && self.end_at(row + 1) > offset {
+            row += 1;
+        }
+        row
+    }
+
+    // The child of row `n` in whose subtree the row `inner` is.
+    fn child_around(&self, n: usize, inner: usize) -> usize
+        requires is_row { n < size self.now }
+        requires below { n < inner }
+        requires within { inner < (row_at self.now n).end }
+        ensures { IsChildAround self.now n inner result }
+    {
+        let mut child = inner;
+        while self.row(child).parent != n {
             child = self.row(child).parent;
         }
-        child - 1
+        child
     }
 }
-
 
 // Kinds are the same where their numbers are.
 fn same_kind(kind: SyntaxKind, other: SyntaxKind) -> bool
