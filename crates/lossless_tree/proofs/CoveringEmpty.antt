@@ -78,10 +78,10 @@ pub first_step : (whole : Tree) (n row v : ℕ) (asked : Bounds) → asked.start
 first_step whole n row v asked empty w is_v long past =
     let x : ChildRow whole row 0 v = subst (ChildRow whole row 0) (sym is_v) (first_child_row whole row w.is_row (omega (arith, is_v, long))) in
     let starts : asked.start ≤ start_at whole v =
-        elim (below_or_after (start_at whole v) asked.start) [
-          | inl low ↦ absurd (not_inside x low)
-          | inr high ↦ omega (arith, high.1)
-        ] in
+    elim (below_or_after (start_at whole v) asked.start) [
+      | inl low ↦ absurd (not_inside x low)
+      | inr high ↦ omega (arith, high.1)
+    ] in
     record {
       is_row = x.is_row;
       covers = w.covers ∙ to_first whole row v asked w.is_row (omega (arith, empty)) w.none x (λ i u y.
@@ -117,10 +117,10 @@ under_on whole n inner child h lt u other =
     let v = up.0 in
     let inside = nested whole v.q child v.in_range (omega (arith, v.earlier)) (omega (arith, v.reaches, some_row (tree_at whole child))) in
     let more : n < v.q =
-        elim (below_or_after n v.q) [
-          | inl less ↦ less
-          | inr same ↦ absurd (other (v.up_is ∙ omega (arith, same.1, up.1)))
-        ] in
+    elim (below_or_after n v.q) [
+      | inl less ↦ less
+      | inr same ↦ absurd (other (v.up_is ∙ omega (arith, same.1, up.1)))
+    ] in
     (subst (Under whole n inner) (sym v.up_is) (record { behind = more; before = omega (arith, v.earlier, u.before); reaches = omega (arith, u.reaches, inside.rows) }), omega (arith, v.up_is, v.earlier))
 
 -- what is known when the first child ends at or before the offset, and the row itself behind it
@@ -178,10 +178,12 @@ before_position whole row last e child p (suc i) asked w u x is_p =
       | inl next ↦
           let is_end : (row_at whole b.0).end ≡ suc p = omega (arith, end_of_row whole b.0 y.is_row, child_size whole row i b.0 y, y.row_is, x.row_is, At-same_row next.0 x.at, is_p) in
           let is_last : last < size whole = omega (arith, w.split.within, w.is_end, row_end_fits whole row w.is_row) in
-          let ends : end_at whole b.0 ≤ asked.start = omega (arith,
+          let ends : end_at whole b.0 ≤ asked.start = omega (
+            arith,
             behind_starts whole b.0 child y.is_row (sym is_p ∙ sym is_end) x.is_row,
             starts_rise whole child last u.before is_last,
-            w.split.before last (omega (arith, u.behind, u.before)) (omega arith)) in
+            w.split.before last (omega (arith, u.behind, u.before)) (omega arith),
+          ) in
           to_last whole row i b.0 asked w.is_row (omega (arith, w.empty)) w.none y ends (λ k z zc more.
           elim (below_or_after (suc i) k) [
             | inl behind ↦ omega (arith, past, later_child_starts whole row (suc i) child k z x zc behind)

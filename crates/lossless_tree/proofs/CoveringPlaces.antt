@@ -5,6 +5,7 @@ use Rattle.std.specs.Option.{option_or}
 use Rattle.std.proofs.lemmas.Bool.Decides.{nat_tests}
 use Rattle.lossless_tree.specs.TextRange.{Bounds}
 use Rattle.lossless_tree.specs.Tree.{Tree, node, token, Forest, nil, cons, text, forest_text, forest_of_children, child_at, child_count, bytes_before, Place}
+use Rattle.lossless_tree.proofs.At.{below_or_after}
 use Rattle.lossless_tree.specs.Covering.{child_ranges, holds, last_with, first_number, child_towards, below, coverings, covering_place}
 
 bounds : ℕ → ℕ → Bounds
@@ -106,6 +107,7 @@ towards_last asked rs i d empty none lt ends later =
   where
     at_most : (a b : ℕ) → a ≤ b → nat_le a b ≡ true
     at_most a b h = grind (arith, nat_tests)
+
     above : (a b : ℕ) → b < a → nat_le a b ≡ false
     above a b h = grind (arith, nat_tests)
 
@@ -159,3 +161,11 @@ not_both asked r s (inr v) (inr w) h = omega (arith, h, v.2, w.1)
 pub held_around : (asked r s : Bounds) → Within asked r → s.start ≤ r.start → r.end ≤ s.end → Within asked s
 held_around asked r s (inl v) h h' = inl (v.0, omega (arith, h, v.1), omega (arith, h', v.2))
 held_around asked r s (inr v) h h' = inr (v.0, omega (arith, h, v.1), omega (arith, h', v.2))
+
+-- from the tests for an empty range: it is not, so it starts before its end
+pub strictly : {a b : ℕ} {r : Bool} → a ≤ b → (a ≡ b → r ≡ true) → r ≡ false → a < b
+strictly {a} {b} le same differs =
+    elim (below_or_after a b) [
+      | inl lt ↦ lt
+      | inr more ↦ (let e : a ≡ b = omega (arith, le, more.1) in let clash : false ≡ true = sym differs ∙ same e in cc)
+    ]

@@ -301,6 +301,7 @@ climb_ends whole n x e bound row asked w c found =
     starts_low : (v : ℕ) → Within asked (range_at whole v) → start_at whole v < bound
     starts_low v (inl i) = elim w.is_bound [ inl b ↦ absurd (omega (arith, b.0, i.0)) | inr b ↦ omega (arith, b.1, i.1) ]
     starts_low v (inr i) = elim w.is_bound [ inl b ↦ omega (arith, b.1, i.1) | inr b ↦ absurd (omega (arith, b.0, i.0)) ]
+
     ends_high : (v : ℕ) → Within asked (range_at whole v) → bound ≤ end_at whole v
     ends_high v (inl i) = elim w.is_bound [ inl b ↦ absurd (omega (arith, b.0, i.0)) | inr b ↦ omega (arith, b.1, i.0, i.2) ]
     ends_high v (inr i) = elim w.is_bound [ inl b ↦ omega (arith, b.1, i.2) | inr b ↦ absurd (omega (arith, b.0, i.0)) ]

@@ -102,7 +102,8 @@ impl Table {
     // The lowest row in the subtree at row `n` that holds a range; row `n` itself, where none of its children does.
     fn holding_row(&self, n: usize, range: TextRange) -> usize
         requires { n < size self.now }
-        ensures { IsHolding self.now n range result }
+        ensures holding { IsHolding self.now n range result }
+        ensures ordered { range.start ≤ range.end }
     {
         let end = self.row(n).end;
         let start = range.start().raw() as usize;

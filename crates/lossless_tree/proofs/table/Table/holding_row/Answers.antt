@@ -5,6 +5,7 @@ use Rattle.lossless_tree.specs.RowSearch.{SplitsAt}
 use Rattle.lossless_tree.proofs.At.{some_row, below_or_after}
 use Rattle.lossless_tree.proofs.StepLemmas.{end_of_row}
 use Rattle.lossless_tree.proofs.TableLemmas.{row_end_fits}
+use Rattle.lossless_tree.proofs.CoveringPlaces.{strictly}
 use Rattle.lossless_tree.proofs.CoveringRows.{Begun, Climbed, climb_begins, climb_on, climb_ends, climbed_in, range_at}
 use Rattle.lossless_tree.specs.Covering.{holds}
 use Rattle.lossless_tree.proofs.table.Table.holding_row.Goals as goal
@@ -18,9 +19,6 @@ first_row_from-row-requires-clause-ordered c = omega (arith, ap (λ r. r.end) c.
 
 pub first_row_from-row-requires-clause-in_range : goal.first_row_from-row-requires-clause-in_range
 first_row_from-row-requires-clause-in_range c = omega (arith, ap (λ r. r.end) c.row-end.ensures.value, row_end_fits c.args.self.now c.args.n c.requires)
-
-strictly : {a b : ℕ} {r : Bool} → a ≤ b → (a ≡ b → r ≡ true) → r ≡ false → a < b
-strictly {a} {b} le same differs = elim (below_or_after a b) [ inl lt ↦ lt | inr more ↦ (let e : a ≡ b = omega (arith, le, more.1) in let clash : false ≡ true = sym differs ∙ same e in cc) ]
 
 begun : (c : After-first_row_from-row) → Begun c.args.self.now c.args.n (c.first_row_from-row.result - 1) c.row-end.result.end c.if-is_empty.bound c.args.range
 begun c = record {
@@ -55,8 +53,8 @@ loop-row-preserved c =
     subst (λ r. Climbed c.args.self.now c.args.n (c.first_row_from-row.result - 1) r c.args.range) (sym (ap (λ r. r.parent) c.row-row.ensures.value))
     (climb_on _ _ _ _ _ _ _ (begun (goal.at.loop-row-preserved c).After-first_row_from-row) c.loop-row.invariant c.loop-row-test.true (fails (goal.at.loop-row-preserved c).After-row-row)).0
 
-pub returns-else-not-holds : goal.returns-else-not-holds
-returns-else-not-holds c = climb_ends _ _ _ _ _ _ _ (begun (goal.at.returns-else-not-holds c).After-first_row_from-row) c.loop-row.invariant (inr (sym (ap (holds c.args.range) c.range_at.ensures) ∙ sym c.holds.ensures ∙ c.if-not-holds.false))
+pub returns-else-not-holds-clause-holding : goal.returns-else-not-holds-clause-holding
+returns-else-not-holds-clause-holding c = climb_ends _ _ _ _ _ _ _ (begun (goal.at.returns-else-not-holds-clause-holding c).After-first_row_from-row) c.loop-row.invariant (inr (sym (ap (holds c.args.range) c.range_at.ensures) ∙ sym c.holds.ensures ∙ c.if-not-holds.false))
 
-pub returns-after-loop-row : goal.returns-after-loop-row
-returns-after-loop-row c = climb_ends _ _ _ _ _ _ _ (begun (goal.at.returns-after-loop-row c).After-first_row_from-row) c.loop-row.invariant (inl (omega (arith, c.loop-row-test.false, c.loop-row.invariant.low)))
+pub returns-after-loop-row-clause-holding : goal.returns-after-loop-row-clause-holding
+returns-after-loop-row-clause-holding c = climb_ends _ _ _ _ _ _ _ (begun (goal.at.returns-after-loop-row-clause-holding c).After-first_row_from-row) c.loop-row.invariant (inl (omega (arith, c.loop-row-test.false, c.loop-row.invariant.low)))

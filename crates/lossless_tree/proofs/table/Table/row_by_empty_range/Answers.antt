@@ -73,8 +73,8 @@ begun c e =
       first_ends = (let one : c.down_first_children-row.result + 1 ≡ suc c.down_first_children-row.result = omega arith in subst (λ k. end_at c.args.self.now k ≤ c.args.range.start) one (c.down_first_children-row.ensures.first_ends (omega (arith, long, is_end))));
       past = omega (arith, c.end_at.ensures.value, c.if-end_at-offset.false, offset_is);
       split = (let last : c.first_row_from-last.result ≡ (c.first_row_from-last.result - 1) + 1 = omega (arith, c.first_row_from-last.ensures.begun) in
-      subst (SplitsAt c.args.self.now (c.down_first_children-row.result + 1) c.row-end.result.end (c.args.range.start + 1)) last
-      (subst (λ o. SplitsAt c.args.self.now (c.down_first_children-row.result + 1) c.row-end.result.end (o + 1) c.first_row_from-last.result) offset_is c.first_row_from-last.ensures));
+          subst (SplitsAt c.args.self.now (c.down_first_children-row.result + 1) c.row-end.result.end (c.args.range.start + 1)) last
+          (subst (λ o. SplitsAt c.args.self.now (c.down_first_children-row.result + 1) c.row-end.result.end (o + 1) c.first_row_from-last.result) offset_is c.first_row_from-last.ensures));
     }
 
 pub returns-clause-in_range : goal.returns-clause-in_range
