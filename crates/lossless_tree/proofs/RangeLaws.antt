@@ -32,7 +32,7 @@ fill_from c f (suc n) i is count =
     let starts : range_start (at_place c (c.place ++ i ∷ [])) ≡ range_start c + bytes_before f i = start-child c.tree c.place i ∙ ap (λ g. range_start c + bytes_before g i) is in
     let text_is : text (focus (at_place c (c.place ++ i ∷ []))) ≡ text (child_at f i) = ap text (subtree-child c.tree c.place i ∙ ap (λ g. child_at g i) is) in
     let ends : range_start c + bytes_before f (i + 1) ≡ range_end (at_place c (c.place ++ i ∷ [])) =
-        omega (arith, starts, ap length text_is, bytes_before-next f i (omega (arith, count)), ap (bytes_before f) (let e : i + 1 ≡ suc i = omega arith in e)) in (
+    omega (arith, starts, ap length text_is, bytes_before-next f i (omega (arith, count)), ap (bytes_before f) (let e : i + 1 ≡ suc i = omega arith in e)) in (
       starts,
       subst (λ a. FollowEachOther a (range_start c + length (forest_text f)) (map (λ j. at_place c (c.place ++ j ∷ [])) (range_with_len (i + 1) n))) ends (fill_from c f n (i + 1) is (omega (arith, count))),
     )
@@ -50,6 +50,7 @@ fill_node c (node k f) is h =
     no_bytes : (g : Forest) → bytes_before g 0 ≡ 0
     no_bytes nil = refl
     no_bytes (cons u r) = refl
+
     all_children : (c : Cursor) (n : ℕ) → n ≡ child_count (forest_of_children (focus c)) → map (λ j. at_place c (c.place ++ j ∷ [])) (range_with_len 0 n) ≡ children_of c
     all_children c n e = ap (λ m. map (λ j. at_place c (c.place ++ j ∷ [])) (range_with_len 0 m)) e ∙ sym (map_twice (range_with_len 0 (child_count (forest_of_children (focus c)))))
       where

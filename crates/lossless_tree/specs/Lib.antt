@@ -12,6 +12,7 @@ pub mod MovedRows
 pub mod RowSearch
 pub mod TokenSearch
 pub mod Pointer
+pub mod Covering
 pub mod Cursor
 pub mod Element
 pub mod Edit

@@ -1,9 +1,9 @@
 -- A pointer to a node, and the node that it finds. (Upstream: `rowan`'s `ast::SyntaxNodePtr`.)
-use Rattle.std.specs.Prelude.{◌≡◌, List, [], ◌∷◌, Option, Some, None}
+use Rattle.std.specs.Prelude.{◌≡◌, ◌<◌, Contains, length, List, [], ◌∷◌, Option, Some, None}
 use Rattle.lossless_tree.specs.declared.syntax_kind.SyntaxKind.{SyntaxKind}
 use Rattle.lossless_tree.specs.TextRange.{Bounds}
-use Rattle.lossless_tree.specs.Tree.{IsNode, kind_of}
-use Rattle.lossless_tree.specs.Cursor.{Cursor, focus, range_of, IsRoot, descendants_of}
+use Rattle.lossless_tree.specs.Tree.{IsNode, IsPlace, kind_of, text}
+use Rattle.lossless_tree.specs.Cursor.{Cursor, focus, range_of, IsRoot, at_place, ancestors_of, descendants_of}
 
 -- what is kept of a node
 pub record Pointer : Type 0 where
@@ -29,3 +29,10 @@ pub data IsFirst (P : Cursor → Type 0) : List Cursor → Option Cursor → Typ
 pub record Finds (p : Pointer) (from : Cursor) (found : Option Cursor) : Type 0 where
   pub from_root : IsRoot from → IsFirst (PointsTo p) (descendants_of from) found
   pub from_below : (IsRoot from → ⊥) → found ≡ None
+
+-- a pointer to a node that has a text, and that is the only one of its ancestors with its kind and range, finds that node
+-- from the root
+abbrev pub PointersResolve : Type 0
+PointersResolve =
+    (c : Cursor) (found : Option Cursor) → IsPlace c.tree c.place → IsNode (focus c) → 0 < length (text (focus c))
+    → ((a : Cursor) → Contains (ancestors_of c) a → pointer_to a ≡ pointer_to c → a ≡ c) → Finds (pointer_to c) (at_place c []) found → found ≡ Some c

@@ -1,7 +1,10 @@
 -- What a search of rows by the offset of their start finds. No contract outside this crate names them.
-use Rattle.std.specs.Prelude.{◌≡◌, ℕ, suc, ◌<◌, ◌≤◌, Option, Some, None}
-use Rattle.lossless_tree.specs.Tree.{Tree, IsNode, IsToken}
-use Rattle.lossless_tree.specs.Rows.{start_at, end_at, tree_at, IsRow}
+use Rattle.std.specs.Prelude.{◌≡◌, ℕ, suc, ◌<◌, ◌≤◌, Option, Some, None, length, slice_index_or, false}
+use Rattle.lossless_tree.specs.TextRange.{Bounds}
+use Rattle.lossless_tree.specs.Tree.{Tree, IsNode, IsToken, forest_of_children}
+use Rattle.lossless_tree.specs.Rows.{start_at, end_at, tree_at, row_at, IsRow}
+use Rattle.lossless_tree.specs.Cursor.{cursor_at}
+use Rattle.lossless_tree.specs.Covering.{child_ranges, holds, covering_of}
 
 -- the rows from `from` on that start before the offset end at row i, and from there to `to` each starts at it or behind it
 pub record SplitsAt (tree : Tree) (from to offset i : ℕ) : Type 0 where
@@ -22,3 +25,22 @@ IsNodeRow tree n = IsRow tree n × IsNode (tree_at tree n)
 -- the row of a token
 abbrev pub IsTokenRow : Tree → ℕ → Type 0
 IsTokenRow tree n = IsRow tree n × IsToken (tree_at tree n)
+
+-- no child of row n holds the range
+abbrev pub NoneHolds : Tree → ℕ → Bounds → Type 0
+NoneHolds tree n asked =
+    (j : ℕ) (d : Bounds) → j < length (child_ranges (forest_of_children (tree_at tree n)) (start_at tree n))
+    → holds asked (slice_index_or (child_ranges (forest_of_children (tree_at tree n)) (start_at tree n)) j d) ≡ false
+
+-- what covers the range below row n is below row m too, and no child of that holds it
+pub record IsHolding (tree : Tree) (n : ℕ) (asked : Bounds) (m : ℕ) : Type 0 where
+  pub is_row : IsRow tree m
+  pub covers : covering_of (cursor_at tree n) asked ≡ covering_of (cursor_at tree m) asked
+  pub none : NoneHolds tree m asked
+
+-- the child of row n in whose subtree a row is
+pub record IsChildAround (tree : Tree) (n inner child : ℕ) : Type 0 where
+  pub behind : n < child
+  pub before : child ≤ inner
+  pub reaches : inner < (row_at tree child).end
+  pub parent : (row_at tree child).parent ≡ n

@@ -3,6 +3,7 @@ ghost use Rattle.lossless_tree.specs.CursorLaws.{ChildrenFillNodes, EqualityIsSa
 ghost use Rattle.lossless_tree.specs.Edit.{PlacesAreReached, TextAround, ReplacedText, EditedInside};
 ghost use Rattle.lossless_tree.specs.Events.{RefusalsHold};
 ghost use Rattle.lossless_tree.specs.Kinds.{NumbersDiffer, NamesDiffer};
+ghost use Rattle.lossless_tree.specs.Pointer.{PointersResolve};
 
 /// No two kinds have one raw number.
 pub fn kind_numbers_differ()
@@ -12,6 +13,11 @@ pub fn kind_numbers_differ()
 /// No two kinds print the same.
 pub fn kind_names_differ()
     ensures { NamesDiffer }
+{}
+
+/// A pointer resolves to the node that it was made of, where that has a text and no node above it has its kind and range.
+pub fn pointers_resolve()
+    ensures { PointersResolve }
 {}
 
 /// What the contract of `TreeBuilder::finish` calls the first refusal is the first that holds: a text that is too long,

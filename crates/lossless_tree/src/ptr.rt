@@ -59,6 +59,7 @@ impl SyntaxNodePtr {
     pub fn to_node(&self, root: &SyntaxNode) -> Option<SyntaxNode>
         ensures { Finds self.now root.now result }
     {
-        root.first_in_root(self.kind, self.range)
+        let SyntaxNodePtr { kind, range } = *self;
+        root.first_in_root(kind, range)
     }
 }

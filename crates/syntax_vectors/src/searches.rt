@@ -1,6 +1,6 @@
 //! Searches of a tree by offset: worked rows, and every offset of three small trees by a plain slow program.
 use crate::plain_tree::PlainTree;
-use lossless_tree::{SyntaxKind, SyntaxNode, TextSize};
+use lossless_tree::{NodeOrToken, SyntaxKind, SyntaxNode, SyntaxNodePtr, TextRange, TextSize};
 use std::test::Fail;
 
 // Trees with empty tokens and empty nodes at each end and in between; each node and token has a kind of its own.
@@ -55,6 +55,122 @@ fn tokens_at_every_offset(rt: HostRuntime) -> Result<(), Fail> {
             }
             assert!(rt; found == wanted);
             offset = offset.saturating_add(1);
+        }
+    }
+    Ok(())
+}
+
+fn range(from: u32, to: u32) -> TextRange {
+    let start = TextSize::new(from);
+    if from <= to {
+        TextRange::new(start, TextSize::new(to))
+    } else {
+        TextRange::empty(start)
+    }
+}
+
+// What covers a range, as `KIND@start..end`.
+fn covering(rt: &HostRuntime, root: &SyntaxNode, from: u32, to: u32) -> Result<String, Fail> {
+    let found = root.covering_element(range(from, to));
+    Ok(format!(in rt.alloc(); "{}@{}", found.kind(), found.text_range())?)
+}
+
+#[test]
+fn elements_cover_ranges(rt: HostRuntime) -> Result<(), Fail> {
+    let words = "BIN_EXPR( INT_NUMBER:1 WHITESPACE:~ PLUS:+ WHITESPACE:~ INT_NUMBER:1 )";
+    let root = PlainTree::read(rt.alloc(), words)?.build(rt.alloc())?;
+    assert_eq!(rt; covering(&rt, &root, 1, 2)?.as_str(), "WHITESPACE@1..2");
+    assert_eq!(rt; covering(&rt, &root, 0, 3)?.as_str(), "BIN_EXPR@0..5");
+    assert_eq!(rt; covering(&rt, &root, 0, 0)?.as_str(), "INT_NUMBER@0..1");
+    assert_eq!(rt; covering(&rt, &root, 1, 1)?.as_str(), "INT_NUMBER@0..1");
+    assert_eq!(rt; covering(&rt, &root, 5, 5)?.as_str(), "INT_NUMBER@4..5");
+    assert_eq!(rt; covering(&rt, &root, 9, 9)?.as_str(), "INT_NUMBER@4..5");
+    assert_eq!(rt; covering(&rt, &root, 4, 9)?.as_str(), "BIN_EXPR@0..5");
+    let root = name_between_tokens(&rt)?;
+    assert_eq!(rt; covering(&rt, &root, 1, 1)?.as_str(), "NAME@1..1");
+    Ok(())
+}
+
+#[test]
+fn elements_cover_every_range(rt: HostRuntime) -> Result<(), Fail> {
+    for words in TREES {
+        let plain = PlainTree::read(rt.alloc(), words)?;
+        let root = plain.build(rt.alloc())?;
+        for from in 0u32..8 {
+            for to in from..8 {
+                let wanted = plain.covering(0, from as usize, to as usize);
+                let found = root.covering_element(range(from, to));
+                assert_eq!(rt; found.kind(), wanted);
+            }
+        }
+    }
+    Ok(())
+}
+
+// The kinds of a node and those above it, and how many siblings follow each: that is its place.
+fn place(rt: &HostRuntime, node: &SyntaxNode) -> Result<String, Fail> {
+    let mut text = String::new(rt.alloc());
+    for above in node.ancestors() {
+        let mut later: usize = 0;
+        let mut next = above.next_sibling_or_token();
+        for _turn in 0..100 {
+            let Some(sibling) = next else {
+                break;
+            };
+            later = later.saturating_add(1);
+            next = sibling.next_sibling_or_token();
+        }
+        write!(text, "{}+{later} ", above.kind())?;
+    }
+    Ok(text)
+}
+
+#[test]
+fn pointers_find_the_first_of_their_kind_and_range(rt: HostRuntime) -> Result<(), Fail> {
+    let words = "PATH( PATH( PATH_SEGMENT( IDENT:a ) ) )";
+    let root = PlainTree::read(rt.alloc(), words)?.build(rt.alloc())?;
+    let Some(NodeOrToken::Node(inner)) = root.first_child_or_token() else {
+        return Err(Fail::from("no inner path"));
+    };
+    let pointer = SyntaxNodePtr::new(&inner);
+    assert_eq!(rt; pointer, SyntaxNodePtr::new(&root));
+    assert_eq!(rt; pointer.kind(), SyntaxKind::PATH);
+    assert_eq!(rt; pointer.text_range(), range(0, 1));
+    let Some(found) = pointer.to_node(&root) else {
+        return Err(Fail::from("nothing is found from the root"));
+    };
+    assert_eq!(rt; place(&rt, &found)?.as_str(), "PATH+0 ");
+    assert!(rt; pointer.to_node(&inner).is_none());
+    let Some(NodeOrToken::Node(segment)) = inner.first_child_or_token() else {
+        return Err(Fail::from("no segment"));
+    };
+    let Some(found) = SyntaxNodePtr::new(&segment).to_node(&root) else {
+        return Err(Fail::from("the segment is not found"));
+    };
+    assert_eq!(rt;
+        place(&rt, &found)?.as_str(),
+        "PATH_SEGMENT+0 PATH+0 PATH+0 "
+    );
+    let text = format!(in rt.alloc(); "{pointer:?}")?;
+    assert_eq!(rt; text.as_str(), "SyntaxNodePtr { kind: PATH, range: 0..1 }");
+    Ok(())
+}
+
+// Each node of a tree in which each has its own kind is found again, and nothing is found for a token.
+#[test]
+fn pointers_find_their_nodes(rt: HostRuntime) -> Result<(), Fail> {
+    for words in TREES {
+        let plain = PlainTree::read(rt.alloc(), words)?;
+        let root = plain.build(rt.alloc())?;
+        let again = plain.build(rt.alloc())?;
+        for element in root.descendants_with_tokens() {
+            if let Some(node) = element.into_node() {
+                let pointer = SyntaxNodePtr::new(&node);
+                let Some(found) = pointer.to_node(&again) else {
+                    return Err(Fail::from("a node is not found"));
+                };
+                assert_eq!(rt; place(&rt, &found)?.as_str(), place(&rt, &node)?.as_str());
+            }
         }
     }
     Ok(())

@@ -295,6 +295,7 @@ impl SyntaxNode {
     ghost use Rattle.lossless_tree.specs.Rows.{IsRow, tree_at};
     ghost use Rattle.lossless_tree.specs.Cursor.{cursor_at};
     ghost use Rattle.lossless_tree.specs.TokenSearch.{tokens_at, found_tokens};
+    ghost use Rattle.lossless_tree.specs.Covering.{covering_of};
     ghost use Rattle.lossless_tree.specs.Pointer.{Finds};
 
     /// The tokens of this node at an offset of the whole tree's text: those that have a text and whose range, ends
@@ -312,6 +313,21 @@ impl SyntaxNode {
                 TokenAtOffset::Between(self.token(left), self.token(right))
             }
         }
+    }
+
+    /// The node or token that covers a range of the whole tree's text: down from this node while there is a child to go
+    /// to.
+    ///
+    /// For a range that is not empty that is the child whose range contains it. For an empty range it is the child that
+    /// has its offset strictly inside, else the last child that ends at or before it, else the first child. So a range
+    /// that is not empty and that no child contains, as one outside of this node, gives this node, and an empty one
+    /// always gives a token or a node without children. The time grows with the logarithm of the size of the tree and
+    /// with its depth.
+    pub fn covering_element(&self, range: TextRange) -> SyntaxElement
+        ensures { result ≡ element_of (covering_of self.now range) }
+    {
+        let row = self.table.covering_row(self.row, range);
+        element(&self.table, row)
     }
 
     // The first node of this tree in preorder with this kind and range; `None` where this node is not the root.

@@ -66,10 +66,17 @@ impl<T: Drop> Iterator for TokenAtOffset<T> {
     }
 
     fn size_hint(&self) -> (usize, Option<usize>) {
+        let len = self.len();
+        (len, Some(len))
+    }
+}
+
+impl<T: Drop> ExactSizeIterator for TokenAtOffset<T> {
+    fn len(&self) -> usize {
         match self {
-            TokenAtOffset::None => (0, Some(0)),
-            TokenAtOffset::Single(_) => (1, Some(1)),
-            TokenAtOffset::Between(_, _) => (2, Some(2)),
+            TokenAtOffset::None => 0,
+            TokenAtOffset::Single(_) => 1,
+            TokenAtOffset::Between(_, _) => 2,
         }
     }
 }

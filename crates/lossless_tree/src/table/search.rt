@@ -1,10 +1,11 @@
 //! Searches of rows by offset: the starts of rows don't decrease with their numbers, so they go by halves.
-ghost use Rattle.std.specs.Prelude.{◌≡◌, ◌≤◌, ◌<◌, ◌^◌, ◌++◌, nat_lt, length, map, option_map, IfSome, IsTrue, ◌↔◌};
+ghost use Rattle.std.specs.Prelude.{◌≡◌, ◌+◌, ◌≤◌, ◌<◌, ◌^◌, ◌++◌, nat_lt, length, map, option_map, IfSome, IsTrue, ◌↔◌};
 ghost use Rattle.std.specs.Option.{option_to_list};
 ghost use Rattle.lossless_tree.specs.Tree.{nil, cons, size};
-ghost use Rattle.lossless_tree.specs.Rows.{rows_of};
-ghost use Rattle.lossless_tree.specs.RowSearch.{SplitsAt, Reaching, IsTokenRow, IsNodeRow};
+ghost use Rattle.lossless_tree.specs.Rows.{rows_of, row_at, end_at};
+ghost use Rattle.lossless_tree.specs.RowSearch.{SplitsAt, Reaching, IsTokenRow, IsNodeRow, NoneHolds, IsHolding, IsChildAround};
 ghost use Rattle.lossless_tree.specs.Cursor.{cursor_at, descendants_of};
+ghost use Rattle.lossless_tree.specs.Covering.{covering_of, holds};
 ghost use Rattle.lossless_tree.specs.Pointer.{IsFirst, PointsTo};
 ghost use Rattle.lossless_tree.specs.TokenSearch.{tokens_at};
 
@@ -83,6 +84,84 @@ impl Table {
         }
         None
     }
+
+    // The row that covers a range in the subtree at row `n`.
+    pub(crate) fn covering_row(&self, n: usize, range: TextRange) -> usize
+        requires { n < size self.now }
+        ensures in_range { result < size self.now }
+        ensures covers { cursor_at self.now result ≡ covering_of (cursor_at self.now n) range }
+    {
+        let row = self.holding_row(n, range);
+        if range.is_empty() {
+            self.row_by_empty_range(row, range)
+        } else {
+            row
+        }
+    }
+
+    // The lowest row in the subtree at row `n` that holds a range; row `n` itself, where none of its children does.
+    fn holding_row(&self, n: usize, range: TextRange) -> usize
+        requires { n < size self.now }
+        ensures holding { IsHolding self.now n range result }
+        ensures ordered { range.start ≤ range.end }
+    {
+        let end = self.row(n).end;
+        let start = range.start().raw() as usize;
+        let bound = if range.is_empty() { start } else { start + 1 };
+        let mut row = self.first_row_from(n + 1, end, bound) - 1;
+        while row > n && !holds(range, self.range_at(row)) {
+            row = self.row(row).parent;
+        }
+        row
+    }
+
+    // The row that covers an empty range in the subtree at row `n`, of which no child holds it.
+    fn row_by_empty_range(&self, n: usize, range: TextRange) -> usize
+        requires is_row { n < size self.now }
+        requires empty { range.start ≡ range.end }
+        requires none { NoneHolds self.now n range }
+        ensures in_range { result < size self.now }
+        ensures covers { cursor_at self.now result ≡ covering_of (cursor_at self.now n) range }
+    {
+        let row = self.down_first_children(n, range);
+        let end = self.row(row).end;
+        let offset = range.start().raw() as usize;
+        if end == row + 1 || self.end_at(row) <= offset {
+            return end - 1;
+        }
+        let last = self.first_row_from(row + 1, end, offset + 1) - 1;
+        self.child_around(row, last) - 1
+    }
+
+    // From row `n` down to first children while these end behind an empty range.
+    fn down_first_children(&self, n: usize, range: TextRange) -> usize
+        requires is_row { n < size self.now }
+        requires empty { range.start ≡ range.end }
+        requires none { NoneHolds self.now n range }
+        ensures holding { IsHolding self.now n range result }
+        ensures first_ends { result + 1 < (row_at self.now result).end → end_at self.now (result + 1) ≤ range.start }
+    {
+        let offset = range.start().raw() as usize;
+        let mut row = n;
+        while self.row(row).end > row + 1 && self.end_at(row + 1) > offset {
+            row += 1;
+        }
+        row
+    }
+
+    // The child of row `n` in whose subtree the row `inner` is.
+    fn child_around(&self, n: usize, inner: usize) -> usize
+        requires is_row { n < size self.now }
+        requires below { n < inner }
+        requires within { inner < (row_at self.now n).end }
+        ensures { IsChildAround self.now n inner result }
+    {
+        let mut child = inner;
+        while self.row(child).parent != n {
+            child = self.row(child).parent;
+        }
+        child
+    }
 }
 
 // Kinds are the same where their numbers are.
@@ -90,4 +169,15 @@ fn same_kind(kind: SyntaxKind, other: SyntaxKind) -> bool
     ensures { IsTrue result ↔ (kind ≡ other) }
 {
     kind.to_raw() == other.to_raw()
+}
+
+// Whether a range that is not empty lies in another, or an empty one strictly inside it.
+fn holds(asked: TextRange, range: TextRange) -> bool
+    ensures { result ≡ holds asked range }
+{
+    if asked.is_empty() {
+        range.start() < asked.start() && asked.start() < range.end()
+    } else {
+        range.contains_range(asked)
+    }
 }
