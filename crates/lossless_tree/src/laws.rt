@@ -1,4 +1,5 @@
 //! Laws of the definitions that contracts cite. The functions do nothing: the contract is the law.
+ghost use Rattle.lossless_tree.specs.Covering.{CoveringHolds};
 ghost use Rattle.lossless_tree.specs.Events.{RefusalsHold};
 ghost use Rattle.lossless_tree.specs.Kinds.{NumbersDiffer, NamesDiffer};
 ghost use Rattle.lossless_tree.specs.Pointer.{PointersResolve};
@@ -16,6 +17,12 @@ pub fn kind_names_differ()
 /// A pointer resolves to the node that it was made of, where that has a text and no node above it has its kind and range.
 pub fn pointers_resolve()
     ensures { PointersResolve }
+{}
+
+/// What covers a range is a place of the tree; its range holds the range where that of the node does from which it was
+/// sought, and so do the ranges of all nodes above it.
+pub fn covering_holds()
+    ensures { CoveringHolds }
 {}
 
 /// What the contract of `TreeBuilder::finish` calls the first refusal is the first that holds: a text that is too long,
