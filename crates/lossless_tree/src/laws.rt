@@ -3,6 +3,7 @@ ghost use Rattle.lossless_tree.specs.Covering.{CoveringHolds};
 ghost use Rattle.lossless_tree.specs.Events.{RefusalsHold};
 ghost use Rattle.lossless_tree.specs.Kinds.{NumbersDiffer, NamesDiffer};
 ghost use Rattle.lossless_tree.specs.Pointer.{PointersResolve};
+ghost use Rattle.lossless_tree.specs.TokenSearch.{AtMostTwo};
 
 /// No two kinds have one raw number.
 pub fn kind_numbers_differ()
@@ -12,6 +13,11 @@ pub fn kind_numbers_differ()
 /// No two kinds print the same.
 pub fn kind_names_differ()
     ensures { NamesDiffer }
+{}
+
+/// At most two tokens of a node that have a text touch one offset.
+pub fn at_most_two_tokens()
+    ensures { AtMostTwo }
 {}
 
 /// A pointer resolves to the node that it was made of, where that has a text and no node above it has its kind and range.
