@@ -17,7 +17,7 @@ use Rattle.lossless_tree.proofs.CoveringRows.{ChildRow, child_row, children_at, 
 none_inside : (whole : Tree) (n : ℕ) (asked : Bounds) → n < size whole → asked.start ≡ asked.end → ((j v : ℕ) → ChildRow whole n j v → start_at whole v < asked.start → asked.start < end_at whole v → ⊥) → NoneHolds whole n asked
 none_inside whole n asked h empty f = none_holds whole n asked h (λ j v x w. elim w [ inl wide ↦ omega (arith, wide.0, empty) | inr inside ↦ f j v x inside.1 inside.2 ])
 
-in_child : (whole : Tree) (n j v : ℕ) → n < size whole → ChildRow whole n j v → Nested whole n v
+pub in_child : (whole : Tree) (n j v : ℕ) → n < size whole → ChildRow whole n j v → Nested whole n v
 in_child whole n j v h x = nested whole n v h (omega (arith, x.row_is)) (omega (arith, x.inside, end_of_row whole v x.is_row, some_row (tree_at whole v)))
 
 -- ---- the last of the last
@@ -29,10 +29,10 @@ record LastChild (whole : Tree) (n : ℕ) : Type 0 where
   ends : (row_at whole row).end ≡ (row_at whole n).end
   no_later : (i u : ℕ) → ChildRow whole n i u → number < i → ⊥
 
-child_size : (whole : Tree) (n j v : ℕ) (x : ChildRow whole n j v) → size (tree_at whole v) ≡ size x.child
+pub child_size : (whole : Tree) (n j v : ℕ) (x : ChildRow whole n j v) → size (tree_at whole v) ≡ size x.child
 child_size whole n j v x = ap size (x.tree_is ∙ subtree-At x.at)
 
-size_of_children : (t : Tree) → 1 < size t → (size t ≡ suc (forest_size (forest_of_children t))) × (0 < child_count (forest_of_children t))
+pub size_of_children : (t : Tree) → 1 < size t → (size t ≡ suc (forest_size (forest_of_children t))) × (0 < child_count (forest_of_children t))
 size_of_children (token k x) h = absurd (omega arith)
 size_of_children (node k nil) h = absurd (omega arith)
 size_of_children (node k (cons u r)) h = (refl, omega arith)
@@ -146,7 +146,7 @@ around_in : (whole : Tree) (row last e child : ℕ) (asked : Bounds) → Split w
 around_in whole row last e child asked w u = nested whole row child w.is_row (omega (arith, u.behind)) (omega (arith, u.before, w.split.within, w.is_end))
 
 -- subtrees that end with one row end with one byte
-same_end : (whole : Tree) (a b : ℕ) → a < size whole → b < size whole → (row_at whole a).end ≡ (row_at whole b).end → end_at whole a ≡ end_at whole b
+pub same_end : (whole : Tree) (a b : ℕ) → a < size whole → b < size whole → (row_at whole a).end ≡ (row_at whole b).end → end_at whole a ≡ end_at whole b
 same_end whole a b h k e =
     elim (below_or_after (row_at whole a).end (size whole)) [
       | inl more ↦ sym (behind_starts whole a (row_at whole a).end h refl more) ∙ behind_starts whole b (row_at whole a).end k e more

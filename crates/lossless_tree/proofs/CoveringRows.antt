@@ -92,7 +92,7 @@ ranges_at whole n = child_ranges (children_at whole n) (start_at whole n)
 abbrev pub range_at : Tree → ℕ → Bounds
 range_at whole v = record { start = start_at whole v; end = end_at whole v }
 
-child_range : (whole : Tree) (n j v : ℕ) (d : Bounds) → ChildRow whole n j v → get_or (ranges_at whole n) j d ≡ range_at whole v
+pub child_range : (whole : Tree) (n j v : ℕ) (d : Bounds) → ChildRow whole n j v → get_or (ranges_at whole n) j d ≡ range_at whole v
 child_range whole n j v d x =
     get_or-child_ranges (children_at whole n) (start_at whole n) j d x.counted
     ∙ ap (λ s. let r : Bounds = record { start = s; end = s + length (text (child_at (children_at whole n) j)) } in r) (sym x.start_is)
@@ -101,7 +101,7 @@ child_range whole n j v d x =
 counted : (whole : Tree) (n j : ℕ) → j < length (ranges_at whole n) → j < child_count (children_at whole n)
 counted whole n j h = omega (arith, h, length-child_ranges (children_at whole n) (start_at whole n))
 
-is_listed : (whole : Tree) (n j v : ℕ) → ChildRow whole n j v → j < length (ranges_at whole n)
+pub is_listed : (whole : Tree) (n j v : ℕ) → ChildRow whole n j v → j < length (ranges_at whole n)
 is_listed whole n j v x = omega (arith, x.counted, length-child_ranges (children_at whole n) (start_at whole n))
 
 -- what holds of each child row from number i on holds of the ranges

@@ -1,9 +1,11 @@
 //! Laws of the definitions that contracts cite. The functions do nothing: the contract is the law.
 ghost use Rattle.lossless_tree.specs.CursorLaws.{ChildrenFillNodes, EqualityIsSameness, EqualCursorsHashAlike};
 ghost use Rattle.lossless_tree.specs.Edit.{PlacesAreReached, TextAround, ReplacedText, EditedInside};
+ghost use Rattle.lossless_tree.specs.Covering.{CoveringHolds};
 ghost use Rattle.lossless_tree.specs.Events.{RefusalsHold};
 ghost use Rattle.lossless_tree.specs.Kinds.{NumbersDiffer, NamesDiffer};
 ghost use Rattle.lossless_tree.specs.Pointer.{PointersResolve};
+ghost use Rattle.lossless_tree.specs.TokenSearch.{AtMostTwo};
 
 /// No two kinds have one raw number.
 pub fn kind_numbers_differ()
@@ -15,9 +17,20 @@ pub fn kind_names_differ()
     ensures { NamesDiffer }
 {}
 
+/// At most two tokens of a node that have a text touch one offset.
+pub fn at_most_two_tokens()
+    ensures { AtMostTwo }
+{}
+
 /// A pointer resolves to the node that it was made of, where that has a text and no node above it has its kind and range.
 pub fn pointers_resolve()
     ensures { PointersResolve }
+{}
+
+/// What covers a range is a place of the tree; its range holds the range where that of the node does from which it was
+/// sought, and so do the ranges of all nodes above it.
+pub fn covering_holds()
+    ensures { CoveringHolds }
 {}
 
 /// What the contract of `TreeBuilder::finish` calls the first refusal is the first that holds: a text that is too long,
