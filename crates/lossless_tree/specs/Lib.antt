@@ -11,6 +11,7 @@ pub mod MovedRows
 pub mod Cursor
 pub mod Element
 pub mod Edit
+pub mod Trees
 pub mod Builder
 pub mod Scan
 pub mod Run

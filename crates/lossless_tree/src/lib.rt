@@ -15,6 +15,7 @@ mod syntax_kind;
 mod table;
 mod text_range;
 mod text_size;
+mod trees;
 
 pub use builder::TreeBuilder;
 pub use cursor::ancestors::Ancestors;
@@ -29,3 +30,4 @@ pub use shared::Shared;
 pub use syntax_kind::{KINDS, NodeKind, SyntaxKind, TokenKind};
 pub use text_range::TextRange;
 pub use text_size::TextSize;
+pub use trees::Trees;

@@ -1,8 +1,9 @@
 //! Nodes.
 ghost use Rattle.std.specs.Prelude.{◌≡◌, ◌↔◌, ◌≤◌, ◌^◌, length, option_map, IfOk, IsErrOf, string_bytes};
 ghost use Rattle.lossless_tree.specs.declared.error.ReplaceError.TheVariants.{TooLong};
-ghost use Rattle.lossless_tree.specs.Tree.{text, kind_of};
-ghost use Rattle.lossless_tree.specs.Cursor.{focus, range_of, parent_of, ancestors_of, first_child_of, next_sibling_of, descendants_of, walk_of};
+ghost use Rattle.lossless_tree.specs.Tree.{text, kind_of, forest_of_children};
+ghost use Rattle.lossless_tree.specs.Trees.{child_text};
+ghost use Rattle.lossless_tree.specs.Cursor.{focus, range_start, range_of, parent_of, ancestors_of, first_child_of, next_sibling_of, descendants_of, walk_of};
 ghost use Rattle.lossless_tree.specs.Edit.{replace, root_of};
 ghost use Rattle.lossless_tree.specs.Element.{element_of};
 ghost use Rattle.lossless_tree.specs.Dump.{dump_of};
@@ -17,6 +18,7 @@ use crate::shared::Shared;
 use crate::syntax_kind::SyntaxKind;
 use crate::table::Table;
 use crate::text_range::TextRange;
+use crate::trees::Trees;
 use std::alloc::{AllocError, Global};
 use std::marker::Model;
 
@@ -99,6 +101,35 @@ impl SyntaxNode {
         match Shared::new(alloc, table) {
             Ok(table) => Ok(SyntaxNode::root(table)),
             Err(_) => Err(ReplaceError::Memory),
+        }
+    }
+}
+
+impl SyntaxNode {
+    /// The node's children, as siblings that are left to read.
+    pub fn trees(&self) -> Trees<'_>
+        ensures { result ≡ record { trees = forest_of_children (focus self.now); start = range_start self.now } }
+    {
+        Trees::below(&self.table, self.row)
+    }
+
+    /// The text of child number `n`, from 0, where that is a token; `None` for a node, and where there is no such child.
+    ///
+    /// It passes the children before it, and looks into none of them.
+    pub fn child_text(&self, n: usize) -> Option<&str>
+        ensures { option_map (λ s. s.now) result ≡ child_text (focus self.now) n }
+    {
+        let mut left = self.trees();
+        for _ in 0..n {
+            if left.is_done() {
+                return None;
+            }
+            left = left.rest();
+        }
+        if left.is_token() {
+            Some(left.text())
+        } else {
+            None
         }
     }
 }
