@@ -5,4 +5,5 @@ pub mod descendants;
 pub mod element;
 pub mod node;
 pub mod preorder;
+pub mod text;
 pub mod token;

@@ -23,6 +23,7 @@ pub use cursor::descendants::DescendantsWithTokens;
 pub use cursor::element::{NodeOrToken, SyntaxElement};
 pub use cursor::node::SyntaxNode;
 pub use cursor::preorder::{PreorderWithTokens, WalkEvent};
+pub use cursor::text::SyntaxText;
 pub use cursor::token::SyntaxToken;
 pub use error::{FinishError, ReplaceError};
 pub use language::{Language, RustLanguage};

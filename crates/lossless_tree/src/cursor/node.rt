@@ -12,6 +12,7 @@ use super::ancestors::Ancestors;
 use super::descendants::DescendantsWithTokens;
 use super::element::{SyntaxElement, element};
 use super::preorder::PreorderWithTokens;
+use super::text::SyntaxText;
 use crate::dump;
 use crate::error::ReplaceError;
 use crate::shared::Shared;
@@ -106,6 +107,13 @@ impl SyntaxNode {
 }
 
 impl SyntaxNode {
+    /// The node's text, with the calls of upstream's type of this name. `as_str` gives the same as one slice.
+    pub fn text(&self) -> SyntaxText<'_>
+        ensures { result ≡ text (focus self.now) }
+    {
+        SyntaxText::of_row(&self.table, self.row)
+    }
+
     /// The node's children, as siblings that are left to read.
     pub fn trees(&self) -> Trees<'_>
         ensures { result ≡ record { trees = forest_of_children (focus self.now); start = range_start self.now } }
