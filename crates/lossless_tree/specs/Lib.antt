@@ -11,6 +11,7 @@ pub mod MovedRows
 pub mod Cursor
 pub mod Element
 pub mod Edit
+pub mod Placed
 pub mod Trees
 pub mod SyntaxText
 pub mod Builder

@@ -1,7 +1,13 @@
-//! Laws of the definitions that contracts cite. The functions do nothing: the contract is the law.
+//! Laws of the definitions that contracts cite, and of cursors. The functions do nothing: the contract is the law.
+ghost use Rattle.lossless_tree.specs.Tree.{IsNode, IsToken};
+ghost use Rattle.lossless_tree.specs.Cursor.{focus};
+ghost use Rattle.lossless_tree.specs.Placed.{IsPlaced};
 ghost use Rattle.lossless_tree.specs.Edit.{PlacesAreReached, TextAround, ReplacedText, EditedInside};
 ghost use Rattle.lossless_tree.specs.Events.{RefusalsHold};
 ghost use Rattle.lossless_tree.specs.Kinds.{NumbersDiffer, NamesDiffer};
+
+use crate::cursor::node::SyntaxNode;
+use crate::cursor::token::SyntaxToken;
 
 /// No two kinds have one raw number.
 pub fn kind_numbers_differ()
@@ -40,3 +46,21 @@ pub fn replaced_text()
 pub fn edited_inside_a_piece()
     ensures { EditedInside }
 {}
+
+/// A node's place is one of its tree's and holds a node; the tree's root is a node, and its text is UTF-8 of fewer than
+/// 2^32 bytes.
+pub fn node_is_placed(node: &SyntaxNode)
+    ensures placed { IsPlaced node.now }
+    ensures node { IsNode (focus node.now) }
+{
+    node.placed()
+}
+
+/// A token's place is one of its tree's and holds a token; the tree's root is a node, and its text is UTF-8 of fewer than
+/// 2^32 bytes.
+pub fn token_is_placed(token: &SyntaxToken)
+    ensures placed { IsPlaced token.now }
+    ensures token { IsToken (focus token.now) }
+{
+    token.placed()
+}

@@ -1,10 +1,11 @@
 //! Nodes.
 ghost use Rattle.std.specs.Prelude.{◌≡◌, ◌↔◌, ◌≤◌, ◌^◌, length, option_map, IfOk, IsErrOf, string_bytes};
 ghost use Rattle.lossless_tree.specs.declared.error.ReplaceError.TheVariants.{TooLong};
-ghost use Rattle.lossless_tree.specs.Tree.{text, kind_of, forest_of_children};
+ghost use Rattle.lossless_tree.specs.Tree.{text, kind_of, IsNode, forest_of_children};
 ghost use Rattle.lossless_tree.specs.Trees.{child_text};
 ghost use Rattle.lossless_tree.specs.Cursor.{focus, range_start, range_of, parent_of, ancestors_of, first_child_of, next_sibling_of, descendants_of, walk_of};
 ghost use Rattle.lossless_tree.specs.Edit.{replace, root_of};
+ghost use Rattle.lossless_tree.specs.Placed.{IsPlaced};
 ghost use Rattle.lossless_tree.specs.Element.{element_of};
 ghost use Rattle.lossless_tree.specs.Dump.{dump_of};
 
@@ -139,6 +140,16 @@ impl SyntaxNode {
         } else {
             None
         }
+    }
+}
+
+impl SyntaxNode {
+    // The place of a node is one of its tree's. It does nothing.
+    pub(crate) fn placed(&self)
+        ensures placed { IsPlaced self.now }
+        ensures node { IsNode (focus self.now) }
+    {
+        self.table.placed(self.row)
     }
 }
 

@@ -1,9 +1,10 @@
 //! Tokens.
 ghost use Rattle.std.specs.Prelude.{◌≡◌, ◌↔◌, ◌≤◌, ◌^◌, length, option_map, IfOk, IsErrOf, string_bytes};
 ghost use Rattle.lossless_tree.specs.declared.error.ReplaceError.TheVariants.{TooLong};
-ghost use Rattle.lossless_tree.specs.Tree.{text, kind_of, token};
+ghost use Rattle.lossless_tree.specs.Tree.{text, kind_of, IsToken, token};
 ghost use Rattle.lossless_tree.specs.Cursor.{focus, range_of, parent_of, next_sibling_of};
 ghost use Rattle.lossless_tree.specs.Edit.{replace, root_of};
+ghost use Rattle.lossless_tree.specs.Placed.{IsPlaced};
 ghost use Rattle.lossless_tree.specs.Element.{element_of};
 ghost use Rattle.lossless_tree.specs.Dump.{dump_of};
 
@@ -77,6 +78,16 @@ impl SyntaxToken {
             Ok(table) => Ok(SyntaxNode::root(table)),
             Err(_) => Err(ReplaceError::Memory),
         }
+    }
+}
+
+impl SyntaxToken {
+    // The place of a token is one of its tree's. It does nothing.
+    pub(crate) fn placed(&self)
+        ensures placed { IsPlaced self.now }
+        ensures token { IsToken (focus self.now) }
+    {
+        self.table.placed(self.row)
     }
 }
 
