@@ -12,6 +12,7 @@ pub mod Cursor
 pub mod Element
 pub mod Edit
 pub mod Placed
+pub mod Every
 pub mod Trees
 pub mod SyntaxText
 pub mod Builder

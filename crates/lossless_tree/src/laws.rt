@@ -3,6 +3,7 @@ ghost use Rattle.lossless_tree.specs.Tree.{IsNode, IsToken};
 ghost use Rattle.lossless_tree.specs.Cursor.{focus};
 ghost use Rattle.lossless_tree.specs.Placed.{IsPlaced};
 ghost use Rattle.lossless_tree.specs.Edit.{PlacesAreReached, TextAround, ReplacedText, EditedInside};
+ghost use Rattle.lossless_tree.specs.Every.{EveryIsDescendants};
 ghost use Rattle.lossless_tree.specs.Events.{RefusalsHold};
 ghost use Rattle.lossless_tree.specs.Kinds.{NumbersDiffer, NamesDiffer};
 
@@ -45,6 +46,11 @@ pub fn replaced_text()
 /// same bytes replaced.
 pub fn edited_inside_a_piece()
     ensures { EditedInside }
+{}
+
+/// A test of every node and token of a subtree is a test of each item of its `descendants_with_tokens`.
+pub fn every_is_descendants()
+    ensures { EveryIsDescendants }
 {}
 
 /// A node's place is one of its tree's and holds a node; the tree's root is a node, and its text is UTF-8 of fewer than
