@@ -22,13 +22,15 @@ part_at zero whole from to offset e fits =
 part_at (suc steps) whole from to offset e fits =
     elim (below_or_after (start_at whole from) offset) [
       | inr past ↦ (from, record { begun = omega arith; within = omega (arith, e); before = λ k le lt. absurd (omega (arith, le, lt)); behind = λ k le lt. omega (arith, past.1, starts_rise whole from k le (omega (arith, lt, fits))) })
-      | inl short ↦ let w = part_at steps whole (suc from) to offset (omega (arith, e)) fits in
-          (w.0, record {
-            begun = omega (arith, w.1.begun);
-            within = w.1.within;
-            before = λ k le lt. elim (below_or_after from k) [ inl more ↦ w.1.before k (omega (arith, more)) lt | inr same ↦ let is : k ≡ from = omega (arith, le, same.1) in omega (arith, short, ap (start_at whole) is) ];
-            behind = w.1.behind;
-          })
+      | inl short ↦ let w = part_at steps whole (suc from) to offset (omega (arith, e)) fits in (
+        w.0,
+        record {
+          begun = omega (arith, w.1.begun);
+          within = w.1.within;
+          before = λ k le lt. elim (below_or_after from k) [ inl more ↦ w.1.before k (omega (arith, more)) lt | inr same ↦ let is : k ≡ from = omega (arith, le, same.1) in omega (arith, short, ap (start_at whole) is) ];
+          behind = w.1.behind;
+        },
+      )
     ]
 
 reaching : (whole : Tree) (from to offset : ℕ) → (r : Option ℕ) × Reaching whole from to offset r
