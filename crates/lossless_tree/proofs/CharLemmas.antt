@@ -1,6 +1,6 @@
 -- The character at a byte of a text.
-use Rattle.std.proofs.Common.{◌≡◌, ℕ, List, [], ◌∷◌, drop, refl, sym, ap, subst, ◌∙◌}
-use Rattle.std.specs.Prelude.{Option, None, Some, MatchOption, slice_get}
+use Rattle.std.proofs.Common.{◌≡◌, ℕ, List, [], ◌∷◌, drop, sym, ap, subst, ◌∙◌}
+use Rattle.std.specs.Prelude.{Option, MatchOption, slice_get}
 use Rattle.std.specs.Str.{chars, IsCharBoundary}
 use Rattle.lossless_tree.specs.SyntaxText.{StartsAt, NoneStartsAt}
 

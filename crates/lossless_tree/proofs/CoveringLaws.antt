@@ -5,18 +5,18 @@ use Rattle.std.specs.Option.{option_or}
 use Rattle.std.proofs.lemmas.Bool.Decides.{nat_tests}
 use Rattle.std.proofs.lemmas.List.Elements.{Contains-get_or}
 use Rattle.lossless_tree.specs.TextRange.{Bounds}
-use Rattle.lossless_tree.specs.Tree.{Tree, node, token, nil, cons, size, Place, places, IsPlace, child_count, parent_place}
+use Rattle.lossless_tree.specs.Tree.{Tree, size, places, IsPlace, parent_place}
 use Rattle.lossless_tree.specs.Rows.{row_at, tree_at, start_at, end_at, place_at}
 use Rattle.lossless_tree.specs.Cursor.{Cursor, at_place, cursor_at, range_start, range_end, parent_of, ancestors_of, ancestors_from}
-use Rattle.lossless_tree.specs.Covering.{child_ranges, holds, last_with, first_number, child_towards, covering_of, CoveringHolds}
-use Rattle.lossless_tree.proofs.At.{At, At-same_row, below_or_after, next_top, some_row}
-use Rattle.lossless_tree.proofs.StepLemmas.{end_of_row, Hangs, hangs, parent_place-append}
+use Rattle.lossless_tree.specs.Covering.{holds, last_with, first_number, child_towards, covering_of, CoveringHolds}
+use Rattle.lossless_tree.proofs.At.{At-same_row, below_or_after, next_top, some_row}
+use Rattle.lossless_tree.proofs.StepLemmas.{end_of_row, hangs, parent_place-append}
 use Rattle.lossless_tree.proofs.AncestorLemmas.{ancestors_of-step}
-use Rattle.lossless_tree.proofs.Starts.{Nested, nested, behind_starts, first_starts}
+use Rattle.lossless_tree.proofs.Starts.{nested, behind_starts, first_starts}
 use Rattle.lossless_tree.proofs.WalkLemmas.{length-places}
 use Rattle.lossless_tree.proofs.CoveringPlaces.{Within, holds_means, is_held, length-child_ranges}
 use Rattle.lossless_tree.proofs.CoveringRows.{ChildRow, child_row, children_at, range_at, ranges_at, child_range, is_listed, goes_down, stays, first_child_row, same_child}
-use Rattle.lossless_tree.proofs.CoveringEmpty.{in_child, child_size, size_of_children, same_end}
+use Rattle.lossless_tree.proofs.CoveringEmpty.{child_size, size_of_children, same_end}
 use Rattle.lossless_tree.proofs.PointerLaws.{row_of_place}
 
 -- ---- which child is chosen, by the list of ranges

@@ -1,9 +1,9 @@
 -- A test of every place is a test of each place of the list.
-use Rattle.std.proofs.Common.{◌≡◌, ℕ, zero, suc, ◌+◌, List, [], ◌∷◌, ◌++◌, map, Bool, true, false, ◌&&◌, refl, sym, ap, ◌∙◌, arith}
+use Rattle.std.proofs.Common.{◌≡◌, ℕ, suc, ◌+◌, List, [], ◌∷◌, ◌++◌, map, Bool, true, false, ◌&&◌, refl, sym, ap, ◌∙◌, arith}
 use Rattle.std.specs.List.{list_all}
 use Rattle.std.proofs.lemmas.List.Folds.{list_all-append, list_all-map}
 use Rattle.lossless_tree.specs.Tree.{Tree, node, token, Forest, nil, cons, Place, places, places_from, subtree, child_at, forest_of_children}
-use Rattle.lossless_tree.specs.Cursor.{Cursor, focus, at_place, descendants_of}
+use Rattle.lossless_tree.specs.Cursor.{focus, at_place}
 use Rattle.lossless_tree.specs.Every.{every, every_in, EveryIsDescendants}
 use Rattle.lossless_tree.proofs.At.{cong₂}
 

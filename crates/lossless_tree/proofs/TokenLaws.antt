@@ -1,14 +1,14 @@
 -- At most two tokens are at an offset.
-use Rattle.std.proofs.Common.{◌≡◌, inl, inr, ℕ, zero, suc, ◌+◌, ◌-◌, ◌<◌, ◌≤◌, ◌++◌, length, map, refl, sym, ap, ◌∙◌, subst, arith, length-append}
+use Rattle.std.proofs.Common.{◌≡◌, inl, inr, ℕ, zero, suc, ◌+◌, ◌-◌, ◌<◌, ◌≤◌, ◌++◌, length, refl, ap, subst, arith, length-append}
 use Rattle.std.specs.Prelude.{Option, Some, None}
 use Rattle.std.specs.Option.{option_to_list}
 use Rattle.std.proofs.lemmas.List.{length-map}
 use Rattle.lossless_tree.specs.Tree.{Tree, size}
 use Rattle.lossless_tree.specs.Rows.{row_at, start_at, end_at}
 use Rattle.lossless_tree.specs.RowSearch.{SplitsAt, Reaching}
-use Rattle.lossless_tree.specs.Cursor.{Cursor, at_place, cursor_at}
+use Rattle.lossless_tree.specs.Cursor.{at_place, cursor_at}
 use Rattle.lossless_tree.specs.TokenSearch.{tokens_at, AtMostTwo}
-use Rattle.lossless_tree.proofs.At.{below_or_after, some_row}
+use Rattle.lossless_tree.proofs.At.{below_or_after}
 use Rattle.lossless_tree.proofs.TableLemmas.{row_end_fits}
 use Rattle.lossless_tree.proofs.StepLemmas.{end_of_row}
 use Rattle.lossless_tree.proofs.Starts.{starts_rise}

@@ -1,5 +1,5 @@
 -- The tokens at an offset. (Upstream: `rowan`'s `SyntaxNode::token_at_offset` and `TokenAtOffset`.)
-use Rattle.std.specs.Prelude.{ℕ, List, [], ◌∷◌, ◌++◌, length, Bool, true, false, ◌&&◌, nat_lt, nat_le, ◌≤◌, Option, Some, None, cond}
+use Rattle.std.specs.Prelude.{ℕ, List, [], ◌∷◌, length, Bool, false, ◌&&◌, nat_lt, nat_le, ◌≤◌, Option, Some, None}
 use Rattle.std.specs.List.{filter}
 use Rattle.lossless_tree.specs.declared.cursor.token_at_offset.TokenAtOffset.{TokenAtOffset}
 use Rattle.lossless_tree.specs.declared.cursor.token_at_offset.TokenAtOffset.TheVariants as at

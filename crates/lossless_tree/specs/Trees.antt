@@ -1,6 +1,6 @@
 -- Siblings that are left to read, as a forest; and trivia, which a reader may pass over.
 -- (Own: what a rest of `rowan`'s children with tokens shows, as plain data. Trivia are rust-analyzer's: white space and comments.)
-use Rattle.std.specs.Prelude.{◌≡◌, ℕ, zero, suc, ◌+◌, ◌-◌, ◌<◌, ◌≤◌, List, [], Bool, true, false, length, nat_lt, if◌then◌else◌, Option, None, Some, refl}
+use Rattle.std.specs.Prelude.{◌≡◌, ℕ, zero, suc, ◌+◌, ◌-◌, ◌<◌, ◌≤◌, List, Bool, true, false, length, nat_lt, if◌then◌else◌, Option, None, Some, refl}
 use Rattle.std.specs.Coded.{Coded, code_by, coded×, coded_ℕ}
 use Rattle.lossless_tree.specs.Kinds.{is_trivia}
 use Rattle.lossless_tree.specs.Tree.{Tree, node, token, Forest, nil, cons, no_tree, text, forest_size, size, forest_of_children, child_at, is_token}

@@ -1,6 +1,5 @@
-use Rattle.std.proofs.Common.{◌∙◌, sym, ap, subst, arith, length, append-nil}
-use Rattle.std.specs.Prelude.{string_bytes, IsUtf8}
-use Rattle.lossless_tree.specs.Tree.{text}
+use Rattle.std.proofs.Common.{ap, arith, length}
+use Rattle.std.specs.Prelude.{string_bytes}
 use Rattle.lossless_tree.specs.Rows.{Represents}
 use Rattle.lossless_tree.proofs.TableLemmas.{shown}
 use Rattle.lossless_tree.proofs.Texts.{whole_utf8}

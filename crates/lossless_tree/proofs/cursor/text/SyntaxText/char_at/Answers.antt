@@ -1,4 +1,4 @@
-use Rattle.std.proofs.Common.{◌≡◌, ◌∙◌, ap, subst, drop, refl}
+use Rattle.std.proofs.Common.{◌∙◌, ap, subst, drop, refl}
 use Rattle.std.specs.Str.{IsCharBoundary}
 use Rattle.lossless_tree.proofs.CharLemmas.{first_char}
 use Rattle.lossless_tree.proofs.cursor.text.SyntaxText.char_at.Goals as goal
