@@ -130,6 +130,11 @@ following_is tree n r e =
     following_of-step (cursor_at tree n) ∙ ap (λ o. onward following_of (option_map (at_place (cursor_at tree n)) o)) (sym e)
     ∙ onward_from Next tree following_of (λ c. refl) (cursor_at tree n) refl r
 
+pub children_are : (tree : Tree) (n : ℕ) (r : Option ℕ) → option_map (place_at tree) r ≡ first_child_place tree (place_at tree n) → children_of (cursor_at tree n) ≡ siblings_from Next tree r
+children_are tree n r e =
+    children_of-step (cursor_at tree n) ∙ ap (λ o. onward following_of (option_map (at_place (cursor_at tree n)) o)) (sym e)
+    ∙ onward_from Next tree following_of (λ c. refl) (cursor_at tree n) refl r
+
 pub preceding_is : (tree : Tree) (n : ℕ) (r : Option ℕ) → option_map (place_at tree) r ≡ prev_sibling_place (place_at tree n) → preceding_of (cursor_at tree n) ≡ siblings_from Prev tree r
 preceding_is tree n r e =
     preceding_of-step (cursor_at tree n) ∙ ap (λ o. onward preceding_of (option_map (at_place (cursor_at tree n)) o)) (sym e)

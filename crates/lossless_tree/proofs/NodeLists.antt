@@ -17,7 +17,7 @@ cursors_back : (l : List Cursor) → map cursor_of (map element_of l) ≡ l
 cursors_back [] = refl
 cursors_back (c ∷ l) = cong₂ ◌∷◌ (cursor_of-element_by (focus c) c) (cursors_back l)
 
-same_cursors : (l m : List Cursor) → map element_of l ≡ map element_of m → l ≡ m
+pub same_cursors : (l m : List Cursor) → map element_of l ≡ map element_of m → l ≡ m
 same_cursors l m e = sym (cursors_back l) ∙ ap (map cursor_of) e ∙ cursors_back m
 
 is_node-Node : (t : Tree) (c n : Cursor) → element_by t c ≡ Node n → is_node t ≡ true

@@ -1,5 +1,5 @@
 -- The ranges of a node's children.
-use Rattle.std.proofs.Common.{◌≡◌, ℕ, zero, suc, ◌+◌, ◌-◌, ◌<◌, List, [], ◌∷◌, ◌++◌, length, map, refl, sym, ap, subst, ◌∙◌, arith, length-append}
+use Rattle.std.proofs.Common.{◌≡◌, ℕ, zero, suc, ◌+◌, ◌<◌, List, [], ◌∷◌, ◌++◌, length, map, refl, sym, ap, subst, ◌∙◌, arith, length-append}
 use Rattle.std.specs.List.{range_with_len}
 use Rattle.lossless_tree.specs.Tree.{Tree, node, token, Forest, nil, cons, text, forest_text, Place, subtree, start, child_at, child_count, bytes_before, forest_of_children, IsNode}
 use Rattle.lossless_tree.specs.Cursor.{Cursor, at_place, focus, range_start, range_end, children_of}

@@ -1,8 +1,9 @@
 -- A node or a token, as its cursor.
-use Rattle.std.specs.Prelude.{List, Option, Some, None}
+use Rattle.std.specs.Prelude.{Bool, false, List, Option, Some, None}
 use Rattle.lossless_tree.specs.declared.cursor.element.NodeOrToken.{NodeOrToken}
 use Rattle.lossless_tree.specs.declared.cursor.element.NodeOrToken.TheVariants.{Node, Token}
-use Rattle.lossless_tree.specs.Tree.{Tree, node, token}
+use Rattle.lossless_tree.specs.Tree.{Tree, node, token, kind_of}
+use Rattle.lossless_tree.specs.Kinds.{is_trivia}
 use Rattle.lossless_tree.specs.Cursor.{Cursor, focus, parent_of, ancestors_of, ancestors_from}
 
 abbrev pub element_by : Tree → Cursor → NodeOrToken Cursor Cursor
@@ -31,3 +32,8 @@ token_part (Token t) = Some t
 abbrev pub ancestors_of_element : NodeOrToken Cursor Cursor → List Cursor
 ancestors_of_element (Node c) = ancestors_of c
 ancestors_of_element (Token c) = ancestors_from (parent_of c)
+
+-- a token of white space or a comment, as `is_trivia_token` says of the tree
+abbrev pub is_trivia_element : NodeOrToken Cursor Cursor → Bool
+is_trivia_element (Node c) = false
+is_trivia_element (Token c) = is_trivia (kind_of (focus c))

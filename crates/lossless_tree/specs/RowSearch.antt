@@ -2,7 +2,7 @@
 use Rattle.std.specs.Prelude.{◌≡◌, ℕ, suc, ◌<◌, ◌≤◌, Option, Some, None, length, slice_index_or, false}
 use Rattle.lossless_tree.specs.TextRange.{Bounds}
 use Rattle.lossless_tree.specs.Tree.{Tree, IsNode, IsToken, forest_of_children}
-use Rattle.lossless_tree.specs.Rows.{start_at, end_at, tree_at, row_at, IsRow}
+use Rattle.lossless_tree.specs.Rows.{start_at, end_at, tree_at, IsRow}
 use Rattle.lossless_tree.specs.Cursor.{cursor_at}
 use Rattle.lossless_tree.specs.Covering.{child_ranges, holds, covering_of}
 

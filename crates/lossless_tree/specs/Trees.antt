@@ -1,10 +1,11 @@
 -- Siblings that are left to read, as a forest; and trivia, which a reader may pass over.
 -- (Own: what a rest of `rowan`'s children with tokens shows, as plain data. Trivia are rust-analyzer's: white space and comments.)
-use Rattle.std.specs.Prelude.{◌≡◌, ℕ, zero, suc, ◌+◌, ◌-◌, ◌<◌, ◌≤◌, List, Bool, true, false, length, nat_lt, if◌then◌else◌, Option, None, Some, refl}
+use Rattle.std.specs.Prelude.{◌≡◌, ℕ, zero, suc, ◌+◌, ◌-◌, ◌<◌, ◌≤◌, List, Bool, true, false, not, length, nat_lt, if◌then◌else◌, Option, None, Some, refl}
 use Rattle.std.specs.Coded.{Coded, code_by, coded×, coded_ℕ}
 use Rattle.lossless_tree.specs.Kinds.{is_trivia}
-use Rattle.lossless_tree.specs.Tree.{Tree, node, token, Forest, nil, cons, no_tree, text, forest_size, size, forest_of_children, child_at, is_token}
+use Rattle.lossless_tree.specs.Tree.{Tree, node, token, Forest, nil, cons, no_tree, text, forest_size, size, forest_of_children, child_at}
 use Rattle.lossless_tree.specs.TreeCode.{forest_code}
+use Rattle.lossless_tree.specs.Cursor.{Cursor, focus}
 use Rattle.lossless_tree.specs.Rows.{start_at}
 
 -- the siblings that are left, and the byte where the first of them starts in the whole text
@@ -39,6 +40,10 @@ inside_first s = record { trees = forest_of_children (first_of s.trees); start =
 abbrev pub is_trivia_token : Tree → Bool
 is_trivia_token (node k c) = false
 is_trivia_token (token k t) = is_trivia k
+
+-- what stands at a cursor is no trivia
+abbrev pub is_no_trivia : Cursor → Bool
+is_no_trivia c = not (is_trivia_token (focus c))
 
 -- what is left from the first tree on that is no trivia
 abbrev pub past_trivia : Forest → ℕ → Siblings

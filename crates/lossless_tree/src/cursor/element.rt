@@ -2,8 +2,10 @@
 ghost use Rattle.std.specs.Prelude.{◌≡◌, option_map, option_copied, IfOk, string_bytes};
 ghost use Rattle.lossless_tree.specs.Tree.{kind_of};
 ghost use Rattle.lossless_tree.specs.Rows.{IsRow};
-ghost use Rattle.lossless_tree.specs.Cursor.{cursor_at, focus, range_of, parent_of, next_sibling_of, prev_sibling_of, siblings_in};
+ghost use Rattle.lossless_tree.specs.Cursor.{cursor_at, focus, range_of, parent_of, next_sibling_of, prev_sibling_of, following_of, siblings_in};
 ghost use Rattle.lossless_tree.specs.Element.{element_of, cursor_of, node_part, token_part, ancestors_of_element};
+ghost use Rattle.std.specs.List.{find};
+ghost use Rattle.lossless_tree.specs.Trees.{is_no_trivia};
 ghost use Rattle.lossless_tree.specs.Dump.{dump_of};
 
 use super::ancestors::Ancestors;
@@ -124,6 +126,16 @@ impl NodeOrToken<SyntaxNode, SyntaxToken> {
         match self {
             NodeOrToken::Node(node) => node.prev_sibling_or_token(),
             NodeOrToken::Token(token) => token.prev_sibling_or_token(),
+        }
+    }
+
+    /// The nearest later sibling, node or token, that is no trivia; `None` where there is none.
+    pub fn next_no_trivia(&self) -> Option<SyntaxElement>
+        ensures { result ≡ option_map element_of (find is_no_trivia (following_of (cursor_of self.now))) }
+    {
+        match self {
+            NodeOrToken::Node(node) => node.next_no_trivia(),
+            NodeOrToken::Token(token) => token.next_no_trivia(),
         }
     }
 

@@ -5,7 +5,7 @@ ghost use Rattle.lossless_tree.specs.Tree.{text, kind_of, IsNode, forest_of_chil
 ghost use Rattle.lossless_tree.specs.Rows.{IsRow};
 ghost use Rattle.lossless_tree.specs.Cursor.{focus, range_of, parent_of, ancestors_of, children_of, first_child_of, last_child_of, next_sibling_of, prev_sibling_of, following_of, preceding_of, siblings_in, siblings_from, at_node, at_token, descendants_of, walk_of, moves_at_node, range_start};
 ghost use Rattle.lossless_tree.specs.declared.error.ReplaceError.TheVariants.{TooLong};
-ghost use Rattle.lossless_tree.specs.Trees.{child_text};
+ghost use Rattle.lossless_tree.specs.Trees.{child_text, is_no_trivia};
 ghost use Rattle.lossless_tree.specs.Edit.{replace, root_of};
 ghost use Rattle.lossless_tree.specs.Placed.{IsPlaced};
 ghost use Rattle.lossless_tree.specs.Element.{element_of};
@@ -18,7 +18,7 @@ use super::direction::Direction;
 use super::element::{SyntaxElement, element};
 use super::equality::{feed, is_same};
 use super::preorder::{Preorder, PreorderWithTokens};
-use super::siblings::{SyntaxElementSiblings, SyntaxNodeSiblings};
+use super::siblings::{SyntaxElementSiblings, SyntaxNodeSiblings, first_no_trivia};
 use super::text::SyntaxText;
 use super::token::SyntaxToken;
 use super::token_at_offset::TokenAtOffset;
@@ -279,6 +279,24 @@ impl SyntaxNode {
     {
         let prev = self.table.prev_sibling_row(self.row);
         nearest_node(&self.table, prev, Direction::Prev)
+    }
+
+    /// The first child, node or token, that is no trivia: no token of white space or a comment; `None` where there is
+    /// none. It passes over the trivia before it.
+    pub fn first_child_no_trivia(&self) -> Option<SyntaxElement>
+        ensures { result ≡ option_map element_of (find is_no_trivia (children_of self.now)) }
+    {
+        let first = self.table.first_child_row(self.row);
+        first_no_trivia(SyntaxElementSiblings::new(self.table.share(), first, Direction::Next))
+    }
+
+    /// The nearest later sibling, node or token, that is no trivia: no token of white space or a comment; `None` where
+    /// there is none. It passes over the trivia between.
+    pub fn next_no_trivia(&self) -> Option<SyntaxElement>
+        ensures { result ≡ option_map element_of (find is_no_trivia (following_of self.now)) }
+    {
+        let later = self.table.next_sibling_row(self.row);
+        first_no_trivia(SyntaxElementSiblings::new(self.table.share(), later, Direction::Next))
     }
 
     /// This node and its siblings in a direction, nodes and tokens.

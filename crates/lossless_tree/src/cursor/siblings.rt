@@ -1,10 +1,11 @@
 //! The siblings of a node or token, itself first.
-ghost use Rattle.std.specs.Prelude.{◌≡◌, map, IfSome};
-ghost use Rattle.std.specs.List.{filter};
+ghost use Rattle.std.specs.Prelude.{◌≡◌, map, IfSome, option_map};
+ghost use Rattle.std.specs.List.{filter, find};
 ghost use Rattle.std.specs.Iterator.{YieldsFirst, item_count};
 ghost use Rattle.lossless_tree.specs.Rows.{IsRow};
 ghost use Rattle.lossless_tree.specs.Cursor.{siblings_from, at_node};
-ghost use Rattle.lossless_tree.specs.Element.{element_of};
+ghost use Rattle.lossless_tree.specs.Element.{element_of, is_trivia_element};
+ghost use Rattle.lossless_tree.specs.Trees.{is_no_trivia};
 
 use super::direction::Direction;
 use super::element::{NodeOrToken, SyntaxElement, element};
@@ -62,6 +63,28 @@ impl Iterator for SyntaxElementSiblings {
         self.next = self.table.sibling_row(row, self.direction);
         Some(element(&self.table, row))
     }
+}
+
+fn is_trivia(element: &SyntaxElement) -> bool
+    ensures { result ≡ is_trivia_element element.now }
+{
+    match element {
+        NodeOrToken::Node(_) => false,
+        NodeOrToken::Token(token) => token.kind().is_trivia(),
+    }
+}
+
+// The first that is no trivia: no token of white space or a comment.
+pub(crate) fn first_no_trivia(elements: SyntaxElementSiblings) -> Option<SyntaxElement>
+    ensures { result ≡ option_map element_of (find is_no_trivia elements) }
+{
+    let mut left = elements;
+    while let Some(element) = left.next() {
+        if !is_trivia(&element) {
+            return Some(element);
+        }
+    }
+    None
 }
 
 /// A node and its sibling nodes in a direction. A clause sees the cursors that are left.

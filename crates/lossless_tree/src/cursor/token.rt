@@ -1,10 +1,12 @@
 //! Tokens.
 ghost use Rattle.std.specs.Prelude.{◌≡◌, option_map, IfOk, string_bytes, ◌↔◌, ◌≤◌, ◌^◌, length, IsErrOf};
 ghost use Rattle.lossless_tree.specs.Tree.{text, kind_of, token, IsToken};
-ghost use Rattle.lossless_tree.specs.Cursor.{focus, range_of, parent_of, ancestors_from, next_sibling_of, prev_sibling_of, siblings_in, all_tokens, IsRightBehind, IsRightBefore};
+ghost use Rattle.lossless_tree.specs.Cursor.{focus, range_of, parent_of, ancestors_from, next_sibling_of, prev_sibling_of, following_of, siblings_in, all_tokens, IsRightBehind, IsRightBefore};
 ghost use Rattle.lossless_tree.specs.declared.error.ReplaceError.TheVariants.{TooLong};
 ghost use Rattle.lossless_tree.specs.Edit.{replace, root_of};
 ghost use Rattle.lossless_tree.specs.Placed.{IsPlaced};
+ghost use Rattle.std.specs.List.{find};
+ghost use Rattle.lossless_tree.specs.Trees.{is_no_trivia};
 ghost use Rattle.lossless_tree.specs.Element.{element_of};
 ghost use Rattle.lossless_tree.specs.Dump.{dump_of};
 
@@ -13,7 +15,7 @@ use super::direction::Direction;
 use super::element::{SyntaxElement, element};
 use super::equality::{feed, is_same};
 use super::node::SyntaxNode;
-use super::siblings::SyntaxElementSiblings;
+use super::siblings::{SyntaxElementSiblings, first_no_trivia};
 use crate::dump;
 use crate::error::ReplaceError;
 use crate::shared::Shared;
@@ -148,6 +150,15 @@ impl SyntaxToken {
     {
         let row = self.table.prev_sibling_row(self.row)?;
         Some(element(&self.table, row))
+    }
+
+    /// The nearest later sibling, node or token, that is no trivia: no token of white space or a comment; `None` where
+    /// there is none. It passes over the trivia between.
+    pub fn next_no_trivia(&self) -> Option<SyntaxElement>
+        ensures { result ≡ option_map element_of (find is_no_trivia (following_of self.now)) }
+    {
+        let next = self.table.next_sibling_row(self.row);
+        first_no_trivia(SyntaxElementSiblings::new(self.table.share(), next, Direction::Next))
     }
 
     /// This token and its siblings in a direction, nodes and tokens.

@@ -1,0 +1,20 @@
+use Rattle.std.proofs.Common.{◌≡◌, ◌∙◌, ap, sym}
+use Rattle.std.specs.Prelude.{option_map}
+use Rattle.std.specs.List.{find}
+use Rattle.lossless_tree.specs.declared.cursor.direction.Direction.TheVariants.{Next}
+use Rattle.lossless_tree.specs.Tree.{next_sibling_place}
+use Rattle.lossless_tree.specs.Rows.{place_at}
+use Rattle.lossless_tree.specs.Cursor.{following_of, siblings_from}
+use Rattle.lossless_tree.specs.Element.{element_of}
+use Rattle.lossless_tree.specs.Trees.{is_no_trivia}
+use Rattle.lossless_tree.proofs.ChildLists.{following_is}
+use Rattle.lossless_tree.proofs.cursor.token.SyntaxToken.next_no_trivia.Goals as goal
+
+pub returns : goal.returns
+returns c =
+    let whole = c.self.inside.table.value in
+    let row = c.self.inside.row in
+    let place : option_map (place_at whole) c.next_sibling_row-next.result ≡ next_sibling_place whole (place_at whole row) = rw (← c.deref.ensures) c.next_sibling_row-next.ensures.place in
+    c.first_no_trivia.ensures
+    ∙ ap (λ l. option_map element_of (find is_no_trivia l))
+    (c.new.ensures ∙ ap (λ t. siblings_from Next t c.next_sibling_row-next.result) c.share.ensures.value ∙ sym (ap following_of (sym c.self.view_is) ∙ following_is whole row c.next_sibling_row-next.result place))
