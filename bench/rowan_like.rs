@@ -1,6 +1,7 @@
-//! The opponent of `tree_bench`: a syntax tree as `rowan` keeps it, in plain Rust and std alone. Green nodes and tokens are
-//! shared by `Rc` and hold their children with the offset of each; a cursor is an `Rc` of its own with its parent, its
-//! index there and its offset. It runs the same operations over the same trees and prints the same lines.
+//! The opponent of `tree_bench`: a syntax tree of the kind that `rowan` keeps, in plain Rust and std alone. Green nodes and
+//! tokens are shared by `Rc`, one block each, and a node has the offset of each of its children; a cursor is an `Rc` of its
+//! own with its parent, its index there and its offset. It runs the same operations over the same trees as `tree_bench` and
+//! prints the same lines.
 
 use std::hint::black_box;
 use std::rc::Rc;
@@ -13,25 +14,27 @@ const BLANK: u16 = 4;
 
 // ---- green
 
+#[derive(Clone)]
 struct GreenToken {
     // A tree has kinds; nothing that is measured reads them.
     #[allow(dead_code)]
     kind: u16,
-    text: Box<str>,
+    text: Rc<str>,
 }
 
 #[derive(Clone)]
-enum Green {
-    Node(Rc<GreenNode>),
-    Token(Rc<GreenToken>),
-}
-
 struct GreenNode {
     #[allow(dead_code)]
     kind: u16,
     text_len: u32,
     // The offset of each child in the node, and the child.
-    children: Box<[(u32, Green)]>,
+    children: Rc<[(u32, Green)]>,
+}
+
+#[derive(Clone)]
+enum Green {
+    Node(GreenNode),
+    Token(GreenToken),
 }
 
 impl Green {
@@ -57,7 +60,7 @@ impl Builder {
 
     fn token(&mut self, kind: u16, text: &str) {
         let text = text.into();
-        self.children.push(Green::Token(Rc::new(GreenToken { kind, text })));
+        self.children.push(Green::Token(GreenToken { kind, text }));
     }
 
     fn finish_node(&mut self) {
@@ -72,7 +75,7 @@ impl Builder {
                 (offset, child)
             })
             .collect();
-        self.children.push(Green::Node(Rc::new(GreenNode { kind, text_len, children })));
+        self.children.push(Green::Node(GreenNode { kind, text_len, children }));
     }
 
     fn finish(mut self) -> Node {
@@ -86,7 +89,7 @@ impl Builder {
 // ---- red
 
 struct NodeData {
-    green: Rc<GreenNode>,
+    green: GreenNode,
     parent: Option<Node>,
     index: u32,
     offset: u32,
@@ -96,7 +99,7 @@ struct NodeData {
 struct Node(Rc<NodeData>);
 
 struct TokenData {
-    green: Rc<GreenToken>,
+    green: GreenToken,
     parent: Node,
     index: u32,
     offset: u32,
@@ -189,7 +192,11 @@ impl Node {
         let (from, to) = (from - self.0.offset, to - self.0.offset);
         let index = children.partition_point(|(start, _)| *start <= from).checked_sub(1)?;
         let (start, child) = &children[index];
-        if to <= start + child.text_len() { self.child(index) } else { None }
+        if to <= start + child.text_len() {
+            self.child(index)
+        } else {
+            None
+        }
     }
 
     // The token that holds the byte before or behind the offset.
@@ -397,6 +404,7 @@ fn measure(operation: &str, tree: &str, runs: u32, mut run: impl FnMut() -> (u64
     println!("{operation} {tree} {} {best} {}", seen.0, seen.1);
 }
 
+// Ten thousand offsets, spread over a text of so many bytes, and never the last three.
 fn spread(len: u32) -> impl Iterator<Item = u32> {
     let mut offset: u32 = 7;
     (0..10_000).map(move |_| {
