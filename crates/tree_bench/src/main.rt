@@ -83,6 +83,9 @@ fn run(rt: &HostRuntime) -> Result<(), Stopped> {
 fn main(rt: HostRuntime) -> ExitCode {
     match run(&rt) {
         Ok(()) => ExitCode::SUCCESS,
-        Err(_) => ExitCode::FAILURE,
+        Err(stopped) => {
+            let _said = eprintln!(rt; "tree_bench: {stopped}");
+            ExitCode::FAILURE
+        }
     }
 }
