@@ -1,23 +1,24 @@
 -- What covers an empty range below a row of which no child holds it.
-use Rattle.std.proofs.Common.{◌≡◌, ◌⊎◌, inl, inr, ℕ, zero, suc, ◌+◌, ◌-◌, ◌<◌, ◌≤◌, [], ◌∷◌, length, refl, sym, ap, ◌∙◌, subst, arith, true, false}
+use Rattle.std.proofs.Common.{◌≡◌, inl, inr, ℕ, zero, suc, ◌+◌, ◌-◌, ◌<◌, ◌≤◌, refl, sym, ap, ◌∙◌, subst, arith, true, false}
 use Rattle.lossless_tree.specs.TextRange.{Bounds}
-use Rattle.lossless_tree.specs.Tree.{Tree, node, token, Forest, nil, cons, text, size, forest_size, forest_of_children, child_count}
+use Rattle.lossless_tree.specs.Tree.{Tree, node, token, nil, cons, size, forest_size, forest_of_children, child_count}
 use Rattle.lossless_tree.specs.Rows.{row_at, tree_at, start_at, end_at}
-use Rattle.lossless_tree.specs.RowSearch.{SplitsAt, NoneHolds, IsHolding, IsChildAround}
+use Rattle.lossless_tree.specs.RowSearch.{SplitsAt, NoneHolds, IsHolding}
+use Rattle.lossless_tree.specs.RowSteps.{IsChildOver}
 use Rattle.lossless_tree.specs.Cursor.{cursor_at}
-use Rattle.lossless_tree.specs.Covering.{holds, covering_of}
-use Rattle.lossless_tree.proofs.At.{At, At-fits, At-same_row, some_row, subtree-At, below_or_after, next_top}
-use Rattle.lossless_tree.proofs.StepLemmas.{end_of_row, Hangs}
+use Rattle.lossless_tree.specs.Covering.{covering_of}
+use Rattle.lossless_tree.proofs.At.{At-same_row, some_row, subtree-At, below_or_after, next_top}
+use Rattle.lossless_tree.proofs.StepLemmas.{end_of_row}
 use Rattle.lossless_tree.proofs.TableLemmas.{row_end_fits, last_end_at}
-use Rattle.lossless_tree.proofs.Starts.{Nested, nested, starts_rise, later_starts, behind_starts}
-use Rattle.lossless_tree.proofs.CoveringPlaces.{Within, is_held}
-use Rattle.lossless_tree.proofs.CoveringRows.{ChildRow, child_row, children_at, range_at, in_order, none_child, none_holds, later_child_starts, same_child, first_child_row, child_of_parent, parent_within, leaf_stays, to_last, to_first}
+use Rattle.lossless_tree.proofs.Starts.{Nested, nested, starts_rise, behind_starts}
+use Rattle.lossless_tree.proofs.CoveringPlaces.{is_held}
+use Rattle.lossless_tree.proofs.CoveringRows.{ChildRow, child_row, children_at, range_at, none_child, none_holds, later_child_starts, same_child, first_child_row, child_of_parent, parent_within, leaf_stays, to_last, to_first}
 
 -- where nothing is strictly inside
 none_inside : (whole : Tree) (n : ℕ) (asked : Bounds) → n < size whole → asked.start ≡ asked.end → ((j v : ℕ) → ChildRow whole n j v → start_at whole v < asked.start → asked.start < end_at whole v → ⊥) → NoneHolds whole n asked
 none_inside whole n asked h empty f = none_holds whole n asked h (λ j v x w. elim w [ inl wide ↦ omega (arith, wide.0, empty) | inr inside ↦ f j v x inside.1 inside.2 ])
 
-in_child : (whole : Tree) (n j v : ℕ) → n < size whole → ChildRow whole n j v → Nested whole n v
+pub in_child : (whole : Tree) (n j v : ℕ) → n < size whole → ChildRow whole n j v → Nested whole n v
 in_child whole n j v h x = nested whole n v h (omega (arith, x.row_is)) (omega (arith, x.inside, end_of_row whole v x.is_row, some_row (tree_at whole v)))
 
 -- ---- the last of the last
@@ -29,10 +30,10 @@ record LastChild (whole : Tree) (n : ℕ) : Type 0 where
   ends : (row_at whole row).end ≡ (row_at whole n).end
   no_later : (i u : ℕ) → ChildRow whole n i u → number < i → ⊥
 
-child_size : (whole : Tree) (n j v : ℕ) (x : ChildRow whole n j v) → size (tree_at whole v) ≡ size x.child
+pub child_size : (whole : Tree) (n j v : ℕ) (x : ChildRow whole n j v) → size (tree_at whole v) ≡ size x.child
 child_size whole n j v x = ap size (x.tree_is ∙ subtree-At x.at)
 
-size_of_children : (t : Tree) → 1 < size t → (size t ≡ suc (forest_size (forest_of_children t))) × (0 < child_count (forest_of_children t))
+pub size_of_children : (t : Tree) → 1 < size t → (size t ≡ suc (forest_size (forest_of_children t))) × (0 < child_count (forest_of_children t))
 size_of_children (token k x) h = absurd (omega arith)
 size_of_children (node k nil) h = absurd (omega arith)
 size_of_children (node k (cons u r)) h = (refl, omega arith)
@@ -97,32 +98,6 @@ first_step whole n row v asked empty w is_v long past =
 
 -- ---- the row before a child
 
--- on the way up from a row to the child of row n
-pub record Under (whole : Tree) (n inner child : ℕ) : Type 0 where
-  pub behind : n < child
-  pub before : child ≤ inner
-  pub reaches : inner < (row_at whole child).end
-
-pub under_begins : (whole : Tree) (n inner : ℕ) → n < size whole → n < inner → inner < (row_at whole n).end → Under whole n inner inner
-under_begins whole n inner h more lt =
-    let is_row : inner < size whole = omega (arith, lt, row_end_fits whole n h) in
-    record { behind = more; before = omega arith; reaches = omega (arith, end_of_row whole inner is_row, some_row (tree_at whole inner)) }
-
-pub under_row : (whole : Tree) (n inner child : ℕ) → n < size whole → inner < (row_at whole n).end → Under whole n inner child → child < size whole
-under_row whole n inner child h lt u = omega (arith, u.before, lt, row_end_fits whole n h)
-
-pub under_on : (whole : Tree) (n inner child : ℕ) → n < size whole → inner < (row_at whole n).end → Under whole n inner child → ((row_at whole child).parent ≡ n → ⊥) → Under whole n inner (row_at whole child).parent × ((row_at whole child).parent < child)
-under_on whole n inner child h lt u other =
-    let up = parent_within whole n child h u.behind (omega (arith, u.before, lt)) in
-    let v = up.0 in
-    let inside = nested whole v.q child v.in_range (omega (arith, v.earlier)) (omega (arith, v.reaches, some_row (tree_at whole child))) in
-    let more : n < v.q =
-    elim (below_or_after n v.q) [
-      | inl less ↦ less
-      | inr same ↦ absurd (other (v.up_is ∙ omega (arith, same.1, up.1)))
-    ] in
-    (subst (Under whole n inner) (sym v.up_is) (record { behind = more; before = omega (arith, v.earlier, u.before); reaches = omega (arith, u.reaches, inside.rows) }), omega (arith, v.up_is, v.earlier))
-
 -- what is known when the first child ends at or before the offset, and the row itself behind it
 pub record Split (whole : Tree) (row last e : ℕ) (asked : Bounds) : Type 0 where
   pub is_row : row < size whole
@@ -142,11 +117,11 @@ last_behind whole row last e asked w =
       | inr same ↦ absurd (omega (arith, same.1, w.split.begun, w.split.behind (suc row) (omega (arith, same.1)) w.has_child, w.first_ends))
     ]
 
-around_in : (whole : Tree) (row last e child : ℕ) (asked : Bounds) → Split whole row last e asked → IsChildAround whole row last child → Nested whole row child
-around_in whole row last e child asked w u = nested whole row child w.is_row (omega (arith, u.behind)) (omega (arith, u.before, w.split.within, w.is_end))
+around_in : (whole : Tree) (row last e child : ℕ) (asked : Bounds) → Split whole row last e asked → IsChildOver whole row last child → Nested whole row child
+around_in whole row last e child asked w u = nested whole row child w.is_row (omega (arith, u.behind)) (omega (arith, u.from, w.split.within, w.is_end))
 
 -- subtrees that end with one row end with one byte
-same_end : (whole : Tree) (a b : ℕ) → a < size whole → b < size whole → (row_at whole a).end ≡ (row_at whole b).end → end_at whole a ≡ end_at whole b
+pub same_end : (whole : Tree) (a b : ℕ) → a < size whole → b < size whole → (row_at whole a).end ≡ (row_at whole b).end → end_at whole a ≡ end_at whole b
 same_end whole a b h k e =
     elim (below_or_after (row_at whole a).end (size whole)) [
       | inl more ↦ sym (behind_starts whole a (row_at whole a).end h refl more) ∙ behind_starts whole b (row_at whole a).end k e more
@@ -154,7 +129,7 @@ same_end whole a b h k e =
     ]
 
 -- a child that holds the last row that starts at or before the range ends behind it
-ends_past : (whole : Tree) (row last e child : ℕ) (asked : Bounds) → Split whole row last e asked → IsChildAround whole row last child → asked.start < end_at whole child
+ends_past : (whole : Tree) (row last e child : ℕ) (asked : Bounds) → Split whole row last e asked → IsChildOver whole row last child → asked.start < end_at whole child
 ends_past whole row last e child asked w u =
     let inside = around_in whole row last e child asked w u in
     elim (below_or_after (row_at whole child).end (row_at whole row).end) [
@@ -164,7 +139,7 @@ ends_past whole row last e child asked w u =
       | inr same ↦ omega (arith, w.past, same_end whole child row inside.is_row w.is_row (omega (arith, same.1, inside.rows)))
     ]
 
-before_position : (whole : Tree) (row last e child p j : ℕ) (asked : Bounds) → Split whole row last e asked → IsChildAround whole row last child → ChildRow whole row j child → suc p ≡ child → covering_of (cursor_at whole row) asked ≡ cursor_at whole p
+before_position : (whole : Tree) (row last e child p j : ℕ) (asked : Bounds) → Split whole row last e asked → IsChildOver whole row last child → ChildRow whole row j child → suc p ≡ child → covering_of (cursor_at whole row) asked ≡ cursor_at whole p
 before_position whole row last e child p zero asked w u x is_p =
     let first = first_child_row whole row w.is_row (omega (arith, w.has_child, w.is_end)) in
     let same : suc row ≡ child = same_child whole row 0 (suc row) child first x in
@@ -181,8 +156,8 @@ before_position whole row last e child p (suc i) asked w u x is_p =
           let ends : end_at whole b.0 ≤ asked.start = omega (
             arith,
             behind_starts whole b.0 child y.is_row (sym is_p ∙ sym is_end) x.is_row,
-            starts_rise whole child last u.before is_last,
-            w.split.before last (omega (arith, u.behind, u.before)) (omega arith),
+            starts_rise whole child last u.from is_last,
+            w.split.before last (omega (arith, u.behind, u.from)) (omega arith),
           ) in
           to_last whole row i b.0 asked w.is_row (omega (arith, w.empty)) w.none y ends (λ k z zc more.
           elim (below_or_after (suc i) k) [
@@ -193,9 +168,9 @@ before_position whole row last e child p (suc i) asked w u x is_p =
     ]
 
 -- the row before a child that holds the last row that starts at or before the range covers it
-pub before_child : (whole : Tree) (row last e child p : ℕ) (asked : Bounds) → Split whole row last e asked → IsChildAround whole row last child → suc p ≡ child → covering_of (cursor_at whole row) asked ≡ cursor_at whole p
+pub before_child : (whole : Tree) (row last e child p : ℕ) (asked : Bounds) → Split whole row last e asked → IsChildOver whole row last child → suc p ≡ child → covering_of (cursor_at whole row) asked ≡ cursor_at whole p
 before_child whole row last e child p asked w u is_p =
-    let up = parent_within whole row child w.is_row u.behind (omega (arith, u.before, w.split.within, w.is_end)) in
+    let up = parent_within whole row child w.is_row u.behind (omega (arith, u.from, w.split.within, w.is_end)) in
     let v = up.0 in
-    let x : ChildRow whole row v.w.position child = subst (λ q. ChildRow whole q v.w.position child) (sym v.up_is ∙ u.parent) (child_of_parent whole child v) in
+    let x : ChildRow whole row v.w.position child = subst (λ q. ChildRow whole q v.w.position child) (sym v.up_is ∙ u.parent_is) (child_of_parent whole child v) in
     before_position whole row last e child p v.w.position asked w u x is_p

@@ -1,16 +1,16 @@
 -- What covers a range, by rows.
-use Rattle.std.proofs.Common.{◌≡◌, ◌⊎◌, inl, inr, ℕ, zero, suc, ◌+◌, ◌-◌, ◌<◌, ◌≤◌, [], ◌∷◌, ◌++◌, length, get_or, List, refl, sym, ap, ◌∙◌, subst, arith, append_assoc, append-nil, true, false}
+use Rattle.std.proofs.Common.{◌≡◌, ◌⊎◌, inl, inr, ℕ, zero, suc, ◌+◌, ◌<◌, ◌≤◌, [], ◌∷◌, ◌++◌, length, get_or, List, refl, sym, ap, ◌∙◌, subst, arith, append_assoc, append-nil, true, false}
 use Rattle.std.specs.Prelude.{Some, None}
 use Rattle.lossless_tree.specs.TextRange.{Bounds}
-use Rattle.lossless_tree.specs.Tree.{Tree, node, token, Forest, nil, cons, text, size, forest_size, forest_of_children, child_at, child_count, bytes_before, Place, subtree}
+use Rattle.lossless_tree.specs.Tree.{Tree, node, token, Forest, nil, cons, text, size, forest_of_children, child_at, child_count, bytes_before, Place, subtree}
 use Rattle.lossless_tree.specs.Rows.{row_at, tree_at, start_at, end_at, place_at}
 use Rattle.lossless_tree.specs.RowSearch.{SplitsAt, NoneHolds, IsHolding}
-use Rattle.lossless_tree.specs.Cursor.{Cursor, cursor_at, at_place}
+use Rattle.lossless_tree.specs.Cursor.{cursor_at, at_place}
 use Rattle.lossless_tree.specs.Covering.{child_ranges, holds, child_towards, covering_place, covering_of}
-use Rattle.lossless_tree.proofs.At.{At, here, below, after, lift, At-fits, some_row, no_empty_place, subtree-At, forest_size-cons, below_or_after, next_top, earlier_ends, At-same_row}
+use Rattle.lossless_tree.proofs.At.{At, here, below, after, lift, At-fits, some_row, no_empty_place, subtree-At, forest_size-cons, below_or_after, At-same_row}
 use Rattle.lossless_tree.proofs.TableLemmas.{at_row, row_end_fits}
-use Rattle.lossless_tree.proofs.StepLemmas.{end_of_row, end_from_At, place_from_At, Hangs, hangs, parent_by_row}
-use Rattle.lossless_tree.proofs.Starts.{At-ordered, Nested, nested, later_starts, first_starts, behind_starts}
+use Rattle.lossless_tree.proofs.StepLemmas.{end_of_row, end_from_At, place_from_At, Hangs, hangs}
+use Rattle.lossless_tree.proofs.Starts.{At-ordered, Nested, nested, later_starts}
 use Rattle.lossless_tree.proofs.CoveringPlaces.{Within, place_towards, place_stays, length-child_ranges, get_or-child_ranges, towards_holder, towards_none, towards_nothing, towards_last, towards_first, holds_means, is_held, not_held, not_both, held_around}
 
 -- ---- children by rows
@@ -92,7 +92,7 @@ ranges_at whole n = child_ranges (children_at whole n) (start_at whole n)
 abbrev pub range_at : Tree → ℕ → Bounds
 range_at whole v = record { start = start_at whole v; end = end_at whole v }
 
-child_range : (whole : Tree) (n j v : ℕ) (d : Bounds) → ChildRow whole n j v → get_or (ranges_at whole n) j d ≡ range_at whole v
+pub child_range : (whole : Tree) (n j v : ℕ) (d : Bounds) → ChildRow whole n j v → get_or (ranges_at whole n) j d ≡ range_at whole v
 child_range whole n j v d x =
     get_or-child_ranges (children_at whole n) (start_at whole n) j d x.counted
     ∙ ap (λ s. let r : Bounds = record { start = s; end = s + length (text (child_at (children_at whole n) j)) } in r) (sym x.start_is)
@@ -101,7 +101,7 @@ child_range whole n j v d x =
 counted : (whole : Tree) (n j : ℕ) → j < length (ranges_at whole n) → j < child_count (children_at whole n)
 counted whole n j h = omega (arith, h, length-child_ranges (children_at whole n) (start_at whole n))
 
-is_listed : (whole : Tree) (n j v : ℕ) → ChildRow whole n j v → j < length (ranges_at whole n)
+pub is_listed : (whole : Tree) (n j v : ℕ) → ChildRow whole n j v → j < length (ranges_at whole n)
 is_listed whole n j v x = omega (arith, x.counted, length-child_ranges (children_at whole n) (start_at whole n))
 
 -- what holds of each child row from number i on holds of the ranges

@@ -15,7 +15,8 @@ use Rattle.lossless_tree.proofs.At.{At, here, below, after, At-fits, cong₂, fo
 use Rattle.lossless_tree.proofs.TableLemmas.{cut, at_row, up_at, row_end_fits, tree_of_rows-rows_of}
 use Rattle.lossless_tree.proofs.StepLemmas.{end_of_row, row_start, row_kind, parent_of_row}
 use Rattle.lossless_tree.proofs.Texts.{forest_text-cons, subtree_utf8}
-use Rattle.lossless_tree.proofs.MovedRows.{replaced, replaced_utf8, rows_of-moved, moved-above, At-bytes, At-inside, At-later}
+use Rattle.lossless_tree.proofs.Starts.{At-text}
+use Rattle.lossless_tree.proofs.MovedRows.{replaced, replaced_utf8, rows_of-moved, moved-above, At-inside, At-later}
 use Rattle.lossless_tree.proofs.EditLaws.{spliced}
 use Rattle.lossless_tree.proofs.PlaceLemmas.{within_at}
 
@@ -152,7 +153,7 @@ text_fits all s whole n w h = let v = cut all s whole n w h in omega (arith, v.e
 
 -- a subtree's text lies within the whole text
 pub within_text : (whole : Tree) (n : ℕ) → n < size whole → start_at whole n + length (text (tree_at whole n)) ≤ length (text whole)
-within_text whole n h = omega (arith, At-bytes (at_row whole n h), ap length (forest_text-cons whole nil), length-append (text whole) [])
+within_text whole n h = omega (arith, At-text (at_row whole n h), ap length (forest_text-cons whole nil), length-append (text whole) [])
 
 pub length-splice : (s new : List ℕ) (a b : ℕ) → a ≤ b → b ≤ length s → length (splice s a b new) ≡ (length s - (b - a)) + length new
 length-splice s new a b h k = omega (arith, length-append (take a s) (new ++ drop b s), length-append new (drop b s), length-take-le a s (omega arith), length-drop b s)

@@ -11,6 +11,7 @@ use Rattle.lossless_tree.specs.Rows.{rows_of, row_of, TextsAreUtf8}
 use Rattle.lossless_tree.specs.Edit.{set_child, replace}
 use Rattle.lossless_tree.specs.MovedRows.{moved_number, moved_row, shift_from}
 use Rattle.lossless_tree.proofs.Texts.{forest_text-cons, later_utf8}
+use Rattle.lossless_tree.proofs.Starts.{At-text}
 use Rattle.lossless_tree.proofs.At.{At, here, below, after, no_empty_place, At-fits, up_of, length-rows_of, cong₂, forest_size-cons, some_row}
 
 pub moved-above : (by : Shift) (n : ℕ) → by.from_row ≤ n → moved_number by n ≡ (n - by.from_row) + by.to_row
@@ -63,12 +64,6 @@ rows_of-cons (node k c) r m d up =
     ap (λ l. row_of (node k c) m d up ∷ l)
     (cong₂ (λ x i. x ++ rows_of r i (d + length (forest_text c)) up) (sym (append-nil (rows_of c (suc m) d m))) e)
 
--- a subtree's text lies within the forest's
-pub At-bytes : {f : Forest} {n : ℕ} {p : Place} {t : Tree} {b : ℕ} → At f n p t b → b + length (text t) ≤ length (forest_text f)
-At-bytes (here {u} {r}) = omega (arith, ap length (forest_text-cons u r), length-append (text u) (forest_text r))
-At-bytes (below {c} {r} a) = omega (arith, At-bytes a, length-append (forest_text c) (forest_text r))
-At-bytes (after {u} {r} is_m is_d a) = omega (arith, At-bytes a, is_d, ap length (forest_text-cons u r), length-append (text u) (forest_text r))
-
 -- what stands behind a subtree starts where that ends, or later
 pub At-later : {f : Forest} {n m : ℕ} {p q : Place} {t v : Tree} {b d : ℕ} → At f n p t b → At f m q v d → n + size t ≤ m → b + length (text t) ≤ d
 At-later (here {u}) here h = absurd (omega (arith, h, some_row u))
@@ -76,7 +71,7 @@ At-later (here {u = node k c}) (below {t} a) h = absurd (omega (arith, h, At-fit
 At-later here (after is_m is_d a) h = omega (arith, is_d)
 At-later (below a) here h = absurd (omega arith)
 At-later (below a) (below a') h = At-later a a' (omega (arith, h))
-At-later (below a) (after is_m is_d a') h = omega (arith, At-bytes a, is_d)
+At-later (below a) (after is_m is_d a') h = omega (arith, At-text a, is_d)
 At-later (after {t} is_m is_d a) here h = absurd (omega (arith, h, some_row t))
 At-later (after is_m is_d a) (below {t} a') h = absurd (omega (arith, h, is_m, At-fits a', some_row t))
 At-later (after is_m is_d a) (after is_m' is_d' a') h = omega (arith, is_d, is_d', At-later a a' (omega (arith, h, is_m, is_m')))
@@ -89,7 +84,7 @@ pub record Inside (n m b d : ℕ) (t v : Tree) : Type 0 where
 
 pub At-inside : {f : Forest} {n m : ℕ} {p q : Place} {t v : Tree} {b d : ℕ} → At f n p t b → At f m q v d → n ≤ m → m < n + size t → Inside n m b d t v
 At-inside here here h k = record { ends = omega arith; starts = omega arith; stops = omega arith }
-At-inside (here {u = node k c}) (below a) h j = record { ends = omega (arith, At-fits a); starts = omega arith; stops = omega (arith, At-bytes a) }
+At-inside (here {u = node k c}) (below a) h j = record { ends = omega (arith, At-fits a); starts = omega arith; stops = omega (arith, At-text a) }
 At-inside here (after is_m is_d a) h k = absurd (omega (arith, is_m, k))
 At-inside (below a) here h k = absurd (omega (arith, h))
 At-inside (below a) (below a') h k = let w = At-inside a a' (omega (arith, h)) (omega (arith, k)) in record { ends = omega (arith, w.ends); starts = w.starts; stops = w.stops }
@@ -148,7 +143,7 @@ replaced (below {k} {c} {r} {n} {p = i ∷ q} {t} {b} a) u m d up x x' y y' h is
     let first : Row = row_of (node k c) m d up in
     let e : suc m + n ≡ m + suc n = omega arith in
     let reaches : x ≤ suc m + forest_size c = omega (arith, is_x, At-fits a) in
-    let bytes : y ≤ d + length (forest_text c) = omega (arith, is_y, At-bytes a) in
+    let bytes : y ≤ d + length (forest_text c) = omega (arith, is_y, At-text a) in
     let up_stays : up ≡ moved_number by0 up = sym (moved-below by0 up (omega (arith, h, is_x))) in
     let piece = rows_of (cons u nil) (suc m + n) (d + b) (up_of a (suc m) m) in
     let first_is : row_of (node k c') m d up ≡ moved_row by0 first =

@@ -1,17 +1,17 @@
 -- A pointer resolves to its node.
-use Rattle.std.proofs.Common.{◌≡◌, ℕ, zero, suc, ◌+◌, ◌<◌, ◌≤◌, inl, inr, List, [], ◌∷◌, ◌++◌, length, get_or, refl, sym, ap, ◌∙◌, subst, arith}
-use Rattle.std.specs.Prelude.{Option, Some, None, option_map, Contains}
+use Rattle.std.proofs.Common.{◌≡◌, ℕ, zero, suc, ◌+◌, ◌<◌, ◌≤◌, inl, inr, List, [], ◌∷◌, length, refl, sym, ap, ◌∙◌, subst, arith}
+use Rattle.std.specs.Prelude.{Option, Some, option_map, Contains}
 use Rattle.std.proofs.lemmas.List.{get_or_default}
 use Rattle.lossless_tree.specs.Tree.{Tree, node, token, nil, cons, size, text, Place, places, IsPlace, parent_place}
 use Rattle.lossless_tree.specs.TextRange.{Bounds}
 use Rattle.lossless_tree.specs.declared.syntax_kind.SyntaxKind.{SyntaxKind}
-use Rattle.lossless_tree.specs.Rows.{row_at, tree_at, start_at, end_at, place_at}
+use Rattle.lossless_tree.specs.Rows.{row_at, tree_at, start_at, place_at}
 use Rattle.lossless_tree.specs.Cursor.{Cursor, at_place, cursor_at, focus, range_of, parent_of, ancestors_of, ancestors_from, descendants_of}
-use Rattle.lossless_tree.specs.Pointer.{Pointer, pointer_to, PointsTo, IsFirst, in_none, here, later, Finds, PointersResolve}
+use Rattle.lossless_tree.specs.Pointer.{Pointer, pointer_to, PointsTo, IsFirst, in_none, here, later, PointersResolve}
 use Rattle.lossless_tree.proofs.At.{At, At-same_row, below_or_after}
 use Rattle.lossless_tree.proofs.AncestorLemmas.{ancestors_of-step}
 use Rattle.lossless_tree.proofs.TableLemmas.{at_row}
-use Rattle.lossless_tree.proofs.StepLemmas.{Hangs, parent_place-append}
+use Rattle.lossless_tree.proofs.StepLemmas.{parent_place-append}
 use Rattle.lossless_tree.proofs.WalkLemmas.{length-places}
 use Rattle.lossless_tree.proofs.Starts.{later_starts}
 use Rattle.lossless_tree.proofs.CoveringRows.{parent_within}

@@ -1,13 +1,12 @@
 -- The node that a pointer finds, by rows.
-use Rattle.std.proofs.Common.{◌≡◌, ℕ, zero, suc, ◌+◌, ◌-◌, ◌<◌, ◌≤◌, inl, inr, List, [], ◌∷◌, refl, sym, ap, ◌∙◌, subst, arith, Bool, true, false, not}
-use Rattle.std.specs.Prelude.{Option, Some, None, IsTrue}
+use Rattle.std.proofs.Common.{◌≡◌, ℕ, zero, suc, ◌+◌, ◌<◌, ◌≤◌, inl, inr, [], refl, sym, ap, ◌∙◌, subst, arith, Bool, true, false, not}
+use Rattle.std.specs.Prelude.{Some, None, IsTrue}
 use Rattle.lossless_tree.specs.declared.table.Row.{Row}
 use Rattle.lossless_tree.specs.declared.syntax_kind.SyntaxKind.{SyntaxKind}
-use Rattle.lossless_tree.specs.Tree.{Tree, node, token, size, kind_of, IsNode, IsToken, parent_place}
+use Rattle.lossless_tree.specs.Tree.{Tree, node, token, size, IsNode, IsToken, parent_place}
 use Rattle.lossless_tree.specs.TextRange.{Bounds}
 use Rattle.lossless_tree.specs.Rows.{row_at, tree_at, place_at, start_at, end_at}
-use Rattle.lossless_tree.specs.RowSearch.{SplitsAt}
-use Rattle.lossless_tree.specs.Cursor.{Cursor, cursor_at, cursors_from, descendants_of, range_of}
+use Rattle.lossless_tree.specs.Cursor.{Cursor, cursor_at, cursors_from, descendants_of}
 use Rattle.lossless_tree.specs.Pointer.{Pointer, PointsTo, Finds, IsFirst, in_none, here, later}
 use Rattle.lossless_tree.proofs.At.{some_row, below_or_after}
 use Rattle.lossless_tree.proofs.StepLemmas.{end_of_row, row_kind, row_node, row_token, parent_by_row}

@@ -1,5 +1,5 @@
 -- The starts of rows: they don't decrease with the row number, and a subtree's rows lie within its text.
-use Rattle.std.proofs.Common.{◌≡◌, ℕ, zero, suc, List, ◌+◌, ◌-◌, ◌<◌, ◌≤◌, ◌⊎◌, inl, inr, [], ◌∷◌, ◌++◌, length, refl, sym, ap, ◌∙◌, arith, length-append, get_or, take, drop, true, false}
+use Rattle.std.proofs.Common.{◌≡◌, ℕ, suc, List, ◌+◌, ◌-◌, ◌<◌, ◌≤◌, [], ◌∷◌, ◌++◌, length, refl, sym, ap, ◌∙◌, arith, length-append, get_or, take, drop, true, false}
 use Rattle.std.specs.Prelude.{nat_lt}
 use Rattle.std.specs.List.Sorted.{IsPartitionedBy, IsPartitionPoint}
 use Rattle.std.proofs.lemmas.List.{get_or-take, get_or-drop, get_or_default, length-take, length-drop}
@@ -7,12 +7,12 @@ use Rattle.std.proofs.lemmas.Bool.Decides.{nat_tests}
 use Rattle.lossless_tree.specs.declared.table.Row.{Row}
 use Rattle.lossless_tree.specs.Rows.{rows_of, no_row}
 use Rattle.lossless_tree.specs.RowSearch.{SplitsAt}
-use Rattle.lossless_tree.specs.Tree.{Tree, node, token, Forest, nil, cons, text, size, forest_text, forest_size, Place}
+use Rattle.lossless_tree.specs.Tree.{Tree, node, token, Forest, nil, cons, text, size, forest_text, Place}
 use Rattle.lossless_tree.specs.Rows.{row_at, tree_at, start_at, end_at, place_at}
-use Rattle.lossless_tree.proofs.At.{At, here, below, after, lift, At-fits, some_row, no_empty_place, forest_size-cons, start-At, below_or_after, length-rows_of}
+use Rattle.lossless_tree.proofs.At.{At, here, below, after, lift, At-fits, some_row, forest_size-cons, length-rows_of}
 use Rattle.lossless_tree.proofs.Texts.{forest_text-cons}
-use Rattle.lossless_tree.proofs.TableLemmas.{at_row, next_start_at, last_end_at}
-use Rattle.lossless_tree.proofs.StepLemmas.{end_of_row, row_start, place_from_At}
+use Rattle.lossless_tree.proofs.TableLemmas.{at_row, next_start_at}
+use Rattle.lossless_tree.proofs.StepLemmas.{end_of_row, row_start}
 
 -- a subtree's text lies within the forest's
 pub At-text : {f : Forest} {n : ℕ} {p : Place} {t : Tree} {b : ℕ} → At f n p t b → b + length (text t) ≤ length (forest_text f)

@@ -1,19 +1,18 @@
 -- The tokens at an offset, by rows: at most one that starts before it, and at most one that starts at it.
-use Rattle.std.proofs.Common.{◌≡◌, ℕ, zero, suc, ◌+◌, ◌-◌, ◌<◌, ◌≤◌, ◌⊎◌, inl, inr, List, [], ◌∷◌, ◌++◌, length, map, refl, sym, ap, ◌∙◌, subst, arith, append-nil, Bool, true, false, cond}
+use Rattle.std.proofs.Common.{◌≡◌, ℕ, zero, suc, ◌+◌, ◌-◌, ◌<◌, ◌≤◌, ◌⊎◌, inl, inr, List, [], ◌∷◌, ◌++◌, length, map, refl, sym, ap, ◌∙◌, arith, append-nil, Bool, true, false, cond}
 use Rattle.std.specs.Prelude.{Option, Some, None, IfSome, ◌&&◌, nat_lt, nat_le}
 use Rattle.std.specs.List.{filter}
 use Rattle.std.specs.Option.{option_to_list}
 use Rattle.std.proofs.lemmas.List.{map-append}
 use Rattle.std.proofs.lemmas.List.Elements.{filter-append}
 use Rattle.std.proofs.lemmas.Bool.Decides.{nat_tests}
-use Rattle.lossless_tree.specs.Tree.{Tree, node, token, Forest, nil, cons, text, size, IsToken}
+use Rattle.lossless_tree.specs.Tree.{Tree, node, token, nil, cons, text, size, IsToken}
 use Rattle.lossless_tree.specs.Rows.{row_at, tree_at, start_at, end_at}
 use Rattle.lossless_tree.specs.RowSearch.{SplitsAt, Reaching, IsTokenRow}
-use Rattle.lossless_tree.specs.Cursor.{Cursor, focus, descendants_of, cursor_at, cursors_from}
+use Rattle.lossless_tree.specs.Cursor.{Cursor, focus, cursor_at, cursors_from}
 use Rattle.lossless_tree.specs.TokenSearch.{is_token_with_text, touches, tokens_at}
 use Rattle.lossless_tree.proofs.At.{some_row, below_or_after, forest_size-cons}
 use Rattle.lossless_tree.proofs.StepLemmas.{end_of_row}
-use Rattle.lossless_tree.proofs.TableLemmas.{row_end_fits}
 use Rattle.lossless_tree.proofs.WalkLemmas.{descendants-cursors_from}
 use Rattle.lossless_tree.proofs.Starts.{Nested, nested, behind_starts, first_starts}
 

@@ -1,10 +1,10 @@
 -- The node or token that covers a range. (Upstream: `rowan`'s `SyntaxNode::covering_element`, which goes down while a
 -- child's range contains the range. What covers an empty range is a rule of this crate.)
-use Rattle.std.specs.Prelude.{ℕ, suc, ◌+◌, List, [], ◌∷◌, ◌++◌, length, Bool, ◌&&◌, nat_lt, nat_le, if◌then◌else◌, Option, Some, None, option_map, slice_index_or}
+use Rattle.std.specs.Prelude.{ℕ, suc, ◌+◌, List, [], ◌∷◌, ◌++◌, length, Bool, ◌&&◌, nat_lt, nat_le, if◌then◌else◌, Option, Some, None, option_map, slice_index_or, ◌≤◌, Contains}
 use Rattle.std.specs.Option.{option_or}
 use Rattle.lossless_tree.specs.TextRange.{Bounds}
-use Rattle.lossless_tree.specs.Tree.{Tree, node, token, Forest, nil, cons, text, forest_text, Place}
-use Rattle.lossless_tree.specs.Cursor.{Cursor, focus, range_start, at_place}
+use Rattle.lossless_tree.specs.Tree.{Tree, node, token, Forest, nil, cons, text, forest_text, Place, IsPlace}
+use Rattle.lossless_tree.specs.Cursor.{Cursor, focus, range_start, range_end, at_place, ancestors_of}
 
 -- the ranges of children, of which the first starts at byte b
 abbrev pub child_ranges : Forest → ℕ → List Bounds
@@ -53,3 +53,11 @@ covering_place asked (node k c) b = below (child_towards asked (child_ranges c b
 -- the cursor in the subtree of another that covers the range
 abbrev pub covering_of : Cursor → Bounds → Cursor
 covering_of c asked = at_place c (c.place ++ covering_place asked (focus c) (range_start c))
+
+-- what covers a range is a place of the tree, and where the range lies in that of the cursor from which it was sought, it
+-- lies in the range of what covers it and of each node above that
+abbrev pub CoveringHolds : Type 0
+CoveringHolds =
+    (c : Cursor) (asked : Bounds) → IsPlace c.tree c.place → asked.start ≤ asked.end
+    → IsPlace c.tree (covering_of c asked).place
+    × (range_start c ≤ asked.start → asked.end ≤ range_end c → (a : Cursor) → Contains (ancestors_of (covering_of c asked)) a → (range_start a ≤ asked.start) × (asked.end ≤ range_end a))

@@ -16,6 +16,10 @@ pub mod Covering
 pub mod Cursor
 pub mod Element
 pub mod Edit
+pub mod Placed
+pub mod Every
+pub mod Trees
+pub mod SyntaxText
 pub mod Builder
 pub mod Scan
 pub mod Run

@@ -37,10 +37,3 @@ pub record IsHolding (tree : Tree) (n : ℕ) (asked : Bounds) (m : ℕ) : Type 0
   pub is_row : IsRow tree m
   pub covers : covering_of (cursor_at tree n) asked ≡ covering_of (cursor_at tree m) asked
   pub none : NoneHolds tree m asked
-
--- the child of row n in whose subtree a row is
-pub record IsChildAround (tree : Tree) (n inner child : ℕ) : Type 0 where
-  pub behind : n < child
-  pub before : child ≤ inner
-  pub reaches : inner < (row_at tree child).end
-  pub parent : (row_at tree child).parent ≡ n

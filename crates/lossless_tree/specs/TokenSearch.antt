@@ -1,9 +1,9 @@
 -- The tokens at an offset. (Upstream: `rowan`'s `SyntaxNode::token_at_offset` and `TokenAtOffset`.)
-use Rattle.std.specs.Prelude.{ℕ, List, [], ◌∷◌, ◌++◌, length, Bool, true, false, ◌&&◌, nat_lt, nat_le, Option, Some, None, cond}
+use Rattle.std.specs.Prelude.{ℕ, List, [], ◌∷◌, length, Bool, false, ◌&&◌, nat_lt, nat_le, ◌≤◌, Option, Some, None}
 use Rattle.std.specs.List.{filter}
 use Rattle.lossless_tree.specs.declared.cursor.token_at_offset.TokenAtOffset.{TokenAtOffset}
 use Rattle.lossless_tree.specs.declared.cursor.token_at_offset.TokenAtOffset.TheVariants as at
-use Rattle.lossless_tree.specs.Tree.{Tree, node, token}
+use Rattle.lossless_tree.specs.Tree.{Tree, node, token, IsPlace}
 use Rattle.lossless_tree.specs.Cursor.{Cursor, focus, range_start, range_end, descendants_of}
 
 -- a token, and its text is not empty
@@ -35,3 +35,7 @@ abbrev pub rightmost : {T : Type 0} → TokenAtOffset T → Option T
 rightmost at.None = None
 rightmost (at.Single t) = Some t
 rightmost (at.Between l r) = Some r
+
+-- there are never more than two
+abbrev pub AtMostTwo : Type 0
+AtMostTwo = (c : Cursor) (offset : ℕ) → IsPlace c.tree c.place → length (tokens_at c offset) ≤ 2

@@ -64,3 +64,6 @@ first_tree (cons t r) = t
 
 abbrev pub tree_code : Coded Tree
 tree_code = code_by (List Event) (coded_list event_code) (λ t. events_of (cons t nil)) (λ es. first_tree (forest_of es)) (λ t. ap first_tree (forest_of-events_of (cons t nil)))
+
+abbrev pub forest_code : Coded Forest
+forest_code = code_by (List Event) (coded_list event_code) events_of forest_of forest_of-events_of

@@ -9,5 +9,6 @@ mod equality;
 pub mod node;
 pub mod preorder;
 pub mod siblings;
+pub mod text;
 pub mod token;
 pub mod token_at_offset;

@@ -1,9 +1,18 @@
-//! Laws of the definitions that contracts cite. The functions do nothing: the contract is the law.
+//! Laws of the definitions that contracts cite, and of cursors. The functions do nothing: the contract is the law.
 ghost use Rattle.lossless_tree.specs.CursorLaws.{ChildrenFillNodes, EqualityIsSameness, EqualCursorsHashAlike};
 ghost use Rattle.lossless_tree.specs.Edit.{PlacesAreReached, TextAround, ReplacedText, EditedInside};
+ghost use Rattle.lossless_tree.specs.Covering.{CoveringHolds};
+ghost use Rattle.lossless_tree.specs.Tree.{IsNode, IsToken};
+ghost use Rattle.lossless_tree.specs.Cursor.{focus};
+ghost use Rattle.lossless_tree.specs.Placed.{IsPlaced};
+ghost use Rattle.lossless_tree.specs.Every.{EveryIsDescendants};
 ghost use Rattle.lossless_tree.specs.Events.{RefusalsHold};
 ghost use Rattle.lossless_tree.specs.Kinds.{NumbersDiffer, NamesDiffer};
 ghost use Rattle.lossless_tree.specs.Pointer.{PointersResolve};
+ghost use Rattle.lossless_tree.specs.TokenSearch.{AtMostTwo};
+
+use crate::cursor::node::SyntaxNode;
+use crate::cursor::token::SyntaxToken;
 
 /// No two kinds have one raw number.
 pub fn kind_numbers_differ()
@@ -15,9 +24,20 @@ pub fn kind_names_differ()
     ensures { NamesDiffer }
 {}
 
+/// At most two tokens of a node that have a text touch one offset.
+pub fn at_most_two_tokens()
+    ensures { AtMostTwo }
+{}
+
 /// A pointer resolves to the node that it was made of, where that has a text and no node above it has its kind and range.
 pub fn pointers_resolve()
     ensures { PointersResolve }
+{}
+
+/// What covers a range is a place of the tree; its range holds the range where that of the node does from which it was
+/// sought, and so do the ranges of all nodes above it.
+pub fn covering_holds()
+    ensures { CoveringHolds }
 {}
 
 /// What the contract of `TreeBuilder::finish` calls the first refusal is the first that holds: a text that is too long,
@@ -62,3 +82,26 @@ pub fn equality_is_sameness()
 pub fn equal_cursors_hash_alike()
     ensures { EqualCursorsHashAlike }
 {}
+
+/// A test of every node and token of a subtree is a test of each item of its `descendants_with_tokens`.
+pub fn every_is_descendants()
+    ensures { EveryIsDescendants }
+{}
+
+/// A node's place is one of its tree's and holds a node; the tree's root is a node, and its text is UTF-8 of fewer than
+/// 2^32 bytes.
+pub fn node_is_placed(node: &SyntaxNode)
+    ensures placed { IsPlaced node.now }
+    ensures node { IsNode (focus node.now) }
+{
+    node.placed()
+}
+
+/// A token's place is one of its tree's and holds a token; the tree's root is a node, and its text is UTF-8 of fewer than
+/// 2^32 bytes.
+pub fn token_is_placed(token: &SyntaxToken)
+    ensures placed { IsPlaced token.now }
+    ensures token { IsToken (focus token.now) }
+{
+    token.placed()
+}

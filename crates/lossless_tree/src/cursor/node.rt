@@ -1,11 +1,13 @@
 //! Nodes.
 ghost use Rattle.std.specs.Prelude.{◌≡◌, option_map, IfOk, IfSome, reverse, string_bytes, ◌↔◌, ◌≤◌, ◌^◌, length, IsErrOf};
 ghost use Rattle.std.specs.List.{filter, find};
-ghost use Rattle.lossless_tree.specs.Tree.{text, kind_of};
+ghost use Rattle.lossless_tree.specs.Tree.{text, kind_of, IsNode, forest_of_children};
 ghost use Rattle.lossless_tree.specs.Rows.{IsRow};
-ghost use Rattle.lossless_tree.specs.Cursor.{focus, range_of, parent_of, ancestors_of, children_of, first_child_of, last_child_of, next_sibling_of, prev_sibling_of, following_of, preceding_of, siblings_in, siblings_from, at_node, at_token, descendants_of, walk_of, moves_at_node};
+ghost use Rattle.lossless_tree.specs.Cursor.{focus, range_of, parent_of, ancestors_of, children_of, first_child_of, last_child_of, next_sibling_of, prev_sibling_of, following_of, preceding_of, siblings_in, siblings_from, at_node, at_token, descendants_of, walk_of, moves_at_node, range_start};
 ghost use Rattle.lossless_tree.specs.declared.error.ReplaceError.TheVariants.{TooLong};
+ghost use Rattle.lossless_tree.specs.Trees.{child_text};
 ghost use Rattle.lossless_tree.specs.Edit.{replace, root_of};
+ghost use Rattle.lossless_tree.specs.Placed.{IsPlaced};
 ghost use Rattle.lossless_tree.specs.Element.{element_of};
 ghost use Rattle.lossless_tree.specs.Dump.{dump_of};
 
@@ -17,6 +19,7 @@ use super::element::{SyntaxElement, element};
 use super::equality::{feed, is_same};
 use super::preorder::{Preorder, PreorderWithTokens};
 use super::siblings::{SyntaxElementSiblings, SyntaxNodeSiblings};
+use super::text::SyntaxText;
 use super::token::SyntaxToken;
 use super::token_at_offset::TokenAtOffset;
 use crate::dump;
@@ -26,6 +29,7 @@ use crate::syntax_kind::SyntaxKind;
 use crate::table::Table;
 use crate::text_range::TextRange;
 use crate::text_size::TextSize;
+use crate::trees::Trees;
 use std::alloc::{AllocError, Global};
 use std::hash::{Hash, Hasher};
 use std::marker::Model;
@@ -110,6 +114,52 @@ impl SyntaxNode {
             Ok(table) => Ok(SyntaxNode::root(table)),
             Err(_) => Err(ReplaceError::Memory),
         }
+    }
+}
+
+impl SyntaxNode {
+    /// The node's text, with the calls of upstream's type of this name. `as_str` gives the same as one slice.
+    pub fn text(&self) -> SyntaxText<'_>
+        ensures { result ≡ text (focus self.now) }
+    {
+        SyntaxText::of_row(&self.table, self.row)
+    }
+
+    /// The node's children, as siblings that are left to read.
+    pub fn trees(&self) -> Trees<'_>
+        ensures { result ≡ record { trees = forest_of_children (focus self.now); start = range_start self.now } }
+    {
+        Trees::below(&self.table, self.row)
+    }
+
+    /// The text of child number `n`, from 0, where that is a token; `None` for a node, and where there is no such child.
+    ///
+    /// It passes the children before it, and looks into none of them.
+    pub fn child_text(&self, n: usize) -> Option<&str>
+        ensures { option_map (λ s. s.now) result ≡ child_text (focus self.now) n }
+    {
+        let mut left = self.trees();
+        for _ in 0..n {
+            if left.is_done() {
+                return None;
+            }
+            left = left.rest();
+        }
+        if left.is_token() {
+            Some(left.text())
+        } else {
+            None
+        }
+    }
+}
+
+impl SyntaxNode {
+    // The place of a node is one of its tree's. It does nothing.
+    pub(crate) fn placed(&self)
+        ensures placed { IsPlaced self.now }
+        ensures node { IsNode (focus self.now) }
+    {
+        self.table.placed(self.row)
     }
 }
 

@@ -1,9 +1,10 @@
 //! Tokens.
 ghost use Rattle.std.specs.Prelude.{◌≡◌, option_map, IfOk, string_bytes, ◌↔◌, ◌≤◌, ◌^◌, length, IsErrOf};
-ghost use Rattle.lossless_tree.specs.Tree.{text, kind_of, token};
+ghost use Rattle.lossless_tree.specs.Tree.{text, kind_of, token, IsToken};
 ghost use Rattle.lossless_tree.specs.Cursor.{focus, range_of, parent_of, ancestors_from, next_sibling_of, prev_sibling_of, siblings_in, all_tokens, IsRightBehind, IsRightBefore};
 ghost use Rattle.lossless_tree.specs.declared.error.ReplaceError.TheVariants.{TooLong};
 ghost use Rattle.lossless_tree.specs.Edit.{replace, root_of};
+ghost use Rattle.lossless_tree.specs.Placed.{IsPlaced};
 ghost use Rattle.lossless_tree.specs.Element.{element_of};
 ghost use Rattle.lossless_tree.specs.Dump.{dump_of};
 
@@ -82,6 +83,16 @@ impl SyntaxToken {
             Ok(table) => Ok(SyntaxNode::root(table)),
             Err(_) => Err(ReplaceError::Memory),
         }
+    }
+}
+
+impl SyntaxToken {
+    // The place of a token is one of its tree's. It does nothing.
+    pub(crate) fn placed(&self)
+        ensures placed { IsPlaced self.now }
+        ensures token { IsToken (focus self.now) }
+    {
+        self.table.placed(self.row)
     }
 }
 

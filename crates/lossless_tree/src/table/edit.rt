@@ -3,7 +3,9 @@ ghost use Rattle.std.specs.Prelude.{ℕ, ◌≡◌, ◌<◌, ◌≤◌, ◌+◌,
 ghost use Rattle.lossless_tree.specs.declared.error.ReplaceError.TheVariants.{TooLong};
 ghost use Rattle.lossless_tree.specs.Tree.{size, text, token, cons, nil, IsNode, IsToken};
 ghost use Rattle.lossless_tree.specs.Rows.{row_at, tree_at, start_at, end_at, place_at, rows_of, no_row};
+ghost use Rattle.lossless_tree.specs.Cursor.{cursor_at};
 ghost use Rattle.lossless_tree.specs.Edit.{splice, replace};
+ghost use Rattle.lossless_tree.specs.Placed.{IsPlaced};
 ghost use Rattle.lossless_tree.specs.MovedRows.{moved_number, moved_row, MoveFits, rows_between, moved_before, moved_behind};
 
 use super::{Row, Table};
@@ -265,5 +267,13 @@ impl Table {
         let spliced = self.spliced_text(alloc, n, piece.text_at(other))?;
         let rows = self.rows_with_node(alloc, n, piece, other)?;
         Ok(Table::from_parts(spliced, rows))
+    }
+
+    // What is true of each row. It does nothing.
+    pub(crate) fn placed(&self, n: usize)
+        requires { n < size self.now }
+        ensures { IsPlaced (cursor_at self.now n) }
+    {
+        let _count = self.rows.len();
     }
 }

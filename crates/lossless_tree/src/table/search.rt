@@ -3,7 +3,7 @@ ghost use Rattle.std.specs.Prelude.{◌≡◌, ◌+◌, ◌≤◌, ◌<◌, ◌^
 ghost use Rattle.std.specs.Option.{option_to_list};
 ghost use Rattle.lossless_tree.specs.Tree.{nil, cons, size};
 ghost use Rattle.lossless_tree.specs.Rows.{rows_of, row_at, end_at};
-ghost use Rattle.lossless_tree.specs.RowSearch.{SplitsAt, Reaching, IsTokenRow, IsNodeRow, NoneHolds, IsHolding, IsChildAround};
+ghost use Rattle.lossless_tree.specs.RowSearch.{SplitsAt, Reaching, IsTokenRow, IsNodeRow, NoneHolds, IsHolding};
 ghost use Rattle.lossless_tree.specs.Cursor.{cursor_at, descendants_of};
 ghost use Rattle.lossless_tree.specs.Covering.{covering_of, holds};
 ghost use Rattle.lossless_tree.specs.Pointer.{IsFirst, PointsTo};
@@ -130,7 +130,7 @@ impl Table {
             return end - 1;
         }
         let last = self.first_row_from(row + 1, end, offset + 1) - 1;
-        self.child_around(row, last) - 1
+        self.child_over(row, last) - 1
     }
 
     // From row `n` down to first children while these end behind an empty range.
@@ -147,20 +147,6 @@ impl Table {
             row += 1;
         }
         row
-    }
-
-    // The child of row `n` in whose subtree the row `inner` is.
-    fn child_around(&self, n: usize, inner: usize) -> usize
-        requires is_row { n < size self.now }
-        requires below { n < inner }
-        requires within { inner < (row_at self.now n).end }
-        ensures { IsChildAround self.now n inner result }
-    {
-        let mut child = inner;
-        while self.row(child).parent != n {
-            child = self.row(child).parent;
-        }
-        child
     }
 }
 

@@ -1,6 +1,5 @@
-use Rattle.std.proofs.Common.{◌+◌, ◌<◌, ◌∙◌, ap, sym, subst, arith, refl}
-use Rattle.lossless_tree.specs.Tree.{size}
-use Rattle.lossless_tree.specs.Rows.{row_at, tree_at}
+use Rattle.std.proofs.Common.{◌+◌, ap, arith, refl}
+use Rattle.lossless_tree.specs.Rows.{tree_at}
 use Rattle.lossless_tree.proofs.At.{some_row}
 use Rattle.lossless_tree.proofs.StepLemmas.{end_of_row}
 use Rattle.lossless_tree.proofs.TableLemmas.{row_end_fits}

@@ -1,6 +1,5 @@
-use Rattle.std.proofs.Common.{◌≡◌, ◌<◌, ◌+◌, ◌∙◌, ap, sym, arith, below_more, inl, inr, refl}
+use Rattle.std.proofs.Common.{◌<◌, ◌∙◌, ap, sym, arith, below_more, inl, inr, refl}
 use Rattle.lossless_tree.specs.Tree.{size}
-use Rattle.lossless_tree.specs.Rows.{end_at}
 use Rattle.lossless_tree.specs.Cursor.{cursor_at}
 use Rattle.lossless_tree.specs.Pointer.{PointsTo}
 use Rattle.lossless_tree.proofs.PointerLemmas.{Seen, points, token_misses, kind_misses, first_found, none_found, starts_past}

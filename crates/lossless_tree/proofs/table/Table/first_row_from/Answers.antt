@@ -2,7 +2,7 @@ use Rattle.std.proofs.Common.{rules, of_calls, ◌≡◌, ◌≤◌, ◌-◌, ap
 use Rattle.std.specs.Prelude.{nat_lt, true, false}
 use Rattle.std.specs.List.Sorted.{IsPartitionedBy, IsPartitionPoint}
 use Rattle.std.proofs.lemmas.Fn.{always_returns_same}
-use Rattle.lossless_tree.proofs.Starts.{part, part_is_partitioned, splits_at}
+use Rattle.lossless_tree.proofs.Starts.{part_is_partitioned, splits_at}
 use Rattle.lossless_tree.proofs.table.Table.first_row_from.Goals as goal
 
 pub returns : goal.returns

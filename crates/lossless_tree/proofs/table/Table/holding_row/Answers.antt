@@ -1,8 +1,7 @@
-use Rattle.std.proofs.Common.{◌≡◌, ℕ, Bool, true, false, inl, inr, ◌<◌, ◌≤◌, ◌+◌, ◌-◌, ◌∙◌, ap, sym, subst, arith}
-use Rattle.lossless_tree.specs.Tree.{size}
-use Rattle.lossless_tree.specs.Rows.{row_at, tree_at}
+use Rattle.std.proofs.Common.{◌≡◌, false, inl, inr, ◌+◌, ◌-◌, ◌∙◌, ap, sym, subst, arith}
+use Rattle.lossless_tree.specs.Rows.{tree_at}
 use Rattle.lossless_tree.specs.RowSearch.{SplitsAt}
-use Rattle.lossless_tree.proofs.At.{some_row, below_or_after}
+use Rattle.lossless_tree.proofs.At.{some_row}
 use Rattle.lossless_tree.proofs.StepLemmas.{end_of_row}
 use Rattle.lossless_tree.proofs.TableLemmas.{row_end_fits}
 use Rattle.lossless_tree.proofs.CoveringPlaces.{strictly}

@@ -1,13 +1,13 @@
 use Rattle.std.proofs.Common.{◌≡◌, ℕ, ◌+◌, ◌-◌, ◌<◌, ◌≤◌, suc, ◌∙◌, ap, sym, subst, arith}
 use Rattle.lossless_tree.specs.Tree.{Tree, size}
-use Rattle.lossless_tree.specs.Rows.{row_at, tree_at, end_at}
+use Rattle.lossless_tree.specs.Rows.{tree_at, end_at}
 use Rattle.lossless_tree.specs.RowSearch.{SplitsAt}
 use Rattle.lossless_tree.specs.Cursor.{cursor_at}
 use Rattle.lossless_tree.proofs.At.{some_row}
 use Rattle.lossless_tree.proofs.StepLemmas.{end_of_row}
 use Rattle.lossless_tree.proofs.TableLemmas.{row_end_fits}
 use Rattle.lossless_tree.proofs.CoveringRows.{leaf_stays}
-use Rattle.lossless_tree.proofs.CoveringEmpty.{Split, last_behind, last_covers, before_child}
+use Rattle.lossless_tree.proofs.CoveringEmpty.{Split, last_covers, before_child}
 use Rattle.lossless_tree.proofs.table.Table.row_by_empty_range.Goals as goal
 use Rattle.lossless_tree.proofs.table.Table.row_by_empty_range.Goals.{After-row-end, After-first_row_from-last, then-end-row-via-then-end-row, then-end-row-via-else-end-row+then-end_at-offset}
 
@@ -81,11 +81,11 @@ pub returns-clause-in_range : goal.returns-clause-in_range
 returns-clause-in_range c =
     let at = goal.at.returns-clause-in_range c in
     let e = ends at.After-row-end in
-    omega (arith, c.child_around.ensures.before, c.first_row_from-last.ensures.within, e.fits, e.long)
+    omega (arith, c.child_over.ensures.from, c.first_row_from-last.ensures.within, e.fits, e.long)
 
 pub returns-clause-covers : goal.returns-clause-covers
 returns-clause-covers c =
     let at = goal.at.returns-clause-covers c in
     let s = begun at.After-first_row_from-last (ends at.After-row-end) in
     sym (c.down_first_children-row.ensures.holding.covers
-    ∙ before_child c.args.self.now c.down_first_children-row.result (c.first_row_from-last.result - 1) c.row-end.result.end c.child_around.result (c.child_around.result - 1) c.args.range s c.child_around.ensures (omega (arith, c.child_around.ensures.behind)))
+    ∙ before_child c.args.self.now c.down_first_children-row.result (c.first_row_from-last.result - 1) c.row-end.result.end c.child_over.result (c.child_over.result - 1) c.args.range s c.child_over.ensures (omega (arith, c.child_over.ensures.behind)))

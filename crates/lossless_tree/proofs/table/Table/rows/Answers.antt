@@ -1,4 +1,4 @@
-use Rattle.std.proofs.Common.{◌∙◌, ap, arith, length}
+use Rattle.std.proofs.Common.{◌∙◌, ap, length}
 use Rattle.std.specs.Prelude.{string_bytes}
 use Rattle.lossless_tree.proofs.TableLemmas.{shown, rows_len}
 use Rattle.lossless_tree.proofs.table.Table.rows.Goals as goal

@@ -1,7 +1,4 @@
-use Rattle.std.proofs.Common.{◌≡◌, ◌<◌, ◌≤◌, ap, arith}
-use Rattle.lossless_tree.specs.Tree.{size}
-use Rattle.lossless_tree.specs.Rows.{row_at, tree_at}
-use Rattle.lossless_tree.proofs.At.{some_row}
+use Rattle.std.proofs.Common.{ap, arith}
 use Rattle.lossless_tree.proofs.StepLemmas.{end_of_row}
 use Rattle.lossless_tree.proofs.TableLemmas.{row_end_fits}
 use Rattle.lossless_tree.proofs.TokenSearch.{FoundTokens, tokens_found}
