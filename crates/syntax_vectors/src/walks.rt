@@ -218,3 +218,19 @@ fn calls_at_every_place(rt: HostRuntime) -> Result<(), Fail> {
     }
     Ok(())
 }
+
+#[test]
+fn white_space_and_comments_are_passed(rt: HostRuntime) -> Result<(), Fail> {
+    let words =
+        "SOURCE_FILE( WHITESPACE:~ COMMENT:x NAME( ) COMMENT:x WHITESPACE( ) WHITESPACE:~ )";
+    let root = PlainTree::read(rt.alloc(), words)?.build(rt.alloc())?;
+    let name = root.first_child_no_trivia().ok_or("no first child")?;
+    assert_eq!(rt; name.kind(), SyntaxKind::NAME);
+    let blank = name.next_no_trivia().ok_or("no next child")?;
+    assert!(rt; blank.as_node().is_some());
+    assert_eq!(rt; blank.kind(), SyntaxKind::WHITESPACE);
+    assert!(rt; blank.next_no_trivia().is_none());
+    let first = root.first_token().ok_or("no first token")?;
+    assert!(rt; first.next_no_trivia() == Some(name));
+    Ok(())
+}
