@@ -1,7 +1,8 @@
 //! Equality and hash of cursors, and copies of their iterators.
 use crate::plain_tree::PlainTree;
-use lossless_tree::{SyntaxElement, SyntaxNode};
+use lossless_tree::{Direction, SyntaxElement, SyntaxNode};
 use std::hash::{DefaultHasher, Hash, Hasher};
+use std::iter::repeat;
 use std::test::Fail;
 
 const WORDS: &str = "( : ( ) ( ( ) :a : ( :bc ( : ) ) :d ) ( : ( ) ) :e ( ) : )";
@@ -70,5 +71,30 @@ fn copies_of_iterators_go_their_own_way(rt: HostRuntime) -> Result<(), Fail> {
     }
     assert_eq!(rt; count, 17);
     assert!(rt; copy.next().is_none());
+    Ok(())
+}
+
+// `repeat` asks for a copy that can't fail: that it may be called here is what is shown.
+#[test]
+fn copies_of_iterators_take_no_memory(rt: HostRuntime) -> Result<(), Fail> {
+    let root = built(&rt, WORDS)?;
+    let mut copies = repeat(root.ancestors());
+    assert!(rt; copies.next().is_some());
+    let mut copies = repeat(root.children());
+    assert!(rt; copies.next().is_some());
+    let mut copies = repeat(root.children_with_tokens());
+    assert!(rt; copies.next().is_some());
+    let mut copies = repeat(root.siblings(Direction::Next));
+    assert!(rt; copies.next().is_some());
+    let mut copies = repeat(root.siblings_with_tokens(Direction::Prev));
+    assert!(rt; copies.next().is_some());
+    let mut copies = repeat(root.descendants());
+    assert!(rt; copies.next().is_some());
+    let mut copies = repeat(root.descendants_with_tokens());
+    assert!(rt; copies.next().is_some());
+    let mut copies = repeat(root.preorder());
+    assert!(rt; copies.next().is_some());
+    let mut copies = repeat(root.preorder_with_tokens());
+    assert!(rt; copies.next().is_some());
     Ok(())
 }
