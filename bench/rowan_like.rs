@@ -499,28 +499,22 @@ fn time_tokens(name: &str, runs: u32, root: &Node) {
     });
 }
 
+// The child nodes one after another; a cursor of this kind has no faster way.
+fn child_nodes(root: &Node) -> (u64, u64) {
+    let (mut count, mut sum) = (0, 0);
+    let mut child = root.first_child();
+    while let Some(node) = child {
+        count += 1;
+        sum += node.start() as u64;
+        child = node.next_sibling();
+    }
+    (count, sum)
+}
+
 // What is measured over a node with many children.
 fn time_children(name: &str, runs: u32, root: &Node) {
-    measure("children", name, runs, || {
-        let (mut count, mut sum) = (0, 0);
-        let mut child = root.first_child();
-        while let Some(node) = child {
-            count += 1;
-            sum += node.start() as u64;
-            child = node.next_sibling();
-        }
-        (count, sum)
-    });
-    measure("next_sibling", name, runs, || {
-        let (mut count, mut sum) = (0, 0);
-        let mut child = root.first_child();
-        while let Some(node) = child {
-            count += 1;
-            sum += node.start() as u64;
-            child = node.next_sibling();
-        }
-        (count, sum)
-    });
+    measure("children", name, runs, || child_nodes(root));
+    measure("next_sibling", name, runs, || child_nodes(root));
     measure("next_sibling_or_token", name, runs, || {
         let (mut count, mut sum) = (0, 0);
         let mut child = root.first_child_or_token();
