@@ -4,10 +4,10 @@ use Rattle.std.specs.Prelude.{Option, None, Some, MatchOption}
 use Rattle.std.specs.List.{filter, find}
 use Rattle.lossless_tree.specs.declared.cursor.element.NodeOrToken.{NodeOrToken}
 use Rattle.lossless_tree.specs.declared.cursor.element.NodeOrToken.TheVariants.{Node, Token}
-use Rattle.lossless_tree.specs.Tree.{Tree, node, token, is_node}
-use Rattle.lossless_tree.specs.Cursor.{Cursor, focus, at_node}
+use Rattle.tree_model.specs.Tree.{Tree, node, token, is_node}
+use Rattle.tree_model.specs.Cursor.{Cursor, focus, at_node}
 use Rattle.lossless_tree.specs.Element.{element_of, element_by, cursor_of}
-use Rattle.lossless_tree.proofs.At.{cong₂}
+use Rattle.tree_model.proofs.At.{cong₂}
 
 pub cursor_of-element_by : (t : Tree) (c : Cursor) → cursor_of (element_by t c) ≡ c
 cursor_of-element_by (node k f) c = refl

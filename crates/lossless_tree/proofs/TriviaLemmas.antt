@@ -3,9 +3,9 @@ use Rattle.std.proofs.Common.{◌≡◌, List, [], ◌∷◌, map, cond, Bool, t
 use Rattle.std.specs.Prelude.{Some, None, option_map, not}
 use Rattle.std.specs.List.{find}
 use Rattle.lossless_tree.specs.declared.cursor.element.NodeOrToken.{NodeOrToken}
-use Rattle.lossless_tree.specs.Kinds.{is_trivia}
-use Rattle.lossless_tree.specs.Tree.{Tree, node, token, kind_of}
-use Rattle.lossless_tree.specs.Cursor.{Cursor, focus}
+use Rattle.syntax_kind.specs.Kinds.{is_trivia}
+use Rattle.tree_model.specs.Tree.{Tree, node, token, kind_of}
+use Rattle.tree_model.specs.Cursor.{Cursor, focus}
 use Rattle.lossless_tree.specs.Element.{element_of, element_by, is_trivia_element}
 use Rattle.lossless_tree.specs.Trees.{is_trivia_token, is_no_trivia}
 use Rattle.lossless_tree.proofs.NodeLists.{head_of, tail_of, same_cursors}

@@ -5,11 +5,11 @@ use Rattle.std.specs.List.{filter}
 use Rattle.lossless_tree.specs.declared.cursor.element.NodeOrToken.{NodeOrToken}
 use Rattle.lossless_tree.specs.declared.cursor.preorder.WalkEvent.{WalkEvent}
 use Rattle.lossless_tree.specs.declared.cursor.preorder.WalkEvent.TheVariants.{Enter, Leave}
-use Rattle.lossless_tree.specs.Tree.{Tree, node, token, is_node}
-use Rattle.lossless_tree.specs.Cursor.{Cursor, focus, moves_at_node}
+use Rattle.tree_model.specs.Tree.{Tree, node, token, is_node}
+use Rattle.tree_model.specs.Cursor.{Cursor, focus, moves_at_node}
 use Rattle.lossless_tree.specs.Element.{element_by, cursor_of}
 use Rattle.lossless_tree.specs.WalkEvent.{walk_event, node_event, event_of_node}
-use Rattle.lossless_tree.proofs.At.{cong₂}
+use Rattle.tree_model.proofs.At.{cong₂}
 use Rattle.lossless_tree.proofs.NodeLists.{cursor_of-element_by, head_of, tail_of}
 
 step_of : WalkEvent (NodeOrToken Cursor Cursor) → Bool × Cursor

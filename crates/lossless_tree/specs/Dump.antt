@@ -6,10 +6,10 @@ use Rattle.std.specs.Fmt.{digits}
 use Rattle.std.proofs.Common.{false}
 use Rattle.std.specs.List.{flat_map}
 use Rattle.std.specs.Str.{chars}
-use Rattle.lossless_tree.specs.Kinds.{kind_name}
-use Rattle.lossless_tree.specs.TextRange.{range_text}
-use Rattle.lossless_tree.specs.Tree.{Tree, node, token, kind_of}
-use Rattle.lossless_tree.specs.Cursor.{Cursor, focus, range_of, level_below, descendants_of}
+use Rattle.syntax_kind.specs.Kinds.{kind_name}
+use Rattle.text_size.specs.TextRange.{range_text}
+use Rattle.tree_model.specs.Tree.{Tree, node, token, kind_of}
+use Rattle.tree_model.specs.Cursor.{Cursor, focus, range_of, level_below, descendants_of}
 
 -- a character as it stands between the quotes: `"` and `\` behind a backslash, newline, carriage return, tab and NUL
 -- by their letters, every other control byte as `\u{h}` with its number h in hexadecimal, all else as it is

@@ -2,9 +2,9 @@
 use Rattle.std.specs.Prelude.{Bool, false, List, Option, Some, None}
 use Rattle.lossless_tree.specs.declared.cursor.element.NodeOrToken.{NodeOrToken}
 use Rattle.lossless_tree.specs.declared.cursor.element.NodeOrToken.TheVariants.{Node, Token}
-use Rattle.lossless_tree.specs.Tree.{Tree, node, token, kind_of}
-use Rattle.lossless_tree.specs.Kinds.{is_trivia}
-use Rattle.lossless_tree.specs.Cursor.{Cursor, focus, parent_of, ancestors_of, ancestors_from}
+use Rattle.tree_model.specs.Tree.{Tree, node, token, kind_of}
+use Rattle.syntax_kind.specs.Kinds.{is_trivia}
+use Rattle.tree_model.specs.Cursor.{Cursor, focus, parent_of, ancestors_of, ancestors_from}
 
 abbrev pub element_by : Tree → Cursor → NodeOrToken Cursor Cursor
 element_by (node k c) cursor = Node cursor

@@ -2,11 +2,11 @@
 -- (Own: what a rest of `rowan`'s children with tokens shows, as plain data. Trivia are rust-analyzer's: white space and comments.)
 use Rattle.std.specs.Prelude.{◌≡◌, ℕ, zero, suc, ◌+◌, ◌-◌, ◌<◌, ◌≤◌, List, Bool, true, false, not, length, nat_lt, if◌then◌else◌, Option, None, Some, refl}
 use Rattle.std.specs.Coded.{Coded, code_by, coded×, coded_ℕ}
-use Rattle.lossless_tree.specs.Kinds.{is_trivia}
-use Rattle.lossless_tree.specs.Tree.{Tree, node, token, Forest, nil, cons, no_tree, text, forest_size, size, forest_of_children, child_at}
-use Rattle.lossless_tree.specs.TreeCode.{forest_code}
-use Rattle.lossless_tree.specs.Cursor.{Cursor, focus}
-use Rattle.lossless_tree.specs.Rows.{start_at}
+use Rattle.syntax_kind.specs.Kinds.{is_trivia}
+use Rattle.tree_model.specs.Tree.{Tree, node, token, Forest, nil, cons, no_tree, text, forest_size, size, forest_of_children, child_at}
+use Rattle.tree_model.specs.TreeCode.{forest_code}
+use Rattle.tree_model.specs.Cursor.{Cursor, focus}
+use Rattle.tree_model.specs.Rows.{start_at}
 
 -- the siblings that are left, and the byte where the first of them starts in the whole text
 pub record Siblings : Type 0 where

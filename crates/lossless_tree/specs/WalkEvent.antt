@@ -3,7 +3,7 @@ use Rattle.std.specs.Prelude.{Bool, true, false, Option, option_map}
 use Rattle.lossless_tree.specs.declared.cursor.preorder.WalkEvent.{WalkEvent}
 use Rattle.lossless_tree.specs.declared.cursor.preorder.WalkEvent.TheVariants.{Enter, Leave}
 use Rattle.lossless_tree.specs.declared.cursor.element.NodeOrToken.{NodeOrToken}
-use Rattle.lossless_tree.specs.Cursor.{Cursor}
+use Rattle.tree_model.specs.Cursor.{Cursor}
 use Rattle.lossless_tree.specs.Element.{element_of, node_part}
 
 abbrev walk_event_by : Bool → Cursor → WalkEvent (NodeOrToken Cursor Cursor)

@@ -1,17 +1,14 @@
 //! Events to a tree.
 ghost use Rattle.std.specs.Prelude.{◌≡◌, [], ◌∷◌, ◌++◌, OnOk, OnErr, IfOk, IfErr, None};
-ghost use Rattle.lossless_tree.specs.Events.{enter, leaf, exit, BuildsNode, first_refusal, refusal_of};
-ghost use Rattle.lossless_tree.specs.Cursor.{IsRoot};
+ghost use Rattle.tree_model.specs.Events.{enter, leaf, exit, BuildsNode, first_refusal, refusal_of};
+ghost use Rattle.tree_model.specs.Cursor.{IsRoot};
 
 use crate::cursor::node::SyntaxNode;
-use crate::error::FinishError;
-use crate::finish::{build_rows, first_refusal};
-use crate::shared::Shared;
-use crate::step::Step;
-use crate::syntax_kind::SyntaxKind;
-use crate::table::Table;
+use shared_pointer::Shared;
 use std::alloc::{AllocError, Global};
 use std::marker::Model;
+use syntax_kind::SyntaxKind;
+use tree_model::{FinishError, Step, Table, build_rows, first_refusal};
 
 /// Builds a tree from events: a node is entered, tokens come, the node is left.
 ///
@@ -36,9 +33,9 @@ pub struct TreeBuilder {
 impl Model for TreeBuilder {
     ghost use Rattle.std.specs.Prelude.{List, string_bytes};
     ghost use Rattle.std.specs.Coded.{coded_list};
-    ghost use Rattle.lossless_tree.specs.Events.{Event};
-    ghost use Rattle.lossless_tree.specs.TreeCode.{event_code};
-    ghost use Rattle.lossless_tree.specs.Builder.{events_from, TextsFit};
+    ghost use Rattle.tree_model.specs.Events.{Event};
+    ghost use Rattle.tree_model.specs.TreeCode.{event_code};
+    ghost use Rattle.tree_model.specs.Builder.{events_from, TextsFit};
 
     ghost Value = { List Event };
 

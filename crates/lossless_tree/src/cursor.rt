@@ -3,7 +3,6 @@
 pub mod ancestors;
 pub mod children;
 pub mod descendants;
-pub mod direction;
 pub mod element;
 mod equality;
 pub mod node;

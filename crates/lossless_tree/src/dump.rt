@@ -2,14 +2,14 @@
 ghost use Rattle.std.specs.Prelude.{◌≡◌, ◌++◌, ◌*◌, OnOk, IfOk, string_bytes, replicate};
 ghost use Rattle.std.specs.List.{flat_map};
 ghost use Rattle.std.specs.Str.{chars};
-ghost use Rattle.lossless_tree.specs.Rows.{IsRow, tree_at};
-ghost use Rattle.lossless_tree.specs.Cursor.{cursor_at};
+ghost use Rattle.tree_model.specs.Rows.{IsRow, tree_at};
+ghost use Rattle.tree_model.specs.Cursor.{cursor_at};
 ghost use Rattle.lossless_tree.specs.Dump.{escaped, shortest_front, shown, shown_text, dump_line, dump_of};
 
 use crate::cursor::preorder::walk_step;
-use crate::table::Table;
 use std::alloc::{AllocError, Global};
 use std::fmt::Write;
+use tree_model::Table;
 
 // A token's text of fewer bytes is shown whole.
 const WHOLE_BELOW: usize = 25;

@@ -1,92 +1,16 @@
 //! Laws of the definitions that contracts cite, and of cursors. The functions do nothing: the contract is the law.
-ghost use Rattle.lossless_tree.specs.CursorLaws.{ChildrenFillNodes, EqualityIsSameness, EqualCursorsHashAlike};
-ghost use Rattle.lossless_tree.specs.Edit.{PlacesAreReached, TextAround, ReplacedText, EditedInside};
-ghost use Rattle.lossless_tree.specs.Covering.{CoveringHolds};
-ghost use Rattle.lossless_tree.specs.Tree.{IsNode, IsToken};
-ghost use Rattle.lossless_tree.specs.Cursor.{focus};
-ghost use Rattle.lossless_tree.specs.Placed.{IsPlaced};
-ghost use Rattle.lossless_tree.specs.Every.{EveryIsDescendants};
-ghost use Rattle.lossless_tree.specs.Events.{RefusalsHold};
-ghost use Rattle.lossless_tree.specs.Kinds.{NumbersDiffer, NamesDiffer};
-ghost use Rattle.lossless_tree.specs.Pointer.{PointersResolve};
-ghost use Rattle.lossless_tree.specs.TokenSearch.{AtMostTwo};
+ghost use Rattle.tree_model.specs.Tree.{IsNode, IsToken};
+ghost use Rattle.tree_model.specs.Cursor.{focus};
+ghost use Rattle.tree_model.specs.Placed.{IsPlaced};
 
 use crate::cursor::node::SyntaxNode;
 use crate::cursor::token::SyntaxToken;
-
-/// No two kinds have one raw number.
-pub fn kind_numbers_differ()
-    ensures { NumbersDiffer }
-{}
-
-/// No two kinds print the same.
-pub fn kind_names_differ()
-    ensures { NamesDiffer }
-{}
-
-/// At most two tokens of a node that have a text touch one offset.
-pub fn at_most_two_tokens()
-    ensures { AtMostTwo }
-{}
-
-/// A pointer resolves to the node that it was made of, where that has a text and no node above it has its kind and range.
-pub fn pointers_resolve()
-    ensures { PointersResolve }
-{}
-
-/// What covers a range is a place of the tree; its range holds the range where that of the node does from which it was
-/// sought, and so do the ranges of all nodes above it.
-pub fn covering_holds()
-    ensures { CoveringHolds }
-{}
-
-/// What the contract of `TreeBuilder::finish` calls the first refusal is the first that holds: a text that is too long,
-/// then some front of the events with more exits than enters, then more enters than exits in all, then what the
-/// balanced events build.
-pub fn refusals_hold()
-    ensures { RefusalsHold }
-{}
-
-/// A place of a tree's list of places is one that can be reached from the root, one child after another.
-pub fn places_are_reached()
-    ensures { PlacesAreReached }
-{}
-
-/// A tree's text is the text before a place, that of the place, and the text behind it.
-pub fn text_around_a_place()
-    ensures { TextAround }
-{}
-
-/// The text of a tree with a piece replaced is the spliced text, and the new piece stands where the old one stood.
-pub fn replaced_text()
-    ensures { ReplacedText }
-{}
-
-/// Where the new piece's text is the old one's with some bytes replaced, the new tree's text is the old one's with the
-/// same bytes replaced.
-pub fn edited_inside_a_piece()
-    ensures { EditedInside }
-{}
-
-/// The ranges of a node's children follow each other without a gap and fill the node's range.
-pub fn children_fill_nodes()
-    ensures { ChildrenFillNodes }
-{}
-
-/// Two cursors are equal exactly where both stand at the same place in equal trees; so equality is an equivalence.
-pub fn equality_is_sameness()
-    ensures { EqualityIsSameness }
-{}
-
-/// Equal cursors feed a hasher alike.
-pub fn equal_cursors_hash_alike()
-    ensures { EqualCursorsHashAlike }
-{}
-
-/// A test of every node and token of a subtree is a test of each item of its `descendants_with_tokens`.
-pub fn every_is_descendants()
-    ensures { EveryIsDescendants }
-{}
+pub use syntax_kind::laws::{kind_names_differ, kind_numbers_differ};
+pub use tree_model::laws::{
+    at_most_two_tokens, children_fill_nodes, covering_holds, edited_inside_a_piece,
+    equal_cursors_hash_alike, equality_is_sameness, every_is_descendants, places_are_reached,
+    pointers_resolve, refusals_hold, replaced_text, text_around_a_place,
+};
 
 /// A node's place is one of its tree's and holds a node; the tree's root is a node, and its text is UTF-8 of fewer than
 /// 2^32 bytes.

@@ -1,11 +1,11 @@
 //! Pointers to nodes that outlive their tree.
 ghost use Rattle.std.specs.Prelude.{◌≡◌};
-ghost use Rattle.lossless_tree.specs.Pointer.{pointer_to, Finds};
+ghost use Rattle.tree_model.specs.Pointer.{pointer_to, Finds};
 
 use crate::cursor::node::SyntaxNode;
-use crate::syntax_kind::SyntaxKind;
-use crate::text_range::TextRange;
 use std::marker::Model;
+use syntax_kind::SyntaxKind;
+use text_size::TextRange;
 
 /// A node's kind and range, by which it is found again in its tree or in another tree of the same shape.
 ///
@@ -17,7 +17,7 @@ pub struct SyntaxNodePtr {
 }
 
 impl Model for SyntaxNodePtr {
-    ghost use Rattle.lossless_tree.specs.Pointer.{Pointer};
+    ghost use Rattle.tree_model.specs.Pointer.{Pointer};
 
     ghost Value = { Pointer };
 

@@ -1,12 +1,12 @@
 //! Siblings that are left to read.
 ghost use Rattle.std.specs.Prelude.{◌≡◌};
-ghost use Rattle.lossless_tree.specs.Tree.{kind_of, text, forest_of_children, is_token};
-ghost use Rattle.lossless_tree.specs.Rows.{IsRow, tree_at, start_at};
+ghost use Rattle.tree_model.specs.Tree.{kind_of, text, forest_of_children, is_token};
+ghost use Rattle.tree_model.specs.Rows.{IsRow, tree_at, start_at};
 ghost use Rattle.lossless_tree.specs.Trees.{is_done, first_of, behind_first, inside_first, without_trivia};
 
-use crate::syntax_kind::SyntaxKind;
-use crate::table::Table;
 use std::marker::Model;
+use syntax_kind::SyntaxKind;
+use tree_model::Table;
 
 /// Some children of a node that are left to read, from one on to the last: for readers that go over a tree in order and look
 /// at a few siblings at once. A clause sees a forest and the byte where its first tree starts.

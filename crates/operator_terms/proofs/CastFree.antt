@@ -1,7 +1,7 @@
 -- Terms without casts. Where no token is `as`, the last two can't be `as` and a name, so such a term may stand before any
 -- tokens; and taking a pair out brings no token in.
 use Rattle.std.proofs.Common.{◌≡◌, ℕ, List, [], ◌∷◌, ◌++◌, Bool, true, false, ◌&&◌, ◌||◌, refl, sym, ap, ap₂, ◌∙◌}
-use Rattle.lossless_tree.specs.declared.syntax_kind.token_kind.TokenKind.TheVariants as token
+use Rattle.syntax_kind.specs.declared.syntax_kind.token_kind.TokenKind.TheVariants as token
 use Rattle.operator_terms.specs.Token.{Token, fixed}
 use Rattle.operator_terms.specs.Term.{Term, Paren, tokens}
 use Rattle.operator_terms.specs.Reading.{is_as}

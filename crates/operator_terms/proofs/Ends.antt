@@ -2,7 +2,7 @@
 -- term is `Clear` before `<` exactly where it is clear before nothing and no cast is at its right edge (`clear_end`,
 -- `clear_raise`, `clear_lower`), and then its parts are clear before what stands behind them (`part-clear`).
 use Rattle.std.proofs.Common.{◌≡◌, ℕ, zero, suc, List, [], ◌∷◌, ◌++◌, Bool, true, false, ◌&&◌, ◌||◌, IfSome, refl, sym, ap, ◌∙◌, subst, append_assoc}
-use Rattle.lossless_tree.specs.declared.syntax_kind.token_kind.TokenKind.TheVariants as token
+use Rattle.syntax_kind.specs.declared.syntax_kind.token_kind.TokenKind.TheVariants as token
 use Rattle.operator_terms.specs.Token.{Token, fixed}
 use Rattle.operator_terms.specs.Operators.{operator_kind, range_kind}
 use Rattle.operator_terms.specs.Term.{Await, Binary, Borrow, Call, Cast, Field, Index, Last, Literal, Method, More, Name, NoTerms, Paren, Prefix, Range, RangeFrom, RangeFull, RangeTo, Term, Terms, Try, argument_tokens, name, tokens}

@@ -2,7 +2,7 @@
 -- fits or stands in a pair, which fits everywhere (levels in `paired-parts`, casts in `paired-clear`). Where all fit, nothing
 -- is put in (`kept`). And part by part, a pair stands where the operand doesn't fit and nowhere else (`paired_by_parts`).
 use Rattle.std.proofs.Common.{◌≡◌, ◌≤◌, ◌↔◌, ℕ, zero, suc, List, [], ◌∷◌, ◌++◌, Bool, true, false, not, ◌&&◌, leb, Option, IfSome, refl, sym, ap, ap₂, subst, ◌∙◌, arith, leb-true}
-use Rattle.lossless_tree.specs.declared.syntax_kind.token_kind.TokenKind.TheVariants as token
+use Rattle.syntax_kind.specs.declared.syntax_kind.token_kind.TokenKind.TheVariants as token
 use Rattle.operator_terms.specs.Token.{Token, fixed}
 use Rattle.operator_terms.specs.Operators.{left_demand, right_demand}
 use Rattle.operator_terms.specs.Term.{Await, Binary, Borrow, Call, Cast, Field, Index, Last, Literal, Method, More, Name, NoTerms, Paren, Prefix, Range, RangeFrom, RangeFull, RangeTo, Term, Terms, Try, is_field, level, tokens}

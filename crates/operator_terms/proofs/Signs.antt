@@ -1,9 +1,9 @@
 -- Signs. A term's tokens, taken as signs, are those that `emit` writes for the machine; and a sign and its token determine
 -- each other.
 use Rattle.std.proofs.Common.{◌≡◌, ℕ, List, [], ◌∷◌, ◌++◌, Bool, true, false, IfSome, IfNone, refl, sym, ap, ap₂, ◌∙◌}
-use Rattle.lossless_tree.specs.declared.syntax_kind.token_kind.TokenKind.TheVariants as token
-use Rattle.lossless_tree.specs.declared.syntax_kind.SyntaxKind.{SyntaxKind}
-use Rattle.lossless_tree.specs.declared.syntax_kind.SyntaxKind.TheVariants.{Token as OfToken}
+use Rattle.syntax_kind.specs.declared.syntax_kind.token_kind.TokenKind.TheVariants as token
+use Rattle.syntax_kind.specs.declared.syntax_kind.SyntaxKind.{SyntaxKind}
+use Rattle.syntax_kind.specs.declared.syntax_kind.SyntaxKind.TheVariants.{Token as OfToken}
 use Rattle.operator_terms.specs.Token.{Token, fixed_text}
 use Rattle.operator_terms.specs.Operators.{Add, And, Assign, AssignBy, BitAnd, BitOr, BitXor, Byte, ByteStr, CStr, Char, Compare, Compute, Dereference, Divide, Equal, False, Float, Greater, GreaterOrEqual, Int, Less, LessOrEqual, LiteralKind, Multiply, Negate, Not, NotEqual, Operator, Or, PrefixOperator, Remainder, ShiftLeft, ShiftRight, Str, Subtract, True, operator_kind, prefix_kind, range_kind}
 use Rattle.operator_terms.specs.Term.{Await, Binary, Borrow, Call, Cast, Field, Index, Last, Literal, Method, More, Name, NoTerms, Paren, Prefix, Range, RangeFrom, RangeFull, RangeTo, Term, Terms, Try, argument_tokens, literal, tokens}

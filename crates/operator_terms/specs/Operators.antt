@@ -1,8 +1,8 @@
 -- The operators and literals of operator expressions: closed sets, each tied to the kind of its token, with the level
 -- of each binary operator and what it demands of its two sides.
 use Rattle.std.specs.Prelude.{ℕ, suc, Bool, true, false}
-use Rattle.lossless_tree.specs.declared.syntax_kind.token_kind.TokenKind.{TokenKind}
-use Rattle.lossless_tree.specs.declared.syntax_kind.token_kind.TokenKind.TheVariants as token
+use Rattle.syntax_kind.specs.declared.syntax_kind.token_kind.TokenKind.{TokenKind}
+use Rattle.syntax_kind.specs.declared.syntax_kind.token_kind.TokenKind.TheVariants as token
 
 -- the literals that are one token (Rust Reference, "Literal expressions")
 pub data LiteralKind : Type 0 where

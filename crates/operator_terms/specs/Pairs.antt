@@ -1,6 +1,6 @@
 -- Pairs of parentheses: put round each operand that doesn't fit, and one pair taken out.
 use Rattle.std.specs.Prelude.{ℕ, zero, suc, List, [], ◌∷◌, Bool, true, false, not, ◌&&◌}
-use Rattle.lossless_tree.specs.declared.syntax_kind.SyntaxKind.TheVariants.{Token as OfToken}
+use Rattle.syntax_kind.specs.declared.syntax_kind.SyntaxKind.TheVariants.{Token as OfToken}
 use Rattle.operator_terms.specs.Operators.{Operator, left_demand, right_demand, operator_kind}
 use Rattle.operator_terms.specs.Term.{Term, Literal, Name, Paren, Field, Await, Try, Cast, Method, Call, Index, Prefix, Borrow, Binary, RangeFull, RangeFrom, RangeTo, Range, Terms, NoTerms, Last, More, tokens}
 use Rattle.operator_terms.specs.Reading.{is_angle}

@@ -1,9 +1,9 @@
 -- How tokens read as a term: the layered grammar of operator expressions, after the Rust Reference's table in
 -- "Expression precedence", and one rule on casts.
 use Rattle.std.specs.Prelude.{◌≡◌, ◌≤◌, ℕ, List, [], ◌∷◌, ◌++◌, Bool, true, false, not, ◌&&◌}
-use Rattle.lossless_tree.specs.declared.syntax_kind.SyntaxKind.{SyntaxKind}
-use Rattle.lossless_tree.specs.declared.syntax_kind.SyntaxKind.TheVariants.{Token as OfToken}
-use Rattle.lossless_tree.specs.declared.syntax_kind.token_kind.TokenKind.TheVariants as token
+use Rattle.syntax_kind.specs.declared.syntax_kind.SyntaxKind.{SyntaxKind}
+use Rattle.syntax_kind.specs.declared.syntax_kind.SyntaxKind.TheVariants.{Token as OfToken}
+use Rattle.syntax_kind.specs.declared.syntax_kind.token_kind.TokenKind.TheVariants as token
 use Rattle.operator_terms.specs.Token.{Token, fixed}
 use Rattle.operator_terms.specs.Operators.{operator_level, left_demand, right_demand, operator_kind, prefix_kind, range_kind}
 use Rattle.operator_terms.specs.Term.{Term, Literal, Name, Paren, Field, Await, Try, Cast, Method, Call, Index, Prefix, Borrow, Binary, RangeFull, RangeFrom, RangeTo, Range, Terms, NoTerms, Last, More, is_field, literal, name, borrow_tokens}

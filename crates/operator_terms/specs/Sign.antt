@@ -2,9 +2,9 @@
 -- text of fixed kinds, which `CarriesFixedText` asks for: so whoever reads trees
 -- or tokens goes by a small set of cases and not by all kinds.
 use Rattle.std.specs.Prelude.{◌≡◌, ℕ, List, [], ◌∷◌, Bool, true, false, Option, Some, None}
-use Rattle.lossless_tree.specs.declared.syntax_kind.SyntaxKind.{SyntaxKind}
-use Rattle.lossless_tree.specs.declared.syntax_kind.SyntaxKind.TheVariants.{Token as OfToken}
-use Rattle.lossless_tree.specs.declared.syntax_kind.token_kind.TokenKind.TheVariants as token
+use Rattle.syntax_kind.specs.declared.syntax_kind.SyntaxKind.{SyntaxKind}
+use Rattle.syntax_kind.specs.declared.syntax_kind.SyntaxKind.TheVariants.{Token as OfToken}
+use Rattle.syntax_kind.specs.declared.syntax_kind.token_kind.TokenKind.TheVariants as token
 use Rattle.operator_terms.specs.Token.{Token, fixed_text, fixed}
 use Rattle.operator_terms.specs.Term.{literal, name}
 use Rattle.operator_terms.specs.Operators.{LiteralKind, Int, Float, Char, Byte, Str, ByteStr, CStr, True, False, Add, Subtract, Multiply, Divide, Remainder, ShiftLeft, ShiftRight, BitXor, BitOr, BitAnd, Equal, NotEqual, Less, LessOrEqual, Greater, GreaterOrEqual, Operator, Or, And, Compare, Compute, Assign, AssignBy, operator_kind, range_kind}

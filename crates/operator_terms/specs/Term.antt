@@ -2,7 +2,7 @@
 use Rattle.std.specs.Prelude.{ℕ, List, [], ◌∷◌, ◌++◌, Bool, true, false}
 use Rattle.operator_terms.specs.Token.{Token, fixed, free}
 use Rattle.operator_terms.specs.Operators.{LiteralKind, Operator, PrefixOperator, operator_level, literal_kind, operator_kind, prefix_kind, range_kind}
-use Rattle.lossless_tree.specs.declared.syntax_kind.token_kind.TokenKind.TheVariants as token
+use Rattle.syntax_kind.specs.declared.syntax_kind.token_kind.TokenKind.TheVariants as token
 
 -- The forms. A range has both ends (`Range`), one (`RangeFrom`, `RangeTo`) or none (`RangeFull`): so `..=` always has
 -- its end. `Cast` is to a type of one name.

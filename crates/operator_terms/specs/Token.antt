@@ -1,9 +1,9 @@
 -- A token of an operator expression.
 use Rattle.std.specs.Prelude.{ℕ, List, [], codes}
-use Rattle.lossless_tree.specs.declared.syntax_kind.SyntaxKind.{SyntaxKind}
-use Rattle.lossless_tree.specs.declared.syntax_kind.SyntaxKind.TheVariants.{Token as OfToken}
-use Rattle.lossless_tree.specs.declared.syntax_kind.token_kind.TokenKind.{TokenKind}
-use Rattle.lossless_tree.specs.declared.syntax_kind.token_kind.TokenKind.TheVariants as token
+use Rattle.syntax_kind.specs.declared.syntax_kind.SyntaxKind.{SyntaxKind}
+use Rattle.syntax_kind.specs.declared.syntax_kind.SyntaxKind.TheVariants.{Token as OfToken}
+use Rattle.syntax_kind.specs.declared.syntax_kind.token_kind.TokenKind.{TokenKind}
+use Rattle.syntax_kind.specs.declared.syntax_kind.token_kind.TokenKind.TheVariants as token
 
 -- a kind, and a text in bytes
 pub record Token : Type 0 where

@@ -3,7 +3,7 @@
 //! Each law is the contract of a function that does nothing. A crate above uses one by calling the
 //! function, which costs nothing, or by naming its lemma in a proof.
 ghost use Rattle.std.specs.Prelude.{◌≡◌, ◌≤◌, ◌↔◌, ◌++◌, ◌∷◌, ℕ, List, Bool, true, false, Some, IfSome, IfNone, [], codes};
-ghost use Rattle.lossless_tree.specs.declared.syntax_kind.token_kind.TokenKind.TheVariants as token;
+ghost use Rattle.syntax_kind.specs.declared.syntax_kind.token_kind.TokenKind.TheVariants as token;
 ghost use Rattle.operator_terms.specs.AllFit.{all_fit};
 ghost use Rattle.operator_terms.specs.Headline.{IsOneReading, AsksNowhere, FindsNeedless, has_as};
 ghost use Rattle.operator_terms.specs.Pairs.{fits_before, pair_unless, paired_before, paired, without};

@@ -1,9 +1,9 @@
 -- What a line can be read as.
 use Rattle.std.proofs.Common.{◌≡◌, ◌≢◌, ℕ, ◌<◌, ◌⊎◌, inl, inr, List, [], ◌∷◌, ◌++◌, length, get_or, drop, refl, sym, ap, subst, ◌∙◌, arith}
 use Rattle.std.specs.Prelude.{None, Some, Ok, Err, codes}
-use Rattle.lossless_tree.specs.declared.syntax_kind.SyntaxKind.{SyntaxKind}
-use Rattle.lossless_tree.specs.Kinds.{kind_name, IsKind}
-use Rattle.lossless_tree.specs.Events.{Event, enter, leaf, exit}
+use Rattle.syntax_kind.specs.declared.syntax_kind.SyntaxKind.{SyntaxKind}
+use Rattle.syntax_kind.specs.Kinds.{kind_name, IsKind}
+use Rattle.tree_model.specs.Events.{Event, enter, leaf, exit}
 use Rattle.syntax_tool.specs.declared.refusal.Refusal.{Refusal}
 use Rattle.syntax_tool.specs.declared.refusal.Refusal.TheVariants.{BadLine, BadKind, Memory}
 use Rattle.syntax_tool.specs.Escapes.{unescaped}

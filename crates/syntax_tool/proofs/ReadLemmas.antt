@@ -5,7 +5,7 @@ use Rattle.std.proofs.Math.Seq.{get_or-append_seam, drop-append_seam}
 use Rattle.std.proofs.lemmas.List.{drop-drop}
 use Rattle.std.proofs.lemmas.Str.{IsUtf8-drop, IsUtf8-nil, IsCharBoundary-after_ascii}
 use Rattle.std.proofs.lemmas.Bool.Decides.{nat_tests}
-use Rattle.lossless_tree.specs.Events.{Event}
+use Rattle.tree_model.specs.Events.{Event}
 use Rattle.syntax_tool.specs.declared.refusal.Refusal.{Refusal}
 use Rattle.syntax_tool.specs.declared.refusal.Refusal.TheVariants.{Memory}
 use Rattle.syntax_tool.specs.Lines.{HasNo, IsCut, lines_of, onto_first, ReadsLine, ReadsLines, behind, AppendsEvent, RefusesLine}

@@ -1,7 +1,7 @@
 -- The lines of an event text, and the events that they stand for.
 use Rattle.std.specs.Prelude.{◌≡◌, ◌≢◌, ℕ, ◌<◌, ◌⊎◌, List, [], ◌∷◌, ◌++◌, length, Some, Result, Ok, Err, codes, ⊤, ◌==◌, if◌then◌else◌}
-use Rattle.lossless_tree.specs.Kinds.{kind_name, IsKind}
-use Rattle.lossless_tree.specs.Events.{Event, enter, leaf, exit}
+use Rattle.syntax_kind.specs.Kinds.{kind_name, IsKind}
+use Rattle.tree_model.specs.Events.{Event, enter, leaf, exit}
 use Rattle.syntax_tool.specs.declared.refusal.Refusal.{Refusal}
 use Rattle.syntax_tool.specs.declared.refusal.Refusal.TheVariants.{BadLine, BadKind, Memory}
 use Rattle.syntax_tool.specs.Escapes.{unescaped}

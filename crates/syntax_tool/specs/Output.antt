@@ -1,11 +1,11 @@
 -- What the program writes, and its exit status, for a command and what was read.
 use Rattle.std.specs.Prelude.{◌≡◌, ℕ, ◌<◌, length, ◌⊎◌, List, [], ◌++◌, take, Option, IfSome, MatchOption, Result, Ok, Err, codes, IsUtf8}
 use Rattle.std.specs.Io.KnownBytes.{Appends}
-use Rattle.lossless_tree.specs.Tree.{Tree}
-use Rattle.lossless_tree.specs.Events.{Event, BuildsNode, first_refusal}
+use Rattle.tree_model.specs.Tree.{Tree}
+use Rattle.tree_model.specs.Events.{Event, BuildsNode, first_refusal}
 use Rattle.lossless_tree.specs.Dump.{dump_of}
-use Rattle.lossless_tree.specs.declared.error.FinishError.{FinishError}
-use Rattle.lossless_tree.specs.declared.error.FinishError.TheVariants as finish
+use Rattle.tree_model.specs.declared.error.FinishError.{FinishError}
+use Rattle.tree_model.specs.declared.error.FinishError.TheVariants as finish
 use Rattle.syntax_tool.specs.declared.refusal.Refusal.{Refusal}
 use Rattle.syntax_tool.specs.declared.refusal.Refusal.TheVariants.{Read, NotUtf8, BadLine, BadKind, TooLong, OverClosed, Unclosed, Empty, ManyRoots, TokenRoot, Memory}
 use Rattle.syntax_tool.specs.Lines.{lines_of, ReadsLines}

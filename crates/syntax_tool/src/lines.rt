@@ -1,7 +1,7 @@
 //! One line of an event text.
 ghost use Rattle.std.specs.Prelude.{◌≡◌, ◌↔◌, ◌<◌, ◌++◌, ◌∷◌, [], ◌⊎◌, IsTrue, IfOk, OnOk, IfErr, codes};
-ghost use Rattle.lossless_tree.specs.Kinds.{kind_name, IsKind};
-ghost use Rattle.lossless_tree.specs.declared.syntax_kind.SyntaxKind.{SyntaxKind};
+ghost use Rattle.syntax_kind.specs.Kinds.{kind_name, IsKind};
+ghost use Rattle.syntax_kind.specs.declared.syntax_kind.SyntaxKind.{SyntaxKind};
 ghost use Rattle.syntax_tool.specs.Lines.{HasNo, IsCut, IsWord, AppendsEvent, RefusesLine};
 
 use crate::escapes::unescape;

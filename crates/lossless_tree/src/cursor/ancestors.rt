@@ -1,7 +1,7 @@
 //! A node and the nodes above it.
 ghost use Rattle.std.specs.Prelude.{◌≡◌};
 ghost use Rattle.std.specs.Iterator.{YieldsFirst, item_count};
-ghost use Rattle.lossless_tree.specs.Cursor.{ancestors_of, ancestors_from};
+ghost use Rattle.tree_model.specs.Cursor.{ancestors_of, ancestors_from};
 
 use super::node::SyntaxNode;
 use std::marker::Model;
@@ -15,7 +15,7 @@ pub struct Ancestors {
 impl Model for Ancestors {
     ghost use Rattle.std.specs.Prelude.{List};
     ghost use Rattle.std.specs.Coded.{coded_list};
-    ghost use Rattle.lossless_tree.specs.Cursor.{Cursor, cursor_code, ancestors_from};
+    ghost use Rattle.tree_model.specs.Cursor.{Cursor, cursor_code, ancestors_from};
 
     ghost Value = { List Cursor };
 

@@ -1,15 +1,15 @@
 //! The children of a node.
 ghost use Rattle.std.specs.Prelude.{◌≡◌, map};
 ghost use Rattle.std.specs.Iterator.{YieldsFirst, item_count};
-ghost use Rattle.lossless_tree.specs.Rows.{IsRow};
-ghost use Rattle.lossless_tree.specs.Cursor.{children_of, at_node, cursor_at};
+ghost use Rattle.tree_model.specs.Rows.{IsRow};
+ghost use Rattle.tree_model.specs.Cursor.{children_of, at_node, cursor_at};
 ghost use Rattle.lossless_tree.specs.Element.{element_of};
 
 use super::element::{NodeOrToken, SyntaxElement, element};
 use super::node::SyntaxNode;
-use crate::shared::Shared;
-use crate::table::Table;
+use shared_pointer::Shared;
 use std::marker::Model;
+use tree_model::Table;
 
 /// The children of a node, nodes and tokens, in order. A clause sees the cursors that are left.
 #[derive(Clone, Drop)]
@@ -22,7 +22,7 @@ pub struct SyntaxElementChildren {
 impl Model for SyntaxElementChildren {
     ghost use Rattle.std.specs.Prelude.{List};
     ghost use Rattle.std.specs.Coded.{coded_list};
-    ghost use Rattle.lossless_tree.specs.Cursor.{Cursor, cursor_code, siblings_left, HaveParentEnd};
+    ghost use Rattle.tree_model.specs.Cursor.{Cursor, cursor_code, siblings_left, HaveParentEnd};
 
     ghost Value = { List Cursor };
 
@@ -75,7 +75,7 @@ impl Model for SyntaxNodeChildren {
     ghost use Rattle.std.specs.Prelude.{List};
     ghost use Rattle.std.specs.List.{filter};
     ghost use Rattle.std.specs.Coded.{coded_list};
-    ghost use Rattle.lossless_tree.specs.Cursor.{Cursor, cursor_code, at_node};
+    ghost use Rattle.tree_model.specs.Cursor.{Cursor, cursor_code, at_node};
 
     ghost Value = { List Cursor };
 

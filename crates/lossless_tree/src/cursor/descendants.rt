@@ -2,15 +2,15 @@
 ghost use Rattle.std.specs.Prelude.{◌≡◌, map};
 ghost use Rattle.std.specs.List.{filter};
 ghost use Rattle.std.specs.Iterator.{YieldsFirst, item_count};
-ghost use Rattle.lossless_tree.specs.Rows.{IsRow};
-ghost use Rattle.lossless_tree.specs.Cursor.{descendants_of, cursor_at, at_node};
+ghost use Rattle.tree_model.specs.Rows.{IsRow};
+ghost use Rattle.tree_model.specs.Cursor.{descendants_of, cursor_at, at_node};
 ghost use Rattle.lossless_tree.specs.Element.{element_of};
 
 use super::element::{NodeOrToken, SyntaxElement, element};
 use super::node::SyntaxNode;
-use crate::shared::Shared;
-use crate::table::Table;
+use shared_pointer::Shared;
 use std::marker::Model;
+use tree_model::Table;
 
 /// The nodes and tokens of a subtree in preorder, itself first. A clause sees the cursors that are left.
 #[derive(Clone, Drop)]
@@ -23,8 +23,8 @@ pub struct DescendantsWithTokens {
 impl Model for DescendantsWithTokens {
     ghost use Rattle.std.specs.Prelude.{List, ◌-◌};
     ghost use Rattle.std.specs.Coded.{coded_list};
-    ghost use Rattle.lossless_tree.specs.Cursor.{Cursor, cursor_code, cursors_from};
-    ghost use Rattle.lossless_tree.specs.Rows.{EndsWithin};
+    ghost use Rattle.tree_model.specs.Cursor.{Cursor, cursor_code, cursors_from};
+    ghost use Rattle.tree_model.specs.Rows.{EndsWithin};
 
     ghost Value = { List Cursor };
 
@@ -77,7 +77,7 @@ impl Model for Descendants {
     ghost use Rattle.std.specs.Prelude.{List};
     ghost use Rattle.std.specs.List.{filter};
     ghost use Rattle.std.specs.Coded.{coded_list};
-    ghost use Rattle.lossless_tree.specs.Cursor.{Cursor, cursor_code, at_node};
+    ghost use Rattle.tree_model.specs.Cursor.{Cursor, cursor_code, at_node};
 
     ghost Value = { List Cursor };
 

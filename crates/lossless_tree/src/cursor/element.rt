@@ -1,23 +1,22 @@
 //! A node or a token.
 ghost use Rattle.std.specs.Prelude.{◌≡◌, option_map, option_copied, IfOk, string_bytes};
-ghost use Rattle.lossless_tree.specs.Tree.{kind_of};
-ghost use Rattle.lossless_tree.specs.Rows.{IsRow};
-ghost use Rattle.lossless_tree.specs.Cursor.{cursor_at, focus, range_of, parent_of, next_sibling_of, prev_sibling_of, following_of, siblings_in};
+ghost use Rattle.tree_model.specs.Tree.{kind_of};
+ghost use Rattle.tree_model.specs.Rows.{IsRow};
+ghost use Rattle.tree_model.specs.Cursor.{cursor_at, focus, range_of, parent_of, next_sibling_of, prev_sibling_of, following_of, siblings_in};
 ghost use Rattle.lossless_tree.specs.Element.{element_of, cursor_of, node_part, token_part, ancestors_of_element};
 ghost use Rattle.std.specs.List.{find};
 ghost use Rattle.lossless_tree.specs.Trees.{is_no_trivia};
 ghost use Rattle.lossless_tree.specs.Dump.{dump_of};
 
 use super::ancestors::Ancestors;
-use super::direction::Direction;
 use super::node::SyntaxNode;
 use super::siblings::SyntaxElementSiblings;
 use super::token::SyntaxToken;
-use crate::shared::Shared;
-use crate::syntax_kind::SyntaxKind;
-use crate::table::Table;
-use crate::text_range::TextRange;
+use shared_pointer::Shared;
 use std::alloc::{AllocError, Global};
+use syntax_kind::SyntaxKind;
+use text_size::TextRange;
+use tree_model::{Direction, Table};
 
 /// A node or a token, of any two types that stand for them.
 #[derive(Clone, PartialEq, Eq, Hash, Drop)]

@@ -1,12 +1,12 @@
 //! When two cursors are equal, and what their hash is made of.
 ghost use Rattle.std.specs.Prelude.{◌≡◌, fold};
-ghost use Rattle.lossless_tree.specs.Rows.{IsRow};
-ghost use Rattle.lossless_tree.specs.Cursor.{cursor_at};
-ghost use Rattle.lossless_tree.specs.Equality.{is_same_cursor, cursor_hash};
+ghost use Rattle.tree_model.specs.Rows.{IsRow};
+ghost use Rattle.tree_model.specs.Cursor.{cursor_at};
+ghost use Rattle.tree_model.specs.Equality.{is_same_cursor, cursor_hash};
 
-use crate::shared::Shared;
-use crate::table::Table;
+use shared_pointer::Shared;
 use std::hash::{Hash, Hasher};
+use tree_model::Table;
 
 // Whether a row of a table is the same place as a row of another in an equal tree. Of one shared table it takes
 // constant time; of two it compares all of both.

@@ -1,20 +1,19 @@
 //! Nodes.
 ghost use Rattle.std.specs.Prelude.{◌≡◌, option_map, IfOk, IfSome, reverse, string_bytes, ◌↔◌, ◌≤◌, ◌^◌, length, IsErrOf};
 ghost use Rattle.std.specs.List.{filter, find};
-ghost use Rattle.lossless_tree.specs.Tree.{text, kind_of, IsNode, forest_of_children};
-ghost use Rattle.lossless_tree.specs.Rows.{IsRow};
-ghost use Rattle.lossless_tree.specs.Cursor.{focus, range_of, parent_of, ancestors_of, children_of, first_child_of, last_child_of, next_sibling_of, prev_sibling_of, following_of, preceding_of, siblings_in, siblings_from, at_node, at_token, descendants_of, walk_of, moves_at_node, range_start};
-ghost use Rattle.lossless_tree.specs.declared.error.ReplaceError.TheVariants.{TooLong};
+ghost use Rattle.tree_model.specs.Tree.{text, kind_of, IsNode, forest_of_children};
+ghost use Rattle.tree_model.specs.Rows.{IsRow};
+ghost use Rattle.tree_model.specs.Cursor.{focus, range_of, parent_of, ancestors_of, children_of, first_child_of, last_child_of, next_sibling_of, prev_sibling_of, following_of, preceding_of, siblings_in, siblings_from, at_node, at_token, descendants_of, walk_of, moves_at_node, range_start};
+ghost use Rattle.tree_model.specs.declared.error.ReplaceError.TheVariants.{TooLong};
 ghost use Rattle.lossless_tree.specs.Trees.{child_text, is_no_trivia};
-ghost use Rattle.lossless_tree.specs.Edit.{replace, root_of};
-ghost use Rattle.lossless_tree.specs.Placed.{IsPlaced};
+ghost use Rattle.tree_model.specs.Edit.{replace, root_of};
+ghost use Rattle.tree_model.specs.Placed.{IsPlaced};
 ghost use Rattle.lossless_tree.specs.Element.{element_of};
 ghost use Rattle.lossless_tree.specs.Dump.{dump_of};
 
 use super::ancestors::Ancestors;
 use super::children::{SyntaxElementChildren, SyntaxNodeChildren};
 use super::descendants::{Descendants, DescendantsWithTokens};
-use super::direction::Direction;
 use super::element::{SyntaxElement, element};
 use super::equality::{feed, is_same};
 use super::preorder::{Preorder, PreorderWithTokens};
@@ -23,16 +22,14 @@ use super::text::SyntaxText;
 use super::token::SyntaxToken;
 use super::token_at_offset::TokenAtOffset;
 use crate::dump;
-use crate::error::ReplaceError;
-use crate::shared::Shared;
-use crate::syntax_kind::SyntaxKind;
-use crate::table::Table;
-use crate::text_range::TextRange;
-use crate::text_size::TextSize;
 use crate::trees::Trees;
+use shared_pointer::Shared;
 use std::alloc::{AllocError, Global};
 use std::hash::{Hash, Hasher};
 use std::marker::Model;
+use syntax_kind::SyntaxKind;
+use text_size::{TextRange, TextSize};
+use tree_model::{Direction, ReplaceError, Table};
 
 /// A node of a tree: a cursor, which shares the whole tree with every other cursor of it.
 ///
@@ -44,14 +41,14 @@ pub struct SyntaxNode {
 }
 
 impl Model for SyntaxNode {
-    ghost use Rattle.lossless_tree.specs.Cursor.{Cursor, cursor_code};
+    ghost use Rattle.tree_model.specs.Cursor.{Cursor, cursor_code};
 
     ghost Value = { Cursor };
 
     ghost coded = { cursor_code };
 
-    ghost use Rattle.lossless_tree.specs.Tree.{IsNode};
-    ghost use Rattle.lossless_tree.specs.Rows.{place_at, tree_at, IsRow};
+    ghost use Rattle.tree_model.specs.Tree.{IsNode};
+    ghost use Rattle.tree_model.specs.Rows.{place_at, tree_at, IsRow};
 
     ghost view = { λ a. record { tree = a.table.value; place = place_at a.table.value a.row } };
 
@@ -60,9 +57,9 @@ impl Model for SyntaxNode {
 
 impl SyntaxNode {
     ghost use Rattle.std.specs.Prelude.{◌≡◌};
-    ghost use Rattle.lossless_tree.specs.Tree.{IsNode};
-    ghost use Rattle.lossless_tree.specs.Rows.{IsRow, tree_at};
-    ghost use Rattle.lossless_tree.specs.Cursor.{cursor_at, IsRoot};
+    ghost use Rattle.tree_model.specs.Tree.{IsNode};
+    ghost use Rattle.tree_model.specs.Rows.{IsRow, tree_at};
+    ghost use Rattle.tree_model.specs.Cursor.{cursor_at, IsRoot};
 
     // The root of a table whose first row is a node.
     pub(crate) fn root(table: Shared<Table>) -> SyntaxNode
@@ -359,12 +356,13 @@ impl SyntaxNode {
 }
 
 impl SyntaxNode {
-    ghost use Rattle.lossless_tree.specs.Tree.{IsToken};
-    ghost use Rattle.lossless_tree.specs.Rows.{IsRow, tree_at};
-    ghost use Rattle.lossless_tree.specs.Cursor.{cursor_at};
-    ghost use Rattle.lossless_tree.specs.TokenSearch.{tokens_at, found_tokens};
-    ghost use Rattle.lossless_tree.specs.Covering.{covering_of};
-    ghost use Rattle.lossless_tree.specs.Pointer.{Finds};
+    ghost use Rattle.tree_model.specs.Tree.{IsToken};
+    ghost use Rattle.tree_model.specs.Rows.{IsRow, tree_at};
+    ghost use Rattle.tree_model.specs.Cursor.{cursor_at};
+    ghost use Rattle.tree_model.specs.TokenSearch.{tokens_at};
+    ghost use Rattle.lossless_tree.specs.TokenAtOffset.{found_tokens};
+    ghost use Rattle.tree_model.specs.Covering.{covering_of};
+    ghost use Rattle.tree_model.specs.Pointer.{Finds};
 
     /// The tokens of this node at an offset of the whole tree's text: those that have a text and whose range, ends
     /// included, holds the offset. Between two tokens there are two; at an offset outside of the node there is none.
@@ -464,8 +462,8 @@ impl Clone for SyntaxNode {
 
 /// Equal where both stand at the same place in equal trees. Of cursors of one tree it takes constant time.
 impl PartialEq for SyntaxNode {
-    ghost use Rattle.lossless_tree.specs.Equality.{is_same_cursor};
-    ghost use Rattle.lossless_tree.specs.EqualityLaws.{cursor_equivalence};
+    ghost use Rattle.tree_model.specs.Equality.{is_same_cursor};
+    ghost use Rattle.tree_model.specs.EqualityLaws.{cursor_equivalence};
     ghost use Rattle.std.specs.Cmp.{partial_equiv_from_equiv};
 
     ghost eq = { is_same_cursor };
@@ -478,15 +476,15 @@ impl PartialEq for SyntaxNode {
 }
 
 impl Eq for SyntaxNode {
-    ghost use Rattle.lossless_tree.specs.EqualityLaws.{cursor_equivalence};
+    ghost use Rattle.tree_model.specs.EqualityLaws.{cursor_equivalence};
 
     ghost laws = { cursor_equivalence };
 }
 
 /// Equal cursors hash alike. It takes constant time.
 impl Hash for SyntaxNode {
-    ghost use Rattle.lossless_tree.specs.Equality.{cursor_hash};
-    ghost use Rattle.lossless_tree.specs.EqualityLaws.{cursors_alike};
+    ghost use Rattle.tree_model.specs.Equality.{cursor_hash};
+    ghost use Rattle.tree_model.specs.EqualityLaws.{cursors_alike};
 
     ghost hash_input = { cursor_hash };
 

@@ -2,15 +2,15 @@
 ghost use Rattle.std.specs.Prelude.{◌≡◌, ◌∷◌, [], true, false, map, length, None, MatchOption, IfSome};
 ghost use Rattle.std.specs.List.{filter};
 ghost use Rattle.std.specs.Iterator.{YieldsFirst, item_count};
-ghost use Rattle.lossless_tree.specs.Rows.{IsRow};
-ghost use Rattle.lossless_tree.specs.Cursor.{walk_of, walk_left, cursor_at, IsWalk, MovesLevel, moves_at_node};
+ghost use Rattle.tree_model.specs.Rows.{IsRow};
+ghost use Rattle.tree_model.specs.Cursor.{walk_of, walk_left, cursor_at, IsWalk, MovesLevel, moves_at_node};
 ghost use Rattle.lossless_tree.specs.WalkEvent.{walk_event, node_event, event_of_node};
 
 use super::element::{NodeOrToken, SyntaxElement, element};
 use super::node::SyntaxNode;
-use crate::shared::Shared;
-use crate::table::Table;
+use shared_pointer::Shared;
 use std::marker::Model;
+use tree_model::Table;
 
 /// What a walk does at an element: it enters it, walks what is below, and leaves it.
 #[derive(Clone, PartialEq, Eq, Hash, Drop)]
@@ -33,7 +33,7 @@ pub struct PreorderWithTokens {
 impl Model for PreorderWithTokens {
     ghost use Rattle.std.specs.Prelude.{List, Bool};
     ghost use Rattle.std.specs.Coded.{coded_list, coded×, coded_bool};
-    ghost use Rattle.lossless_tree.specs.Cursor.{Cursor, cursor_code, walk_left, IsWalk};
+    ghost use Rattle.tree_model.specs.Cursor.{Cursor, cursor_code, walk_left, IsWalk};
 
     ghost Value = { List (Bool × Cursor) };
 
@@ -154,7 +154,7 @@ impl Model for Preorder {
     ghost use Rattle.std.specs.Prelude.{List, Bool};
     ghost use Rattle.std.specs.List.{filter};
     ghost use Rattle.std.specs.Coded.{coded_list, coded×, coded_bool};
-    ghost use Rattle.lossless_tree.specs.Cursor.{Cursor, cursor_code, moves_at_node};
+    ghost use Rattle.tree_model.specs.Cursor.{Cursor, cursor_code, moves_at_node};
 
     ghost Value = { List (Bool × Cursor) };
 

@@ -2,17 +2,16 @@
 ghost use Rattle.std.specs.Prelude.{◌≡◌, map, IfSome, option_map};
 ghost use Rattle.std.specs.List.{filter, find};
 ghost use Rattle.std.specs.Iterator.{YieldsFirst, item_count};
-ghost use Rattle.lossless_tree.specs.Rows.{IsRow};
-ghost use Rattle.lossless_tree.specs.Cursor.{siblings_from, at_node};
+ghost use Rattle.tree_model.specs.Rows.{IsRow};
+ghost use Rattle.tree_model.specs.Cursor.{siblings_from, at_node};
 ghost use Rattle.lossless_tree.specs.Element.{element_of, is_trivia_element};
 ghost use Rattle.lossless_tree.specs.Trees.{is_no_trivia};
 
-use super::direction::Direction;
 use super::element::{NodeOrToken, SyntaxElement, element};
 use super::node::SyntaxNode;
-use crate::shared::Shared;
-use crate::table::Table;
+use shared_pointer::Shared;
 use std::marker::Model;
+use tree_model::{Direction, Table};
 
 /// A node or token and its siblings in a direction, nodes and tokens. A clause sees the cursors that are left.
 #[derive(Clone, Drop)]
@@ -25,8 +24,8 @@ pub struct SyntaxElementSiblings {
 impl Model for SyntaxElementSiblings {
     ghost use Rattle.std.specs.Prelude.{List, IfSome};
     ghost use Rattle.std.specs.Coded.{coded_list};
-    ghost use Rattle.lossless_tree.specs.Cursor.{Cursor, cursor_code, siblings_from};
-    ghost use Rattle.lossless_tree.specs.Rows.{IsRow};
+    ghost use Rattle.tree_model.specs.Cursor.{Cursor, cursor_code, siblings_from};
+    ghost use Rattle.tree_model.specs.Rows.{IsRow};
 
     ghost Value = { List Cursor };
 
@@ -97,7 +96,7 @@ impl Model for SyntaxNodeSiblings {
     ghost use Rattle.std.specs.Prelude.{List};
     ghost use Rattle.std.specs.List.{filter};
     ghost use Rattle.std.specs.Coded.{coded_list};
-    ghost use Rattle.lossless_tree.specs.Cursor.{Cursor, cursor_code, at_node};
+    ghost use Rattle.tree_model.specs.Cursor.{Cursor, cursor_code, at_node};
 
     ghost Value = { List Cursor };
 

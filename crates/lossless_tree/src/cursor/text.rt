@@ -1,14 +1,14 @@
 //! The text of a node.
 ghost use Rattle.std.specs.Prelude.{◌≡◌, ◌↔◌, length, IfOk, IsTrue, MatchOption, string_bytes};
-ghost use Rattle.lossless_tree.specs.Tree.{text};
-ghost use Rattle.lossless_tree.specs.Rows.{IsRow, tree_at};
+ghost use Rattle.tree_model.specs.Tree.{text};
+ghost use Rattle.tree_model.specs.Rows.{IsRow, tree_at};
 ghost use Rattle.lossless_tree.specs.SyntaxText.{StartsAt, NoneStartsAt};
 
-use crate::table::Table;
-use crate::text_size::TextSize;
 use std::alloc::{AllocError, Global};
 use std::fmt;
 use std::marker::Model;
+use text_size::TextSize;
+use tree_model::Table;
 
 /// The text of a node, borrowed from its tree. A clause sees the bytes.
 #[derive(Drop)]

@@ -1,30 +1,28 @@
 //! Tokens.
 ghost use Rattle.std.specs.Prelude.{◌≡◌, option_map, IfOk, string_bytes, ◌↔◌, ◌≤◌, ◌^◌, length, IsErrOf};
-ghost use Rattle.lossless_tree.specs.Tree.{text, kind_of, token, IsToken};
-ghost use Rattle.lossless_tree.specs.Cursor.{focus, range_of, parent_of, ancestors_from, next_sibling_of, prev_sibling_of, following_of, siblings_in, all_tokens, IsRightBehind, IsRightBefore};
-ghost use Rattle.lossless_tree.specs.declared.error.ReplaceError.TheVariants.{TooLong};
-ghost use Rattle.lossless_tree.specs.Edit.{replace, root_of};
-ghost use Rattle.lossless_tree.specs.Placed.{IsPlaced};
+ghost use Rattle.tree_model.specs.Tree.{text, kind_of, token, IsToken};
+ghost use Rattle.tree_model.specs.Cursor.{focus, range_of, parent_of, ancestors_from, next_sibling_of, prev_sibling_of, following_of, siblings_in, all_tokens, IsRightBehind, IsRightBefore};
+ghost use Rattle.tree_model.specs.declared.error.ReplaceError.TheVariants.{TooLong};
+ghost use Rattle.tree_model.specs.Edit.{replace, root_of};
+ghost use Rattle.tree_model.specs.Placed.{IsPlaced};
 ghost use Rattle.std.specs.List.{find};
 ghost use Rattle.lossless_tree.specs.Trees.{is_no_trivia};
 ghost use Rattle.lossless_tree.specs.Element.{element_of};
 ghost use Rattle.lossless_tree.specs.Dump.{dump_of};
 
 use super::ancestors::Ancestors;
-use super::direction::Direction;
 use super::element::{SyntaxElement, element};
 use super::equality::{feed, is_same};
 use super::node::SyntaxNode;
 use super::siblings::{SyntaxElementSiblings, first_no_trivia};
 use crate::dump;
-use crate::error::ReplaceError;
-use crate::shared::Shared;
-use crate::syntax_kind::SyntaxKind;
-use crate::table::Table;
-use crate::text_range::TextRange;
+use shared_pointer::Shared;
 use std::alloc::{AllocError, Global};
 use std::hash::{Hash, Hasher};
 use std::marker::Model;
+use syntax_kind::SyntaxKind;
+use text_size::TextRange;
+use tree_model::{Direction, ReplaceError, Table};
 
 /// A token of a tree: a cursor, which shares the whole tree with every other cursor of it.
 ///
@@ -36,14 +34,14 @@ pub struct SyntaxToken {
 }
 
 impl Model for SyntaxToken {
-    ghost use Rattle.lossless_tree.specs.Cursor.{Cursor, cursor_code};
+    ghost use Rattle.tree_model.specs.Cursor.{Cursor, cursor_code};
 
     ghost Value = { Cursor };
 
     ghost coded = { cursor_code };
 
-    ghost use Rattle.lossless_tree.specs.Tree.{IsToken};
-    ghost use Rattle.lossless_tree.specs.Rows.{place_at, tree_at, IsRow};
+    ghost use Rattle.tree_model.specs.Tree.{IsToken};
+    ghost use Rattle.tree_model.specs.Rows.{place_at, tree_at, IsRow};
 
     ghost view = { λ a. record { tree = a.table.value; place = place_at a.table.value a.row } };
 
@@ -52,9 +50,9 @@ impl Model for SyntaxToken {
 
 impl SyntaxToken {
     ghost use Rattle.std.specs.Prelude.{◌≡◌};
-    ghost use Rattle.lossless_tree.specs.Tree.{IsToken};
-    ghost use Rattle.lossless_tree.specs.Rows.{IsRow, tree_at};
-    ghost use Rattle.lossless_tree.specs.Cursor.{cursor_at};
+    ghost use Rattle.tree_model.specs.Tree.{IsToken};
+    ghost use Rattle.tree_model.specs.Rows.{IsRow, tree_at};
+    ghost use Rattle.tree_model.specs.Cursor.{cursor_at};
 
     // The token at a row.
     pub(crate) fn at(table: Shared<Table>, row: usize) -> SyntaxToken
@@ -209,8 +207,8 @@ impl Clone for SyntaxToken {
 
 /// Equal where both stand at the same place in equal trees. Of cursors of one tree it takes constant time.
 impl PartialEq for SyntaxToken {
-    ghost use Rattle.lossless_tree.specs.Equality.{is_same_cursor};
-    ghost use Rattle.lossless_tree.specs.EqualityLaws.{cursor_equivalence};
+    ghost use Rattle.tree_model.specs.Equality.{is_same_cursor};
+    ghost use Rattle.tree_model.specs.EqualityLaws.{cursor_equivalence};
     ghost use Rattle.std.specs.Cmp.{partial_equiv_from_equiv};
 
     ghost eq = { is_same_cursor };
@@ -223,15 +221,15 @@ impl PartialEq for SyntaxToken {
 }
 
 impl Eq for SyntaxToken {
-    ghost use Rattle.lossless_tree.specs.EqualityLaws.{cursor_equivalence};
+    ghost use Rattle.tree_model.specs.EqualityLaws.{cursor_equivalence};
 
     ghost laws = { cursor_equivalence };
 }
 
 /// Equal cursors hash alike. It takes constant time.
 impl Hash for SyntaxToken {
-    ghost use Rattle.lossless_tree.specs.Equality.{cursor_hash};
-    ghost use Rattle.lossless_tree.specs.EqualityLaws.{cursors_alike};
+    ghost use Rattle.tree_model.specs.Equality.{cursor_hash};
+    ghost use Rattle.tree_model.specs.EqualityLaws.{cursors_alike};
 
     ghost hash_input = { cursor_hash };
 

@@ -1,7 +1,7 @@
 //! The tokens at an offset.
 ghost use Rattle.std.specs.Prelude.{◌≡◌, Some, None};
 ghost use Rattle.std.specs.Iterator.{YieldsFirst, item_count};
-ghost use Rattle.lossless_tree.specs.TokenSearch.{found_tokens, leftmost, rightmost};
+ghost use Rattle.lossless_tree.specs.TokenAtOffset.{found_tokens, leftmost, rightmost};
 
 use std::mem;
 

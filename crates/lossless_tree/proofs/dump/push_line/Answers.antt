@@ -1,6 +1,6 @@
 use Rattle.std.proofs.Common.{◌∙◌}
 use Rattle.std.specs.Prelude.{string_bytes}
-use Rattle.lossless_tree.specs.Cursor.{cursor_at}
+use Rattle.tree_model.specs.Cursor.{cursor_at}
 use Rattle.lossless_tree.proofs.DumpLemmas.{line_pushed}
 use Rattle.lossless_tree.proofs.dump.push_line.Goals as goal
 

@@ -1,8 +1,8 @@
 use Rattle.std.proofs.Common.{◌++◌, ◌∙◌, sym, ap, append-nil}
 use Rattle.std.specs.Prelude.{string_bytes}
-use Rattle.lossless_tree.specs.Rows.{tree_at}
+use Rattle.tree_model.specs.Rows.{tree_at}
 use Rattle.lossless_tree.specs.Dump.{shown}
-use Rattle.lossless_tree.proofs.StepLemmas.{row_token, row_node}
+use Rattle.tree_model.proofs.StepLemmas.{row_token, row_node}
 use Rattle.lossless_tree.proofs.DumpLemmas.{shown_text-node, text_pushed, not_true, not_false}
 use Rattle.lossless_tree.proofs.dump.push_text.Goals as goal
 

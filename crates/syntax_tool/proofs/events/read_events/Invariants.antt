@@ -2,7 +2,7 @@ use Rattle.std.proofs.Common.{List, length}
 use Rattle.std.specs.Prelude.{Result}
 use denote.Text.{Utf8}
 use denote.Shadow.{shadow}
-use Rattle.lossless_tree.specs.Events.{Event}
+use Rattle.tree_model.specs.Events.{Event}
 use Rattle.syntax_tool.specs.declared.refusal.Refusal.{Refusal}
 use Rattle.syntax_tool.specs.Lines.{lines_of, ReadsLines, behind}
 use Rattle.syntax_tool.proofs.events.read_events.Given as goal

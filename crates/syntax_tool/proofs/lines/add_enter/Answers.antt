@@ -1,6 +1,6 @@
 use Rattle.std.proofs.Common.{inr, refl}
 use Rattle.std.proofs.lemmas.Result.{err_from_is_err_and}
-use Rattle.lossless_tree.specs.Events.{enter}
+use Rattle.tree_model.specs.Events.{enter}
 use Rattle.syntax_tool.proofs.LineLemmas.{entered, kind_not_entered}
 use Rattle.syntax_tool.proofs.lines.add_enter.Goals as goal
 

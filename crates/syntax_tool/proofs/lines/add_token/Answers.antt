@@ -1,7 +1,7 @@
 use Rattle.std.proofs.Common.{◌∙◌, inr, sym, ap}
 use Rattle.std.specs.Prelude.{Some, string_bytes}
 use Rattle.std.proofs.lemmas.Result.{err_from_is_err_and}
-use Rattle.lossless_tree.specs.Events.{leaf}
+use Rattle.tree_model.specs.Events.{leaf}
 use Rattle.syntax_tool.proofs.Cuts.{some_bytes, no_bytes}
 use Rattle.syntax_tool.proofs.LineLemmas.{not_a_token, token_refused, token_read, kind_not_read}
 use Rattle.syntax_tool.proofs.lines.add_token.Goals as goal

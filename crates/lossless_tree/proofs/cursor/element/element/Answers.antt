@@ -1,8 +1,9 @@
 use Rattle.std.proofs.Common.{◌∙◌, ap}
-use Rattle.lossless_tree.specs.Rows.{row_at}
-use Rattle.lossless_tree.specs.Cursor.{cursor_at}
+use Rattle.tree_model.specs.Rows.{row_at}
+use Rattle.tree_model.specs.Cursor.{cursor_at}
 use Rattle.lossless_tree.specs.declared.cursor.element.NodeOrToken.TheVariants.{Node, Token}
-use Rattle.lossless_tree.proofs.StepLemmas.{row_token, row_node, element_of_token, element_of_node}
+use Rattle.tree_model.proofs.StepLemmas.{row_token, row_node}
+use Rattle.lossless_tree.proofs.ElementLemmas.{element_of_token, element_of_node}
 use Rattle.lossless_tree.proofs.cursor.element.element.Goals as goal
 
 pub at-requires-clause-is_token : goal.at-requires-clause-is_token

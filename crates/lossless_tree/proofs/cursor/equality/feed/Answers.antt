@@ -1,7 +1,7 @@
 use Rattle.std.proofs.Common.{◌∙◌, ap}
 use Rattle.std.specs.Hash.{le_bytes}
-use Rattle.lossless_tree.specs.Kinds.{kind_raw}
-use Rattle.lossless_tree.proofs.At.{cong₂}
+use Rattle.syntax_kind.specs.Kinds.{kind_raw}
+use Rattle.tree_model.proofs.At.{cong₂}
 use Rattle.lossless_tree.proofs.cursor.equality.feed.Goals as goal
 
 pub returns : goal.returns

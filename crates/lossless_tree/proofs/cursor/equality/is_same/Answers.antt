@@ -1,10 +1,10 @@
 use Rattle.std.proofs.Common.{◌≡◌, ◌∙◌, sym, ap}
 use Rattle.std.proofs.lemmas.Bool.{eqb-true}
-use Rattle.lossless_tree.specs.Cursor.{Cursor, cursor_at}
-use Rattle.lossless_tree.specs.Equality.{is_same_cursor, is_same_tree}
-use Rattle.lossless_tree.specs.EqualityLaws.{cursor_Decides, tree_Decides, same_test}
-use Rattle.lossless_tree.proofs.At.{cong₂}
-use Rattle.lossless_tree.proofs.EqualityLemmas.{same_rows, not_both}
+use Rattle.tree_model.specs.Cursor.{Cursor, cursor_at}
+use Rattle.tree_model.specs.Equality.{is_same_cursor, is_same_tree}
+use Rattle.tree_model.specs.EqualityLaws.{cursor_Decides, tree_Decides, same_test}
+use Rattle.tree_model.proofs.At.{cong₂}
+use Rattle.tree_model.proofs.EqualityLemmas.{same_rows, not_both}
 use Rattle.lossless_tree.proofs.cursor.equality.is_same.Goals as goal
 
 pub returns-then-ptr_eq : goal.returns-then-ptr_eq

@@ -1,5 +1,5 @@
 use Rattle.std.proofs.Common.{◌∙◌, ap, arith}
-use Rattle.lossless_tree.specs.Tree.{is_token}
+use Rattle.tree_model.specs.Tree.{is_token}
 use Rattle.lossless_tree.proofs.TreesLemmas.{first_seen, row_is_token}
 use Rattle.lossless_tree.proofs.trees.Trees.is_token.Goals as goal
 

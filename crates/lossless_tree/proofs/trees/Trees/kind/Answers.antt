@@ -1,5 +1,5 @@
 use Rattle.std.proofs.Common.{◌∙◌, ap}
-use Rattle.lossless_tree.specs.Tree.{kind_of}
+use Rattle.tree_model.specs.Tree.{kind_of}
 use Rattle.lossless_tree.proofs.TreesLemmas.{first_seen}
 use Rattle.lossless_tree.proofs.trees.Trees.kind.Goals as goal
 

@@ -1,5 +1,5 @@
 use Rattle.std.proofs.Common.{◌∙◌, ap}
-use Rattle.lossless_tree.specs.Tree.{text}
+use Rattle.tree_model.specs.Tree.{text}
 use Rattle.lossless_tree.proofs.TreesLemmas.{first_seen}
 use Rattle.lossless_tree.proofs.trees.Trees.text.Goals as goal
 

@@ -1,5 +1,5 @@
 use Rattle.std.proofs.Common.{◌≡◌}
-use Rattle.lossless_tree.specs.Tree.{child_count}
+use Rattle.tree_model.specs.Tree.{child_count}
 use Rattle.lossless_tree.specs.Trees.{without_trivia}
 use Rattle.lossless_tree.proofs.trees.Trees.without_trivia.Given as goal
 

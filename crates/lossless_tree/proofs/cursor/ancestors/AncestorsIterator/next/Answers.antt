@@ -1,5 +1,5 @@
 use Rattle.std.proofs.Common.{◌∙◌, sym, ap, length, arith}
-use Rattle.lossless_tree.proofs.AncestorLemmas.{ancestors_from-step}
+use Rattle.tree_model.proofs.AncestorLemmas.{ancestors_from-step}
 use Rattle.lossless_tree.proofs.cursor.ancestors.AncestorsIterator.next.Goals as goal
 
 pub returns-clause-steps : goal.returns-clause-steps

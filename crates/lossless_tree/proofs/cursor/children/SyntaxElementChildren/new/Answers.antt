@@ -1,6 +1,6 @@
 use Rattle.std.proofs.Common.{◌+◌, ◌∙◌, ap, arith}
-use Rattle.lossless_tree.specs.Rows.{row_at}
-use Rattle.lossless_tree.proofs.ChildLists.{children_begin}
+use Rattle.tree_model.specs.Rows.{row_at}
+use Rattle.tree_model.proofs.ChildLists.{children_begin}
 use Rattle.lossless_tree.proofs.cursor.children.SyntaxElementChildren.new.Goals as goal
 
 pub invariant_of-result : goal.invariant_of-result

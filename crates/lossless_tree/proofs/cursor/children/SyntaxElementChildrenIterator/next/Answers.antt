@@ -1,8 +1,8 @@
 use Rattle.std.proofs.Common.{◌≡◌, ◌∷◌, ◌∙◌, sym, ap, map, length, arith}
-use Rattle.lossless_tree.specs.Rows.{row_at}
-use Rattle.lossless_tree.specs.Cursor.{cursor_at, siblings_left, HaveParentEnd}
+use Rattle.tree_model.specs.Rows.{row_at}
+use Rattle.tree_model.specs.Cursor.{cursor_at, siblings_left, HaveParentEnd}
 use Rattle.lossless_tree.specs.Element.{element_of}
-use Rattle.lossless_tree.proofs.ChildLists.{siblings_left-step}
+use Rattle.tree_model.proofs.ChildLists.{siblings_left-step}
 use Rattle.lossless_tree.proofs.cursor.children.SyntaxElementChildrenIterator.next.Goals as goal
 use Rattle.lossless_tree.proofs.cursor.children.SyntaxElementChildrenIterator.next.Goals.{After-element}
 

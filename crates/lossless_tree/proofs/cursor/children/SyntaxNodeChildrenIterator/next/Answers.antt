@@ -1,6 +1,6 @@
 use Rattle.std.proofs.Common.{◌≡◌, ◌∷◌, ◌∙◌, sym, ap, length, arith}
 use Rattle.std.specs.List.{filter}
-use Rattle.lossless_tree.specs.Cursor.{at_node}
+use Rattle.tree_model.specs.Cursor.{at_node}
 use Rattle.lossless_tree.proofs.NodeLists.{node_first, token_first, nothing_left}
 use Rattle.lossless_tree.proofs.cursor.children.SyntaxNodeChildrenIterator.next.Goals as goal
 use Rattle.lossless_tree.proofs.cursor.children.SyntaxNodeChildrenIterator.next.Goals.{In-Node}

@@ -1,6 +1,6 @@
 use Rattle.std.proofs.Common.{◌≡◌, length}
 use Rattle.std.specs.List.{filter}
-use Rattle.lossless_tree.specs.Cursor.{at_node}
+use Rattle.tree_model.specs.Cursor.{at_node}
 use Rattle.lossless_tree.proofs.cursor.children.SyntaxNodeChildrenIterator.next.Given as goal
 
 abbrev pub invariant-loop-element : goal.invariant-loop-element

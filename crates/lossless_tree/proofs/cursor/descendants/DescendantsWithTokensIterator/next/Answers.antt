@@ -1,7 +1,7 @@
 use Rattle.std.proofs.Common.{◌≡◌, ◌+◌, ◌-◌, ◌∷◌, ◌∙◌, sym, ap, map, length, arith}
-use Rattle.lossless_tree.specs.Cursor.{cursors_from}
+use Rattle.tree_model.specs.Cursor.{cursors_from}
 use Rattle.lossless_tree.specs.Element.{element_of}
-use Rattle.lossless_tree.proofs.WalkLemmas.{cursors_from-step}
+use Rattle.tree_model.proofs.WalkLemmas.{cursors_from-step}
 use Rattle.lossless_tree.proofs.cursor.descendants.DescendantsWithTokensIterator.next.Goals as goal
 use Rattle.lossless_tree.proofs.cursor.descendants.DescendantsWithTokensIterator.next.Goals.{After-element}
 

@@ -1,6 +1,6 @@
 use Rattle.std.proofs.Common.{◌≡◌, ◌-◌}
-use Rattle.lossless_tree.specs.Tree.{forest_of_children, child_at}
-use Rattle.lossless_tree.specs.Cursor.{focus}
+use Rattle.tree_model.specs.Tree.{forest_of_children, child_at}
+use Rattle.tree_model.specs.Cursor.{focus}
 use Rattle.lossless_tree.proofs.cursor.node.SyntaxNode.child_text.Given as goal
 
 abbrev pub invariant-loop : goal.invariant-loop

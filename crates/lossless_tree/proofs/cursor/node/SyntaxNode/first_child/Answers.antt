@@ -1,4 +1,4 @@
-use Rattle.lossless_tree.specs.Cursor.{at_node, children_of}
+use Rattle.tree_model.specs.Cursor.{at_node, children_of}
 use Rattle.lossless_tree.proofs.NodeLists.{first_kept}
 use Rattle.lossless_tree.proofs.cursor.node.SyntaxNode.first_child.Goals as goal
 

@@ -1,10 +1,10 @@
 use Rattle.std.proofs.Common.{◌≡◌, ◌∙◌, ap, sym, reverse}
 use Rattle.std.specs.Prelude.{option_map}
 use Rattle.std.specs.List.{find}
-use Rattle.lossless_tree.specs.Tree.{last_child_place}
-use Rattle.lossless_tree.specs.Rows.{place_at}
-use Rattle.lossless_tree.specs.Cursor.{at_node, children_of}
-use Rattle.lossless_tree.proofs.ChildLists.{reversed_children_are}
+use Rattle.tree_model.specs.Tree.{last_child_place}
+use Rattle.tree_model.specs.Rows.{place_at}
+use Rattle.tree_model.specs.Cursor.{at_node, children_of}
+use Rattle.tree_model.proofs.ChildLists.{reversed_children_are}
 use Rattle.lossless_tree.proofs.cursor.node.SyntaxNode.last_child.Goals as goal
 
 pub returns : goal.returns

@@ -1,13 +1,13 @@
 use Rattle.std.proofs.Common.{◌≡◌, ◌∙◌, ap, sym}
 use Rattle.std.specs.Prelude.{option_map}
 use Rattle.std.specs.List.{find}
-use Rattle.lossless_tree.specs.declared.cursor.direction.Direction.TheVariants.{Next}
-use Rattle.lossless_tree.specs.Tree.{next_sibling_place}
-use Rattle.lossless_tree.specs.Rows.{place_at}
-use Rattle.lossless_tree.specs.Cursor.{following_of, siblings_from}
+use Rattle.tree_model.specs.declared.direction.Direction.TheVariants.{Next}
+use Rattle.tree_model.specs.Tree.{next_sibling_place}
+use Rattle.tree_model.specs.Rows.{place_at}
+use Rattle.tree_model.specs.Cursor.{following_of, siblings_from}
 use Rattle.lossless_tree.specs.Element.{element_of}
 use Rattle.lossless_tree.specs.Trees.{is_no_trivia}
-use Rattle.lossless_tree.proofs.ChildLists.{following_is}
+use Rattle.tree_model.proofs.ChildLists.{following_is}
 use Rattle.lossless_tree.proofs.cursor.node.SyntaxNode.next_no_trivia.Goals as goal
 
 pub returns : goal.returns

@@ -1,10 +1,10 @@
 use Rattle.std.proofs.Common.{◌≡◌, ◌∙◌, ap, sym}
 use Rattle.std.specs.Prelude.{option_map}
 use Rattle.std.specs.List.{find}
-use Rattle.lossless_tree.specs.Tree.{next_sibling_place}
-use Rattle.lossless_tree.specs.Rows.{place_at}
-use Rattle.lossless_tree.specs.Cursor.{at_node, following_of}
-use Rattle.lossless_tree.proofs.ChildLists.{following_is}
+use Rattle.tree_model.specs.Tree.{next_sibling_place}
+use Rattle.tree_model.specs.Rows.{place_at}
+use Rattle.tree_model.specs.Cursor.{at_node, following_of}
+use Rattle.tree_model.proofs.ChildLists.{following_is}
 use Rattle.lossless_tree.proofs.cursor.node.SyntaxNode.next_sibling.Goals as goal
 
 pub returns : goal.returns

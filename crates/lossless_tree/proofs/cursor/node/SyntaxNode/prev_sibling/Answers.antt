@@ -1,10 +1,10 @@
 use Rattle.std.proofs.Common.{◌≡◌, ◌∙◌, ap, sym}
 use Rattle.std.specs.Prelude.{option_map}
 use Rattle.std.specs.List.{find}
-use Rattle.lossless_tree.specs.Tree.{prev_sibling_place}
-use Rattle.lossless_tree.specs.Rows.{place_at}
-use Rattle.lossless_tree.specs.Cursor.{at_node, preceding_of}
-use Rattle.lossless_tree.proofs.ChildLists.{preceding_is}
+use Rattle.tree_model.specs.Tree.{prev_sibling_place}
+use Rattle.tree_model.specs.Rows.{place_at}
+use Rattle.tree_model.specs.Cursor.{at_node, preceding_of}
+use Rattle.tree_model.proofs.ChildLists.{preceding_is}
 use Rattle.lossless_tree.proofs.cursor.node.SyntaxNode.prev_sibling.Goals as goal
 
 pub returns : goal.returns

@@ -1,6 +1,6 @@
 use Rattle.std.proofs.Common.{◌≡◌, ◌∷◌, ◌∙◌, sym, ap, map, length, arith}
 use Rattle.std.specs.List.{filter}
-use Rattle.lossless_tree.specs.Cursor.{moves_at_node}
+use Rattle.tree_model.specs.Cursor.{moves_at_node}
 use Rattle.lossless_tree.specs.WalkEvent.{node_event}
 use Rattle.lossless_tree.proofs.WalkEvents.{node_event_first, token_event_first, no_event_left}
 use Rattle.lossless_tree.proofs.cursor.preorder.PreorderIterator.next.Goals as goal

@@ -1,6 +1,6 @@
 use Rattle.std.proofs.Common.{◌≡◌, length}
 use Rattle.std.specs.List.{filter}
-use Rattle.lossless_tree.specs.Cursor.{moves_at_node}
+use Rattle.tree_model.specs.Cursor.{moves_at_node}
 use Rattle.lossless_tree.proofs.cursor.preorder.PreorderIterator.next.Given as goal
 
 abbrev pub invariant-loop-event : goal.invariant-loop-event

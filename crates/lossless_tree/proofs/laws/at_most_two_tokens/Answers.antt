@@ -1,5 +1,0 @@
-use Rattle.lossless_tree.proofs.TokenLaws.{at_most_two}
-use Rattle.lossless_tree.proofs.laws.at_most_two_tokens.Goals as goal
-
-pub returns : goal.returns
-returns c = at_most_two

@@ -1,6 +1,0 @@
-use Rattle.std.proofs.Common.{◌≡◌, ◌++◌, map}
-use Rattle.lossless_tree.specs.MovedRows.{moved_row, rows_between}
-use Rattle.lossless_tree.proofs.table.Table.push_moved.Given as goal
-
-abbrev pub invariant-loop-n : goal.invariant-loop-n
-invariant-loop-n l = l.rows.items ≡ l.fn.rows.items ++ map (moved_row l.by) (rows_between l.self l.first l.n)

@@ -1,0 +1,2 @@
+pub mod SharedOwnership
+pub mod SharedPlace

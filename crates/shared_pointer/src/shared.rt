@@ -1,0 +1,123 @@
+//! Shared ownership of a value that never changes, with a clone that always succeeds.
+ghost use Rattle.std.specs.Prelude.{◌≡◌, IfOk, IfErr, ⊤};
+ghost use Rattle.std.specs.Cmp.{on_equiv, on_per};
+ghost use Rattle.shared_pointer.specs.SharedOwnership.{shared_owns, shared_lends};
+
+use std::alloc::{AllocError, AllocFailed, Allocator, Global};
+use std::fmt::{self, Debug};
+use std::marker::Model;
+use std::ops::Deref;
+use std_alloc::room::Vacant;
+
+mod count;
+
+/// One of the owners of a value on the heap, in one thread.
+///
+/// The owners are counted. Another owner takes no memory, and making one always succeeds: a count
+/// that has reached `usize::MAX` stays there for good. Below that, the value is dropped and its
+/// block freed with the last owner; once the count is full, the value is never freed.
+pub struct Shared<T, A: Allocator = Global> {
+    ptr: *const Block<T, A>,
+    pub ghost value: { T },
+}
+
+// What an owner points to. `count` is the number of owners, from 1 on.
+struct Block<T, A> {
+    count: usize,
+    alloc: A,
+    value: T,
+}
+
+impl<T, A: Allocator> Model for Shared<T, A> {
+    ghost also_owns = { λ s. shared_owns A.row A.dealloc_token T.row s.ptr s.value };
+
+    ghost also_shares = { λ s _ κ. shared_lends A.row A.dealloc_token T.row s.ptr s.value κ };
+}
+
+impl<T, A: Allocator> Shared<T, A> {
+    /// The first owner of `value`, which moves to the heap. Where there is no memory for it, the
+    /// error hands it back.
+    pub fn new(alloc: A, value: T) -> Result<Shared<T, A>, AllocFailed<T>>
+        ensures ok { IfOk result (λ s. s.value ≡ value) }
+        ensures value_returned { IfErr result (λ e. e.value ≡ value) }
+    {
+        match Vacant::take(alloc) {
+            Ok(block) => Ok(Shared::first_owner(block, value)),
+            Err(_heap) => Err(AllocFailed { value }),
+        }
+    }
+
+    /// The value.
+    pub fn as_ref(&self) -> &T
+        ensures { result.now ≡ self.now.value }
+    {
+        self.value()
+    }
+}
+
+// As for `Box::leak`, `T` is to be `Drop`, since a value with that many owners is never dropped.
+impl<T: Drop, A: Allocator> Shared<T, A> {
+    ghost use Rattle.shared_pointer.specs.SharedPlace.{place_of};
+
+    /// One more owner of the value. It takes no memory, and always succeeds.
+    pub fn share(&self) -> Shared<T, A>
+        ensures value { result.value ≡ self.now.value }
+        ensures place { place_of result ≡ place_of self.now }
+    {
+        self.add_owner()
+    }
+}
+
+impl<T: Drop, A: Allocator> Drop for Shared<T, A> {
+    fn drop(self) {
+        if let Some((value, block)) = self.remove_owner() {
+            let alloc = block.free();
+            drop(value);
+            drop(alloc);
+        }
+    }
+}
+
+impl<T: Drop, A: Allocator> Clone for Shared<T, A> {
+    ghost is_clone = { λ s copy. copy.value ≡ s.value };
+
+    ghost is_infallible = { λ _. ⊤ };
+
+    fn clone(&self) -> Result<Shared<T, A>, AllocError> {
+        Ok(self.share())
+    }
+}
+
+impl<T, A: Allocator> Deref for Shared<T, A> {
+    type Target = T;
+
+    ghost deref_gives = { λ s x. x ≡ s.value };
+
+    fn deref(&self) -> &T
+        ensures { result.now ≡ self.now.value }
+    {
+        self.value()
+    }
+}
+
+impl<T: PartialEq, A: Allocator> PartialEq for Shared<T, A> {
+    ghost eq = { λ a b. T.eq a.value b.value };
+
+    ghost laws = { on_per (λ a. a.value) T.laws };
+
+    fn eq(&self, other: &Shared<T, A>) -> bool {
+        **self == **other
+    }
+}
+
+impl<T: Eq, A: Allocator> Eq for Shared<T, A> {
+    ghost laws = { on_equiv (λ a. a.value) T.Eq.laws };
+}
+
+impl<T: Debug, A: Allocator> Debug for Shared<T, A> {
+    ghost debug_output = { λ s. T.debug_output s.value };
+
+    fn fmt<W: fmt::Write>(&self, f: &mut fmt::Formatter<W>) -> fmt::Result {
+        (**self).fmt(f)
+    }
+}

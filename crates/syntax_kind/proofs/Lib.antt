@@ -1,0 +1,4 @@
+pub mod Decimals
+pub mod KindLaws
+pub mod KindTable
+pub mod Names

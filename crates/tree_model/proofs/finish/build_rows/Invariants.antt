@@ -1,0 +1,10 @@
+use Rattle.std.proofs.Common.{◌≡◌, ◌+◌, [], drop}
+use Rattle.tree_model.specs.Run.{run, text_len}
+use Rattle.tree_model.proofs.Run.{state}
+use Rattle.tree_model.proofs.finish.build_rows.Given as goal
+
+abbrev pub invariant-loop-step : goal.invariant-loop-step
+invariant-loop-step l = record {
+  same_run : run (drop l.step-index l.steps) (state l.rows.items l.innermost l.at) ≡ run l.steps (state [] 0 0);
+  text : l.at + text_len (drop l.step-index l.steps) ≡ text_len l.steps;
+}

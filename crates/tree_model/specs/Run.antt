@@ -1,0 +1,31 @@
+-- How rows come from steps, one after another.
+use Rattle.std.specs.Prelude.{ℕ, ◌+◌, List, [], ◌∷◌, ◌++◌, length, get_or, true, false, cond, nat_lt}
+use Rattle.std.proofs.Math.ListN.{set}
+use Rattle.tree_model.specs.declared.table.Row.{Row}
+use Rattle.tree_model.specs.declared.step.Step.{Step}
+use Rattle.tree_model.specs.declared.step.Step.TheVariants.{Enter, Token, Exit}
+use Rattle.tree_model.specs.Rows.{no_row}
+
+-- the rows so far, the row of the innermost open node (0 where none is), and the bytes so far
+pub record State : Type 0 where
+  pub rows : List Row
+  pub innermost : ℕ
+  pub at : ℕ
+
+abbrev pub after_step : Step → State → State
+after_step (Enter k) s = record { rows = s.rows ++ record { kind = k; is_token = false; start = s.at; end = 0; parent = s.innermost } ∷ []; innermost = length s.rows; at = s.at }
+after_step (Token k n) s = record { rows = s.rows ++ record { kind = k; is_token = true; start = s.at; end = length s.rows + 1; parent = s.innermost } ∷ []; innermost = s.innermost; at = s.at + n }
+after_step Exit s =
+    cond (nat_lt s.innermost (length s.rows))
+    (record { rows = set s.rows s.innermost (record (get_or s.rows s.innermost no_row) { end = length s.rows }); innermost = (get_or s.rows s.innermost no_row).parent; at = s.at })
+    s
+
+abbrev pub run : List Step → State → State
+run [] s = s
+run (e ∷ es) s = run es (after_step e s)
+
+abbrev pub text_len : List Step → ℕ
+text_len [] = 0
+text_len (Enter k ∷ es) = text_len es
+text_len (Token k n ∷ es) = n + text_len es
+text_len (Exit ∷ es) = text_len es

@@ -1,0 +1,50 @@
+//! Why `finish` and `replace_with` refuse.
+ghost use Rattle.std.specs.Prelude.{◌≡◌};
+ghost use Rattle.tree_model.specs.declared.error.ReplaceError.TheVariants.{Memory};
+
+use std::alloc::AllocError;
+
+/// Why a builder's events make no tree. `finish` looks at all of them, in this order.
+#[derive(Clone, Copy, Debug, PartialEq, Eq, Hash, thiserror::Error)]
+pub enum FinishError {
+    /// The text is longer than 4,294,967,295 bytes.
+    #[error("the text is longer than 4294967295 bytes")]
+    TooLong,
+    /// Some front of the events has more exits than enters.
+    #[error("more nodes are left than were entered")]
+    OverClosed,
+    /// There are more enters than exits in all.
+    #[error("a node is not left")]
+    Unclosed,
+    /// There is no top element.
+    #[error("there are no events")]
+    Empty,
+    /// There are two or more top elements.
+    #[error("there is more than one root")]
+    ManyRoots,
+    /// The one top element is a token.
+    #[error("the root is a token")]
+    TokenRoot,
+    /// Want of memory. It comes after every other refusal.
+    #[error("out of memory")]
+    Memory,
+}
+
+/// Why no tree is made with a piece replaced.
+#[derive(Clone, Copy, Debug, PartialEq, Eq, Hash, thiserror::Error)]
+pub enum ReplaceError {
+    /// The new tree's text would be longer than 4,294,967,295 bytes.
+    #[error("the text is longer than 4294967295 bytes")]
+    TooLong,
+    /// Want of memory. It comes after the other refusal.
+    #[error("out of memory")]
+    Memory,
+}
+
+impl From<AllocError> for ReplaceError {
+    ghost from_gives = { λ _ e. e ≡ Memory };
+
+    fn from(_e: AllocError) -> ReplaceError {
+        ReplaceError::Memory
+    }
+}

@@ -1,0 +1,109 @@
+//! What `finish` does with the steps.
+ghost use Rattle.std.specs.Prelude.{◌≡◌, ◌<◌, ◌^◌, [], Some, map, IfOk};
+ghost use Rattle.tree_model.specs.declared.error.FinishError.TheVariants.{Empty};
+ghost use Rattle.tree_model.specs.Tree.{Forest};
+ghost use Rattle.tree_model.specs.Events.{events_of};
+ghost use Rattle.tree_model.specs.Builder.{events_from, step_of};
+ghost use Rattle.tree_model.specs.Scan.{after_top, scan};
+ghost use Rattle.tree_model.specs.Rows.{rows_of};
+ghost use Rattle.tree_model.specs.Run.{text_len};
+
+use crate::error::FinishError;
+use crate::step::Step;
+use crate::table::Row;
+use std::alloc::{AllocError, Global};
+
+// The refusal for the top elements, after one more.
+fn after_top(root: Option<FinishError>, is_token: bool) -> Option<FinishError>
+    ensures { result ≡ after_top root is_token }
+{
+    match root {
+        Some(FinishError::Empty) => {
+            if is_token {
+                Some(FinishError::TokenRoot)
+            } else {
+                None
+            }
+        }
+        _ => Some(FinishError::ManyRoots),
+    }
+}
+
+/// The first refusal that holds, lengths and memory aside.
+pub fn first_refusal(steps: &[Step]) -> Option<FinishError>
+    ensures { result ≡ scan 0 (Some Empty) (events_from steps.now []) }
+{
+    let mut open: usize = 0;
+    let mut root = Some(FinishError::Empty);
+    for step in steps {
+        match step {
+            Step::Enter(_) => {
+                if open == 0 {
+                    root = after_top(root, false);
+                }
+                open += 1;
+            }
+            Step::Token(_, _) => {
+                if open == 0 {
+                    root = after_top(root, true);
+                }
+            }
+            Step::Exit => {
+                if open == 0 {
+                    return Some(FinishError::OverClosed);
+                }
+                open -= 1;
+            }
+        }
+    }
+    if open > 0 {
+        return Some(FinishError::Unclosed);
+    }
+    root
+}
+
+/// The rows of the steps of a forest.
+pub fn build_rows(alloc: Global, steps: &[Step]) -> Result<Vec<Row>, AllocError>
+    requires { text_len steps.now < 2 ^ 32 }
+    ensures { IfOk result (λ rows. (f : Forest) → steps.now ≡ map step_of (events_of f) → rows.items ≡ rows_of f 0 0 0) }
+{
+    let mut rows: Vec<Row> = Vec::new(alloc);
+    let mut innermost: usize = 0;
+    let mut at: u32 = 0;
+    for step in steps {
+        match *step {
+            Step::Enter(kind) => {
+                let row = rows.len();
+                rows.push(Row {
+                    kind,
+                    is_token: false,
+                    start: at,
+                    end: 0,
+                    parent: innermost,
+                })?;
+                innermost = row;
+            }
+            Step::Token(kind, len) => {
+                let end = rows.len() + 1;
+                rows.push(Row {
+                    kind,
+                    is_token: true,
+                    start: at,
+                    end,
+                    parent: innermost,
+                })?;
+                at += len as u32;
+            }
+            Step::Exit => {
+                // Of steps that close no more than they open, each finds its node.
+                if innermost < rows.len() {
+                    let end = rows.len();
+                    let parent = rows[innermost].parent;
+                    rows[innermost].end = end;
+                    innermost = parent;
+                }
+            }
+        }
+    }
+    Ok(rows)
+}

@@ -1,0 +1,72 @@
+//! Laws of the definitions that contracts on trees cite. The functions do nothing: the contract is the law.
+ghost use Rattle.tree_model.specs.CursorLaws.{ChildrenFillNodes, EqualityIsSameness, EqualCursorsHashAlike};
+ghost use Rattle.tree_model.specs.Edit.{PlacesAreReached, TextAround, ReplacedText, EditedInside};
+ghost use Rattle.tree_model.specs.Covering.{CoveringHolds};
+ghost use Rattle.tree_model.specs.Every.{EveryIsDescendants};
+ghost use Rattle.tree_model.specs.Events.{RefusalsHold};
+ghost use Rattle.tree_model.specs.Pointer.{PointersResolve};
+ghost use Rattle.tree_model.specs.TokenSearch.{AtMostTwo};
+
+/// At most two tokens of a node that have a text touch one offset.
+pub fn at_most_two_tokens()
+    ensures { AtMostTwo }
+{}
+
+/// A pointer resolves to the node that it was made of, where that has a text and no node above it has its kind and range.
+pub fn pointers_resolve()
+    ensures { PointersResolve }
+{}
+
+/// What covers a range is a place of the tree; its range holds the range where that of the node does from which it was
+/// sought, and so do the ranges of all nodes above it.
+pub fn covering_holds()
+    ensures { CoveringHolds }
+{}
+
+/// What the contract of `TreeBuilder::finish` calls the first refusal is the first that holds: a text that is too long,
+/// then some front of the events with more exits than enters, then more enters than exits in all, then what the
+/// balanced events build.
+pub fn refusals_hold()
+    ensures { RefusalsHold }
+{}
+
+/// A place of a tree's list of places is one that can be reached from the root, one child after another.
+pub fn places_are_reached()
+    ensures { PlacesAreReached }
+{}
+
+/// A tree's text is the text before a place, that of the place, and the text behind it.
+pub fn text_around_a_place()
+    ensures { TextAround }
+{}
+
+/// The text of a tree with a piece replaced is the spliced text, and the new piece stands where the old one stood.
+pub fn replaced_text()
+    ensures { ReplacedText }
+{}
+
+/// Where the new piece's text is the old one's with some bytes replaced, the new tree's text is the old one's with the
+/// same bytes replaced.
+pub fn edited_inside_a_piece()
+    ensures { EditedInside }
+{}
+
+/// The ranges of a node's children follow each other without a gap and fill the node's range.
+pub fn children_fill_nodes()
+    ensures { ChildrenFillNodes }
+{}
+
+/// Two cursors are equal exactly where both stand at the same place in equal trees; so equality is an equivalence.
+pub fn equality_is_sameness()
+    ensures { EqualityIsSameness }
+{}
+
+/// Equal cursors feed a hasher alike.
+pub fn equal_cursors_hash_alike()
+    ensures { EqualCursorsHashAlike }
+{}
+
+/// A test of every node and token of a subtree is a test of each item of its `descendants_with_tokens`.
+pub fn every_is_descendants()
+    ensures { EveryIsDescendants }
+{}
