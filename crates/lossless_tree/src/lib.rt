@@ -5,6 +5,7 @@ mod builder;
 mod cursor;
 mod dump;
 pub mod laws;
+mod macros;
 mod ptr;
 mod trees;
 
@@ -21,7 +22,7 @@ pub use cursor::token::SyntaxToken;
 pub use cursor::token_at_offset::TokenAtOffset;
 pub use ptr::SyntaxNodePtr;
 pub use shared_pointer::Shared;
-pub use syntax_kind::{KINDS, Language, NodeKind, RustLanguage, SyntaxKind, T, TokenKind};
+pub use syntax_kind::{KINDS, Language, NodeKind, RustLanguage, SyntaxKind, TokenKind};
 pub use text_size::{TextRange, TextSize};
 pub use tree_model::{Direction, FinishError, ReplaceError};
 pub use trees::Trees;

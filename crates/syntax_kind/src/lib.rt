@@ -1,9 +1,8 @@
-//! The kinds of nodes and tokens, and the `T!` that names them by their text.
+//! The kinds of nodes and tokens.
 #![tactic(auto)]
 
 mod language;
 pub mod laws;
-mod macros;
 mod syntax_kind;
 
 pub use language::{Language, RustLanguage};

@@ -67,7 +67,11 @@ pub fn build_rows(alloc: Global, steps: &[Step]) -> Result<Vec<Row>, AllocError>
     requires { text_len steps.now < 2 ^ 32 }
     ensures { IfOk result (λ rows. (f : Forest) → steps.now ≡ map step_of (events_of f) → rows.items ≡ rows_of f 0 0 0) }
 {
-    let mut rows: Vec<Row> = Vec::new(alloc);
+    let count = steps
+        .iter()
+        .filter(|step| !matches!(step, Step::Exit))
+        .count();
+    let mut rows: Vec<Row> = Vec::with_capacity(alloc, count)?;
     let mut innermost: usize = 0;
     let mut at: u32 = 0;
     for step in steps {
