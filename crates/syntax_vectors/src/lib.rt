@@ -2,6 +2,10 @@
 #![tactic(auto)]
 
 #[cfg(test)]
+mod algo;
+#[cfg(test)]
+mod casts;
+#[cfg(test)]
 mod edits;
 #[cfg(test)]
 mod equality;
@@ -12,9 +16,13 @@ mod events;
 #[cfg(test)]
 mod kinds;
 #[cfg(test)]
+mod lookups;
+#[cfg(test)]
 mod plain_tree;
 #[cfg(test)]
 mod plain_walks;
+#[cfg(test)]
+mod pointers;
 #[cfg(test)]
 mod searches;
 #[cfg(test)]

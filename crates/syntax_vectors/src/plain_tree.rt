@@ -44,14 +44,14 @@ impl PlainTree {
         let mut number: u16 = 0;
         for word in words.split(' ') {
             let mut finished = None;
-            if let Some(name) = word.strip_suffix('(') {
+            if let Some((name, text)) = word.split_once(':') {
+                let token = PlainTree::Token(kind_of(name, number)?, text);
+                finished = put(&mut open, token)?;
+                number = number.saturating_add(1);
+            } else if let Some(name) = word.strip_suffix('(') {
                 let kind = kind_of(name, number)?;
                 let children = Vec::new(alloc);
                 open.push(Unfinished { kind, children })?;
-                number = number.saturating_add(1);
-            } else if let Some((name, text)) = word.split_once(':') {
-                let token = PlainTree::Token(kind_of(name, number)?, text);
-                finished = put(&mut open, token)?;
                 number = number.saturating_add(1);
             } else if let Some(node) = open.pop() {
                 let tree = PlainTree::Node(node.kind, node.children);

@@ -1,0 +1,28 @@
+-- An item that defines a type of its own: the kinds that it is of, and the node behind it.
+use Rattle.std.specs.Prelude.{◌≡◌, Bool, true, false}
+use Rattle.std.proofs.Common.{refl}
+use Rattle.syntax_kind.specs.declared.syntax_kind.SyntaxKind.{SyntaxKind}
+use Rattle.syntax_kind.specs.declared.syntax_kind.SyntaxKind.TheVariants.{Node}
+use Rattle.syntax_kind.specs.declared.syntax_kind.node_kind.NodeKind.TheVariants as kind
+use Rattle.tree_model.specs.Cursor.{Cursor}
+use Rattle.ra_ap_syntax.specs.Nodes.{kind_at}
+use Rattle.ra_ap_syntax.specs.KindSets.{by_number}
+use Rattle.ra_ap_syntax.specs.declared.ast.generated.adt.Adt.{Adt}
+use Rattle.ra_ap_syntax.specs.declared.ast.generated.adt.Adt.TheVariants.{Enum, Struct, Union}
+
+abbrev pub is_adt : SyntaxKind → Bool
+is_adt (Node kind.ENUM) = true
+is_adt (Node kind.STRUCT) = true
+is_adt (Node kind.UNION) = true
+is_adt _ = false
+
+abbrev pub adt_node : Adt → Cursor
+adt_node (Enum it) = it.syntax
+adt_node (Struct it) = it.syntax
+adt_node (Union it) = it.syntax
+
+-- its kind is one of these
+pub adt_castable : (it : Adt) → is_adt (kind_at (adt_node it)) ≡ true
+adt_castable (Enum it) = by_number is_adt _ (Node kind.ENUM) it.is refl
+adt_castable (Struct it) = by_number is_adt _ (Node kind.STRUCT) it.is refl
+adt_castable (Union it) = by_number is_adt _ (Node kind.UNION) it.is refl

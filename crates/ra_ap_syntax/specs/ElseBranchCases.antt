@@ -1,0 +1,25 @@
+-- What stands behind an `else`: the kinds that it is of, and the node behind it.
+use Rattle.std.specs.Prelude.{◌≡◌, Bool, true, false}
+use Rattle.std.proofs.Common.{refl}
+use Rattle.syntax_kind.specs.declared.syntax_kind.SyntaxKind.{SyntaxKind}
+use Rattle.syntax_kind.specs.declared.syntax_kind.SyntaxKind.TheVariants.{Node}
+use Rattle.syntax_kind.specs.declared.syntax_kind.node_kind.NodeKind.TheVariants as kind
+use Rattle.tree_model.specs.Cursor.{Cursor}
+use Rattle.ra_ap_syntax.specs.Nodes.{kind_at}
+use Rattle.ra_ap_syntax.specs.KindSets.{by_number}
+use Rattle.ra_ap_syntax.specs.declared.ast.expr_ext.ElseBranch.{ElseBranch}
+use Rattle.ra_ap_syntax.specs.declared.ast.expr_ext.ElseBranch.TheVariants.{Block, IfExpr}
+
+abbrev pub is_else_branch : SyntaxKind → Bool
+is_else_branch (Node kind.BLOCK_EXPR) = true
+is_else_branch (Node kind.IF_EXPR) = true
+is_else_branch _ = false
+
+abbrev pub else_branch_node : ElseBranch → Cursor
+else_branch_node (Block it) = it.syntax
+else_branch_node (IfExpr it) = it.syntax
+
+-- its kind is one of these
+pub else_branch_castable : (it : ElseBranch) → is_else_branch (kind_at (else_branch_node it)) ≡ true
+else_branch_castable (Block it) = by_number is_else_branch _ (Node kind.BLOCK_EXPR) it.is refl
+else_branch_castable (IfExpr it) = by_number is_else_branch _ (Node kind.IF_EXPR) it.is refl

@@ -1,0 +1,31 @@
+-- An item of an `extern` block: the kinds that it is of, and the node behind it.
+use Rattle.std.specs.Prelude.{◌≡◌, Bool, true, false}
+use Rattle.std.proofs.Common.{refl}
+use Rattle.syntax_kind.specs.declared.syntax_kind.SyntaxKind.{SyntaxKind}
+use Rattle.syntax_kind.specs.declared.syntax_kind.SyntaxKind.TheVariants.{Node}
+use Rattle.syntax_kind.specs.declared.syntax_kind.node_kind.NodeKind.TheVariants as kind
+use Rattle.tree_model.specs.Cursor.{Cursor}
+use Rattle.ra_ap_syntax.specs.Nodes.{kind_at}
+use Rattle.ra_ap_syntax.specs.KindSets.{by_number}
+use Rattle.ra_ap_syntax.specs.declared.ast.generated.extern_item.ExternItem.{ExternItem}
+use Rattle.ra_ap_syntax.specs.declared.ast.generated.extern_item.ExternItem.TheVariants.{Static, Fn, MacroCall, TypeAlias}
+
+abbrev pub is_extern_item : SyntaxKind → Bool
+is_extern_item (Node kind.STATIC) = true
+is_extern_item (Node kind.FN) = true
+is_extern_item (Node kind.MACRO_CALL) = true
+is_extern_item (Node kind.TYPE_ALIAS) = true
+is_extern_item _ = false
+
+abbrev pub extern_item_node : ExternItem → Cursor
+extern_item_node (Static it) = it.syntax
+extern_item_node (Fn it) = it.syntax
+extern_item_node (MacroCall it) = it.syntax
+extern_item_node (TypeAlias it) = it.syntax
+
+-- its kind is one of these
+pub extern_item_castable : (it : ExternItem) → is_extern_item (kind_at (extern_item_node it)) ≡ true
+extern_item_castable (Static it) = by_number is_extern_item _ (Node kind.STATIC) it.is refl
+extern_item_castable (Fn it) = by_number is_extern_item _ (Node kind.FN) it.is refl
+extern_item_castable (MacroCall it) = by_number is_extern_item _ (Node kind.MACRO_CALL) it.is refl
+extern_item_castable (TypeAlias it) = by_number is_extern_item _ (Node kind.TYPE_ALIAS) it.is refl

@@ -1,0 +1,31 @@
+-- A generic argument: the kinds that it is of, and the node behind it.
+use Rattle.std.specs.Prelude.{◌≡◌, Bool, true, false}
+use Rattle.std.proofs.Common.{refl}
+use Rattle.syntax_kind.specs.declared.syntax_kind.SyntaxKind.{SyntaxKind}
+use Rattle.syntax_kind.specs.declared.syntax_kind.SyntaxKind.TheVariants.{Node}
+use Rattle.syntax_kind.specs.declared.syntax_kind.node_kind.NodeKind.TheVariants as kind
+use Rattle.tree_model.specs.Cursor.{Cursor}
+use Rattle.ra_ap_syntax.specs.Nodes.{kind_at}
+use Rattle.ra_ap_syntax.specs.KindSets.{by_number}
+use Rattle.ra_ap_syntax.specs.declared.ast.generated.generic_arg.GenericArg.{GenericArg}
+use Rattle.ra_ap_syntax.specs.declared.ast.generated.generic_arg.GenericArg.TheVariants.{TypeArg, AssocTypeArg, LifetimeArg, ConstArg}
+
+abbrev pub is_generic_arg : SyntaxKind → Bool
+is_generic_arg (Node kind.TYPE_ARG) = true
+is_generic_arg (Node kind.ASSOC_TYPE_ARG) = true
+is_generic_arg (Node kind.LIFETIME_ARG) = true
+is_generic_arg (Node kind.CONST_ARG) = true
+is_generic_arg _ = false
+
+abbrev pub generic_arg_node : GenericArg → Cursor
+generic_arg_node (TypeArg it) = it.syntax
+generic_arg_node (AssocTypeArg it) = it.syntax
+generic_arg_node (LifetimeArg it) = it.syntax
+generic_arg_node (ConstArg it) = it.syntax
+
+-- its kind is one of these
+pub generic_arg_castable : (it : GenericArg) → is_generic_arg (kind_at (generic_arg_node it)) ≡ true
+generic_arg_castable (TypeArg it) = by_number is_generic_arg _ (Node kind.TYPE_ARG) it.is refl
+generic_arg_castable (AssocTypeArg it) = by_number is_generic_arg _ (Node kind.ASSOC_TYPE_ARG) it.is refl
+generic_arg_castable (LifetimeArg it) = by_number is_generic_arg _ (Node kind.LIFETIME_ARG) it.is refl
+generic_arg_castable (ConstArg it) = by_number is_generic_arg _ (Node kind.CONST_ARG) it.is refl

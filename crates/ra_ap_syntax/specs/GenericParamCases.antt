@@ -1,0 +1,28 @@
+-- A generic parameter: the kinds that it is of, and the node behind it.
+use Rattle.std.specs.Prelude.{◌≡◌, Bool, true, false}
+use Rattle.std.proofs.Common.{refl}
+use Rattle.syntax_kind.specs.declared.syntax_kind.SyntaxKind.{SyntaxKind}
+use Rattle.syntax_kind.specs.declared.syntax_kind.SyntaxKind.TheVariants.{Node}
+use Rattle.syntax_kind.specs.declared.syntax_kind.node_kind.NodeKind.TheVariants as kind
+use Rattle.tree_model.specs.Cursor.{Cursor}
+use Rattle.ra_ap_syntax.specs.Nodes.{kind_at}
+use Rattle.ra_ap_syntax.specs.KindSets.{by_number}
+use Rattle.ra_ap_syntax.specs.declared.ast.generated.generic_param.GenericParam.{GenericParam}
+use Rattle.ra_ap_syntax.specs.declared.ast.generated.generic_param.GenericParam.TheVariants.{LifetimeParam, TypeParam, ConstParam}
+
+abbrev pub is_generic_param : SyntaxKind → Bool
+is_generic_param (Node kind.LIFETIME_PARAM) = true
+is_generic_param (Node kind.TYPE_PARAM) = true
+is_generic_param (Node kind.CONST_PARAM) = true
+is_generic_param _ = false
+
+abbrev pub generic_param_node : GenericParam → Cursor
+generic_param_node (LifetimeParam it) = it.syntax
+generic_param_node (TypeParam it) = it.syntax
+generic_param_node (ConstParam it) = it.syntax
+
+-- its kind is one of these
+pub generic_param_castable : (it : GenericParam) → is_generic_param (kind_at (generic_param_node it)) ≡ true
+generic_param_castable (LifetimeParam it) = by_number is_generic_param _ (Node kind.LIFETIME_PARAM) it.is refl
+generic_param_castable (TypeParam it) = by_number is_generic_param _ (Node kind.TYPE_PARAM) it.is refl
+generic_param_castable (ConstParam it) = by_number is_generic_param _ (Node kind.CONST_PARAM) it.is refl

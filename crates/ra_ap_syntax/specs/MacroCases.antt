@@ -1,0 +1,25 @@
+-- A definition of a macro: the kinds that it is of, and the node behind it.
+use Rattle.std.specs.Prelude.{◌≡◌, Bool, true, false}
+use Rattle.std.proofs.Common.{refl}
+use Rattle.syntax_kind.specs.declared.syntax_kind.SyntaxKind.{SyntaxKind}
+use Rattle.syntax_kind.specs.declared.syntax_kind.SyntaxKind.TheVariants.{Node}
+use Rattle.syntax_kind.specs.declared.syntax_kind.node_kind.NodeKind.TheVariants as kind
+use Rattle.tree_model.specs.Cursor.{Cursor}
+use Rattle.ra_ap_syntax.specs.Nodes.{kind_at}
+use Rattle.ra_ap_syntax.specs.KindSets.{by_number}
+use Rattle.ra_ap_syntax.specs.declared.ast.node_ext.Macro.{Macro}
+use Rattle.ra_ap_syntax.specs.declared.ast.node_ext.Macro.TheVariants.{MacroRules, MacroDef}
+
+abbrev pub is_macro : SyntaxKind → Bool
+is_macro (Node kind.MACRO_RULES) = true
+is_macro (Node kind.MACRO_DEF) = true
+is_macro _ = false
+
+abbrev pub macro_node : Macro → Cursor
+macro_node (MacroRules it) = it.syntax
+macro_node (MacroDef it) = it.syntax
+
+-- its kind is one of these
+pub macro_castable : (it : Macro) → is_macro (kind_at (macro_node it)) ≡ true
+macro_castable (MacroRules it) = by_number is_macro _ (Node kind.MACRO_RULES) it.is refl
+macro_castable (MacroDef it) = by_number is_macro _ (Node kind.MACRO_DEF) it.is refl

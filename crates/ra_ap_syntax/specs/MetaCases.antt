@@ -1,0 +1,37 @@
+-- What an attribute says: the kinds that it is of, and the node behind it.
+use Rattle.std.specs.Prelude.{◌≡◌, Bool, true, false}
+use Rattle.std.proofs.Common.{refl}
+use Rattle.syntax_kind.specs.declared.syntax_kind.SyntaxKind.{SyntaxKind}
+use Rattle.syntax_kind.specs.declared.syntax_kind.SyntaxKind.TheVariants.{Node}
+use Rattle.syntax_kind.specs.declared.syntax_kind.node_kind.NodeKind.TheVariants as kind
+use Rattle.tree_model.specs.Cursor.{Cursor}
+use Rattle.ra_ap_syntax.specs.Nodes.{kind_at}
+use Rattle.ra_ap_syntax.specs.KindSets.{by_number}
+use Rattle.ra_ap_syntax.specs.declared.ast.generated.meta.Meta.{Meta}
+use Rattle.ra_ap_syntax.specs.declared.ast.generated.meta.Meta.TheVariants.{CfgAttrMeta, CfgMeta, KeyValueMeta, PathMeta, TokenTreeMeta, UnsafeMeta}
+
+abbrev pub is_meta : SyntaxKind → Bool
+is_meta (Node kind.CFG_ATTR_META) = true
+is_meta (Node kind.CFG_META) = true
+is_meta (Node kind.KEY_VALUE_META) = true
+is_meta (Node kind.PATH_META) = true
+is_meta (Node kind.TOKEN_TREE_META) = true
+is_meta (Node kind.UNSAFE_META) = true
+is_meta _ = false
+
+abbrev pub meta_node : Meta → Cursor
+meta_node (CfgAttrMeta it) = it.syntax
+meta_node (CfgMeta it) = it.syntax
+meta_node (KeyValueMeta it) = it.syntax
+meta_node (PathMeta it) = it.syntax
+meta_node (TokenTreeMeta it) = it.syntax
+meta_node (UnsafeMeta it) = it.syntax
+
+-- its kind is one of these
+pub meta_castable : (it : Meta) → is_meta (kind_at (meta_node it)) ≡ true
+meta_castable (CfgAttrMeta it) = by_number is_meta _ (Node kind.CFG_ATTR_META) it.is refl
+meta_castable (CfgMeta it) = by_number is_meta _ (Node kind.CFG_META) it.is refl
+meta_castable (KeyValueMeta it) = by_number is_meta _ (Node kind.KEY_VALUE_META) it.is refl
+meta_castable (PathMeta it) = by_number is_meta _ (Node kind.PATH_META) it.is refl
+meta_castable (TokenTreeMeta it) = by_number is_meta _ (Node kind.TOKEN_TREE_META) it.is refl
+meta_castable (UnsafeMeta it) = by_number is_meta _ (Node kind.UNSAFE_META) it.is refl

@@ -1,0 +1,28 @@
+-- A name where it is used or defined, or a lifetime: the kinds that it is of, and the node behind it.
+use Rattle.std.specs.Prelude.{◌≡◌, Bool, true, false}
+use Rattle.std.proofs.Common.{refl}
+use Rattle.syntax_kind.specs.declared.syntax_kind.SyntaxKind.{SyntaxKind}
+use Rattle.syntax_kind.specs.declared.syntax_kind.SyntaxKind.TheVariants.{Node}
+use Rattle.syntax_kind.specs.declared.syntax_kind.node_kind.NodeKind.TheVariants as kind
+use Rattle.tree_model.specs.Cursor.{Cursor}
+use Rattle.ra_ap_syntax.specs.Nodes.{kind_at}
+use Rattle.ra_ap_syntax.specs.KindSets.{by_number}
+use Rattle.ra_ap_syntax.specs.declared.ast.node_ext.NameLike.{NameLike}
+use Rattle.ra_ap_syntax.specs.declared.ast.node_ext.NameLike.TheVariants.{NameRef, Name, Lifetime}
+
+abbrev pub is_name_like : SyntaxKind → Bool
+is_name_like (Node kind.NAME_REF) = true
+is_name_like (Node kind.NAME) = true
+is_name_like (Node kind.LIFETIME) = true
+is_name_like _ = false
+
+abbrev pub name_like_node : NameLike → Cursor
+name_like_node (NameRef it) = it.syntax
+name_like_node (Name it) = it.syntax
+name_like_node (Lifetime it) = it.syntax
+
+-- its kind is one of these
+pub name_like_castable : (it : NameLike) → is_name_like (kind_at (name_like_node it)) ≡ true
+name_like_castable (NameRef it) = by_number is_name_like _ (Node kind.NAME_REF) it.is refl
+name_like_castable (Name it) = by_number is_name_like _ (Node kind.NAME) it.is refl
+name_like_castable (Lifetime it) = by_number is_name_like _ (Node kind.LIFETIME) it.is refl

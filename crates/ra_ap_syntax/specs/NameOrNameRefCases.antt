@@ -1,0 +1,25 @@
+-- A name where it is defined or used: the kinds that it is of, and the node behind it.
+use Rattle.std.specs.Prelude.{◌≡◌, Bool, true, false}
+use Rattle.std.proofs.Common.{refl}
+use Rattle.syntax_kind.specs.declared.syntax_kind.SyntaxKind.{SyntaxKind}
+use Rattle.syntax_kind.specs.declared.syntax_kind.SyntaxKind.TheVariants.{Node}
+use Rattle.syntax_kind.specs.declared.syntax_kind.node_kind.NodeKind.TheVariants as kind
+use Rattle.tree_model.specs.Cursor.{Cursor}
+use Rattle.ra_ap_syntax.specs.Nodes.{kind_at}
+use Rattle.ra_ap_syntax.specs.KindSets.{by_number}
+use Rattle.ra_ap_syntax.specs.declared.ast.node_ext.NameOrNameRef.{NameOrNameRef}
+use Rattle.ra_ap_syntax.specs.declared.ast.node_ext.NameOrNameRef.TheVariants.{Name, NameRef}
+
+abbrev pub is_name_or_name_ref : SyntaxKind → Bool
+is_name_or_name_ref (Node kind.NAME) = true
+is_name_or_name_ref (Node kind.NAME_REF) = true
+is_name_or_name_ref _ = false
+
+abbrev pub name_or_name_ref_node : NameOrNameRef → Cursor
+name_or_name_ref_node (Name it) = it.syntax
+name_or_name_ref_node (NameRef it) = it.syntax
+
+-- its kind is one of these
+pub name_or_name_ref_castable : (it : NameOrNameRef) → is_name_or_name_ref (kind_at (name_or_name_ref_node it)) ≡ true
+name_or_name_ref_castable (Name it) = by_number is_name_or_name_ref _ (Node kind.NAME) it.is refl
+name_or_name_ref_castable (NameRef it) = by_number is_name_or_name_ref _ (Node kind.NAME_REF) it.is refl

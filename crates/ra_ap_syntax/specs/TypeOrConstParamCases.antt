@@ -1,0 +1,25 @@
+-- A type parameter or a constant parameter: the kinds that it is of, and the node behind it.
+use Rattle.std.specs.Prelude.{◌≡◌, Bool, true, false}
+use Rattle.std.proofs.Common.{refl}
+use Rattle.syntax_kind.specs.declared.syntax_kind.SyntaxKind.{SyntaxKind}
+use Rattle.syntax_kind.specs.declared.syntax_kind.SyntaxKind.TheVariants.{Node}
+use Rattle.syntax_kind.specs.declared.syntax_kind.node_kind.NodeKind.TheVariants as kind
+use Rattle.tree_model.specs.Cursor.{Cursor}
+use Rattle.ra_ap_syntax.specs.Nodes.{kind_at}
+use Rattle.ra_ap_syntax.specs.KindSets.{by_number}
+use Rattle.ra_ap_syntax.specs.declared.ast.node_ext.TypeOrConstParam.{TypeOrConstParam}
+use Rattle.ra_ap_syntax.specs.declared.ast.node_ext.TypeOrConstParam.TheVariants.{Ty, Const}
+
+abbrev pub is_type_or_const_param : SyntaxKind → Bool
+is_type_or_const_param (Node kind.TYPE_PARAM) = true
+is_type_or_const_param (Node kind.CONST_PARAM) = true
+is_type_or_const_param _ = false
+
+abbrev pub type_or_const_param_node : TypeOrConstParam → Cursor
+type_or_const_param_node (Ty it) = it.syntax
+type_or_const_param_node (Const it) = it.syntax
+
+-- its kind is one of these
+pub type_or_const_param_castable : (it : TypeOrConstParam) → is_type_or_const_param (kind_at (type_or_const_param_node it)) ≡ true
+type_or_const_param_castable (Ty it) = by_number is_type_or_const_param _ (Node kind.TYPE_PARAM) it.is refl
+type_or_const_param_castable (Const it) = by_number is_type_or_const_param _ (Node kind.CONST_PARAM) it.is refl

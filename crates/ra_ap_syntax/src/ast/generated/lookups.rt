@@ -1,0 +1,8 @@
+//! Lookups of children by their kinds, in the nodes of each kind.
+mod attr;
+mod expr;
+mod generic;
+mod item;
+mod pat;
+mod path;
+mod ty;

@@ -1,0 +1,167 @@
+//! Tokens under one name.
+ghost use Rattle.std.specs.Prelude.{◌≡◌, Some, true, ⊤};
+ghost use Rattle.std.specs.Cmp.{partial_equiv_from_equiv, on_equiv};
+ghost use Rattle.tree_model.specs.Tree.{text};
+ghost use Rattle.tree_model.specs.Cursor.{focus};
+ghost use Rattle.tree_model.specs.Equality.{is_same_cursor, cursor_hash};
+ghost use Rattle.tree_model.specs.EqualityLaws.{cursor_equivalence, cursors_alike};
+ghost use Rattle.ra_ap_syntax.specs.Nodes.{kind_at};
+ghost use Rattle.ra_ap_syntax.specs.AnyCommentCases.{is_any_comment};
+ghost use Rattle.ra_ap_syntax.specs.AnyStringCases.{is_any_string, any_string_token, any_string_castable};
+
+use crate::ast::{self, AstToken, TypedToken};
+use lossless_tree::{SyntaxKind, SyntaxToken};
+use std::alloc::AllocError;
+use std::fmt;
+use std::hash::{Hash, Hasher};
+
+/// A comment, of documentation too.
+#[derive(Drop)]
+pub struct AnyComment {
+    pub syntax: SyntaxToken,
+    ghost is: { is_any_comment (kind_at syntax) ≡ true },
+}
+
+impl AstToken for AnyComment {
+    ghost casts = { is_any_comment };
+
+    ghost token = { λ it. it.syntax };
+
+    ghost castable = { λ it. it.is };
+
+    fn can_cast(kind: SyntaxKind) -> bool {
+        matches!(
+            kind,
+            SyntaxKind::COMMENT | SyntaxKind::INNER_DOC_COMMENT | SyntaxKind::OUTER_DOC_COMMENT
+        )
+    }
+
+    fn cast(syntax: SyntaxToken) -> Option<AnyComment> {
+        if Self::can_cast(syntax.kind()) {
+            Some(AnyComment { syntax })
+        } else {
+            None
+        }
+    }
+
+    fn syntax(&self) -> &SyntaxToken {
+        &self.syntax
+    }
+}
+
+impl Clone for AnyComment {
+    ghost is_clone = { λ s copy. copy ≡ s };
+
+    ghost is_infallible = { λ _. ⊤ };
+
+    fn clone(&self) -> Result<AnyComment, AllocError> {
+        let syntax = self.syntax.clone()?;
+        Ok(AnyComment { syntax })
+    }
+}
+
+impl PartialEq for AnyComment {
+    ghost eq = { λ a b. is_same_cursor a.syntax b.syntax };
+
+    ghost laws = { partial_equiv_from_equiv (on_equiv (λ it. it.syntax) cursor_equivalence) };
+
+    fn eq(&self, other: &AnyComment) -> bool {
+        self.syntax == other.syntax
+    }
+}
+
+impl Eq for AnyComment {
+    ghost laws = { on_equiv (λ it. it.syntax) cursor_equivalence };
+}
+
+impl Hash for AnyComment {
+    ghost hash_input = { λ it. cursor_hash it.syntax };
+
+    ghost respects_eq = { λ a b same. cursors_alike a.syntax b.syntax same };
+
+    fn hash<H: Hasher>(&self, state: &mut H) {
+        self.syntax.hash(state);
+    }
+}
+
+impl fmt::Display for AnyComment {
+    ghost output = { λ it. Some (text (focus it.syntax)) };
+
+    fn fmt<W: fmt::Write>(&self, f: &mut fmt::Formatter<W>) -> fmt::Result {
+        let text = self.syntax.text();
+        write!(f, "{text}")
+    }
+}
+
+/// A string literal, a byte string literal or a C string literal.
+#[derive(Clone, Drop)]
+pub enum AnyString {
+    ByteString(ast::ByteString),
+    CString(ast::CString),
+    String(ast::String),
+}
+
+impl AstToken for AnyString {
+    ghost casts = { is_any_string };
+
+    ghost token = { any_string_token };
+
+    ghost castable = { any_string_castable };
+
+    fn can_cast(kind: SyntaxKind) -> bool {
+        matches!(
+            kind,
+            SyntaxKind::BYTE_STRING | SyntaxKind::C_STRING | SyntaxKind::STRING
+        )
+    }
+
+    fn cast(syntax: SyntaxToken) -> Option<AnyString> {
+        match syntax.kind() {
+            SyntaxKind::BYTE_STRING => Some(AnyString::ByteString(TypedToken { syntax })),
+            SyntaxKind::C_STRING => Some(AnyString::CString(TypedToken { syntax })),
+            SyntaxKind::STRING => Some(AnyString::String(TypedToken { syntax })),
+            _ => None,
+        }
+    }
+
+    fn syntax(&self) -> &SyntaxToken {
+        match self {
+            AnyString::ByteString(it) => it.syntax(),
+            AnyString::CString(it) => it.syntax(),
+            AnyString::String(it) => it.syntax(),
+        }
+    }
+}
+
+impl PartialEq for AnyString {
+    ghost eq = { λ a b. is_same_cursor (any_string_token a) (any_string_token b) };
+
+    ghost laws = { partial_equiv_from_equiv (on_equiv any_string_token cursor_equivalence) };
+
+    fn eq(&self, other: &AnyString) -> bool {
+        self.syntax() == other.syntax()
+    }
+}
+
+impl Eq for AnyString {
+    ghost laws = { on_equiv any_string_token cursor_equivalence };
+}
+
+impl Hash for AnyString {
+    ghost hash_input = { λ it. cursor_hash (any_string_token it) };
+
+    ghost respects_eq = { λ a b same. cursors_alike (any_string_token a) (any_string_token b) same };
+
+    fn hash<H: Hasher>(&self, state: &mut H) {
+        self.syntax().hash(state);
+    }
+}
+
+impl fmt::Display for AnyString {
+    ghost output = { λ it. Some (text (focus (any_string_token it))) };
+
+    fn fmt<W: fmt::Write>(&self, f: &mut fmt::Formatter<W>) -> fmt::Result {
+        let text = self.text();
+        write!(f, "{text}")
+    }
+}

@@ -1,0 +1,140 @@
+//! The lookups that several types share. A call takes time in the children that it passes, and no memory.
+ghost use Rattle.std.specs.Prelude.{◌≡◌};
+ghost use Rattle.ra_ap_syntax.specs.Lookups.{IsFirstChild, IsViewOf, loop_body};
+ghost use Rattle.ra_ap_syntax.specs.Nodes.{token_child, typed_children};
+
+use crate::ast::{self, AstChildren, AstNode, support};
+use lossless_tree::{SyntaxKind, SyntaxToken, T};
+
+/// What has a name.
+pub trait HasName: AstNode {
+    /// The first child that is a name, if there is one.
+    final fn name(&self) -> Option<ast::Name>
+        ensures { IsFirstChild ⟦<ast::Name as AstNode>⟧ (Self.node self.now) result }
+    {
+        support::child(self.syntax())
+    }
+}
+
+/// What may have a visibility.
+pub trait HasVisibility: AstNode {
+    /// The first child that is a visibility, if there is one.
+    final fn visibility(&self) -> Option<ast::Visibility>
+        ensures { IsFirstChild ⟦<ast::Visibility as AstNode>⟧ (Self.node self.now) result }
+    {
+        support::child(self.syntax())
+    }
+}
+
+/// A loop.
+pub trait HasLoopBody: AstNode {
+    /// The body: of a `loop` the first block among the children. The first block of a `for` or a `while` may be what it
+    /// goes over or its condition, so their body is the second, or the first where there is one alone, if there is any.
+    final fn loop_body(&self) -> Option<ast::BlockExpr>
+        ensures { IsViewOf ⟦<ast::BlockExpr as AstNode>⟧ (loop_body ⟦<ast::BlockExpr as AstNode>⟧.casts (Self.node self.now)) result }
+    {
+        let node = self.syntax();
+        if node.kind() == SyntaxKind::LOOP_EXPR {
+            return support::child(node);
+        }
+        match support::second_child(node) {
+            Some(body) => Some(body),
+            None => support::child(node),
+        }
+    }
+
+    /// The first child that is a label, if there is one.
+    final fn label(&self) -> Option<ast::Label>
+        ensures { IsFirstChild ⟦<ast::Label as AstNode>⟧ (Self.node self.now) result }
+    {
+        support::child(self.syntax())
+    }
+}
+
+/// A call.
+pub trait HasArgList: AstNode {
+    /// The first child that is an argument list, if there is one.
+    final fn arg_list(&self) -> Option<ast::ArgList>
+        ensures { IsFirstChild ⟦<ast::ArgList as AstNode>⟧ (Self.node self.now) result }
+    {
+        support::child(self.syntax())
+    }
+}
+
+/// What items stand in.
+pub trait HasModuleItem: AstNode {
+    /// The children that are items, in order.
+    final fn items(&self) -> AstChildren<ast::Item>
+        ensures { result ≡ typed_children ⟦<ast::Item as AstNode>⟧.casts (Self.node self.now) }
+    {
+        support::children(self.syntax())
+    }
+}
+
+/// What may have generic parameters.
+pub trait HasGenericParams: AstNode {
+    /// The first child that is a list of generic parameters, if there is one.
+    final fn generic_param_list(&self) -> Option<ast::GenericParamList>
+        ensures { IsFirstChild ⟦<ast::GenericParamList as AstNode>⟧ (Self.node self.now) result }
+    {
+        support::child(self.syntax())
+    }
+
+    /// The first child that is a where clause, if there is one.
+    final fn where_clause(&self) -> Option<ast::WhereClause>
+        ensures { IsFirstChild ⟦<ast::WhereClause as AstNode>⟧ (Self.node self.now) result }
+    {
+        support::child(self.syntax())
+    }
+}
+
+/// What may have generic arguments.
+pub trait HasGenericArgs: AstNode {
+    /// The first child that is a list of generic arguments, if there is one.
+    final fn generic_arg_list(&self) -> Option<ast::GenericArgList>
+        ensures { IsFirstChild ⟦<ast::GenericArgList as AstNode>⟧ (Self.node self.now) result }
+    {
+        support::child(self.syntax())
+    }
+}
+
+/// What may have type bounds.
+pub trait HasTypeBounds: AstNode {
+    /// The first child that is a list of type bounds, if there is one.
+    final fn type_bound_list(&self) -> Option<ast::TypeBoundList>
+        ensures { IsFirstChild ⟦<ast::TypeBoundList as AstNode>⟧ (Self.node self.now) result }
+    {
+        support::child(self.syntax())
+    }
+
+    /// The first token `:` among the children, if there is one.
+    final fn colon_token(&self) -> Option<SyntaxToken>
+        ensures { result ≡ token_child SyntaxKind.COLON (Self.node self.now) }
+    {
+        support::token(self.syntax(), T![:])
+    }
+}
+
+/// What may have attributes and documentation.
+pub trait HasAttrs: AstNode {
+    /// The children that are attributes, in order.
+    final fn attrs(&self) -> AstChildren<ast::Attr>
+        ensures { result ≡ typed_children ⟦<ast::Attr as AstNode>⟧.casts (Self.node self.now) }
+    {
+        support::children(self.syntax())
+    }
+
+    /// The children that are doc comments, in order.
+    final fn doc_comments(&self) -> AstChildren<ast::DocComment>
+        ensures { result ≡ typed_children ⟦<ast::DocComment as AstNode>⟧.casts (Self.node self.now) }
+    {
+        support::children(self.syntax())
+    }
+
+    /// The children that are attributes or doc comments, in order.
+    final fn attrs_with_doc(&self) -> AstChildren<ast::AnyAttr>
+        ensures { result ≡ typed_children ⟦<ast::AnyAttr as AstNode>⟧.casts (Self.node self.now) }
+    {
+        support::children(self.syntax())
+    }
+}

@@ -1,0 +1,32 @@
+//! Typed syntax trees of Rust: views of the nodes and tokens of `lossless_tree` by what they are.
+#![tactic(auto)]
+
+pub mod algo;
+pub mod ast;
+pub mod laws;
+pub mod ptr;
+
+pub use ast::{AstNode, AstToken};
+pub use literal_escape as unescape;
+pub use lossless_tree::{
+    Ancestors, Descendants, DescendantsWithTokens, Direction, Language, NodeOrToken, Preorder,
+    PreorderWithTokens, RustLanguage, SyntaxElement, SyntaxElementChildren, SyntaxElementSiblings,
+    SyntaxKind, SyntaxNode, SyntaxNodeChildren, SyntaxNodeSiblings, SyntaxText, SyntaxToken, T,
+    TextRange, TextSize, TokenAtOffset, TreeBuilder, WalkEvent,
+};
+pub use ptr::{AstPtr, SyntaxNodePtr};
+
+/// Matches a node against views: the first that casts, and whose guard holds where it has one.
+///
+/// `match_ast! { match node { ast::CallExpr(it) => a, ast::Item(it) if guard => b, _ => c } }` leaves the node where it is.
+#[macro_export]
+macro_rules! match_ast {
+    (match $node:ident { $($arms:tt)* }) => { $crate::match_ast!(match ($node) { $($arms)* }) };
+    (match ($node:expr) {
+        $( $( $path:ident )::+ ($it:pat) $(if $guard:expr)? => $res:expr, )*
+        _ => $rest:expr $(,)?
+    }) => {
+        $( if let Some($it) = $crate::ast::cast_ref::<$($path)::+>(&$node) $(&& $guard)? { $res } else )*
+        { $rest }
+    };
+}
