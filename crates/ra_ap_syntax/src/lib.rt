@@ -9,10 +9,10 @@ pub mod ptr;
 pub use ast::{AstNode, AstToken};
 pub use literal_escape as unescape;
 pub use lossless_tree::{
-    Ancestors, Descendants, DescendantsWithTokens, Direction, Language, NodeOrToken, Preorder,
-    PreorderWithTokens, RustLanguage, SyntaxElement, SyntaxElementChildren, SyntaxElementSiblings,
-    SyntaxKind, SyntaxNode, SyntaxNodeChildren, SyntaxNodeSiblings, SyntaxText, SyntaxToken, T,
-    TextRange, TextSize, TokenAtOffset, TreeBuilder, WalkEvent,
+    Ancestors, Descendants, DescendantsWithTokens, Direction, FinishError, Language, NodeOrToken,
+    Preorder, PreorderWithTokens, ReplaceError, RustLanguage, SyntaxElement, SyntaxElementChildren,
+    SyntaxElementSiblings, SyntaxKind, SyntaxNode, SyntaxNodeChildren, SyntaxNodeSiblings,
+    SyntaxText, SyntaxToken, T, TextRange, TextSize, TokenAtOffset, TreeBuilder, WalkEvent,
 };
 pub use ptr::{AstPtr, SyntaxNodePtr};
 

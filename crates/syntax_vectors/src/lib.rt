@@ -18,6 +18,8 @@ mod kinds;
 #[cfg(test)]
 mod lookups;
 #[cfg(test)]
+mod matches;
+#[cfg(test)]
 mod plain_tree;
 #[cfg(test)]
 mod plain_walks;

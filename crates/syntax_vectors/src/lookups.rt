@@ -194,6 +194,10 @@ fn doc_comments<N: HasAttrs>(rt: &HostRuntime, it: &N) -> Result<String, Fail> {
     texts(rt, it.doc_comments())
 }
 
+fn attributes_with_doc<N: HasAttrs>(rt: &HostRuntime, it: &N) -> Result<String, Fail> {
+    texts(rt, it.attrs_with_doc())
+}
+
 const TRAIT: &str =
     "TRAIT( DOC_COMMENT( OUTER_DOC_COMMENT:///doc ) ATTR( POUND:#a ) VISIBILITY( PUB_KW:pub ) ATTR( POUND:#b ) TRAIT_KW:trait NAME( IDENT:Foo ) NAME( IDENT:Bar ) GENERIC_PARAM_LIST( L_ANGLE:<> ) COLON:: TYPE_BOUND_LIST( TYPE_BOUND( ) PLUS:+ ) WHERE_CLAUSE( WHERE_KW:where ) ASSOC_ITEM_LIST( L_CURLY:{ R_CURLY:} ) )";
 
@@ -208,6 +212,7 @@ fn traits_of_an_item(rt: HostRuntime) -> Result<(), Fail> {
     assert_eq!(rt; colon(&rt, &it)?.as_str(), ":");
     assert_eq!(rt; attributes(&rt, &it)?.as_str(), "#a|#b|");
     assert_eq!(rt; doc_comments(&rt, &it)?.as_str(), "///doc|");
+    assert_eq!(rt; attributes_with_doc(&rt, &it)?.as_str(), "///doc|#a|#b|");
     assert_eq!(rt; text(&rt, it.assoc_item_list())?.as_str(), "{}");
     Ok(())
 }
