@@ -43,7 +43,7 @@ impl<'t> Trees<'t> {
         Trees {
             table,
             row: row + 1,
-            end: first.end,
+            end: first.end as usize,
             start: first.start as usize,
         }
     }
@@ -110,7 +110,7 @@ impl<'t> Trees<'t> {
         if self.row < self.end {
             Trees {
                 table: self.table,
-                row: self.table.row(self.row).end,
+                row: self.table.row(self.row).end as usize,
                 end: self.end,
                 start: self.table.end_at(self.row),
             }

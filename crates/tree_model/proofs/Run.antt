@@ -1,18 +1,19 @@
 -- The steps of a forest give its rows.
-use Rattle.std.proofs.Common.{◌≡◌, ℕ, suc, ◌+◌, ◌<◌, ◌≤◌, List, [], ◌∷◌, ◌++◌, length, get_or, map, refl, sym, ap, ◌∙◌, arith, append_assoc, append-nil, length-append, true, false, drop}
+use Rattle.std.proofs.Common.{◌≡◌, ℕ, zero, suc, ◌+◌, ◌<◌, ◌≤◌, List, [], ◌∷◌, ◌++◌, length, get_or, map, refl, sym, ap, ◌∙◌, arith, append_assoc, append-nil, length-append, true, false, drop}
 use Rattle.std.specs.Prelude.{cond, nat_lt}
 use Rattle.std.proofs.Math.ListN.{set, drop_of_length-le}
 use Rattle.std.proofs.Math.Seq.{set-append_seam, get_or-append_seam}
 use Rattle.std.proofs.lemmas.Bool.Decides.{nat_tests}
 use Rattle.std.proofs.lemmas.List.{map-append}
+use Rattle.syntax_kind.specs.declared.syntax_kind.SyntaxKind.{SyntaxKind}
 use Rattle.tree_model.specs.declared.table.Row.{Row}
 use Rattle.tree_model.specs.declared.step.Step.{Step}
-use Rattle.tree_model.specs.declared.step.Step.TheVariants.{Exit}
+use Rattle.tree_model.specs.declared.step.Step.TheVariants.{Enter, Token, Exit}
 use Rattle.tree_model.specs.Tree.{node, token, Forest, nil, cons, forest_text, forest_size}
 use Rattle.tree_model.specs.Events.{exit, events_of}
 use Rattle.tree_model.specs.Builder.{step_of}
 use Rattle.tree_model.specs.Rows.{rows_of, no_row}
-use Rattle.tree_model.specs.Run.{State, run, after_step}
+use Rattle.tree_model.specs.Run.{State, run, after_step, row_count}
 use Rattle.tree_model.proofs.At.{length-rows_of, cong₂}
 
 abbrev pub steps_of : Forest → List Step
@@ -69,6 +70,14 @@ run-steps_of (cons (node k c) f) es rows up at =
     ∙ cong₂ (λ r a. run es (state r up a))
     (append_assoc rows (row e ∷ C) (rows_of f (length (rows ++ row e ∷ C)) b up) ∙ ap (λ m. rows ++ (row e ∷ (C ++ rows_of f m b up))) is_e')
     (omega (arith, length-append (forest_text c) (forest_text f)))
+
+-- where the step that comes next is a token, a row is left to make
+pub token_left : (es : List Step) (i : ℕ) (d : Step) (k : SyntaxKind) (n : ℕ) → i < length es → get_or es i d ≡ Token k n → 1 ≤ row_count (drop i es)
+token_left (Enter x ∷ es) zero d k n h is = omega arith
+token_left (Token x m ∷ es) zero d k n h is = omega arith
+token_left (Exit ∷ es) zero d k n h is = (let no : Exit ≡ Token k n = is in cc)
+token_left (e ∷ es) (suc i) d k n h is = token_left es i d k n (omega arith) is
+token_left [] i d k n h is = absurd (omega arith)
 
 -- all the steps of a forest, from nothing
 pub run_all : (f : Forest) (steps : List Step) (rows : List Row) (up at i : ℕ) → steps ≡ steps_of f → length steps ≤ i → run (drop i steps) (state rows up at) ≡ run steps (state [] 0 0) → rows ≡ rows_of f 0 0 0

@@ -1,5 +1,5 @@
 -- How rows come from steps, one after another.
-use Rattle.std.specs.Prelude.{ℕ, ◌+◌, List, [], ◌∷◌, ◌++◌, length, get_or, true, false, cond, nat_lt}
+use Rattle.std.specs.Prelude.{ℕ, suc, ◌+◌, List, [], ◌∷◌, ◌++◌, length, get_or, true, false, cond, nat_lt}
 use Rattle.std.proofs.Math.ListN.{set}
 use Rattle.tree_model.specs.declared.table.Row.{Row}
 use Rattle.tree_model.specs.declared.step.Step.{Step}
@@ -23,6 +23,13 @@ after_step Exit s =
 abbrev pub run : List Step → State → State
 run [] s = s
 run (e ∷ es) s = run es (after_step e s)
+
+-- each step makes a row but an exit
+abbrev pub row_count : List Step → ℕ
+row_count [] = 0
+row_count (Enter k ∷ es) = suc (row_count es)
+row_count (Token k n ∷ es) = suc (row_count es)
+row_count (Exit ∷ es) = row_count es
 
 abbrev pub text_len : List Step → ℕ
 text_len [] = 0

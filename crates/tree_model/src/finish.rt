@@ -1,12 +1,12 @@
 //! What `finish` does with the steps.
-ghost use Rattle.std.specs.Prelude.{◌≡◌, ◌<◌, ◌^◌, [], Some, map, IfOk};
+ghost use Rattle.std.specs.Prelude.{◌≡◌, ◌<◌, ◌^◌, [], Some, map, length, IfOk};
 ghost use Rattle.tree_model.specs.declared.error.FinishError.TheVariants.{Empty};
 ghost use Rattle.tree_model.specs.Tree.{Forest};
 ghost use Rattle.tree_model.specs.Events.{events_of};
 ghost use Rattle.tree_model.specs.Builder.{events_from, step_of};
 ghost use Rattle.tree_model.specs.Scan.{after_top, scan};
 ghost use Rattle.tree_model.specs.Rows.{rows_of};
-ghost use Rattle.tree_model.specs.Run.{text_len};
+ghost use Rattle.tree_model.specs.Run.{text_len, row_count};
 
 use crate::error::FinishError;
 use crate::step::Step;
@@ -62,22 +62,36 @@ pub fn first_refusal(steps: &[Step]) -> Option<FinishError>
     root
 }
 
-/// The rows of the steps of a forest.
+// How many rows the steps make: one for each but the exits.
+fn row_count(steps: &[Step]) -> usize
+    ensures { result ≡ row_count steps.now }
+{
+    let mut count: usize = 0;
+    for step in steps {
+        if !matches!(step, Step::Exit) {
+            count += 1;
+        }
+    }
+    count
+}
+
+/// The rows of the steps of a forest. More of them than a `u32` can count are want of memory.
 pub fn build_rows(alloc: Global, steps: &[Step]) -> Result<Vec<Row>, AllocError>
     requires { text_len steps.now < 2 ^ 32 }
-    ensures { IfOk result (λ rows. (f : Forest) → steps.now ≡ map step_of (events_of f) → rows.items ≡ rows_of f 0 0 0) }
+    ensures rows { IfOk result (λ rows. (f : Forest) → steps.now ≡ map step_of (events_of f) → rows.items ≡ rows_of f 0 0 0) }
+    ensures few { IfOk result (λ rows. length rows.items < 2 ^ 32) }
 {
-    let count = steps
-        .iter()
-        .filter(|step| !matches!(step, Step::Exit))
-        .count();
+    let count = row_count(steps);
+    if count > u32::MAX as usize {
+        return Err(AllocError);
+    }
     let mut rows: Vec<Row> = Vec::with_capacity(alloc, count)?;
-    let mut innermost: usize = 0;
+    let mut innermost: u32 = 0;
     let mut at: u32 = 0;
     for step in steps {
         match *step {
             Step::Enter(kind) => {
-                let row = rows.len();
+                let row = rows.len() as u32;
                 rows.push(Row {
                     kind,
                     is_token: false,
@@ -88,7 +102,7 @@ pub fn build_rows(alloc: Global, steps: &[Step]) -> Result<Vec<Row>, AllocError>
                 innermost = row;
             }
             Step::Token(kind, len) => {
-                let end = rows.len() + 1;
+                let end = rows.len() as u32 + 1;
                 rows.push(Row {
                     kind,
                     is_token: true,
@@ -100,11 +114,11 @@ pub fn build_rows(alloc: Global, steps: &[Step]) -> Result<Vec<Row>, AllocError>
             }
             Step::Exit => {
                 // Of steps that close no more than they open, each finds its node.
-                if innermost < rows.len() {
-                    let end = rows.len();
-                    let parent = rows[innermost].parent;
-                    rows[innermost].end = end;
-                    innermost = parent;
+                let row = innermost as usize;
+                if row < rows.len() {
+                    let end = rows.len() as u32;
+                    innermost = rows[row].parent;
+                    rows[row].end = end;
                 }
             }
         }

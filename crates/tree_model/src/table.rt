@@ -11,7 +11,7 @@ use std::marker::Model;
 use syntax_kind::SyntaxKind;
 use text_size::{TextRange, TextSize};
 
-/// One node or token. 32 bytes.
+/// One node or token, in 20 bytes. Rows are numbered from 0 in preorder; of a tree's rows there are fewer than 4,294,967,296.
 #[derive(Clone, Copy)]
 pub struct Row {
     /// Its kind.
@@ -21,9 +21,9 @@ pub struct Row {
     /// The byte where its text starts.
     pub start: u32,
     /// The number of the first row after the subtree.
-    pub end: usize,
+    pub end: u32,
     /// The number of the parent's row; the root is its own.
-    pub parent: usize,
+    pub parent: u32,
 }
 
 /// The one place that knows rows. A clause sees the tree.
@@ -69,7 +69,7 @@ impl Table {
     pub fn row(&self, n: usize) -> Row
         requires { n < size self.now }
         ensures value { result ≡ row_at self.now n }
-        ensures fits { result.end < 2 ^ 64 }
+        ensures fits { result.end < 2 ^ 32 }
     {
         let _count = self.rows.len();
         self.rows[n]
@@ -95,7 +95,7 @@ impl Table {
         requires { n < size self.now }
         ensures { result ≡ size (tree_at self.now n) }
     {
-        self.row(n).end - n
+        self.row(n).end as usize - n
     }
 
     /// Where the text of the subtree at row `n` ends.
@@ -104,7 +104,7 @@ impl Table {
         ensures value { result ≡ end_at self.now n }
         ensures fits { result < 2 ^ 32 }
     {
-        let after = self.rows[n].end;
+        let after = self.rows[n].end as usize;
         if after < self.rows.len() {
             self.rows[after].start as usize
         } else {
@@ -143,7 +143,7 @@ impl Table {
         if n == 0 {
             None
         } else {
-            Some(self.row(n).parent)
+            Some(self.row(n).parent as usize)
         }
     }
 
@@ -153,7 +153,7 @@ impl Table {
         ensures place { option_map (place_at self.now) result ≡ first_child_place self.now (place_at self.now n) }
         ensures in_range { IfSome result (λ q. q < size self.now) }
     {
-        let end = self.row(n).end;
+        let end = self.row(n).end as usize;
         let next = n + 1;
         if next < end { Some(next) } else { None }
     }
@@ -164,9 +164,9 @@ impl Table {
         ensures place { option_map (place_at self.now) result ≡ next_sibling_place self.now (place_at self.now n) }
         ensures in_range { IfSome result (λ q. q < size self.now) }
     {
-        let after = self.row(n).end;
+        let after = self.row(n).end as usize;
         let q = self.parent_row(n)?;
-        if after < self.row(q).end {
+        if after < self.row(q).end as usize {
             Some(after)
         } else {
             None

@@ -38,7 +38,7 @@ impl SyntaxElementChildren {
         requires { IsRow table.value row }
         ensures { result ≡ children_of (cursor_at table.value row) }
     {
-        let end = table.row(row).end;
+        let end = table.row(row).end as usize;
         SyntaxElementChildren {
             table,
             next: row + 1,
@@ -57,7 +57,7 @@ impl Iterator for SyntaxElementChildren {
     fn next(&mut self) -> Option<SyntaxElement> {
         let row = self.next;
         if row < self.end {
-            self.next = self.table.row(row).end;
+            self.next = self.table.row(row).end as usize;
             Some(element(&self.table, row))
         } else {
             None

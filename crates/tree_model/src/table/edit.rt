@@ -1,5 +1,5 @@
 //! New tables from the rows and texts of others.
-ghost use Rattle.std.specs.Prelude.{ℕ, ◌≡◌, ◌<◌, ◌≤◌, ◌+◌, ◌-◌, ◌^◌, ◌++◌, ◌↔◌, map, length, IfOk, OnOk, IsErrOf, string_bytes, IsUtf8};
+ghost use Rattle.std.specs.Prelude.{ℕ, ◌≡◌, ◌<◌, ◌≤◌, ◌+◌, ◌-◌, ◌^◌, ◌++◌, ◌↔◌, map, length, IfOk, OnOk, IsErrOf, IsTrue, string_bytes, IsUtf8};
 ghost use Rattle.tree_model.specs.declared.error.ReplaceError.TheVariants.{TooLong};
 ghost use Rattle.tree_model.specs.Tree.{size, text, token, cons, nil, IsNode, IsToken};
 ghost use Rattle.tree_model.specs.Rows.{row_at, tree_at, start_at, end_at, place_at, rows_of, no_row};
@@ -24,14 +24,15 @@ pub struct Shift {
 }
 
 impl Shift {
-    fn number(self, n: usize) -> usize
-        requires { (n - self.from_row) + self.to_row < 2 ^ 64 }
+    fn number(self, n: u32) -> u32
+        requires { (n - self.from_row) + self.to_row < 2 ^ 32 }
         ensures { result ≡ moved_number self n }
     {
-        if n < self.from_row {
+        let row = n as usize;
+        if row < self.from_row {
             n
         } else {
-            n - self.from_row + self.to_row
+            (row - self.from_row + self.to_row) as u32
         }
     }
 
@@ -78,20 +79,21 @@ impl Table {
         n: usize,
         to: usize,
         byte: usize,
-        up: usize,
+        up: u32,
     ) -> Result<(), AllocError>
         requires is_row { n < size self.now }
         requires is_node { IsNode (tree_at self.now n) }
-        requires rows_fit { to + size (tree_at self.now n) < 2 ^ 64 }
+        requires rows_fit { to + size (tree_at self.now n) < 2 ^ 32 }
         requires bytes_fit { byte + length (text (tree_at self.now n)) < 2 ^ 32 }
         ensures { OnOk result (rows.new.items ≡ rows.old.items ++ rows_of (cons (tree_at self.now n) nil) to byte up) }
     {
         let node = self.row(n);
+        let end = node.end as usize;
         rows.push(Row {
             kind: node.kind,
             is_token: false,
             start: byte as u32,
-            end: node.end - n + to,
+            end: (end - n + to) as u32,
             parent: up,
         })?;
         let by = Shift {
@@ -100,7 +102,7 @@ impl Table {
             from_byte: node.start as usize,
             to_byte: byte,
         };
-        self.push_moved(rows, n + 1, node.end, by)
+        self.push_moved(rows, n + 1, end, by)
     }
 
     /// The node at row `n` as the root of a table of its own.
@@ -111,7 +113,7 @@ impl Table {
     {
         let _count = self.rows.len();
         let text = String::from_str(alloc, self.text_at(n))?;
-        let mut rows = Vec::with_capacity(alloc, self.row(n).end - n)?;
+        let mut rows = Vec::with_capacity(alloc, self.size_at(n))?;
         self.push_node(&mut rows, n, 0, 0, 0)?;
         Ok(Table::from_parts(text, rows))
     }
@@ -139,11 +141,11 @@ impl Table {
     // The rows before row `n`, where `count` rows take the place of the subtree there. The list has room for all rows.
     fn rows_before(&self, alloc: Global, n: usize, count: usize) -> Result<Vec<Row>, AllocError>
         requires is_row { n < size self.now }
-        requires rows_fit { size self.now + count < 2 ^ 64 }
+        requires rows_fit { (size self.now - size (tree_at self.now n)) + count < 2 ^ 32 }
         ensures { IfOk result (λ rows. rows.items ≡ moved_before self.now n count) }
     {
         let len = self.rows.len();
-        let after = self.row(n).end;
+        let after = self.row(n).end as usize;
         let mut rows = Vec::with_capacity(alloc, len - (after - n) + count)?;
         let by = Shift {
             from_row: after,
@@ -164,11 +166,11 @@ impl Table {
         bytes: usize,
     ) -> Result<(), AllocError>
         requires is_row { n < size self.now }
-        requires rows_fit { size self.now + count < 2 ^ 64 }
+        requires rows_fit { (size self.now - size (tree_at self.now n)) + count < 2 ^ 32 }
         requires bytes_fit { (length (text self.now) - length (text (tree_at self.now n))) + bytes < 2 ^ 32 }
         ensures { OnOk result (rows.new.items ≡ rows.old.items ++ moved_behind self.now n count bytes) }
     {
-        let after = self.row(n).end;
+        let after = self.row(n).end as usize;
         let by = Shift {
             from_row: after,
             to_row: n + count,
@@ -176,6 +178,15 @@ impl Table {
             to_byte: self.start_at(n) as usize + bytes,
         };
         self.push_moved(rows, after, self.len(), by)
+    }
+
+    // Whether this many rows can take the place of the subtree at row `n`.
+    fn has_room(&self, n: usize, count: usize) -> bool
+        requires { n < size self.now }
+        ensures { IsTrue result ↔ ((size self.now - size (tree_at self.now n)) + count < 2 ^ 32) }
+    {
+        let kept = self.rows.len() - self.size_at(n);
+        count <= u32::MAX as usize - kept
     }
 
     // The rows of the tree with a token in place of the subtree at row `n`.
@@ -197,7 +208,7 @@ impl Table {
             kind,
             is_token: true,
             start: old.start,
-            end: n + 1,
+            end: (n + 1) as u32,
             parent: old.parent,
         })?;
         self.push_behind(&mut rows, n, 1, new.len())?;
@@ -216,12 +227,13 @@ impl Table {
         requires is_other { other < size piece.now }
         requires is_node { IsNode (tree_at piece.now other) }
         requires fits { length (splice (text self.now) (start_at self.now n) (end_at self.now n) (text (tree_at piece.now other))) < 2 ^ 32 }
+        requires few { (size self.now - size (tree_at self.now n)) + size (tree_at piece.now other) < 2 ^ 32 }
         ensures { IfOk result (λ rows. rows.items ≡ rows_of (cons (replace self.now (place_at self.now n) (tree_at piece.now other)) nil) 0 0 0) }
     {
         let _count = self.rows.len();
         let _more = piece.rows.len();
         let old = self.row(n);
-        let count = piece.row(other).end - other;
+        let count = piece.size_at(other);
         let bytes = piece.end_at(other) - piece.start_at(other) as usize;
         let mut rows = self.rows_before(alloc, n, count)?;
         piece.push_node(&mut rows, other, n, old.start as usize, old.parent)?;
@@ -248,7 +260,8 @@ impl Table {
         Ok(Table::from_parts(spliced, rows))
     }
 
-    /// The table of the tree with the node at row `other` of `piece` in place of the node at row `n`.
+    /// The table of the tree with the node at row `other` of `piece` in place of the node at row `n`. More rows than a `u32` can count
+    /// are want of memory.
     pub fn with_node(
         &self,
         alloc: Global,
@@ -265,6 +278,9 @@ impl Table {
         let _count = self.rows.len();
         let _more = piece.rows.len();
         let spliced = self.spliced_text(alloc, n, piece.text_at(other))?;
+        if !self.has_room(n, piece.size_at(other)) {
+            return Err(ReplaceError::Memory);
+        }
         let rows = self.rows_with_node(alloc, n, piece, other)?;
         Ok(Table::from_parts(spliced, rows))
     }

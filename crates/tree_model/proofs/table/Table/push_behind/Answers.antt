@@ -4,7 +4,7 @@ use Rattle.tree_model.specs.Tree.{size}
 use Rattle.tree_model.specs.Rows.{tree_at}
 use Rattle.tree_model.proofs.StepLemmas.{end_of_row}
 use Rattle.tree_model.proofs.TableLemmas.{row_end_fits}
-use Rattle.tree_model.proofs.EditLemmas.{fits_behind, behind_moved}
+use Rattle.tree_model.proofs.EditLemmas.{fits_behind, behind_moved, within_rows}
 use Rattle.tree_model.proofs.table.Table.push_behind.Goals as goal
 use Rattle.tree_model.proofs.table.Table.push_behind.Goals.{After-row-after}
 
@@ -24,3 +24,6 @@ returns c =
     on_ok_weaker c.push_moved.result
     (λ is. behind_moved c.args.self.now c.args.n c.args.count c.args.bytes c.row-after.result.end c.end_at.result (c.start_at.result + c.args.bytes) c.len.result _ _ (ends (goal.at.returns c).After-row-after) c.end_at.ensures.value (omega (arith, c.start_at.ensures)) c.len.ensures is)
     c.push_moved.ensures
+
+pub overflow_add-by : goal.overflow_add-by
+overflow_add-by c = omega (arith, c.requires.rows_fit, within_rows c.args.self.now c.args.n c.requires.is_row)

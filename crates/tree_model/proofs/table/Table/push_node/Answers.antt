@@ -12,11 +12,11 @@ use Rattle.tree_model.proofs.table.Table.push_node.Goals.{After-row-node}
 ends : (c : After-row-node) → c.row-node.result.end ≡ c.args.n + size (tree_at c.args.self.now c.args.n)
 ends c = ap (λ r. r.end) c.row-node.ensures.value ∙ end_of_row c.args.self.now c.args.n c.requires.is_row
 
-pub overflow_sub-node : goal.overflow_sub-node
-overflow_sub-node c = omega (arith, ends (goal.at.overflow_sub-node c).After-row-node)
+pub overflow_sub-end : goal.overflow_sub-end
+overflow_sub-end c = omega (arith, ends (goal.at.overflow_sub-end c).After-row-node)
 
-pub overflow_add-node : goal.overflow_add-node
-overflow_add-node c = omega (arith, ends (goal.at.overflow_add-node c).After-row-node, c.requires.rows_fit)
+pub overflow_cast-end : goal.overflow_cast-end
+overflow_cast-end c = omega (arith, ends (goal.at.overflow_cast-end c).After-row-node, c.requires.rows_fit)
 
 pub overflow_add-n : goal.overflow_add-n
 overflow_add-n c = omega (arith, ends (goal.at.overflow_add-n c).After-row-node, c.row-node.ensures.fits, some_row (tree_at c.args.self.now c.args.n))
@@ -35,3 +35,6 @@ returns c =
     on_ok_weaker c.push_moved.result
     (λ is. node_pushed c.args.self.now c.args.n c.requires.is_row c.row-node.result c.args.rows.now.items c.push.new.self.items c.push_moved.new.rows.items (c.args.n + 1) c.args.to c.args.byte c.args.up c.requires.is_node c.row-node.ensures.value (omega arith) c.in_ok-push.ensures.items is)
     c.push_moved.ensures
+
+pub overflow_cast-end-2 : goal.overflow_cast-end-2
+overflow_cast-end-2 c = omega (arith, ends (goal.at.overflow_cast-end-2 c).After-row-node, c.requires.rows_fit)

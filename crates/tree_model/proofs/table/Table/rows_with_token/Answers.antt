@@ -1,21 +1,23 @@
-use Rattle.std.proofs.Common.{◌<◌, ◌+◌, refl, arith}
+use Rattle.std.proofs.Common.{◌<◌, ◌+◌, ◌-◌, refl, arith}
 use Rattle.std.specs.Prelude.{◌^◌}
 use Rattle.tree_model.specs.Tree.{size}
-use Rattle.tree_model.proofs.TableLemmas.{shown, rows_len}
-use Rattle.tree_model.proofs.EditLemmas.{token_pushed}
+use Rattle.tree_model.specs.Rows.{tree_at}
+use Rattle.tree_model.proofs.At.{some_row}
+use Rattle.tree_model.proofs.TableLemmas.{shown}
+use Rattle.tree_model.proofs.EditLemmas.{token_pushed, within_rows}
 use Rattle.tree_model.proofs.table.Table.rows_with_token.Goals as goal
 use Rattle.tree_model.proofs.table.Table.rows_with_token.Goals.{After-row-old}
 
-few : (c : After-row-old) → size c.args.self.now + 1 < 2 ^ 64
+few : (c : After-row-old) → (size c.args.self.now - size (tree_at c.args.self.now c.args.n)) + 1 < 2 ^ 32
 few c =
-    let rows = c.self.inside.rows in
-    omega (arith, rows.ok.0, rows.ok.1, rows.small, rows_len _ _ _ (shown _ _ _ c.self.view_is c.self.invariant))
+    let w = shown _ _ _ c.self.view_is c.self.invariant in
+    omega (arith, w.few, some_row (tree_at c.args.self.now c.args.n), within_rows c.args.self.now c.args.n c.requires.is_row)
 
 pub rows_before-requires-clause-rows_fit : goal.rows_before-requires-clause-rows_fit
 rows_before-requires-clause-rows_fit c = few (goal.at.rows_before-requires-clause-rows_fit c).After-row-old
 
 pub overflow_add-n : goal.overflow_add-n
-overflow_add-n c = omega (arith, few (goal.at.overflow_add-n c).After-row-old, c.requires.is_row)
+overflow_add-n c = let w = shown _ _ _ c.self.view_is c.self.invariant in omega (arith, w.few, c.requires.is_row)
 
 pub push_behind-requires-clause-rows_fit : goal.push_behind-requires-clause-rows_fit
 push_behind-requires-clause-rows_fit c = few (goal.at.push_behind-requires-clause-rows_fit c).After-row-old
