@@ -90,7 +90,7 @@ impl TreeBuilder {
     /// The root of the tree that the events build, in time linear in the events and their text.
     ///
     /// Else the first refusal that holds of all the events, in the order of [`FinishError`]; the builder is then gone.
-    /// The text is not copied.
+    /// The text is not copied. More than 2,147,483,647 nodes and tokens are want of memory.
     pub fn finish(self) -> Result<SyntaxNode, FinishError>
         ensures ok { IfOk result (λ root. BuildsNode self root.tree × IsRoot root) }
         ensures accepted { OnOk result (first_refusal self ≡ None) }

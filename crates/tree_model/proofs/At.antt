@@ -3,7 +3,7 @@ use Rattle.std.proofs.Common.{◌≡◌, ℕ, zero, suc, ◌+◌, ◌-◌, ◌<�
 use Rattle.std.proofs.lemmas.List.{get_or-append-add, get_or_append_left, length-map, get_or-map}
 use native.Mathlib.Decide.{dec_lt}
 use Rattle.syntax_kind.specs.declared.syntax_kind.SyntaxKind.{SyntaxKind}
-use Rattle.tree_model.specs.declared.table.Row.{Row}
+use Rattle.tree_model.specs.declared.rows.Row.{Row}
 use Rattle.tree_model.specs.Tree.{Tree, node, token, Forest, nil, cons, text, size, forest_text, forest_size, Place, places_from, places, no_tree, child_at, child_count, place_above, last_position, bytes_before, subtree, start}
 use Rattle.tree_model.specs.Rows.{rows_of, row_of}
 

@@ -5,7 +5,7 @@ use Rattle.std.specs.Str.{IsCharBoundary}
 use Rattle.std.proofs.lemmas.List.{map-append, take_more, get_or-drop, length-drop, length-take-le}
 use Rattle.std.proofs.Math.Seq.{take-append_seam, drop-append_seam}
 use Rattle.syntax_kind.specs.declared.syntax_kind.SyntaxKind.{SyntaxKind}
-use Rattle.tree_model.specs.declared.table.Row.{Row}
+use Rattle.tree_model.specs.declared.rows.Row.{Row}
 use Rattle.tree_model.specs.declared.table.edit.Shift.{Shift}
 use Rattle.tree_model.specs.Tree.{Tree, Place, subtree, node, token, Forest, nil, cons, text, size, forest_size, kind_of, IsNode, IsToken}
 use Rattle.tree_model.specs.Rows.{rows_of, row_of, row_at, no_row, place_at, tree_at, start_at, end_at, Represents, TextsAreUtf8, tree_of_rows}
@@ -123,7 +123,7 @@ node_pushed whole n h r old middle new first to byte up is_node is_r is_first is
     (ap (λ s. record { from_row = n; to_row = to; from_byte = s; to_byte = byte }) is_start) is_first (ap (λ r. r.end) is_r ∙ end_of_row whole n h) refl
     (is_new ∙ ap (λ l. l ++ map (moved_row by) (rows_between whole first r.end)) (is_middle ∙ ap (λ k. old ++ record { kind = k; is_token = false; start = byte; end = (r.end - n) + to; parent = up } ∷ []) is_kind))
 
-pub fits_inside : (whole : Tree) (n k : ℕ) (r : Row) (to byte : ℕ) → n < size whole → r ≡ row_at whole n → to + size (tree_at whole n) < 2 ^ 32 → byte + length (text (tree_at whole n)) < 2 ^ 32
+pub fits_inside : (whole : Tree) (n k : ℕ) (r : Row) (to byte : ℕ) → n < size whole → r ≡ row_at whole n → to + size (tree_at whole n) < 2 ^ 31 → byte + length (text (tree_at whole n)) < 2 ^ 32
     → n ≤ k → k < r.end → MoveFits (record { from_row = n; to_row = to; from_byte = r.start; to_byte = byte }) (row_at whole k)
 fits_inside whole n k r to byte h is_r rows_fit bytes_fit later lt =
     let is_end = ap (λ r. r.end) is_r ∙ end_of_row whole n h in
@@ -167,7 +167,7 @@ pub length-spliced : (whole : Tree) (n : ℕ) (new : List ℕ) → n < size whol
     → length (splice (text whole) (start_at whole n) (end_at whole n) new) ≡ (length (text whole) - length (text (tree_at whole n))) + length new
 length-spliced whole n new h = omega (arith, length-splice (text whole) new (start_at whole n) (end_at whole n) (omega arith) (within_text whole n h), within_text whole n h)
 
-pub fits_before : (whole : Tree) (n k e count : ℕ) → n < size whole → e ≡ n + size (tree_at whole n) → (size whole - size (tree_at whole n)) + count < 2 ^ 32 → length (text whole) < 2 ^ 32
+pub fits_before : (whole : Tree) (n k e count : ℕ) → n < size whole → e ≡ n + size (tree_at whole n) → (size whole - size (tree_at whole n)) + count < 2 ^ 31 → length (text whole) < 2 ^ 32
     → k < n → MoveFits (shift_from e (n + count) 0 0) (row_at whole k)
 fits_before whole n k e count h is_e rows_fit short lt =
     let in_range : k < size whole = omega arith in
@@ -179,7 +179,7 @@ fits_before whole n k e count h is_e rows_fit short lt =
       parent_fits = omega (arith, parent_is_earlier whole k in_range, is_e, within_rows whole n h);
     }
 
-pub fits_behind : (whole : Tree) (n k e count b bytes : ℕ) → n < size whole → e ≡ n + size (tree_at whole n) → (size whole - size (tree_at whole n)) + count < 2 ^ 32
+pub fits_behind : (whole : Tree) (n k e count b bytes : ℕ) → n < size whole → e ≡ n + size (tree_at whole n) → (size whole - size (tree_at whole n)) + count < 2 ^ 31
     → (length (text whole) - length (text (tree_at whole n))) + bytes < 2 ^ 32 → b ≡ end_at whole n
     → e ≤ k → k < size whole → (d : ℕ) → d ≡ start_at whole n + bytes → MoveFits (shift_from e (n + count) b d) (row_at whole k)
 fits_behind whole n k e count b bytes h is_e rows_fit bytes_fit is_b later in_range d is_d =
@@ -253,7 +253,7 @@ size-replaced whole n u h =
 pub replaced_shown : (whole : Tree) (n : ℕ) (u : Tree) (all new : List Row) (s spliced_s : List ℕ) → n < size whole → Represents all s whole
     → new ≡ rows_of (cons (replace whole (place_at whole n) u) nil) 0 0 0
     → spliced_s ≡ splice (text whole) (start_at whole n) (end_at whole n) (text u) → length (splice (text whole) (start_at whole n) (end_at whole n) (text u)) < 2 ^ 32
-    → (size whole - size (tree_at whole n)) + size u < 2 ^ 32 → TextsAreUtf8 (cons u nil) → IsNode (replace whole (place_at whole n) u) → Represents new spliced_s (replace whole (place_at whole n) u)
+    → (size whole - size (tree_at whole n)) + size u < 2 ^ 31 → TextsAreUtf8 (cons u nil) → IsNode (replace whole (place_at whole n) u) → Represents new spliced_s (replace whole (place_at whole n) u)
 replaced_shown whole n u all new s spliced_s h w is_new is_text fits few utf8 is_node = record {
   rows_are = is_new;
   text_is = is_text ∙ sym (spliced whole (place_at whole n) u (within_at whole n h));

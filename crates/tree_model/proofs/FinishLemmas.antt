@@ -9,7 +9,7 @@ use Rattle.tree_model.specs.declared.error.FinishError.{FinishError}
 use Rattle.tree_model.specs.declared.error.FinishError.TheVariants.{TooLong, OverClosed, Unclosed, Empty, ManyRoots, TokenRoot}
 use Rattle.tree_model.specs.declared.step.Step.{Step}
 use Rattle.tree_model.specs.declared.step.Step.TheVariants.{Enter, Token, Exit}
-use Rattle.tree_model.specs.declared.table.Row.{Row}
+use Rattle.tree_model.specs.declared.rows.Row.{Row}
 use Rattle.tree_model.specs.Tree.{node, token, Forest, nil, cons, text, forest_text}
 use Rattle.tree_model.specs.Events.{Event, enter, leaf, exit, events_of, open_after, forest_of, balance_refusal, root_refusal, first_refusal, refusal_of, BuildsNode, Builds}
 use Rattle.tree_model.specs.Events as events
@@ -190,7 +190,7 @@ module _ (steps : List Step) (s : List ℕ) (w : Ready steps s) (rows : List Row
   pub tree_built : tree_of_rows rows s ≡ node w.kind w.children
   tree_built = tree_of_rows-rows_of (node w.kind w.children) rows s is w.text_is
 
-  pub table_built : length s < 2 ^ 32 → length rows < 2 ^ 32 → Represents rows s (tree_of_rows rows s)
+  pub table_built : length s < 2 ^ 32 → length rows < 2 ^ 31 → Represents rows s (tree_of_rows rows s)
   table_built short few = table_of (node w.kind w.children) rows s (record { rows_are = is; text_is = w.text_is; texts_are_utf8 = w.utf8; short = short; few = omega (arith, few, ap length is, length-rows_of (cons (node w.kind w.children) nil) 0 0 0); root_is_node = tt })
 
   pub node_built : BuildsNode (events_from steps s) (tree_of_rows rows s)

@@ -13,6 +13,7 @@ pub mod EventLemmas
 pub mod EveryLaws
 pub mod FinishLemmas
 pub mod MovedRows
+pub mod PackedRow
 pub mod PlaceLemmas
 pub mod ReplaceErrors
 pub mod PointerLaws

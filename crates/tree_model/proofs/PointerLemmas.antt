@@ -1,7 +1,7 @@
 -- The node that a pointer finds, by rows.
 use Rattle.std.proofs.Common.{◌≡◌, ℕ, zero, suc, ◌+◌, ◌<◌, ◌≤◌, inl, inr, [], refl, sym, ap, ◌∙◌, subst, arith, Bool, true, false, not}
 use Rattle.std.specs.Prelude.{Some, None, IsTrue}
-use Rattle.tree_model.specs.declared.table.Row.{Row}
+use Rattle.tree_model.specs.declared.rows.Row.{Row}
 use Rattle.syntax_kind.specs.declared.syntax_kind.SyntaxKind.{SyntaxKind}
 use Rattle.tree_model.specs.Tree.{Tree, node, token, size, IsNode, IsToken, parent_place}
 use Rattle.text_size.specs.TextRange.{Bounds}

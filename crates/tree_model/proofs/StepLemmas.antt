@@ -3,7 +3,7 @@ use Rattle.std.proofs.Common.{◌≡◌, ℕ, zero, suc, ◌+◌, ◌-◌, ◌<�
 use Rattle.std.specs.Prelude.{None, Some, nat_lt, if◌then◌else◌}
 use Rattle.std.proofs.lemmas.Bool.Decides.{nat_tests}
 use Rattle.std.proofs.Common.{true, false}
-use Rattle.tree_model.specs.declared.table.Row.{Row}
+use Rattle.tree_model.specs.declared.rows.Row.{Row}
 use Rattle.tree_model.specs.Tree.{IsNode, IsToken, kind_of}
 use Rattle.tree_model.specs.Tree.{Tree, node, token, nil, cons, size, forest_size, Place, subtree, child_at, child_count, forest_of_children, parent_place, first_child_place, sibling_count, next_sibling_place}
 use Rattle.tree_model.specs.Rows.{row_at, row_of, place_at, tree_at, start_at, no_row}

@@ -4,8 +4,7 @@ use Rattle.std.specs.Prelude.{◌^◌}
 use Rattle.std.specs.Str.{IsCharBoundary}
 use Rattle.std.proofs.lemmas.Str.{IsCharBoundary-at_seam, IsUtf8-append}
 use Rattle.std.proofs.Math.Seq.{take-append_seam, drop-append_seam}
-use Rattle.std.proofs.lemmas.List.{get_or_read}
-use Rattle.tree_model.specs.declared.table.Row.{Row}
+use Rattle.tree_model.specs.declared.rows.Row.{Row}
 use Rattle.tree_model.proofs.Texts.{next_row, split, forest_text-cons}
 use Rattle.tree_model.specs.RowLemmas.{forest_of_rows-rows_of}
 use Rattle.tree_model.specs.Tree.{Tree, node, token, nil, cons, text, forest_text, size}
@@ -61,9 +60,6 @@ module _ (rows : List Row) (s : List ℕ) (whole : Tree) (w : Represents rows s 
   pub length-rows : length rows ≡ size whole
   length-rows = omega (arith, ap length w.rows_are, length-rows_of (cons whole nil) 0 0 0, forest_size-cons whole nil)
 
-  pub read_row : (n : ℕ) (x : Row) → n < size whole → x ≡ get_or rows n x → x ≡ row_at whole n
-  read_row n x h e = get_or_read rows n x (omega (arith, length-rows)) e no_row ∙ ap (λ l. get_or l n no_row) w.rows_are
-
 -- where a subtree's text stands in the text
 pub record Cut (s : List ℕ) (whole : Tree) (n : ℕ) : Type 0 where
   pub start_in_order : start_at whole n ≤ end_at whole n
@@ -98,9 +94,9 @@ shown rows s whole e w = subst (Represents rows s) e w
 pub rows_len : (rows : List Row) (s : List ℕ) (whole : Tree) → Represents rows s whole → length rows ≡ size whole
 rows_len rows s whole w = length-rows rows s whole w
 
--- what was read at a row in range
-pub row_read : (rows : List Row) (s : List ℕ) (whole : Tree) (n : ℕ) (x : Row) → Represents rows s whole → (h : n < size whole) → x ≡ get_or rows n x → x ≡ row_of (tree_at whole n) n (start_at whole n) (up_at whole n h)
-row_read rows s whole n x w h e = read_row rows s whole w n x h e ∙ row_at-is whole n h
+-- what was read at a row
+pub read_row : (rows : List Row) (s : List ℕ) (whole : Tree) (n : ℕ) (x : Row) → Represents rows s whole → x ≡ get_or rows n no_row → x ≡ row_at whole n
+read_row rows s whole n x w e = e ∙ ap (λ l. get_or l n no_row) w.rows_are
 
 -- the piece from a to b of the text l may be cut out, and is this
 pub record Piece (l : List ℕ) (a b : ℕ) (piece : List ℕ) : Type 0 where
@@ -109,10 +105,10 @@ pub record Piece (l : List ℕ) (a b : ℕ) (piece : List ℕ) : Type 0 where
   pub end_boundary : IsCharBoundary l b
   pub is : take (b - a) (drop a l) ≡ piece
 
-pub piece_at : (rows : List Row) (s l : List ℕ) (whole : Tree) (n e : ℕ) (x : Row) → Represents rows s whole → n < size whole → x ≡ get_or rows n x → e ≡ end_at whole n → l ≡ s → Piece l x.start e (text (tree_at whole n))
+pub piece_at : (rows : List Row) (s l : List ℕ) (whole : Tree) (n e : ℕ) (x : Row) → Represents rows s whole → n < size whole → x ≡ row_at whole n → e ≡ end_at whole n → l ≡ s → Piece l x.start e (text (tree_at whole n))
 piece_at rows s l whole n e x w h is_x is_e is_l =
     let v = cut rows s whole n w h in
-    let is_start : x.start ≡ start_at whole n = ap (λ r. r.start) (row_read rows s whole n x w h is_x) ∙ row_of-start (tree_at whole n) n (start_at whole n) (up_at whole n h) in
+    let is_start : x.start ≡ start_at whole n = ap (λ r. r.start) (is_x ∙ row_at-is whole n h) ∙ row_of-start (tree_at whole n) n (start_at whole n) (up_at whole n h) in
     record {
       ordered = omega (arith, is_start, is_e, v.start_in_order);
       start_boundary = rw (is_l, is_start) v.start_boundary;

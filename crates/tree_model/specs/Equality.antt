@@ -3,7 +3,7 @@
 use Rattle.std.specs.Prelude.{ℕ, Bool, true, false, ◌==◌, ◌&&◌, List, ◌++◌}
 use Rattle.std.specs.Cmp.Lexicographic.{pointwise}
 use Rattle.std.specs.Hash as fed
-use Rattle.tree_model.specs.declared.table.Row.{Row}
+use Rattle.tree_model.specs.declared.rows.Row.{Row}
 use Rattle.syntax_kind.specs.Kinds.{kind_raw, is_same_kind}
 use Rattle.tree_model.specs.Tree.{Tree, node, token, Forest, nil, cons, kind_of, size}
 use Rattle.tree_model.specs.Cursor.{Cursor, focus, range_start, range_end}

@@ -18,4 +18,5 @@ pub mod Run
 pub mod RowLemmas
 pub mod Equality
 pub mod EqualityLaws
+pub mod PackedRow
 pub mod CursorLaws

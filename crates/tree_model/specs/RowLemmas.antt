@@ -2,7 +2,7 @@
 use Rattle.std.proofs.Common.{◌≡◌, ℕ, suc, ◌+◌, ◌-◌, List, ◌++◌, length, take, drop, refl, sym, ap, ◌∙◌, arith, append_assoc, length-append}
 use Rattle.std.proofs.Math.Seq.{take-append_seam, drop-append_seam}
 use Rattle.std.proofs.lemmas.List.{drop-drop}
-use Rattle.tree_model.specs.declared.table.Row.{Row}
+use Rattle.tree_model.specs.declared.rows.Row.{Row}
 use Rattle.tree_model.specs.Tree.{node, token, Forest, nil, cons, forest_text, forest_size}
 use Rattle.tree_model.specs.Events.{append_forest}
 use Rattle.tree_model.specs.Rows.{rows_of, front, back, next_start, forest_of_rows}

@@ -1,6 +1,6 @@
 -- The rows of a tree: one for each place in preorder. No contract outside this crate names them.
 use Rattle.std.specs.Prelude.{◌≡◌, ℕ, zero, suc, ◌+◌, ◌-◌, List, [], ◌∷◌, ◌++◌, length, take, drop, true, false, cond, ⊤, ◌<◌, ◌≤◌, ◌^◌, get_or, IsUtf8}
-use Rattle.tree_model.specs.declared.table.Row.{Row}
+use Rattle.tree_model.specs.declared.rows.Row.{Row}
 use Rattle.tree_model.specs.Tree.{Tree, node, token, Forest, nil, cons, no_tree, forest_text, forest_size, size, text, subtree, places, Place, start, IsNode}
 use Rattle.syntax_kind.specs.declared.syntax_kind.SyntaxKind.TheVariants.{OTHER}
 
@@ -63,7 +63,7 @@ pub record Represents (rows : List Row) (s : List ℕ) (tree : Tree) : Type 0 wh
   pub text_is : s ≡ text tree
   pub texts_are_utf8 : TextsAreUtf8 (cons tree nil)
   pub short : length s < 2 ^ 32
-  pub few : size tree < 2 ^ 32
+  pub few : size tree < 2 ^ 31
   pub root_is_node : IsNode tree
 
 -- what is read past the last row

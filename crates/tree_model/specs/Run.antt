@@ -1,7 +1,7 @@
 -- How rows come from steps, one after another.
 use Rattle.std.specs.Prelude.{ℕ, suc, ◌+◌, List, [], ◌∷◌, ◌++◌, length, get_or, true, false, cond, nat_lt}
 use Rattle.std.proofs.Math.ListN.{set}
-use Rattle.tree_model.specs.declared.table.Row.{Row}
+use Rattle.tree_model.specs.declared.rows.Row.{Row}
 use Rattle.tree_model.specs.declared.step.Step.{Step}
 use Rattle.tree_model.specs.declared.step.Step.TheVariants.{Enter, Token, Exit}
 use Rattle.tree_model.specs.Rows.{no_row}

@@ -9,8 +9,8 @@ ghost use Rattle.tree_model.specs.Rows.{rows_of};
 ghost use Rattle.tree_model.specs.Run.{text_len, row_count};
 
 use crate::error::FinishError;
+use crate::rows::{Row, Rows};
 use crate::step::Step;
-use crate::table::Row;
 use std::alloc::{AllocError, Global};
 
 // The refusal for the top elements, after one more.
@@ -75,17 +75,17 @@ fn row_count(steps: &[Step]) -> usize
     count
 }
 
-/// The rows of the steps of a forest. More of them than a `u32` can count are want of memory.
-pub fn build_rows(alloc: Global, steps: &[Step]) -> Result<Vec<Row>, AllocError>
+/// The rows of the steps of a forest. More than 2,147,483,647 of them are want of memory.
+pub fn build_rows(alloc: Global, steps: &[Step]) -> Result<Rows, AllocError>
     requires { text_len steps.now < 2 ^ 32 }
-    ensures rows { IfOk result (λ rows. (f : Forest) → steps.now ≡ map step_of (events_of f) → rows.items ≡ rows_of f 0 0 0) }
-    ensures few { IfOk result (λ rows. length rows.items < 2 ^ 32) }
+    ensures rows { IfOk result (λ rows. (f : Forest) → steps.now ≡ map step_of (events_of f) → rows ≡ rows_of f 0 0 0) }
+    ensures few { IfOk result (λ rows. length rows < 2 ^ 31) }
 {
     let count = row_count(steps);
-    if count > u32::MAX as usize {
+    if count > Rows::MOST {
         return Err(AllocError);
     }
-    let mut rows: Vec<Row> = Vec::with_capacity(alloc, count)?;
+    let mut rows = Rows::with_capacity(alloc, count)?;
     let mut innermost: u32 = 0;
     let mut at: u32 = 0;
     for step in steps {
@@ -117,8 +117,8 @@ pub fn build_rows(alloc: Global, steps: &[Step]) -> Result<Vec<Row>, AllocError>
                 let row = innermost as usize;
                 if row < rows.len() {
                     let end = rows.len() as u32;
-                    innermost = rows[row].parent;
-                    rows[row].end = end;
+                    innermost = rows.get(row).parent;
+                    rows.set_end(row, end);
                 }
             }
         }

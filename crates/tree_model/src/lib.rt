@@ -7,11 +7,13 @@ mod direction;
 mod error;
 mod finish;
 pub mod laws;
+mod rows;
 mod step;
 mod table;
 
 pub use direction::Direction;
 pub use error::{FinishError, ReplaceError};
 pub use finish::{build_rows, first_refusal};
+pub use rows::{Row, Rows};
 pub use step::Step;
-pub use table::{Row, Table};
+pub use table::Table;

@@ -7,30 +7,16 @@ mod edit;
 mod search;
 mod steps;
 
+use crate::rows::{Row, Rows};
 use std::marker::Model;
 use syntax_kind::SyntaxKind;
 use text_size::{TextRange, TextSize};
-
-/// One node or token, in 20 bytes. Rows are numbered from 0 in preorder; of a tree's rows there are fewer than 4,294,967,296.
-#[derive(Clone, Copy)]
-pub struct Row {
-    /// Its kind.
-    pub kind: SyntaxKind,
-    /// Whether it is a token.
-    pub is_token: bool,
-    /// The byte where its text starts.
-    pub start: u32,
-    /// The number of the first row after the subtree.
-    pub end: u32,
-    /// The number of the parent's row; the root is its own.
-    pub parent: u32,
-}
 
 /// The one place that knows rows. A clause sees the tree.
 #[derive(Drop)]
 pub struct Table {
     text: String,
-    rows: Vec<Row>,
+    rows: Rows,
 }
 
 impl Model for Table {
@@ -44,16 +30,16 @@ impl Model for Table {
 
     ghost use Rattle.tree_model.specs.Rows.{tree_of_rows, Represents};
 
-    ghost view = { λ a. tree_of_rows a.rows.items (string_bytes a.text) };
+    ghost view = { λ a. tree_of_rows a.rows (string_bytes a.text) };
 
-    ghost invariant = { λ a. Represents a.rows.items (string_bytes a.text) (tree_of_rows a.rows.items (string_bytes a.text)) };
+    ghost invariant = { λ a. Represents a.rows (string_bytes a.text) (tree_of_rows a.rows (string_bytes a.text)) };
 }
 
 impl Table {
     /// The table of a text and of rows that represent a tree of it.
-    pub fn from_parts(text: String, rows: Vec<Row>) -> Self
-        requires { Represents rows.items (string_bytes text) (tree_of_rows rows.items (string_bytes text)) }
-        ensures { result ≡ tree_of_rows rows.items (string_bytes text) }
+    pub fn from_parts(text: String, rows: Rows) -> Self
+        requires { Represents rows (string_bytes text) (tree_of_rows rows (string_bytes text)) }
+        ensures { result ≡ tree_of_rows rows (string_bytes text) }
     {
         Table { text, rows }
     }
@@ -69,10 +55,10 @@ impl Table {
     pub fn row(&self, n: usize) -> Row
         requires { n < size self.now }
         ensures value { result ≡ row_at self.now n }
-        ensures fits { result.end < 2 ^ 32 }
+        ensures end_fits { result.end < 2 ^ 31 }
+        ensures parent_fits { result.parent < 2 ^ 31 }
     {
-        let _count = self.rows.len();
-        self.rows[n]
+        self.rows.get(n)
     }
 
     /// The kind of row `n`.
@@ -104,9 +90,9 @@ impl Table {
         ensures value { result ≡ end_at self.now n }
         ensures fits { result < 2 ^ 32 }
     {
-        let after = self.rows[n].end as usize;
-        if after < self.rows.len() {
-            self.rows[after].start as usize
+        let after = self.row(n).end as usize;
+        if after < self.len() {
+            self.row(after).start as usize
         } else {
             self.text.len()
         }
@@ -127,7 +113,7 @@ impl Table {
         requires { n < size self.now }
         ensures { result.now ≡ text (tree_at self.now n) }
     {
-        let start = self.rows[n].start as usize;
+        let start = self.row(n).start as usize;
         let end = self.end_at(n);
         &self.text.as_str()[start..end]
     }
@@ -174,24 +160,6 @@ impl Table {
     }
 }
 
-impl PartialEq for Row {
-    ghost use Rattle.tree_model.specs.Equality.{is_same_row};
-    ghost use Rattle.tree_model.specs.EqualityLaws.{row_equivalence};
-    ghost use Rattle.std.specs.Cmp.{partial_equiv_from_equiv};
-
-    ghost eq = { is_same_row };
-
-    ghost laws = { partial_equiv_from_equiv row_equivalence };
-
-    fn eq(&self, other: &Row) -> bool {
-        self.kind.to_raw() == other.kind.to_raw()
-            && self.is_token == other.is_token
-            && self.start == other.start
-            && self.end == other.end
-            && self.parent == other.parent
-    }
-}
-
 impl PartialEq for Table {
     ghost use Rattle.tree_model.specs.Equality.{is_same_tree};
     ghost use Rattle.tree_model.specs.EqualityLaws.{tree_equivalence};
@@ -202,6 +170,6 @@ impl PartialEq for Table {
     ghost laws = { partial_equiv_from_equiv tree_equivalence };
 
     fn eq(&self, other: &Table) -> bool {
-        self.text.as_str() == other.text.as_str() && self.rows.as_slice() == other.rows.as_slice()
+        self.text.as_str() == other.text.as_str() && self.rows == other.rows
     }
 }

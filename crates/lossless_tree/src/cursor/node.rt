@@ -95,7 +95,7 @@ impl SyntaxNode {
     /// The root of a new tree: this node's whole tree with `replacement` in place of this node. The old tree stays as
     /// it was. Where this node is the root, the new tree equals `replacement`.
     ///
-    /// It takes time and memory linear in the new tree and the old one.
+    /// It takes time and memory linear in the new tree and the old one. More than 2,147,483,647 nodes and tokens are want of memory.
     pub fn replace_with(
         &self,
         alloc: Global,

@@ -8,8 +8,9 @@ ghost use Rattle.tree_model.specs.Edit.{splice, replace};
 ghost use Rattle.tree_model.specs.Placed.{IsPlaced};
 ghost use Rattle.tree_model.specs.MovedRows.{moved_number, moved_row, MoveFits, rows_between, moved_before, moved_behind};
 
-use super::{Row, Table};
+use super::Table;
 use crate::error::ReplaceError;
+use crate::rows::{Row, Rows};
 use std::alloc::{AllocError, Global};
 use syntax_kind::SyntaxKind;
 
@@ -25,7 +26,7 @@ pub struct Shift {
 
 impl Shift {
     fn number(self, n: u32) -> u32
-        requires { (n - self.from_row) + self.to_row < 2 ^ 32 }
+        requires { (n - self.from_row) + self.to_row < 2 ^ 31 }
         ensures { result ≡ moved_number self n }
     {
         let row = n as usize;
@@ -55,7 +56,7 @@ impl Table {
     // The rows from `first` up to `end`, moved, behind `rows`.
     fn push_moved(
         &self,
-        rows: &mut Vec<Row>,
+        rows: &mut Rows,
         first: usize,
         end: usize,
         by: Shift,
@@ -63,7 +64,7 @@ impl Table {
         requires ordered { first ≤ end }
         requires in_range { end ≤ size self.now }
         requires fits { (k : ℕ) → first ≤ k → k < end → MoveFits by (row_at self.now k) }
-        ensures { OnOk result (rows.new.items ≡ rows.old.items ++ map (moved_row by) (rows_between self.now first end)) }
+        ensures { OnOk result (rows.new ≡ rows.old ++ map (moved_row by) (rows_between self.now first end)) }
     {
         for n in first..end {
             rows.push(by.row(self.row(n)))?;
@@ -75,7 +76,7 @@ impl Table {
     // parent at `up`.
     fn push_node(
         &self,
-        rows: &mut Vec<Row>,
+        rows: &mut Rows,
         n: usize,
         to: usize,
         byte: usize,
@@ -83,9 +84,10 @@ impl Table {
     ) -> Result<(), AllocError>
         requires is_row { n < size self.now }
         requires is_node { IsNode (tree_at self.now n) }
-        requires rows_fit { to + size (tree_at self.now n) < 2 ^ 32 }
+        requires rows_fit { to + size (tree_at self.now n) < 2 ^ 31 }
+        requires parent_fits { up < 2 ^ 31 }
         requires bytes_fit { byte + length (text (tree_at self.now n)) < 2 ^ 32 }
-        ensures { OnOk result (rows.new.items ≡ rows.old.items ++ rows_of (cons (tree_at self.now n) nil) to byte up) }
+        ensures { OnOk result (rows.new ≡ rows.old ++ rows_of (cons (tree_at self.now n) nil) to byte up) }
     {
         let node = self.row(n);
         let end = node.end as usize;
@@ -113,7 +115,7 @@ impl Table {
     {
         let _count = self.rows.len();
         let text = String::from_str(alloc, self.text_at(n))?;
-        let mut rows = Vec::with_capacity(alloc, self.size_at(n))?;
+        let mut rows = Rows::with_capacity(alloc, self.size_at(n))?;
         self.push_node(&mut rows, n, 0, 0, 0)?;
         Ok(Table::from_parts(text, rows))
     }
@@ -139,14 +141,14 @@ impl Table {
     }
 
     // The rows before row `n`, where `count` rows take the place of the subtree there. The list has room for all rows.
-    fn rows_before(&self, alloc: Global, n: usize, count: usize) -> Result<Vec<Row>, AllocError>
+    fn rows_before(&self, alloc: Global, n: usize, count: usize) -> Result<Rows, AllocError>
         requires is_row { n < size self.now }
-        requires rows_fit { (size self.now - size (tree_at self.now n)) + count < 2 ^ 32 }
-        ensures { IfOk result (λ rows. rows.items ≡ moved_before self.now n count) }
+        requires rows_fit { (size self.now - size (tree_at self.now n)) + count < 2 ^ 31 }
+        ensures { IfOk result (λ rows. rows ≡ moved_before self.now n count) }
     {
         let len = self.rows.len();
         let after = self.row(n).end as usize;
-        let mut rows = Vec::with_capacity(alloc, len - (after - n) + count)?;
+        let mut rows = Rows::with_capacity(alloc, len - (after - n) + count)?;
         let by = Shift {
             from_row: after,
             to_row: n + count,
@@ -160,15 +162,15 @@ impl Table {
     // The rows behind the subtree at row `n`, where `count` rows and `bytes` bytes take its place.
     fn push_behind(
         &self,
-        rows: &mut Vec<Row>,
+        rows: &mut Rows,
         n: usize,
         count: usize,
         bytes: usize,
     ) -> Result<(), AllocError>
         requires is_row { n < size self.now }
-        requires rows_fit { (size self.now - size (tree_at self.now n)) + count < 2 ^ 32 }
+        requires rows_fit { (size self.now - size (tree_at self.now n)) + count < 2 ^ 31 }
         requires bytes_fit { (length (text self.now) - length (text (tree_at self.now n))) + bytes < 2 ^ 32 }
-        ensures { OnOk result (rows.new.items ≡ rows.old.items ++ moved_behind self.now n count bytes) }
+        ensures { OnOk result (rows.new ≡ rows.old ++ moved_behind self.now n count bytes) }
     {
         let after = self.row(n).end as usize;
         let by = Shift {
@@ -183,10 +185,10 @@ impl Table {
     // Whether this many rows can take the place of the subtree at row `n`.
     fn has_room(&self, n: usize, count: usize) -> bool
         requires { n < size self.now }
-        ensures { IsTrue result ↔ ((size self.now - size (tree_at self.now n)) + count < 2 ^ 32) }
+        ensures { IsTrue result ↔ ((size self.now - size (tree_at self.now n)) + count < 2 ^ 31) }
     {
         let kept = self.rows.len() - self.size_at(n);
-        count <= u32::MAX as usize - kept
+        count <= Rows::MOST - kept
     }
 
     // The rows of the tree with a token in place of the subtree at row `n`.
@@ -196,10 +198,10 @@ impl Table {
         n: usize,
         kind: SyntaxKind,
         new: &str,
-    ) -> Result<Vec<Row>, AllocError>
+    ) -> Result<Rows, AllocError>
         requires is_row { n < size self.now }
         requires fits { length (splice (text self.now) (start_at self.now n) (end_at self.now n) new.now) < 2 ^ 32 }
-        ensures { IfOk result (λ rows. rows.items ≡ rows_of (cons (replace self.now (place_at self.now n) (token kind new.now)) nil) 0 0 0) }
+        ensures { IfOk result (λ rows. rows ≡ rows_of (cons (replace self.now (place_at self.now n) (token kind new.now)) nil) 0 0 0) }
     {
         let _count = self.rows.len();
         let old = self.row(n);
@@ -222,13 +224,13 @@ impl Table {
         n: usize,
         piece: &Table,
         other: usize,
-    ) -> Result<Vec<Row>, AllocError>
+    ) -> Result<Rows, AllocError>
         requires is_row { n < size self.now }
         requires is_other { other < size piece.now }
         requires is_node { IsNode (tree_at piece.now other) }
         requires fits { length (splice (text self.now) (start_at self.now n) (end_at self.now n) (text (tree_at piece.now other))) < 2 ^ 32 }
-        requires few { (size self.now - size (tree_at self.now n)) + size (tree_at piece.now other) < 2 ^ 32 }
-        ensures { IfOk result (λ rows. rows.items ≡ rows_of (cons (replace self.now (place_at self.now n) (tree_at piece.now other)) nil) 0 0 0) }
+        requires few { (size self.now - size (tree_at self.now n)) + size (tree_at piece.now other) < 2 ^ 31 }
+        ensures { IfOk result (λ rows. rows ≡ rows_of (cons (replace self.now (place_at self.now n) (tree_at piece.now other)) nil) 0 0 0) }
     {
         let _count = self.rows.len();
         let _more = piece.rows.len();
@@ -260,8 +262,8 @@ impl Table {
         Ok(Table::from_parts(spliced, rows))
     }
 
-    /// The table of the tree with the node at row `other` of `piece` in place of the node at row `n`. More rows than a `u32` can count
-    /// are want of memory.
+    /// The table of the tree with the node at row `other` of `piece` in place of the node at row `n`. More than
+    /// 2,147,483,647 nodes and tokens are want of memory.
     pub fn with_node(
         &self,
         alloc: Global,

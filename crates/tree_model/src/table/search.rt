@@ -9,31 +9,18 @@ ghost use Rattle.tree_model.specs.Covering.{covering_of, holds};
 ghost use Rattle.tree_model.specs.Pointer.{IsFirst, PointsTo};
 ghost use Rattle.tree_model.specs.TokenSearch.{tokens_at};
 
-use super::{Row, Table};
+use super::Table;
 use syntax_kind::SyntaxKind;
 use text_size::TextRange;
 
 impl Table {
-    fn rows(&self) -> &[Row]
-        ensures rows { result.now ≡ rows_of (cons self.now nil) 0 0 0 }
-        ensures count { length result.now ≡ size self.now }
-    {
-        self.rows.as_slice()
-    }
-
     // The first of the rows `from..to` that starts at `offset` or behind it; `to` where none does.
     fn first_row_from(&self, from: usize, to: usize, offset: usize) -> usize
         requires ordered { from ≤ to }
         requires in_range { to ≤ size self.now }
         ensures { SplitsAt self.now from to offset result }
     {
-        let rows = self.rows();
-        let count = rows[from..to].partition_point(
-            |row: &Row| -> bool
-                ensures { result ≡ nat_lt row.now.start offset }
-            { (row.start as usize) < offset },
-        );
-        from + count
+        from + self.rows.count_before(from, to, offset)
     }
 
     /// The tokens in the subtree at row `n` that have a text and touch the offset: one that starts before it, and one

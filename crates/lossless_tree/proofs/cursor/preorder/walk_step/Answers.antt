@@ -35,7 +35,7 @@ returns-then-next-start-clause-rest c =
     rw c.in-None.is (step_done c.args.table.now c.args.start c.args.next w (omega (arith, c.requires.begun, c.if-next-start.true)))
 
 pub overflow_add-next : goal.overflow_add-next
-overflow_add-next c = omega (arith, ap (λ r. r.end) c.row-end.ensures.value, c.row-end.ensures.fits, end_of_row c.args.table.now c.args.start c.requires.start_is_row, some_row (tree_at c.args.table.now c.args.start))
+overflow_add-next c = omega (arith, ap (λ r. r.end) c.row-end.ensures.value, c.row-end.ensures.end_fits, end_of_row c.args.table.now c.args.start c.requires.start_is_row, some_row (tree_at c.args.table.now c.args.start))
 
 pub row-requires : goal.row-requires
 row-requires c = open_row c.args.table.now c.args.start c.args.next c.in-Some.inner (busy (goal.at.row-requires c).In-Some)

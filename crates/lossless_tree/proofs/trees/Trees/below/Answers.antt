@@ -7,7 +7,7 @@ use Rattle.lossless_tree.proofs.trees.Trees.below.Goals as goal
 use Rattle.lossless_tree.proofs.trees.Trees.below.Goals.{After-row-first}
 
 pub overflow_add-result : goal.overflow_add-result
-overflow_add-result c = omega (arith, ap (λ r. r.end) c.row-first.ensures.value, c.row-first.ensures.fits, end_of_row c.args.table.now c.args.row c.requires, some_row (tree_at c.args.table.now c.args.row))
+overflow_add-result c = omega (arith, ap (λ r. r.end) c.row-first.ensures.value, c.row-first.ensures.end_fits, end_of_row c.args.table.now c.args.row c.requires, some_row (tree_at c.args.table.now c.args.row))
 
 starts : (c : After-row-first) → c.row-first.result.start ≡ start_at c.args.table.now c.args.row
 starts c = ap (λ r. r.start) c.row-first.ensures.value ∙ row_start c.args.table.now c.args.row c.requires

@@ -13,7 +13,7 @@ pub end_at-requires : goal.end_at-requires
 end_at-requires c = omega (arith, ap (λ r. r.end) c.row.ensures.value, row_end_fits c.args.self.now c.loop-row.row c.loop-row.invariant.is_row)
 
 pub overflow_add-row : goal.overflow_add-row
-overflow_add-row c = omega (arith, ap (λ r. r.end) c.row.ensures.value, c.row.ensures.fits, end_of_row c.args.self.now c.loop-row.row c.loop-row.invariant.is_row, some_row (tree_at c.args.self.now c.loop-row.row))
+overflow_add-row c = omega (arith, ap (λ r. r.end) c.row.ensures.value, c.row.ensures.end_fits, end_of_row c.args.self.now c.loop-row.row c.loop-row.invariant.is_row, some_row (tree_at c.args.self.now c.loop-row.row))
 
 pub loop-row-preserved : goal.loop-row-preserved
 loop-row-preserved c =

@@ -1,28 +1,22 @@
-use Rattle.std.proofs.Common.{◌<◌, ◌≤◌, ◌∙◌, ap, arith, length}
+use Rattle.std.proofs.Common.{◌≡◌, ◌+◌, ◌∙◌, ap, arith, length}
 use Rattle.std.specs.Prelude.{string_bytes}
 use Rattle.tree_model.specs.Tree.{size}
 use Rattle.tree_model.specs.Rows.{tree_at, Represents}
-use Rattle.tree_model.proofs.TableLemmas.{shown, rows_len, row_read, read_row, row_of-end, next_start_at, last_end_at}
+use Rattle.tree_model.proofs.StepLemmas.{end_of_row}
+use Rattle.tree_model.proofs.TableLemmas.{shown, next_start_at, last_end_at}
 use Rattle.tree_model.proofs.table.Table.end_at.Goals as goal
+use Rattle.tree_model.proofs.table.Table.end_at.Goals.{After-row-after}
 
-pub index-requires : goal.index-requires
-index-requires c =
-    let a = c.self.inside in
-    omega (arith, a.rows.ok.0, c.requires, rows_len a.rows.items (string_bytes a.text) c.args.self.now (shown _ _ _ c.self.view_is c.self.invariant))
+ends : (c : After-row-after) → c.row-after.result.end ≡ c.args.n + size (tree_at c.args.self.now c.args.n)
+ends c = ap (λ r. r.end) c.row-after.ensures.value ∙ end_of_row c.args.self.now c.args.n c.requires
 
 pub returns-then-after-len-clause-value : goal.returns-then-after-len-clause-value
 returns-then-after-len-clause-value c =
-    let a = c.self.inside in
-    let w : Represents a.rows.items (string_bytes a.text) c.args.self.now = shown _ _ _ c.self.view_is c.self.invariant in
-    let after = ap (λ r. r.end) (row_read a.rows.items (string_bytes a.text) c.args.self.now c.args.n _ w c.requires c.index.ensures) ∙ row_of-end (tree_at c.args.self.now c.args.n) c.args.n _ _ in
-    let within : c.index.result.now.end < size c.args.self.now = omega (arith, c.if-after-len.true, c.len.ensures, a.rows.ok.0, rows_len _ _ _ w) in
-    ap (λ r. r.start) (read_row a.rows.items (string_bytes a.text) c.args.self.now w _ _ within c.index-then-after-len.ensures)
-    ∙ next_start_at c.args.self.now c.args.n _ c.requires after within
+    ap (λ r. r.start) c.row.ensures.value
+    ∙ next_start_at c.args.self.now c.args.n _ c.requires (ends (goal.at.returns-then-after-len-clause-value c).After-row-after) (omega (arith, c.if-after-len.true, c.len.ensures))
 
 pub returns-else-after-len-clause-value : goal.returns-else-after-len-clause-value
 returns-else-after-len-clause-value c =
-    let a = c.self.inside in
-    let w : Represents a.rows.items (string_bytes a.text) c.args.self.now = shown _ _ _ c.self.view_is c.self.invariant in
-    let after = ap (λ r. r.end) (row_read a.rows.items (string_bytes a.text) c.args.self.now c.args.n _ w c.requires c.index.ensures) ∙ row_of-end (tree_at c.args.self.now c.args.n) c.args.n _ _ in
-    let past : size c.args.self.now ≤ c.index.result.now.end = omega (arith, c.if-after-len.false, c.len.ensures, a.rows.ok.0, rows_len _ _ _ w) in
-    c.len-else-after-len.ensures ∙ a.text.bytes.ok.0 ∙ ap length w.text_is ∙ last_end_at c.args.self.now c.args.n _ c.requires after past
+    let w : Represents c.self.inside.rows (string_bytes c.self.inside.text) c.args.self.now = shown _ _ _ c.self.view_is c.self.invariant in
+    c.len-else-after-len.ensures ∙ c.self.inside.text.bytes.ok.0 ∙ ap length w.text_is
+    ∙ last_end_at c.args.self.now c.args.n c.row-after.result.end c.requires (ends (goal.at.returns-else-after-len-clause-value c).After-row-after) (omega (arith, c.if-after-len.false, c.len.ensures))

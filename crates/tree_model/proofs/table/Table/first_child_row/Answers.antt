@@ -5,7 +5,7 @@ use Rattle.tree_model.proofs.StepLemmas.{end_of_row, first_child_found, no_first
 use Rattle.tree_model.proofs.table.Table.first_child_row.Goals as goal
 
 pub overflow_add-next : goal.overflow_add-next
-overflow_add-next c = omega (arith, ap (λ r. r.end) c.row-end.ensures.value, c.row-end.ensures.fits, end_of_row c.args.self.now c.args.n c.requires, some_row (tree_at c.args.self.now c.args.n))
+overflow_add-next c = omega (arith, ap (λ r. r.end) c.row-end.ensures.value, c.row-end.ensures.end_fits, end_of_row c.args.self.now c.args.n c.requires, some_row (tree_at c.args.self.now c.args.n))
 
 pub returns-then-next-end-clause-place : goal.returns-then-next-end-clause-place
 returns-then-next-end-clause-place c = (first_child_found c.args.self.now c.args.n (c.args.n + 1) c.requires (omega arith) (omega (arith, ap (λ r. r.end) c.row-end.ensures.value, c.if-next-end.true))).1

@@ -1,15 +1,29 @@
-use Rattle.std.proofs.Common.{rules, of_calls, ◌≡◌, ◌≤◌, ◌-◌, ap, sym, subst, take, drop, length}
-use Rattle.std.specs.Prelude.{nat_lt, true, false}
+use Rattle.std.proofs.Common.{◌≡◌, ◌≤◌, ◌-◌, ap, sym, subst, arith, take, drop, length}
+use Rattle.std.specs.Prelude.{nat_lt, true, false, string_bytes}
 use Rattle.std.specs.List.Sorted.{IsPartitionedBy, IsPartitionPoint}
-use Rattle.std.proofs.lemmas.Fn.{always_returns_same}
-use Rattle.tree_model.proofs.Starts.{part_is_partitioned, splits_at}
+use Rattle.tree_model.specs.Rows.{Represents}
+use Rattle.tree_model.proofs.TableLemmas.{shown, rows_len}
+use Rattle.tree_model.proofs.Starts.{part, part_is_partitioned, splits_at}
 use Rattle.tree_model.proofs.table.Table.first_row_from.Goals as goal
+use Rattle.tree_model.proofs.table.Table.first_row_from.Goals.{After-self}
+
+-- the rows that are searched
+searched : (c : After-self) → take (c.args.to - c.args.from) (drop c.args.from c.self.inside.rows) ≡ part c.args.self.now c.args.from c.args.to
+searched c =
+    let w : Represents c.self.inside.rows (string_bytes c.self.inside.text) c.args.self.now = shown _ _ _ c.self.view_is c.self.invariant in
+    ap (λ l. take (c.args.to - c.args.from) (drop c.args.from l)) w.rows_are
+
+pub count_before-requires-clause-in_range : goal.count_before-requires-clause-in_range
+count_before-requires-clause-in_range c = omega (arith, c.requires.in_range, rows_len _ _ _ (shown _ _ _ c.self.view_is c.self.invariant))
+
+pub count_before-requires-clause-rising : goal.count_before-requires-clause-rising
+count_before-requires-clause-rising c =
+    subst (IsPartitionedBy (λ r. nat_lt r.start c.args.offset)) (sym (searched (goal.at.count_before-requires-clause-rising c).After-self))
+    (part_is_partitioned c.args.self.now c.args.from c.args.to c.args.offset c.requires.ordered c.requires.in_range)
 
 pub returns : goal.returns
 returns c =
-    let is = ap (λ l. take (c.args.to - c.args.from) (drop c.args.from l)) c.rows-rows.ensures.rows in
-    let point = c.partition_point-count.ensures.partitioned (λ r. nat_lt r.start c.args.offset) (always_returns_same _ _ _ (λ a r f k. search (rules, of_calls)))
-    (subst (IsPartitionedBy (λ r. nat_lt r.start c.args.offset)) (sym is) (part_is_partitioned c.args.self.now c.args.from c.args.to c.args.offset c.requires.ordered c.requires.in_range)) in
-    splits_at c.args.self.now c.args.from c.args.to c.args.offset c.partition_point-count.result c.requires.ordered c.requires.in_range
-    (subst (λ l. c.partition_point-count.result ≤ length l) is c.partition_point-count.ensures.bound)
-    (subst (λ l. IsPartitionPoint (λ r. nat_lt r.start c.args.offset ≡ true) (λ r. nat_lt r.start c.args.offset ≡ false) l c.partition_point-count.result) is point)
+    let is = searched (goal.at.returns c).After-self in
+    splits_at c.args.self.now c.args.from c.args.to c.args.offset c.count_before.result c.requires.ordered c.requires.in_range
+    (subst (λ l. c.count_before.result ≤ length l) is c.count_before.ensures.bound)
+    (subst (λ l. IsPartitionPoint (λ r. nat_lt r.start c.args.offset ≡ true) (λ r. nat_lt r.start c.args.offset ≡ false) l c.count_before.result) is c.count_before.ensures.point)

@@ -8,11 +8,11 @@ use Rattle.tree_model.proofs.TableLemmas.{shown, rows_len}
 use Rattle.tree_model.proofs.table.Table.has_room.Goals as goal
 use Rattle.tree_model.proofs.table.Table.has_room.Goals.{After-size_at}
 
-shows : (c : After-size_at) → Represents c.self.inside.rows.items (string_bytes c.self.inside.text) c.args.self.now
+shows : (c : After-size_at) → Represents c.self.inside.rows (string_bytes c.self.inside.text) c.args.self.now
 shows c = shown _ _ _ c.self.view_is c.self.invariant
 
 counts : (c : After-size_at) → c.len.result ≡ size c.args.self.now
-counts c = c.len.ensures ∙ c.self.inside.rows.ok.0 ∙ rows_len _ _ _ (shows c)
+counts c = c.len.ensures ∙ rows_len _ _ _ (shows c)
 
 pub overflow_sub-kept : goal.overflow_sub-kept
 overflow_sub-kept c = omega (arith, counts (goal.at.overflow_sub-kept c).After-size_at, c.size_at.ensures, within_rows c.args.self.now c.args.n c.requires)

@@ -11,7 +11,7 @@ use Rattle.tree_model.proofs.table.Table.holding_row.Goals as goal
 use Rattle.tree_model.proofs.table.Table.holding_row.Goals.{After-first_row_from-row, After-row-row, then-is_empty, else-is_empty}
 
 pub overflow_add-n : goal.overflow_add-n
-overflow_add-n c = omega (arith, ap (λ r. r.end) c.row-end.ensures.value, c.row-end.ensures.fits, end_of_row c.args.self.now c.args.n c.requires, some_row (tree_at c.args.self.now c.args.n))
+overflow_add-n c = omega (arith, ap (λ r. r.end) c.row-end.ensures.value, c.row-end.ensures.end_fits, end_of_row c.args.self.now c.args.n c.requires, some_row (tree_at c.args.self.now c.args.n))
 
 pub first_row_from-row-requires-clause-ordered : goal.first_row_from-row-requires-clause-ordered
 first_row_from-row-requires-clause-ordered c = omega (arith, ap (λ r. r.end) c.row-end.ensures.value, end_of_row c.args.self.now c.args.n c.requires, some_row (tree_at c.args.self.now c.args.n))

@@ -8,7 +8,7 @@ use Rattle.tree_model.proofs.table.Table.placed.Goals as goal
 
 pub returns : goal.returns
 returns c =
-    let w : Represents c.self.inside.rows.items (string_bytes c.self.inside.text) c.args.self.now = shown _ _ _ c.self.view_is c.self.invariant in
+    let w : Represents c.self.inside.rows (string_bytes c.self.inside.text) c.args.self.now = shown _ _ _ c.self.view_is c.self.invariant in
     record {
       is_place = row_is_place c.args.self.now c.args.n c.requires;
       within = within_at c.args.self.now c.args.n c.requires;

@@ -19,7 +19,7 @@ pub overflow_cast-end : goal.overflow_cast-end
 overflow_cast-end c = omega (arith, ends (goal.at.overflow_cast-end c).After-row-node, c.requires.rows_fit)
 
 pub overflow_add-n : goal.overflow_add-n
-overflow_add-n c = omega (arith, ends (goal.at.overflow_add-n c).After-row-node, c.row-node.ensures.fits, some_row (tree_at c.args.self.now c.args.n))
+overflow_add-n c = omega (arith, ends (goal.at.overflow_add-n c).After-row-node, c.row-node.ensures.end_fits, some_row (tree_at c.args.self.now c.args.n))
 
 pub push_moved-requires-clause-ordered : goal.push_moved-requires-clause-ordered
 push_moved-requires-clause-ordered c = omega (arith, ends (goal.at.push_moved-requires-clause-ordered c).After-row-node, some_row (tree_at c.args.self.now c.args.n))
@@ -33,7 +33,7 @@ push_moved-requires-clause-fits c = λ k later lt. fits_inside c.args.self.now c
 pub returns : goal.returns
 returns c =
     on_ok_weaker c.push_moved.result
-    (λ is. node_pushed c.args.self.now c.args.n c.requires.is_row c.row-node.result c.args.rows.now.items c.push.new.self.items c.push_moved.new.rows.items (c.args.n + 1) c.args.to c.args.byte c.args.up c.requires.is_node c.row-node.ensures.value (omega arith) c.in_ok-push.ensures.items is)
+    (λ is. node_pushed c.args.self.now c.args.n c.requires.is_row c.row-node.result c.args.rows.now c.push.new.self c.push_moved.new.rows (c.args.n + 1) c.args.to c.args.byte c.args.up c.requires.is_node c.row-node.ensures.value (omega arith) c.in_ok-push.ensures.ok is)
     c.push_moved.ensures
 
 pub overflow_cast-end-2 : goal.overflow_cast-end-2

@@ -26,10 +26,10 @@ ends c =
     }
 
 pub overflow_add-row : goal.overflow_add-row
-overflow_add-row c = omega (arith, (ends (goal.at.overflow_add-row c).After-row-end).long, c.row-end.ensures.fits)
+overflow_add-row c = omega (arith, (ends (goal.at.overflow_add-row c).After-row-end).long, c.row-end.ensures.end_fits)
 
 pub overflow_add-row-2 : goal.overflow_add-row-2
-overflow_add-row-2 c = omega (arith, (ends (goal.at.overflow_add-row-2 c).After-row-end).long, c.row-end.ensures.fits)
+overflow_add-row-2 c = omega (arith, (ends (goal.at.overflow_add-row-2 c).After-row-end).long, c.row-end.ensures.end_fits)
 
 pub overflow_sub-result : goal.overflow_sub-result
 overflow_sub-result c = omega (arith, (ends (goal.at.overflow_sub-result c).After-row-end).long)

@@ -11,11 +11,11 @@ use Rattle.tree_model.proofs.table.Table.rows_before.Goals.{After-row-after}
 ends : (c : After-row-after) → c.row-after.result.end ≡ c.args.n + size (tree_at c.args.self.now c.args.n)
 ends c = ap (λ r. r.end) c.row-after.ensures.value ∙ end_of_row c.args.self.now c.args.n c.requires.is_row
 
-shows : (c : After-row-after) → Represents c.self.inside.rows.items (string_bytes c.self.inside.text) c.args.self.now
+shows : (c : After-row-after) → Represents c.self.inside.rows (string_bytes c.self.inside.text) c.args.self.now
 shows c = shown _ _ _ c.self.view_is c.self.invariant
 
 counts : (c : After-row-after) → c.len-len.result ≡ size c.args.self.now
-counts c = c.len-len.ensures ∙ c.self.inside.rows.ok.0 ∙ rows_len _ _ _ (shows c)
+counts c = c.len-len.ensures ∙ rows_len _ _ _ (shows c)
 
 pub overflow_sub-after : goal.overflow_sub-after
 overflow_sub-after c = omega (arith, ends (goal.at.overflow_sub-after c).After-row-after)
@@ -30,7 +30,7 @@ push_moved-requires-clause-fits c = λ k _ lt.
     fits_before c.args.self.now c.args.n k c.row-after.result.end c.args.count c.requires.is_row (ends at) c.requires.rows_fit (omega (arith, w.short, ap length w.text_is)) lt
 
 pub returns : goal.returns
-returns c = before_moved c.args.self.now c.args.n c.args.count c.row-after.result.end _ _ (ends (goal.at.returns c).After-row-after) c.in_ok-rows.ensures.items c.in_ok-push_moved.ensures
+returns c = before_moved c.args.self.now c.args.n c.args.count c.row-after.result.end _ _ (ends (goal.at.returns c).After-row-after) c.in_ok-rows.ensures c.in_ok-push_moved.ensures
 
 pub overflow_add-len : goal.overflow_add-len
-overflow_add-len c = omega (arith, counts (goal.at.overflow_add-len c).After-row-after, c.requires.rows_fit)
+overflow_add-len c = omega (arith, counts (goal.at.overflow_add-len c).After-row-after, ends (goal.at.overflow_add-len c).After-row-after, c.requires.rows_fit)

@@ -27,6 +27,6 @@ push_behind-requires-clause-rows_fit c = omega (arith, c.requires.few, c.size_at
 
 pub returns : goal.returns
 returns c =
-    node_replaced c.args.self.now c.args.n c.requires.is_row c.row-old.result c.args.piece.now c.args.other c.in_ok-rows.rows.items c.push_node.new.rows.items c.push_behind.new.rows.items c.size_at-count.result (c.end_at.result - c.start_at.result)
+    node_replaced c.args.self.now c.args.n c.requires.is_row c.row-old.result c.args.piece.now c.args.other c.in_ok-rows.rows c.push_node.new.rows c.push_behind.new.rows c.size_at-count.result (c.end_at.result - c.start_at.result)
     c.row-old.ensures.value c.size_at-count.ensures (omega (arith, c.end_at.ensures.value, c.start_at.ensures))
     c.in_ok-rows.ensures c.in_ok-push_node.ensures c.in_ok-push_behind.ensures

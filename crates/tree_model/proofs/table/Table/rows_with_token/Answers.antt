@@ -8,7 +8,7 @@ use Rattle.tree_model.proofs.EditLemmas.{token_pushed, within_rows}
 use Rattle.tree_model.proofs.table.Table.rows_with_token.Goals as goal
 use Rattle.tree_model.proofs.table.Table.rows_with_token.Goals.{After-row-old}
 
-few : (c : After-row-old) → (size c.args.self.now - size (tree_at c.args.self.now c.args.n)) + 1 < 2 ^ 32
+few : (c : After-row-old) → (size c.args.self.now - size (tree_at c.args.self.now c.args.n)) + 1 < 2 ^ 31
 few c =
     let w = shown _ _ _ c.self.view_is c.self.invariant in
     omega (arith, w.few, some_row (tree_at c.args.self.now c.args.n), within_rows c.args.self.now c.args.n c.requires.is_row)
@@ -24,5 +24,5 @@ push_behind-requires-clause-rows_fit c = few (goal.at.push_behind-requires-claus
 
 pub returns : goal.returns
 returns c =
-    token_pushed c.args.self.now c.args.n c.requires.is_row c.row-old.result c.args.kind c.args.new.now c.in_ok-rows.rows.items c.push.new.self.items c.push_behind.new.rows.items (c.args.n + 1) _ c.row-old.ensures.value refl refl
-    c.in_ok-rows.ensures c.in_ok-push.ensures.items c.in_ok-push_behind.ensures
+    token_pushed c.args.self.now c.args.n c.requires.is_row c.row-old.result c.args.kind c.args.new.now c.in_ok-rows.rows c.push.new.self c.push_behind.new.rows (c.args.n + 1) _ c.row-old.ensures.value refl refl
+    c.in_ok-rows.ensures c.in_ok-push.ensures.ok c.in_ok-push_behind.ensures

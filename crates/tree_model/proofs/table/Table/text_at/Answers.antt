@@ -1,19 +1,16 @@
-use Rattle.std.proofs.Common.{◌∙◌, arith}
+use Rattle.std.proofs.Common.{◌∙◌}
 use Rattle.std.specs.Prelude.{string_bytes}
 use Rattle.tree_model.specs.Tree.{text}
 use Rattle.tree_model.specs.Rows.{tree_at, Represents}
-use Rattle.tree_model.proofs.TableLemmas.{shown, rows_len, Piece, piece_at}
+use Rattle.tree_model.proofs.TableLemmas.{shown, Piece, piece_at}
 use Rattle.tree_model.proofs.table.Table.text_at.Goals as goal
 use Rattle.tree_model.proofs.table.Table.text_at.Goals.{After-self, After-as_str}
 
-shows : (c : After-self) → Represents c.self.inside.rows.items (string_bytes c.self.inside.text) c.args.self.now
+shows : (c : After-self) → Represents c.self.inside.rows (string_bytes c.self.inside.text) c.args.self.now
 shows c = shown _ _ _ c.self.view_is c.self.invariant
 
-pub index-requires : goal.index-requires
-index-requires c = omega (arith, c.self.inside.rows.ok.0, c.requires, rows_len _ _ _ (shows c))
-
-cuts : (c : After-as_str) → Piece c.as_str.result.now c.index.result.now.start c.end_at-end.result (text (tree_at c.args.self.now c.args.n))
-cuts c = piece_at _ _ _ c.args.self.now c.args.n _ c.index.result.now (shown _ _ _ c.self.view_is c.self.invariant) c.requires c.index.ensures c.end_at-end.ensures.value c.as_str.ensures.value
+cuts : (c : After-as_str) → Piece c.as_str.result.now c.row-start.result.start c.end_at-end.result (text (tree_at c.args.self.now c.args.n))
+cuts c = piece_at _ _ _ c.args.self.now c.args.n _ c.row-start.result (shown _ _ _ c.self.view_is c.self.invariant) c.requires c.row-start.ensures.value c.end_at-end.ensures.value c.as_str.ensures.value
 
 pub range-requires-clause-start_le_end : goal.range-requires-clause-start_le_end
 range-requires-clause-start_le_end c = (cuts c).ordered

@@ -16,10 +16,10 @@ same_length c = ap length (spliced_at c.args.self.now c.args.n (token c.args.kin
 fits : (c : In_ok-spliced) → length (text (replace c.args.self.now (place_at c.args.self.now c.args.n) (token c.args.kind c.args.new.now))) < 2 ^ 32
 fits c = answered c.spliced_text.result c.in_ok-spliced.spliced _ _ c.in_ok-spliced.was (ap length (spliced_at c.args.self.now c.args.n (token c.args.kind c.args.new.now) c.requires.is_row)) c.spliced_text.ensures.too_long
 
-shows : (c : In_ok-rows) → Represents c.in_ok-rows.rows.items (string_bytes c.in_ok-spliced.spliced) (replace c.args.self.now (place_at c.args.self.now c.args.n) (token c.args.kind c.args.new.now))
+shows : (c : In_ok-rows) → Represents c.in_ok-rows.rows (string_bytes c.in_ok-spliced.spliced) (replace c.args.self.now (place_at c.args.self.now c.args.n) (token c.args.kind c.args.new.now))
 shows c =
-    let w : Represents c.self.inside.rows.items (string_bytes c.self.inside.text) c.args.self.now = shown _ _ _ c.self.view_is c.self.invariant in
-    replaced_shown c.args.self.now c.args.n (token c.args.kind c.args.new.now) c.self.inside.rows.items c.in_ok-rows.rows.items (string_bytes c.self.inside.text) (string_bytes c.in_ok-spliced.spliced) c.requires.is_row w c.in_ok-rows.ensures c.in_ok-spliced.ensures.ok
+    let w : Represents c.self.inside.rows (string_bytes c.self.inside.text) c.args.self.now = shown _ _ _ c.self.view_is c.self.invariant in
+    replaced_shown c.args.self.now c.args.n (token c.args.kind c.args.new.now) c.self.inside.rows c.in_ok-rows.rows (string_bytes c.self.inside.text) (string_bytes c.in_ok-spliced.spliced) c.requires.is_row w c.in_ok-rows.ensures c.in_ok-spliced.ensures.ok
     (omega (arith, answered c.spliced_text.result c.in_ok-spliced.spliced _ _ c.in_ok-spliced.was (ap length (spliced_at c.args.self.now c.args.n (token c.args.kind c.args.new.now) c.requires.is_row)) c.spliced_text.ensures.too_long, ap length (spliced_at c.args.self.now c.args.n (token c.args.kind c.args.new.now) c.requires.is_row)))
     (omega (arith, w.few, some_row (tree_at c.args.self.now c.args.n), within_rows c.args.self.now c.args.n c.requires.is_row)) (c.utf8.new, tt) (root_after_token c.args.self.now (place_at c.args.self.now c.args.n) (token c.args.kind c.args.new.now) w.root_is_node c.requires.is_token)
 

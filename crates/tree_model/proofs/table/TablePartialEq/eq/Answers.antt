@@ -12,22 +12,22 @@ use Rattle.tree_model.proofs.table.TablePartialEq.eq.Goals as goal
 
 pub returns-then-eq : goal.returns-then-eq
 returns-then-eq c =
-    let w : Represents c.self.inside.rows.items (string_bytes c.self.inside.text) c.args.self.now = shown _ _ _ c.self.view_is c.self.invariant in
-    let v : Represents c.other.inside.rows.items (string_bytes c.other.inside.text) c.args.other.now = shown _ _ _ c.other.view_is c.other.invariant in
+    let w : Represents c.self.inside.rows (string_bytes c.self.inside.text) c.args.self.now = shown _ _ _ c.self.view_is c.self.invariant in
+    let v : Represents c.other.inside.rows (string_bytes c.other.inside.text) c.args.other.now = shown _ _ _ c.other.view_is c.other.invariant in
     let texts = pointwise_decides unsigned_Decides c.as_str.result.now c.as_str-2.result.now in
-    let rows = pointwise_decides row_Decides c.as_slice.result.now c.as_slice-then-eq.result.now in
+    let rows = pointwise_decides row_Decides c.self.inside.rows c.other.inside.rows in
     same_test c.eq-then-eq.result (is_same_tree c.args.self.now c.args.other.now) (tree_Decides c.args.self.now c.args.other.now)
-    (λ same. sym c.self.view_is ∙ cong₂ tree_of_rows (sym c.as_slice.ensures.value ∙ rows.0 (sym c.eq-then-eq.ensures ∙ same) ∙ c.as_slice-then-eq.ensures.value)
+    (λ same. sym c.self.view_is ∙ cong₂ tree_of_rows (rows.0 (sym c.eq-then-eq.ensures ∙ same))
     (sym c.as_str.ensures.value ∙ texts.0 (sym c.eq.ensures ∙ c.if-eq.true) ∙ c.as_str-2.ensures.value) ∙ c.other.view_is)
-    (λ differ e. no_both (sym differ ∙ c.eq-then-eq.ensures ∙ rows.1 (c.as_slice.ensures.value ∙ w.rows_are ∙ ap (λ t. rows_of (cons t nil) 0 0 0) e ∙ sym (c.as_slice-then-eq.ensures.value ∙ v.rows_are))))
+    (λ differ e. no_both (sym differ ∙ c.eq-then-eq.ensures ∙ rows.1 (w.rows_are ∙ ap (λ t. rows_of (cons t nil) 0 0 0) e ∙ sym v.rows_are)))
   where
     no_both : false ≡ true → ⊥
     no_both e = cc
 
 pub returns-else-eq : goal.returns-else-eq
 returns-else-eq c =
-    let w : Represents c.self.inside.rows.items (string_bytes c.self.inside.text) c.args.self.now = shown _ _ _ c.self.view_is c.self.invariant in
-    let v : Represents c.other.inside.rows.items (string_bytes c.other.inside.text) c.args.other.now = shown _ _ _ c.other.view_is c.other.invariant in
+    let w : Represents c.self.inside.rows (string_bytes c.self.inside.text) c.args.self.now = shown _ _ _ c.self.view_is c.self.invariant in
+    let v : Represents c.other.inside.rows (string_bytes c.other.inside.text) c.args.other.now = shown _ _ _ c.other.view_is c.other.invariant in
     let texts = pointwise_decides unsigned_Decides c.as_str.result.now c.as_str-2.result.now in
     same_test c.eq.result (is_same_tree c.args.self.now c.args.other.now) (tree_Decides c.args.self.now c.args.other.now)
     (λ same. absurd (no_both (sym c.if-eq.false ∙ same)))

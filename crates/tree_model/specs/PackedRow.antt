@@ -1,0 +1,42 @@
+-- Rows as they are kept, in 16 bytes each: a token's parent has 2^31 more. No contract outside this crate names them.
+use Rattle.std.specs.Prelude.{ℕ, ◌-◌, ◌^◌, Bool, true, false, List, nat_lt, if◌then◌else◌, refl}
+use Rattle.std.specs.Coded.{Coded, code_by, coded×, coded_ℕ, coded_bool}
+use Rattle.std.specs.Cmp.{decided, IsEquivalence}
+use Rattle.std.specs.Cmp.Lexicographic.{pointwise, pointwise_decides}
+use Rattle.syntax_kind.specs.declared.syntax_kind.SyntaxKind.{SyntaxKind}
+use Rattle.tree_model.specs.declared.rows.Row.{Row}
+use Rattle.tree_model.specs.declared.rows.PackedRow.{PackedRow}
+use Rattle.tree_model.specs.Equality.{is_same_row}
+use Rattle.tree_model.specs.EqualityLaws.{row_Decides, row_equivalence}
+use Rattle.tree_model.specs.TreeCode.{kind_code}
+
+-- the row that is kept so
+abbrev pub unpacked : PackedRow → Row
+unpacked p = record {
+  kind = p.kind;
+  is_token = if nat_lt p.above (2 ^ 31) then false else true;
+  start = p.start;
+  end = p.end;
+  parent = if nat_lt p.above (2 ^ 31) then p.above else p.above - 2 ^ 31;
+}
+
+abbrev pub row_code : Coded Row
+row_code =
+    code_by (SyntaxKind × (Bool × (ℕ × (ℕ × ℕ)))) (coded× kind_code (coded× coded_bool (coded× coded_ℕ (coded× coded_ℕ coded_ℕ))))
+    (λ r. (r.kind, (r.is_token, (r.start, (r.end, r.parent))))) (λ p. record { kind = p.0; is_token = p.1.0; start = p.1.1.0; end = p.1.1.1.0; parent = p.1.1.1.1 }) (λ _. refl)
+
+abbrev pub is_same_packed : PackedRow → PackedRow → Bool
+is_same_packed a b = is_same_row (unpacked a) (unpacked b)
+
+abbrev pub are_same_rows : List Row → List Row → Bool
+are_same_rows = pointwise is_same_row
+
+pub packed_equivalence : IsEquivalence is_same_packed
+packed_equivalence = record {
+  refl = λ a. row_equivalence.refl (unpacked a);
+  symm = λ a b. row_equivalence.symm (unpacked a) (unpacked b);
+  congr = λ a b c. row_equivalence.congr (unpacked a) (unpacked b) (unpacked c);
+}
+
+pub rows_equivalence : IsEquivalence are_same_rows
+rows_equivalence = decided are_same_rows (pointwise_decides row_Decides)
