@@ -81,11 +81,7 @@ pub fn build_rows(alloc: Global, steps: &[Step]) -> Result<Rows, AllocError>
     ensures rows { IfOk result (λ rows. (f : Forest) → steps.now ≡ map step_of (events_of f) → rows ≡ rows_of f 0 0 0) }
     ensures few { IfOk result (λ rows. length rows < 2 ^ 31) }
 {
-    let count = row_count(steps);
-    if count > Rows::MOST {
-        return Err(AllocError);
-    }
-    let mut rows = Rows::with_capacity(alloc, count)?;
+    let mut rows = Rows::with_capacity(alloc, row_count(steps))?;
     let mut innermost: u32 = 0;
     let mut at: u32 = 0;
     for step in steps {

@@ -24,7 +24,7 @@ pub struct Row {
     pub parent: u32,
 }
 
-/// How a row is kept: the last bit says whether it is a token.
+/// How a row is kept: the highest bit of `above` says whether it is a token.
 #[derive(Clone, Copy)]
 pub struct PackedRow {
     kind: SyntaxKind,
@@ -93,13 +93,17 @@ impl Model for Rows {
 }
 
 impl Rows {
-    /// The most rows that a table has: so their numbers leave one of 32 bits free.
+    /// The most rows there is room for: their numbers leave one of 32 bits free.
     pub const MOST: usize = 2_147_483_647;
 
-    /// No rows, with room for this many.
+    /// No rows, with room for this many; for more than `MOST` the room is refused, as that for more than `isize::MAX` bytes is.
     pub fn with_capacity(alloc: Global, count: usize) -> Result<Rows, AllocError>
-        ensures { IfOk result (λ rows. rows ≡ []) }
+        ensures empty { IfOk result (λ rows. rows ≡ []) }
+        ensures fits { OnOk result (count < 2 ^ 31) }
     {
+        if count > Rows::MOST {
+            return Err(AllocError);
+        }
         let packed = Vec::with_capacity(alloc, count)?;
         Ok(Rows { packed })
     }

@@ -12,7 +12,7 @@ use std::marker::Model;
 use syntax_kind::SyntaxKind;
 use text_size::{TextRange, TextSize};
 
-/// The one place that knows rows. A clause sees the tree.
+/// A tree as one text and its rows. A clause sees the tree.
 #[derive(Drop)]
 pub struct Table {
     text: String,

@@ -1,6 +1,6 @@
 //! A node or a token.
 ghost use Rattle.std.specs.Prelude.{◌≡◌, option_map, option_copied, IfOk, string_bytes};
-ghost use Rattle.tree_model.specs.Tree.{kind_of};
+ghost use Rattle.tree_model.specs.Tree.{kind_of, text};
 ghost use Rattle.tree_model.specs.Rows.{IsRow};
 ghost use Rattle.tree_model.specs.Cursor.{cursor_at, focus, range_of, parent_of, next_sibling_of, prev_sibling_of, following_of, siblings_in};
 ghost use Rattle.lossless_tree.specs.Element.{element_of, cursor_of, node_part, token_part, ancestors_of_element};
@@ -97,6 +97,16 @@ impl NodeOrToken<SyntaxNode, SyntaxToken> {
         }
     }
 
+    /// The text of the node or token, a slice of the tree's one text.
+    pub fn text(&self) -> &str
+        ensures { result.now ≡ text (focus (cursor_of self.now)) }
+    {
+        match self {
+            NodeOrToken::Node(node) => node.as_str(),
+            NodeOrToken::Token(token) => token.text(),
+        }
+    }
+
     /// The node that this is a child of; `None` for the root. It takes constant time.
     pub fn parent(&self) -> Option<SyntaxNode>
         ensures { result ≡ parent_of (cursor_of self.now) }
@@ -138,7 +148,8 @@ impl NodeOrToken<SyntaxNode, SyntaxToken> {
         }
     }
 
-    /// This and its siblings in a direction, nodes and tokens.
+    /// This and its siblings in a direction, nodes and tokens. A step backwards takes time in the depth of the sibling
+    /// before.
     pub fn siblings_with_tokens(&self, direction: Direction) -> SyntaxElementSiblings
         ensures { result ≡ siblings_in direction (cursor_of self.now) }
     {

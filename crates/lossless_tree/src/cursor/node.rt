@@ -254,7 +254,8 @@ impl SyntaxNode {
         children.next()
     }
 
-    /// The last child node; `None` where there is none. It passes over the tokens behind it.
+    /// The last child node; `None` where there is none. It passes over the tokens behind it, and takes time in the depth
+    /// there.
     pub fn last_child(&self) -> Option<SyntaxNode>
         ensures { result ≡ find at_node (reverse (children_of self.now)) }
     {
@@ -270,7 +271,8 @@ impl SyntaxNode {
         nearest_node(&self.table, next, Direction::Next)
     }
 
-    /// The nearest sibling node before this one; `None` where there is none. It passes over the tokens between.
+    /// The nearest sibling node before this one; `None` where there is none. It passes over the tokens between, and takes
+    /// time in the depth of that node.
     pub fn prev_sibling(&self) -> Option<SyntaxNode>
         ensures { result ≡ find at_node (preceding_of self.now) }
     {
@@ -296,21 +298,22 @@ impl SyntaxNode {
         first_no_trivia(SyntaxElementSiblings::new(self.table.share(), later, Direction::Next))
     }
 
-    /// This node and its siblings in a direction, nodes and tokens.
+    /// This node and its siblings in a direction, nodes and tokens. A step backwards takes time in the depth of the
+    /// sibling before.
     pub fn siblings_with_tokens(&self, direction: Direction) -> SyntaxElementSiblings
         ensures { result ≡ siblings_in direction self.now }
     {
         SyntaxElementSiblings::new(self.table.share(), Some(self.row), direction)
     }
 
-    /// This node and its sibling nodes in a direction.
+    /// This node and its sibling nodes in a direction. A step backwards takes time in the depth of the siblings before.
     pub fn siblings(&self, direction: Direction) -> SyntaxNodeSiblings
         ensures { result ≡ filter at_node (siblings_in direction self.now) }
     {
         SyntaxNodeSiblings::new(self.siblings_with_tokens(direction))
     }
 
-    /// The first token below this node; `None` where there is none. It goes past nodes without tokens.
+    /// The first token below this node; `None` where there is none. It takes time in the number of nodes before it.
     pub fn first_token(&self) -> Option<SyntaxToken>
         ensures { result ≡ find at_token (descendants_of self.now) }
     {
@@ -318,7 +321,7 @@ impl SyntaxNode {
         Some(SyntaxToken::at(self.table.share(), row))
     }
 
-    /// The last token below this node; `None` where there is none. It goes past nodes without tokens.
+    /// The last token below this node; `None` where there is none. It takes time in the number of nodes behind it.
     pub fn last_token(&self) -> Option<SyntaxToken>
         ensures { result ≡ find at_token (reverse (descendants_of self.now)) }
     {

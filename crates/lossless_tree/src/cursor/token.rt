@@ -118,7 +118,8 @@ impl SyntaxToken {
         self.table.text_at(self.row)
     }
 
-    /// The node that this token is a child of. It takes constant time.
+    /// The node that this token is a child of. It is never `None`, since the root of a tree is a node. It takes constant
+    /// time.
     pub fn parent(&self) -> Option<SyntaxNode>
         ensures { result ≡ parent_of self.now }
     {
@@ -159,14 +160,16 @@ impl SyntaxToken {
         first_no_trivia(SyntaxElementSiblings::new(self.table.share(), next, Direction::Next))
     }
 
-    /// This token and its siblings in a direction, nodes and tokens.
+    /// This token and its siblings in a direction, nodes and tokens. A step backwards takes time in the depth of the
+    /// sibling before.
     pub fn siblings_with_tokens(&self, direction: Direction) -> SyntaxElementSiblings
         ensures { result ≡ siblings_in direction self.now }
     {
         SyntaxElementSiblings::new(self.table.share(), Some(self.row), direction)
     }
 
-    /// The token right behind this one in the whole tree; `None` for the last. It goes past nodes without tokens.
+    /// The token right behind this one in the whole tree; `None` for the last. It takes time in the number of nodes
+    /// between.
     pub fn next_token(&self) -> Option<SyntaxToken>
         ensures { IsRightBehind (all_tokens self.now) self.now result }
     {
@@ -174,7 +177,8 @@ impl SyntaxToken {
         Some(SyntaxToken::at(self.table.share(), row))
     }
 
-    /// The token right before this one in the whole tree; `None` for the first. It goes past nodes without tokens.
+    /// The token right before this one in the whole tree; `None` for the first. It takes time in the number of nodes
+    /// between.
     pub fn prev_token(&self) -> Option<SyntaxToken>
         ensures { IsRightBefore (all_tokens self.now) self.now result }
     {

@@ -5,13 +5,13 @@ ghost use Rattle.lossless_tree.specs.TokenAtOffset.{found_tokens, leftmost, righ
 
 use std::mem;
 
-/// The tokens at an offset: none outside of the text, one where the offset is inside a token or at an end of the text,
+/// The tokens at an offset: none outside of the node's text, one where the offset is inside a token or at an end of that text,
 /// and two where it is between them.
 ///
 /// It gives them in order as an iterator.
-#[derive(Drop)]
+#[derive(Clone, Drop)]
 pub enum TokenAtOffset<T> {
-    /// No token: there is none, or the offset is outside of the text.
+    /// No token: there is none with a text, or the offset is outside of the node's text.
     None,
     /// One token.
     Single(T),

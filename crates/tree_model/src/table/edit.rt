@@ -1,5 +1,5 @@
 //! New tables from the rows and texts of others.
-ghost use Rattle.std.specs.Prelude.{ℕ, ◌≡◌, ◌<◌, ◌≤◌, ◌+◌, ◌-◌, ◌^◌, ◌++◌, ◌↔◌, map, length, IfOk, OnOk, IsErrOf, IsTrue, string_bytes, IsUtf8};
+ghost use Rattle.std.specs.Prelude.{ℕ, ◌≡◌, ◌<◌, ◌≤◌, ◌+◌, ◌-◌, ◌^◌, ◌++◌, ◌↔◌, map, length, IfOk, OnOk, IsErrOf, string_bytes, IsUtf8};
 ghost use Rattle.tree_model.specs.declared.error.ReplaceError.TheVariants.{TooLong};
 ghost use Rattle.tree_model.specs.Tree.{size, text, token, cons, nil, IsNode, IsToken};
 ghost use Rattle.tree_model.specs.Rows.{row_at, tree_at, start_at, end_at, place_at, rows_of, no_row};
@@ -143,8 +143,9 @@ impl Table {
     // The rows before row `n`, where `count` rows take the place of the subtree there. The list has room for all rows.
     fn rows_before(&self, alloc: Global, n: usize, count: usize) -> Result<Rows, AllocError>
         requires is_row { n < size self.now }
-        requires rows_fit { (size self.now - size (tree_at self.now n)) + count < 2 ^ 31 }
-        ensures { IfOk result (λ rows. rows ≡ moved_before self.now n count) }
+        requires count_fits { count < 2 ^ 31 }
+        ensures rows { IfOk result (λ rows. rows ≡ moved_before self.now n count) }
+        ensures fits { OnOk result ((size self.now - size (tree_at self.now n)) + count < 2 ^ 31) }
     {
         let len = self.rows.len();
         let after = self.row(n).end as usize;
@@ -180,15 +181,6 @@ impl Table {
             to_byte: self.start_at(n) as usize + bytes,
         };
         self.push_moved(rows, after, self.len(), by)
-    }
-
-    // Whether this many rows can take the place of the subtree at row `n`.
-    fn has_room(&self, n: usize, count: usize) -> bool
-        requires { n < size self.now }
-        ensures { IsTrue result ↔ ((size self.now - size (tree_at self.now n)) + count < 2 ^ 31) }
-    {
-        let kept = self.rows.len() - self.size_at(n);
-        count <= Rows::MOST - kept
     }
 
     // The rows of the tree with a token in place of the subtree at row `n`.
@@ -229,8 +221,8 @@ impl Table {
         requires is_other { other < size piece.now }
         requires is_node { IsNode (tree_at piece.now other) }
         requires fits { length (splice (text self.now) (start_at self.now n) (end_at self.now n) (text (tree_at piece.now other))) < 2 ^ 32 }
-        requires few { (size self.now - size (tree_at self.now n)) + size (tree_at piece.now other) < 2 ^ 31 }
-        ensures { IfOk result (λ rows. rows ≡ rows_of (cons (replace self.now (place_at self.now n) (tree_at piece.now other)) nil) 0 0 0) }
+        ensures rows { IfOk result (λ rows. rows ≡ rows_of (cons (replace self.now (place_at self.now n) (tree_at piece.now other)) nil) 0 0 0) }
+        ensures fits { OnOk result ((size self.now - size (tree_at self.now n)) + size (tree_at piece.now other) < 2 ^ 31) }
     {
         let _count = self.rows.len();
         let _more = piece.rows.len();
@@ -280,9 +272,6 @@ impl Table {
         let _count = self.rows.len();
         let _more = piece.rows.len();
         let spliced = self.spliced_text(alloc, n, piece.text_at(other))?;
-        if !self.has_room(n, piece.size_at(other)) {
-            return Err(ReplaceError::Memory);
-        }
         let rows = self.rows_with_node(alloc, n, piece, other)?;
         Ok(Table::from_parts(spliced, rows))
     }

@@ -1,5 +1,5 @@
-use Rattle.std.proofs.Common.{◌≡◌, ◌+◌, ◌∙◌, ap, arith, length}
-use Rattle.std.specs.Prelude.{string_bytes}
+use Rattle.std.proofs.Common.{◌≡◌, ◌<◌, ◌+◌, ◌-◌, ◌∙◌, ap, arith, length}
+use Rattle.std.specs.Prelude.{◌^◌, string_bytes}
 use Rattle.tree_model.specs.Tree.{size}
 use Rattle.tree_model.specs.Rows.{tree_at, Represents}
 use Rattle.tree_model.proofs.StepLemmas.{end_of_row}
@@ -17,6 +17,10 @@ shows c = shown _ _ _ c.self.view_is c.self.invariant
 counts : (c : After-row-after) → c.len-len.result ≡ size c.args.self.now
 counts c = c.len-len.ensures ∙ rows_len _ _ _ (shows c)
 
+-- there is room for all the rows
+fits : (c : After-row-after) → (c.len-len.result - (c.row-after.result.end - c.args.n)) + c.args.count < 2 ^ 31 → (size c.args.self.now - size (tree_at c.args.self.now c.args.n)) + c.args.count < 2 ^ 31
+fits c h = omega (arith, h, counts c, ends c)
+
 pub overflow_sub-after : goal.overflow_sub-after
 overflow_sub-after c = omega (arith, ends (goal.at.overflow_sub-after c).After-row-after)
 
@@ -27,10 +31,13 @@ pub push_moved-requires-clause-fits : goal.push_moved-requires-clause-fits
 push_moved-requires-clause-fits c = λ k _ lt.
     let at = (goal.at.push_moved-requires-clause-fits c).After-row-after in
     let w = shows at in
-    fits_before c.args.self.now c.args.n k c.row-after.result.end c.args.count c.requires.is_row (ends at) c.requires.rows_fit (omega (arith, w.short, ap length w.text_is)) lt
+    fits_before c.args.self.now c.args.n k c.row-after.result.end c.args.count c.requires.is_row (ends at) (fits at c.in_ok-rows.ensures.fits) (omega (arith, w.short, ap length w.text_is)) lt
 
-pub returns : goal.returns
-returns c = before_moved c.args.self.now c.args.n c.args.count c.row-after.result.end _ _ (ends (goal.at.returns c).After-row-after) c.in_ok-rows.ensures c.in_ok-push_moved.ensures
+pub returns-clause-rows : goal.returns-clause-rows
+returns-clause-rows c = before_moved c.args.self.now c.args.n c.args.count c.row-after.result.end _ _ (ends (goal.at.returns-clause-rows c).After-row-after) c.in_ok-rows.ensures.empty c.in_ok-push_moved.ensures
+
+pub returns-clause-fits : goal.returns-clause-fits
+returns-clause-fits c = fits (goal.at.returns-clause-fits c).After-row-after c.in_ok-rows.ensures.fits
 
 pub overflow_add-len : goal.overflow_add-len
-overflow_add-len c = omega (arith, counts (goal.at.overflow_add-len c).After-row-after, ends (goal.at.overflow_add-len c).After-row-after, c.requires.rows_fit)
+overflow_add-len c = let w = shows (goal.at.overflow_add-len c).After-row-after in omega (arith, counts (goal.at.overflow_add-len c).After-row-after, c.requires.count_fits, w.few)

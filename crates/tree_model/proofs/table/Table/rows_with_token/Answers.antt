@@ -13,9 +13,6 @@ few c =
     let w = shown _ _ _ c.self.view_is c.self.invariant in
     omega (arith, w.few, some_row (tree_at c.args.self.now c.args.n), within_rows c.args.self.now c.args.n c.requires.is_row)
 
-pub rows_before-requires-clause-rows_fit : goal.rows_before-requires-clause-rows_fit
-rows_before-requires-clause-rows_fit c = few (goal.at.rows_before-requires-clause-rows_fit c).After-row-old
-
 pub overflow_add-n : goal.overflow_add-n
 overflow_add-n c = let w = shown _ _ _ c.self.view_is c.self.invariant in omega (arith, w.few, c.requires.is_row)
 
@@ -25,4 +22,4 @@ push_behind-requires-clause-rows_fit c = few (goal.at.push_behind-requires-claus
 pub returns : goal.returns
 returns c =
     token_pushed c.args.self.now c.args.n c.requires.is_row c.row-old.result c.args.kind c.args.new.now c.in_ok-rows.rows c.push.new.self c.push_behind.new.rows (c.args.n + 1) _ c.row-old.ensures.value refl refl
-    c.in_ok-rows.ensures c.in_ok-push.ensures.ok c.in_ok-push_behind.ensures
+    c.in_ok-rows.ensures.rows c.in_ok-push.ensures.ok c.in_ok-push_behind.ensures

@@ -17,7 +17,7 @@ push_node-requires-clause-bytes_fit c = omega (arith, text_fits _ _ c.args.self.
 
 shows : (c : In_ok-push_node) → Represents c.push_node.new.rows (string_bytes c.in_ok-text.text) (tree_at c.args.self.now c.args.n)
 shows c = subtree_shown c.args.self.now c.args.n _ c.push_node.new.rows _ (string_bytes c.in_ok-text.text) c.requires.is_row c.requires.is_node (shown _ _ _ c.self.view_is c.self.invariant)
-    (c.in_ok-push_node.ensures ∙ ap (λ l. l ++ rows_of (cons (tree_at c.args.self.now c.args.n) nil) 0 0 0) c.in_ok-rows.ensures) (c.in_ok-text.ensures.ok ∙ c.text_at.ensures)
+    (c.in_ok-push_node.ensures ∙ ap (λ l. l ++ rows_of (cons (tree_at c.args.self.now c.args.n) nil) 0 0 0) c.in_ok-rows.ensures.empty) (c.in_ok-text.ensures.ok ∙ c.text_at.ensures)
 
 pub from_parts-requires : goal.from_parts-requires
 from_parts-requires c = table_of (tree_at c.args.self.now c.args.n) _ _ (shows (goal.at.from_parts-requires c).In_ok-push_node)
