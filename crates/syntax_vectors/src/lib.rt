@@ -1,4 +1,4 @@
-//! Tests of what no contract of the crates below says, and the rows of their tables and documentation.
+//! Tests of what no contract of the crates below says, stored runs, and the examples of their documentation.
 #![tactic(auto)]
 
 #[cfg(test)]
