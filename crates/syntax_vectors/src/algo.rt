@@ -1,11 +1,8 @@
 //! The functions of `algo`: worked rows, mostly of the tree of `1 + 1`.
-use crate::plain_tree::PlainTree;
+use crate::plain_tree::{PlainTree, SUM};
 use lossless_tree::{NodeOrToken, SyntaxElement, SyntaxNode, SyntaxToken};
 use ra_ap_syntax::{AstNode, Direction, SyntaxKind, TextRange, TextSize, algo, ast};
 use std::test::Fail;
-
-const SUM: &str =
-    "BIN_EXPR( LITERAL( INT_NUMBER:1 ) WHITESPACE:~ PLUS:+ WHITESPACE:~ LITERAL( INT_NUMBER:1 ) )";
 
 fn built(rt: &HostRuntime, words: &'static str) -> Result<SyntaxNode, Fail> {
     PlainTree::read(rt.alloc(), words)?.build(rt.alloc())

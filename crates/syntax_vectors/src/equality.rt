@@ -1,6 +1,6 @@
 //! Equality and hash of cursors, and copies of their iterators.
 use crate::plain_tree::PlainTree;
-use lossless_tree::{Direction, SyntaxElement, SyntaxNode};
+use lossless_tree::{Direction, SyntaxElement, SyntaxNode, TextSize};
 use std::hash::{DefaultHasher, Hash, Hasher};
 use std::iter::repeat;
 use std::test::Fail;
@@ -74,7 +74,7 @@ fn copies_of_iterators_go_their_own_way(rt: HostRuntime) -> Result<(), Fail> {
     Ok(())
 }
 
-// `repeat` asks for a copy that can't fail: that it may be called here is what is shown.
+// `repeat` asks for a copy that can't fail: that it may be called here, on an element too, is what is shown.
 #[test]
 fn copies_of_iterators_take_no_memory(rt: HostRuntime) -> Result<(), Fail> {
     let root = built(&rt, WORDS)?;
@@ -96,5 +96,11 @@ fn copies_of_iterators_take_no_memory(rt: HostRuntime) -> Result<(), Fail> {
     assert!(rt; copies.next().is_some());
     let mut copies = repeat(root.preorder_with_tokens());
     assert!(rt; copies.next().is_some());
+    let mut copies = repeat(root.token_at_offset(TextSize::new(1)));
+    let between = copies.next().ok_or("no copy of the tokens")?;
+    assert_eq!(rt; between.size_hint(), (2, Some(2)));
+    let element: SyntaxElement = root.first_child_or_token().ok_or("no first child")?;
+    let mut copies = repeat(element);
+    assert!(rt; copies.next() == root.first_child_or_token());
     Ok(())
 }

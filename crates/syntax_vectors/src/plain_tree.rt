@@ -4,6 +4,10 @@ use lossless_tree::{SyntaxKind, SyntaxNode, TreeBuilder};
 use std::alloc::Global;
 use std::test::Fail;
 
+// The words of the tree of `1 + 1`.
+pub const SUM: &str =
+    "BIN_EXPR( LITERAL( INT_NUMBER:1 ) WHITESPACE:~ PLUS:+ WHITESPACE:~ LITERAL( INT_NUMBER:1 ) )";
+
 #[derive(Drop)]
 pub enum PlainTree {
     Node(SyntaxKind, Vec<PlainTree>),
@@ -130,6 +134,23 @@ impl PlainTree {
             }
         }
         Ok(())
+    }
+
+    // Where what has the kind starts. The tree starts at `start`.
+    pub fn start_of(&self, start: usize, kind: SyntaxKind) -> Option<usize> {
+        if self.kind() == kind {
+            return Some(start);
+        }
+        if let PlainTree::Node(_, children) = self {
+            let mut next = start;
+            for child in children {
+                if let Some(found) = child.start_of(next, kind) {
+                    return Some(found);
+                }
+                next = next.saturating_add(child.len());
+            }
+        }
+        None
     }
 
     // The kind of what covers the range `from..to`. The tree starts at `start`.

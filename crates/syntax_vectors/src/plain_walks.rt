@@ -32,10 +32,10 @@ impl PlainTree {
         Ok(())
     }
 
-    // The kinds in the order in which a walk enters and leaves.
-    pub fn walk(&self, among: Among, found: &mut Vec<SyntaxKind>) -> Result<(), Fail> {
+    // The steps of a walk: whether it enters or leaves, and the kind.
+    pub fn walk(&self, among: Among, found: &mut Vec<(bool, SyntaxKind)>) -> Result<(), Fail> {
         if self.is_among(among) {
-            found.push(self.kind())?;
+            found.push((true, self.kind()))?;
         }
         if let PlainTree::Node(_, children) = self {
             for child in children {
@@ -43,7 +43,7 @@ impl PlainTree {
             }
         }
         if self.is_among(among) {
-            found.push(self.kind())?;
+            found.push((false, self.kind()))?;
         }
         Ok(())
     }

@@ -1,5 +1,6 @@
-//! Searches of a tree by offset: worked rows, and every offset of three small trees by a plain slow program.
-use crate::plain_tree::PlainTree;
+//! Searches of a tree by offset: worked rows, and every offset from every node of three small trees by a plain slow
+//! program.
+use crate::plain_tree::{PlainTree, SUM};
 use lossless_tree::{NodeOrToken, SyntaxKind, SyntaxNode, SyntaxNodePtr, TextRange, TextSize};
 use std::test::Fail;
 
@@ -41,20 +42,82 @@ fn tokens_meet_at_an_offset(rt: HostRuntime) -> Result<(), Fail> {
 }
 
 #[test]
+fn tokens_step_past_an_empty_node(rt: HostRuntime) -> Result<(), Fail> {
+    let root = name_between_tokens(&rt)?;
+    let first = root.first_token().ok_or("no first token")?;
+    let last = root.last_token().ok_or("no last token")?;
+    assert_eq!(rt; first.text(), "a");
+    assert_eq!(rt; last.text(), "b");
+    assert!(rt; first.prev_token().is_none());
+    assert!(rt; last.next_token().is_none());
+    let next = first.next_token().ok_or("no token behind the first")?;
+    let previous = last.prev_token().ok_or("no token before the last")?;
+    assert_eq!(rt; next.text(), "b");
+    assert_eq!(rt; previous.text(), "a");
+    assert!(rt; next == last);
+    assert!(rt; previous == first);
+    let name = root.first_child().ok_or("no node between the tokens")?;
+    assert_eq!(rt; name.kind(), SyntaxKind::NAME);
+    assert!(rt; name.first_token().is_none());
+    assert!(rt; name.last_token().is_none());
+    Ok(())
+}
+
+// The tokens at an offset, as `KIND@start..end` and a space each.
+fn tokens(rt: &HostRuntime, node: &SyntaxNode, offset: u32) -> Result<String, Fail> {
+    let mut text = String::new(rt.alloc());
+    for token in node.token_at_offset(TextSize::new(offset)) {
+        write!(text, "{}@{} ", token.kind(), token.text_range())?;
+    }
+    Ok(text)
+}
+
+#[test]
+fn tokens_of_a_sum(rt: HostRuntime) -> Result<(), Fail> {
+    let root = PlainTree::read(rt.alloc(), SUM)?.build(rt.alloc())?;
+    assert_eq!(rt; tokens(&rt, &root, 0)?.as_str(), "INT_NUMBER@0..1 ");
+    assert_eq!(rt;
+        tokens(&rt, &root, 1)?.as_str(),
+        "INT_NUMBER@0..1 WHITESPACE@1..2 "
+    );
+    assert_eq!(rt;
+        tokens(&rt, &root, 4)?.as_str(),
+        "WHITESPACE@3..4 INT_NUMBER@4..5 "
+    );
+    assert_eq!(rt; tokens(&rt, &root, 5)?.as_str(), "INT_NUMBER@4..5 ");
+    assert_eq!(rt; tokens(&rt, &root, 6)?.as_str(), "");
+    let last = root.last_child().ok_or("no last child")?;
+    assert_eq!(rt; tokens(&rt, &last, 4)?.as_str(), "INT_NUMBER@4..5 ");
+    assert_eq!(rt; tokens(&rt, &last, 3)?.as_str(), "");
+    Ok(())
+}
+
+// The tokens at each offset, searched from a node of a plain tree.
+fn tokens_are(rt: &HostRuntime, plain: &PlainTree, node: &SyntaxNode) -> Result<(), Fail> {
+    let kind = node.kind();
+    let here = plain.find(kind).ok_or("no such place")?;
+    let start = plain.start_of(0, kind).ok_or("no such place")?;
+    for offset in 0u32..8 {
+        let mut wanted = Vec::new(rt.alloc());
+        here.tokens_at(start, offset as usize, &mut wanted)?;
+        let mut found: Vec<SyntaxKind> = Vec::new(rt.alloc());
+        for token in node.token_at_offset(TextSize::new(offset)) {
+            found.push(token.kind())?;
+        }
+        if found != wanted {
+            return Err(Fail::from("other tokens are at an offset"));
+        }
+    }
+    Ok(())
+}
+
+#[test]
 fn tokens_at_every_offset(rt: HostRuntime) -> Result<(), Fail> {
     for words in TREES {
         let plain = PlainTree::read(rt.alloc(), words)?;
         let root = plain.build(rt.alloc())?;
-        let mut offset: u32 = 0;
-        for _offset in 0..8 {
-            let mut wanted = Vec::new(rt.alloc());
-            plain.tokens_at(0, offset as usize, &mut wanted)?;
-            let mut found: Vec<SyntaxKind> = Vec::new(rt.alloc());
-            for token in root.token_at_offset(TextSize::new(offset)) {
-                found.push(token.kind())?;
-            }
-            assert!(rt; found == wanted);
-            offset = offset.saturating_add(1);
+        for node in root.descendants() {
+            tokens_are(&rt, &plain, &node)?;
         }
     }
     Ok(())
@@ -70,24 +133,47 @@ fn range(from: u32, to: u32) -> TextRange {
 }
 
 // What covers a range, as `KIND@start..end`.
-fn covering(rt: &HostRuntime, root: &SyntaxNode, from: u32, to: u32) -> Result<String, Fail> {
-    let found = root.covering_element(range(from, to));
+fn covering(rt: &HostRuntime, node: &SyntaxNode, from: u32, to: u32) -> Result<String, Fail> {
+    let found = node.covering_element(range(from, to));
     Ok(format!(in rt.alloc(); "{}@{}", found.kind(), found.text_range())?)
 }
 
 #[test]
 fn elements_cover_ranges(rt: HostRuntime) -> Result<(), Fail> {
-    let words = "BIN_EXPR( INT_NUMBER:1 WHITESPACE:~ PLUS:+ WHITESPACE:~ INT_NUMBER:1 )";
-    let root = PlainTree::read(rt.alloc(), words)?.build(rt.alloc())?;
+    let root = PlainTree::read(rt.alloc(), SUM)?.build(rt.alloc())?;
+    assert_eq!(rt; covering(&rt, &root, 0, 1)?.as_str(), "INT_NUMBER@0..1");
     assert_eq!(rt; covering(&rt, &root, 1, 2)?.as_str(), "WHITESPACE@1..2");
+    assert_eq!(rt; covering(&rt, &root, 4, 5)?.as_str(), "INT_NUMBER@4..5");
     assert_eq!(rt; covering(&rt, &root, 0, 3)?.as_str(), "BIN_EXPR@0..5");
+    assert_eq!(rt; covering(&rt, &root, 4, 9)?.as_str(), "BIN_EXPR@0..5");
     assert_eq!(rt; covering(&rt, &root, 0, 0)?.as_str(), "INT_NUMBER@0..1");
     assert_eq!(rt; covering(&rt, &root, 1, 1)?.as_str(), "INT_NUMBER@0..1");
+    assert_eq!(rt; covering(&rt, &root, 2, 2)?.as_str(), "WHITESPACE@1..2");
+    assert_eq!(rt; covering(&rt, &root, 4, 4)?.as_str(), "WHITESPACE@3..4");
     assert_eq!(rt; covering(&rt, &root, 5, 5)?.as_str(), "INT_NUMBER@4..5");
     assert_eq!(rt; covering(&rt, &root, 9, 9)?.as_str(), "INT_NUMBER@4..5");
-    assert_eq!(rt; covering(&rt, &root, 4, 9)?.as_str(), "BIN_EXPR@0..5");
+    let last = root.last_child().ok_or("no last child")?;
+    assert_eq!(rt; covering(&rt, &last, 0, 0)?.as_str(), "INT_NUMBER@4..5");
+    assert_eq!(rt; covering(&rt, &last, 0, 1)?.as_str(), "LITERAL@4..5");
     let root = name_between_tokens(&rt)?;
     assert_eq!(rt; covering(&rt, &root, 1, 1)?.as_str(), "NAME@1..1");
+    Ok(())
+}
+
+// What covers each range, searched from a node of a plain tree.
+fn coverings_are(plain: &PlainTree, node: &SyntaxNode) -> Result<(), Fail> {
+    let kind = node.kind();
+    let here = plain.find(kind).ok_or("no such place")?;
+    let start = plain.start_of(0, kind).ok_or("no such place")?;
+    for from in 0u32..8 {
+        for to in from..8 {
+            let wanted = here.covering(start, from as usize, to as usize);
+            let found = node.covering_element(range(from, to));
+            if found.kind() != wanted {
+                return Err(Fail::from("another element covers a range"));
+            }
+        }
+    }
     Ok(())
 }
 
@@ -96,12 +182,8 @@ fn elements_cover_every_range(rt: HostRuntime) -> Result<(), Fail> {
     for words in TREES {
         let plain = PlainTree::read(rt.alloc(), words)?;
         let root = plain.build(rt.alloc())?;
-        for from in 0u32..8 {
-            for to in from..8 {
-                let wanted = plain.covering(0, from as usize, to as usize);
-                let found = root.covering_element(range(from, to));
-                assert_eq!(rt; found.kind(), wanted);
-            }
+        for node in root.descendants() {
+            coverings_are(&plain, &node)?;
         }
     }
     Ok(())

@@ -1,6 +1,7 @@
 //! Trees made by the builder: what its calls and those of a cursor answer.
 use lossless_tree::{
-    FinishError, NodeOrToken, SyntaxElement, SyntaxKind, SyntaxNode, TreeBuilder, WalkEvent,
+    FinishError, NodeOrToken, ReplaceError, SyntaxElement, SyntaxKind, SyntaxNode, TreeBuilder,
+    WalkEvent,
 };
 use std::test::Fail;
 
@@ -26,6 +27,34 @@ fn a_tree_keeps_its_text(rt: HostRuntime) -> Result<(), Fail> {
         text.as_str(),
         "SOURCE_FILE@0..3\n  IDENT@0..1 \"a\"\n  NAME@1..1\n  IDENT@1..3 \"\u{e9}\"\n"
     );
+    Ok(())
+}
+
+#[test]
+fn elements_dump_as_what_they_are(rt: HostRuntime) -> Result<(), Fail> {
+    let root = sample(&rt)?;
+    let of_node = root.dump(rt.alloc())?;
+    let token = root.first_token().ok_or("no first token")?;
+    let of_token = token.dump(rt.alloc())?;
+    assert_eq!(rt; of_token.as_str(), "IDENT@0..1 \"a\"\n");
+    let element: SyntaxElement = NodeOrToken::Node(root);
+    let found = element.dump(rt.alloc())?;
+    assert_eq!(rt; found.as_str(), of_node.as_str());
+    let element: SyntaxElement = NodeOrToken::Token(token);
+    let found = element.dump(rt.alloc())?;
+    assert_eq!(rt; found.as_str(), of_token.as_str());
+    Ok(())
+}
+
+#[test]
+fn elements_have_their_text(rt: HostRuntime) -> Result<(), Fail> {
+    let root = sample(&rt)?;
+    for element in root.descendants_with_tokens() {
+        match &element {
+            NodeOrToken::Node(node) => assert_eq!(rt; element.text(), node.as_str()),
+            NodeOrToken::Token(token) => assert_eq!(rt; element.text(), token.text()),
+        }
+    }
     Ok(())
 }
 
@@ -149,6 +178,20 @@ fn refusals_print(rt: HostRuntime) -> Result<(), Fail> {
     assert_eq!(rt;
         text.as_str(),
         "the text is longer than 4294967295 bytes; more nodes are left than were entered; a node is not left; there are no events; there is more than one root; the root is a token; out of memory; "
+    );
+    Ok(())
+}
+
+#[test]
+fn refused_replacements_print(rt: HostRuntime) -> Result<(), Fail> {
+    let refusals = [ReplaceError::TooLong, ReplaceError::Memory];
+    let mut text = String::new(rt.alloc());
+    for refusal in refusals {
+        write!(text, "{refusal}; ")?;
+    }
+    assert_eq!(rt;
+        text.as_str(),
+        "the text is longer than 4294967295 bytes; out of memory; "
     );
     Ok(())
 }

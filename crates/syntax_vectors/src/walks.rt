@@ -115,8 +115,8 @@ fn walks_are(rt: &HostRuntime, plain: &PlainTree, node: &SyntaxNode) -> Result<(
     let mut found = Vec::new(rt.alloc());
     for event in node.preorder() {
         match event {
-            WalkEvent::Enter(below) => found.push(below.kind())?,
-            WalkEvent::Leave(below) => found.push(below.kind())?,
+            WalkEvent::Enter(below) => found.push((true, below.kind()))?,
+            WalkEvent::Leave(below) => found.push((false, below.kind()))?,
         }
     }
     ensure(found == wanted, "preorder")?;
@@ -125,8 +125,8 @@ fn walks_are(rt: &HostRuntime, plain: &PlainTree, node: &SyntaxNode) -> Result<(
     let mut found = Vec::new(rt.alloc());
     for event in node.preorder_with_tokens() {
         match event {
-            WalkEvent::Enter(below) => found.push(below.kind())?,
-            WalkEvent::Leave(below) => found.push(below.kind())?,
+            WalkEvent::Enter(below) => found.push((true, below.kind()))?,
+            WalkEvent::Leave(below) => found.push((false, below.kind()))?,
         }
     }
     ensure(found == wanted, "preorder_with_tokens")?;
@@ -176,11 +176,13 @@ fn element_is(rt: &HostRuntime, plain: &PlainTree, element: &SyntaxElement) -> R
         node_kind(element.parent()) == above.first().copied(),
         "parent",
     )?;
+    let here = plain.find(kind).ok_or("no such place")?;
+    if let PlainTree::Node(_, _) = here {
+        above.insert(0, kind)?;
+    }
     let mut found = Vec::new(rt.alloc());
     for node in element.ancestors() {
-        if node.kind() != kind {
-            found.push(node.kind())?;
-        }
+        found.push(node.kind())?;
     }
     ensure(found == above, "ancestors")?;
     Ok(())
