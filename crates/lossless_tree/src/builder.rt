@@ -87,7 +87,7 @@ impl TreeBuilder {
         Ok(())
     }
 
-    /// The root of the tree that the events build, in time linear in the events and their text.
+    /// The root of the tree that the events build, in time linear in the number of events.
     ///
     /// Else the first refusal that holds of all the events, in the order of [`FinishError`]; the builder is then gone.
     /// The text is not copied. More than 2,147,483,647 nodes and tokens are want of memory.

@@ -11,8 +11,8 @@ use tree_model::Table;
 /// Some children of a node that are left to read, from one on to the last: for readers that go over a tree in order and look
 /// at a few siblings at once. A clause sees a forest and the byte where its first tree starts.
 ///
-/// Every call takes constant time and no memory, save `without_trivia`. A value is never changed: `rest` and `inside` give
-/// new ones. Where nothing is left, the kind is `OTHER(0)`, the text is empty, and `rest` and `inside` have nothing.
+/// No call takes memory, and each takes constant time but for `without_trivia`. A value is never changed: `rest` and `inside`
+/// give new ones. Where nothing is left, the kind is `OTHER(0)`, the text is empty, and `rest` and `inside` have nothing.
 #[derive(Drop)]
 pub struct Trees<'t> {
     table: &'t Table,
@@ -96,7 +96,8 @@ impl<'t> Trees<'t> {
         }
     }
 
-    /// The byte of the whole text where the first one starts; where nothing is left, where the last one ended.
+    /// The byte of the whole text where the first one starts; where nothing is left, where the last one ended, and where
+    /// there never was one, where what they would stand below starts.
     pub fn start(&self) -> usize
         ensures { result ≡ self.now.start }
     {

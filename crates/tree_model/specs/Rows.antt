@@ -1,4 +1,4 @@
--- The rows of a tree: one for each place in preorder. No contract outside this crate names them.
+-- The rows of a tree: one for each place in preorder. No public contract outside this crate names them.
 use Rattle.std.specs.Prelude.{◌≡◌, ℕ, zero, suc, ◌+◌, ◌-◌, List, [], ◌∷◌, ◌++◌, length, take, drop, true, false, cond, ⊤, ◌<◌, ◌≤◌, ◌^◌, get_or, IsUtf8}
 use Rattle.tree_model.specs.declared.rows.Row.{Row}
 use Rattle.tree_model.specs.Tree.{Tree, node, token, Forest, nil, cons, no_tree, forest_text, forest_size, size, text, subtree, places, Place, start, IsNode}

@@ -124,7 +124,7 @@ impl Rows {
         self.packed[n].row()
     }
 
-    /// One more row at the end; the rows stay as they were, where memory is wanted for it.
+    /// One more row at the end; where there is no memory for it, the rows stay as they were.
     pub fn push(&mut self, row: Row) -> Result<(), AllocError>
         requires { row.parent < 2 ^ 31 }
         ensures ok { OnOk result (self.new ≡ self.old ++ row ∷ []) }

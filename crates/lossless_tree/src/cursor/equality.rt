@@ -9,7 +9,7 @@ use std::hash::{Hash, Hasher};
 use tree_model::Table;
 
 // Whether a row of a table is the same place as a row of another in an equal tree. Of one shared table it takes
-// constant time; of two it compares all of both.
+// constant time; of two, where the row numbers are equal, it compares texts and rows.
 pub(crate) fn is_same(
     table: &Shared<Table>,
     row: usize,

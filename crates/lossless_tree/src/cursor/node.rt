@@ -95,7 +95,7 @@ impl SyntaxNode {
     /// The root of a new tree: this node's whole tree with `replacement` in place of this node. The old tree stays as
     /// it was. Where this node is the root, the new tree equals `replacement`.
     ///
-    /// It takes time and memory linear in the new tree and the old one. More than 2,147,483,647 nodes and tokens are want of memory.
+    /// It takes time and memory linear in the new tree. More than 2,147,483,647 nodes and tokens are want of memory.
     pub fn replace_with(
         &self,
         alloc: Global,
@@ -115,7 +115,7 @@ impl SyntaxNode {
 }
 
 impl SyntaxNode {
-    /// The node's text, with the calls of upstream's type of this name. `as_str` gives the same as one slice.
+    /// The node's text, with `len` and `char_at` of upstream's type of this name. `as_str` gives the same as one slice.
     pub fn text(&self) -> SyntaxText<'_>
         ensures { result ≡ text (focus self.now) }
     {
@@ -254,8 +254,8 @@ impl SyntaxNode {
         children.next()
     }
 
-    /// The last child node; `None` where there is none. It passes over the tokens behind it, and takes time in the depth
-    /// there.
+    /// The last child node; `None` where there is none. It passes over the tokens behind it, and takes time in the depth of
+    /// that node and of the sibling before it.
     pub fn last_child(&self) -> Option<SyntaxNode>
         ensures { result ≡ find at_node (reverse (children_of self.now)) }
     {
@@ -272,7 +272,7 @@ impl SyntaxNode {
     }
 
     /// The nearest sibling node before this one; `None` where there is none. It passes over the tokens between, and takes
-    /// time in the depth of that node.
+    /// time in the depth of that node and of the sibling before it.
     pub fn prev_sibling(&self) -> Option<SyntaxNode>
         ensures { result ≡ find at_node (preceding_of self.now) }
     {

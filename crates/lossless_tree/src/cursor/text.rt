@@ -67,7 +67,7 @@ impl<'t> SyntaxText<'t> {
         self.text[start..].chars().next()
     }
 
-    /// Whether it is this text.
+    /// Whether the text is `other`.
     pub fn eq_str(&self, other: &str) -> bool
         ensures { IsTrue result ↔ (self.now ≡ other.now) }
     {

@@ -24,7 +24,8 @@ impl Table {
         child
     }
 
-    /// The row of the last child of row `n`; `None` where it has none. It climbs from the last row below, so it takes time in the depth there.
+    /// The row of the last child of row `n`; `None` where it has none. It climbs from the last row below, so it takes time in the
+    /// depth there.
     pub fn last_child_row(&self, n: usize) -> Option<usize>
         requires { n < size self.now }
         ensures place { option_map (place_at self.now) result ≡ last_child_place self.now (place_at self.now n) }
