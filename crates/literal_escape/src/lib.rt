@@ -9,13 +9,13 @@
 //! Source: the Rust Reference, "Tokens", its section on character and string literals.
 #![tactic(auto)]
 
-pub mod error;
+mod error;
 pub mod laws;
-pub mod mode;
+mod mode;
 mod progress;
 mod reader;
-pub mod unescape;
-pub mod units;
+mod unescape;
+mod units;
 
 pub use crate::error::EscapeError;
 pub use crate::mode::{MixedUnit, Mode};

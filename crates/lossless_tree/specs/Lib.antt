@@ -4,3 +4,4 @@ pub mod Trees
 pub mod SyntaxText
 pub mod WalkEvent
 pub mod Dump
+pub mod ElementCode

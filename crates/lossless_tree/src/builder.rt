@@ -1,6 +1,6 @@
 //! Events to a tree.
 ghost use Rattle.std.specs.Prelude.{◌≡◌, [], ◌∷◌, ◌++◌, OnOk, OnErr, IfOk, IfErr, None};
-ghost use Rattle.tree_model.specs.Events.{enter, leaf, exit, BuildsNode, first_refusal, refusal_of};
+ghost use Rattle.tree_model.specs.Events.{enter, leaf, exit, BuildsNode, first_refusal, refusal_of, text_len};
 ghost use Rattle.tree_model.specs.Cursor.{IsRoot};
 
 use crate::cursor::node::SyntaxNode;
@@ -87,10 +87,17 @@ impl TreeBuilder {
         Ok(())
     }
 
+    /// How many bytes the tokens have that came so far. It takes constant time.
+    pub fn text_len(&self) -> usize
+        ensures { result ≡ text_len self.now }
+    {
+        self.text.as_str().len()
+    }
+
     /// The root of the tree that the events build, in time linear in the number of events.
     ///
     /// Else the first refusal that holds of all the events, in the order of [`FinishError`]; the builder is then gone.
-    /// The text is not copied. More than 2,147,483,647 nodes and tokens are want of memory.
+    /// The text is not copied.
     pub fn finish(self) -> Result<SyntaxNode, FinishError>
         ensures ok { IfOk result (λ root. BuildsNode self root.tree × IsRoot root) }
         ensures accepted { OnOk result (first_refusal self ≡ None) }

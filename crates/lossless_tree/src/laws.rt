@@ -13,7 +13,7 @@ pub use tree_model::laws::{
 };
 
 /// A node's place is one of its tree's and holds a node; the tree's root is a node, and its text is UTF-8 of fewer than
-/// 2^32 bytes, and the tree has fewer than 2^31 nodes and tokens.
+/// 2^32 bytes.
 pub fn node_is_placed(node: &SyntaxNode)
     ensures placed { IsPlaced node.now }
     ensures node { IsNode (focus node.now) }
@@ -22,7 +22,7 @@ pub fn node_is_placed(node: &SyntaxNode)
 }
 
 /// A token's place is one of its tree's and holds a token; the tree's root is a node, and its text is UTF-8 of fewer than
-/// 2^32 bytes, and the tree has fewer than 2^31 nodes and tokens.
+/// 2^32 bytes.
 pub fn token_is_placed(token: &SyntaxToken)
     ensures placed { IsPlaced token.now }
     ensures token { IsToken (focus token.now) }

@@ -43,7 +43,7 @@ impl<'t> Trees<'t> {
         Trees {
             table,
             row: row + 1,
-            end: first.end as usize,
+            end: first.end,
             start: first.start as usize,
         }
     }
@@ -111,7 +111,7 @@ impl<'t> Trees<'t> {
         if self.row < self.end {
             Trees {
                 table: self.table,
-                row: self.table.row(self.row).end as usize,
+                row: self.table.row(self.row).end,
                 end: self.end,
                 start: self.table.end_at(self.row),
             }

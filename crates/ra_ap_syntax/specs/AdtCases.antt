@@ -1,20 +1,14 @@
 -- An item that defines a type of its own: the kinds that it is of, and the node behind it.
-use Rattle.std.specs.Prelude.{◌≡◌, Bool, true, false}
+use Rattle.std.specs.Prelude.{◌≡◌, true}
 use Rattle.std.proofs.Common.{refl}
-use Rattle.syntax_kind.specs.declared.syntax_kind.SyntaxKind.{SyntaxKind}
 use Rattle.syntax_kind.specs.declared.syntax_kind.SyntaxKind.TheVariants.{Node}
 use Rattle.syntax_kind.specs.declared.syntax_kind.node_kind.NodeKind.TheVariants as kind
 use Rattle.tree_model.specs.Cursor.{Cursor}
-use Rattle.ra_ap_syntax.specs.Nodes.{kind_at}
-use Rattle.ra_ap_syntax.specs.KindSets.{by_number}
-use Rattle.ra_ap_syntax.specs.declared.ast.generated.adt.Adt.{Adt}
-use Rattle.ra_ap_syntax.specs.declared.ast.generated.adt.Adt.TheVariants.{Enum, Struct, Union}
-
-abbrev pub is_adt : SyntaxKind → Bool
-is_adt (Node kind.ENUM) = true
-is_adt (Node kind.STRUCT) = true
-is_adt (Node kind.UNION) = true
-is_adt _ = false
+use Rattle.ras_node.specs.Nodes.{kind_at}
+use Rattle.ras_node.specs.KindSets.{by_number}
+use Rattle.ra_ap_syntax.specs.declared.ast.views.adt.Adt.{Adt}
+use Rattle.ra_ap_syntax.specs.declared.ast.views.adt.Adt.TheVariants.{Enum, Struct, Union}
+use Rattle.ras_node.specs.Sets.{is_adt}
 
 abbrev pub adt_node : Adt → Cursor
 adt_node (Enum it) = it.syntax

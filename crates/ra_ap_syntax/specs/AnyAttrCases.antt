@@ -1,19 +1,14 @@
 -- An attribute or a documentation comment: the kinds that it is of, and the node behind it.
-use Rattle.std.specs.Prelude.{◌≡◌, Bool, true, false}
+use Rattle.std.specs.Prelude.{◌≡◌, true}
 use Rattle.std.proofs.Common.{refl}
-use Rattle.syntax_kind.specs.declared.syntax_kind.SyntaxKind.{SyntaxKind}
 use Rattle.syntax_kind.specs.declared.syntax_kind.SyntaxKind.TheVariants.{Node}
 use Rattle.syntax_kind.specs.declared.syntax_kind.node_kind.NodeKind.TheVariants as kind
 use Rattle.tree_model.specs.Cursor.{Cursor}
-use Rattle.ra_ap_syntax.specs.Nodes.{kind_at}
-use Rattle.ra_ap_syntax.specs.KindSets.{by_number}
-use Rattle.ra_ap_syntax.specs.declared.ast.generated.any_attr.AnyAttr.{AnyAttr}
-use Rattle.ra_ap_syntax.specs.declared.ast.generated.any_attr.AnyAttr.TheVariants.{Attr, DocComment}
-
-abbrev pub is_any_attr : SyntaxKind → Bool
-is_any_attr (Node kind.ATTR) = true
-is_any_attr (Node kind.DOC_COMMENT) = true
-is_any_attr _ = false
+use Rattle.ras_node.specs.Nodes.{kind_at}
+use Rattle.ras_node.specs.KindSets.{by_number}
+use Rattle.ra_ap_syntax.specs.declared.ast.views.any_attr.AnyAttr.{AnyAttr}
+use Rattle.ra_ap_syntax.specs.declared.ast.views.any_attr.AnyAttr.TheVariants.{Attr, DocComment}
+use Rattle.ras_node.specs.Sets.{is_any_attr}
 
 abbrev pub any_attr_node : AnyAttr → Cursor
 any_attr_node (Attr it) = it.syntax

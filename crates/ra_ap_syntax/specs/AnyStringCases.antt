@@ -1,20 +1,14 @@
 -- A string literal of any kind: the kinds that it is of, and the token behind it.
-use Rattle.std.specs.Prelude.{◌≡◌, Bool, true, false}
+use Rattle.std.specs.Prelude.{◌≡◌, true}
 use Rattle.std.proofs.Common.{refl}
-use Rattle.syntax_kind.specs.declared.syntax_kind.SyntaxKind.{SyntaxKind}
 use Rattle.syntax_kind.specs.declared.syntax_kind.SyntaxKind.TheVariants.{Token}
 use Rattle.syntax_kind.specs.declared.syntax_kind.token_kind.TokenKind.TheVariants as kind
 use Rattle.tree_model.specs.Cursor.{Cursor}
-use Rattle.ra_ap_syntax.specs.Nodes.{kind_at}
-use Rattle.ra_ap_syntax.specs.KindSets.{by_number}
+use Rattle.ras_node.specs.Nodes.{kind_at}
+use Rattle.ras_node.specs.KindSets.{by_number}
 use Rattle.ra_ap_syntax.specs.declared.ast.token_ext.AnyString.{AnyString}
 use Rattle.ra_ap_syntax.specs.declared.ast.token_ext.AnyString.TheVariants.{ByteString, CString, String}
-
-abbrev pub is_any_string : SyntaxKind → Bool
-is_any_string (Token kind.BYTE_STRING) = true
-is_any_string (Token kind.C_STRING) = true
-is_any_string (Token kind.STRING) = true
-is_any_string _ = false
+use Rattle.ras_node.specs.Sets.{is_any_string}
 
 abbrev pub any_string_token : AnyString → Cursor
 any_string_token (ByteString it) = it.syntax

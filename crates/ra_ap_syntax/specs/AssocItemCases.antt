@@ -1,21 +1,14 @@
 -- An item of a trait or an implementation: the kinds that it is of, and the node behind it.
-use Rattle.std.specs.Prelude.{◌≡◌, Bool, true, false}
+use Rattle.std.specs.Prelude.{◌≡◌, true}
 use Rattle.std.proofs.Common.{refl}
-use Rattle.syntax_kind.specs.declared.syntax_kind.SyntaxKind.{SyntaxKind}
 use Rattle.syntax_kind.specs.declared.syntax_kind.SyntaxKind.TheVariants.{Node}
 use Rattle.syntax_kind.specs.declared.syntax_kind.node_kind.NodeKind.TheVariants as kind
 use Rattle.tree_model.specs.Cursor.{Cursor}
-use Rattle.ra_ap_syntax.specs.Nodes.{kind_at}
-use Rattle.ra_ap_syntax.specs.KindSets.{by_number}
-use Rattle.ra_ap_syntax.specs.declared.ast.generated.assoc_item.AssocItem.{AssocItem}
-use Rattle.ra_ap_syntax.specs.declared.ast.generated.assoc_item.AssocItem.TheVariants.{Const, Fn, MacroCall, TypeAlias}
-
-abbrev pub is_assoc_item : SyntaxKind → Bool
-is_assoc_item (Node kind.CONST) = true
-is_assoc_item (Node kind.FN) = true
-is_assoc_item (Node kind.MACRO_CALL) = true
-is_assoc_item (Node kind.TYPE_ALIAS) = true
-is_assoc_item _ = false
+use Rattle.ras_node.specs.Nodes.{kind_at}
+use Rattle.ras_node.specs.KindSets.{by_number}
+use Rattle.ra_ap_syntax.specs.declared.ast.views.assoc_item.AssocItem.{AssocItem}
+use Rattle.ra_ap_syntax.specs.declared.ast.views.assoc_item.AssocItem.TheVariants.{Const, Fn, MacroCall, TypeAlias}
+use Rattle.ras_node.specs.Sets.{is_assoc_item}
 
 abbrev pub assoc_item_node : AssocItem → Cursor
 assoc_item_node (Const it) = it.syntax

@@ -1,19 +1,14 @@
 -- A call or a method call: the kinds that it is of, and the node behind it.
-use Rattle.std.specs.Prelude.{◌≡◌, Bool, true, false}
+use Rattle.std.specs.Prelude.{◌≡◌, true}
 use Rattle.std.proofs.Common.{refl}
-use Rattle.syntax_kind.specs.declared.syntax_kind.SyntaxKind.{SyntaxKind}
 use Rattle.syntax_kind.specs.declared.syntax_kind.SyntaxKind.TheVariants.{Node}
 use Rattle.syntax_kind.specs.declared.syntax_kind.node_kind.NodeKind.TheVariants as kind
 use Rattle.tree_model.specs.Cursor.{Cursor}
-use Rattle.ra_ap_syntax.specs.Nodes.{kind_at}
-use Rattle.ra_ap_syntax.specs.KindSets.{by_number}
+use Rattle.ras_node.specs.Nodes.{kind_at}
+use Rattle.ras_node.specs.KindSets.{by_number}
 use Rattle.ra_ap_syntax.specs.declared.ast.expr_ext.CallableExpr.{CallableExpr}
 use Rattle.ra_ap_syntax.specs.declared.ast.expr_ext.CallableExpr.TheVariants.{Call, MethodCall}
-
-abbrev pub is_callable_expr : SyntaxKind → Bool
-is_callable_expr (Node kind.CALL_EXPR) = true
-is_callable_expr (Node kind.METHOD_CALL_EXPR) = true
-is_callable_expr _ = false
+use Rattle.ras_node.specs.Sets.{is_callable_expr}
 
 abbrev pub callable_expr_node : CallableExpr → Cursor
 callable_expr_node (Call it) = it.syntax

@@ -1,19 +1,14 @@
 -- What stands behind an `else`: the kinds that it is of, and the node behind it.
-use Rattle.std.specs.Prelude.{◌≡◌, Bool, true, false}
+use Rattle.std.specs.Prelude.{◌≡◌, true}
 use Rattle.std.proofs.Common.{refl}
-use Rattle.syntax_kind.specs.declared.syntax_kind.SyntaxKind.{SyntaxKind}
 use Rattle.syntax_kind.specs.declared.syntax_kind.SyntaxKind.TheVariants.{Node}
 use Rattle.syntax_kind.specs.declared.syntax_kind.node_kind.NodeKind.TheVariants as kind
 use Rattle.tree_model.specs.Cursor.{Cursor}
-use Rattle.ra_ap_syntax.specs.Nodes.{kind_at}
-use Rattle.ra_ap_syntax.specs.KindSets.{by_number}
+use Rattle.ras_node.specs.Nodes.{kind_at}
+use Rattle.ras_node.specs.KindSets.{by_number}
 use Rattle.ra_ap_syntax.specs.declared.ast.expr_ext.ElseBranch.{ElseBranch}
 use Rattle.ra_ap_syntax.specs.declared.ast.expr_ext.ElseBranch.TheVariants.{Block, IfExpr}
-
-abbrev pub is_else_branch : SyntaxKind → Bool
-is_else_branch (Node kind.BLOCK_EXPR) = true
-is_else_branch (Node kind.IF_EXPR) = true
-is_else_branch _ = false
+use Rattle.ras_node.specs.Sets.{is_else_branch}
 
 abbrev pub else_branch_node : ElseBranch → Cursor
 else_branch_node (Block it) = it.syntax

@@ -1,55 +1,14 @@
 -- An expression: the kinds that it is of, and the node behind it.
-use Rattle.std.specs.Prelude.{◌≡◌, Bool, true, false}
+use Rattle.std.specs.Prelude.{◌≡◌, true}
 use Rattle.std.proofs.Common.{refl}
-use Rattle.syntax_kind.specs.declared.syntax_kind.SyntaxKind.{SyntaxKind}
 use Rattle.syntax_kind.specs.declared.syntax_kind.SyntaxKind.TheVariants.{Node}
 use Rattle.syntax_kind.specs.declared.syntax_kind.node_kind.NodeKind.TheVariants as kind
 use Rattle.tree_model.specs.Cursor.{Cursor}
-use Rattle.ra_ap_syntax.specs.Nodes.{kind_at}
-use Rattle.ra_ap_syntax.specs.KindSets.{by_number}
-use Rattle.ra_ap_syntax.specs.declared.ast.generated.expr.Expr.{Expr}
-use Rattle.ra_ap_syntax.specs.declared.ast.generated.expr.Expr.TheVariants.{ArrayExpr, AsmExpr, AwaitExpr, BecomeExpr, BinExpr, BlockExpr, BreakExpr, CallExpr, CastExpr, CfgPredExpr, ClosureExpr, ContinueExpr, FieldExpr, ForExpr, FormatArgsExpr, IfExpr, IncludeBytesExpr, IndexExpr, LetExpr, Literal, LoopExpr, MacroExpr, MatchExpr, MethodCallExpr, OffsetOfExpr, ParenExpr, PathExpr, PrefixExpr, RangeExpr, RecordExpr, RefExpr, ReturnExpr, TryExpr, TupleExpr, UnderscoreExpr, WhileExpr, YeetExpr, YieldExpr}
-
-abbrev pub is_expr : SyntaxKind → Bool
-is_expr (Node kind.ARRAY_EXPR) = true
-is_expr (Node kind.ASM_EXPR) = true
-is_expr (Node kind.AWAIT_EXPR) = true
-is_expr (Node kind.BECOME_EXPR) = true
-is_expr (Node kind.BIN_EXPR) = true
-is_expr (Node kind.BLOCK_EXPR) = true
-is_expr (Node kind.BREAK_EXPR) = true
-is_expr (Node kind.CALL_EXPR) = true
-is_expr (Node kind.CAST_EXPR) = true
-is_expr (Node kind.CFG_PRED_EXPR) = true
-is_expr (Node kind.CLOSURE_EXPR) = true
-is_expr (Node kind.CONTINUE_EXPR) = true
-is_expr (Node kind.FIELD_EXPR) = true
-is_expr (Node kind.FOR_EXPR) = true
-is_expr (Node kind.FORMAT_ARGS_EXPR) = true
-is_expr (Node kind.IF_EXPR) = true
-is_expr (Node kind.INCLUDE_BYTES_EXPR) = true
-is_expr (Node kind.INDEX_EXPR) = true
-is_expr (Node kind.LET_EXPR) = true
-is_expr (Node kind.LITERAL) = true
-is_expr (Node kind.LOOP_EXPR) = true
-is_expr (Node kind.MACRO_EXPR) = true
-is_expr (Node kind.MATCH_EXPR) = true
-is_expr (Node kind.METHOD_CALL_EXPR) = true
-is_expr (Node kind.OFFSET_OF_EXPR) = true
-is_expr (Node kind.PAREN_EXPR) = true
-is_expr (Node kind.PATH_EXPR) = true
-is_expr (Node kind.PREFIX_EXPR) = true
-is_expr (Node kind.RANGE_EXPR) = true
-is_expr (Node kind.RECORD_EXPR) = true
-is_expr (Node kind.REF_EXPR) = true
-is_expr (Node kind.RETURN_EXPR) = true
-is_expr (Node kind.TRY_EXPR) = true
-is_expr (Node kind.TUPLE_EXPR) = true
-is_expr (Node kind.UNDERSCORE_EXPR) = true
-is_expr (Node kind.WHILE_EXPR) = true
-is_expr (Node kind.YEET_EXPR) = true
-is_expr (Node kind.YIELD_EXPR) = true
-is_expr _ = false
+use Rattle.ras_node.specs.Nodes.{kind_at}
+use Rattle.ras_node.specs.KindSets.{by_number}
+use Rattle.ra_ap_syntax.specs.declared.ast.views.expr.Expr.{Expr}
+use Rattle.ra_ap_syntax.specs.declared.ast.views.expr.Expr.TheVariants.{ArrayExpr, AsmExpr, AwaitExpr, BecomeExpr, BinExpr, BlockExpr, BreakExpr, CallExpr, CastExpr, CfgPredExpr, ClosureExpr, ContinueExpr, FieldExpr, ForExpr, FormatArgsExpr, IfExpr, IncludeBytesExpr, IndexExpr, LetExpr, Literal, LoopExpr, MacroExpr, MatchExpr, MethodCallExpr, OffsetOfExpr, ParenExpr, PathExpr, PrefixExpr, RangeExpr, RecordExpr, RefExpr, ReturnExpr, TryExpr, TupleExpr, UnderscoreExpr, WhileExpr, YeetExpr, YieldExpr}
+use Rattle.ras_node.specs.Sets.{is_expr}
 
 abbrev pub expr_node : Expr → Cursor
 expr_node (ArrayExpr it) = it.syntax

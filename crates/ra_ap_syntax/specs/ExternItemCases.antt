@@ -1,21 +1,14 @@
 -- An item of an `extern` block: the kinds that it is of, and the node behind it.
-use Rattle.std.specs.Prelude.{◌≡◌, Bool, true, false}
+use Rattle.std.specs.Prelude.{◌≡◌, true}
 use Rattle.std.proofs.Common.{refl}
-use Rattle.syntax_kind.specs.declared.syntax_kind.SyntaxKind.{SyntaxKind}
 use Rattle.syntax_kind.specs.declared.syntax_kind.SyntaxKind.TheVariants.{Node}
 use Rattle.syntax_kind.specs.declared.syntax_kind.node_kind.NodeKind.TheVariants as kind
 use Rattle.tree_model.specs.Cursor.{Cursor}
-use Rattle.ra_ap_syntax.specs.Nodes.{kind_at}
-use Rattle.ra_ap_syntax.specs.KindSets.{by_number}
-use Rattle.ra_ap_syntax.specs.declared.ast.generated.extern_item.ExternItem.{ExternItem}
-use Rattle.ra_ap_syntax.specs.declared.ast.generated.extern_item.ExternItem.TheVariants.{Static, Fn, MacroCall, TypeAlias}
-
-abbrev pub is_extern_item : SyntaxKind → Bool
-is_extern_item (Node kind.STATIC) = true
-is_extern_item (Node kind.FN) = true
-is_extern_item (Node kind.MACRO_CALL) = true
-is_extern_item (Node kind.TYPE_ALIAS) = true
-is_extern_item _ = false
+use Rattle.ras_node.specs.Nodes.{kind_at}
+use Rattle.ras_node.specs.KindSets.{by_number}
+use Rattle.ra_ap_syntax.specs.declared.ast.views.extern_item.ExternItem.{ExternItem}
+use Rattle.ra_ap_syntax.specs.declared.ast.views.extern_item.ExternItem.TheVariants.{Static, Fn, MacroCall, TypeAlias}
+use Rattle.ras_node.specs.Sets.{is_extern_item}
 
 abbrev pub extern_item_node : ExternItem → Cursor
 extern_item_node (Static it) = it.syntax

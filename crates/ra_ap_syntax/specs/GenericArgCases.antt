@@ -1,21 +1,14 @@
 -- A generic argument: the kinds that it is of, and the node behind it.
-use Rattle.std.specs.Prelude.{◌≡◌, Bool, true, false}
+use Rattle.std.specs.Prelude.{◌≡◌, true}
 use Rattle.std.proofs.Common.{refl}
-use Rattle.syntax_kind.specs.declared.syntax_kind.SyntaxKind.{SyntaxKind}
 use Rattle.syntax_kind.specs.declared.syntax_kind.SyntaxKind.TheVariants.{Node}
 use Rattle.syntax_kind.specs.declared.syntax_kind.node_kind.NodeKind.TheVariants as kind
 use Rattle.tree_model.specs.Cursor.{Cursor}
-use Rattle.ra_ap_syntax.specs.Nodes.{kind_at}
-use Rattle.ra_ap_syntax.specs.KindSets.{by_number}
-use Rattle.ra_ap_syntax.specs.declared.ast.generated.generic_arg.GenericArg.{GenericArg}
-use Rattle.ra_ap_syntax.specs.declared.ast.generated.generic_arg.GenericArg.TheVariants.{TypeArg, AssocTypeArg, LifetimeArg, ConstArg}
-
-abbrev pub is_generic_arg : SyntaxKind → Bool
-is_generic_arg (Node kind.TYPE_ARG) = true
-is_generic_arg (Node kind.ASSOC_TYPE_ARG) = true
-is_generic_arg (Node kind.LIFETIME_ARG) = true
-is_generic_arg (Node kind.CONST_ARG) = true
-is_generic_arg _ = false
+use Rattle.ras_node.specs.Nodes.{kind_at}
+use Rattle.ras_node.specs.KindSets.{by_number}
+use Rattle.ra_ap_syntax.specs.declared.ast.views.generic_arg.GenericArg.{GenericArg}
+use Rattle.ra_ap_syntax.specs.declared.ast.views.generic_arg.GenericArg.TheVariants.{TypeArg, AssocTypeArg, LifetimeArg, ConstArg}
+use Rattle.ras_node.specs.Sets.{is_generic_arg}
 
 abbrev pub generic_arg_node : GenericArg → Cursor
 generic_arg_node (TypeArg it) = it.syntax

@@ -1,20 +1,14 @@
 -- A generic parameter: the kinds that it is of, and the node behind it.
-use Rattle.std.specs.Prelude.{◌≡◌, Bool, true, false}
+use Rattle.std.specs.Prelude.{◌≡◌, true}
 use Rattle.std.proofs.Common.{refl}
-use Rattle.syntax_kind.specs.declared.syntax_kind.SyntaxKind.{SyntaxKind}
 use Rattle.syntax_kind.specs.declared.syntax_kind.SyntaxKind.TheVariants.{Node}
 use Rattle.syntax_kind.specs.declared.syntax_kind.node_kind.NodeKind.TheVariants as kind
 use Rattle.tree_model.specs.Cursor.{Cursor}
-use Rattle.ra_ap_syntax.specs.Nodes.{kind_at}
-use Rattle.ra_ap_syntax.specs.KindSets.{by_number}
-use Rattle.ra_ap_syntax.specs.declared.ast.generated.generic_param.GenericParam.{GenericParam}
-use Rattle.ra_ap_syntax.specs.declared.ast.generated.generic_param.GenericParam.TheVariants.{LifetimeParam, TypeParam, ConstParam}
-
-abbrev pub is_generic_param : SyntaxKind → Bool
-is_generic_param (Node kind.LIFETIME_PARAM) = true
-is_generic_param (Node kind.TYPE_PARAM) = true
-is_generic_param (Node kind.CONST_PARAM) = true
-is_generic_param _ = false
+use Rattle.ras_node.specs.Nodes.{kind_at}
+use Rattle.ras_node.specs.KindSets.{by_number}
+use Rattle.ra_ap_syntax.specs.declared.ast.views.generic_param.GenericParam.{GenericParam}
+use Rattle.ra_ap_syntax.specs.declared.ast.views.generic_param.GenericParam.TheVariants.{LifetimeParam, TypeParam, ConstParam}
+use Rattle.ras_node.specs.Sets.{is_generic_param}
 
 abbrev pub generic_param_node : GenericParam → Cursor
 generic_param_node (LifetimeParam it) = it.syntax

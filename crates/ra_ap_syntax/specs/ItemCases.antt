@@ -1,34 +1,14 @@
 -- An item: of a file, a module or a block: the kinds that it is of, and the node behind it.
-use Rattle.std.specs.Prelude.{◌≡◌, Bool, true, false}
+use Rattle.std.specs.Prelude.{◌≡◌, true}
 use Rattle.std.proofs.Common.{refl}
-use Rattle.syntax_kind.specs.declared.syntax_kind.SyntaxKind.{SyntaxKind}
 use Rattle.syntax_kind.specs.declared.syntax_kind.SyntaxKind.TheVariants.{Node}
 use Rattle.syntax_kind.specs.declared.syntax_kind.node_kind.NodeKind.TheVariants as kind
 use Rattle.tree_model.specs.Cursor.{Cursor}
-use Rattle.ra_ap_syntax.specs.Nodes.{kind_at}
-use Rattle.ra_ap_syntax.specs.KindSets.{by_number}
-use Rattle.ra_ap_syntax.specs.declared.ast.generated.item.Item.{Item}
-use Rattle.ra_ap_syntax.specs.declared.ast.generated.item.Item.TheVariants.{AsmExpr, Const, Enum, ExternBlock, ExternCrate, Fn, Impl, MacroCall, MacroDef, MacroRules, Module, Static, Struct, Trait, TypeAlias, Union, Use}
-
-abbrev pub is_item : SyntaxKind → Bool
-is_item (Node kind.ASM_EXPR) = true
-is_item (Node kind.CONST) = true
-is_item (Node kind.ENUM) = true
-is_item (Node kind.EXTERN_BLOCK) = true
-is_item (Node kind.EXTERN_CRATE) = true
-is_item (Node kind.FN) = true
-is_item (Node kind.IMPL) = true
-is_item (Node kind.MACRO_CALL) = true
-is_item (Node kind.MACRO_DEF) = true
-is_item (Node kind.MACRO_RULES) = true
-is_item (Node kind.MODULE) = true
-is_item (Node kind.STATIC) = true
-is_item (Node kind.STRUCT) = true
-is_item (Node kind.TRAIT) = true
-is_item (Node kind.TYPE_ALIAS) = true
-is_item (Node kind.UNION) = true
-is_item (Node kind.USE) = true
-is_item _ = false
+use Rattle.ras_node.specs.Nodes.{kind_at}
+use Rattle.ras_node.specs.KindSets.{by_number}
+use Rattle.ra_ap_syntax.specs.declared.ast.views.item.Item.{Item}
+use Rattle.ra_ap_syntax.specs.declared.ast.views.item.Item.TheVariants.{AsmExpr, Const, Enum, ExternBlock, ExternCrate, Fn, Impl, MacroCall, MacroDef, MacroRules, Module, Static, Struct, Trait, TypeAlias, Union, Use}
+use Rattle.ras_node.specs.Sets.{is_item}
 
 abbrev pub item_node : Item → Cursor
 item_node (AsmExpr it) = it.syntax

@@ -1,19 +1,14 @@
 -- A definition of a macro: the kinds that it is of, and the node behind it.
-use Rattle.std.specs.Prelude.{◌≡◌, Bool, true, false}
+use Rattle.std.specs.Prelude.{◌≡◌, true}
 use Rattle.std.proofs.Common.{refl}
-use Rattle.syntax_kind.specs.declared.syntax_kind.SyntaxKind.{SyntaxKind}
 use Rattle.syntax_kind.specs.declared.syntax_kind.SyntaxKind.TheVariants.{Node}
 use Rattle.syntax_kind.specs.declared.syntax_kind.node_kind.NodeKind.TheVariants as kind
 use Rattle.tree_model.specs.Cursor.{Cursor}
-use Rattle.ra_ap_syntax.specs.Nodes.{kind_at}
-use Rattle.ra_ap_syntax.specs.KindSets.{by_number}
+use Rattle.ras_node.specs.Nodes.{kind_at}
+use Rattle.ras_node.specs.KindSets.{by_number}
 use Rattle.ra_ap_syntax.specs.declared.ast.node_ext.Macro.{Macro}
 use Rattle.ra_ap_syntax.specs.declared.ast.node_ext.Macro.TheVariants.{MacroRules, MacroDef}
-
-abbrev pub is_macro : SyntaxKind → Bool
-is_macro (Node kind.MACRO_RULES) = true
-is_macro (Node kind.MACRO_DEF) = true
-is_macro _ = false
+use Rattle.ras_node.specs.Sets.{is_macro}
 
 abbrev pub macro_node : Macro → Cursor
 macro_node (MacroRules it) = it.syntax

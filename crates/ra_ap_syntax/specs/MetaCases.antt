@@ -1,23 +1,14 @@
 -- What an attribute says: the kinds that it is of, and the node behind it.
-use Rattle.std.specs.Prelude.{◌≡◌, Bool, true, false}
+use Rattle.std.specs.Prelude.{◌≡◌, true}
 use Rattle.std.proofs.Common.{refl}
-use Rattle.syntax_kind.specs.declared.syntax_kind.SyntaxKind.{SyntaxKind}
 use Rattle.syntax_kind.specs.declared.syntax_kind.SyntaxKind.TheVariants.{Node}
 use Rattle.syntax_kind.specs.declared.syntax_kind.node_kind.NodeKind.TheVariants as kind
 use Rattle.tree_model.specs.Cursor.{Cursor}
-use Rattle.ra_ap_syntax.specs.Nodes.{kind_at}
-use Rattle.ra_ap_syntax.specs.KindSets.{by_number}
-use Rattle.ra_ap_syntax.specs.declared.ast.generated.meta.Meta.{Meta}
-use Rattle.ra_ap_syntax.specs.declared.ast.generated.meta.Meta.TheVariants.{CfgAttrMeta, CfgMeta, KeyValueMeta, PathMeta, TokenTreeMeta, UnsafeMeta}
-
-abbrev pub is_meta : SyntaxKind → Bool
-is_meta (Node kind.CFG_ATTR_META) = true
-is_meta (Node kind.CFG_META) = true
-is_meta (Node kind.KEY_VALUE_META) = true
-is_meta (Node kind.PATH_META) = true
-is_meta (Node kind.TOKEN_TREE_META) = true
-is_meta (Node kind.UNSAFE_META) = true
-is_meta _ = false
+use Rattle.ras_node.specs.Nodes.{kind_at}
+use Rattle.ras_node.specs.KindSets.{by_number}
+use Rattle.ra_ap_syntax.specs.declared.ast.views.meta.Meta.{Meta}
+use Rattle.ra_ap_syntax.specs.declared.ast.views.meta.Meta.TheVariants.{CfgAttrMeta, CfgMeta, KeyValueMeta, PathMeta, TokenTreeMeta, UnsafeMeta}
+use Rattle.ras_node.specs.Sets.{is_meta}
 
 abbrev pub meta_node : Meta → Cursor
 meta_node (CfgAttrMeta it) = it.syntax

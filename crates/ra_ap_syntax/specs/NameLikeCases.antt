@@ -1,20 +1,14 @@
 -- A name where it is used or defined, or a lifetime: the kinds that it is of, and the node behind it.
-use Rattle.std.specs.Prelude.{◌≡◌, Bool, true, false}
+use Rattle.std.specs.Prelude.{◌≡◌, true}
 use Rattle.std.proofs.Common.{refl}
-use Rattle.syntax_kind.specs.declared.syntax_kind.SyntaxKind.{SyntaxKind}
 use Rattle.syntax_kind.specs.declared.syntax_kind.SyntaxKind.TheVariants.{Node}
 use Rattle.syntax_kind.specs.declared.syntax_kind.node_kind.NodeKind.TheVariants as kind
 use Rattle.tree_model.specs.Cursor.{Cursor}
-use Rattle.ra_ap_syntax.specs.Nodes.{kind_at}
-use Rattle.ra_ap_syntax.specs.KindSets.{by_number}
+use Rattle.ras_node.specs.Nodes.{kind_at}
+use Rattle.ras_node.specs.KindSets.{by_number}
 use Rattle.ra_ap_syntax.specs.declared.ast.node_ext.NameLike.{NameLike}
 use Rattle.ra_ap_syntax.specs.declared.ast.node_ext.NameLike.TheVariants.{NameRef, Name, Lifetime}
-
-abbrev pub is_name_like : SyntaxKind → Bool
-is_name_like (Node kind.NAME_REF) = true
-is_name_like (Node kind.NAME) = true
-is_name_like (Node kind.LIFETIME) = true
-is_name_like _ = false
+use Rattle.ras_node.specs.Sets.{is_name_like}
 
 abbrev pub name_like_node : NameLike → Cursor
 name_like_node (NameRef it) = it.syntax

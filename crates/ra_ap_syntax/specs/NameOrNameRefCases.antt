@@ -1,19 +1,14 @@
 -- A name where it is defined or used: the kinds that it is of, and the node behind it.
-use Rattle.std.specs.Prelude.{◌≡◌, Bool, true, false}
+use Rattle.std.specs.Prelude.{◌≡◌, true}
 use Rattle.std.proofs.Common.{refl}
-use Rattle.syntax_kind.specs.declared.syntax_kind.SyntaxKind.{SyntaxKind}
 use Rattle.syntax_kind.specs.declared.syntax_kind.SyntaxKind.TheVariants.{Node}
 use Rattle.syntax_kind.specs.declared.syntax_kind.node_kind.NodeKind.TheVariants as kind
 use Rattle.tree_model.specs.Cursor.{Cursor}
-use Rattle.ra_ap_syntax.specs.Nodes.{kind_at}
-use Rattle.ra_ap_syntax.specs.KindSets.{by_number}
+use Rattle.ras_node.specs.Nodes.{kind_at}
+use Rattle.ras_node.specs.KindSets.{by_number}
 use Rattle.ra_ap_syntax.specs.declared.ast.node_ext.NameOrNameRef.{NameOrNameRef}
 use Rattle.ra_ap_syntax.specs.declared.ast.node_ext.NameOrNameRef.TheVariants.{Name, NameRef}
-
-abbrev pub is_name_or_name_ref : SyntaxKind → Bool
-is_name_or_name_ref (Node kind.NAME) = true
-is_name_or_name_ref (Node kind.NAME_REF) = true
-is_name_or_name_ref _ = false
+use Rattle.ras_node.specs.Sets.{is_name_or_name_ref}
 
 abbrev pub name_or_name_ref_node : NameOrNameRef → Cursor
 name_or_name_ref_node (Name it) = it.syntax

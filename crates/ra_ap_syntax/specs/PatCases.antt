@@ -1,33 +1,14 @@
 -- A pattern: the kinds that it is of, and the node behind it.
-use Rattle.std.specs.Prelude.{◌≡◌, Bool, true, false}
+use Rattle.std.specs.Prelude.{◌≡◌, true}
 use Rattle.std.proofs.Common.{refl}
-use Rattle.syntax_kind.specs.declared.syntax_kind.SyntaxKind.{SyntaxKind}
 use Rattle.syntax_kind.specs.declared.syntax_kind.SyntaxKind.TheVariants.{Node}
 use Rattle.syntax_kind.specs.declared.syntax_kind.node_kind.NodeKind.TheVariants as kind
 use Rattle.tree_model.specs.Cursor.{Cursor}
-use Rattle.ra_ap_syntax.specs.Nodes.{kind_at}
-use Rattle.ra_ap_syntax.specs.KindSets.{by_number}
-use Rattle.ra_ap_syntax.specs.declared.ast.generated.pat.Pat.{Pat}
-use Rattle.ra_ap_syntax.specs.declared.ast.generated.pat.Pat.TheVariants.{BoxPat, ConstBlockPat, IdentPat, LiteralPat, MacroPat, OrPat, ParenPat, PathPat, RangePat, RecordPat, RefPat, RestPat, SlicePat, TuplePat, TupleStructPat, WildcardPat}
-
-abbrev pub is_pat : SyntaxKind → Bool
-is_pat (Node kind.BOX_PAT) = true
-is_pat (Node kind.CONST_BLOCK_PAT) = true
-is_pat (Node kind.IDENT_PAT) = true
-is_pat (Node kind.LITERAL_PAT) = true
-is_pat (Node kind.MACRO_PAT) = true
-is_pat (Node kind.OR_PAT) = true
-is_pat (Node kind.PAREN_PAT) = true
-is_pat (Node kind.PATH_PAT) = true
-is_pat (Node kind.RANGE_PAT) = true
-is_pat (Node kind.RECORD_PAT) = true
-is_pat (Node kind.REF_PAT) = true
-is_pat (Node kind.REST_PAT) = true
-is_pat (Node kind.SLICE_PAT) = true
-is_pat (Node kind.TUPLE_PAT) = true
-is_pat (Node kind.TUPLE_STRUCT_PAT) = true
-is_pat (Node kind.WILDCARD_PAT) = true
-is_pat _ = false
+use Rattle.ras_node.specs.Nodes.{kind_at}
+use Rattle.ras_node.specs.KindSets.{by_number}
+use Rattle.ra_ap_syntax.specs.declared.ast.views.pat.Pat.{Pat}
+use Rattle.ra_ap_syntax.specs.declared.ast.views.pat.Pat.TheVariants.{BoxPat, ConstBlockPat, IdentPat, LiteralPat, MacroPat, OrPat, ParenPat, PathPat, RangePat, RecordPat, RefPat, RestPat, SlicePat, TuplePat, TupleStructPat, WildcardPat}
+use Rattle.ras_node.specs.Sets.{is_pat}
 
 abbrev pub pat_node : Pat → Cursor
 pat_node (BoxPat it) = it.syntax

@@ -1,24 +1,15 @@
 -- A statement: the kinds that it is of, and the node behind it.
-use Rattle.std.specs.Prelude.{◌≡◌, Bool, true, false, ◌||◌}
+use Rattle.std.specs.Prelude.{◌≡◌, true, ◌||◌}
 use Rattle.std.proofs.Common.{refl, ap}
-use Rattle.syntax_kind.specs.declared.syntax_kind.SyntaxKind.{SyntaxKind}
 use Rattle.syntax_kind.specs.declared.syntax_kind.SyntaxKind.TheVariants.{Node}
 use Rattle.syntax_kind.specs.declared.syntax_kind.node_kind.NodeKind.TheVariants as kind
 use Rattle.tree_model.specs.Cursor.{Cursor}
-use Rattle.ra_ap_syntax.specs.Nodes.{kind_at}
-use Rattle.ra_ap_syntax.specs.KindSets.{by_number}
-use Rattle.ra_ap_syntax.specs.ItemCases.{is_item, item_node, item_castable}
-use Rattle.ra_ap_syntax.specs.declared.ast.generated.stmt.Stmt.{Stmt}
-use Rattle.ra_ap_syntax.specs.declared.ast.generated.stmt.Stmt.TheVariants.{ExprStmt, Item, LetStmt}
-
--- the kinds of statements that are no items
-abbrev pub is_own_stmt : SyntaxKind → Bool
-is_own_stmt (Node kind.EXPR_STMT) = true
-is_own_stmt (Node kind.LET_STMT) = true
-is_own_stmt _ = false
-
-abbrev pub is_stmt : SyntaxKind → Bool
-is_stmt k = is_item k || is_own_stmt k
+use Rattle.ras_node.specs.Nodes.{kind_at}
+use Rattle.ras_node.specs.KindSets.{by_number}
+use Rattle.ras_node.specs.Sets.{is_own_stmt, is_stmt}
+use Rattle.ra_ap_syntax.specs.ItemCases.{item_node, item_castable}
+use Rattle.ra_ap_syntax.specs.declared.ast.views.stmt.Stmt.{Stmt}
+use Rattle.ra_ap_syntax.specs.declared.ast.views.stmt.Stmt.TheVariants.{ExprStmt, Item, LetStmt}
 
 abbrev pub stmt_node : Stmt → Cursor
 stmt_node (ExprStmt it) = it.syntax

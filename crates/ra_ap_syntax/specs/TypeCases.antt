@@ -1,31 +1,14 @@
 -- A type: the kinds that it is of, and the node behind it.
-use Rattle.std.specs.Prelude.{◌≡◌, Bool, true, false}
+use Rattle.std.specs.Prelude.{◌≡◌, true}
 use Rattle.std.proofs.Common.{refl}
-use Rattle.syntax_kind.specs.declared.syntax_kind.SyntaxKind.{SyntaxKind}
 use Rattle.syntax_kind.specs.declared.syntax_kind.SyntaxKind.TheVariants.{Node}
 use Rattle.syntax_kind.specs.declared.syntax_kind.node_kind.NodeKind.TheVariants as kind
 use Rattle.tree_model.specs.Cursor.{Cursor}
-use Rattle.ra_ap_syntax.specs.Nodes.{kind_at}
-use Rattle.ra_ap_syntax.specs.KindSets.{by_number}
-use Rattle.ra_ap_syntax.specs.declared.ast.generated.ty.«Type».{«Type»}
-use Rattle.ra_ap_syntax.specs.declared.ast.generated.ty.«Type».TheVariants.{ArrayType, DynTraitType, FnPtrType, ForType, ImplTraitType, InferType, MacroType, NeverType, ParenType, PathType, PtrType, RefType, SliceType, TupleType}
-
-abbrev pub is_ty : SyntaxKind → Bool
-is_ty (Node kind.ARRAY_TYPE) = true
-is_ty (Node kind.DYN_TRAIT_TYPE) = true
-is_ty (Node kind.FN_PTR_TYPE) = true
-is_ty (Node kind.FOR_TYPE) = true
-is_ty (Node kind.IMPL_TRAIT_TYPE) = true
-is_ty (Node kind.INFER_TYPE) = true
-is_ty (Node kind.MACRO_TYPE) = true
-is_ty (Node kind.NEVER_TYPE) = true
-is_ty (Node kind.PAREN_TYPE) = true
-is_ty (Node kind.PATH_TYPE) = true
-is_ty (Node kind.PTR_TYPE) = true
-is_ty (Node kind.REF_TYPE) = true
-is_ty (Node kind.SLICE_TYPE) = true
-is_ty (Node kind.TUPLE_TYPE) = true
-is_ty _ = false
+use Rattle.ras_node.specs.Nodes.{kind_at}
+use Rattle.ras_node.specs.KindSets.{by_number}
+use Rattle.ra_ap_syntax.specs.declared.ast.views.ty.«Type».{«Type»}
+use Rattle.ra_ap_syntax.specs.declared.ast.views.ty.«Type».TheVariants.{ArrayType, DynTraitType, FnPtrType, ForType, ImplTraitType, InferType, MacroType, NeverType, ParenType, PathType, PtrType, RefType, SliceType, TupleType}
+use Rattle.ras_node.specs.Sets.{is_ty}
 
 abbrev pub ty_node : «Type» → Cursor
 ty_node (ArrayType it) = it.syntax

@@ -1,19 +1,14 @@
 -- A type parameter or a constant parameter: the kinds that it is of, and the node behind it.
-use Rattle.std.specs.Prelude.{◌≡◌, Bool, true, false}
+use Rattle.std.specs.Prelude.{◌≡◌, true}
 use Rattle.std.proofs.Common.{refl}
-use Rattle.syntax_kind.specs.declared.syntax_kind.SyntaxKind.{SyntaxKind}
 use Rattle.syntax_kind.specs.declared.syntax_kind.SyntaxKind.TheVariants.{Node}
 use Rattle.syntax_kind.specs.declared.syntax_kind.node_kind.NodeKind.TheVariants as kind
 use Rattle.tree_model.specs.Cursor.{Cursor}
-use Rattle.ra_ap_syntax.specs.Nodes.{kind_at}
-use Rattle.ra_ap_syntax.specs.KindSets.{by_number}
+use Rattle.ras_node.specs.Nodes.{kind_at}
+use Rattle.ras_node.specs.KindSets.{by_number}
 use Rattle.ra_ap_syntax.specs.declared.ast.node_ext.TypeOrConstParam.{TypeOrConstParam}
 use Rattle.ra_ap_syntax.specs.declared.ast.node_ext.TypeOrConstParam.TheVariants.{Ty, Const}
-
-abbrev pub is_type_or_const_param : SyntaxKind → Bool
-is_type_or_const_param (Node kind.TYPE_PARAM) = true
-is_type_or_const_param (Node kind.CONST_PARAM) = true
-is_type_or_const_param _ = false
+use Rattle.ras_node.specs.Sets.{is_type_or_const_param}
 
 abbrev pub type_or_const_param_node : TypeOrConstParam → Cursor
 type_or_const_param_node (Ty it) = it.syntax

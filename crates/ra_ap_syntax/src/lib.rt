@@ -1,10 +1,8 @@
 //! Typed syntax trees of Rust: views of the nodes and tokens of `lossless_tree` by what they are.
 #![tactic(auto)]
 
-pub mod algo;
 pub mod ast;
 pub mod laws;
-pub mod ptr;
 
 pub use ast::{AstNode, AstToken};
 pub use literal_escape as unescape;
@@ -14,11 +12,13 @@ pub use lossless_tree::{
     SyntaxElementSiblings, SyntaxKind, SyntaxNode, SyntaxNodeChildren, SyntaxNodeSiblings,
     SyntaxText, SyntaxToken, T, TextRange, TextSize, TokenAtOffset, TreeBuilder, WalkEvent,
 };
-pub use ptr::{AstPtr, SyntaxNodePtr};
+pub use ras_search::ptr::{AstPtr, SyntaxNodePtr};
+pub use ras_search::{algo, ptr};
 
 /// Matches a node against views: the first that casts, and whose guard holds where it has one.
 ///
-/// `match_ast! { match node { ast::CallExpr(it) => a, ast::Item(it) if guard => b, _ => c } }` leaves the node where it is.
+/// `match_ast! { match node { ast::CallExpr(it) => a, ast::Item(it) if guard => b, _ => c } }` leaves the node where it is,
+/// and evaluates what it matches once.
 #[macro_export]
 macro_rules! match_ast {
     (match $node:ident { $($arms:tt)* }) => { $crate::match_ast!(match ($node) { $($arms)* }) };
@@ -26,7 +26,11 @@ macro_rules! match_ast {
         $( $( $path:ident )::+ ($it:pat) $(if $guard:expr)? => $res:expr, )*
         _ => $rest:expr $(,)?
     }) => {
-        $( if let Some($it) = $crate::ast::cast_ref::<$($path)::+>(&$node) $(&& $guard)? { $res } else )*
-        { $rest }
+        match &$node {
+            matched => {
+                $( if let Some($it) = $crate::ast::cast_ref::<$($path)::+>(matched) $(&& $guard)? { $res } else )*
+                { $rest }
+            }
+        }
     };
 }

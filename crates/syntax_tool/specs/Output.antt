@@ -7,7 +7,7 @@ use Rattle.lossless_tree.specs.Dump.{dump_of}
 use Rattle.tree_model.specs.declared.error.FinishError.{FinishError}
 use Rattle.tree_model.specs.declared.error.FinishError.TheVariants as finish
 use Rattle.syntax_tool.specs.declared.refusal.Refusal.{Refusal}
-use Rattle.syntax_tool.specs.declared.refusal.Refusal.TheVariants.{Read, NotUtf8, BadLine, BadKind, TooLong, OverClosed, Unclosed, Empty, ManyRoots, TokenRoot, Memory}
+use Rattle.syntax_tool.specs.declared.refusal.Refusal.TheVariants.{Read, NotUtf8, BadLine, BadKind, TooLong, OverClosed, Unclosed, Empty, ManyRoots, TokenRoot, ErrorPastText, Memory}
 use Rattle.syntax_tool.specs.Lines.{lines_of, ReadsLines}
 
 -- the program's name of a refusal of `finish`
@@ -18,6 +18,7 @@ refusal_of_finish finish.Unclosed = Unclosed
 refusal_of_finish finish.Empty = Empty
 refusal_of_finish finish.ManyRoots = ManyRoots
 refusal_of_finish finish.TokenRoot = TokenRoot
+refusal_of_finish finish.ErrorPastText = ErrorPastText
 refusal_of_finish finish.Memory = Memory
 
 abbrev pub refusal_name : Refusal → List ℕ
@@ -31,6 +32,7 @@ refusal_name Unclosed = codes "Unclosed"
 refusal_name Empty = codes "Empty"
 refusal_name ManyRoots = codes "ManyRoots"
 refusal_name TokenRoot = codes "TokenRoot"
+refusal_name ErrorPastText = codes "ErrorPastText"
 refusal_name Memory = codes "Memory"
 
 -- the events of the lines build a tree, which is dumped; else the first refusal of `finish` is named

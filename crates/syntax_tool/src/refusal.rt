@@ -27,6 +27,8 @@ pub enum Refusal {
     ManyRoots,
     /// The one top element is a token.
     TokenRoot,
+    /// An error's position is past the text.
+    ErrorPastText,
     /// Want of memory.
     Memory,
 }
@@ -49,6 +51,7 @@ impl Refusal {
             Refusal::Empty => "refused: Empty\n",
             Refusal::ManyRoots => "refused: ManyRoots\n",
             Refusal::TokenRoot => "refused: TokenRoot\n",
+            Refusal::ErrorPastText => "refused: ErrorPastText\n",
             Refusal::Memory => "refused: Memory\n",
         }
     }
@@ -68,6 +71,7 @@ impl From<FinishError> for Refusal {
             FinishError::Empty => Refusal::Empty,
             FinishError::ManyRoots => Refusal::ManyRoots,
             FinishError::TokenRoot => Refusal::TokenRoot,
+            FinishError::ErrorPastText => Refusal::ErrorPastText,
             FinishError::Memory => Refusal::Memory,
         }
     }

@@ -4,7 +4,7 @@ use Rattle.std.specs.Prelude.{Option, None, Some, nat_lt, if◌then◌else◌, M
 use Rattle.std.proofs.lemmas.Bool.Decides.{nat_tests}
 use native.Mathlib.Decide.{dec_lt}
 use Rattle.tree_model.specs.declared.error.FinishError.{FinishError}
-use Rattle.tree_model.specs.declared.error.FinishError.TheVariants.{TooLong, OverClosed, Unclosed, Empty, ManyRoots, TokenRoot, Memory}
+use Rattle.tree_model.specs.declared.error.FinishError.TheVariants.{TooLong, OverClosed, Unclosed, Empty, ManyRoots, TokenRoot, ErrorPastText, Memory}
 use Rattle.tree_model.specs.Tree.{node, token, Forest, nil, cons}
 use Rattle.tree_model.specs.Events.{Event, enter, leaf, exit, Builds, text_len, open_after, forest_of, root_refusal, balance_refusal, enters, exits, HasOverClosedFront, Holds, refusal_number, IsFirstRefusal, IsAccepted, RefusalsHold}
 use Rattle.tree_model.proofs.Balance.{builds-events_of, builds_one, events_of-forest_of}
@@ -56,6 +56,7 @@ module _ (es : List Event) (short : text_len es < 2 ^ 32) where
       earlier Empty lt k = absurd (omega (arith, lt))
       earlier ManyRoots lt k = absurd (omega (arith, lt))
       earlier TokenRoot lt k = absurd (omega (arith, lt))
+      earlier ErrorPastText lt k = k
       earlier Memory lt k = k
 
   unclosed : (m : ℕ) → open_after 0 es ≡ Some (suc m) → IsFirstRefusal es Unclosed
@@ -68,6 +69,7 @@ module _ (es : List Event) (short : text_len es < 2 ^ 32) where
       earlier Empty lt k = absurd (omega (arith, lt))
       earlier ManyRoots lt k = absurd (omega (arith, lt))
       earlier TokenRoot lt k = absurd (omega (arith, lt))
+      earlier ErrorPastText lt k = k
       earlier Memory lt k = k
 
   module _ (h : open_after 0 es ≡ Some 0) where
@@ -79,6 +81,7 @@ module _ (es : List Event) (short : text_len es < 2 ^ 32) where
     balanced Empty lt k = absurd (omega (arith, lt))
     balanced ManyRoots lt k = absurd (omega (arith, lt))
     balanced TokenRoot lt k = absurd (omega (arith, lt))
+    balanced ErrorPastText lt k = k
     balanced Memory lt k = k
 
     by_root : (f : Forest) → Builds es f → Answered es (root_refusal f)
@@ -93,6 +96,7 @@ module _ (es : List Event) (short : text_len es < 2 ^ 32) where
         earlier Empty lt w = (let no : cons (token k t) nil ≡ nil = builds_one b w in cc)
         earlier ManyRoots lt w = (let no : cons (token k t) nil ≡ cons w.first (cons w.second w.later) = builds_one b w.builds in cc)
         earlier TokenRoot lt w = absurd (omega (arith, lt))
+        earlier ErrorPastText lt w = w
         earlier Memory lt w = w
     by_root (cons (node k c) nil) b = record { short = short; root = node k c; builds = (b, tt) }
     by_root (cons t (cons u r)) b = record { holds = record { first = t; second = u; later = r; builds = b }; first = earlier }
@@ -104,6 +108,7 @@ module _ (es : List Event) (short : text_len es < 2 ^ 32) where
         earlier Empty lt w = (let no : cons t (cons u r) ≡ nil = builds_one b w in cc)
         earlier ManyRoots lt w = absurd (omega (arith, lt))
         earlier TokenRoot lt w = absurd (omega (arith, lt))
+        earlier ErrorPastText lt w = w
         earlier Memory lt w = w
 
   by_balance : (o : Option ℕ) → open_after 0 es ≡ o → Answered es (balance_refusal o es)
@@ -122,6 +127,7 @@ too_long es long = record { holds = long; first = earlier }
     earlier Empty lt k = absurd (omega (arith, lt))
     earlier ManyRoots lt k = absurd (omega (arith, lt))
     earlier TokenRoot lt k = absurd (omega (arith, lt))
+    earlier ErrorPastText lt k = k
     earlier Memory lt k = k
 
 pub refusals_hold : RefusalsHold

@@ -123,7 +123,7 @@ node_pushed whole n h r old middle new first to byte up is_node is_r is_first is
     (ap (λ s. record { from_row = n; to_row = to; from_byte = s; to_byte = byte }) is_start) is_first (ap (λ r. r.end) is_r ∙ end_of_row whole n h) refl
     (is_new ∙ ap (λ l. l ++ map (moved_row by) (rows_between whole first r.end)) (is_middle ∙ ap (λ k. old ++ record { kind = k; is_token = false; start = byte; end = (r.end - n) + to; parent = up } ∷ []) is_kind))
 
-pub fits_inside : (whole : Tree) (n k : ℕ) (r : Row) (to byte : ℕ) → n < size whole → r ≡ row_at whole n → to + size (tree_at whole n) < 2 ^ 31 → byte + length (text (tree_at whole n)) < 2 ^ 32
+pub fits_inside : (whole : Tree) (n k : ℕ) (r : Row) (to byte : ℕ) → n < size whole → r ≡ row_at whole n → to + size (tree_at whole n) < 2 ^ 63 → byte + length (text (tree_at whole n)) < 2 ^ 32
     → n ≤ k → k < r.end → MoveFits (record { from_row = n; to_row = to; from_byte = r.start; to_byte = byte }) (row_at whole k)
 fits_inside whole n k r to byte h is_r rows_fit bytes_fit later lt =
     let is_end = ap (λ r. r.end) is_r ∙ end_of_row whole n h in
@@ -148,7 +148,6 @@ subtree_shown whole n all new s part h is_node w is_new is_part =
       text_is = is_part;
       texts_are_utf8 = subtree_utf8 (at_row whole n h) w.texts_are_utf8;
       short = omega (arith, ap length is_part, v.end_in_text, w.short);
-      few = omega (arith, within_rows whole n h, w.few);
       root_is_node = is_node;
     }
 
@@ -167,7 +166,7 @@ pub length-spliced : (whole : Tree) (n : ℕ) (new : List ℕ) → n < size whol
     → length (splice (text whole) (start_at whole n) (end_at whole n) new) ≡ (length (text whole) - length (text (tree_at whole n))) + length new
 length-spliced whole n new h = omega (arith, length-splice (text whole) new (start_at whole n) (end_at whole n) (omega arith) (within_text whole n h), within_text whole n h)
 
-pub fits_before : (whole : Tree) (n k e count : ℕ) → n < size whole → e ≡ n + size (tree_at whole n) → (size whole - size (tree_at whole n)) + count < 2 ^ 31 → length (text whole) < 2 ^ 32
+pub fits_before : (whole : Tree) (n k e count : ℕ) → n < size whole → e ≡ n + size (tree_at whole n) → (size whole - size (tree_at whole n)) + count < 2 ^ 63 → length (text whole) < 2 ^ 32
     → k < n → MoveFits (shift_from e (n + count) 0 0) (row_at whole k)
 fits_before whole n k e count h is_e rows_fit short lt =
     let in_range : k < size whole = omega arith in
@@ -179,7 +178,7 @@ fits_before whole n k e count h is_e rows_fit short lt =
       parent_fits = omega (arith, parent_is_earlier whole k in_range, is_e, within_rows whole n h);
     }
 
-pub fits_behind : (whole : Tree) (n k e count b bytes : ℕ) → n < size whole → e ≡ n + size (tree_at whole n) → (size whole - size (tree_at whole n)) + count < 2 ^ 31
+pub fits_behind : (whole : Tree) (n k e count b bytes : ℕ) → n < size whole → e ≡ n + size (tree_at whole n) → (size whole - size (tree_at whole n)) + count < 2 ^ 63
     → (length (text whole) - length (text (tree_at whole n))) + bytes < 2 ^ 32 → b ≡ end_at whole n
     → e ≤ k → k < size whole → (d : ℕ) → d ≡ start_at whole n + bytes → MoveFits (shift_from e (n + count) b d) (row_at whole k)
 fits_behind whole n k e count b bytes h is_e rows_fit bytes_fit is_b later in_range d is_d =
@@ -242,24 +241,16 @@ root_after_node (token k x) p u h j = absurd h
 root_after_node (node k c) [] u h j = j
 root_after_node (node k c) (i ∷ p) u h j = tt
 
--- how many rows the tree with a piece replaced has
-size-replaced : (whole : Tree) (n : ℕ) (u : Tree) → n < size whole → size (replace whole (place_at whole n) u) ≡ (size whole - size (tree_at whole n)) + size u
-size-replaced whole n u h =
-    let t = tree_at whole n in
-    let w = replaced (at_row whole n h) u 0 0 0 ((0 + n) + size t) ((0 + n) + size u) ((0 + start_at whole n) + length (text t)) ((0 + start_at whole n) + length (text u)) (omega arith) refl refl refl refl in
-    omega (arith, w.sizes, within_rows whole n h, forest_size-cons whole nil, forest_size-cons (replace whole (place_at whole n) u) nil)
-
 -- the table of the tree with a piece replaced
 pub replaced_shown : (whole : Tree) (n : ℕ) (u : Tree) (all new : List Row) (s spliced_s : List ℕ) → n < size whole → Represents all s whole
     → new ≡ rows_of (cons (replace whole (place_at whole n) u) nil) 0 0 0
     → spliced_s ≡ splice (text whole) (start_at whole n) (end_at whole n) (text u) → length (splice (text whole) (start_at whole n) (end_at whole n) (text u)) < 2 ^ 32
-    → (size whole - size (tree_at whole n)) + size u < 2 ^ 31 → TextsAreUtf8 (cons u nil) → IsNode (replace whole (place_at whole n) u) → Represents new spliced_s (replace whole (place_at whole n) u)
-replaced_shown whole n u all new s spliced_s h w is_new is_text fits few utf8 is_node = record {
+    → TextsAreUtf8 (cons u nil) → IsNode (replace whole (place_at whole n) u) → Represents new spliced_s (replace whole (place_at whole n) u)
+replaced_shown whole n u all new s spliced_s h w is_new is_text fits utf8 is_node = record {
   rows_are = is_new;
   text_is = is_text ∙ sym (spliced whole (place_at whole n) u (within_at whole n h));
   texts_are_utf8 = replaced_utf8 (at_row whole n h) u w.texts_are_utf8 utf8;
   short = omega (arith, ap length is_text);
-  few = omega (arith, few, size-replaced whole n u h);
   root_is_node = is_node;
 }
 

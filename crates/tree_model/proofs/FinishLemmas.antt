@@ -2,7 +2,7 @@
 use Rattle.std.proofs.Common.{◌≡◌, ℕ, zero, suc, ◌<◌, ◌≤◌, List, [], ◌∷◌, ◌++◌, length, take, drop, map, refl, sym, ap, subst, ◌∙◌, arith, append_assoc, append-nil}
 use Rattle.std.specs.Prelude.{Option, None, Some, IsUtf8, ◌^◌, nat_lt, if◌then◌else◌}
 use Rattle.std.proofs.lemmas.List.{length-take-le, take-append-drop, length-drop}
-use Rattle.tree_model.proofs.At.{cong₂, length-rows_of}
+use Rattle.tree_model.proofs.At.{cong₂}
 use Rattle.std.proofs.lemmas.Bool.Decides.{nat_tests}
 use Rattle.syntax_kind.specs.declared.syntax_kind.SyntaxKind.{SyntaxKind}
 use Rattle.tree_model.specs.declared.error.FinishError.{FinishError}
@@ -87,7 +87,7 @@ step_text_len (Enter k ∷ es) s h = step_text_len es s h
 step_text_len (Token k n ∷ es) s h = omega (arith, step_text_len es (drop n s) h.2, length-drop n s, h.0)
 step_text_len (Exit ∷ es) s h = step_text_len es s h
 
-event_text_len : (es : List Step) (s : List ℕ) → TextsFit es s → events.text_len (events_from es s) ≡ length s
+pub event_text_len : (es : List Step) (s : List ℕ) → TextsFit es s → events.text_len (events_from es s) ≡ length s
 event_text_len [] s h = sym (ap length h)
 event_text_len (Enter k ∷ es) s h = event_text_len es s h
 event_text_len (Token k n ∷ es) s h = omega (arith, event_text_len es (drop n s) h.2, length-drop n s, length-take-le n s h.0, h.0)
@@ -190,8 +190,8 @@ module _ (steps : List Step) (s : List ℕ) (w : Ready steps s) (rows : List Row
   pub tree_built : tree_of_rows rows s ≡ node w.kind w.children
   tree_built = tree_of_rows-rows_of (node w.kind w.children) rows s is w.text_is
 
-  pub table_built : length s < 2 ^ 32 → length rows < 2 ^ 31 → Represents rows s (tree_of_rows rows s)
-  table_built short few = table_of (node w.kind w.children) rows s (record { rows_are = is; text_is = w.text_is; texts_are_utf8 = w.utf8; short = short; few = omega (arith, few, ap length is, length-rows_of (cons (node w.kind w.children) nil) 0 0 0); root_is_node = tt })
+  pub table_built : length s < 2 ^ 32 → Represents rows s (tree_of_rows rows s)
+  table_built short = table_of (node w.kind w.children) rows s (record { rows_are = is; text_is = w.text_is; texts_are_utf8 = w.utf8; short = short; root_is_node = tt })
 
   pub node_built : BuildsNode (events_from steps s) (tree_of_rows rows s)
   node_built = subst (BuildsNode (events_from steps s)) (sym tree_built) (subst (λ es. Builds es (cons (node w.kind w.children) nil)) (sym w.events_are) (builds-events_of (cons (node w.kind w.children) nil)), tt)

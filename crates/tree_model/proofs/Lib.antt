@@ -32,3 +32,4 @@ pub mod RangeLaws
 pub mod TableLemmas
 pub mod Texts
 pub mod WalkLemmas
+pub mod Smaller

@@ -6,11 +6,11 @@ use Rattle.tree_model.specs.Cursor.{Cursor, at_place, focus, range_start, range_
 use Rattle.tree_model.specs.CursorLaws.{FollowEachOther, ChildrenFillNodes}
 use Rattle.tree_model.proofs.Texts.{forest_text-cons}
 
-subtree-child : (t : Tree) (p : Place) (i : ℕ) → subtree t (p ++ i ∷ []) ≡ child_at (forest_of_children (subtree t p)) i
+pub subtree-child : (t : Tree) (p : Place) (i : ℕ) → subtree t (p ++ i ∷ []) ≡ child_at (forest_of_children (subtree t p)) i
 subtree-child t [] i = refl
 subtree-child t (j ∷ p) i = subtree-child (child_at (forest_of_children t) j) p i
 
-start-child : (t : Tree) (p : Place) (i : ℕ) → start t (p ++ i ∷ []) ≡ start t p + bytes_before (forest_of_children (subtree t p)) i
+pub start-child : (t : Tree) (p : Place) (i : ℕ) → start t (p ++ i ∷ []) ≡ start t p + bytes_before (forest_of_children (subtree t p)) i
 start-child t [] i = omega arith
 start-child t (j ∷ p) i = omega (arith, start-child (child_at (forest_of_children t) j) p i)
 

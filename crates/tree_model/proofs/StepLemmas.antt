@@ -1,12 +1,13 @@
 -- Parent, first child and next sibling, by row numbers.
 use Rattle.std.proofs.Common.{◌≡◌, ℕ, zero, suc, ◌+◌, ◌-◌, ◌<◌, ◌≤◌, ◌⊎◌, inl, inr, [], ◌∷◌, ◌++◌, refl, sym, ap, subst, ◌∙◌, arith}
-use Rattle.std.specs.Prelude.{None, Some, nat_lt, if◌then◌else◌}
+use Rattle.std.specs.Prelude.{None, Some, nat_lt, if◌then◌else◌, ◌↔◌}
 use Rattle.std.proofs.lemmas.Bool.Decides.{nat_tests}
 use Rattle.std.proofs.Common.{true, false}
 use Rattle.tree_model.specs.declared.rows.Row.{Row}
 use Rattle.tree_model.specs.Tree.{IsNode, IsToken, kind_of}
 use Rattle.tree_model.specs.Tree.{Tree, node, token, nil, cons, size, forest_size, Place, subtree, child_at, child_count, forest_of_children, parent_place, first_child_place, sibling_count, next_sibling_place}
 use Rattle.tree_model.specs.Rows.{row_at, row_of, place_at, tree_at, start_at, no_row}
+use Rattle.tree_model.specs.RowSteps.{IsNearestOver}
 use Rattle.tree_model.proofs.At.{At, up_of, here, Inner, inner, lift, located, earlier_ends, next_top, At-unique, At-same_row, At-fits, subtree-At, some_row, row-At, forest_size-cons, place_above-append, last_position-append, below_or_after}
 use Rattle.tree_model.proofs.TableLemmas.{at_row, up_at, row_at-is, row_of-end, row_of-start, row_of-parent}
 
@@ -114,6 +115,32 @@ root_tree (node k c) = refl
 
 root_end : (whole : Tree) → (row_at whole 0).end ≡ size whole
 root_end whole = end_of_row whole 0 (some_row whole) ∙ omega (arith, ap size (root_tree whole))
+
+-- the parent is the nearest earlier row whose subtree reaches past the row
+pub parent_is_nearest : (whole : Tree) (n q : ℕ) → 0 < n → n < size whole → ((row_at whole n).parent ≡ q) ↔ IsNearestOver whole n q
+parent_is_nearest whole n q inner_row h =
+    elim (hangs whole n h) [
+      | inl root ↦ absurd (omega (arith, root.1 0 inner_row, root_end whole, h))
+      | inr w ↦ (
+        (λ is.
+            let same : q ≡ w.q = sym is ∙ w.up_is in
+            record {
+              earlier = omega (arith, same, w.earlier);
+              reaches = omega (arith, ap (λ k. (row_at whole k).end) same, w.reaches, some_row (tree_at whole n));
+              between = λ k later before. w.between k (omega (arith, same, later)) before;
+            }),
+        (λ v.
+            let same : q ≡ w.q =
+            elim (below_or_after q w.q) [
+              | inl less ↦ absurd (omega (arith, v.between w.q less w.earlier, w.reaches, some_row (tree_at whole n)))
+              | inr more ↦ elim (below_or_after w.q q) [
+                | inl less ↦ absurd (omega (arith, w.between q less v.earlier, v.reaches))
+                | inr less ↦ omega (arith, more.1, less.1)
+              ]
+            ] in
+            w.up_is ∙ sym same),
+      )
+    ]
 
 -- the parent, as the row tells it
 pub record Parent (whole : Tree) (n q : ℕ) : Type 0 where

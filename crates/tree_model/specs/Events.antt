@@ -4,7 +4,7 @@ use Rattle.std.specs.Prelude.{◌≡◌, ℕ, zero, suc, ◌+◌, ◌<◌, ◌^�
 use Rattle.syntax_kind.specs.declared.syntax_kind.SyntaxKind.{SyntaxKind}
 use Rattle.tree_model.specs.Tree.{Tree, node, token, Forest, nil, cons, IsNode}
 use Rattle.tree_model.specs.declared.error.FinishError.{FinishError}
-use Rattle.tree_model.specs.declared.error.FinishError.TheVariants.{TooLong, OverClosed, Unclosed, Empty, ManyRoots, TokenRoot, Memory}
+use Rattle.tree_model.specs.declared.error.FinishError.TheVariants.{TooLong, OverClosed, Unclosed, Empty, ManyRoots, TokenRoot, ErrorPastText, Memory}
 
 pub data Event : Type 0 where
   enter : SyntaxKind → Event
@@ -86,6 +86,7 @@ refusal_of Unclosed = Some Unclosed
 refusal_of Empty = Some Empty
 refusal_of ManyRoots = Some ManyRoots
 refusal_of TokenRoot = Some TokenRoot
+refusal_of ErrorPastText = Some ErrorPastText
 refusal_of Memory = None
 
 -- the tree is the one node that the events build
@@ -125,7 +126,7 @@ pub record BuildsToken (es : List Event) : Type 0 where
   pub its_text : List ℕ
   pub builds : Builds es (cons (token kind its_text) nil)
 
--- what each refusal says of the events; want of memory says nothing of them
+-- what each refusal says of the events; an error past the text, and want of memory, say nothing of them
 abbrev pub Holds : FinishError → List Event → Type 0
 Holds TooLong es = 2 ^ 32 ≤ text_len es
 Holds OverClosed es = HasOverClosedFront 0 es
@@ -133,6 +134,7 @@ Holds Unclosed es = exits es < enters es
 Holds Empty es = Builds es nil
 Holds ManyRoots es = BuildsMany es
 Holds TokenRoot es = BuildsToken es
+Holds ErrorPastText es = ⊥
 Holds Memory es = ⊥
 
 -- the order in which the refusals are looked at
@@ -143,6 +145,7 @@ refusal_number Unclosed = 3
 refusal_number Empty = 4
 refusal_number ManyRoots = 5
 refusal_number TokenRoot = 6
+refusal_number ErrorPastText = 7
 refusal_number Memory = 8
 
 -- the refusal holds, and none before it

@@ -16,8 +16,8 @@ moved_row by r = record { kind = r.kind; is_token = r.is_token; start = (r.start
 pub record MoveFits (by : Shift) (r : Row) : Type 0 where
   pub byte_is_later : by.from_byte ≤ r.start
   pub byte_fits : (r.start - by.from_byte) + by.to_byte < 2 ^ 32
-  pub end_fits : (r.end - by.from_row) + by.to_row < 2 ^ 31
-  pub parent_fits : (r.parent - by.from_row) + by.to_row < 2 ^ 31
+  pub end_fits : (r.end - by.from_row) + by.to_row < 2 ^ 63
+  pub parent_fits : (r.parent - by.from_row) + by.to_row < 2 ^ 63
 
 -- rows a to b of a tree, b left out
 abbrev pub rows_between : Tree → ℕ → ℕ → List Row

@@ -1,5 +1,5 @@
 -- What row calls on steps answer, in rows. No contract outside this crate names these.
-use Rattle.std.specs.Prelude.{◌≡◌, ℕ, ◌+◌, ◌<◌, ◌≤◌, Option, MatchOption}
+use Rattle.std.specs.Prelude.{◌≡◌, ℕ, ◌+◌, ◌<◌, ◌≤◌, Option, MatchOption, ◌↔◌}
 use Rattle.tree_model.specs.Tree.{Tree, size, IsToken, IsNode}
 use Rattle.tree_model.specs.Rows.{row_at, tree_at}
 
@@ -15,6 +15,16 @@ pub record IsChildOver (tree : Tree) (q n c : ℕ) : Type 0 where
   pub from : c ≤ n
   pub reaches : n < (row_at tree c).end
   pub parent_is : (row_at tree c).parent ≡ q
+
+-- row q is the nearest row before row n whose subtree reaches past it
+pub record IsNearestOver (tree : Tree) (n q : ℕ) : Type 0 where
+  pub earlier : q < n
+  pub reaches : n < (row_at tree q).end
+  pub between : (k : ℕ) → q < k → k < n → (row_at tree k).end ≤ n
+
+-- the parent of each row but the root's is the nearest earlier row whose subtree reaches past it, and no other row is
+abbrev pub ParentsAreNearest : Type 0
+ParentsAreNearest = (tree : Tree) (n q : ℕ) → 0 < n → n < size tree → ((row_at tree n).parent ≡ q) ↔ IsNearestOver tree n q
 
 -- the first token among the rows from a to b, if there is one; and the last
 abbrev pub NoTokens : Tree → ℕ → ℕ → Type 0

@@ -63,7 +63,6 @@ pub record Represents (rows : List Row) (s : List ℕ) (tree : Tree) : Type 0 wh
   pub text_is : s ≡ text tree
   pub texts_are_utf8 : TextsAreUtf8 (cons tree nil)
   pub short : length s < 2 ^ 32
-  pub few : size tree < 2 ^ 31
   pub root_is_node : IsNode tree
 
 -- what is read past the last row

@@ -1,7 +1,7 @@
 -- Refusals 2 to 6, read from left to right.
 use Rattle.std.specs.Prelude.{ℕ, zero, suc, List, [], ◌∷◌, Bool, true, false, Option, None, Some}
 use Rattle.tree_model.specs.declared.error.FinishError.{FinishError}
-use Rattle.tree_model.specs.declared.error.FinishError.TheVariants.{TooLong, OverClosed, Unclosed, Empty, ManyRoots, TokenRoot, Memory}
+use Rattle.tree_model.specs.declared.error.FinishError.TheVariants.{TooLong, OverClosed, Unclosed, Empty, ManyRoots, TokenRoot, ErrorPastText, Memory}
 use Rattle.tree_model.specs.Events.{Event, enter, leaf, exit}
 
 -- the refusal for the top elements so far, after one more
@@ -13,6 +13,7 @@ after_top (Some OverClosed) b = Some ManyRoots
 after_top (Some Unclosed) b = Some ManyRoots
 after_top (Some ManyRoots) b = Some ManyRoots
 after_top (Some TokenRoot) b = Some ManyRoots
+after_top (Some ErrorPastText) b = Some ManyRoots
 after_top (Some Memory) b = Some ManyRoots
 after_top None b = Some ManyRoots
 

@@ -25,7 +25,10 @@ pub enum FinishError {
     /// The one top element is a token.
     #[error("the root is a token")]
     TokenRoot,
-    /// Want of memory, or of numbers for more than 2,147,483,647 nodes and tokens. It comes after every other refusal.
+    /// An error's position is past the text. Only a builder that takes errors refuses so; `TreeBuilder` never does.
+    #[error("an error is past the text")]
+    ErrorPastText,
+    /// Want of memory. It comes after every other refusal.
     #[error("out of memory")]
     Memory,
 }
@@ -36,7 +39,7 @@ pub enum ReplaceError {
     /// The new tree's text would be longer than 4,294,967,295 bytes.
     #[error("the text is longer than 4294967295 bytes")]
     TooLong,
-    /// Want of memory, or of numbers for more than 2,147,483,647 nodes and tokens. It comes after the other refusal.
+    /// Want of memory. It comes after the other refusal.
     #[error("out of memory")]
     Memory,
 }

@@ -75,19 +75,18 @@ fn row_count(steps: &[Step]) -> usize
     count
 }
 
-/// The rows of the steps of a forest. More than 2,147,483,647 of them are want of memory.
+/// The rows of the steps of a forest.
 pub fn build_rows(alloc: Global, steps: &[Step]) -> Result<Rows, AllocError>
     requires { text_len steps.now < 2 ^ 32 }
-    ensures rows { IfOk result (λ rows. (f : Forest) → steps.now ≡ map step_of (events_of f) → rows ≡ rows_of f 0 0 0) }
-    ensures few { IfOk result (λ rows. length rows < 2 ^ 31) }
+    ensures { IfOk result (λ rows. (f : Forest) → steps.now ≡ map step_of (events_of f) → rows ≡ rows_of f 0 0 0) }
 {
     let mut rows = Rows::with_capacity(alloc, row_count(steps))?;
-    let mut innermost: u32 = 0;
+    let mut innermost: usize = 0;
     let mut at: u32 = 0;
     for step in steps {
         match *step {
             Step::Enter(kind) => {
-                let row = rows.len() as u32;
+                let row = rows.len();
                 rows.push(Row {
                     kind,
                     is_token: false,
@@ -98,7 +97,7 @@ pub fn build_rows(alloc: Global, steps: &[Step]) -> Result<Rows, AllocError>
                 innermost = row;
             }
             Step::Token(kind, len) => {
-                let end = rows.len() as u32 + 1;
+                let end = rows.len() + 1;
                 rows.push(Row {
                     kind,
                     is_token: true,
@@ -110,9 +109,9 @@ pub fn build_rows(alloc: Global, steps: &[Step]) -> Result<Rows, AllocError>
             }
             Step::Exit => {
                 // Of steps that close no more than they open, each finds its node.
-                let row = innermost as usize;
+                let row = innermost;
                 if row < rows.len() {
-                    let end = rows.len() as u32;
+                    let end = rows.len();
                     innermost = rows.get(row).parent;
                     rows.set_end(row, end);
                 }

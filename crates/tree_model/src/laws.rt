@@ -5,6 +5,7 @@ ghost use Rattle.tree_model.specs.Covering.{CoveringHolds};
 ghost use Rattle.tree_model.specs.Every.{EveryIsDescendants};
 ghost use Rattle.tree_model.specs.Events.{RefusalsHold};
 ghost use Rattle.tree_model.specs.Pointer.{PointersResolve};
+ghost use Rattle.tree_model.specs.RowSteps.{ParentsAreNearest};
 ghost use Rattle.tree_model.specs.TokenSearch.{AtMostTwo};
 
 /// At most two tokens of a node that have a text touch one offset.
@@ -69,4 +70,9 @@ pub fn equal_cursors_hash_alike()
 /// A test of every node and token of a subtree is a test of each item of its `descendants_with_tokens`.
 pub fn every_is_descendants()
     ensures { EveryIsDescendants }
+{}
+
+/// The parent of a row is the nearest earlier row whose subtree reaches past it.
+pub fn parents_are_nearest()
+    ensures { ParentsAreNearest }
 {}

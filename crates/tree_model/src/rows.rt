@@ -1,5 +1,5 @@
-//! Rows, in 16 bytes each.
-ghost use Rattle.std.specs.Prelude.{◌≡◌, ◌<◌, ◌≤◌, ◌-◌, ◌^◌, ◌++◌, [], ◌∷◌, length, get_or, take, drop, nat_lt, true, false, IfOk, OnOk, OnErr};
+//! Rows, in 16 bytes each, and their parents beside them, in 8.
+ghost use Rattle.std.specs.Prelude.{ℕ, ◌≡◌, ◌<◌, ◌≤◌, ◌-◌, ◌^◌, ◌++◌, [], ◌∷◌, length, get_or, take, drop, nat_lt, true, false, IfOk, OnOk, OnErr};
 ghost use Rattle.std.specs.List.Sorted.{IsPartitionedBy, IsPartitionPoint};
 ghost use Rattle.std.proofs.Math.ListN.{set};
 ghost use Rattle.tree_model.specs.Rows.{no_row};
@@ -19,57 +19,67 @@ pub struct Row {
     /// The byte where its text starts.
     pub start: u32,
     /// The number of the first row after the subtree.
-    pub end: u32,
+    pub end: usize,
     /// The number of the parent's row; the root is its own.
-    pub parent: u32,
+    pub parent: usize,
 }
 
-/// How a row is kept: the highest bit of `above` says whether it is a token.
+/// How a row is kept, its parent aside: the highest bit of `behind` says whether it is a token.
 #[derive(Clone, Copy)]
 pub struct PackedRow {
     kind: SyntaxKind,
     start: u32,
-    end: u32,
-    /// The number of the parent's row, and `TOKEN` more for a token.
-    above: u32,
+    /// The number of the first row after the subtree, and `TOKEN` more for a token.
+    behind: usize,
 }
 
-const TOKEN: u32 = 2_147_483_648;
+const TOKEN: usize = 9_223_372_036_854_775_808;
 
 impl PackedRow {
     fn new(row: Row) -> PackedRow
-        requires { row.parent < 2 ^ 31 }
-        ensures { unpacked result ≡ row }
+        requires { row.end < 2 ^ 63 }
+        ensures { unpacked result row.parent ≡ row }
     {
-        let above = if row.is_token {
-            row.parent + TOKEN
+        let behind = if row.is_token {
+            row.end + TOKEN
         } else {
-            row.parent
+            row.end
         };
         PackedRow {
             kind: row.kind,
             start: row.start,
-            end: row.end,
-            above,
+            behind,
         }
     }
 
-    fn row(self) -> Row
-        ensures value { result ≡ unpacked self }
-        ensures fits { result.parent < 2 ^ 31 }
+    // The row, whose parent has the row `parent`.
+    fn row(self, parent: usize) -> Row
+        ensures value { result ≡ unpacked self parent }
+        ensures fits { result.end < 2 ^ 63 }
     {
-        let is_token = self.above >= TOKEN;
+        let is_token = self.behind >= TOKEN;
         Row {
             kind: self.kind,
             is_token,
             start: self.start,
-            end: self.end,
-            parent: if is_token {
-                self.above - TOKEN
+            end: if is_token {
+                self.behind - TOKEN
             } else {
-                self.above
+                self.behind
             },
+            parent,
         }
+    }
+
+    fn set_end(&mut self, end: usize)
+        requires { end < 2 ^ 63 }
+        ensures { (up : ℕ) → unpacked self.new up ≡ record (unpacked self.old up) { end = end } }
+    {
+        self.behind = if self.behind >= TOKEN {
+            end + TOKEN
+        } else {
+            end
+        };
     }
 }
 
@@ -77,40 +87,39 @@ impl PackedRow {
 #[derive(Drop)]
 pub struct Rows {
     packed: Vec<PackedRow>,
+    parents: Vec<usize>,
 }
 
 impl Model for Rows {
-    ghost use Rattle.std.specs.Prelude.{List, map};
+    ghost use Rattle.std.specs.Prelude.{List, length, ◌≡◌};
     ghost use Rattle.std.specs.Coded.{coded_list};
     ghost use Rattle.tree_model.specs.declared.rows.Row.{Row};
-    ghost use Rattle.tree_model.specs.PackedRow.{row_code, unpacked};
+    ghost use Rattle.tree_model.specs.PackedRow.{row_code, rows_kept};
 
     ghost Value = { List Row };
 
     ghost coded = { coded_list row_code };
 
-    ghost view = { λ a. map unpacked a.packed.items };
+    ghost view = { λ a. rows_kept a.packed.items a.parents.items };
+
+    ghost invariant = { λ a. length a.packed.items ≡ length a.parents.items };
 }
 
 impl Rows {
-    /// The most rows there is room for: their numbers leave one of 32 bits free.
-    pub const MOST: usize = 2_147_483_647;
-
-    /// No rows, with room for this many; for more than `MOST` the room is refused, as that for more than `isize::MAX` bytes is.
+    /// No rows, with room for this many.
     pub fn with_capacity(alloc: Global, count: usize) -> Result<Rows, AllocError>
         ensures empty { IfOk result (λ rows. rows ≡ []) }
-        ensures fits { OnOk result (count < 2 ^ 31) }
+        ensures fits { OnOk result (count < 2 ^ 63) }
     {
-        if count > Rows::MOST {
-            return Err(AllocError);
-        }
         let packed = Vec::with_capacity(alloc, count)?;
-        Ok(Rows { packed })
+        let parents = Vec::with_capacity(alloc, count)?;
+        Ok(Rows { packed, parents })
     }
 
-    /// How many rows there are.
+    /// How many rows there are. A vector never has room for 2^63.
     pub fn len(&self) -> usize
-        ensures { result ≡ length self.now }
+        ensures value { result ≡ length self.now }
+        ensures small { result < 2 ^ 63 }
     {
         self.packed.len()
     }
@@ -119,30 +128,38 @@ impl Rows {
     pub fn get(&self, n: usize) -> Row
         requires { n < length self.now }
         ensures value { result ≡ get_or self.now n no_row }
-        ensures fits { result.parent < 2 ^ 31 }
+        ensures fits { result.end < 2 ^ 63 }
     {
-        self.packed[n].row()
+        self.packed[n].row(self.parents[n])
     }
 
     /// One more row at the end; where there is no memory for it, the rows stay as they were.
     pub fn push(&mut self, row: Row) -> Result<(), AllocError>
-        requires { row.parent < 2 ^ 31 }
+        requires { row.end < 2 ^ 63 }
         ensures ok { OnOk result (self.new ≡ self.old ++ row ∷ []) }
         ensures err { OnErr result (self.new ≡ self.old) }
     {
         self.packed.push(PackedRow::new(row))?;
-        Ok(())
+        match self.parents.push(row.parent) {
+            Ok(()) => Ok(()),
+            Err(_) => {
+                self.packed.pop();
+                Err(AllocError)
+            }
+        }
     }
 
     /// Row `n` with another end.
-    pub fn set_end(&mut self, n: usize, end: u32)
-        requires { n < length self.old }
+    pub fn set_end(&mut self, n: usize, end: usize)
+        requires is_row { n < length self.old }
+        requires fits { end < 2 ^ 63 }
         ensures { self.new ≡ set self.old n (record (get_or self.old n no_row) { end = end }) }
     {
-        self.packed[n].end = end;
+        self.packed[n].set_end(end);
     }
 
     /// How many of the rows `from..to`, whose starts don't fall, start before `offset`. It goes by halves.
+    #[tactic(auto, using(crate::proofs::PackedRow::kept_length))]
     pub fn count_before(&self, from: usize, to: usize, offset: usize) -> usize
         requires ordered { from ≤ to }
         requires in_range { to ≤ length self.now }
@@ -186,7 +203,7 @@ impl PartialEq for PackedRow {
     ghost laws = { partial_equiv_from_equiv packed_equivalence };
 
     fn eq(&self, other: &PackedRow) -> bool {
-        self.row() == other.row()
+        self.row(0) == other.row(0)
     }
 }
 
@@ -200,5 +217,6 @@ impl PartialEq for Rows {
 
     fn eq(&self, other: &Rows) -> bool {
         self.packed.as_slice() == other.packed.as_slice()
+            && self.parents.as_slice() == other.parents.as_slice()
     }
 }

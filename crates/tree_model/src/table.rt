@@ -55,8 +55,7 @@ impl Table {
     pub fn row(&self, n: usize) -> Row
         requires { n < size self.now }
         ensures value { result ≡ row_at self.now n }
-        ensures end_fits { result.end < 2 ^ 31 }
-        ensures parent_fits { result.parent < 2 ^ 31 }
+        ensures end_fits { result.end < 2 ^ 63 }
     {
         self.rows.get(n)
     }
@@ -81,7 +80,7 @@ impl Table {
         requires { n < size self.now }
         ensures { result ≡ size (tree_at self.now n) }
     {
-        self.row(n).end as usize - n
+        self.row(n).end - n
     }
 
     /// Where the text of the subtree at row `n` ends.
@@ -90,7 +89,7 @@ impl Table {
         ensures value { result ≡ end_at self.now n }
         ensures fits { result < 2 ^ 32 }
     {
-        let after = self.row(n).end as usize;
+        let after = self.row(n).end;
         if after < self.len() {
             self.row(after).start as usize
         } else {
@@ -129,7 +128,7 @@ impl Table {
         if n == 0 {
             None
         } else {
-            Some(self.row(n).parent as usize)
+            Some(self.row(n).parent)
         }
     }
 
@@ -139,7 +138,7 @@ impl Table {
         ensures place { option_map (place_at self.now) result ≡ first_child_place self.now (place_at self.now n) }
         ensures in_range { IfSome result (λ q. q < size self.now) }
     {
-        let end = self.row(n).end as usize;
+        let end = self.row(n).end;
         let next = n + 1;
         if next < end { Some(next) } else { None }
     }
@@ -150,9 +149,9 @@ impl Table {
         ensures place { option_map (place_at self.now) result ≡ next_sibling_place self.now (place_at self.now n) }
         ensures in_range { IfSome result (λ q. q < size self.now) }
     {
-        let after = self.row(n).end as usize;
+        let after = self.row(n).end;
         let q = self.parent_row(n)?;
-        if after < self.row(q).end as usize {
+        if after < self.row(q).end {
             Some(after)
         } else {
             None

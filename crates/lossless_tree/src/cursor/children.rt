@@ -38,7 +38,7 @@ impl SyntaxElementChildren {
         requires { IsRow table.value row }
         ensures { result ≡ children_of (cursor_at table.value row) }
     {
-        let end = table.row(row).end as usize;
+        let end = table.row(row).end;
         SyntaxElementChildren {
             table,
             next: row + 1,
@@ -57,7 +57,7 @@ impl Iterator for SyntaxElementChildren {
     fn next(&mut self) -> Option<SyntaxElement> {
         let row = self.next;
         if row < self.end {
-            self.next = self.table.row(row).end as usize;
+            self.next = self.table.row(row).end;
             Some(element(&self.table, row))
         } else {
             None
@@ -101,6 +101,7 @@ impl Iterator for SyntaxNodeChildren {
 
     ghost remaining = { item_count (λ left. left) };
 
+    #[inline]
     fn next(&mut self) -> Option<SyntaxNode> {
         while let Some(element) = self.elements.next() {
             if let NodeOrToken::Node(node) = element {

@@ -95,7 +95,7 @@ impl SyntaxNode {
     /// The root of a new tree: this node's whole tree with `replacement` in place of this node. The old tree stays as
     /// it was. Where this node is the root, the new tree equals `replacement`.
     ///
-    /// It takes time and memory linear in the new tree. More than 2,147,483,647 nodes and tokens are want of memory.
+    /// It takes time and memory linear in the new tree.
     pub fn replace_with(
         &self,
         alloc: Global,
@@ -151,8 +151,9 @@ impl SyntaxNode {
 }
 
 impl SyntaxNode {
-    // The place of a node is one of its tree's. It does nothing.
-    pub(crate) fn placed(&self)
+    /// The place of a node is one of its tree's, and what stands there is a node. It does nothing: an upper crate calls it to
+    /// have the two facts.
+    pub fn placed(&self)
         ensures placed { IsPlaced self.now }
         ensures node { IsNode (focus self.now) }
     {

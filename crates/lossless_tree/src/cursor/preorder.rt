@@ -83,7 +83,7 @@ pub(crate) fn walk_step(
             })
         }
         Some(inner) => {
-            if next < table.row(inner).end as usize {
+            if next < table.row(inner).end {
                 let after = next + 1;
                 Some(WalkStep {
                     enters: true,

@@ -87,8 +87,9 @@ impl SyntaxToken {
 }
 
 impl SyntaxToken {
-    // The place of a token is one of its tree's. It does nothing.
-    pub(crate) fn placed(&self)
+    /// The place of a token is one of its tree's, and what stands there is a token. It does nothing: an upper crate calls it to
+    /// have the two facts.
+    pub fn placed(&self)
         ensures placed { IsPlaced self.now }
         ensures token { IsToken (focus self.now) }
     {

@@ -1,22 +1,20 @@
 //! Expressions under one name.
-ghost use Rattle.std.specs.Prelude.{◌≡◌, Some, ⊤};
-ghost use Rattle.std.specs.Cmp.{partial_equiv_from_equiv, on_equiv};
+ghost use Rattle.std.specs.Prelude.{◌≡◌, Some};
 ghost use Rattle.tree_model.specs.Tree.{text};
 ghost use Rattle.tree_model.specs.Cursor.{focus};
-ghost use Rattle.tree_model.specs.Equality.{is_same_cursor, cursor_hash};
-ghost use Rattle.tree_model.specs.EqualityLaws.{cursor_equivalence, cursors_alike};
 ghost use Rattle.ra_ap_syntax.specs.declared.ast.expr_ext.ElseBranch.TheVariants as else_branch;
-ghost use Rattle.ra_ap_syntax.specs.ElseBranchCases.{is_else_branch, else_branch_node, else_branch_castable};
-ghost use Rattle.ra_ap_syntax.specs.CallableExprCases.{is_callable_expr, callable_expr_node, callable_expr_castable};
+ghost use Rattle.ras_node.specs.Sets.{is_callable_expr, is_else_branch};
+ghost use Rattle.ra_ap_syntax.specs.ElseBranchCases.{else_branch_node, else_branch_castable};
+ghost use Rattle.ra_ap_syntax.specs.CallableExprCases.{callable_expr_node, callable_expr_castable};
 
-use crate::ast::{self, AstNode, Typed, support};
+use crate::ast::{self, AstNode, Typed};
 use lossless_tree::{SyntaxKind, SyntaxNode};
-use std::alloc::AllocError;
+use ras_node::sets::{CallableExprs, ElseBranches, KindSet};
 use std::fmt;
-use std::hash::{Hash, Hasher};
+use std::hash::Hash;
 
 /// What stands behind an `else`.
-#[derive(Drop)]
+#[derive(Clone, PartialEq, Eq, Drop)]
 pub enum ElseBranch {
     Block(ast::BlockExpr),
     IfExpr(ast::IfExpr),
@@ -30,7 +28,7 @@ impl AstNode for ElseBranch {
     ghost castable = { else_branch_castable };
 
     fn can_cast(kind: SyntaxKind) -> bool {
-        matches!(kind, SyntaxKind::BLOCK_EXPR | SyntaxKind::IF_EXPR)
+        ElseBranches::has(kind)
     }
 
     fn cast(syntax: SyntaxNode) -> Option<ElseBranch> {
@@ -47,30 +45,6 @@ impl AstNode for ElseBranch {
             ElseBranch::IfExpr(it) => it.syntax(),
         }
     }
-}
-
-impl Clone for ElseBranch {
-    ghost is_clone = { λ s copy. else_branch_node copy ≡ else_branch_node s };
-
-    ghost is_infallible = { λ _. ⊤ };
-
-    fn clone(&self) -> Result<ElseBranch, AllocError> {
-        Ok(support::copy(self))
-    }
-}
-
-impl PartialEq for ElseBranch {
-    ghost eq = { λ a b. is_same_cursor (else_branch_node a) (else_branch_node b) };
-
-    ghost laws = { partial_equiv_from_equiv (on_equiv else_branch_node cursor_equivalence) };
-
-    fn eq(&self, other: &ElseBranch) -> bool {
-        self.syntax() == other.syntax()
-    }
-}
-
-impl Eq for ElseBranch {
-    ghost laws = { on_equiv else_branch_node cursor_equivalence };
 }
 
 impl fmt::Display for ElseBranch {
@@ -99,7 +73,7 @@ impl From<ast::IfExpr> for ElseBranch {
 }
 
 /// A call or a method call.
-#[derive(Drop)]
+#[derive(Clone, PartialEq, Eq, Hash, Drop)]
 pub enum CallableExpr {
     Call(ast::CallExpr),
     MethodCall(ast::MethodCallExpr),
@@ -113,7 +87,7 @@ impl AstNode for CallableExpr {
     ghost castable = { callable_expr_castable };
 
     fn can_cast(kind: SyntaxKind) -> bool {
-        matches!(kind, SyntaxKind::CALL_EXPR | SyntaxKind::METHOD_CALL_EXPR)
+        CallableExprs::has(kind)
     }
 
     fn cast(syntax: SyntaxNode) -> Option<CallableExpr> {
@@ -129,40 +103,6 @@ impl AstNode for CallableExpr {
             CallableExpr::Call(it) => it.syntax(),
             CallableExpr::MethodCall(it) => it.syntax(),
         }
-    }
-}
-
-impl Clone for CallableExpr {
-    ghost is_clone = { λ s copy. callable_expr_node copy ≡ callable_expr_node s };
-
-    ghost is_infallible = { λ _. ⊤ };
-
-    fn clone(&self) -> Result<CallableExpr, AllocError> {
-        Ok(support::copy(self))
-    }
-}
-
-impl PartialEq for CallableExpr {
-    ghost eq = { λ a b. is_same_cursor (callable_expr_node a) (callable_expr_node b) };
-
-    ghost laws = { partial_equiv_from_equiv (on_equiv callable_expr_node cursor_equivalence) };
-
-    fn eq(&self, other: &CallableExpr) -> bool {
-        self.syntax() == other.syntax()
-    }
-}
-
-impl Eq for CallableExpr {
-    ghost laws = { on_equiv callable_expr_node cursor_equivalence };
-}
-
-impl Hash for CallableExpr {
-    ghost hash_input = { λ it. cursor_hash (callable_expr_node it) };
-
-    ghost respects_eq = { λ a b same. cursors_alike (callable_expr_node a) (callable_expr_node b) same };
-
-    fn hash<H: Hasher>(&self, state: &mut H) {
-        self.syntax().hash(state);
     }
 }
 

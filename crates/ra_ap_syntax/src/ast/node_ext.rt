@@ -1,27 +1,25 @@
 //! Nodes under one name.
-ghost use Rattle.std.specs.Prelude.{◌≡◌, Some, ⊤};
-ghost use Rattle.std.specs.Cmp.{partial_equiv_from_equiv, on_equiv};
+ghost use Rattle.std.specs.Prelude.{◌≡◌, Some};
 ghost use Rattle.tree_model.specs.Tree.{text};
 ghost use Rattle.tree_model.specs.Cursor.{focus};
-ghost use Rattle.tree_model.specs.Equality.{is_same_cursor};
-ghost use Rattle.tree_model.specs.EqualityLaws.{cursor_equivalence};
 ghost use Rattle.ra_ap_syntax.specs.declared.ast.node_ext.Macro.TheVariants as macro;
-ghost use Rattle.ra_ap_syntax.specs.MacroCases.{is_macro, macro_node, macro_castable};
+ghost use Rattle.ras_node.specs.Sets.{is_macro, is_name_like, is_name_or_name_ref, is_type_or_const_param};
+ghost use Rattle.ra_ap_syntax.specs.MacroCases.{macro_node, macro_castable};
 ghost use Rattle.ra_ap_syntax.specs.declared.ast.node_ext.NameLike.TheVariants as name_like;
-ghost use Rattle.ra_ap_syntax.specs.NameLikeCases.{is_name_like, name_like_node, name_like_castable};
-ghost use Rattle.ra_ap_syntax.specs.NameOrNameRefCases.{is_name_or_name_ref, name_or_name_ref_node, name_or_name_ref_castable};
-ghost use Rattle.ra_ap_syntax.specs.TypeOrConstParamCases.{is_type_or_const_param, type_or_const_param_node, type_or_const_param_castable};
+ghost use Rattle.ra_ap_syntax.specs.NameLikeCases.{name_like_node, name_like_castable};
+ghost use Rattle.ra_ap_syntax.specs.NameOrNameRefCases.{name_or_name_ref_node, name_or_name_ref_castable};
+ghost use Rattle.ra_ap_syntax.specs.TypeOrConstParamCases.{type_or_const_param_node, type_or_const_param_castable};
 
 mod block;
 
-use crate::ast::{self, AstNode, Typed, support};
+use crate::ast::{self, AstNode, Typed};
 pub use block::Statements;
 use lossless_tree::{SyntaxKind, SyntaxNode};
-use std::alloc::AllocError;
+use ras_node::sets::{KindSet, Macros, NameLikes, NameOrNameRefs, TypeOrConstParams};
 use std::fmt;
 
 /// A definition of a macro.
-#[derive(Drop)]
+#[derive(Clone, PartialEq, Eq, Drop)]
 pub enum Macro {
     MacroRules(ast::MacroRules),
     MacroDef(ast::MacroDef),
@@ -35,7 +33,7 @@ impl AstNode for Macro {
     ghost castable = { macro_castable };
 
     fn can_cast(kind: SyntaxKind) -> bool {
-        matches!(kind, SyntaxKind::MACRO_RULES | SyntaxKind::MACRO_DEF)
+        Macros::has(kind)
     }
 
     fn cast(syntax: SyntaxNode) -> Option<Macro> {
@@ -52,30 +50,6 @@ impl AstNode for Macro {
             Macro::MacroDef(it) => it.syntax(),
         }
     }
-}
-
-impl Clone for Macro {
-    ghost is_clone = { λ s copy. macro_node copy ≡ macro_node s };
-
-    ghost is_infallible = { λ _. ⊤ };
-
-    fn clone(&self) -> Result<Macro, AllocError> {
-        Ok(support::copy(self))
-    }
-}
-
-impl PartialEq for Macro {
-    ghost eq = { λ a b. is_same_cursor (macro_node a) (macro_node b) };
-
-    ghost laws = { partial_equiv_from_equiv (on_equiv macro_node cursor_equivalence) };
-
-    fn eq(&self, other: &Macro) -> bool {
-        self.syntax() == other.syntax()
-    }
-}
-
-impl Eq for Macro {
-    ghost laws = { on_equiv macro_node cursor_equivalence };
 }
 
 impl fmt::Display for Macro {
@@ -104,7 +78,7 @@ impl From<ast::MacroDef> for Macro {
 }
 
 /// A name where it is used or defined, or a lifetime.
-#[derive(Drop)]
+#[derive(Clone, Drop)]
 pub enum NameLike {
     NameRef(ast::NameRef),
     Name(ast::Name),
@@ -119,10 +93,7 @@ impl AstNode for NameLike {
     ghost castable = { name_like_castable };
 
     fn can_cast(kind: SyntaxKind) -> bool {
-        matches!(
-            kind,
-            SyntaxKind::NAME_REF | SyntaxKind::NAME | SyntaxKind::LIFETIME
-        )
+        NameLikes::has(kind)
     }
 
     fn cast(syntax: SyntaxNode) -> Option<NameLike> {
@@ -140,16 +111,6 @@ impl AstNode for NameLike {
             NameLike::Name(it) => it.syntax(),
             NameLike::Lifetime(it) => it.syntax(),
         }
-    }
-}
-
-impl Clone for NameLike {
-    ghost is_clone = { λ s copy. name_like_node copy ≡ name_like_node s };
-
-    ghost is_infallible = { λ _. ⊤ };
-
-    fn clone(&self) -> Result<NameLike, AllocError> {
-        Ok(support::copy(self))
     }
 }
 
@@ -187,7 +148,7 @@ impl From<ast::Lifetime> for NameLike {
 }
 
 /// A name where it is defined or used.
-#[derive(Drop)]
+#[derive(Clone, PartialEq, Drop)]
 pub enum NameOrNameRef {
     Name(ast::Name),
     NameRef(ast::NameRef),
@@ -201,7 +162,7 @@ impl AstNode for NameOrNameRef {
     ghost castable = { name_or_name_ref_castable };
 
     fn can_cast(kind: SyntaxKind) -> bool {
-        matches!(kind, SyntaxKind::NAME | SyntaxKind::NAME_REF)
+        NameOrNameRefs::has(kind)
     }
 
     fn cast(syntax: SyntaxNode) -> Option<NameOrNameRef> {
@@ -220,26 +181,6 @@ impl AstNode for NameOrNameRef {
     }
 }
 
-impl Clone for NameOrNameRef {
-    ghost is_clone = { λ s copy. name_or_name_ref_node copy ≡ name_or_name_ref_node s };
-
-    ghost is_infallible = { λ _. ⊤ };
-
-    fn clone(&self) -> Result<NameOrNameRef, AllocError> {
-        Ok(support::copy(self))
-    }
-}
-
-impl PartialEq for NameOrNameRef {
-    ghost eq = { λ a b. is_same_cursor (name_or_name_ref_node a) (name_or_name_ref_node b) };
-
-    ghost laws = { partial_equiv_from_equiv (on_equiv name_or_name_ref_node cursor_equivalence) };
-
-    fn eq(&self, other: &NameOrNameRef) -> bool {
-        self.syntax() == other.syntax()
-    }
-}
-
 impl fmt::Display for NameOrNameRef {
     ghost output = { λ it. Some (text (focus (name_or_name_ref_node it))) };
 
@@ -250,7 +191,7 @@ impl fmt::Display for NameOrNameRef {
 }
 
 /// A type parameter or a constant parameter.
-#[derive(Drop)]
+#[derive(Clone, Drop)]
 pub enum TypeOrConstParam {
     Ty(ast::TypeParam),
     Const(ast::ConstParam),
@@ -264,7 +205,7 @@ impl AstNode for TypeOrConstParam {
     ghost castable = { type_or_const_param_castable };
 
     fn can_cast(kind: SyntaxKind) -> bool {
-        matches!(kind, SyntaxKind::TYPE_PARAM | SyntaxKind::CONST_PARAM)
+        TypeOrConstParams::has(kind)
     }
 
     fn cast(syntax: SyntaxNode) -> Option<TypeOrConstParam> {
@@ -280,16 +221,6 @@ impl AstNode for TypeOrConstParam {
             TypeOrConstParam::Ty(it) => it.syntax(),
             TypeOrConstParam::Const(it) => it.syntax(),
         }
-    }
-}
-
-impl Clone for TypeOrConstParam {
-    ghost is_clone = { λ s copy. type_or_const_param_node copy ≡ type_or_const_param_node s };
-
-    ghost is_infallible = { λ _. ⊤ };
-
-    fn clone(&self) -> Result<TypeOrConstParam, AllocError> {
-        Ok(support::copy(self))
     }
 }
 

@@ -5,12 +5,13 @@ ghost use Rattle.tree_model.specs.Tree.{text};
 ghost use Rattle.tree_model.specs.Cursor.{focus};
 ghost use Rattle.tree_model.specs.Equality.{is_same_cursor, cursor_hash};
 ghost use Rattle.tree_model.specs.EqualityLaws.{cursor_equivalence, cursors_alike};
-ghost use Rattle.ra_ap_syntax.specs.Nodes.{kind_at};
-ghost use Rattle.ra_ap_syntax.specs.AnyCommentCases.{is_any_comment};
-ghost use Rattle.ra_ap_syntax.specs.AnyStringCases.{is_any_string, any_string_token, any_string_castable};
+ghost use Rattle.ras_node.specs.Nodes.{kind_at};
+ghost use Rattle.ras_node.specs.Sets.{is_any_comment, is_any_string};
+ghost use Rattle.ra_ap_syntax.specs.AnyStringCases.{any_string_token, any_string_castable};
 
 use crate::ast::{self, AstToken, TypedToken};
 use lossless_tree::{SyntaxKind, SyntaxToken};
+use ras_node::sets::{AnyComments, AnyStrings, KindSet};
 use std::alloc::AllocError;
 use std::fmt;
 use std::hash::{Hash, Hasher};
@@ -18,7 +19,7 @@ use std::hash::{Hash, Hasher};
 /// A comment, of documentation too.
 #[derive(Drop)]
 pub struct AnyComment {
-    pub syntax: SyntaxToken,
+    pub(crate) syntax: SyntaxToken,
     ghost is: { is_any_comment (kind_at syntax) ≡ true },
 }
 
@@ -30,10 +31,7 @@ impl AstToken for AnyComment {
     ghost castable = { λ it. it.is };
 
     fn can_cast(kind: SyntaxKind) -> bool {
-        matches!(
-            kind,
-            SyntaxKind::COMMENT | SyntaxKind::INNER_DOC_COMMENT | SyntaxKind::OUTER_DOC_COMMENT
-        )
+        AnyComments::has(kind)
     }
 
     fn cast(syntax: SyntaxToken) -> Option<AnyComment> {
@@ -94,7 +92,7 @@ impl fmt::Display for AnyComment {
 }
 
 /// A string literal, a byte string literal or a C string literal.
-#[derive(Clone, Drop)]
+#[derive(Clone, PartialEq, Eq, Hash, Drop)]
 pub enum AnyString {
     ByteString(ast::ByteString),
     CString(ast::CString),
@@ -109,10 +107,7 @@ impl AstToken for AnyString {
     ghost castable = { any_string_castable };
 
     fn can_cast(kind: SyntaxKind) -> bool {
-        matches!(
-            kind,
-            SyntaxKind::BYTE_STRING | SyntaxKind::C_STRING | SyntaxKind::STRING
-        )
+        AnyStrings::has(kind)
     }
 
     fn cast(syntax: SyntaxToken) -> Option<AnyString> {
@@ -130,30 +125,6 @@ impl AstToken for AnyString {
             AnyString::CString(it) => it.syntax(),
             AnyString::String(it) => it.syntax(),
         }
-    }
-}
-
-impl PartialEq for AnyString {
-    ghost eq = { λ a b. is_same_cursor (any_string_token a) (any_string_token b) };
-
-    ghost laws = { partial_equiv_from_equiv (on_equiv any_string_token cursor_equivalence) };
-
-    fn eq(&self, other: &AnyString) -> bool {
-        self.syntax() == other.syntax()
-    }
-}
-
-impl Eq for AnyString {
-    ghost laws = { on_equiv any_string_token cursor_equivalence };
-}
-
-impl Hash for AnyString {
-    ghost hash_input = { λ it. cursor_hash (any_string_token it) };
-
-    ghost respects_eq = { λ a b same. cursors_alike (any_string_token a) (any_string_token b) same };
-
-    fn hash<H: Hasher>(&self, state: &mut H) {
-        self.syntax().hash(state);
     }
 }
 

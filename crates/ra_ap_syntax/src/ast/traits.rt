@@ -1,7 +1,7 @@
 //! The lookups that several types share. A call takes time in the children that it passes, and no memory.
 ghost use Rattle.std.specs.Prelude.{◌≡◌};
-ghost use Rattle.ra_ap_syntax.specs.Lookups.{IsFirstChild, IsViewOf, loop_body};
-ghost use Rattle.ra_ap_syntax.specs.Nodes.{token_child, typed_children};
+ghost use Rattle.ras_node.specs.Lookups.{IsFirstChild, IsViewOf, loop_body};
+ghost use Rattle.ras_node.specs.Nodes.{token_child, typed_children};
 
 use crate::ast::{self, AstChildren, AstNode, support};
 use lossless_tree::{SyntaxKind, SyntaxToken, T};

@@ -7,7 +7,7 @@ ghost use Rattle.tree_model.specs.Cursor.{focus};
 ghost use Rattle.tree_model.specs.Equality.{is_same_cursor, cursor_hash};
 ghost use Rattle.tree_model.specs.EqualityLaws.{cursor_equivalence, cursors_alike};
 ghost use Rattle.std.specs.Cmp.{partial_equiv_from_equiv, on_equiv};
-ghost use Rattle.ra_ap_syntax.specs.Nodes.{kind_at};
+ghost use Rattle.ras_node.specs.Nodes.{kind_at};
 
 use super::{AstNode, AstToken};
 use lossless_tree::{SyntaxKind, SyntaxNode, SyntaxToken};
@@ -18,7 +18,7 @@ use std::hash::{Hash, Hasher};
 /// A node of the kind with the raw number `K`. The aliases of `ast` name one for each kind of node.
 #[derive(Drop)]
 pub struct Typed<const K: u32> {
-    pub syntax: SyntaxNode,
+    pub(crate) syntax: SyntaxNode,
     ghost is: { kind_raw (kind_at syntax) ≡ K },
 }
 
@@ -56,7 +56,7 @@ impl<const K: u32> AstNode for Typed<K> {
 /// A token of the kind with the raw number `K`. The aliases of `ast` name one for each kind of token that has a view.
 #[derive(Drop)]
 pub struct TypedToken<const K: u32> {
-    pub syntax: SyntaxToken,
+    pub(crate) syntax: SyntaxToken,
     ghost is: { kind_raw (kind_at syntax) ≡ K },
 }
 

@@ -25,15 +25,14 @@ pub struct Shift {
 }
 
 impl Shift {
-    fn number(self, n: u32) -> u32
-        requires { (n - self.from_row) + self.to_row < 2 ^ 31 }
+    fn number(self, n: usize) -> usize
+        requires { (n - self.from_row) + self.to_row < 2 ^ 63 }
         ensures { result ≡ moved_number self n }
     {
-        let row = n as usize;
-        if row < self.from_row {
+        if n < self.from_row {
             n
         } else {
-            (row - self.from_row + self.to_row) as u32
+            n - self.from_row + self.to_row
         }
     }
 
@@ -80,22 +79,21 @@ impl Table {
         n: usize,
         to: usize,
         byte: usize,
-        up: u32,
+        up: usize,
     ) -> Result<(), AllocError>
         requires is_row { n < size self.now }
         requires is_node { IsNode (tree_at self.now n) }
-        requires rows_fit { to + size (tree_at self.now n) < 2 ^ 31 }
-        requires parent_fits { up < 2 ^ 31 }
+        requires rows_fit { to + size (tree_at self.now n) < 2 ^ 63 }
         requires bytes_fit { byte + length (text (tree_at self.now n)) < 2 ^ 32 }
         ensures { OnOk result (rows.new ≡ rows.old ++ rows_of (cons (tree_at self.now n) nil) to byte up) }
     {
         let node = self.row(n);
-        let end = node.end as usize;
+        let end = node.end;
         rows.push(Row {
             kind: node.kind,
             is_token: false,
             start: byte as u32,
-            end: (end - n + to) as u32,
+            end: end - n + to,
             parent: up,
         })?;
         let by = Shift {
@@ -143,12 +141,12 @@ impl Table {
     // The rows before row `n`, where `count` rows take the place of the subtree there. The list has room for all rows.
     fn rows_before(&self, alloc: Global, n: usize, count: usize) -> Result<Rows, AllocError>
         requires is_row { n < size self.now }
-        requires count_fits { count < 2 ^ 31 }
+        requires count_fits { count < 2 ^ 63 }
         ensures rows { IfOk result (λ rows. rows ≡ moved_before self.now n count) }
-        ensures fits { OnOk result ((size self.now - size (tree_at self.now n)) + count < 2 ^ 31) }
+        ensures fits { OnOk result ((size self.now - size (tree_at self.now n)) + count < 2 ^ 63) }
     {
         let len = self.rows.len();
-        let after = self.row(n).end as usize;
+        let after = self.row(n).end;
         let mut rows = Rows::with_capacity(alloc, len - (after - n) + count)?;
         let by = Shift {
             from_row: after,
@@ -169,11 +167,11 @@ impl Table {
         bytes: usize,
     ) -> Result<(), AllocError>
         requires is_row { n < size self.now }
-        requires rows_fit { (size self.now - size (tree_at self.now n)) + count < 2 ^ 31 }
+        requires rows_fit { (size self.now - size (tree_at self.now n)) + count < 2 ^ 63 }
         requires bytes_fit { (length (text self.now) - length (text (tree_at self.now n))) + bytes < 2 ^ 32 }
         ensures { OnOk result (rows.new ≡ rows.old ++ moved_behind self.now n count bytes) }
     {
-        let after = self.row(n).end as usize;
+        let after = self.row(n).end;
         let by = Shift {
             from_row: after,
             to_row: n + count,
@@ -202,7 +200,7 @@ impl Table {
             kind,
             is_token: true,
             start: old.start,
-            end: (n + 1) as u32,
+            end: n + 1,
             parent: old.parent,
         })?;
         self.push_behind(&mut rows, n, 1, new.len())?;
@@ -221,8 +219,7 @@ impl Table {
         requires is_other { other < size piece.now }
         requires is_node { IsNode (tree_at piece.now other) }
         requires fits { length (splice (text self.now) (start_at self.now n) (end_at self.now n) (text (tree_at piece.now other))) < 2 ^ 32 }
-        ensures rows { IfOk result (λ rows. rows ≡ rows_of (cons (replace self.now (place_at self.now n) (tree_at piece.now other)) nil) 0 0 0) }
-        ensures fits { OnOk result ((size self.now - size (tree_at self.now n)) + size (tree_at piece.now other) < 2 ^ 31) }
+        ensures { IfOk result (λ rows. rows ≡ rows_of (cons (replace self.now (place_at self.now n) (tree_at piece.now other)) nil) 0 0 0) }
     {
         let _count = self.rows.len();
         let _more = piece.rows.len();
@@ -254,8 +251,7 @@ impl Table {
         Ok(Table::from_parts(spliced, rows))
     }
 
-    /// The table of the tree with the node at row `other` of `piece` in place of the node at row `n`. More than
-    /// 2,147,483,647 nodes and tokens are want of memory.
+    /// The table of the tree with the node at row `other` of `piece` in place of the node at row `n`.
     pub fn with_node(
         &self,
         alloc: Global,

@@ -32,7 +32,7 @@ impl Table {
         ensures left { IfSome result.0 (IsTokenRow self.now) }
         ensures right { IfSome result.1 (IsTokenRow self.now) }
     {
-        let end = self.row(n).end as usize;
+        let end = self.row(n).end;
         let at = self.first_row_from(n, end, offset);
         let past = self.first_row_from(at, end, offset + 1);
         (
@@ -92,12 +92,12 @@ impl Table {
         ensures holding { IsHolding self.now n range result }
         ensures ordered { range.start ≤ range.end }
     {
-        let end = self.row(n).end as usize;
+        let end = self.row(n).end;
         let start = range.start().raw() as usize;
         let bound = if range.is_empty() { start } else { start + 1 };
         let mut row = self.first_row_from(n + 1, end, bound) - 1;
         while row > n && !holds(range, self.range_at(row)) {
-            row = self.row(row).parent as usize;
+            row = self.row(row).parent;
         }
         row
     }
@@ -111,7 +111,7 @@ impl Table {
         ensures covers { cursor_at self.now result ≡ covering_of (cursor_at self.now n) range }
     {
         let row = self.down_first_children(n, range);
-        let end = self.row(row).end as usize;
+        let end = self.row(row).end;
         let offset = range.start().raw() as usize;
         if end == row + 1 || self.end_at(row) <= offset {
             return end - 1;
@@ -130,7 +130,7 @@ impl Table {
     {
         let offset = range.start().raw() as usize;
         let mut row = n;
-        while self.row(row).end as usize > row + 1 && self.end_at(row + 1) > offset {
+        while self.row(row).end > row + 1 && self.end_at(row + 1) > offset {
             row += 1;
         }
         row

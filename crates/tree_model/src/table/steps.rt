@@ -16,10 +16,10 @@ impl Table {
         ensures { IsChildOver self.now parent n result }
     {
         let mut child = n;
-        let mut above = self.row(child).parent as usize;
+        let mut above = self.row(child).parent;
         while above != parent {
             child = above;
-            above = self.row(child).parent as usize;
+            above = self.row(child).parent;
         }
         child
     }
@@ -31,7 +31,7 @@ impl Table {
         ensures place { option_map (place_at self.now) result ≡ last_child_place self.now (place_at self.now n) }
         ensures in_range { IfSome result (λ q. q < size self.now) }
     {
-        let last = self.row(n).end as usize - 1;
+        let last = self.row(n).end - 1;
         if n < last {
             Some(self.child_over(n, last))
         } else {
@@ -106,7 +106,7 @@ impl Table {
         ensures token { IfSome result (λ q. IsToken (tree_at self.now q)) }
         ensures in_range { IfSome result (λ q. q < size self.now) }
     {
-        let end = self.row(n).end as usize;
+        let end = self.row(n).end;
         self.first_token_row(n, end)
     }
 
@@ -117,7 +117,7 @@ impl Table {
         ensures token { IfSome result (λ q. IsToken (tree_at self.now q)) }
         ensures in_range { IfSome result (λ q. q < size self.now) }
     {
-        let end = self.row(n).end as usize;
+        let end = self.row(n).end;
         self.last_token_row(n, end)
     }
 

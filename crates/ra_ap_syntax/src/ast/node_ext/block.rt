@@ -1,7 +1,7 @@
 //! Blocks.
 ghost use Rattle.std.specs.Prelude.{◌≡◌};
 ghost use Rattle.std.specs.Iterator.{YieldsFirstBy, item_count};
-ghost use Rattle.ra_ap_syntax.specs.Lookups.{IsViewOf, typed_child_in, typed_children_in};
+ghost use Rattle.ras_node.specs.Lookups.{IsViewOf, typed_child_in, typed_children_in};
 ghost use Rattle.ra_ap_syntax.specs.StmtCases.{stmt_node};
 
 use crate::ast::{self, AstChildren, AstNode};

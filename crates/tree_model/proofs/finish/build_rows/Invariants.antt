@@ -1,5 +1,4 @@
 use Rattle.std.proofs.Common.{◌≡◌, ◌+◌, [], drop, length}
-use Rattle.std.specs.Prelude.{◌<◌, ◌^◌}
 use Rattle.tree_model.specs.Run.{run, text_len, row_count}
 use Rattle.tree_model.proofs.Run.{state}
 use Rattle.tree_model.proofs.finish.build_rows.Given as goal
@@ -8,6 +7,5 @@ abbrev pub invariant-loop-step : goal.invariant-loop-step
 invariant-loop-step l = record {
   same_run : run (drop l.step-index l.steps) (state l.rows l.innermost l.at) ≡ run l.steps (state [] 0 0);
   text : l.at + text_len (drop l.step-index l.steps) ≡ text_len l.steps;
-  innermost_fits : l.innermost < 2 ^ 31;
   count : length l.rows + row_count (drop l.step-index l.steps) ≡ row_count l.steps;
 }

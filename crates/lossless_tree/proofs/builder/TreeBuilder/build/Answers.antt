@@ -31,12 +31,12 @@ pub build_rows-requires : goal.build_rows-requires
 build_rows-requires c = omega (arith, ap text_len c.as_slice-in-None.ensures.value, step_text_len c.self.inside.steps.items (string_bytes c.self.inside.text) c.self.invariant, c.if-len.false, c.len.ensures, c.self.inside.text.bytes.ok.0)
 
 rows_are : (c : In-Ok) (w : Ready c.self.inside.steps.items (string_bytes c.self.inside.text)) → c.in-Ok.rows ≡ rows_of (cons (node w.kind w.children) nil) 0 0 0
-rows_are c w = c.in-Ok.ensures.rows (cons (node w.kind w.children) nil) (c.as_slice-in-None.ensures.value ∙ w.steps_are)
+rows_are c w = c.in-Ok.ensures (cons (node w.kind w.children) nil) (c.as_slice-in-None.ensures.value ∙ w.steps_are)
 
 pub from_parts-requires : goal.from_parts-requires
 from_parts-requires c =
     let w = is_ready (goal.at.from_parts-requires c).In-None in
-    table_built c.self.inside.steps.items (string_bytes c.self.inside.text) w c.in-Ok.rows (rows_are (goal.at.from_parts-requires c).In-Ok w) (omega (arith, c.if-len.false, c.len.ensures, c.self.inside.text.bytes.ok.0)) c.in-Ok.ensures.few
+    table_built c.self.inside.steps.items (string_bytes c.self.inside.text) w c.in-Ok.rows (rows_are (goal.at.from_parts-requires c).In-Ok w) (omega (arith, c.if-len.false, c.len.ensures, c.self.inside.text.bytes.ok.0))
 
 pub returns-in-Ok-clause-ok : goal.returns-in-Ok-clause-ok
 returns-in-Ok-clause-ok c =

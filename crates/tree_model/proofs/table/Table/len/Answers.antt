@@ -6,4 +6,4 @@ use Rattle.tree_model.proofs.table.Table.len.Goals as goal
 pub returns : goal.returns
 returns c =
     let a = c.self.inside in
-    c.len.ensures ∙ rows_len a.rows (string_bytes a.text) c.args.self.now (shown _ _ _ c.self.view_is c.self.invariant)
+    c.len.ensures.value ∙ rows_len a.rows (string_bytes a.text) c.args.self.now (shown _ _ _ c.self.view_is c.self.invariant)

@@ -15,5 +15,4 @@ returns c =
       root_is_node = w.root_is_node;
       utf8 = whole_utf8 c.args.self.now w.texts_are_utf8;
       short = omega (arith, w.short, ap length w.text_is);
-      few = w.few;
     }

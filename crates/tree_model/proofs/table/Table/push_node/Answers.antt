@@ -15,9 +15,6 @@ ends c = ap (λ r. r.end) c.row-node.ensures.value ∙ end_of_row c.args.self.no
 pub overflow_sub-end : goal.overflow_sub-end
 overflow_sub-end c = omega (arith, ends (goal.at.overflow_sub-end c).After-row-node)
 
-pub overflow_cast-end : goal.overflow_cast-end
-overflow_cast-end c = omega (arith, ends (goal.at.overflow_cast-end c).After-row-node, c.requires.rows_fit)
-
 pub overflow_add-n : goal.overflow_add-n
 overflow_add-n c = omega (arith, ends (goal.at.overflow_add-n c).After-row-node, c.row-node.ensures.end_fits, some_row (tree_at c.args.self.now c.args.n))
 
@@ -36,5 +33,5 @@ returns c =
     (λ is. node_pushed c.args.self.now c.args.n c.requires.is_row c.row-node.result c.args.rows.now c.push.new.self c.push_moved.new.rows (c.args.n + 1) c.args.to c.args.byte c.args.up c.requires.is_node c.row-node.ensures.value (omega arith) c.in_ok-push.ensures.ok is)
     c.push_moved.ensures
 
-pub overflow_cast-end-2 : goal.overflow_cast-end-2
-overflow_cast-end-2 c = omega (arith, ends (goal.at.overflow_cast-end-2 c).After-row-node, c.requires.rows_fit)
+pub push-requires : goal.push-requires
+push-requires c = omega (arith, ends (goal.at.push-requires c).After-row-node, c.requires.rows_fit)

@@ -15,10 +15,10 @@ shows : (c : After-row-after) → Represents c.self.inside.rows (string_bytes c.
 shows c = shown _ _ _ c.self.view_is c.self.invariant
 
 counts : (c : After-row-after) → c.len-len.result ≡ size c.args.self.now
-counts c = c.len-len.ensures ∙ rows_len _ _ _ (shows c)
+counts c = c.len-len.ensures.value ∙ rows_len _ _ _ (shows c)
 
 -- there is room for all the rows
-fits : (c : After-row-after) → (c.len-len.result - (c.row-after.result.end - c.args.n)) + c.args.count < 2 ^ 31 → (size c.args.self.now - size (tree_at c.args.self.now c.args.n)) + c.args.count < 2 ^ 31
+fits : (c : After-row-after) → (c.len-len.result - (c.row-after.result.end - c.args.n)) + c.args.count < 2 ^ 63 → (size c.args.self.now - size (tree_at c.args.self.now c.args.n)) + c.args.count < 2 ^ 63
 fits c h = omega (arith, h, counts c, ends c)
 
 pub overflow_sub-after : goal.overflow_sub-after
@@ -40,4 +40,7 @@ pub returns-clause-fits : goal.returns-clause-fits
 returns-clause-fits c = fits (goal.at.returns-clause-fits c).After-row-after c.in_ok-rows.ensures.fits
 
 pub overflow_add-len : goal.overflow_add-len
-overflow_add-len c = let w = shows (goal.at.overflow_add-len c).After-row-after in omega (arith, counts (goal.at.overflow_add-len c).After-row-after, c.requires.count_fits, w.few)
+overflow_add-len c = omega (arith, c.len-len.ensures.small, c.requires.count_fits)
+
+pub overflow_add-by : goal.overflow_add-by
+overflow_add-by c = omega (arith, counts (goal.at.overflow_add-by c).After-row-after, c.len-len.ensures.small, c.requires.is_row, c.requires.count_fits)

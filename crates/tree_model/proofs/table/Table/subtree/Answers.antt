@@ -2,7 +2,7 @@ use Rattle.std.proofs.Common.{◌∙◌, ◌++◌, ap, arith}
 use Rattle.std.specs.Prelude.{string_bytes}
 use Rattle.tree_model.specs.Tree.{cons, nil}
 use Rattle.tree_model.specs.Rows.{tree_at, rows_of, Represents}
-use Rattle.tree_model.proofs.TableLemmas.{shown, table_of, tree_of_rows-rows_of}
+use Rattle.tree_model.proofs.TableLemmas.{shown, rows_len, table_of, tree_of_rows-rows_of}
 use Rattle.tree_model.proofs.EditLemmas.{subtree_shown, text_fits, within_rows}
 use Rattle.tree_model.proofs.table.Table.subtree.Goals as goal
 use Rattle.tree_model.proofs.table.Table.subtree.Goals.{In_ok-push_node}
@@ -10,7 +10,7 @@ use Rattle.tree_model.proofs.table.Table.subtree.Goals.{In_ok-push_node}
 pub push_node-requires-clause-rows_fit : goal.push_node-requires-clause-rows_fit
 push_node-requires-clause-rows_fit c =
     let w = shown _ _ _ c.self.view_is c.self.invariant in
-    omega (arith, w.few, within_rows c.args.self.now c.args.n c.requires.is_row)
+    omega (arith, c.len-count.ensures.small, c.len-count.ensures.value, rows_len _ _ _ w, within_rows c.args.self.now c.args.n c.requires.is_row)
 
 pub push_node-requires-clause-bytes_fit : goal.push_node-requires-clause-bytes_fit
 push_node-requires-clause-bytes_fit c = omega (arith, text_fits _ _ c.args.self.now c.args.n (shown _ _ _ c.self.view_is c.self.invariant) c.requires.is_row)

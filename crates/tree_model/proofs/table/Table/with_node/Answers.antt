@@ -18,8 +18,8 @@ fits c = answered c.spliced_text.result c.in_ok-spliced.spliced _ _ c.in_ok-spli
 shows : (c : In_ok-rows) → Represents c.in_ok-rows.rows (string_bytes c.in_ok-spliced.spliced) (replace c.args.self.now (place_at c.args.self.now c.args.n) (tree_at c.args.piece.now c.args.other))
 shows c =
     let w : Represents c.self.inside.rows (string_bytes c.self.inside.text) c.args.self.now = shown _ _ _ c.self.view_is c.self.invariant in
-    replaced_shown c.args.self.now c.args.n (tree_at c.args.piece.now c.args.other) c.self.inside.rows c.in_ok-rows.rows (string_bytes c.self.inside.text) (string_bytes c.in_ok-spliced.spliced) c.requires.is_row w c.in_ok-rows.ensures.rows (c.in_ok-spliced.ensures.ok ∙ ap (splice (text c.args.self.now) (start_at c.args.self.now c.args.n) (end_at c.args.self.now c.args.n)) c.text_at.ensures)
-    (omega (arith, answered c.spliced_text.result c.in_ok-spliced.spliced _ _ c.in_ok-spliced.was (ap length (spliced_at c.args.self.now c.args.n (tree_at c.args.piece.now c.args.other) c.requires.is_row ∙ ap (splice (text c.args.self.now) (start_at c.args.self.now c.args.n) (end_at c.args.self.now c.args.n)) (sym c.text_at.ensures))) c.spliced_text.ensures.too_long, ap length (spliced_at c.args.self.now c.args.n (tree_at c.args.piece.now c.args.other) c.requires.is_row))) (c.in_ok-rows.ensures.fits) (subtree_at_utf8 _ _ c.args.piece.now c.args.other (shown _ _ _ c.piece.view_is c.piece.invariant) c.requires.is_other) (root_after_node c.args.self.now (place_at c.args.self.now c.args.n) (tree_at c.args.piece.now c.args.other) w.root_is_node c.requires.is_node)
+    replaced_shown c.args.self.now c.args.n (tree_at c.args.piece.now c.args.other) c.self.inside.rows c.in_ok-rows.rows (string_bytes c.self.inside.text) (string_bytes c.in_ok-spliced.spliced) c.requires.is_row w c.in_ok-rows.ensures (c.in_ok-spliced.ensures.ok ∙ ap (splice (text c.args.self.now) (start_at c.args.self.now c.args.n) (end_at c.args.self.now c.args.n)) c.text_at.ensures)
+    (omega (arith, answered c.spliced_text.result c.in_ok-spliced.spliced _ _ c.in_ok-spliced.was (ap length (spliced_at c.args.self.now c.args.n (tree_at c.args.piece.now c.args.other) c.requires.is_row ∙ ap (splice (text c.args.self.now) (start_at c.args.self.now c.args.n) (end_at c.args.self.now c.args.n)) (sym c.text_at.ensures))) c.spliced_text.ensures.too_long, ap length (spliced_at c.args.self.now c.args.n (tree_at c.args.piece.now c.args.other) c.requires.is_row))) (subtree_at_utf8 _ _ c.args.piece.now c.args.other (shown _ _ _ c.piece.view_is c.piece.invariant) c.requires.is_other) (root_after_node c.args.self.now (place_at c.args.self.now c.args.n) (tree_at c.args.piece.now c.args.other) w.root_is_node c.requires.is_node)
 
 pub returns-in_err-spliced-clause-too_long : goal.returns-in_err-spliced-clause-too_long
 returns-in_err-spliced-clause-too_long c =

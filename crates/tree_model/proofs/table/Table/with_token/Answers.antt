@@ -1,11 +1,10 @@
 use Rattle.std.proofs.Common.{◌≡◌, ◌<◌, ap, arith, length}
 use Rattle.std.specs.Prelude.{◌^◌, string_bytes}
 use Rattle.tree_model.specs.Tree.{text, token}
-use Rattle.tree_model.proofs.At.{some_row}
-use Rattle.tree_model.specs.Rows.{place_at, tree_at, start_at, end_at, Represents}
+use Rattle.tree_model.specs.Rows.{place_at, start_at, end_at, Represents}
 use Rattle.tree_model.specs.Edit.{splice, replace}
 use Rattle.tree_model.proofs.TableLemmas.{shown, table_of}
-use Rattle.tree_model.proofs.EditLemmas.{spliced_at, replaced_shown, as_table, root_after_token, within_rows}
+use Rattle.tree_model.proofs.EditLemmas.{spliced_at, replaced_shown, as_table, root_after_token}
 use Rattle.tree_model.proofs.ReplaceErrors.{handed_on, memory_exactly, answered, ok_exactly}
 use Rattle.tree_model.proofs.table.Table.with_token.Goals as goal
 use Rattle.tree_model.proofs.table.Table.with_token.Goals.{After-spliced_text, In_ok-spliced, In_ok-rows}
@@ -21,7 +20,7 @@ shows c =
     let w : Represents c.self.inside.rows (string_bytes c.self.inside.text) c.args.self.now = shown _ _ _ c.self.view_is c.self.invariant in
     replaced_shown c.args.self.now c.args.n (token c.args.kind c.args.new.now) c.self.inside.rows c.in_ok-rows.rows (string_bytes c.self.inside.text) (string_bytes c.in_ok-spliced.spliced) c.requires.is_row w c.in_ok-rows.ensures c.in_ok-spliced.ensures.ok
     (omega (arith, answered c.spliced_text.result c.in_ok-spliced.spliced _ _ c.in_ok-spliced.was (ap length (spliced_at c.args.self.now c.args.n (token c.args.kind c.args.new.now) c.requires.is_row)) c.spliced_text.ensures.too_long, ap length (spliced_at c.args.self.now c.args.n (token c.args.kind c.args.new.now) c.requires.is_row)))
-    (omega (arith, w.few, some_row (tree_at c.args.self.now c.args.n), within_rows c.args.self.now c.args.n c.requires.is_row)) (c.utf8.new, tt) (root_after_token c.args.self.now (place_at c.args.self.now c.args.n) (token c.args.kind c.args.new.now) w.root_is_node c.requires.is_token)
+    (c.utf8.new, tt) (root_after_token c.args.self.now (place_at c.args.self.now c.args.n) (token c.args.kind c.args.new.now) w.root_is_node c.requires.is_token)
 
 pub returns-in_err-spliced-clause-too_long : goal.returns-in_err-spliced-clause-too_long
 returns-in_err-spliced-clause-too_long c =

@@ -1,9 +1,0 @@
-pub mod CommonAncestors
-pub mod Deepest
-pub mod FirstCast
-pub mod Merging
-pub mod PointerCasts
-pub mod SiblingLists
-pub mod TokenLists
-pub mod TokensAround
-pub mod ViewLists

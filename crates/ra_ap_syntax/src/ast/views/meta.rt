@@ -1,0 +1,134 @@
+//! What an attribute says.
+ghost use Rattle.std.specs.Prelude.{◌≡◌, Some};
+ghost use Rattle.tree_model.specs.Tree.{text};
+ghost use Rattle.tree_model.specs.Cursor.{focus};
+ghost use Rattle.ra_ap_syntax.specs.declared.ast.views.meta.Meta.TheVariants as meta;
+ghost use Rattle.ras_node.specs.Sets.{is_meta};
+ghost use Rattle.ra_ap_syntax.specs.MetaCases.{meta_node, meta_castable};
+
+use crate::ast::{self, AstNode, Typed, raw};
+use lossless_tree::{SyntaxKind, SyntaxNode};
+use ras_node::sets::{KindSet, Metas};
+use std::fmt;
+use std::hash::Hash;
+
+/// `cfg_attr(p, m)`.
+pub type CfgAttrMeta = Typed<{ raw::CFG_ATTR_META }>;
+
+/// `cfg(p)`.
+pub type CfgMeta = Typed<{ raw::CFG_META }>;
+
+/// An attribute with a value: `a = b`.
+pub type KeyValueMeta = Typed<{ raw::KEY_VALUE_META }>;
+
+/// An attribute that is a path: `a::b`.
+pub type PathMeta = Typed<{ raw::PATH_META }>;
+
+/// An attribute with arguments: `a(..)`.
+pub type TokenTreeMeta = Typed<{ raw::TOKEN_TREE_META }>;
+
+/// `unsafe(m)`.
+pub type UnsafeMeta = Typed<{ raw::UNSAFE_META }>;
+
+/// What an attribute says.
+#[derive(Clone, PartialEq, Eq, Hash, Drop)]
+pub enum Meta {
+    CfgAttrMeta(ast::CfgAttrMeta),
+    CfgMeta(ast::CfgMeta),
+    KeyValueMeta(ast::KeyValueMeta),
+    PathMeta(ast::PathMeta),
+    TokenTreeMeta(ast::TokenTreeMeta),
+    UnsafeMeta(ast::UnsafeMeta),
+}
+
+impl AstNode for Meta {
+    ghost casts = { is_meta };
+
+    ghost node = { meta_node };
+
+    ghost castable = { meta_castable };
+
+    fn can_cast(kind: SyntaxKind) -> bool {
+        Metas::has(kind)
+    }
+
+    fn cast(syntax: SyntaxNode) -> Option<Meta> {
+        match syntax.kind() {
+            SyntaxKind::CFG_ATTR_META => Some(Meta::CfgAttrMeta(Typed { syntax })),
+            SyntaxKind::CFG_META => Some(Meta::CfgMeta(Typed { syntax })),
+            SyntaxKind::KEY_VALUE_META => Some(Meta::KeyValueMeta(Typed { syntax })),
+            SyntaxKind::PATH_META => Some(Meta::PathMeta(Typed { syntax })),
+            SyntaxKind::TOKEN_TREE_META => Some(Meta::TokenTreeMeta(Typed { syntax })),
+            SyntaxKind::UNSAFE_META => Some(Meta::UnsafeMeta(Typed { syntax })),
+            _ => None,
+        }
+    }
+
+    fn syntax(&self) -> &SyntaxNode {
+        match self {
+            Meta::CfgAttrMeta(it) => it.syntax(),
+            Meta::CfgMeta(it) => it.syntax(),
+            Meta::KeyValueMeta(it) => it.syntax(),
+            Meta::PathMeta(it) => it.syntax(),
+            Meta::TokenTreeMeta(it) => it.syntax(),
+            Meta::UnsafeMeta(it) => it.syntax(),
+        }
+    }
+}
+
+impl fmt::Display for Meta {
+    ghost output = { λ it. Some (text (focus (meta_node it))) };
+
+    fn fmt<W: fmt::Write>(&self, f: &mut fmt::Formatter<W>) -> fmt::Result {
+        let text = self.syntax().as_str();
+        write!(f, "{text}")
+    }
+}
+
+impl From<ast::CfgAttrMeta> for Meta {
+    ghost from_gives = { λ it made. made ≡ meta.CfgAttrMeta it };
+
+    fn from(it: ast::CfgAttrMeta) -> Meta {
+        Meta::CfgAttrMeta(it)
+    }
+}
+
+impl From<ast::CfgMeta> for Meta {
+    ghost from_gives = { λ it made. made ≡ meta.CfgMeta it };
+
+    fn from(it: ast::CfgMeta) -> Meta {
+        Meta::CfgMeta(it)
+    }
+}
+
+impl From<ast::KeyValueMeta> for Meta {
+    ghost from_gives = { λ it made. made ≡ meta.KeyValueMeta it };
+
+    fn from(it: ast::KeyValueMeta) -> Meta {
+        Meta::KeyValueMeta(it)
+    }
+}
+
+impl From<ast::PathMeta> for Meta {
+    ghost from_gives = { λ it made. made ≡ meta.PathMeta it };
+
+    fn from(it: ast::PathMeta) -> Meta {
+        Meta::PathMeta(it)
+    }
+}
+
+impl From<ast::TokenTreeMeta> for Meta {
+    ghost from_gives = { λ it made. made ≡ meta.TokenTreeMeta it };
+
+    fn from(it: ast::TokenTreeMeta) -> Meta {
+        Meta::TokenTreeMeta(it)
+    }
+}
+
+impl From<ast::UnsafeMeta> for Meta {
+    ghost from_gives = { λ it made. made ≡ meta.UnsafeMeta it };
+
+    fn from(it: ast::UnsafeMeta) -> Meta {
+        Meta::UnsafeMeta(it)
+    }
+}

@@ -1,0 +1,4 @@
+pub mod FirstCast
+pub mod Steps
+pub mod TokenLists
+pub mod ViewLists

@@ -1,0 +1,16 @@
+use Rattle.std.proofs.Common.{◌∙◌, sym, ap}
+use Rattle.ras_node.specs.Searches.{first_token}
+use Rattle.ras_node.proofs.Steps.{token_found, token_passed, ended}
+use Rattle.ras_node.proofs.search.first_token.Goals as goal
+
+pub returns-then-is_token_among : goal.returns-then-is_token_among
+returns-then-is_token_among g c = c.into_token.ensures ∙ token_found g.S.KindSet.kinds c.loop-child.left c.next.new.self c.in-Some.child c.is_token_among.result c.in-Some.ensures.steps c.is_token_among.ensures c.if-is_token_among.true ∙ c.loop-child.invariant.same
+
+pub loop-child-preserved-else-is_token_among : goal.loop-child-preserved-else-is_token_among
+loop-child-preserved-else-is_token_among g c = record { same = token_passed g.S.KindSet.kinds c.loop-child.left c.next.new.self c.in-Some.child c.is_token_among.result c.in-Some.ensures.steps c.is_token_among.ensures c.if-is_token_among.false ∙ c.loop-child.invariant.same }
+
+pub loop-child-preserved : goal.loop-child-preserved
+loop-child-preserved g c = record { same = token_passed g.S.KindSet.kinds c.loop-child.left c.next.new.self c.in-Some.child c.is_token_among.result c.in-Some.ensures.steps c.is_token_among.ensures c.if-is_token_among.false ∙ c.loop-child.invariant.same }
+
+pub returns : goal.returns
+returns g c = ap (first_token g.S.KindSet.kinds) (sym (ended c.loop-child.left c.in_default.ensures.steps.0)) ∙ c.loop-child.invariant.same

@@ -1,0 +1,6 @@
+pub mod EitherCases
+pub mod KindSets
+pub mod Lookups
+pub mod Nodes
+pub mod Searches
+pub mod Sets

@@ -1,0 +1,46 @@
+-- The children of a node by their kinds, as cursors.
+use Rattle.std.specs.Prelude.{Bool, false, not, ◌&&◌, List, [], ◌∷◌, Option, if◌then◌else◌}
+use Rattle.std.specs.List.{filter, find}
+use Rattle.lossless_tree.specs.declared.cursor.element.NodeOrToken.{NodeOrToken}
+use Rattle.lossless_tree.specs.declared.cursor.element.NodeOrToken.TheVariants.{Node, Token}
+use Rattle.syntax_kind.specs.declared.syntax_kind.SyntaxKind.{SyntaxKind}
+use Rattle.tree_model.specs.Cursor.{Cursor, at_node, at_token}
+use Rattle.lossless_tree.specs.Element.{cursor_of}
+use Rattle.ras_node.specs.Nodes.{kind_at, has_kind_in}
+
+-- it is a token with a kind of the set
+abbrev pub is_token_in : (SyntaxKind → Bool) → Cursor → Bool
+is_token_in kinds c = at_token c && kinds (kind_at c)
+
+-- its kind is none of the set
+abbrev pub has_other_kind : (SyntaxKind → Bool) → Cursor → Bool
+has_other_kind kinds c = not (kinds (kind_at c))
+
+-- the same of an element
+abbrev pub is_node_among : (SyntaxKind → Bool) → NodeOrToken Cursor Cursor → Bool
+is_node_among kinds (Node c) = kinds (kind_at c)
+is_node_among kinds (Token c) = false
+
+abbrev pub is_token_among : (SyntaxKind → Bool) → NodeOrToken Cursor Cursor → Bool
+is_token_among kinds (Node c) = false
+is_token_among kinds (Token c) = kinds (kind_at c)
+
+abbrev pub is_other : (SyntaxKind → Bool) → NodeOrToken Cursor Cursor → Bool
+is_other kinds e = not (kinds (kind_at (cursor_of e)))
+
+-- of a list of cursors, the first node, and the first token, with a kind of the set
+abbrev pub first_node : (SyntaxKind → Bool) → List Cursor → Option Cursor
+first_node kinds l = find (has_kind_in kinds) (filter at_node l)
+
+abbrev pub first_token : (SyntaxKind → Bool) → List Cursor → Option Cursor
+first_token kinds l = find (has_kind_in kinds) (filter at_token l)
+
+-- of a list of cursors, those behind the first token with a kind of the set; none where there is no such token
+abbrev pub behind : (SyntaxKind → Bool) → List Cursor → List Cursor
+behind kinds [] = []
+behind kinds (c ∷ l) = if is_token_in kinds c then l else behind kinds l
+
+-- those before it; all where there is none
+abbrev pub before : (SyntaxKind → Bool) → List Cursor → List Cursor
+before kinds [] = []
+before kinds (c ∷ l) = if is_token_in kinds c then [] else c ∷ before kinds l

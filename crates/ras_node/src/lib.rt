@@ -1,0 +1,17 @@
+//! What every typed view of a node or token is, the sets of kinds of which views are, and what finds the children of a
+//! node by their types and kinds. No call takes memory, but for `AstNode::clone_subtree`.
+#![tactic(auto)]
+
+pub mod children;
+mod either_view;
+pub mod node;
+pub mod search;
+pub mod sets;
+pub mod support;
+pub mod token;
+
+pub use children::AstChildren;
+pub use node::{AstNode, cast_ref};
+pub use search::{behind, first_node, first_node_before, first_other, first_token};
+pub use sets::KindSet;
+pub use token::AstToken;

@@ -1,0 +1,154 @@
+//! What the lookups in a node are made of.
+ghost use Rattle.std.specs.Prelude.{◌≡◌, drop, option_map};
+ghost use Rattle.std.specs.List.{find, slice_get};
+ghost use Rattle.syntax_kind.specs.declared.syntax_kind.SyntaxKind.{SyntaxKind};
+ghost use Rattle.ras_node.specs.Lookups.{second_typed_child, view_in};
+ghost use Rattle.ras_node.specs.Searches.{first_node, before};
+ghost use Rattle.tree_model.specs.Cursor.{ancestors_of, parent_of};
+ghost use Rattle.ras_node.specs.Nodes.{has_kind_in, typed_children, typed_child, token_child, is_token_of};
+
+use crate::{AstChildren, AstNode, KindSet, search};
+use lossless_tree::{
+    NodeOrToken, SyntaxElement, SyntaxElementChildren, SyntaxKind, SyntaxNode, SyntaxToken,
+};
+use std::marker::PhantomData;
+
+/// The first child that can be viewed as an `N`.
+pub fn child<N: AstNode>(parent: &SyntaxNode) -> Option<N>
+    ensures { option_map N.node result ≡ typed_child N.casts parent.now }
+{
+    let mut children = children::<N>(parent);
+    children.next()
+}
+
+/// The children that can be viewed as an `N`, in order.
+pub fn children<N: AstNode>(parent: &SyntaxNode) -> AstChildren<N>
+    ensures { result ≡ typed_children N.casts parent.now }
+{
+    AstChildren::new(parent)
+}
+
+/// The first child token of a kind.
+pub fn token(parent: &SyntaxNode, kind: SyntaxKind) -> Option<SyntaxToken>
+    ensures { result ≡ token_child kind parent.now }
+{
+    let mut elements = parent.children_with_tokens();
+    while let Some(element) = elements.next() {
+        if is_token(&element, kind) {
+            return element.into_token();
+        }
+    }
+    None
+}
+
+// Whether an element is a token of a kind.
+fn is_token(element: &SyntaxElement, kind: SyntaxKind) -> bool
+    ensures { result ≡ is_token_of kind element.now }
+{
+    match element {
+        NodeOrToken::Node(_) => false,
+        NodeOrToken::Token(token) => token.kind().to_raw() == kind.to_raw(),
+    }
+}
+
+/// Another cursor at the same node. It takes no memory.
+pub fn share(node: &SyntaxNode) -> SyntaxNode
+    ensures { result ≡ node.now }
+{
+    match node.clone() {
+        Ok(copy) => copy,
+        Err(_) => unreachable!(),
+    }
+}
+
+/// Another view of the same node. It takes no memory.
+pub fn copy<N: AstNode>(it: &N) -> N
+    ensures { N.node result ≡ N.node it.now }
+{
+    match N::cast(share(it.syntax())) {
+        Some(copy) => copy,
+        None => unreachable!(),
+    }
+}
+
+/// The second child that can be viewed as an `N`.
+pub fn second_child<N: AstNode + Drop>(parent: &SyntaxNode) -> Option<N>
+    ensures { option_map N.node result ≡ second_typed_child N.casts parent.now }
+{
+    let mut all = children::<N>(parent);
+    let _first = all.next()?;
+    all.next()
+}
+
+/// The kinds of the nodes that can be viewed as an `N`.
+pub struct KindsOf<N: AstNode> {
+    view: PhantomData<N>,
+}
+
+impl<N: AstNode> KindSet for KindsOf<N> {
+    ghost kinds = { N.casts };
+
+    fn has(kind: SyntaxKind) -> bool {
+        N::can_cast(kind)
+    }
+}
+
+/// The first of some children that can be viewed as an `N`.
+pub fn first<N: AstNode>(left: SyntaxElementChildren) -> Option<N>
+    ensures { option_map N.node result ≡ first_node N.casts left }
+{
+    N::cast(search::first_node::<KindsOf<N>>(left)?)
+}
+
+/// The first of them before the first token with a kind of the set.
+pub fn first_before<N: AstNode, T: KindSet>(left: SyntaxElementChildren) -> Option<N>
+    ensures { option_map N.node result ≡ first_node N.casts (before T.kinds left) }
+{
+    N::cast(search::first_node_before::<KindsOf<N>, T>(left)?)
+}
+
+/// The third child that can be viewed as an `N`.
+pub fn third_child<N: AstNode + Drop>(parent: &SyntaxNode) -> Option<N>
+    ensures { option_map N.node result ≡ slice_get (typed_children N.casts parent.now) 2 }
+{
+    let mut all = children::<N>(parent);
+    let _one = all.next()?;
+    let _two = all.next()?;
+    all.next()
+}
+
+/// The same node viewed as an `M`; `None` where it can't be.
+pub fn recast<N: AstNode + Drop, M: AstNode>(it: Option<N>) -> Option<M>
+    ensures { option_map M.node result ≡ view_in M.casts (option_map N.node it) }
+{
+    let it = it?;
+    M::cast(share(it.syntax()))
+}
+
+/// The view of a node; `None` where there is none, and where it can't be viewed so.
+pub fn view<N: AstNode>(node: Option<SyntaxNode>) -> Option<N>
+    ensures { option_map N.node result ≡ view_in N.casts node }
+{
+    N::cast(node?)
+}
+
+/// The parent of a node, viewed as an `N`; `None` where there is none, and where it can't be viewed so.
+pub fn parent_as<N: AstNode>(node: &SyntaxNode) -> Option<N>
+    ensures { option_map N.node result ≡ view_in N.casts (parent_of node.now) }
+{
+    view(node.parent())
+}
+
+/// The nearest node above a node that can be viewed as an `N`; `None` where there is none.
+pub fn ancestor_as<N: AstNode>(node: &SyntaxNode) -> Option<N>
+    ensures { option_map N.node result ≡ find (has_kind_in N.casts) (drop 1 (ancestors_of node.now)) }
+{
+    let mut above = node.ancestors();
+    let _itself = above.next();
+    while let Some(ancestor) = above.next() {
+        if N::can_cast(ancestor.kind()) {
+            return N::cast(ancestor);
+        }
+    }
+    None
+}
