@@ -1,6 +1,6 @@
 //! Equality and hash of cursors, and copies of their iterators.
-use crate::plain_tree::PlainTree;
 use lossless_tree::{Direction, SyntaxElement, SyntaxNode, TextSize};
+use plain_trees::PlainTree;
 use std::hash::{DefaultHasher, Hash, Hasher};
 use std::iter::repeat;
 use std::test::Fail;

@@ -2,10 +2,6 @@
 #![tactic(auto)]
 
 #[cfg(test)]
-mod algo;
-#[cfg(test)]
-mod casts;
-#[cfg(test)]
 mod edits;
 #[cfg(test)]
 mod equality;
@@ -15,16 +11,6 @@ mod escapes;
 mod events;
 #[cfg(test)]
 mod kinds;
-#[cfg(test)]
-mod lookups;
-#[cfg(test)]
-mod matches;
-#[cfg(test)]
-mod plain_tree;
-#[cfg(test)]
-mod plain_walks;
-#[cfg(test)]
-mod pointers;
 #[cfg(test)]
 mod searches;
 #[cfg(test)]

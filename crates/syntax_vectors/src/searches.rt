@@ -1,7 +1,7 @@
 //! Searches of a tree by offset: worked rows, and every offset from every node of three small trees by a plain slow
 //! program.
-use crate::plain_tree::{PlainTree, SUM};
 use lossless_tree::{NodeOrToken, SyntaxKind, SyntaxNode, SyntaxNodePtr, TextRange, TextSize};
+use plain_trees::{PlainTree, SUM};
 use std::test::Fail;
 
 // Trees with empty tokens and empty nodes at each end and in between; each node and token has a kind of its own.

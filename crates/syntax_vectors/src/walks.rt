@@ -1,9 +1,8 @@
 //! Walks and steps among nodes and tokens: each call at each place of three small trees, by a plain slow program.
-use crate::plain_tree::PlainTree;
-use crate::plain_walks::{Among, before, behind};
 use lossless_tree::{
     Direction, NodeOrToken, SyntaxElement, SyntaxKind, SyntaxNode, SyntaxToken, WalkEvent,
 };
+use plain_trees::{Among, PlainTree, before, behind};
 use std::test::Fail;
 
 // Trees with empty tokens and empty nodes at each end and in between; each node and token has a kind of its own.

@@ -1,10 +1,10 @@
-// A plain nested tree: written down as words, turned into a syntax tree, and asked slowly, by recursion over all of it.
-// It shares nothing with the crate under test but kinds.
+//! A plain nested tree: written down as words, turned into a syntax tree, and asked slowly, by recursion over all of it.
+//! It shares nothing with the crate under test but kinds.
 use lossless_tree::{SyntaxKind, SyntaxNode, TreeBuilder};
 use std::alloc::Global;
 use std::test::Fail;
 
-// The words of the tree of `1 + 1`.
+/// The words of the tree of `1 + 1`.
 pub const SUM: &str =
     "BIN_EXPR( LITERAL( INT_NUMBER:1 ) WHITESPACE:~ PLUS:+ WHITESPACE:~ LITERAL( INT_NUMBER:1 ) )";
 
@@ -41,8 +41,8 @@ fn put(open: &mut Vec<Unfinished>, tree: PlainTree) -> Result<Option<PlainTree>,
 }
 
 impl PlainTree {
-    // Reads a tree. Words are parted by a space: `KIND(` or `(` enters a node, `)` leaves it, and `KIND:text` or `:text`
-    // is a token. In a text `~` stands for a space.
+    /// Reads a tree. Words are parted by a space: `KIND(` or `(` enters a node, `)` leaves it, and `KIND:text` or `:text`
+    /// is a token. In a text `~` stands for a space.
     pub fn read(alloc: Global, words: &'static str) -> Result<PlainTree, Fail> {
         let mut open: Vec<Unfinished> = Vec::new(alloc);
         let mut number: u16 = 0;
@@ -75,7 +75,7 @@ impl PlainTree {
         }
     }
 
-    // How many bytes the text has.
+    /// How many bytes the text has.
     pub fn len(&self) -> usize {
         match self {
             PlainTree::Node(_, children) => {
@@ -89,7 +89,7 @@ impl PlainTree {
         }
     }
 
-    // The syntax tree that is the same.
+    /// The syntax tree that is the same.
     pub fn build(&self, alloc: Global) -> Result<SyntaxNode, Fail> {
         let mut builder = TreeBuilder::new(alloc);
         self.append(&mut builder)?;
@@ -110,8 +110,8 @@ impl PlainTree {
         Ok(())
     }
 
-    // The kinds of the tokens that have a text and touch the offset, put behind those that are found already. The tree
-    // starts at `start`.
+    /// The kinds of the tokens that have a text and touch the offset, put behind those that are found already. The tree
+    /// starts at `start`.
     pub fn tokens_at(
         &self,
         start: usize,
@@ -136,7 +136,7 @@ impl PlainTree {
         Ok(())
     }
 
-    // Where what has the kind starts. The tree starts at `start`.
+    /// Where what has the kind starts. The tree starts at `start`.
     pub fn start_of(&self, start: usize, kind: SyntaxKind) -> Option<usize> {
         if self.kind() == kind {
             return Some(start);
@@ -153,7 +153,7 @@ impl PlainTree {
         None
     }
 
-    // The kind of what covers the range `from..to`. The tree starts at `start`.
+    /// The kind of what covers the range `from..to`. The tree starts at `start`.
     pub fn covering(&self, start: usize, from: usize, to: usize) -> SyntaxKind {
         match self {
             PlainTree::Node(kind, children) => {

@@ -1,6 +1,6 @@
 //! Lookups in typed nodes: each shape, each trait that types share on one of its types, and rust-analyzer's tests of where
 //! predicates.
-use crate::plain_tree::PlainTree;
+use plain_trees::PlainTree;
 use ra_ap_syntax::ast::{
     self, AstChildren, AstNode, HasArgList, HasAttrs, HasGenericArgs, HasGenericParams,
     HasLoopBody, HasModuleItem, HasName, HasTypeBounds, HasVisibility,

@@ -1,9 +1,9 @@
-// What walks and steps answer, slowly, by recursion over a plain nested tree. A node or token is named by its kind.
+//! What walks and steps answer, slowly, by recursion over a plain nested tree. A node or token is named by its kind.
 use crate::plain_tree::PlainTree;
 use lossless_tree::{Direction, SyntaxKind};
 use std::test::Fail;
 
-// Which of the nodes and tokens are meant.
+/// Which of the nodes and tokens are meant.
 #[derive(Clone, Copy, PartialEq, Eq)]
 pub enum Among {
     Nodes,
@@ -19,7 +19,7 @@ impl PlainTree {
         }
     }
 
-    // The kinds below and at the tree, a node before its children.
+    /// The kinds below and at the tree, a node before its children.
     pub fn preorder(&self, among: Among, found: &mut Vec<SyntaxKind>) -> Result<(), Fail> {
         if self.is_among(among) {
             found.push(self.kind())?;
@@ -32,7 +32,7 @@ impl PlainTree {
         Ok(())
     }
 
-    // The steps of a walk: whether it enters or leaves, and the kind.
+    /// The steps of a walk: whether it enters or leaves, and the kind.
     pub fn walk(&self, among: Among, found: &mut Vec<(bool, SyntaxKind)>) -> Result<(), Fail> {
         if self.is_among(among) {
             found.push((true, self.kind()))?;
@@ -48,7 +48,7 @@ impl PlainTree {
         Ok(())
     }
 
-    // The kinds of the children.
+    /// The kinds of the children.
     pub fn children(&self, among: Among, found: &mut Vec<SyntaxKind>) -> Result<(), Fail> {
         if let PlainTree::Node(_, children) = self {
             for child in children {
@@ -60,7 +60,7 @@ impl PlainTree {
         Ok(())
     }
 
-    // What has the kind.
+    /// What has the kind.
     pub fn find(&self, kind: SyntaxKind) -> Option<&PlainTree> {
         if self.kind() == kind {
             return Some(self);
@@ -75,7 +75,7 @@ impl PlainTree {
         None
     }
 
-    // The kinds of what stands above the kind, the nearest first.
+    /// The kinds of what stands above the kind, the nearest first.
     pub fn above(&self, kind: SyntaxKind, found: &mut Vec<SyntaxKind>) -> Result<bool, Fail> {
         if self.kind() == kind {
             return Ok(true);
@@ -91,7 +91,7 @@ impl PlainTree {
         Ok(false)
     }
 
-    // The siblings of the kind in a direction, the nearest first, without itself.
+    /// The siblings of the kind in a direction, the nearest first, without itself.
     pub fn siblings(
         &self,
         kind: SyntaxKind,
@@ -118,7 +118,7 @@ impl PlainTree {
     }
 }
 
-// The one behind the kind in a list; none behind the last.
+/// The one behind the kind in a list; none behind the last.
 pub fn behind(kinds: &Vec<SyntaxKind>, kind: SyntaxKind) -> Option<SyntaxKind> {
     let mut passed = false;
     for other in kinds {
@@ -130,7 +130,7 @@ pub fn behind(kinds: &Vec<SyntaxKind>, kind: SyntaxKind) -> Option<SyntaxKind> {
     None
 }
 
-// The one before the kind in a list; none before the first.
+/// The one before the kind in a list; none before the first.
 pub fn before(kinds: &Vec<SyntaxKind>, kind: SyntaxKind) -> Option<SyntaxKind> {
     let mut last = None;
     for other in kinds {

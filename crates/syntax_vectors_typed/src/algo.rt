@@ -1,6 +1,6 @@
 //! The functions of `algo`: worked rows, mostly of the tree of `1 + 1`.
-use crate::plain_tree::{PlainTree, SUM};
 use lossless_tree::{NodeOrToken, SyntaxElement, SyntaxNode, SyntaxToken};
+use plain_trees::{PlainTree, SUM};
 use ra_ap_syntax::{AstNode, Direction, SyntaxKind, TextRange, TextSize, algo, ast};
 use std::test::Fail;
 

@@ -1,5 +1,5 @@
 //! `match_ast!` from another crate.
-use crate::plain_tree::PlainTree;
+use plain_trees::PlainTree;
 use ra_ap_syntax::ast::{self, HasName};
 use ra_ap_syntax::{AstNode, SyntaxNode, match_ast};
 use std::test::Fail;

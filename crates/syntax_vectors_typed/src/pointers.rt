@@ -1,7 +1,7 @@
 //! Pointers that remember what a node is viewed as.
-use crate::plain_tree::PlainTree;
 use either::Either;
 use lossless_tree::SyntaxNode;
+use plain_trees::PlainTree;
 use ra_ap_syntax::{AstNode, AstPtr, SyntaxKind, SyntaxNodePtr, TextRange, TextSize, ast};
 use std::hash::{DefaultHasher, Hash, Hasher};
 use std::test::Fail;

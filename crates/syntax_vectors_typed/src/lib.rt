@@ -1,0 +1,13 @@
+//! Tests of the typed layer: what no contract below says, and each call at least once.
+#![tactic(auto)]
+
+#[cfg(test)]
+mod algo;
+#[cfg(test)]
+mod casts;
+#[cfg(test)]
+mod lookups;
+#[cfg(test)]
+mod matches;
+#[cfg(test)]
+mod pointers;
