@@ -1,0 +1,57 @@
+//! The tests, at the operands of an operator tree.
+ghost use Rattle.std.specs.Prelude.{◌≡◌, ◌↔◌, ◌∷◌, List, ℕ, Some, true, false};
+ghost use Rattle.tree_model.specs.Cursor.{Cursor, focus, parent_of};
+ghost use Rattle.operator_terms.specs.Term.{Term, Paren, tokens};
+ghost use Rattle.operator_terms.specs.Reading.{begins_with_angle, Reads};
+ghost use Rattle.operator_terms.specs.Places.{Demand, Part, some_part, operand, Fits, FitsPlace};
+ghost use Rattle.operator_terms.specs.Pairs.{without};
+ghost use Rattle.operator_trees.specs.Leaves.{leaves_behind};
+ghost use Rattle.operator_trees.specs.Shown.{meaning, IsTerm};
+ghost use Rattle.operator_powers.specs.Rules.{form_at, is_foreign};
+ghost use Rattle.operator_pairs.specs.Pairs.{operand_cursor, angle_behind, asks, MayGoBefore};
+
+use lossless_tree::SyntaxNode;
+
+// What is asked at the place's own parent.
+fn is_asked(own: &SyntaxNode, parent: &SyntaxNode, place: &SyntaxNode) -> bool
+    ensures { parent_of place.now ≡ Some parent.now → is_foreign (form_at own.now) ≡ false → result ≡ asks own.now parent.now place.now }
+{
+    operator_places::test::needs_parens_in_place_of(own, parent, place)
+}
+
+/// Whether an expression needs parentheses in place of what stands at `place`, whose parent is `parent`, or an ancestor.
+///
+/// At an operand below the root of an operator tree, asked with the operand's own parent node (for an argument that is the list
+/// of arguments), it answers false exactly where the expression fits there, before the tokens that stand behind the operand in the
+/// whole tree. Of a pair's inside in place of the pair, where the tree reads back, this is: exactly where the tokens without the
+/// pair read as the term without it; and then no other term reads them.
+pub fn needs_parens_in_place_of(own: &SyntaxNode, parent: &SyntaxNode, place: &SyntaxNode) -> bool
+    ensures asks { parent_of place.now ≡ Some parent.now → is_foreign (form_at own.now) ≡ false → result ≡ asks own.now parent.now place.now }
+    ensures fits { (r : Cursor) (t s : Term) (i : ℕ) (q : List ℕ) (held : Part) → meaning (focus r) ≡ IsTerm t → operand t (i ∷ q) ≡ Some held
+        → place.now ≡ operand_cursor r t (i ∷ q) → parent_of place.now ≡ Some parent.now → meaning (focus own.now) ≡ IsTerm s
+        → result ≡ false ↔ FitsPlace held.demand (angle_behind r t (i ∷ q)) s }
+    ensures pairs { (r : Cursor) (t : Term) (i : ℕ) (q : List ℕ) (d : Demand) (e : Term) → meaning (focus r) ≡ IsTerm t → operand t (i ∷ q) ≡ some_part d (Paren e)
+        → place.now ≡ operand_cursor r t (i ∷ q) → parent_of place.now ≡ Some parent.now → meaning (focus own.now) ≡ IsTerm e
+        → Reads 0 (tokens t) t → MayGoBefore (leaves_behind r.tree r.place) t (i ∷ q)
+        → (result ≡ false ↔ Reads 0 (tokens (without (i ∷ q) t)) (without (i ∷ q) t))
+        × (result ≡ false → (u : Term) → Reads 0 (tokens (without (i ∷ q) t)) u → u ≡ without (i ∷ q) t) }
+{
+    is_asked(own, parent, place)
+}
+
+/// The same in its own place.
+///
+/// At an operand below the root of an operator tree, asked with the operand's own parent node, it answers false exactly where the
+/// operand fits, before the tokens that stand behind it in the whole tree. Where neither `<` nor `<<` follows the operator tree,
+/// this is `Fits`, of the term alone.
+pub fn needs_parens_in(own: &SyntaxNode, parent: &SyntaxNode) -> bool
+    ensures asks { parent_of own.now ≡ Some parent.now → is_foreign (form_at own.now) ≡ false → result ≡ asks own.now parent.now own.now }
+    ensures fits { (r : Cursor) (t : Term) (i : ℕ) (q : List ℕ) (held : Part) → meaning (focus r) ≡ IsTerm t → operand t (i ∷ q) ≡ Some held
+        → own.now ≡ operand_cursor r t (i ∷ q) → parent_of own.now ≡ Some parent.now
+        → result ≡ false ↔ FitsPlace held.demand (angle_behind r t (i ∷ q)) held.term }
+    ensures alone { (r : Cursor) (t : Term) (i : ℕ) (q : List ℕ) (held : Part) → meaning (focus r) ≡ IsTerm t → operand t (i ∷ q) ≡ Some held
+        → own.now ≡ operand_cursor r t (i ∷ q) → parent_of own.now ≡ Some parent.now → begins_with_angle (leaves_behind r.tree r.place) ≡ false
+        → result ≡ false ↔ Fits t (i ∷ q) }
+{
+    needs_parens_in_place_of(own, parent, own)
+}
