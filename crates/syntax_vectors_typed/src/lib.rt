@@ -11,3 +11,7 @@ mod lookups;
 mod matches;
 #[cfg(test)]
 mod pointers;
+#[cfg(test)]
+mod trees;
+#[cfg(test)]
+mod violations;
