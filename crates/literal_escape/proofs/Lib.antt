@@ -6,3 +6,4 @@ pub mod Partial
 pub mod Ranges
 pub mod Remaining
 pub mod Single
+pub mod Within

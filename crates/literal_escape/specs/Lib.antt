@@ -1,3 +1,4 @@
 pub mod Literal
+pub mod Messages
 pub mod Pieces
 pub mod Reading

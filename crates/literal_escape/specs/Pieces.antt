@@ -171,6 +171,10 @@ single (r ∷ s ∷ more) = alone r.unit
 abbrev pub IsOffset : List ℕ → ℕ → Type 0
 IsOffset content n = (before : List ℕ) × (behind : List ℕ) × (content ≡ before ++ behind) × (n ≡ size before)
 
+-- a report lies in a content of so many bytes
+abbrev pub IsWithin : ℕ → Report → Type 0
+IsWithin len r = (r.start ≤ len) × (r.end ≤ len)
+
 -- where the next report may begin: a unit is over at its end, but a warning covers the reports behind it
 abbrev pub is_warned : Result MixedUnit EscapeError → Bool
 is_warned (Ok unit) = false

@@ -1,5 +1,5 @@
--- What the reader's private functions answer, by the state that they stand in. Of these, public clauses cite to_come
--- and Gives alone: the pieces are in Pieces.
+-- What the reader's private functions answer, by the state that they stand in. Of these, public clauses cite
+-- to_come, reports_in and Gives alone: the pieces are in Pieces.
 use Rattle.std.specs.Prelude.{◌≡◌, ℕ, ◌+◌, ◌-◌, ◌*◌, ◌^◌, min, Bool, false, not, ◌==◌, ◌&&◌, ◌||◌, if◌then◌else◌, Option, Some, None, Result, Err, List, [], ◌∷◌}
 use Rattle.std.specs.Char.{digit_value, len_utf8, is_whitespace}
 use Rattle.std.specs.Str.{chars}
@@ -149,6 +149,10 @@ reports_of r [] = before (end_report_of r) []
 reports_of r (c ∷ cs) =
     before (warning_of r c) (before (if has_lines r.state then warning_of (warned_of r c) c else None)
     (before (read_report_of (left_of r c) c) (reports_of (read_of (left_of r c) c) cs)))
+
+-- the reports of a content, read from its start; `laws::read_by_cut` says that they are those of its cut
+abbrev pub reports_in : Mode → List ℕ → List Report
+reports_in mode content = reports_of (record { mode = mode; start = 0; at = 0; state = states.Start }) content
 
 -- the reports that are still to be given
 abbrev pub to_come : Units → List Report

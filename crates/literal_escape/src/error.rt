@@ -1,83 +1,62 @@
 // What can be wrong with a unit.
-ghost use Rattle.std.specs.Prelude.{◌≡◌, not};
+ghost use Rattle.std.specs.Prelude.{◌≡◌, Some, not};
 ghost use Rattle.literal_escape.specs.Literal.{is_warning};
+ghost use Rattle.literal_escape.specs.Messages.{message_of};
 
-use thiserror::Error;
+use std::error::Error;
+use std::fmt;
 
 /// What is wrong with a unit of a literal, or worth a warning at it.
 ///
 /// It prints as the message of a diagnostic. Two messages quote a raw carriage return (byte 0D).
-#[derive(Clone, Copy, Debug, PartialEq, Eq, Error)]
+#[derive(Clone, Copy, Debug, PartialEq, Eq)]
 pub enum EscapeError {
     /// A character or byte literal without content.
-    #[error("Literal must not be empty")]
     ZeroChars,
     /// Something follows the one good unit of a character or byte literal.
-    #[error("Literal must be one character long")]
     MoreThanOneChar,
     /// A backslash at the content's end.
-    #[error("Character must be escaped: `\\`")]
     LoneSlash,
     /// A backslash before a character that begins no escape.
-    #[error("Invalid escape")]
     InvalidEscape,
     /// A carriage return that stands for itself, also before a newline.
-    #[error("Character must be escaped: `\r`")]
     BareCarriageReturn,
     /// A carriage return in a raw string. No call of this crate answers it.
-    #[error("Character must be escaped: `\r`")]
     BareCarriageReturnInRawString,
     /// A character that must be escaped in this literal: `"` in the strings; `'`, newline and
     /// tab in a character or byte.
-    #[error("Escape character `\\` must be escaped itself")]
     EscapeOnlyChar,
     /// The content ends before the second digit of `\x`.
-    #[error("ASCII hex escape code must have exactly two digits")]
     TooShortHexEscape,
     /// Another character than a hexadecimal digit after `\x`.
-    #[error("ASCII hex escape code must contain only hex characters")]
     InvalidCharInHexEscape,
     /// A value over 7F in a character or string.
-    #[error("ASCII hex escape code must be at most 0x7F")]
     OutOfRangeHexEscape,
     /// No `{` after `\u`.
-    #[error("Missing `{{` to begin the unicode escape")]
     NoBraceInUnicodeEscape,
     /// Another character than a hexadecimal digit or an underscore within the braces.
-    #[error("Unicode escape must contain only hex characters and underscores")]
     InvalidCharInUnicodeEscape,
     /// Nothing within the braces.
-    #[error("Unicode escape must not be empty")]
     EmptyUnicodeEscape,
     /// The content ends before the closing brace.
-    #[error("Missing `}}` to terminate the unicode escape")]
     UnclosedUnicodeEscape,
     /// An underscore before the first digit.
-    #[error("Unicode escape code must not begin with an underscore")]
     LeadingUnderscoreUnicodeEscape,
     /// More than six digits.
-    #[error("Unicode escape code must have at most 6 digits")]
     OverlongUnicodeEscape,
     /// A value from D800 to DFFF.
-    #[error("Unicode escape code must not be a surrogate")]
     LoneSurrogateUnicodeEscape,
     /// A value over 10FFFF.
-    #[error("Unicode escape code must be at most 0x10FFFF")]
     OutOfRangeUnicodeEscape,
     /// `\u{..}` in a byte or byte string.
-    #[error("Byte literals must not contain unicode escapes")]
     UnicodeEscapeInByte,
     /// A character past ASCII in a byte or byte string.
-    #[error("Byte literals must not contain non-ASCII characters")]
     NonAsciiCharInByte,
     /// The character 0 in a C string, however it is written.
-    #[error("C strings literals must not contain null characters")]
     NulInCStr,
     /// A warning: what a continuation skips holds a second newline.
-    #[error("Multiple lines are skipped by this escape")]
     MultipleSkippedLinesWarning,
     /// A warning: white space that is not skipped follows a continuation.
-    #[error("Whitespace after this escape is not skipped")]
     UnskippedWhitespaceWarning,
 }
 
@@ -91,4 +70,52 @@ impl EscapeError {
             EscapeError::MultipleSkippedLinesWarning | EscapeError::UnskippedWhitespaceWarning
         )
     }
+
+    /// The message of a diagnostic. Two messages quote a raw carriage return (byte 0D).
+    pub fn message(self) -> &'static str
+        ensures { result.now ≡ message_of self }
+    {
+        match self {
+            EscapeError::ZeroChars => "Literal must not be empty",
+            EscapeError::MoreThanOneChar => "Literal must be one character long",
+            EscapeError::LoneSlash => "Character must be escaped: `\\`",
+            EscapeError::InvalidEscape => "Invalid escape",
+            EscapeError::BareCarriageReturn => "Character must be escaped: `\r`",
+            EscapeError::BareCarriageReturnInRawString => "Character must be escaped: `\r`",
+            EscapeError::EscapeOnlyChar => "Escape character `\\` must be escaped itself",
+            EscapeError::TooShortHexEscape => "ASCII hex escape code must have exactly two digits",
+            EscapeError::InvalidCharInHexEscape =>
+                "ASCII hex escape code must contain only hex characters",
+            EscapeError::OutOfRangeHexEscape => "ASCII hex escape code must be at most 0x7F",
+            EscapeError::NoBraceInUnicodeEscape => "Missing `{` to begin the unicode escape",
+            EscapeError::InvalidCharInUnicodeEscape =>
+                "Unicode escape must contain only hex characters and underscores",
+            EscapeError::EmptyUnicodeEscape => "Unicode escape must not be empty",
+            EscapeError::UnclosedUnicodeEscape => "Missing `}` to terminate the unicode escape",
+            EscapeError::LeadingUnderscoreUnicodeEscape =>
+                "Unicode escape code must not begin with an underscore",
+            EscapeError::OverlongUnicodeEscape => "Unicode escape code must have at most 6 digits",
+            EscapeError::LoneSurrogateUnicodeEscape =>
+                "Unicode escape code must not be a surrogate",
+            EscapeError::OutOfRangeUnicodeEscape => "Unicode escape code must be at most 0x10FFFF",
+            EscapeError::UnicodeEscapeInByte => "Byte literals must not contain unicode escapes",
+            EscapeError::NonAsciiCharInByte =>
+                "Byte literals must not contain non-ASCII characters",
+            EscapeError::NulInCStr => "C strings literals must not contain null characters",
+            EscapeError::MultipleSkippedLinesWarning => "Multiple lines are skipped by this escape",
+            EscapeError::UnskippedWhitespaceWarning =>
+                "Whitespace after this escape is not skipped",
+        }
+    }
 }
+
+impl fmt::Display for EscapeError {
+    ghost output = { λ e. Some (message_of e) };
+
+    fn fmt<W: fmt::Write>(&self, f: &mut fmt::Formatter<W>) -> fmt::Result {
+        let text = self.message();
+        write!(f, "{text}")
+    }
+}
+
+impl Error for EscapeError {}

@@ -1,6 +1,7 @@
 // The reports of a content, one by one.
 ghost use Rattle.std.specs.Prelude.{◌≡◌, ◌<◌, ◌+◌, ◌^◌, length};
 ghost use Rattle.std.specs.Str.{chars};
+ghost use Rattle.std.specs.List.{AllByRecursion};
 
 use crate::mode::Mode;
 use crate::progress::State;
@@ -16,12 +17,14 @@ pub struct Units<'a> {
 }
 
 impl<'a> Units<'a> {
-    ghost use Rattle.literal_escape.specs.Pieces.{OfReports};
-    ghost use Rattle.literal_escape.specs.Reading.{to_come, Gives};
+    ghost use Rattle.literal_escape.specs.Pieces.{OfReports, IsWithin};
+    ghost use Rattle.literal_escape.specs.Reading.{to_come, reports_in, Gives};
 
     /// The reports of this content, of which none is given yet.
     pub fn new(mode: Mode, content: &'a str) -> Units<'a>
-        ensures { OfReports mode (chars content.now) (λ reports. to_come result ≡ reports) }
+        ensures reports { OfReports mode (chars content.now) (λ reports. to_come result ≡ reports) }
+        ensures read { to_come result ≡ reports_in mode (chars content.now) }
+        ensures within { AllByRecursion (IsWithin (length content.now)) (to_come result) }
     {
         Units {
             reader: Reader {

@@ -9,12 +9,12 @@ use Rattle.literal_escape.proofs.unescape.one.Goals as goal
 
 pub returns-in_default-clause-single : goal.returns-in_default-clause-single
 returns-in_default-clause-single c =
-    let start = c.new-units.ensures in
+    let start = c.new-units.ensures.reports in
     (start.0, start.1, (ap single (sym c.in_default.ensures.0 ∙ start.2)))
 
 pub returns-then-is_some-clause-single : goal.returns-then-is_some-clause-single
 returns-then-is_some-clause-single c =
-    let start = c.new-units.ensures in (
+    let start = c.new-units.ensures.reports in (
       start.0,
       start.1,
       (more_than_one c.in-Some.first _ c.next-then-is_ok.result _ (sym c.if-is_ok.ensures.value) c.next-then-is_ok.ensures (sym c.if-is_some.ensures)
@@ -22,11 +22,11 @@ returns-then-is_some-clause-single c =
     )
 
 pub returns-clause-byte : goal.returns-clause-byte
-returns-clause-byte c b = (subst (AllByRecursion IsByteReport) (sym c.new-units.ensures.2 ∙ c.in-Some.ensures) (bytes_from c.args.mode 0 c.new-units.ensures.0 (chars c.args.content.now) b c.new-units.ensures.1)).0
+returns-clause-byte c b = (subst (AllByRecursion IsByteReport) (sym c.new-units.ensures.reports.2 ∙ c.in-Some.ensures) (bytes_from c.args.mode 0 c.new-units.ensures.reports.0 (chars c.args.content.now) b c.new-units.ensures.reports.1)).0
 
 pub returns-clause-single : goal.returns-clause-single
 returns-clause-single c =
-    let start = c.new-units.ensures in (
+    let start = c.new-units.ensures.reports in (
       start.0,
       start.1,
       ((elim c.else-is_ok.branch [ else-is_ok-via-then-is_ok+else-is_some w ↦ only_one c.in-Some.first _ w.next-then-is_ok.result _ w.next-then-is_ok.ensures (sym w.if-is_some.ensures) | else-is_ok-via-else-is_ok w ↦ faulty_first c.in-Some.first _ (sym w.if-is_ok.ensures.value) ])

@@ -11,12 +11,12 @@ pub returns : goal.returns
 returns g c =
     let last = c.loop-report.callback in
     let none = subst (λ rs. FoldsTo (λ f report h. goal.F-step g f (range_of report) (numbered report.unit) tt h) last rs last) (sym c.in_default.ensures.0) refl in
-    let start = c.new-units.ensures in
+    let start = c.new-units.ensures.reports in
     (start.0, start.1, subst (λ rs. FoldsTo (λ f report h. goal.F-step g f (range_of report) (numbered report.unit) tt h) c.args.callback rs last) start.2 (c.loop-report.invariant.called last none))
 
 pub loop-report-init : goal.loop-report-init
 loop-report-init g c = record {
   callable = c.requires;
   called = λ last h. h;
-  bytes = subst (AllByRecursion IsByteReport) (sym c.new-units.ensures.2) (bytes_from ByteStr 0 c.new-units.ensures.0 (chars c.args.content.now) refl c.new-units.ensures.1);
+  bytes = subst (AllByRecursion IsByteReport) (sym c.new-units.ensures.reports.2) (bytes_from ByteStr 0 c.new-units.ensures.reports.0 (chars c.args.content.now) refl c.new-units.ensures.reports.1);
 }
