@@ -21,6 +21,6 @@ pub use crate::error::EscapeError;
 pub use crate::mode::{MixedUnit, Mode};
 pub use crate::reader::Report;
 pub use crate::unescape::{
-    unescape_byte, unescape_byte_str, unescape_c_str, unescape_char, unescape_str,
+    unescape_byte, unescape_byte_str, unescape_c_str, unescape_char, unescape_str, unescape_unit,
 };
 pub use crate::units::Units;

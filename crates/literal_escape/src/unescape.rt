@@ -3,6 +3,7 @@ ghost use Rattle.std.specs.Prelude.{◌≡◌, ◌<◌, true, IfOk};
 ghost use Rattle.std.specs.Str.{chars};
 ghost use Rattle.literal_escape.specs.Literal.{numbered, number_of, is_bytes};
 ghost use Rattle.literal_escape.specs.Pieces.{OfReports, CalledOnEach, single};
+ghost use Rattle.literal_escape.specs.Reading.{reports_in};
 
 use crate::error::EscapeError;
 use crate::mode::{MixedUnit, Mode};
@@ -10,10 +11,14 @@ use crate::reader::Report;
 use crate::units::Units;
 use std::ops::Range;
 
-// The answer for the reports of a literal of one unit.
-fn one(content: &str, mode: Mode) -> Result<MixedUnit, EscapeError>
+/// The unit of a literal with this content that is one unit, as a character or a byte.
+///
+/// Its fault comes before [`EscapeError::MoreThanOneChar`], which says that something follows a good one. An empty content
+/// is [`EscapeError::ZeroChars`].
+pub fn unescape_unit(content: &str, mode: Mode) -> Result<MixedUnit, EscapeError>
     ensures byte { is_bytes mode ≡ true → IfOk result (λ unit. number_of unit < 256) }
     ensures single { OfReports mode (chars content.now) (λ reports. result ≡ single reports) }
+    ensures read { result ≡ single (reports_in mode (chars content.now)) }
 {
     let mut units = Units::new(mode, content);
     let Some(first) = units.next() else {
@@ -32,7 +37,7 @@ fn one(content: &str, mode: Mode) -> Result<MixedUnit, EscapeError>
 pub fn unescape_char(content: &str) -> Result<char, EscapeError>
     ensures { OfReports Mode.Char (chars content.now) (λ reports. result ≡ numbered (single reports)) }
 {
-    one(content, Mode::Char).map(MixedUnit::as_char)
+    unescape_unit(content, Mode::Char).map(MixedUnit::as_char)
 }
 
 /// The byte of a byte literal with this content, as `\xff` or `a`. Faults come in the order of
@@ -40,7 +45,7 @@ pub fn unescape_char(content: &str) -> Result<char, EscapeError>
 pub fn unescape_byte(content: &str) -> Result<u8, EscapeError>
     ensures { OfReports Mode.Byte (chars content.now) (λ reports. result ≡ numbered (single reports)) }
 {
-    match one(content, Mode::Byte) {
+    match unescape_unit(content, Mode::Byte) {
         Ok(unit) => Ok(unit.as_byte()),
         Err(fault) => Err(fault),
     }

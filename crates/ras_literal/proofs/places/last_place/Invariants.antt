@@ -1,0 +1,7 @@
+use Rattle.std.proofs.Common.{◌≡◌, drop}
+use Rattle.std.specs.Prelude.{None}
+use Rattle.ras_literal.specs.Texts.{last_place}
+use Rattle.ras_literal.proofs.places.last_place.Given as goal
+
+abbrev pub invariant-loop-i : goal.invariant-loop-i
+invariant-loop-i l = record { same : last_place l.byte l.i l.found (drop l.i l.fn.text) ≡ last_place l.byte 0 None l.fn.text }

@@ -1,0 +1,5 @@
+pub mod Kinds
+pub mod Lookups
+pub mod Messages
+pub mod Rules
+pub mod Violations

@@ -1,0 +1,157 @@
+//! The walk over a tree.
+ghost use Rattle.std.specs.Prelude.{◌≡◌, ◌++◌, IfOk, OnOk, option_map};
+ghost use Rattle.ras_validation.specs.Violations.{named_at, attributes_in, block_attributes, at_visibility, at_segment, violations_at, violations_of};
+ghost use Rattle.ras_validation.specs.Rules.{inner_attribute, bare_statements};
+ghost use Rattle.tree_model.specs.Cursor.{range_of};
+
+use crate::exprs::{misplaced_let, numeric_name, range_without_end};
+use crate::items::{macro_rules_visibility, mutable_const, visibility_in_trait, visibility_path};
+use crate::kinds::TakesInnerAttributes;
+use crate::literals::add_literal_faults;
+use crate::lookups::{is_inner_attribute, node_child};
+use crate::paths::{crate_in_path, self_in_path};
+use crate::types::{ambiguous_return, ambiguous_target, without_trait};
+use crate::violation::{Violation, ViolationMessage};
+use lossless_tree::{SyntaxKind, SyntaxNode};
+use ras_node::KindSet;
+use std::alloc::{AllocError, Global};
+use text_size::TextRange;
+
+// Adds the violation at a range, if there is one.
+fn add(
+    found: &mut Vec<Violation>,
+    message: ViolationMessage,
+    range: Option<TextRange>,
+) -> Result<(), AllocError>
+    ensures { OnOk result (found.new.items ≡ found.old.items ++ named_at message range) }
+{
+    if let Some(range) = range {
+        found.push(Violation { message, range })?;
+    }
+    Ok(())
+}
+
+// The range of an inner attribute.
+fn inner_attribute(node: &SyntaxNode) -> Option<TextRange>
+    ensures { result ≡ option_map range_of (inner_attribute node.now) }
+{
+    if is_inner_attribute(node) {
+        Some(node.text_range())
+    } else {
+        None
+    }
+}
+
+// The statement list of a block that may have no inner attributes where it stands.
+fn bare_statements(block: &SyntaxNode) -> Option<SyntaxNode>
+    ensures { result ≡ bare_statements block.now }
+{
+    if let Some(parent) = block.parent() {
+        if TakesInnerAttributes::has(parent.kind()) {
+            return None;
+        }
+    }
+    node_child(block, SyntaxKind::STMT_LIST)
+}
+
+// Adds the inner attributes of a list.
+fn add_attributes_in(found: &mut Vec<Violation>, list: &SyntaxNode) -> Result<(), AllocError>
+    ensures { OnOk result (found.new.items ≡ found.old.items ++ attributes_in list.now) }
+{
+    let mut left = list.children();
+    while let Some(child) = left.next() {
+        add(
+            found,
+            ViolationMessage::InnerAttribute,
+            inner_attribute(&child),
+        )?;
+    }
+    Ok(())
+}
+
+/// Adds the inner attributes of a `BLOCK_EXPR` that may have none where it stands. Where memory is refused some of them may be
+/// missing.
+pub fn add_block_attributes(
+    found: &mut Vec<Violation>,
+    block: &SyntaxNode,
+) -> Result<(), AllocError>
+    ensures { OnOk result (found.new.items ≡ found.old.items ++ block_attributes block.now) }
+{
+    match bare_statements(block) {
+        Some(list) => add_attributes_in(found, &list),
+        None => Ok(()),
+    }
+}
+
+fn add_at_visibility(found: &mut Vec<Violation>, node: &SyntaxNode) -> Result<(), AllocError>
+    ensures { OnOk result (found.new.items ≡ found.old.items ++ at_visibility node.now) }
+{
+    add(
+        found,
+        ViolationMessage::VisibilityPath,
+        visibility_path(node),
+    )?;
+    add(
+        found,
+        ViolationMessage::VisibilityInTrait,
+        visibility_in_trait(node),
+    )
+}
+
+fn add_at_segment(found: &mut Vec<Violation>, node: &SyntaxNode) -> Result<(), AllocError>
+    ensures { OnOk result (found.new.items ≡ found.old.items ++ at_segment node.now) }
+{
+    add(found, ViolationMessage::SelfInPath, self_in_path(node))?;
+    add(found, ViolationMessage::CrateInPath, crate_in_path(node))
+}
+
+/// Adds the violations at one node, by its kind: those below it are none of them. Where memory is refused some of them may be
+/// missing.
+pub fn add_violations_at(found: &mut Vec<Violation>, node: &SyntaxNode) -> Result<(), AllocError>
+    ensures { OnOk result (found.new.items ≡ found.old.items ++ violations_at node.now) }
+{
+    use ViolationMessage as Message;
+    match node.kind() {
+        SyntaxKind::LITERAL => add_literal_faults(found, node),
+        SyntaxKind::CONST => add(found, Message::MutableConst, mutable_const(node)),
+        SyntaxKind::BLOCK_EXPR => add_block_attributes(found, node),
+        SyntaxKind::FIELD_EXPR | SyntaxKind::RECORD_EXPR_FIELD => {
+            add(found, Message::NumericName, numeric_name(node))
+        }
+        SyntaxKind::VISIBILITY => add_at_visibility(found, node),
+        SyntaxKind::RANGE_EXPR => add(found, Message::RangeWithoutEnd, range_without_end(node)),
+        SyntaxKind::PATH_SEGMENT => add_at_segment(found, node),
+        SyntaxKind::REF_TYPE | SyntaxKind::PTR_TYPE => {
+            add(found, Message::AmbiguousPlus, ambiguous_target(node))
+        }
+        SyntaxKind::FN_PTR_TYPE => add(found, Message::AmbiguousPlus, ambiguous_return(node)),
+        SyntaxKind::DYN_TRAIT_TYPE | SyntaxKind::IMPL_TRAIT_TYPE => {
+            add(found, Message::NoTrait, without_trait(node))
+        }
+        SyntaxKind::MACRO_RULES => {
+            add(
+                found,
+                Message::MacroRulesVisibility,
+                macro_rules_visibility(node),
+            )
+        }
+        SyntaxKind::LET_EXPR => add(found, Message::MisplacedLet, misplaced_let(node)),
+        _ => Ok(()),
+    }
+}
+
+/// The violations of a tree, in preorder of its nodes; those of one node by its rules, those of one rule in the order of the
+/// text.
+///
+/// It takes time linear in the tree and its literals, but for a `crate` or a `let`, which each look at the nodes around, and
+/// memory for the list alone.
+pub fn violations(alloc: Global, root: &SyntaxNode) -> Result<Vec<Violation>, AllocError>
+    ensures { IfOk result (λ found. found.items ≡ violations_of root.now) }
+{
+    let mut found = Vec::new(alloc);
+    let mut nodes = root.descendants();
+    while let Some(node) = nodes.next() {
+        add_violations_at(&mut found, &node)?;
+    }
+    Ok(found)
+}

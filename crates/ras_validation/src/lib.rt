@@ -1,0 +1,17 @@
+//! What is wrong with a tree beyond its shape: rules that a grammar does not say, and that a diagnostic names.
+//!
+//! `violations` lists them for a whole tree; each rule is a function of its own, on a node of the kind that it names.
+#![tactic(auto)]
+
+pub mod collect;
+pub mod exprs;
+pub mod items;
+mod kinds;
+pub mod literals;
+mod lookups;
+pub mod paths;
+pub mod types;
+mod violation;
+
+pub use collect::{add_block_attributes, add_violations_at, violations};
+pub use violation::{Violation, ViolationMessage};

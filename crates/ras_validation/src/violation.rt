@@ -1,0 +1,97 @@
+//! A violation: which rule is broken, and where.
+ghost use Rattle.std.specs.Prelude.{◌≡◌, Some};
+ghost use Rattle.ras_validation.specs.Messages.{text_of};
+
+use literal_escape::EscapeError;
+use std::fmt;
+use text_size::TextRange;
+
+/// Which rule is broken. It prints as the message of a diagnostic.
+#[derive(Clone, Copy, Debug, PartialEq, Eq)]
+pub enum ViolationMessage {
+    /// A unit of a literal has a fatal fault. The range is empty, at the start of the unit; of a character or a byte at the
+    /// start of the content.
+    Escape(EscapeError),
+    /// A `const` is followed by `mut`: the range is that of the `mut`.
+    MutableConst,
+    /// An inner attribute of a block stands where the block may have none: the attribute's range.
+    InnerAttribute,
+    /// A field is named by a number with underscores, a base or a suffix: the number's range.
+    NumericName,
+    /// A visibility names a path of one identifier without `in`: the visibility's range.
+    VisibilityPath,
+    /// An item of the implementation of a trait has a visibility: the visibility's range.
+    VisibilityInTrait,
+    /// A range by `..=` has no end: the range of the whole expression.
+    RangeWithoutEnd,
+    /// `self` stands neither at the start nor at the end of its path: the keyword's range.
+    SelfInPath,
+    /// `crate` does not begin its path, or the path stands under a prefix of a `use`: the keyword's range.
+    CrateInPath,
+    /// A type with two bounds stands behind a `&`, a `*` or a `->`: the type's range.
+    AmbiguousPlus,
+    /// A `dyn` or `impl` has bounds, but no type among them: the type's range.
+    NoTrait,
+    /// A `macro_rules!` has a visibility: the visibility's range.
+    MacroRulesVisibility,
+    /// A `let` is no part of a condition: the range of the whole expression.
+    MisplacedLet,
+}
+
+impl ViolationMessage {
+    /// The message of a diagnostic. That of a bare carriage return quotes it raw (byte 0D).
+    pub fn text(self) -> &'static str
+        ensures { result.now ≡ text_of self }
+    {
+        match self {
+            ViolationMessage::Escape(fault) => fault.message(),
+            ViolationMessage::MutableConst => "const globals cannot be mutable",
+            ViolationMessage::InnerAttribute => {
+                "A block in this position cannot accept inner attributes"
+            }
+            ViolationMessage::NumericName => {
+                "Tuple (struct) field access is only allowed through decimal integers with no underscores or suffix"
+            }
+            ViolationMessage::VisibilityPath => "incorrect visibility restriction",
+            ViolationMessage::VisibilityInTrait => "Unnecessary visibility qualifier",
+            ViolationMessage::RangeWithoutEnd => "An inclusive range must have an end expression",
+            ViolationMessage::SelfInPath => {
+                "The `self` keyword is only allowed at the start or at the end of a path"
+            }
+            ViolationMessage::CrateInPath => {
+                "The `crate` keyword is only allowed as the first segment of a path"
+            }
+            ViolationMessage::AmbiguousPlus => "ambiguous `+` in a type",
+            ViolationMessage::NoTrait => "At least one trait is required for an object type",
+            ViolationMessage::MacroRulesVisibility => {
+                "visibilities are not allowed on `macro_rules!` items"
+            }
+            ViolationMessage::MisplacedLet => "`let` expressions are not supported here",
+        }
+    }
+}
+
+impl fmt::Display for ViolationMessage {
+    ghost output = { λ message. Some (text_of message) };
+
+    fn fmt<W: fmt::Write>(&self, f: &mut fmt::Formatter<W>) -> fmt::Result {
+        let text = self.text();
+        write!(f, "{text}")
+    }
+}
+
+/// A broken rule, and the range of the piece of the text that breaks it.
+#[derive(Clone, Copy, Debug, PartialEq, Eq)]
+pub struct Violation {
+    pub message: ViolationMessage,
+    pub range: TextRange,
+}
+
+impl Violation {
+    /// The message of a diagnostic.
+    pub fn message(&self) -> &'static str
+        ensures { result.now ≡ text_of self.now.message }
+    {
+        self.message.text()
+    }
+}
