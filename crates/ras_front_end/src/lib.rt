@@ -1,0 +1,14 @@
+//! What a lexer and a parser have to answer so that trees come of it, and the errors that they tell.
+#![tactic(auto)]
+
+mod edition;
+mod front_end;
+mod output;
+mod parse_error;
+mod syntax_error;
+
+pub use edition::{Edition, Entry, Reparser};
+pub use front_end::FrontEnd;
+pub use output::{Output, Step};
+pub use parse_error::ParseError;
+pub use syntax_error::SyntaxError;

@@ -1,0 +1,27 @@
+//! What a front end answers.
+
+use crate::syntax_error::SyntaxError;
+use syntax_kind::SyntaxKind;
+use text_size::TextSize;
+
+/// A step of a reading. The tokens cover the text, one after another.
+#[derive(Drop)]
+pub enum Step {
+    /// Enters a node.
+    Enter(SyntaxKind),
+    /// A token of this many bytes: those of the text that follow the tokens before it.
+    Token(SyntaxKind, TextSize),
+    /// Leaves the node that was entered last and is still open.
+    Exit,
+    /// The parser's error at a position of the text, counted in bytes from its start.
+    Error(String, TextSize),
+}
+
+/// A reading of a text.
+#[derive(Drop)]
+pub struct Output {
+    /// The nodes and tokens, and among them the parser's errors, in order.
+    pub steps: Vec<Step>,
+    /// The lexer's errors, each at the range of its token. They are stored after the parser's.
+    pub errors: Vec<SyntaxError>,
+}

@@ -1,0 +1,25 @@
+//! Why a text is not read.
+
+use std::alloc::AllocError;
+
+/// Why a text is not read. What is wrong with a text is no reason: its tree then has errors.
+#[derive(Clone, Copy, Debug, PartialEq, Eq, Hash, thiserror::Error)]
+pub enum ParseError {
+    /// The text is longer than 4,294,967,295 bytes. This is looked at first.
+    #[error("the text is longer than 4294967295 bytes")]
+    TooLong,
+    /// Out of memory.
+    #[error("out of memory")]
+    Memory,
+}
+
+impl From<AllocError> for ParseError {
+    ghost use Rattle.std.specs.Prelude.{◌≡◌};
+    ghost use Rattle.ras_front_end.specs.declared.parse_error.ParseError.TheVariants.{Memory};
+
+    ghost from_gives = { λ _ r. r ≡ Memory };
+
+    fn from(_error: AllocError) -> ParseError {
+        ParseError::Memory
+    }
+}

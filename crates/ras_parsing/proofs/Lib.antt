@@ -1,0 +1,3 @@
+pub mod TreeTexts
+pub mod BuildLemmas
+pub mod PastErrors

@@ -1,0 +1,3 @@
+pub mod Edit
+pub mod Reparse
+pub mod Rereading

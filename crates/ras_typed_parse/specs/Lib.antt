@@ -1,0 +1,3 @@
+pub mod AllErrors
+pub mod OkCases
+pub mod Names

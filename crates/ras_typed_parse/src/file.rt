@@ -1,0 +1,100 @@
+//! Parses of whole files.
+ghost use Rattle.std.specs.Prelude.{◌≡◌, ◌↔◌, ◌++◌, ◌<◌, ◌≤◌, ◌^◌, length, IfOk, IfErr, IfSome, OnOk, string_bytes};
+ghost use Rattle.std.specs.List.{flat_map};
+ghost use Rattle.tree_model.specs.Tree.{text};
+ghost use Rattle.ras_front_end.specs.declared.parse_error.ParseError.TheVariants.{TooLong};
+ghost use Rattle.ras_front_end.specs.Parsed.{ErrorsLieIn};
+ghost use Rattle.ras_reparsing.specs.Edit.{IsEditOf, edited};
+ghost use Rattle.ras_reparsing.specs.Reparse.{IsIncremental, IsReparse};
+ghost use Rattle.ras_typed_parse.specs.AllErrors.{error_line, debug_dump_of};
+
+use crate::parse::Parse;
+use ras_front_end::{Edition, FrontEnd, ParseError, SyntaxError};
+use ras_node::AstNode;
+use ras_reparsing::{incremental_reparse, reparse_text};
+use std::alloc::{AllocError, Global};
+use std::fmt::Write;
+use text_size::TextRange;
+
+/// A view of a whole file. `SourceFile` is the one that there is.
+pub trait FileView: AstNode {}
+
+// `error a..b: message` for each error.
+fn push_error(out: &mut String, error: &SyntaxError) -> Result<(), AllocError>
+    ensures { OnOk result (string_bytes out.new ≡ string_bytes out.old ++ error_line error.now) }
+{
+    let range = error.range();
+    let message = error.message();
+    writeln!(out, "error {range}: {message}")
+}
+
+fn push_errors(out: &mut String, errors: &[SyntaxError]) -> Result<(), AllocError>
+    ensures { OnOk result (string_bytes out.new ≡ string_bytes out.old ++ flat_map error_line errors.now) }
+{
+    for error in errors {
+        push_error(out, error)?;
+    }
+    Ok(())
+}
+
+impl<T: FileView> Parse<T> {
+    /// The dump of the tree, and then a line `error a..b: message` for each of [`Parse::errors`].
+    pub fn debug_dump(&self, alloc: Global) -> Result<String, AllocError>
+        ensures { IfOk result (λ dump. string_bytes dump ≡ debug_dump_of self.now) }
+    {
+        let errors = self.errors(alloc)?;
+        let mut out = self.parsed().root().dump(alloc)?;
+        push_errors(&mut out, errors.as_slice())?;
+        Ok(out)
+    }
+
+    /// The parse after an edit: the bytes of `delete` go, and `insert` comes in their place. One token or one block is read
+    /// anew where that can be, else all. The old parse stays as it was.
+    ///
+    /// The range lies in the text, on character boundaries. `TooLong` exactly where the new text is longer than
+    /// 4,294,967,295 bytes; that is looked at first.
+    pub fn reparse<F: FrontEnd>(
+        &self,
+        alloc: Global,
+        front: &F,
+        delete: TextRange,
+        insert: &str,
+        edition: Edition,
+    ) -> Result<Parse<T>, ParseError>
+        requires { IsEditOf (text self.now.tree) (record { delete = delete; insert = insert.now }) }
+        ensures answer { IfOk result (IsReparse (F.answers front.now) edition self.now (record { delete = delete; insert = insert.now })) }
+        ensures same_text { IfOk result (λ p. text p.tree ≡ edited (text self.now.tree) (record { delete = delete; insert = insert.now })) }
+        ensures in_text { IfOk result ErrorsLieIn }
+        ensures accepted { OnOk result (length (edited (text self.now.tree) (record { delete = delete; insert = insert.now })) < 2 ^ 32) }
+        ensures refused { IfErr result (λ e. (e ≡ TooLong) ↔ (2 ^ 32 ≤ length (edited (text self.now.tree) (record { delete = delete; insert = insert.now })))) }
+    {
+        let new = reparse_text(alloc, self.parsed(), front, delete, insert, edition)?;
+        Ok(Parse::of(new))
+    }
+
+    /// The parse after an edit, where one token or one block is read anew, and the range in the old text that was replaced;
+    /// `None` where all must be read anew. The old parse stays as it was.
+    ///
+    /// The range lies in the text, on character boundaries. `TooLong` exactly where the new text is longer than
+    /// 4,294,967,295 bytes; that is looked at first. Beside the piece that is read it takes one copy of the text and the tree.
+    pub fn incremental_reparse<F: FrontEnd>(
+        &self,
+        alloc: Global,
+        front: &F,
+        delete: TextRange,
+        insert: &str,
+        edition: Edition,
+    ) -> Result<Option<(Parse<T>, TextRange)>, ParseError>
+        requires { IsEditOf (text self.now.tree) (record { delete = delete; insert = insert.now }) }
+        ensures answer { IfOk result (IsIncremental (F.answers front.now) edition self.now (record { delete = delete; insert = insert.now })) }
+        ensures same_text { IfOk result (λ o. IfSome o (λ p. text p.0.tree ≡ edited (text self.now.tree) (record { delete = delete; insert = insert.now }))) }
+        ensures in_text { IfOk result (λ o. IfSome o (λ p. ErrorsLieIn p.0)) }
+        ensures accepted { OnOk result (length (edited (text self.now.tree) (record { delete = delete; insert = insert.now })) < 2 ^ 32) }
+        ensures refused { IfErr result (λ e. (e ≡ TooLong) ↔ (2 ^ 32 ≤ length (edited (text self.now.tree) (record { delete = delete; insert = insert.now })))) }
+    {
+        match incremental_reparse(alloc, self.parsed(), front, delete, insert, edition)? {
+            Some((new, range)) => Ok(Some((Parse::of(new), range))),
+            None => Ok(None),
+        }
+    }
+}

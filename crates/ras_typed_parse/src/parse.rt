@@ -1,0 +1,181 @@
+//! A parse, and what its root is viewed as.
+ghost use Rattle.std.specs.Prelude.{◌≡◌, [], ◌<◌, ◌≤◌, ◌^◌, ◌↔◌, length, IfOk, IfErr, IfSome, OnOk, Some, None, is_some, if◌then◌else◌};
+ghost use Rattle.tree_model.specs.Tree.{kind_of};
+ghost use Rattle.tree_model.specs.Edit.{root_of};
+ghost use Rattle.ras_front_end.specs.declared.parse_error.ParseError.TheVariants.{TooLong};
+ghost use Rattle.ras_front_end.specs.Keeps.{IsRootOf};
+ghost use Rattle.ras_front_end.specs.Parsed.{IsParseOf, ErrorsLieIn};
+ghost use Rattle.ras_typed_parse.specs.AllErrors.{all_errors};
+ghost use Rattle.ras_typed_parse.specs.OkCases.{IsOkRefusal};
+
+use crate::error_list::{copies, push_violations};
+use crate::ok_error::OkError;
+use lossless_tree::SyntaxNode;
+use ras_front_end::{Edition, Entry, FrontEnd, ParseError, SyntaxError};
+use ras_node::AstNode;
+use std::alloc::{AllocError, Global};
+use std::marker::{Model, PhantomData};
+
+/// A tree and its errors, as a text was read: the root is meant to be a `T`.
+///
+/// There is a tree whatever the text is. Cloning a parse takes no memory and always succeeds. A clause sees the tree and
+/// the stored errors.
+#[derive(Drop)]
+pub struct Parse<T> {
+    parsed: ras_parsing::Parse,
+    view: PhantomData<T>,
+}
+
+impl<T> Model for Parse<T> {
+    ghost use Rattle.ras_front_end.specs.Parsed.{Parsed, parsed_code};
+
+    ghost Value = { Parsed };
+
+    ghost coded = { parsed_code };
+
+    ghost view = { λ p. p.parsed };
+}
+
+impl<T> Parse<T> {
+    /// The parse as one whose root is meant to be a `T`.
+    pub fn of(parsed: ras_parsing::Parse) -> Parse<T>
+        ensures { result ≡ parsed }
+    {
+        Parse {
+            parsed,
+            view: PhantomData,
+        }
+    }
+
+    /// The parse without what its root is meant to be.
+    pub fn parsed(&self) -> &ras_parsing::Parse
+        ensures { result.now ≡ self.now }
+    {
+        &self.parsed
+    }
+
+    /// The root of the tree.
+    pub fn syntax_node(&self) -> SyntaxNode
+        ensures { result ≡ root_of self.now.tree }
+    {
+        self.parsed.syntax_node()
+    }
+
+    /// All errors: the stored ones, those of the parser and then those of the lexer, and behind them the violations of the
+    /// tree, in preorder of their nodes.
+    ///
+    /// It walks the tree: time linear in it. The parse stays as it was, also where memory runs out.
+    pub fn errors(&self, alloc: Global) -> Result<Vec<SyntaxError>, AllocError>
+        ensures { IfOk result (λ errors. errors.items ≡ all_errors self.now) }
+    {
+        let stored = copies(alloc, self.parsed.stored())?;
+        push_violations(alloc, stored, self.parsed.root())
+    }
+
+    /// The same parse, whose root is meant to be any node.
+    pub fn to_syntax(self) -> Parse<SyntaxNode>
+        ensures { result ≡ self }
+    {
+        let Parse { parsed, view: _ } = self;
+        Parse::of(parsed)
+    }
+}
+
+impl<T: AstNode> Parse<T> {
+    /// The root as a `T`; `None` where it is of another kind, as an `ERROR`.
+    pub fn tree(&self) -> Option<T>
+        ensures exact { is_some result ≡ T.casts (kind_of self.now.tree) }
+        ensures same { IfSome result (λ it. T.node it ≡ root_of self.now.tree) }
+    {
+        T::cast(self.syntax_node())
+    }
+
+    /// The root as a `T`, where the text has no errors at all.
+    ///
+    /// Else [`OkError::Errors`] with all errors, where there are some; then [`OkError::OtherRoot`], where the root is of
+    /// another kind. Each gives the parse back, and so does [`OkError::Memory`], which is answered as soon as memory runs
+    /// out.
+    pub fn ok(self, alloc: Global) -> Result<T, OkError<T>>
+        ensures free { OnOk result (all_errors self ≡ []) }
+        ensures same { IfOk result (λ it. T.node it ≡ root_of self.tree) }
+        ensures refused { IfErr result (IsOkRefusal (T.casts (kind_of self.tree)) self) }
+    {
+        let errors = match self.errors(alloc) {
+            Ok(errors) => errors,
+            Err(_) => return Err(OkError::Memory(self)),
+        };
+        if !errors.is_empty() {
+            return Err(OkError::Errors(errors, self));
+        }
+        match self.tree() {
+            Some(tree) => Ok(tree),
+            None => Err(OkError::OtherRoot(self)),
+        }
+    }
+}
+
+impl Parse<SyntaxNode> {
+    /// The same parse, whose root is meant to be an `N`; `None` where it is of another kind, and then the parse is gone.
+    pub fn cast<N: AstNode>(self) -> Option<Parse<N>>
+        ensures { result ≡ (if N.casts (kind_of self.tree) then Some self else None) }
+    {
+        if !N::can_cast(self.syntax_node().kind()) {
+            return None;
+        }
+        let Parse { parsed, view: _ } = self;
+        Some(Parse::of(parsed))
+    }
+}
+
+impl<T> Clone for Parse<T> {
+    ghost use Rattle.std.specs.Prelude.{◌≡◌, ⊤};
+
+    ghost is_clone = { λ p copy. copy ≡ p };
+
+    ghost is_infallible = { λ _. ⊤ };
+
+    fn clone(&self) -> Result<Parse<T>, AllocError> {
+        let parsed = self.parsed.clone()?;
+        Ok(Parse::of(parsed))
+    }
+}
+
+/// Equal where trees and stored errors are.
+impl<T> PartialEq for Parse<T> {
+    ghost use Rattle.ras_parsing.specs.ParsedEquality.{is_same_parsed, parsed_equivalence};
+    ghost use Rattle.std.specs.Cmp.{partial_equiv_from_equiv};
+
+    ghost eq = { is_same_parsed };
+
+    ghost laws = { partial_equiv_from_equiv parsed_equivalence };
+
+    fn eq(&self, other: &Parse<T>) -> bool {
+        self.parsed == other.parsed
+    }
+}
+
+impl<T> Eq for Parse<T> {
+    ghost use Rattle.ras_parsing.specs.ParsedEquality.{parsed_equivalence};
+
+    ghost laws = { parsed_equivalence };
+}
+
+/// The parse of a text as a front end reads it, with a root that is meant to be a `T`.
+///
+/// `TooLong` exactly where the text is longer than 4,294,967,295 bytes; that is looked at first.
+pub fn read_as<T, F: FrontEnd>(
+    alloc: Global,
+    front: &F,
+    entry: Entry,
+    text: &str,
+    edition: Edition,
+) -> Result<Parse<T>, ParseError>
+    ensures parsed { IfOk result (IsParseOf text.now ((F.answers front.now).parsed entry edition text.now)) }
+    ensures root { IfOk result (λ p. IsRootOf entry (kind_of p.tree)) }
+    ensures in_text { IfOk result ErrorsLieIn }
+    ensures accepted { OnOk result (length text.now < 2 ^ 32) }
+    ensures refused { IfErr result (λ e. (e ≡ TooLong) ↔ (2 ^ 32 ≤ length text.now)) }
+{
+    let parsed = ras_parsing::read(alloc, front, entry, text, edition)?;
+    Ok(Parse::of(parsed))
+}
