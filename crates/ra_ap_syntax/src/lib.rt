@@ -3,8 +3,9 @@
 
 pub mod ast;
 pub mod laws;
+mod parsing;
 
-pub use ast::{AstNode, AstToken};
+pub use ast::{AstNode, AstToken, SourceFile};
 pub use literal_escape as unescape;
 pub use lossless_tree::{
     Ancestors, Descendants, DescendantsWithTokens, Direction, FinishError, Language, NodeOrToken,
@@ -12,8 +13,12 @@ pub use lossless_tree::{
     SyntaxElementSiblings, SyntaxKind, SyntaxNode, SyntaxNodeChildren, SyntaxNodeSiblings,
     SyntaxText, SyntaxToken, T, TextRange, TextSize, TokenAtOffset, TreeBuilder, WalkEvent,
 };
+pub use ras_front_end::{
+    Edition, Entry, FrontEnd, Output, ParseError, Reparser, Step, SyntaxError,
+};
 pub use ras_search::ptr::{AstPtr, SyntaxNodePtr};
 pub use ras_search::{algo, ptr};
+pub use ras_typed_parse::{FileView, OkError, Parse, SyntaxTreeBuilder, utils};
 
 /// Matches a node against views: the first that casts, and whose guard holds where it has one.
 ///

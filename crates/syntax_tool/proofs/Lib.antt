@@ -3,3 +3,4 @@ pub mod EscapeLemmas
 pub mod LineLemmas
 pub mod ReadLemmas
 pub mod OutputLemmas
+pub mod DraftLemmas

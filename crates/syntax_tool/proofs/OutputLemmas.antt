@@ -1,13 +1,13 @@
 -- What was read, and what goes out.
 use Rattle.std.proofs.Common.{◌≡◌, ℕ, ◌-◌, ◌<◌, zero, suc, append-nil, length-append, ◌⊎◌, inl, inr, List, [], ◌++◌, length, take, drop, refl, sym, ap, subst, ◌∙◌, arith, append_assoc}
-use Rattle.std.specs.Prelude.{Option, None, Some, Result, Err, codes, Bool, true, false, not, ◌==◌}
-use Rattle.std.specs.Cmp.{unsigned_Decides}
-use Rattle.std.specs.Cmp.Lexicographic.{pointwise, pointwise_decides}
+use Rattle.std.specs.Prelude.{Option, MatchOption, None, Some, Result, Err, true, false, ◌==◌}
 use Rattle.std.proofs.lemmas.List.{take-append-drop, length-drop, take_all}
 use Rattle.std.proofs.Math.Seq.{take-append_seam}
 use Rattle.std.specs.Io.KnownBytes.{Appends, Keeps}
 use Rattle.syntax_tool.specs.declared.refusal.Refusal.{Refusal}
-use Rattle.syntax_tool.specs.Output.{output_of, refused, usage, WasLeft, IsEarly, AnswersReader, IsCutShort, IsRun, Wrote}
+use Rattle.syntax_tool.specs.declared.refusal.Refusal.TheVariants.{Read, Memory}
+use Rattle.syntax_tool.specs.declared.command.Command.{Command}
+use Rattle.syntax_tool.specs.Output.{command_of, output_of, refused, usage, WasLeft, IsEarly, AnswersInput, AnswersReader, IsCutShort, IsRun, Wrote}
 
 pub appends-appends : (a b c : Option (List ℕ)) (xs ys : List ℕ) → Appends a b xs → Appends b c ys → Appends a c (xs ++ ys)
 appends-appends None b c xs ys h k = tt
@@ -47,31 +47,35 @@ unfolding was_left
 was_left-WasLeft None = tt
 was_left-WasLeft (Some xs) = refl
 
-early : (command : List ℕ) (e : Refusal) → command ≡ codes "events" → IsEarly e → IsCutShort command (refused e)
-early command e is (inl r) = (is, inl (ap refused r))
-early command e is (inr r) = (is, inr (ap refused r))
-
-module _ (command : List ℕ) (left before after : Option (List ℕ)) (status : ℕ) where
-  pub run_usage : (command ≡ codes "events" → ⊥) → Wrote before after status usage → IsRun command left before after status
-  run_usage other wrote = record { input = was_left left; read_whole = was_left-WasLeft left; out = usage; out_is = inl (inr (other, refl)); wrote = wrote }
-
-  pub run_answer : (r : Result (List ℕ) Refusal) → command ≡ codes "events" → AnswersReader left r → Wrote before after status (output_of r) → IsRun command left before after status
-  run_answer r is (input, whole, answers) wrote = record { input = input; read_whole = whole; out = output_of r; out_is = inl (inl (is, (r, answers, refl))); wrote = wrote }
-
-  pub run_refused : (e : Refusal) → command ≡ codes "events" → IsEarly e ⊎ AnswersReader left (Err e) → Wrote before after status (refused e) → IsRun command left before after status
-  run_refused e is (inl cut) wrote = record { input = was_left left; read_whole = was_left-WasLeft left; out = refused e; out_is = inr (early command e is cut); wrote = wrote }
-  run_refused e is (inr answers) wrote = run_answer (Err e) is answers wrote
-
--- the test of two texts
-pub same_text : (xs ys : List ℕ) → false ≡ not (pointwise ◌==◌ xs ys) → xs ≡ ys
-same_text xs ys h = (pointwise_decides unsigned_Decides xs ys).0 (is_true (pointwise ◌==◌ xs ys) h)
+early : (word : List ℕ) (c : Command) (e : Refusal) → command_of word ≡ Some c → IsEarly e → IsCutShort word (refused e)
+early word c e is h = subst (λ o. MatchOption o ⊥ (λ _. (refused e ≡ refused Read) ⊎ (refused e ≡ refused Memory))) (sym is) (by_cause h)
   where
-    is_true : (b : Bool) → false ≡ not b → b ≡ true
-    is_true true h = refl
-    is_true false h = h
+    by_cause : IsEarly e → (refused e ≡ refused Read) ⊎ (refused e ≡ refused Memory)
+    by_cause (inl r) = inl (ap refused r)
+    by_cause (inr m) = inr (ap refused m)
 
-pub other_text : (xs ys : List ℕ) → true ≡ not (pointwise ◌==◌ xs ys) → xs ≡ ys → ⊥
-other_text xs ys h e = (let bad : true ≡ false = h ∙ ap not ((pointwise_decides unsigned_Decides xs ys).1 e) in cc)
+module _ (word : List ℕ) (left before after : Option (List ℕ)) (status : ℕ) where
+  pub run_usage : command_of word ≡ None → Wrote before after status usage → IsRun word left before after status
+  run_usage none wrote = record {
+    input = was_left left;
+    read_whole = was_left-WasLeft left;
+    out = usage;
+    out_is = inl (subst (λ o. MatchOption o (usage ≡ usage) (λ c. (r : Result (List ℕ) Refusal) × AnswersInput c (was_left left) r × (usage ≡ output_of r))) (sym none) refl);
+    wrote = wrote;
+  }
+
+  pub run_answer : (c : Command) (r : Result (List ℕ) Refusal) → command_of word ≡ Some c → AnswersReader c left r → Wrote before after status (output_of r) → IsRun word left before after status
+  run_answer c r is (input, whole, answers) wrote = record {
+    input = input;
+    read_whole = whole;
+    out = output_of r;
+    out_is = inl (subst (λ o. MatchOption o (output_of r ≡ usage) (λ d. (s : Result (List ℕ) Refusal) × AnswersInput d input s × (output_of r ≡ output_of s))) (sym is) (r, answers, refl));
+    wrote = wrote;
+  }
+
+  pub run_refused : (c : Command) (e : Refusal) → command_of word ≡ Some c → IsEarly e ⊎ AnswersReader c left (Err e) → Wrote before after status (refused e) → IsRun word left before after status
+  run_refused c e is (inl cut) wrote = record { input = was_left left; read_whole = was_left-WasLeft left; out = refused e; out_is = inr (early word c e is cut); wrote = wrote }
+  run_refused c e is (inr answers) wrote = run_answer c (Err e) is answers wrote
 
 pub wrote_text : (before after : Option (List ℕ)) (status written : ℕ) (s t : List ℕ) → s ≡ t → Wrote before after status (record { text = s; status = written }) → Wrote before after status (record { text = t; status = written })
 wrote_text before after status written s t e h = subst (λ x. Wrote before after status (record { text = x; status = written })) e h

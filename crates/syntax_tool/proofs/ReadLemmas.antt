@@ -6,6 +6,7 @@ use Rattle.std.proofs.lemmas.List.{drop-drop}
 use Rattle.std.proofs.lemmas.Str.{IsUtf8-drop, IsUtf8-nil, IsCharBoundary-after_ascii}
 use Rattle.std.proofs.lemmas.Bool.Decides.{nat_tests}
 use Rattle.tree_model.specs.Events.{Event}
+use Rattle.ras_parsing.specs.Draft.{Draft}
 use Rattle.syntax_tool.specs.declared.refusal.Refusal.{Refusal}
 use Rattle.syntax_tool.specs.declared.refusal.Refusal.TheVariants.{Memory}
 use Rattle.syntax_tool.specs.Lines.{HasNo, IsCut, lines_of, onto_first, ReadsLine, ReadsLines, behind, AppendsEvent, RefusesLine}
@@ -54,9 +55,9 @@ module _ (whole : List (List ℕ)) (line after text : List ℕ) (cut : IsCut 10 
       empty_line [] e k = k
       empty_line (b ∷ line) e k = absurd (omega (arith, e))
 
-  pub after_event : (es fs : List Event) → 0 < length line → AppendsEvent line es fs → ((r : Result (List Event) Refusal) → ReadsLines (lines_of text) r → ReadsLines whole (behind es r)) → (r : Result (List Event) Refusal) → ReadsLines (lines_of after) r → ReadsLines whole (behind fs r)
-  after_event es fs some (e, reads, is) h r k =
-      subst (λ l. ReadsLines whole (behind l r)) (sym is) (subst (ReadsLines whole) (behind-behind es e r) (h (behind (e ∷ []) r) (by_line (behind (e ∷ []) r) (event_line line some reads))))
+  pub after_event : (d f : Draft) → 0 < length line → AppendsEvent line d f → ((r : Result (List Event) Refusal) → ReadsLines (lines_of text) r → ReadsLines whole (behind d.events r)) → (r : Result (List Event) Refusal) → ReadsLines (lines_of after) r → ReadsLines whole (behind f.events r)
+  after_event d f some (e, reads, is) h r k =
+      subst (λ (l : Draft). ReadsLines whole (behind l.events r)) (sym is) (subst (ReadsLines whole) (behind-behind d.events e r) (h (behind (e ∷ []) r) (by_line (behind (e ∷ []) r) (event_line line some reads))))
     where
       event_line : (line : List ℕ) → 0 < length line → ReadsLine line (Ok e) → ReadsLines (line ∷ lines_of after) (behind (e ∷ []) r)
       event_line [] s d = absurd (omega (arith, s))
@@ -69,6 +70,10 @@ module _ (whole : List (List ℕ)) (line after text : List ℕ) (cut : IsCut 10 
       refused_line : (line : List ℕ) → 0 < length line → ReadsLine line (Err x) → ReadsLines (line ∷ lines_of after) (Err x)
       refused_line [] s d = absurd (omega (arith, s))
       refused_line (b ∷ line) s d = inr (x, d, refl)
+
+-- no error comes with an event
+pub no_fault : (line : List ℕ) (d f : Draft) → AppendsEvent line d f → d.faults ≡ [] → f.faults ≡ []
+no_fault line d f (e, reads, is) h = ap (λ (l : Draft). l.faults) is ∙ h
 
 -- nothing stands behind the last line
 pub read_all : (whole : List (List ℕ)) (text : List ℕ) (es : List Event) → length text ≡ 0 → ((r : Result (List Event) Refusal) → ReadsLines (lines_of text) r → ReadsLines whole (behind es r)) → ReadsLines whole (Ok es)

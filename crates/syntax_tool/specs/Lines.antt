@@ -2,6 +2,7 @@
 use Rattle.std.specs.Prelude.{◌≡◌, ◌≢◌, ℕ, ◌<◌, ◌⊎◌, List, [], ◌∷◌, ◌++◌, length, Some, Result, Ok, Err, codes, ⊤, ◌==◌, if◌then◌else◌}
 use Rattle.syntax_kind.specs.Kinds.{kind_name, IsKind}
 use Rattle.tree_model.specs.Events.{Event, enter, leaf, exit}
+use Rattle.ras_parsing.specs.Draft.{Draft}
 use Rattle.syntax_tool.specs.declared.refusal.Refusal.{Refusal}
 use Rattle.syntax_tool.specs.declared.refusal.Refusal.TheVariants.{BadLine, BadKind, Memory}
 use Rattle.syntax_tool.specs.Escapes.{unescaped}
@@ -81,9 +82,9 @@ ReadsLines ((b ∷ line) ∷ lines) r =
     ((e : Event) × (later : Result (List Event) Refusal) × ReadsLine (b ∷ line) (Ok e) × ReadsLines lines later × (r ≡ behind (e ∷ []) later))
     ⊎ ((x : Refusal) × ReadsLine (b ∷ line) (Err x) × (r ≡ Err x))
 
--- the event of a line is appended
-abbrev pub AppendsEvent : List ℕ → List Event → List Event → Type 0
-AppendsEvent line before after = (e : Event) × ReadsLine line (Ok e) × (after ≡ before ++ e ∷ [])
+-- the event of a line is appended, and no error
+abbrev pub AppendsEvent : List ℕ → Draft → Draft → Type 0
+AppendsEvent line before after = (e : Event) × ReadsLine line (Ok e) × (after ≡ record { events = before.events ++ e ∷ []; faults = before.faults })
 
 -- the line does not read so, or memory was wanted
 abbrev pub RefusesLine : List ℕ → Refusal → Type 0

@@ -1,11 +1,21 @@
 -- What the program writes, and its exit status, for a command and what was read.
-use Rattle.std.specs.Prelude.{◌≡◌, ℕ, ◌<◌, length, ◌⊎◌, List, [], ◌++◌, take, Option, IfSome, MatchOption, Result, Ok, Err, codes, IsUtf8}
+use Rattle.std.specs.Prelude.{◌≡◌, ℕ, ◌<◌, ◌≤◌, ◌^◌, length, ◌⊎◌, List, [], ◌++◌, take, Option, None, Some, IfSome, MatchOption, Result, Ok, Err, codes, IsUtf8, if◌then◌else◌}
+use Rattle.std.specs.Str.{bytes_eq}
 use Rattle.std.specs.Io.KnownBytes.{Appends}
 use Rattle.tree_model.specs.Tree.{Tree}
 use Rattle.tree_model.specs.Events.{Event, BuildsNode, first_refusal}
 use Rattle.lossless_tree.specs.Dump.{dump_of}
 use Rattle.tree_model.specs.declared.error.FinishError.{FinishError}
 use Rattle.tree_model.specs.declared.error.FinishError.TheVariants as finish
+use Rattle.ras_front_end.specs.declared.parse_error.ParseError.{ParseError}
+use Rattle.ras_front_end.specs.declared.parse_error.ParseError.TheVariants as parse
+use Rattle.ras_front_end.specs.declared.edition.Entry.TheVariants.{SourceFile}
+use Rattle.ras_front_end.specs.declared.edition.Edition.TheVariants.{Edition2024}
+use Rattle.ras_front_end.specs.Parsed.{Parsed, IsParseOf}
+use Rattle.ras_typed_parse.specs.AllErrors.{debug_dump_of}
+use Rattle.tiny_front.specs.Front.{tiny_front}
+use Rattle.syntax_tool.specs.declared.command.Command.{Command}
+use Rattle.syntax_tool.specs.declared.command.Command.TheVariants.{Events, Dump}
 use Rattle.syntax_tool.specs.declared.refusal.Refusal.{Refusal}
 use Rattle.syntax_tool.specs.declared.refusal.Refusal.TheVariants.{Read, NotUtf8, BadLine, BadKind, TooLong, OverClosed, Unclosed, Empty, ManyRoots, TokenRoot, ErrorPastText, Memory}
 use Rattle.syntax_tool.specs.Lines.{lines_of, ReadsLines}
@@ -35,22 +45,44 @@ refusal_name TokenRoot = codes "TokenRoot"
 refusal_name ErrorPastText = codes "ErrorPastText"
 refusal_name Memory = codes "Memory"
 
--- the events of the lines build a tree, which is dumped; else the first refusal of `finish` is named
-abbrev pub AnswersEvents : List Event → Result (List ℕ) Refusal → Type 0
-AnswersEvents es r =
+-- the program's name of a refusal to read a text
+abbrev pub refusal_of_parse : ParseError → Refusal
+refusal_of_parse parse.TooLong = TooLong
+refusal_of_parse parse.Memory = Memory
+
+-- the command that a word names
+abbrev pub command_of : List ℕ → Option Command
+command_of word = if bytes_eq word (codes "events") then Some Events else (if bytes_eq word (codes "dump") then Some Dump else None)
+
+-- the events build a tree, which is dumped; else the first refusal of `finish` is named
+abbrev pub DumpsEvents : List Event → Result (List ℕ) Refusal → Type 0
+DumpsEvents es r =
     MatchOption (first_refusal es)
     ((t : Tree) × BuildsNode es t × (r ≡ Ok (dump_of (record { tree = t; place = [] }))))
     (λ e. r ≡ Err (refusal_of_finish e))
 
 abbrev pub AnswersRead : Result (List Event) Refusal → Result (List ℕ) Refusal → Type 0
-AnswersRead (Ok es) r = AnswersEvents es r
+AnswersRead (Ok es) r = DumpsEvents es r
 AnswersRead (Err x) r = r ≡ Err x
 
--- the answer of the command `events`: that the input is text is looked at first, then each line, then the tree
-abbrev pub AnswersInput : List ℕ → Result (List ℕ) Refusal → Type 0
-AnswersInput input r =
-    ((¬ (IsUtf8 input)) × (r ≡ Err NotUtf8))
-    ⊎ (IsUtf8 input × ((es : Result (List Event) Refusal) × ReadsLines (lines_of input) es × AnswersRead es r))
+-- `events`: each line is looked at, and then the tree of their events
+abbrev pub AnswersEvents : List ℕ → Result (List ℕ) Refusal → Type 0
+AnswersEvents text r = (es : Result (List Event) Refusal) × ReadsLines (lines_of text) es × AnswersRead es r
+
+-- `dump`: that the text is not too long is looked at first; then the small front end reads it as a file of the newest
+-- edition, and its parse is dumped
+abbrev pub AnswersText : List ℕ → Result (List ℕ) Refusal → Type 0
+AnswersText text r =
+    ((2 ^ 32 ≤ length text) × (r ≡ Err TooLong))
+    ⊎ ((length text < 2 ^ 32) × ((p : Parsed) × IsParseOf text (tiny_front.parsed SourceFile Edition2024 text) p × (r ≡ Ok (debug_dump_of p))))
+
+abbrev pub AnswersAs : Command → List ℕ → Result (List ℕ) Refusal → Type 0
+AnswersAs Events text r = AnswersEvents text r
+AnswersAs Dump text r = AnswersText text r
+
+-- the answer of a command: that the input is text is looked at first
+abbrev pub AnswersInput : Command → List ℕ → Result (List ℕ) Refusal → Type 0
+AnswersInput command input r = ((¬ (IsUtf8 input)) × (r ≡ Err NotUtf8)) ⊎ (IsUtf8 input × AnswersAs command input r)
 
 -- the bytes that are written, and the exit status
 pub record Output : Type 0 where
@@ -67,15 +99,13 @@ output_of (Err r) = refused r
 abbrev pub usage : Output
 usage = record { text = codes "usage: syntax_tool events|dump|parens|reparse\n"; status = 2 }
 
--- the output of a command for what was read
+-- the output for a word and what was read
 abbrev pub IsOutput : List ℕ → List ℕ → Output → Type 0
-IsOutput command input out =
-    ((command ≡ codes "events") × ((r : Result (List ℕ) Refusal) × AnswersInput input r × (out ≡ output_of r)))
-    ⊎ ((¬ (command ≡ codes "events")) × (out ≡ usage))
+IsOutput word input out = MatchOption (command_of word) (out ≡ usage) (λ c. (r : Result (List ℕ) Refusal) × AnswersInput c input r × (out ≡ output_of r))
 
 -- where the reader failed, or a growth was refused, that is all that is said
 abbrev pub IsCutShort : List ℕ → Output → Type 0
-IsCutShort command out = (command ≡ codes "events") × ((out ≡ refused Read) ⊎ (out ≡ refused Memory))
+IsCutShort word out = MatchOption (command_of word) ⊥ (λ _. (out ≡ refused Read) ⊎ (out ≡ refused Memory))
 
 -- the writer took the whole output; or it failed, and took a front of it
 abbrev pub Wrote : Option (List ℕ) → Option (List ℕ) → ℕ → Output → Type 0
@@ -92,13 +122,13 @@ abbrev pub IsEarly : Refusal → Type 0
 IsEarly r = (r ≡ Read) ⊎ (r ≡ Memory)
 
 -- all of the input was read, and it has this answer
-abbrev pub AnswersReader : Option (List ℕ) → Result (List ℕ) Refusal → Type 0
-AnswersReader left r = (input : List ℕ) × WasLeft left input × AnswersInput input r
+abbrev pub AnswersReader : Command → Option (List ℕ) → Result (List ℕ) Refusal → Type 0
+AnswersReader command left r = (input : List ℕ) × WasLeft left input × AnswersInput command input r
 
 -- what a run leaves: the bytes that a reader was known to have left were read, and their output was written
-pub record IsRun (command : List ℕ) (left before after : Option (List ℕ)) (status : ℕ) : Type 0 where
+pub record IsRun (word : List ℕ) (left before after : Option (List ℕ)) (status : ℕ) : Type 0 where
   pub input : List ℕ
   pub read_whole : WasLeft left input
   pub out : Output
-  pub out_is : IsOutput command input out ⊎ IsCutShort command out
+  pub out_is : IsOutput word input out ⊎ IsCutShort word out
   pub wrote : Wrote before after status out

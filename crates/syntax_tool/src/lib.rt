@@ -1,6 +1,9 @@
 //! The program `syntax_tool`, over any reader and any writer.
 #![tactic(auto)]
 
+mod answer;
+mod command;
+mod dump;
 mod escapes;
 mod events;
 mod input;
@@ -9,5 +12,6 @@ mod output;
 mod program;
 mod refusal;
 
+pub use command::Command;
 pub use program::run;
 pub use refusal::Refusal;

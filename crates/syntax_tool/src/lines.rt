@@ -6,7 +6,7 @@ ghost use Rattle.syntax_tool.specs.Lines.{HasNo, IsCut, IsWord, AppendsEvent, Re
 
 use crate::escapes::unescape;
 use crate::refusal::Refusal;
-use lossless_tree::{SyntaxKind, TreeBuilder};
+use ra_ap_syntax::{SyntaxKind, SyntaxTreeBuilder};
 
 // What stands before the first `at`, and behind it; all of the text and nothing where there is none.
 pub(crate) fn cut(text: &str, at: char) -> (&str, &str)
@@ -39,7 +39,7 @@ fn kind_named(word: &str) -> Result<SyntaxKind, Refusal>
 
 // Appends the event of a line that is not empty. `text` is room for a token's text.
 pub(crate) fn add_line(
-    builder: &mut TreeBuilder,
+    builder: &mut SyntaxTreeBuilder,
     text: &mut String,
     line: &str,
 ) -> Result<(), Refusal>
@@ -55,7 +55,7 @@ pub(crate) fn add_line(
 }
 
 // `exit`, a line without a space.
-fn add_exit(builder: &mut TreeBuilder, line: &str) -> Result<(), Refusal>
+fn add_exit(builder: &mut SyntaxTreeBuilder, line: &str) -> Result<(), Refusal>
     requires { HasNo 32 line.now }
     ensures ok { OnOk result (AppendsEvent line.now builder.old builder.new) }
     ensures err { IfErr result (RefusesLine line.now) }
@@ -68,7 +68,7 @@ fn add_exit(builder: &mut TreeBuilder, line: &str) -> Result<(), Refusal>
 }
 
 // `enter KIND`, from the kind on.
-fn add_enter(builder: &mut TreeBuilder, name: &str) -> Result<(), Refusal>
+fn add_enter(builder: &mut SyntaxTreeBuilder, name: &str) -> Result<(), Refusal>
     ensures ok { OnOk result (AppendsEvent (codes "enter " ++ name.now) builder.old builder.new) }
     ensures err { IfErr result (RefusesLine (codes "enter " ++ name.now)) }
 {
@@ -81,7 +81,7 @@ fn add_enter(builder: &mut TreeBuilder, name: &str) -> Result<(), Refusal>
 }
 
 // `token KIND` or `token KIND TEXT`, from the kind on.
-fn add_token(builder: &mut TreeBuilder, text: &mut String, rest: &str) -> Result<(), Refusal>
+fn add_token(builder: &mut SyntaxTreeBuilder, text: &mut String, rest: &str) -> Result<(), Refusal>
     ensures ok { OnOk result (AppendsEvent (codes "token " ++ rest.now) builder.old builder.new) }
     ensures err { IfErr result (RefusesLine (codes "token " ++ rest.now)) }
 {

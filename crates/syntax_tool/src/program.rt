@@ -1,41 +1,44 @@
 //! A run of the program.
-ghost use Rattle.std.specs.Prelude.{◌≡◌, ◌⊎◌, Ok, Err, IfOk, IfErr, string_bytes, codes};
-ghost use Rattle.syntax_tool.specs.Output.{IsRun, IsEarly, AnswersReader};
+ghost use Rattle.std.specs.Prelude.{◌≡◌, ◌⊎◌, Ok, Err, None, IfOk, IfErr, string_bytes};
+ghost use Rattle.syntax_tool.specs.Output.{IsRun, IsEarly, AnswersReader, command_of};
 
-use crate::events::answer;
+use crate::answer::answer_to;
+use crate::command::Command;
 use crate::input::read_all;
 use crate::output::write_output;
 use crate::refusal::Refusal;
 use std::alloc::Global;
 use std::io::{Read, Write};
 
-// What stands on the command line of a call that names no command.
+// What is written where the word names no command.
 const USAGE: &str = "usage: syntax_tool events|dump|parens|reparse\n";
 
 // What a command answers for all that the reader gives.
-fn output<R: Read>(alloc: Global, reader: &mut R) -> Result<String, Refusal>
-    ensures ok { IfOk result (λ text. AnswersReader (R.remaining reader.old) (Ok (string_bytes text))) }
-    ensures err { IfErr result (λ e. IsEarly e ⊎ AnswersReader (R.remaining reader.old) (Err e)) }
+fn output<R: Read>(alloc: Global, command: Command, reader: &mut R) -> Result<String, Refusal>
+    ensures ok { IfOk result (λ text. AnswersReader command (R.remaining reader.old) (Ok (string_bytes text))) }
+    ensures err { IfErr result (λ e. IsEarly e ⊎ AnswersReader command (R.remaining reader.old) (Err e)) }
 {
     let input = read_all(alloc, reader)?;
-    answer(alloc, input.as_slice())
+    answer_to(alloc, command, input.as_slice())
 }
 
 /// Runs a command: reads all of its input, writes its output, and answers the exit status.
 ///
-/// `events` reads lines `enter KIND`, `exit` and `token KIND TEXT`, and writes the dump of the tree that they build,
-/// with status 0. Where the input is refused, it writes the line `refused: NAME` with the name of a [`Refusal`], and
-/// the status is 1. Every other command is not there yet: the usage line is written, the status is 2, and nothing is
-/// read. All output is made before the first byte is written; a write that fails gives status 1 and leaves a front of
-/// the output.
+/// `events` reads lines `enter KIND`, `exit` and `token KIND TEXT`, and writes the dump of the tree that they build.
+/// `dump` reads a file of the small language [`tiny_front::Tiny`], and writes the dump of its tree and a line
+/// `error a..b: message` for each error. The status is 0. Where the input is refused, the line `refused: NAME` is written
+/// with the name of a [`Refusal`], and the status is 1. Every other word names no command, or one that is not there yet: the
+/// usage line is written, the status is 2, and nothing is read. All output is made before the first byte is written; a
+/// write that fails gives status 1 and leaves a front of the output.
 pub fn run<R: Read, W: Write>(alloc: Global, reader: &mut R, writer: &mut W, command: &str) -> u8
     ensures run { IsRun command.now (R.remaining reader.old) (W.contents writer.old) (W.contents writer.new) result }
-    ensures reads_nothing { (¬ (command.now ≡ codes "events")) → reader.new ≡ reader.old }
+    ensures reads_nothing { command_of command.now ≡ None → reader.new ≡ reader.old }
 {
-    if command != "events" {
-        return write_output(writer, USAGE, 2);
-    }
-    match output(alloc, reader) {
+    let chosen = match Command::named(command) {
+        Some(chosen) => chosen,
+        None => return write_output(writer, USAGE, 2),
+    };
+    match output(alloc, chosen, reader) {
         Ok(text) => write_output(writer, text.as_str(), 0),
         Err(refusal) => write_output(writer, refusal.line(), 1),
     }

@@ -1,7 +1,7 @@
 //! Why the program refuses its input.
 ghost use Rattle.std.specs.Prelude.{◌≡◌};
 
-use lossless_tree::FinishError;
+use ra_ap_syntax::{FinishError, ParseError};
 use std::alloc::AllocError;
 
 /// Why the program prints no answer. The names are those that it prints.
@@ -73,6 +73,20 @@ impl From<FinishError> for Refusal {
             FinishError::TokenRoot => Refusal::TokenRoot,
             FinishError::ErrorPastText => Refusal::ErrorPastText,
             FinishError::Memory => Refusal::Memory,
+        }
+    }
+}
+
+impl From<ParseError> for Refusal {
+    ghost use Rattle.std.specs.Prelude.{◌≡◌};
+    ghost use Rattle.syntax_tool.specs.Output.{refusal_of_parse};
+
+    ghost from_gives = { λ e r. r ≡ refusal_of_parse e };
+
+    fn from(error: ParseError) -> Refusal {
+        match error {
+            ParseError::TooLong => Refusal::TooLong,
+            ParseError::Memory => Refusal::Memory,
         }
     }
 }

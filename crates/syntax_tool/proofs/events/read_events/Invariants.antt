@@ -1,4 +1,4 @@
-use Rattle.std.proofs.Common.{List, length}
+use Rattle.std.proofs.Common.{◌≡◌, List, [], length}
 use Rattle.std.specs.Prelude.{Result}
 use denote.Text.{Utf8}
 use denote.Shadow.{shadow}
@@ -8,7 +8,7 @@ use Rattle.syntax_tool.specs.Lines.{lines_of, ReadsLines, behind}
 use Rattle.syntax_tool.proofs.events.read_events.Given as goal
 
 abbrev pub invariant-loop-rest : goal.invariant-loop-rest
-invariant-loop-rest l = shadow (Utf8 l.rest) × ((r : Result (List Event) Refusal) → ReadsLines (lines_of l.rest) r → ReadsLines (lines_of l.fn.text) (behind l.builder r))
+invariant-loop-rest l = shadow (Utf8 l.rest) × ((r : Result (List Event) Refusal) → ReadsLines (lines_of l.rest) r → ReadsLines (lines_of l.fn.text) (behind l.builder.events r)) × (l.builder.faults ≡ [])
 
 abbrev pub decreases-loop-rest : goal.decreases-loop-rest
 decreases-loop-rest l = length l.rest

@@ -1,0 +1,27 @@
+//! The commands.
+ghost use Rattle.std.specs.Prelude.{◌≡◌};
+ghost use Rattle.syntax_tool.specs.Output.{command_of};
+
+/// A command of the program.
+#[derive(Clone, Copy, Debug, PartialEq, Eq)]
+pub enum Command {
+    /// Event lines to the dump of the tree that they build.
+    Events,
+    /// A file's text to the dump of its tree, with its errors.
+    Dump,
+}
+
+impl Command {
+    /// The command of a name; `None` where there is none of that name.
+    pub fn named(name: &str) -> Option<Command>
+        ensures { result ≡ command_of name.now }
+    {
+        if name == "events" {
+            Some(Command::Events)
+        } else if name == "dump" {
+            Some(Command::Dump)
+        } else {
+            None
+        }
+    }
+}
