@@ -1,1 +1,3 @@
+pub mod Comments
+pub mod Numbers
 pub mod Texts

@@ -1,8 +1,14 @@
 //! The parts and values of literals and comments, by their texts alone. All places are byte offsets into a token's text.
 #![tactic(auto)]
 
+pub mod comments;
+pub mod numbers;
 pub mod parts;
 pub mod places;
 
+pub use comments::{AttrKind, CommentKind, CommentShape, comment_text, spans_multiple_lines};
+pub use numbers::{
+    IntError, Radix, float_value_string, int_value, int_value_string, split_float, split_int,
+};
 pub use parts::{cut, is_raw};
 pub use places::{first_place, last_place};
