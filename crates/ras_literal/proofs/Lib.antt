@@ -1,3 +1,3 @@
 pub mod Boundaries
 pub mod ValueTexts
-pub mod Values
+pub mod IntValues

@@ -1,3 +1,4 @@
 pub mod Comments
+pub mod Literals
 pub mod Numbers
 pub mod Texts

@@ -1,6 +1,6 @@
 use Rattle.std.proofs.Common.{sym, ap, ◌∙◌}
 use Rattle.ras_literal.specs.Numbers.{base_of}
-use Rattle.ras_literal.proofs.Values.{answered}
+use Rattle.ras_literal.proofs.IntValues.{answered}
 use Rattle.ras_literal.proofs.numbers.int_value.Goals as goal
 
 pub returns-in-Some : goal.returns-in-Some
