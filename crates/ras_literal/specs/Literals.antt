@@ -80,6 +80,18 @@ report_bytes r = unit_bytes r.unit
 abbrev pub meanings : Mode → List ℕ → List ℕ
 meanings mode content = flat_map report_bytes (reports_in mode (chars content))
 
+-- the same of a string, in which each unit is a character
+abbrev pub unit_text : Result MixedUnit EscapeError → List ℕ
+unit_text (Ok (units.Char c)) = encode_utf8 c
+unit_text (Ok (units.HighByte b)) = []
+unit_text (Err e) = []
+
+abbrev pub report_text : Report → List ℕ
+report_text r = unit_text r.unit
+
+abbrev pub string_meanings : List ℕ → List ℕ
+string_meanings content = flat_map report_text (reports_in modes.Str (chars content))
+
 -- a backslash (92) stands in the content
 abbrev pub has_backslash : List ℕ → Bool
 has_backslash content = list_any (λ b. b == 92) content

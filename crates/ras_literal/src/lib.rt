@@ -17,4 +17,4 @@ pub use numbers::{
 pub use parts::{cut, is_raw};
 pub use places::{first_place, last_place};
 pub use strings::{last_fault, quote_places, string_content};
-pub use values::{ValueError, bytes_value};
+pub use values::{ValueError, bytes_value, string_value};
