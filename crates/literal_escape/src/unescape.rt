@@ -35,7 +35,8 @@ pub fn unescape_unit(content: &str, mode: Mode) -> Result<MixedUnit, EscapeError
 /// The first unit's fault comes before [`EscapeError::MoreThanOneChar`], which says that something
 /// follows a good one. An empty content is [`EscapeError::ZeroChars`].
 pub fn unescape_char(content: &str) -> Result<char, EscapeError>
-    ensures { OfReports Mode.Char (chars content.now) (λ reports. result ≡ numbered (single reports)) }
+    ensures single { OfReports Mode.Char (chars content.now) (λ reports. result ≡ numbered (single reports)) }
+    ensures read { result ≡ numbered (single (reports_in Mode.Char (chars content.now))) }
 {
     unescape_unit(content, Mode::Char).map(MixedUnit::as_char)
 }
@@ -43,7 +44,8 @@ pub fn unescape_char(content: &str) -> Result<char, EscapeError>
 /// The byte of a byte literal with this content, as `\xff` or `a`. Faults come in the order of
 /// [`unescape_char`].
 pub fn unescape_byte(content: &str) -> Result<u8, EscapeError>
-    ensures { OfReports Mode.Byte (chars content.now) (λ reports. result ≡ numbered (single reports)) }
+    ensures single { OfReports Mode.Byte (chars content.now) (λ reports. result ≡ numbered (single reports)) }
+    ensures read { result ≡ numbered (single (reports_in Mode.Byte (chars content.now))) }
 {
     match unescape_unit(content, Mode::Byte) {
         Ok(unit) => Ok(unit.as_byte()),

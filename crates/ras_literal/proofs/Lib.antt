@@ -1,0 +1,3 @@
+pub mod Boundaries
+pub mod ValueTexts
+pub mod IntValues

@@ -1,1 +1,4 @@
+pub mod Comments
+pub mod Literals
+pub mod Numbers
 pub mod Texts

@@ -1,5 +1,6 @@
 //! Parts of a text.
-ghost use Rattle.std.specs.Prelude.{◌≡◌, option_map};
+ghost use Rattle.std.specs.Prelude.{◌≡◌, nat_eq, option_map};
+ghost use Rattle.std.specs.List.{starts_with, ends_with};
 ghost use Rattle.ras_literal.specs.Texts.{is_boundary, part, is_raw};
 
 // Whether a character begins at an offset, or the text ends there.
@@ -26,9 +27,23 @@ pub fn cut(text: &str, from: usize, to: usize) -> Option<&str>
     }
 }
 
+/// Whether a text begins with another.
+pub(crate) fn begins_with(text: &str, front: &str) -> bool
+    ensures { result ≡ starts_with nat_eq text.now front.now }
+{
+    text.starts_with(front)
+}
+
+/// Whether a text ends with another.
+pub(crate) fn ends_with(text: &str, back: &str) -> bool
+    ensures { result ≡ ends_with nat_eq text.now back.now }
+{
+    text.ends_with(back)
+}
+
 /// Whether a literal is raw: its text begins with the prefix of such literals, `r`, `br` or `cr`.
 pub fn is_raw(text: &str, prefix: &str) -> bool
     ensures { result ≡ is_raw prefix.now text.now }
 {
-    text.starts_with(prefix)
+    begins_with(text, prefix)
 }
