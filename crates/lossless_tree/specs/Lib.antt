@@ -1,4 +1,5 @@
 pub mod Element
+pub mod ElementLaws
 pub mod TokenAtOffset
 pub mod Trees
 pub mod SyntaxText

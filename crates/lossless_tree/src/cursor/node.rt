@@ -22,7 +22,7 @@ use super::text::SyntaxText;
 use super::token::SyntaxToken;
 use super::token_at_offset::TokenAtOffset;
 use crate::dump;
-use crate::trees::Trees;
+use crate::siblings_left::SiblingsLeft;
 use shared_pointer::Shared;
 use std::alloc::{AllocError, Global};
 use std::hash::{Hash, Hasher};
@@ -123,10 +123,10 @@ impl SyntaxNode {
     }
 
     /// The node's children, as siblings that are left to read.
-    pub fn trees(&self) -> Trees<'_>
+    pub fn trees(&self) -> SiblingsLeft<'_>
         ensures { result ≡ record { trees = forest_of_children (focus self.now); start = range_start self.now } }
     {
-        Trees::below(&self.table, self.row)
+        SiblingsLeft::below(&self.table, self.row)
     }
 
     /// The text of child number `n`, from 0, where that is a token; `None` for a node, and where there is no such child.

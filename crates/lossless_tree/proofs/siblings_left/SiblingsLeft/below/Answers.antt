@@ -3,8 +3,8 @@ use Rattle.tree_model.specs.Rows.{tree_at, start_at}
 use Rattle.tree_model.proofs.At.{some_row, cong₂}
 use Rattle.tree_model.proofs.StepLemmas.{end_of_row, row_start}
 use Rattle.lossless_tree.proofs.TreesLemmas.{Below, trees_below}
-use Rattle.lossless_tree.proofs.trees.Trees.below.Goals as goal
-use Rattle.lossless_tree.proofs.trees.Trees.below.Goals.{After-row-first}
+use Rattle.lossless_tree.proofs.siblings_left.SiblingsLeft.below.Goals as goal
+use Rattle.lossless_tree.proofs.siblings_left.SiblingsLeft.below.Goals.{After-row-first}
 
 pub overflow_add-result : goal.overflow_add-result
 overflow_add-result c = omega (arith, ap (λ r. r.end) c.row-first.ensures.value, c.row-first.ensures.end_fits, end_of_row c.args.table.now c.args.row c.requires, some_row (tree_at c.args.table.now c.args.row))

@@ -14,14 +14,14 @@ use tree_model::Table;
 /// No call takes memory, and each takes constant time but for `without_trivia`. A value is never changed: `rest` and `inside`
 /// give new ones. Where nothing is left, the kind is `OTHER(0)`, the text is empty, and `rest` and `inside` have nothing.
 #[derive(Drop)]
-pub struct Trees<'t> {
+pub struct SiblingsLeft<'t> {
     table: &'t Table,
     row: usize,
     end: usize,
     start: usize,
 }
 
-impl<'t> Model for Trees<'t> {
+impl<'t> Model for SiblingsLeft<'t> {
     ghost use Rattle.lossless_tree.specs.Trees.{Siblings, siblings_code, trees_at, IsTrees};
 
     ghost Value = { Siblings };
@@ -33,14 +33,14 @@ impl<'t> Model for Trees<'t> {
     ghost invariant = { λ a. IsTrees a.table.now a.row a.end a.start };
 }
 
-impl<'t> Trees<'t> {
+impl<'t> SiblingsLeft<'t> {
     // The children of what stands at a row.
     pub(crate) fn below(table: &'t Table, row: usize) -> Self
         requires { IsRow table.now row }
         ensures { result ≡ record { trees = forest_of_children (tree_at table.now row); start = start_at table.now row } }
     {
         let first = table.row(row);
-        Trees {
+        SiblingsLeft {
             table,
             row: row + 1,
             end: first.end,
@@ -49,10 +49,10 @@ impl<'t> Trees<'t> {
     }
 
     /// The same once more.
-    pub fn all(&self) -> Trees<'t>
+    pub fn all(&self) -> SiblingsLeft<'t>
         ensures { result ≡ self.now }
     {
-        Trees {
+        SiblingsLeft {
             table: self.table,
             row: self.row,
             end: self.end,
@@ -105,11 +105,11 @@ impl<'t> Trees<'t> {
     }
 
     /// The siblings behind the first one.
-    pub fn rest(&self) -> Trees<'t>
+    pub fn rest(&self) -> SiblingsLeft<'t>
         ensures { result ≡ behind_first self.now }
     {
         if self.row < self.end {
-            Trees {
+            SiblingsLeft {
                 table: self.table,
                 row: self.table.row(self.row).end,
                 end: self.end,
@@ -121,11 +121,11 @@ impl<'t> Trees<'t> {
     }
 
     /// The children of the first one.
-    pub fn inside(&self) -> Trees<'t>
+    pub fn inside(&self) -> SiblingsLeft<'t>
         ensures { result ≡ inside_first self.now }
     {
         if self.row < self.end {
-            Trees::below(self.table, self.row)
+            SiblingsLeft::below(self.table, self.row)
         } else {
             self.all()
         }
@@ -133,7 +133,7 @@ impl<'t> Trees<'t> {
 
     /// What is left from the first on that is no trivia: no token of white space or a comment. It takes time linear in the
     /// trivia that it passes.
-    pub fn without_trivia(&self) -> Trees<'t>
+    pub fn without_trivia(&self) -> SiblingsLeft<'t>
         ensures { result ≡ without_trivia self.now }
     {
         let mut left = self.all();

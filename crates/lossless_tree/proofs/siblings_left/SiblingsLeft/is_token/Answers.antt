@@ -1,7 +1,7 @@
 use Rattle.std.proofs.Common.{◌∙◌, ap, arith}
 use Rattle.tree_model.specs.Tree.{is_token}
 use Rattle.lossless_tree.proofs.TreesLemmas.{first_seen, row_is_token}
-use Rattle.lossless_tree.proofs.trees.Trees.is_token.Goals as goal
+use Rattle.lossless_tree.proofs.siblings_left.SiblingsLeft.is_token.Goals as goal
 
 pub returns-then-self : goal.returns-then-self
 returns-then-self c =
