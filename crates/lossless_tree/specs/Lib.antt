@@ -6,3 +6,4 @@ pub mod SyntaxText
 pub mod WalkEvent
 pub mod Dump
 pub mod ElementCode
+pub mod PointerEquality

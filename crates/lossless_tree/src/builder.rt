@@ -1,6 +1,6 @@
 //! Events to a tree.
 ghost use Rattle.std.specs.Prelude.{◌≡◌, [], ◌∷◌, ◌++◌, OnOk, OnErr, IfOk, IfErr, None};
-ghost use Rattle.tree_model.specs.Events.{enter, leaf, exit, BuildsNode, first_refusal, refusal_of, text_len};
+ghost use Rattle.tree_model.specs.Events.{enter, leaf, exit, BuildsNode, IsAccepted, IsFirstRefusal, first_refusal, refusal_of, text_len};
 ghost use Rattle.tree_model.specs.Cursor.{IsRoot};
 
 use crate::cursor::node::SyntaxNode;
@@ -98,10 +98,11 @@ impl TreeBuilder {
     ///
     /// Else the first refusal that holds of all the events, in the order of [`FinishError`]; the builder is then gone.
     /// The text is not copied.
+    #[tactic(auto, using(tree_model::proofs::Refusals::first_refusal_is, tree_model::proofs::Refusals::none_accepted))]
     pub fn finish(self) -> Result<SyntaxNode, FinishError>
         ensures ok { IfOk result (λ root. BuildsNode self root.tree × IsRoot root) }
-        ensures accepted { OnOk result (first_refusal self ≡ None) }
-        ensures refused { IfErr result (λ e. refusal_of e ≡ first_refusal self) }
+        ensures accepted { OnOk result (IsAccepted self) }
+        ensures refused { IfErr result (IsFirstRefusal self) }
     {
         let alloc = self.alloc;
         let table = self.build()?;

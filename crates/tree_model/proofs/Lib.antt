@@ -10,11 +10,13 @@ pub mod CoveringRows
 pub mod EditLaws
 pub mod EditLemmas
 pub mod EventLemmas
+pub mod EventTexts
 pub mod EveryLaws
 pub mod FinishLemmas
 pub mod MovedRows
 pub mod PackedRow
 pub mod PlaceLemmas
+pub mod Refusals
 pub mod ReplaceErrors
 pub mod PointerLaws
 pub mod PointerLemmas

@@ -12,14 +12,14 @@ use Rattle.tree_model.specs.Cursor.{Cursor}
 use Rattle.tree_model.specs.Equality.{is_same_forest, is_same_tree, is_same_cursor, is_same_bool, is_same_row, cursor_hash}
 
 -- two tests that decide two facts, one after another
-and_Decides : {P Q R : Type 0} (a b : Bool) → Decides a P → Decides b Q → (P → Q → R) → (R → P × Q) → Decides (a && b) R
+pub and_Decides : {P Q R : Type 0} (a b : Bool) → Decides a P → Decides b Q → (P → Q → R) → (R → P × Q) → Decides (a && b) R
 and_Decides true b p q make split = (λ e. make (p.0 refl) (q.0 e), λ r. q.1 (split r).1)
 and_Decides false b p q make split = (λ e. (let no : false ≡ true = e in cc), λ r. p.1 (split r).0)
 
 never : {R : Type 0} → (R → ⊥) → Decides false R
 never f = (λ e. (let no : false ≡ true = e in cc), λ r. absurd (f r))
 
-kind_Decides : (j k : SyntaxKind) → Decides (is_same_kind j k) (j ≡ k)
+pub kind_Decides : (j k : SyntaxKind) → Decides (is_same_kind j k) (j ≡ k)
 kind_Decides j k = (λ e. (is_same_kind-equal j k).0 e, λ e. (is_same_kind-equal j k).1 e)
 
 pub forest_Decides : (f g : Forest) → Decides (is_same_forest f g) (f ≡ g)

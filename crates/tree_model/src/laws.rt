@@ -3,7 +3,7 @@ ghost use Rattle.tree_model.specs.CursorLaws.{ChildrenFillNodes, EqualityIsSamen
 ghost use Rattle.tree_model.specs.Edit.{PlacesAreReached, TextAround, ReplacedText, EditedInside};
 ghost use Rattle.tree_model.specs.Covering.{CoveringHolds};
 ghost use Rattle.tree_model.specs.Every.{EveryIsDescendants};
-ghost use Rattle.tree_model.specs.Events.{RefusalsHold};
+ghost use Rattle.tree_model.specs.Events.{RefusalsHold, TextsAreBuilt, NodesAreAccepted};
 ghost use Rattle.tree_model.specs.Pointer.{PointersResolve};
 ghost use Rattle.tree_model.specs.RowSteps.{ParentsAreNearest};
 ghost use Rattle.tree_model.specs.TokenSearch.{AtMostTwo};
@@ -24,11 +24,21 @@ pub fn covering_holds()
     ensures { CoveringHolds }
 {}
 
-/// What the contract of `TreeBuilder::finish` calls the first refusal is the first that holds: a text that is too long,
+/// The refusal that a reading of the events from left to right finds is the first that holds: a text that is too long,
 /// then some front of the events with more exits than enters, then more enters than exits in all, then what the
-/// balanced events build.
+/// balanced events build. Where it finds none, the events build one node of a text that is not too long.
 pub fn refusals_hold()
     ensures { RefusalsHold }
+{}
+
+/// The text of what events build is the texts of their tokens, joined.
+pub fn texts_are_built()
+    ensures { TextsAreBuilt }
+{}
+
+/// Events that build one node of a text of fewer than 2^32 bytes meet no refusal.
+pub fn nodes_are_accepted()
+    ensures { NodesAreAccepted }
 {}
 
 /// A place of a tree's list of places is one that can be reached from the root, one child after another.

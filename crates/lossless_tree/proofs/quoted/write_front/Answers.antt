@@ -1,4 +1,4 @@
-use Rattle.std.proofs.Common.{◌++◌, arith, refl, subst}
+use Rattle.std.proofs.Common.{◌++◌, arith, refl, subst, true}
 use Rattle.std.proofs.Output.{has_written_append}
 use Rattle.std.specs.Fmt.{HasWritten}
 use Rattle.std.specs.Str.{chars}
@@ -14,9 +14,9 @@ loop-c-preserved g c = record {
   whole = λ plain.
       let now = c.loop-c.invariant.whole plain in (
         now.0 ++ escaped c.in-Some.c,
-        has_written_append _ _ _ _ _ _ now.1 (c.in_ok-write_escaped.ensures now.1.plain refl),
+        has_written_append _ _ _ _ _ _ now.1 (c.in_ok-write_escaped.ensures now.1.plain (refl {a = true})),
         front_step now.0 (now.0 ++ escaped c.in-Some.c) _ (chars_rest c.loop-c.c-iterator) (chars_rest c.next.new.self) c.in-Some.c c.loop-c.missing c.saturating_sub-missing.result
-            c.loop-c.invariant.utf8 c.in-Some.ensures.steps.0 c.if-missing-eq0.false (rw c.saturating_sub-missing.ensures (omega (arith, c.len_utf8.ensures.value))) refl now.2,
+            c.loop-c.invariant.utf8 c.in-Some.ensures.steps.0 c.if-missing-eq0.false (rw c.saturating_sub-missing.ensures (omega (arith, c.len_utf8.ensures.value))) (refl {a = now.0 ++ escaped c.in-Some.c}) now.2,
       );
 }
 
