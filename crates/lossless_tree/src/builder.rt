@@ -8,7 +8,8 @@ use shared_pointer::Shared;
 use std::alloc::{AllocError, Global};
 use std::marker::Model;
 use syntax_kind::SyntaxKind;
-use tree_model::{FinishError, Step, Table, build_rows, first_refusal};
+use tree_model::FinishError;
+use tree_rows::{BuilderEvent, Table, build_rows, first_refusal};
 
 /// Builds a tree from events: a node is entered, tokens come, the node is left.
 ///
@@ -26,7 +27,7 @@ use tree_model::{FinishError, Step, Table, build_rows, first_refusal};
 #[derive(Drop)]
 pub struct TreeBuilder {
     alloc: Global,
-    steps: Vec<Step>,
+    steps: Vec<BuilderEvent>,
     text: String,
 }
 
@@ -35,7 +36,7 @@ impl Model for TreeBuilder {
     ghost use Rattle.std.specs.Coded.{coded_list};
     ghost use Rattle.tree_model.specs.Events.{Event};
     ghost use Rattle.tree_model.specs.TreeCode.{event_code};
-    ghost use Rattle.tree_model.specs.Builder.{events_from, TextsFit};
+    ghost use Rattle.tree_rows.specs.Builder.{events_from, TextsFit};
 
     ghost Value = { List Event };
 
@@ -63,7 +64,7 @@ impl TreeBuilder {
         ensures ok { OnOk result (self.new ≡ self.old ++ enter kind ∷ []) }
         ensures err { OnErr result (self.new ≡ self.old) }
     {
-        self.steps.push(Step::Enter(kind))?;
+        self.steps.push(BuilderEvent::Enter(kind))?;
         Ok(())
     }
 
@@ -74,7 +75,7 @@ impl TreeBuilder {
     {
         self.steps.reserve(1)?;
         self.text.push_str(text)?;
-        self.steps.push(Step::Token(kind, text.len()))?;
+        self.steps.push(BuilderEvent::Token(kind, text.len()))?;
         Ok(())
     }
 
@@ -83,7 +84,7 @@ impl TreeBuilder {
         ensures ok { OnOk result (self.new ≡ self.old ++ exit ∷ []) }
         ensures err { OnErr result (self.new ≡ self.old) }
     {
-        self.steps.push(Step::Exit)?;
+        self.steps.push(BuilderEvent::Exit)?;
         Ok(())
     }
 

@@ -8,7 +8,7 @@ use crate::cursor::preorder::walk_step;
 use crate::quoted::Quoted;
 use std::alloc::{AllocError, Global};
 use std::fmt::Write;
-use tree_model::Table;
+use tree_rows::Table;
 
 // What stands behind the range of a row: a token's text.
 fn push_text(out: &mut String, table: &Table, row: usize) -> Result<(), AllocError>

@@ -6,7 +6,7 @@ ghost use Rattle.lossless_tree.specs.Trees.{is_done, first_of, behind_first, ins
 
 use std::marker::Model;
 use syntax_kind::SyntaxKind;
-use tree_model::Table;
+use tree_rows::Table;
 
 /// Some children of a node that are left to read, from one on to the last: for readers that go over a tree in order and look
 /// at a few siblings at once. A clause sees a forest and the byte where its first tree starts.

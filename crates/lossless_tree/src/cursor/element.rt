@@ -16,7 +16,8 @@ use shared_pointer::Shared;
 use std::alloc::{AllocError, Global};
 use syntax_kind::SyntaxKind;
 use text_size::TextRange;
-use tree_model::{Direction, Table};
+use tree_model::Direction;
+use tree_rows::Table;
 
 /// A node or a token, of any two types that stand for them.
 #[derive(Clone, Hash, Drop)]

@@ -2,7 +2,7 @@ use Rattle.std.proofs.Common.{◌++◌, ◌∷◌, ◌∙◌, sym, ap, append-ni
 use Rattle.std.specs.Prelude.{string_bytes}
 use Rattle.tree_model.specs.Rows.{tree_at}
 use Rattle.lossless_tree.specs.Dump.{quoted}
-use Rattle.tree_model.proofs.StepLemmas.{row_token, row_node}
+use Rattle.tree_rows.proofs.StepLemmas.{row_token, row_node}
 use Rattle.lossless_tree.proofs.DumpLemmas.{shown_text-node, text_pushed}
 use Rattle.lossless_tree.proofs.dump.push_text.Goals as goal
 

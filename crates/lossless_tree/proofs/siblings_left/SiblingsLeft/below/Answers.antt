@@ -1,7 +1,7 @@
 use Rattle.std.proofs.Common.{◌≡◌, ◌∙◌, ap, arith}
 use Rattle.tree_model.specs.Rows.{tree_at, start_at}
 use Rattle.tree_model.proofs.At.{some_row, cong₂}
-use Rattle.tree_model.proofs.StepLemmas.{end_of_row, row_start}
+use Rattle.tree_rows.proofs.StepLemmas.{end_of_row, row_start}
 use Rattle.lossless_tree.proofs.TreesLemmas.{Below, trees_below}
 use Rattle.lossless_tree.proofs.siblings_left.SiblingsLeft.below.Goals as goal
 use Rattle.lossless_tree.proofs.siblings_left.SiblingsLeft.below.Goals.{After-row-first}
