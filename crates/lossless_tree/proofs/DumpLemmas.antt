@@ -1,17 +1,18 @@
 -- What the loops of a dump add, step by step.
 use Rattle.std.proofs.Common.{◌≡◌, ℕ, suc, ◌+◌, ◌-◌, ◌<◌, ◌≤◌, List, [], ◌∷◌, ◌++◌, length, refl, sym, ap, ◌∙◌, arith, append_assoc, append-nil, length-append}
-use Rattle.std.specs.Prelude.{IsUtf8, encode_utf8, encode_utf8_all, ◌==◌, ◌*◌, if◌then◌else◌, nat_lt, codes, replicate, Bool, true, false, not, cond, map, None}
+use Rattle.std.specs.Prelude.{IsUtf8, encode_utf8, encode_utf8_all, ◌==◌, ◌*◌, if◌then◌else◌, nat_lt, codes, replicate, Bool, true, false, cond, map, None}
 use Rattle.std.specs.Char.{len_utf8}
 use Rattle.std.specs.List.{flat_map}
 use Rattle.std.proofs.lemmas.List.Concat.{flat_map-append}
 use Rattle.std.specs.Str.{chars}
 use Rattle.std.proofs.lemmas.Bool.Decides.{nat_tests}
 use Rattle.std.proofs.lemmas.Str.{chars_past_char, chars-nil, length-encode, len_utf8_bounds, encodes-chars}
-use Rattle.lossless_tree.specs.Dump.{escaped, shortest_front, shown, shown_text, dump_line, dump_of}
+use Rattle.lossless_tree.specs.Dump.{escaped, shortest_front, shown, quoted, shown_text, dump_line, dump_of}
 use Rattle.tree_model.specs.Tree.{Tree, node, token, Forest, nil, cons, text, kind_of, IsNode, IsToken, Place, places, places_from, walk, walk_from, under}
 use Rattle.syntax_kind.specs.Kinds.{kind_name}
 use Rattle.text_size.specs.TextRange.{range_text}
-use Rattle.tree_model.specs.Cursor.{Cursor, focus, at_place, range_of, level_below, walk_of, cursor_at, walk_left}
+use Rattle.tree_model.specs.Cursor.{Cursor, focus, at_place, range_of, level_below, walk_of, cursor_at}
+use Rattle.tree_rows.specs.Cursor.{walk_left}
 use Rattle.lossless_tree.proofs.WalkSteps.{walk_left-whole}
 
 if_zero : {A : Type 0} (n : ℕ) (x y : A) → n ≡ 0 → (if n == 0 then x else y) ≡ x
@@ -66,20 +67,9 @@ pub shown_text-node : (t : Tree) → IsNode t → shown_text t ≡ []
 shown_text-node (node k c) h = refl
 shown_text-node (token k x) h = absurd h
 
-pub shown_text-token : (t : Tree) → IsToken t → shown_text t ≡ codes " \"" ++ (shown (text t) ++ codes "\"")
-shown_text-token (node k c) h = absurd h
-shown_text-token (token k x) h = refl
-
-pub text_pushed : (out one two three : List ℕ) (t : Tree) → IsToken t → one ≡ out ++ codes " \"" → two ≡ one ++ shown (text t) → three ≡ two ++ codes "\"" → three ≡ out ++ shown_text t
-text_pushed out one two three t h a b e = e ∙ ap (λ l. l ++ codes "\"") (b ∙ ap (λ l. l ++ shown (text t)) a) ∙ simp append_assoc (ap (λ l. out ++ l) (sym (shown_text-token t h)))
-
-pub not_true : (b : Bool) → not b ≡ true → b ≡ false
-not_true true h = sym h
-not_true false h = refl
-
-pub not_false : (b : Bool) → not b ≡ false → b ≡ true
-not_false true h = refl
-not_false false h = sym h
+pub text_pushed : (out after : List ℕ) (t : Tree) → IsToken t → after ≡ out ++ (codes " " ++ quoted (text t)) → after ≡ out ++ shown_text t
+text_pushed out after (node k c) h e = absurd h
+text_pushed out after (token k x) h e = e
 
 -- the parts of a line, one after another
 pub line_pushed : (old one two three four : List ℕ) (level : ℕ) (c : Cursor) → one ≡ old ++ replicate (2 * level) 32

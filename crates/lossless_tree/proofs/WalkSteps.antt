@@ -5,12 +5,15 @@ use Rattle.std.proofs.Math.Seq.{drop-cons}
 use Rattle.std.proofs.Math.ListN.{drop_of_length-le}
 use Rattle.std.proofs.lemmas.List.{length-map, get_or-map}
 use Rattle.tree_model.specs.Tree.{Tree, Forest, nil, cons, size, Place, parent_place, place_above, under, walk_from, walk}
-use Rattle.tree_model.specs.Rows.{place_at, tree_at, row_at}
-use Rattle.tree_model.specs.Cursor.{Cursor, at_place, cursor_at, walk_of, walk_left, OpenAt, IsWalk, MovesLevel}
+use Rattle.tree_model.specs.Rows.{place_at, tree_at}
+use Rattle.tree_rows.specs.Rows.{row_at}
+use Rattle.tree_model.specs.Cursor.{Cursor, at_place, cursor_at, walk_of}
+use Rattle.tree_rows.specs.Cursor.{walk_left, OpenAt, IsWalk, MovesLevel}
 use Rattle.tree_model.proofs.At.{At, here, below, after, lift, at_moved, below_or_after, At-fits, some_row, forest_size-cons, cong₂}
 use Rattle.tree_model.proofs.TableLemmas.{at_row}
 use Rattle.tree_model.proofs.WalkLemmas.{place_below}
-use Rattle.tree_model.proofs.StepLemmas.{end_of_row, end_from_At, hangs, parent_found, same_parent, parent_place-append}
+use Rattle.tree_model.proofs.StepLemmas.{parent_place-append}
+use Rattle.tree_rows.proofs.StepLemmas.{end_of_row, end_from_At, hangs, parent_found, same_parent}
 use Rattle.tree_model.proofs.EventLemmas.{visited, walk_from-walk, length-walk}
 
 -- the walk at one of its places

@@ -8,7 +8,7 @@ use Rattle.std.specs.List.{flat_map}
 use Rattle.std.specs.Str.{chars}
 use Rattle.syntax_kind.specs.Kinds.{kind_name}
 use Rattle.text_size.specs.TextRange.{range_text}
-use Rattle.tree_model.specs.Tree.{Tree, node, token, kind_of}
+use Rattle.tree_model.specs.Tree.{Tree, node, token, kind_of, text}
 use Rattle.tree_model.specs.Cursor.{Cursor, focus, range_of, level_below, descendants_of}
 
 -- a character as it stands between the quotes: `"` and `\` behind a backslash, newline, carriage return, tab and NUL
@@ -44,12 +44,17 @@ abbrev pub shown_text : Tree → List ℕ
 shown_text (node k c) = []
 shown_text (token k t) = codes " " ++ quoted t
 
--- the line of a node or token, so many levels below the one that is dumped: `KIND@start..end`
+-- `KIND@start..end`: what stands at a cursor, its text aside. So a node prints for programmers
+abbrev pub span_text : Cursor → List ℕ
+span_text c = kind_name (kind_of (focus c)) ++ codes "@" ++ range_text (range_of c)
+
+-- the same with the text between quotes. So a token prints for programmers
+abbrev pub token_line : Cursor → List ℕ
+token_line c = span_text c ++ codes " " ++ quoted (text (focus c))
+
+-- the line of a node or token, so many levels below the one that is dumped
 abbrev pub dump_line : ℕ → Cursor → List ℕ
-dump_line level c =
-    replicate (2 * level) 32
-    ++ kind_name (kind_of (focus c)) ++ codes "@" ++ range_text (range_of c)
-    ++ shown_text (focus c) ++ codes "\n"
+dump_line level c = replicate (2 * level) 32 ++ span_text c ++ shown_text (focus c) ++ codes "\n"
 
 -- the dump of the subtree at a cursor: the lines of its places in preorder
 abbrev pub dump_of : Cursor → List ℕ

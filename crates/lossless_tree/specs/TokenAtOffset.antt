@@ -1,5 +1,5 @@
 -- What was found at an offset: no token, one, or two. (Upstream: `rowan`'s `TokenAtOffset`.)
-use Rattle.std.specs.Prelude.{List, [], ◌∷◌, Option, Some, None}
+use Rattle.std.specs.Prelude.{◌≡◌, List, [], ◌∷◌, Option, Some, None, ⊤}
 use Rattle.lossless_tree.specs.declared.cursor.token_at_offset.TokenAtOffset.{TokenAtOffset}
 use Rattle.lossless_tree.specs.declared.cursor.token_at_offset.TokenAtOffset.TheVariants as at
 
@@ -19,3 +19,15 @@ abbrev pub rightmost : {T : Type 0} → TokenAtOffset T → Option T
 rightmost at.None = None
 rightmost (at.Single t) = Some t
 rightmost (at.Between l r) = Some r
+
+-- P holds of each token
+abbrev pub Each : {T : Type 0} → (T → Type 0) → TokenAtOffset T → Type 0
+Each P at.None = ⊤
+Each P (at.Single t) = P t
+Each P (at.Between l r) = P l × P r
+
+-- as many are found, and each stands for its token by R
+abbrev pub EachBecomes : {T U : Type 0} → (T → U → Type 0) → TokenAtOffset T → TokenAtOffset U → Type 0
+EachBecomes {U} R at.None found = found ≡ at.None
+EachBecomes {U} R (at.Single t) found = (u : U) × (found ≡ at.Single u) × R t u
+EachBecomes {U} R (at.Between l r) found = (u : U) × (v : U) × (found ≡ at.Between u v) × R l u × R r v

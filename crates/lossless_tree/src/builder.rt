@@ -1,6 +1,6 @@
 //! Events to a tree.
 ghost use Rattle.std.specs.Prelude.{◌≡◌, [], ◌∷◌, ◌++◌, OnOk, OnErr, IfOk, IfErr, None};
-ghost use Rattle.tree_model.specs.Events.{enter, leaf, exit, BuildsNode, first_refusal, refusal_of, text_len};
+ghost use Rattle.tree_model.specs.Events.{enter, leaf, exit, BuildsNode, IsAccepted, IsFirstRefusal, first_refusal, refusal_of, text_len};
 ghost use Rattle.tree_model.specs.Cursor.{IsRoot};
 
 use crate::cursor::node::SyntaxNode;
@@ -8,7 +8,8 @@ use shared_pointer::Shared;
 use std::alloc::{AllocError, Global};
 use std::marker::Model;
 use syntax_kind::SyntaxKind;
-use tree_model::{FinishError, Step, Table, build_rows, first_refusal};
+use tree_model::FinishError;
+use tree_rows::{BuilderEvent, Table, build_rows, first_refusal};
 
 /// Builds a tree from events: a node is entered, tokens come, the node is left.
 ///
@@ -26,7 +27,7 @@ use tree_model::{FinishError, Step, Table, build_rows, first_refusal};
 #[derive(Drop)]
 pub struct TreeBuilder {
     alloc: Global,
-    steps: Vec<Step>,
+    steps: Vec<BuilderEvent>,
     text: String,
 }
 
@@ -35,7 +36,7 @@ impl Model for TreeBuilder {
     ghost use Rattle.std.specs.Coded.{coded_list};
     ghost use Rattle.tree_model.specs.Events.{Event};
     ghost use Rattle.tree_model.specs.TreeCode.{event_code};
-    ghost use Rattle.tree_model.specs.Builder.{events_from, TextsFit};
+    ghost use Rattle.tree_rows.specs.Builder.{events_from, TextsFit};
 
     ghost Value = { List Event };
 
@@ -63,7 +64,7 @@ impl TreeBuilder {
         ensures ok { OnOk result (self.new ≡ self.old ++ enter kind ∷ []) }
         ensures err { OnErr result (self.new ≡ self.old) }
     {
-        self.steps.push(Step::Enter(kind))?;
+        self.steps.push(BuilderEvent::Enter(kind))?;
         Ok(())
     }
 
@@ -74,7 +75,7 @@ impl TreeBuilder {
     {
         self.steps.reserve(1)?;
         self.text.push_str(text)?;
-        self.steps.push(Step::Token(kind, text.len()))?;
+        self.steps.push(BuilderEvent::Token(kind, text.len()))?;
         Ok(())
     }
 
@@ -83,7 +84,7 @@ impl TreeBuilder {
         ensures ok { OnOk result (self.new ≡ self.old ++ exit ∷ []) }
         ensures err { OnErr result (self.new ≡ self.old) }
     {
-        self.steps.push(Step::Exit)?;
+        self.steps.push(BuilderEvent::Exit)?;
         Ok(())
     }
 
@@ -98,10 +99,11 @@ impl TreeBuilder {
     ///
     /// Else the first refusal that holds of all the events, in the order of [`FinishError`]; the builder is then gone.
     /// The text is not copied.
+    #[tactic(auto, using(tree_model::proofs::Refusals::first_refusal_is, tree_model::proofs::Refusals::none_accepted))]
     pub fn finish(self) -> Result<SyntaxNode, FinishError>
         ensures ok { IfOk result (λ root. BuildsNode self root.tree × IsRoot root) }
-        ensures accepted { OnOk result (first_refusal self ≡ None) }
-        ensures refused { IfErr result (λ e. refusal_of e ≡ first_refusal self) }
+        ensures accepted { OnOk result (IsAccepted self) }
+        ensures refused { IfErr result (IsFirstRefusal self) }
     {
         let alloc = self.alloc;
         let table = self.build()?;

@@ -7,6 +7,7 @@ pub mod element;
 mod equality;
 pub mod node;
 pub mod preorder;
+mod print;
 pub mod siblings;
 pub mod text;
 pub mod token;

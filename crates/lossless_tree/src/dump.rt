@@ -1,77 +1,24 @@
 //! How a tree prints.
 ghost use Rattle.std.specs.Prelude.{◌≡◌, ◌++◌, ◌*◌, OnOk, IfOk, string_bytes, replicate};
-ghost use Rattle.std.specs.List.{flat_map};
-ghost use Rattle.std.specs.Str.{chars};
 ghost use Rattle.tree_model.specs.Rows.{IsRow, tree_at};
 ghost use Rattle.tree_model.specs.Cursor.{cursor_at};
-ghost use Rattle.lossless_tree.specs.Dump.{escaped, shortest_front, shown, shown_text, dump_line, dump_of};
+ghost use Rattle.lossless_tree.specs.Dump.{shown_text, dump_line, dump_of};
 
 use crate::cursor::preorder::walk_step;
+use crate::quoted::Quoted;
 use std::alloc::{AllocError, Global};
 use std::fmt::Write;
-use tree_model::Table;
-
-// A token's text of fewer bytes is shown whole.
-const WHOLE_BELOW: usize = 25;
-
-// Of a longer one so many bytes are shown, and what is left of the last character.
-const SHOWN: usize = 21;
-
-// A character as it stands between quotes.
-fn push_escaped(out: &mut String, c: char) -> Result<(), AllocError>
-    ensures { OnOk result (string_bytes out.new ≡ string_bytes out.old ++ escaped c) }
-{
-    match c {
-        '"' => out.push_str("\\\""),
-        '\\' => out.push_str("\\\\"),
-        '\n' => out.push_str("\\n"),
-        '\r' => out.push_str("\\r"),
-        '\t' => out.push_str("\\t"),
-        '\0' => out.push_str("\\0"),
-        '\u{1}'..='\u{1f}' | '\u{7f}' => write!(out, "\\u{{{:x}}}", c as u32),
-        _ => out.push(c),
-    }
-}
-
-// The shortest front of whole characters that has at least so many bytes, or all of them.
-fn push_front(out: &mut String, text: &str, bytes: usize) -> Result<(), AllocError>
-    ensures { OnOk result (string_bytes out.new ≡ string_bytes out.old ++ flat_map escaped (shortest_front bytes (chars text.now))) }
-{
-    let mut missing = bytes;
-    for c in text.chars() {
-        if missing == 0 {
-            break;
-        }
-        push_escaped(out, c)?;
-        missing = missing.saturating_sub(c.len_utf8());
-    }
-    Ok(())
-}
-
-// What is shown of a token's text.
-fn push_shown(out: &mut String, text: &str) -> Result<(), AllocError>
-    ensures { OnOk result (string_bytes out.new ≡ string_bytes out.old ++ shown text.now) }
-{
-    let len = text.len();
-    if len < WHOLE_BELOW {
-        push_front(out, text, len)
-    } else {
-        push_front(out, text, SHOWN)?;
-        out.push_str(" ...")
-    }
-}
+use tree_rows::Table;
 
 // What stands behind the range of a row: a token's text.
 fn push_text(out: &mut String, table: &Table, row: usize) -> Result<(), AllocError>
     requires { IsRow table.now row }
     ensures { OnOk result (string_bytes out.new ≡ string_bytes out.old ++ shown_text (tree_at table.now row)) }
 {
-    if !table.row(row).is_token {
-        return Ok(());
+    if table.row(row).is_token {
+        let text = Quoted(table.text_at(row));
+        write!(out, " {text}")?;
     }
-    out.push_str(" \"")?;
-    push_shown(out, table.text_at(row))?;
-    out.push_str("\"")?;
     Ok(())
 }
 

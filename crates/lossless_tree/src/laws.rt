@@ -2,15 +2,18 @@
 ghost use Rattle.tree_model.specs.Tree.{IsNode, IsToken};
 ghost use Rattle.tree_model.specs.Cursor.{focus};
 ghost use Rattle.tree_model.specs.Placed.{IsPlaced};
+ghost use Rattle.lossless_tree.specs.Element.{ElementEqualityIsSameness};
+ghost use Rattle.lossless_tree.specs.PointerEquality.{PointerEqualityIsSameness};
 
 use crate::cursor::node::SyntaxNode;
 use crate::cursor::token::SyntaxToken;
 pub use syntax_kind::laws::{kind_names_differ, kind_numbers_differ};
 pub use tree_model::laws::{
-    at_most_two_tokens, children_fill_nodes, covering_holds, edited_inside_a_piece,
-    equal_cursors_hash_alike, equality_is_sameness, every_is_descendants, places_are_reached,
-    pointers_resolve, refusals_hold, replaced_text, text_around_a_place,
+    children_fill_nodes, edited_inside_a_piece, equal_cursors_hash_alike, equality_is_sameness,
+    every_is_descendants, nodes_are_accepted, places_are_reached, refusals_hold, replaced_text,
+    text_around_a_place, texts_are_built,
 };
+pub use tree_rows::laws::{at_most_two_tokens, covering_holds, pointers_resolve};
 
 /// A node's place is one of its tree's and holds a node; the tree's root is a node, and its text is UTF-8 of fewer than
 /// 2^32 bytes.
@@ -29,3 +32,13 @@ pub fn token_is_placed(token: &SyntaxToken)
 {
     token.placed()
 }
+
+/// Two elements are equal exactly where both are nodes, or both tokens, at the same place in equal trees.
+pub fn element_equality_is_sameness()
+    ensures { ElementEqualityIsSameness }
+{}
+
+/// Two pointers are equal exactly where they have the same kind and the same range.
+pub fn pointer_equality_is_sameness()
+    ensures { PointerEqualityIsSameness }
+{}

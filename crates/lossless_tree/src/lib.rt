@@ -7,7 +7,8 @@ mod dump;
 pub mod laws;
 mod macros;
 mod ptr;
-mod trees;
+mod quoted;
+mod siblings_left;
 
 pub use builder::TreeBuilder;
 pub use cursor::ancestors::Ancestors;
@@ -22,7 +23,7 @@ pub use cursor::token::SyntaxToken;
 pub use cursor::token_at_offset::TokenAtOffset;
 pub use ptr::SyntaxNodePtr;
 pub use shared_pointer::Shared;
+pub use siblings_left::SiblingsLeft;
 pub use syntax_kind::{KINDS, Language, NodeKind, RustLanguage, SyntaxKind, TokenKind};
 pub use text_size::{TextRange, TextSize};
 pub use tree_model::{Direction, FinishError, ReplaceError};
-pub use trees::Trees;

@@ -3,6 +3,7 @@ ghost use Rattle.std.specs.Prelude.{◌≡◌};
 ghost use Rattle.tree_model.specs.Pointer.{pointer_to, Finds};
 
 use crate::cursor::node::SyntaxNode;
+use std::hash::{Hash, Hasher};
 use std::marker::Model;
 use syntax_kind::SyntaxKind;
 use text_size::TextRange;
@@ -10,7 +11,7 @@ use text_size::TextRange;
 /// A node's kind and range, by which it is found again in its tree or in another tree of the same shape.
 ///
 /// It holds no tree, so it can be copied, compared and kept.
-#[derive(Clone, Copy, PartialEq, Eq, Hash, Debug)]
+#[derive(Clone, Copy, Debug)]
 pub struct SyntaxNodePtr {
     kind: SyntaxKind,
     range: TextRange,
@@ -61,5 +62,42 @@ impl SyntaxNodePtr {
     {
         let SyntaxNodePtr { kind, range } = *self;
         root.first_in_root(kind, range)
+    }
+}
+
+/// Equal where they have the same kind and the same range.
+impl PartialEq for SyntaxNodePtr {
+    ghost use Rattle.lossless_tree.specs.PointerEquality.{is_same_pointer, pointer_equivalence};
+    ghost use Rattle.std.specs.Cmp.{partial_equiv_from_equiv};
+
+    ghost eq = { is_same_pointer };
+
+    ghost laws = { partial_equiv_from_equiv pointer_equivalence };
+
+    fn eq(&self, other: &SyntaxNodePtr) -> bool {
+        self.kind.to_raw() == other.kind.to_raw()
+            && self.range.start().raw() == other.range.start().raw()
+            && self.range.end().raw() == other.range.end().raw()
+    }
+}
+
+impl Eq for SyntaxNodePtr {
+    ghost use Rattle.lossless_tree.specs.PointerEquality.{pointer_equivalence};
+
+    ghost laws = { pointer_equivalence };
+}
+
+/// Equal pointers hash alike.
+impl Hash for SyntaxNodePtr {
+    ghost use Rattle.lossless_tree.specs.PointerEquality.{pointer_hash, pointers_alike};
+
+    ghost hash_input = { pointer_hash };
+
+    ghost respects_eq = { pointers_alike };
+
+    fn hash<H: Hasher>(&self, state: &mut H) {
+        self.kind.to_raw().hash(state);
+        self.range.start().raw().hash(state);
+        self.range.end().raw().hash(state);
     }
 }

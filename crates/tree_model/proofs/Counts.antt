@@ -23,14 +23,14 @@ front_over (leaf k t ∷ es) rest d h = front_over es rest d h
 front_over (exit ∷ es) rest zero h = refl
 front_over (exit ∷ es) rest (suc d) h = front_over es rest d (omega (arith, h))
 
-counted : (es : List Event) (d m : ℕ) → open_after d es ≡ Some m → d + enters es ≡ exits es + m
+pub counted : (es : List Event) (d m : ℕ) → open_after d es ≡ Some m → d + enters es ≡ exits es + m
 counted [] d m h = let same : Some d ≡ Some m = h in let e : d ≡ m = cc in omega (arith, e)
 counted (enter k ∷ es) d m h = omega (arith, counted es (suc d) m h)
 counted (leaf k t ∷ es) d m h = counted es d m h
 counted (exit ∷ es) zero m h = (let no : None ≡ Some m = h in cc)
 counted (exit ∷ es) (suc d) m h = omega (arith, counted es d m h)
 
-never_over : (es : List Event) (m : ℕ) → open_after 0 es ≡ Some m → HasOverClosedFront 0 es → ⊥
+pub never_over : (es : List Event) (m : ℕ) → open_after 0 es ≡ Some m → HasOverClosedFront 0 es → ⊥
 never_over es m h w = (let no : Some m ≡ None = sym h ∙ ap (open_after 0) w.is ∙ front_over w.front w.rest 0 w.more_exits in cc)
 
 builds_forest : (es : List Event) → open_after 0 es ≡ Some 0 → Builds es (forest_of es)
@@ -57,7 +57,7 @@ module _ (es : List Event) (short : text_len es < 2 ^ 32) where
       earlier ManyRoots lt k = absurd (omega (arith, lt))
       earlier TokenRoot lt k = absurd (omega (arith, lt))
       earlier ErrorPastText lt k = k
-      earlier Memory lt k = k
+      earlier Memory lt k = absurd (omega (arith, lt))
 
   unclosed : (m : ℕ) → open_after 0 es ≡ Some (suc m) → IsFirstRefusal es Unclosed
   unclosed m h = record { holds = omega (arith, counted es 0 (suc m) h); first = earlier }
@@ -70,7 +70,7 @@ module _ (es : List Event) (short : text_len es < 2 ^ 32) where
       earlier ManyRoots lt k = absurd (omega (arith, lt))
       earlier TokenRoot lt k = absurd (omega (arith, lt))
       earlier ErrorPastText lt k = k
-      earlier Memory lt k = k
+      earlier Memory lt k = absurd (omega (arith, lt))
 
   module _ (h : open_after 0 es ≡ Some 0) where
     -- of the first refusals none holds of balanced events
@@ -82,7 +82,7 @@ module _ (es : List Event) (short : text_len es < 2 ^ 32) where
     balanced ManyRoots lt k = absurd (omega (arith, lt))
     balanced TokenRoot lt k = absurd (omega (arith, lt))
     balanced ErrorPastText lt k = k
-    balanced Memory lt k = k
+    balanced Memory lt k = absurd (omega (arith, lt))
 
     by_root : (f : Forest) → Builds es f → Answered es (root_refusal f)
     unfolding Answered
@@ -97,7 +97,7 @@ module _ (es : List Event) (short : text_len es < 2 ^ 32) where
         earlier ManyRoots lt w = (let no : cons (token k t) nil ≡ cons w.first (cons w.second w.later) = builds_one b w.builds in cc)
         earlier TokenRoot lt w = absurd (omega (arith, lt))
         earlier ErrorPastText lt w = w
-        earlier Memory lt w = w
+        earlier Memory lt w = absurd (omega (arith, lt))
     by_root (cons (node k c) nil) b = record { short = short; root = node k c; builds = (b, tt) }
     by_root (cons t (cons u r)) b = record { holds = record { first = t; second = u; later = r; builds = b }; first = earlier }
       where
@@ -109,7 +109,7 @@ module _ (es : List Event) (short : text_len es < 2 ^ 32) where
         earlier ManyRoots lt w = absurd (omega (arith, lt))
         earlier TokenRoot lt w = absurd (omega (arith, lt))
         earlier ErrorPastText lt w = w
-        earlier Memory lt w = w
+        earlier Memory lt w = absurd (omega (arith, lt))
 
   by_balance : (o : Option ℕ) → open_after 0 es ≡ o → Answered es (balance_refusal o es)
   unfolding Answered
@@ -128,7 +128,7 @@ too_long es long = record { holds = long; first = earlier }
     earlier ManyRoots lt k = absurd (omega (arith, lt))
     earlier TokenRoot lt k = absurd (omega (arith, lt))
     earlier ErrorPastText lt k = k
-    earlier Memory lt k = k
+    earlier Memory lt k = absurd (omega (arith, lt))
 
 pub refusals_hold : RefusalsHold
 unfolding Answered

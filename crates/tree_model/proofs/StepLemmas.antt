@@ -1,18 +1,12 @@
 -- Parent, first child and next sibling, by row numbers.
-use Rattle.std.proofs.Common.{◌≡◌, ℕ, zero, suc, ◌+◌, ◌-◌, ◌<◌, ◌≤◌, ◌⊎◌, inl, inr, [], ◌∷◌, ◌++◌, refl, sym, ap, subst, ◌∙◌, arith}
+use Rattle.std.proofs.Common.{◌≡◌, ℕ, suc, ◌+◌, ◌-◌, ◌<◌, ◌≤◌, ◌⊎◌, ◌∷◌, ◌++◌, refl, ap, subst, ◌∙◌, arith, []}
 use Rattle.std.specs.Prelude.{None, Some, nat_lt, if◌then◌else◌, ◌↔◌}
 use Rattle.std.proofs.lemmas.Bool.Decides.{nat_tests}
-use Rattle.std.proofs.Common.{true, false}
-use Rattle.tree_model.specs.declared.rows.Row.{Row}
-use Rattle.tree_model.specs.Tree.{IsNode, IsToken, kind_of}
-use Rattle.tree_model.specs.Tree.{Tree, node, token, nil, cons, size, forest_size, Place, subtree, child_at, child_count, forest_of_children, parent_place, first_child_place, sibling_count, next_sibling_place}
-use Rattle.tree_model.specs.Rows.{row_at, row_of, place_at, tree_at, start_at, no_row}
-use Rattle.tree_model.specs.RowSteps.{IsNearestOver}
-use Rattle.tree_model.proofs.At.{At, up_of, here, Inner, inner, lift, located, earlier_ends, next_top, At-unique, At-same_row, At-fits, subtree-At, some_row, row-At, forest_size-cons, place_above-append, last_position-append, below_or_after}
-use Rattle.tree_model.proofs.TableLemmas.{at_row, up_at, row_at-is, row_of-end, row_of-start, row_of-parent}
-
-pub end_of_row : (whole : Tree) (n : ℕ) → n < size whole → (row_at whole n).end ≡ n + size (tree_at whole n)
-end_of_row whole n h = ap (λ r. r.end) (row_at-is whole n h) ∙ row_of-end (tree_at whole n) n (start_at whole n) (up_at whole n h)
+use Rattle.tree_model.specs.Tree.{IsNode}
+use Rattle.tree_model.specs.Tree.{Tree, node, token, nil, cons, size, Place, subtree, child_count, forest_of_children, parent_place, sibling_count, next_sibling_place}
+use Rattle.tree_model.specs.Rows.{place_at, tree_at, start_at}
+use Rattle.tree_model.proofs.At.{At, At-unique, At-same_row, At-fits, some_row, forest_size-cons, place_above-append, last_position-append}
+use Rattle.tree_model.proofs.TableLemmas.{at_row}
 
 -- the place of a row that is known to stand somewhere
 pub place_from_At : {whole : Tree} {n : ℕ} {i : ℕ} {p : Place} {t : Tree} {b : ℕ} → At (cons whole nil) n (i ∷ p) t b → p ≡ place_at whole n
@@ -20,127 +14,13 @@ place_from_At {whole} {n} {i} {p} {t} a =
     let lt : n < size whole = omega (arith, At-fits a, some_row t, forest_size-cons whole nil) in
     let h : (i ∷ p) ≡ (0 ∷ place_at whole n) = At-unique a (at_row whole n lt) refl in cc
 
--- where a row that is not the root hangs
-pub record Hangs (whole : Tree) (n : ℕ) : Type 0 where
-  pub q : ℕ
-  pub h : n < size whole
-  pub w : Inner (at_row whole n h)
-  pub q_is : q ≡ w.parent_row
-  pub up_is : (row_at whole n).parent ≡ q
-  pub in_range : q < size whole
-  pub earlier : q < n
-  pub reaches : n + size (tree_at whole n) ≤ (row_at whole q).end
-  pub parent : At (cons whole nil) q (0 ∷ place_at whole q) (node w.kind w.children) w.parent_start
-  pub place_is : place_at whole n ≡ place_at whole q ++ w.position ∷ []
-  pub parent_is : tree_at whole q ≡ node w.kind w.children
-  pub between : (k : ℕ) → q < k → k < n → (row_at whole k).end ≤ n
-
-pub end_from_At : {whole : Tree} {n : ℕ} {p : Place} {t : Tree} {b : ℕ} → At (cons whole nil) n p t b → (row_at whole n).end ≡ n + size t
-end_from_At {n} {t} {b} a = ap (λ r. r.end) (row-At a 0 0 0 no_row) ∙ row_of-end t (0 + n) (0 + b) (up_of a 0 0) ∙ omega arith
-
-pub parent_of_row : (whole : Tree) (n : ℕ) (h : n < size whole) → (row_at whole n).parent ≡ up_at whole n h
-parent_of_row whole n h = ap (λ r. r.parent) (row_at-is whole n h) ∙ row_of-parent (tree_at whole n) n (start_at whole n) (up_at whole n h)
-
-hangs_at : (whole : Tree) (n : ℕ) (h : n < size whole) → Inner (at_row whole n h) → Hangs whole n
-hangs_at whole n h w =
-    let q = w.parent_row in
-    let in_range : q < size whole = omega (arith, At-fits w.at_parent, some_row (node w.kind w.children), forest_size-cons whole nil) in
-    let above_is : w.above ≡ 0 ∷ place_at whole q = At-unique w.at_parent (at_row whole q in_range) refl in
-    let parent : At (cons whole nil) q (0 ∷ place_at whole q) (node w.kind w.children) w.parent_start = subst (λ p. At (cons whole nil) q p (node w.kind w.children) w.parent_start) above_is w.at_parent in
-    record {
-      q = q;
-      h = h;
-      w = w;
-      up_is = parent_of_row whole n h ∙ w.up_is 0 0 ∙ omega arith;
-      q_is = refl;
-      in_range = in_range;
-      earlier = omega (arith, w.row_is);
-      parent = parent;
-      reaches = omega (arith, end_from_At parent, w.row_is, At-fits w.at_child);
-      place_is = (let e : (0 ∷ place_at whole n) ≡ 0 ∷ (place_at whole q ++ w.position ∷ []) = w.place_is ∙ ap (λ p. p ++ w.position ∷ []) above_is in cc);
-      parent_is = subtree-At parent;
-      between = λ k after_q before_n.
-          let m : ℕ = k - suc q in
-          let lt : m < w.row_within = omega (arith, w.row_is) in
-          let there = located w.children m (omega (arith, At-fits w.at_child, some_row (tree_at whole n), lt)) in
-          let ends : m + size there.t ≤ w.row_within = earlier_ends w.at_child there.is_at lt in
-          let up : k ≡ suc q + m = omega arith in
-          omega (arith, end_from_At (lift parent there.is_at up refl), ends, up, w.row_is);
-    }
-
-pub hangs : (whole : Tree) (n : ℕ) → n < size whole → ((place_at whole n ≡ []) × ((k : ℕ) → k < n → (row_at whole k).end ≤ n)) ⊎ Hangs whole n
-hangs whole n h =
-    elim (inner (at_row whole n h)) [
-      | inl top ↦ inl (
-        (let e : (0 ∷ place_at whole n) ≡ (top.position ∷ []) = top.place_is in cc),
-        λ k lt.
-            let a : At (cons whole nil) n (top.position ∷ []) (tree_at whole n) (start_at whole n) = subst (λ p. At (cons whole nil) n p (tree_at whole n) (start_at whole n)) top.place_is (at_row whole n h) in
-            let hk : k < size whole = omega arith in
-            omega (arith, end_of_row whole k hk, earlier_ends a (at_row whole k hk) lt),
-      )
-      | inr w ↦ inr (hangs_at whole n h w)
-    ]
-
 pub parent_place-append : (p : Place) (i : ℕ) → parent_place (p ++ i ∷ []) ≡ Some p
 parent_place-append [] i = refl
 parent_place-append (j ∷ p) i = ap Some (place_above-append (j ∷ p) i)
 
--- row q is the first before n whose subtree reaches behind n: it is the parent
-pub parent_found : (whole : Tree) (n q : ℕ) → n < size whole → q < n → n < (row_at whole q).end → ((k : ℕ) → q < k → k < n → (row_at whole k).end ≤ n) → Some (place_at whole q) ≡ parent_place (place_at whole n)
-parent_found whole n q h lt reaches between =
-    elim (hangs whole n h) [
-      | inl root ↦ absurd (omega (arith, root.1 q lt))
-      | inr w ↦
-          let same : q ≡ w.q =
-          elim (below_or_after q w.q) [
-            | inl less ↦ absurd (omega (arith, between w.q less w.earlier, w.reaches, some_row (tree_at whole n)))
-            | inr more ↦ elim (below_or_after w.q q) [
-              | inl less ↦ absurd (omega (arith, w.between q less lt, reaches))
-              | inr less ↦ omega (arith, more.1, less.1)
-            ]
-          ] in
-          ap (λ k. Some (place_at whole k)) same ∙ sym (parent_place-append (place_at whole w.q) w.w.position) ∙ ap parent_place (sym w.place_is)
-    ]
-
-pub root_has_no_parent : (whole : Tree) (n : ℕ) → n < size whole → n ≡ 0 → None ≡ parent_place (place_at whole n)
-root_has_no_parent whole n h is_root =
-    elim (hangs whole n h) [
-      | inl root ↦ ap parent_place (sym root.0)
-      | inr w ↦ absurd (omega (arith, w.earlier, is_root))
-    ]
-
-root_tree : (whole : Tree) → tree_at whole 0 ≡ whole
+pub root_tree : (whole : Tree) → tree_at whole 0 ≡ whole
 root_tree (token k x) = refl
 root_tree (node k c) = refl
-
-root_end : (whole : Tree) → (row_at whole 0).end ≡ size whole
-root_end whole = end_of_row whole 0 (some_row whole) ∙ omega (arith, ap size (root_tree whole))
-
--- the parent is the nearest earlier row whose subtree reaches past the row
-pub parent_is_nearest : (whole : Tree) (n q : ℕ) → 0 < n → n < size whole → ((row_at whole n).parent ≡ q) ↔ IsNearestOver whole n q
-parent_is_nearest whole n q inner_row h =
-    elim (hangs whole n h) [
-      | inl root ↦ absurd (omega (arith, root.1 0 inner_row, root_end whole, h))
-      | inr w ↦ (
-        (λ is.
-            let same : q ≡ w.q = sym is ∙ w.up_is in
-            record {
-              earlier = omega (arith, same, w.earlier);
-              reaches = omega (arith, ap (λ k. (row_at whole k).end) same, w.reaches, some_row (tree_at whole n));
-              between = λ k later before. w.between k (omega (arith, same, later)) before;
-            }),
-        (λ v.
-            let same : q ≡ w.q =
-            elim (below_or_after q w.q) [
-              | inl less ↦ absurd (omega (arith, v.between w.q less w.earlier, w.reaches, some_row (tree_at whole n)))
-              | inr more ↦ elim (below_or_after w.q q) [
-                | inl less ↦ absurd (omega (arith, w.between q less v.earlier, v.reaches))
-                | inr less ↦ omega (arith, more.1, less.1)
-              ]
-            ] in
-            w.up_is ∙ sym same),
-      )
-    ]
 
 -- the parent, as the row tells it
 pub record Parent (whole : Tree) (n q : ℕ) : Type 0 where
@@ -149,53 +29,11 @@ pub record Parent (whole : Tree) (n q : ℕ) : Type 0 where
   pub in_range : q < size whole
   pub earlier : q < n
 
-pub parent_by_row : (whole : Tree) (n q : ℕ) → n < size whole → (n ≡ 0 → ⊥) → q ≡ (row_at whole n).parent → Parent whole n q
-parent_by_row whole n q h inner_row is_q =
-    elim (hangs whole n h) [
-      | inl root ↦ absurd (omega (arith, root.1 0 (not_zero n inner_row), root_end whole, h))
-      | inr w ↦
-          let same : q ≡ w.q = is_q ∙ w.up_is in
-          record {
-            place = ap (λ k. Some (place_at whole k)) same ∙ sym (parent_place-append (place_at whole w.q) w.w.position) ∙ ap parent_place (sym w.place_is);
-            is_node = subst IsNode (sym (ap (tree_at whole) same ∙ w.parent_is)) tt;
-            in_range = omega (arith, same, w.in_range);
-            earlier = omega (arith, same, w.earlier);
-          }
-    ]
-  where
-    not_zero : (m : ℕ) → (m ≡ 0 → ⊥) → 0 < m
-    not_zero zero e = absurd (e refl)
-    not_zero (suc m) e = omega arith
-
 pub if_above : {A : Type 0} (m n : ℕ) (x y : A) → m < n → (if nat_lt m n then x else y) ≡ x
 if_above m n x y h = grind (arith, nat_tests)
 
 pub if_not_above : {A : Type 0} (m n : ℕ) (x y : A) → n ≤ m → (if nat_lt m n then x else y) ≡ y
 if_not_above m n x y h = grind (arith, nat_tests)
-
--- the first child is in the next row, if that is within the subtree
-pub first_child_found : (whole : Tree) (n m : ℕ) → n < size whole → m ≡ suc n → m < (row_at whole n).end → (m < size whole) × (Some (place_at whole m) ≡ first_child_place whole (place_at whole n))
-first_child_found whole n m h is_m lt =
-    first_child_in (tree_at whole n) (at_row whole n h) refl (omega (arith, is_m, lt, end_of_row whole n h))
-  where
-    first_child_in : (t : Tree) → At (cons whole nil) n (0 ∷ place_at whole n) t (start_at whole n) → tree_at whole n ≡ t → 1 < size t → (m < size whole) × (Some (place_at whole m) ≡ first_child_place whole (place_at whole n))
-    first_child_in (token k x) a e long = absurd (omega arith)
-    first_child_in (node k nil) a e long = absurd (omega arith)
-    first_child_in (node k (cons u r)) a e long =
-        let a' = lift a (here {u = u} {r = r}) (omega (arith, is_m)) refl in (
-          omega (arith, At-fits a', some_row u, forest_size-cons whole nil),
-          ap Some (sym (place_from_At a'))
-              ∙ sym (if_above 0 (suc (child_count r)) (Some (place_at whole n ++ 0 ∷ [])) None (omega arith))
-              ∙ ap (λ t. if nat_lt 0 (child_count (forest_of_children t)) then Some (place_at whole n ++ 0 ∷ []) else None) (sym e),
-        )
-
-pub no_first_child_found : (whole : Tree) (n : ℕ) → n < size whole → (row_at whole n).end ≤ suc n → None ≡ first_child_place whole (place_at whole n)
-no_first_child_found whole n h short = no_child_in (tree_at whole n) refl (omega (arith, short, end_of_row whole n h))
-  where
-    no_child_in : (t : Tree) → tree_at whole n ≡ t → size t ≤ 1 → None ≡ first_child_place whole (place_at whole n)
-    no_child_in (token k x) e short = ap (λ t. if nat_lt 0 (child_count (forest_of_children t)) then Some (place_at whole n ++ 0 ∷ []) else None) (sym e)
-    no_child_in (node k nil) e short = ap (λ t. if nat_lt 0 (child_count (forest_of_children t)) then Some (place_at whole n ++ 0 ∷ []) else None) (sym e)
-    no_child_in (node k (cons u r)) e short = absurd (omega (arith, forest_size-cons u r, some_row u))
 
 pub same_place_same_row : (whole : Tree) (n m : ℕ) → n < size whole → m < size whole → place_at whole n ≡ place_at whole m → n ≡ m
 same_place_same_row whole n m h k e = At-same_row (subst (λ p. At (cons whole nil) n (0 ∷ p) (tree_at whole n) (start_at whole n)) e (at_row whole n h)) (at_row whole m k)
@@ -204,88 +42,5 @@ pub sibling_count-append : (whole : Tree) (p : Place) (i : ℕ) → sibling_coun
 sibling_count-append whole [] i = refl
 sibling_count-append whole (j ∷ p) i = ap (λ x. child_count (forest_of_children (subtree whole x))) (place_above-append (j ∷ p) i)
 
-next_sibling_place-append : (whole : Tree) (p : Place) (i : ℕ) → next_sibling_place whole (p ++ i ∷ []) ≡ (if nat_lt (suc i) (child_count (forest_of_children (subtree whole p))) then Some (p ++ suc i ∷ []) else None)
+pub next_sibling_place-append : (whole : Tree) (p : Place) (i : ℕ) → next_sibling_place whole (p ++ i ∷ []) ≡ (if nat_lt (suc i) (child_count (forest_of_children (subtree whole p))) then Some (p ++ suc i ∷ []) else None)
 next_sibling_place-append whole p i = simp (sibling_count-append, place_above-append, last_position-append)
-
-pub same_parent : (whole : Tree) (n q : ℕ) → q < size whole → Some (place_at whole q) ≡ parent_place (place_at whole n) → (v : Hangs whole n) → q ≡ v.q
-same_parent whole n q k parent v =
-    let same_place : Some (place_at whole q) ≡ Some (place_at whole v.q) = parent ∙ ap parent_place v.place_is ∙ parent_place-append (place_at whole v.q) v.w.position in
-    same_place_same_row whole q v.q k v.in_range cc
-
-next_place_here : (whole : Tree) (n : ℕ) (v : Hangs whole n) → next_sibling_place whole (place_at whole n) ≡ (if nat_lt (suc v.w.position) (child_count v.w.children) then Some (place_at whole v.q ++ suc v.w.position ∷ []) else None)
-next_place_here whole n v =
-    ap (next_sibling_place whole) v.place_is
-    ∙ next_sibling_place-append whole (place_at whole v.q) v.w.position
-    ∙ ap (λ t. if nat_lt (suc v.w.position) (child_count (forest_of_children t)) then Some (place_at whole v.q ++ suc v.w.position ∷ []) else None) v.parent_is
-
-pub next_sibling_found : (whole : Tree) (n q e : ℕ) → n < size whole → q < size whole → Some (place_at whole q) ≡ parent_place (place_at whole n) → e ≡ (row_at whole n).end → e < (row_at whole q).end → (e < size whole) × (Some (place_at whole e) ≡ next_sibling_place whole (place_at whole n))
-next_sibling_found whole n q e h k parent is_e lt =
-    elim (hangs whole n h) [
-      | inl root ↦ (let no : Some (place_at whole q) ≡ None = parent ∙ ap parent_place root.0 in cc)
-      | inr v ↦
-          let same = same_parent whole n q k parent v in
-          let end_q : (row_at whole q).end ≡ v.q + suc (forest_size v.w.children) = ap (λ i. (row_at whole i).end) same ∙ end_from_At v.parent in
-          let is_e' : e ≡ suc v.q + (v.w.row_within + size (tree_at whole n)) = is_e ∙ end_of_row whole n h ∙ omega (arith, v.w.row_is, v.q_is) in
-          elim (next_top v.w.at_child) [
-            | inl next ↦
-                let a = lift v.parent next.0 is_e' refl in (
-                  omega (arith, At-fits a, some_row (child_at v.w.children (suc v.w.position)), forest_size-cons whole nil),
-                  ap Some (sym (place_from_At a)) ∙ sym (if_above (suc v.w.position) (child_count v.w.children) (Some (place_at whole v.q ++ suc v.w.position ∷ [])) None next.1) ∙ sym (next_place_here whole n v),
-                )
-            | inr last ↦ absurd (omega (arith, last.0, lt, end_q, is_e'))
-          ]
-    ]
-
-pub no_next_sibling_found : (whole : Tree) (n q e : ℕ) → n < size whole → q < size whole → Some (place_at whole q) ≡ parent_place (place_at whole n) → e ≡ (row_at whole n).end → (row_at whole q).end ≤ e → None ≡ next_sibling_place whole (place_at whole n)
-no_next_sibling_found whole n q e h k parent is_e past =
-    elim (hangs whole n h) [
-      | inl root ↦ (let no : Some (place_at whole q) ≡ None = parent ∙ ap parent_place root.0 in cc)
-      | inr v ↦
-          let same = same_parent whole n q k parent v in
-          let end_q : (row_at whole q).end ≡ v.q + suc (forest_size v.w.children) = ap (λ i. (row_at whole i).end) same ∙ end_from_At v.parent in
-          let is_e' : e ≡ suc v.q + (v.w.row_within + size (tree_at whole n)) = is_e ∙ end_of_row whole n h ∙ omega (arith, v.w.row_is, v.q_is) in
-          elim (next_top v.w.at_child) [
-            | inl next ↦ absurd (omega (arith, At-fits next.0, some_row (child_at v.w.children (suc v.w.position)), past, end_q, is_e'))
-            | inr last ↦ sym (if_not_above (suc v.w.position) (child_count v.w.children) (Some (place_at whole v.q ++ suc v.w.position ∷ [])) None (omega (arith, last.1))) ∙ sym (next_place_here whole n v)
-          ]
-    ]
-
--- the root has no sibling
-pub no_parent_no_sibling : (whole : Tree) (n : ℕ) → n < size whole → None ≡ parent_place (place_at whole n) → None ≡ next_sibling_place whole (place_at whole n)
-no_parent_no_sibling whole n h parent =
-    elim (hangs whole n h) [
-      | inl root ↦ ap (next_sibling_place whole) (sym root.0)
-      | inr v ↦ (let no : None ≡ Some (place_at whole v.q) = parent ∙ ap parent_place v.place_is ∙ parent_place-append (place_at whole v.q) v.w.position in cc)
-    ]
-
--- only a node has children
-pub parent_is_node : (whole : Tree) (n q : ℕ) → n < size whole → q < size whole → Some (place_at whole q) ≡ parent_place (place_at whole n) → IsNode (tree_at whole q)
-parent_is_node whole n q h k parent =
-    elim (hangs whole n h) [
-      | inl root ↦ (let no : Some (place_at whole q) ≡ None = parent ∙ ap parent_place root.0 in cc)
-      | inr v ↦ subst IsNode (sym (ap (tree_at whole) (same_parent whole n q k parent v) ∙ v.parent_is)) tt
-    ]
-
-pub row_kind : (whole : Tree) (n : ℕ) → n < size whole → (row_at whole n).kind ≡ kind_of (tree_at whole n)
-row_kind whole n h = ap (λ r. r.kind) (row_at-is whole n h) ∙ kind_in (tree_at whole n)
-  where
-    kind_in : (t : Tree) → (row_of t n (start_at whole n) (up_at whole n h)).kind ≡ kind_of t
-    kind_in (token k x) = refl
-    kind_in (node k c) = refl
-
-pub row_start : (whole : Tree) (n : ℕ) → n < size whole → (row_at whole n).start ≡ start_at whole n
-row_start whole n h = ap (λ r. r.start) (row_at-is whole n h) ∙ row_of-start (tree_at whole n) n (start_at whole n) (up_at whole n h)
-
-token_by : (t : Tree) (n b u : ℕ) → (row_of t n b u).is_token ≡ true → IsToken t
-token_by (token k x) n b u e = tt
-token_by (node k c) n b u e = cc
-
-node_by : (t : Tree) (n b u : ℕ) → (row_of t n b u).is_token ≡ false → IsNode t
-node_by (token k x) n b u e = cc
-node_by (node k c) n b u e = tt
-
-pub row_token : (whole : Tree) (n : ℕ) (x : Row) → n < size whole → x ≡ row_at whole n → x.is_token ≡ true → IsToken (tree_at whole n)
-row_token whole n x h is e = token_by (tree_at whole n) n (start_at whole n) (up_at whole n h) (sym (ap (λ r. r.is_token) (is ∙ row_at-is whole n h)) ∙ e)
-
-pub row_node : (whole : Tree) (n : ℕ) (x : Row) → n < size whole → x ≡ row_at whole n → x.is_token ≡ false → IsNode (tree_at whole n)
-row_node whole n x h is e = node_by (tree_at whole n) n (start_at whole n) (up_at whole n h) (sym (ap (λ r. r.is_token) (is ∙ row_at-is whole n h)) ∙ e)

@@ -1,15 +1,11 @@
 -- What the rows of a table say of its tree.
-use Rattle.std.proofs.Common.{◌≡◌, ℕ, ◌+◌, ◌-◌, ◌<◌, ◌≤◌, inl, inr, List, [], ◌∷◌, ◌++◌, length, get_or, take, drop, refl, sym, ap, subst, ◌∙◌, arith, append_assoc, append-nil, length-append}
+use Rattle.std.proofs.Common.{◌≡◌, ℕ, ◌+◌, ◌-◌, ◌<◌, ◌≤◌, inl, inr, List, ◌∷◌, ◌++◌, length, take, drop, sym, ap, subst, ◌∙◌, arith, length-append, []}
 use Rattle.std.specs.Prelude.{◌^◌}
 use Rattle.std.specs.Str.{IsCharBoundary}
-use Rattle.std.proofs.lemmas.Str.{IsCharBoundary-at_seam, IsUtf8-append}
-use Rattle.std.proofs.Math.Seq.{take-append_seam, drop-append_seam}
-use Rattle.tree_model.specs.declared.rows.Row.{Row}
-use Rattle.tree_model.proofs.Texts.{next_row, split, forest_text-cons}
-use Rattle.tree_model.specs.RowLemmas.{forest_of_rows-rows_of}
-use Rattle.tree_model.specs.Tree.{Tree, node, token, nil, cons, text, forest_text, size}
-use Rattle.tree_model.specs.Rows.{row_at, row_of, rows_of, place_at, tree_at, start_at, end_at, Represents, no_row, tree_of_rows, forest_of_rows, first_tree}
-use Rattle.tree_model.proofs.At.{At, find, up_of, row-At, cong₂, At-fits, some_row, subtree-At, start-At, length-rows_of, forest_size-cons}
+use Rattle.tree_model.proofs.Texts.{next_row, forest_text-cons}
+use Rattle.tree_model.specs.Tree.{Tree, nil, cons, text, size}
+use Rattle.tree_model.specs.Rows.{place_at, tree_at, start_at, end_at}
+use Rattle.tree_model.proofs.At.{At, find, up_of, At-fits, some_row, subtree-At, start-At, forest_size-cons}
 
 -- row n is the place with that number
 pub at_row : (whole : Tree) (n : ℕ) → n < size whole → At (cons whole nil) n (0 ∷ place_at whole n) (tree_at whole n) (start_at whole n)
@@ -23,42 +19,12 @@ at_row whole n h =
 abbrev pub up_at : (whole : Tree) (n : ℕ) → n < size whole → ℕ
 up_at whole n h = up_of (at_row whole n h) 0 0
 
-pub row_at-is : (whole : Tree) (n : ℕ) (h : n < size whole) → row_at whole n ≡ row_of (tree_at whole n) n (start_at whole n) (up_at whole n h)
-row_at-is whole n h = row-At (at_row whole n h) 0 0 0 no_row ∙ cong₂ (λ i j. row_of (tree_at whole n) i j (up_at whole n h)) (omega arith) (omega arith)
-
-pub row_of-end : (t : Tree) (n b u : ℕ) → (row_of t n b u).end ≡ n + size t
-row_of-end (token k x) n b u = omega arith
-row_of-end (node k c) n b u = omega arith
-
-pub row_of-start : (t : Tree) (n b u : ℕ) → (row_of t n b u).start ≡ b
-row_of-start (token k x) n b u = refl
-row_of-start (node k c) n b u = refl
-
-pub row_of-parent : (t : Tree) (n b u : ℕ) → (row_of t n b u).parent ≡ u
-row_of-parent (token k x) n b u = refl
-row_of-parent (node k c) n b u = refl
-
--- the row after the subtree of row n starts where that one ends
-pub next_start_at : (whole : Tree) (n e : ℕ) → n < size whole → e ≡ n + size (tree_at whole n) → e < size whole → (row_at whole e).start ≡ end_at whole n
-next_start_at whole n e h is_e h' =
-    elim (next_row (at_row whole n h)) [
-      | inl w ↦
-          let is : e ≡ n + size (tree_at whole n) = is_e in
-          let there : row_at whole (n + size (tree_at whole n)) ≡ row_of w.t (0 + (n + size (tree_at whole n))) (0 + end_at whole n) (up_of w.is_at 0 0) = row-At w.is_at 0 0 0 no_row in
-          ap (λ i. (row_at whole i).start) is ∙ ap (λ r. r.start) there ∙ row_of-start w.t _ _ _ ∙ omega arith
-      | inr done ↦ absurd (omega (arith, done.0, is_e, h', forest_size-cons whole nil))
-    ]
-
 pub last_end_at : (whole : Tree) (n e : ℕ) → n < size whole → e ≡ n + size (tree_at whole n) → size whole ≤ e → length (text whole) ≡ end_at whole n
 last_end_at whole n e h is_e h' =
     elim (next_row (at_row whole n h)) [
       | inl w ↦ absurd (omega (arith, is_e, h', forest_size-cons whole nil, At-fits w.is_at, some_row w.t))
       | inr done ↦ omega (arith, done.1, ap length (forest_text-cons whole nil), length-append (text whole) [])
     ]
-
-module _ (rows : List Row) (s : List ℕ) (whole : Tree) (w : Represents rows s whole) where
-  pub length-rows : length rows ≡ size whole
-  length-rows = omega (arith, ap length w.rows_are, length-rows_of (cons whole nil) 0 0 0, forest_size-cons whole nil)
 
 -- where a subtree's text stands in the text
 pub record Cut (s : List ℕ) (whole : Tree) (n : ℕ) : Type 0 where
@@ -69,67 +35,9 @@ pub record Cut (s : List ℕ) (whole : Tree) (n : ℕ) : Type 0 where
   pub end_boundary : IsCharBoundary s (end_at whole n)
   pub text_there : take (end_at whole n - start_at whole n) (drop (start_at whole n) s) ≡ text (tree_at whole n)
 
-pub cut : (rows : List Row) (s : List ℕ) (whole : Tree) (n : ℕ) → Represents rows s whole → n < size whole → Cut s whole n
-cut rows s whole n w h =
-    let v = split (at_row whole n h) w.texts_are_utf8 in
-    let piece = text (tree_at whole n) in
-    let whole_is : s ≡ v.before ++ (piece ++ v.behind) = w.text_is ∙ sym (append-nil (text whole)) ∙ sym (forest_text-cons whole nil) ∙ v.is in
-    let regrouped : s ≡ (v.before ++ piece) ++ v.behind = whole_is ∙ sym (append_assoc v.before piece v.behind) in
-    let len : length s ≡ length v.before + (length piece + length v.behind) = ap length whole_is ∙ length-append v.before (piece ++ v.behind) ∙ ap (λ m. length v.before + m) (length-append piece v.behind) in
-    let end_is : length (v.before ++ piece) ≡ end_at whole n = omega (arith, length-append v.before piece, v.start_is) in
-    let span : end_at whole n - start_at whole n ≡ length piece = omega arith in
-    record {
-      start_in_order = omega arith;
-      end_in_text = omega (arith, len, v.start_is);
-      short = w.short;
-      start_boundary = subst (IsCharBoundary s) v.start_is (IsCharBoundary-at_seam s v.before (piece ++ v.behind) whole_is (IsUtf8-append piece v.behind v.utf8_here v.utf8_behind));
-      end_boundary = subst (IsCharBoundary s) end_is (IsCharBoundary-at_seam s (v.before ++ piece) v.behind regrouped v.utf8_behind);
-      text_there = cong₂ take span (ap (λ b. drop b s) (sym v.start_is) ∙ ap (drop (length v.before)) whole_is ∙ drop-append_seam v.before (piece ++ v.behind)) ∙ take-append_seam piece v.behind;
-    }
-
--- what an opened table knows, over its value
-pub shown : (rows : List Row) (s : List ℕ) (whole : Tree) → tree_of_rows rows s ≡ whole → Represents rows s (tree_of_rows rows s) → Represents rows s whole
-shown rows s whole e w = subst (Represents rows s) e w
-
-pub rows_len : (rows : List Row) (s : List ℕ) (whole : Tree) → Represents rows s whole → length rows ≡ size whole
-rows_len rows s whole w = length-rows rows s whole w
-
--- what was read at a row
-pub read_row : (rows : List Row) (s : List ℕ) (whole : Tree) (n : ℕ) (x : Row) → Represents rows s whole → x ≡ get_or rows n no_row → x ≡ row_at whole n
-read_row rows s whole n x w e = e ∙ ap (λ l. get_or l n no_row) w.rows_are
-
 -- the piece from a to b of the text l may be cut out, and is this
 pub record Piece (l : List ℕ) (a b : ℕ) (piece : List ℕ) : Type 0 where
   pub ordered : a ≤ b
   pub start_boundary : IsCharBoundary l a
   pub end_boundary : IsCharBoundary l b
   pub is : take (b - a) (drop a l) ≡ piece
-
-pub piece_at : (rows : List Row) (s l : List ℕ) (whole : Tree) (n e : ℕ) (x : Row) → Represents rows s whole → n < size whole → x ≡ row_at whole n → e ≡ end_at whole n → l ≡ s → Piece l x.start e (text (tree_at whole n))
-piece_at rows s l whole n e x w h is_x is_e is_l =
-    let v = cut rows s whole n w h in
-    let is_start : x.start ≡ start_at whole n = ap (λ r. r.start) (is_x ∙ row_at-is whole n h) ∙ row_of-start (tree_at whole n) n (start_at whole n) (up_at whole n h) in
-    record {
-      ordered = omega (arith, is_start, is_e, v.start_in_order);
-      start_boundary = rw (is_l, is_start) v.start_boundary;
-      end_boundary = rw (is_l, is_e) v.end_boundary;
-      is = rw (is_l, is_e, is_start) v.text_there;
-    }
-
-pub row_end_fits : (whole : Tree) (n : ℕ) → n < size whole → (row_at whole n).end ≤ size whole
-row_end_fits whole n h = omega (arith, ap (λ r. r.end) (row_at-is whole n h), row_of-end (tree_at whole n) n (start_at whole n) (up_at whole n h), At-fits (at_row whole n h), forest_size-cons whole nil)
-
--- rows that are those of a tree show it
-pub tree_of_rows-rows_of : (t : Tree) (rows : List Row) (s : List ℕ) → rows ≡ rows_of (cons t nil) 0 0 0 → s ≡ text t → tree_of_rows rows s ≡ t
-unfolding forest_of_rows
-tree_of_rows-rows_of t rows s is text_is =
-    let f = cons t nil in
-    let whole_text : forest_text f ≡ text t = forest_text-cons t nil ∙ append-nil (text t) in
-    let from_start : drop 0 s ≡ forest_text f ++ [] = text_is ∙ sym whole_text ∙ sym (append-nil (forest_text f)) in
-    let to_end : length s ≡ 0 + length (forest_text f) = omega (arith, ap length text_is, ap length whole_text) in
-    ap (λ r. first_tree (forest_of_rows 0 r s)) (is ∙ sym (append-nil (rows_of f 0 0 0)))
-    ∙ ap first_tree (forest_of_rows-rows_of f 0 0 0 [] s [] from_start to_end)
-
--- a table of them
-pub table_of : (t : Tree) (rows : List Row) (s : List ℕ) → Represents rows s t → Represents rows s (tree_of_rows rows s)
-table_of t rows s w = subst (Represents rows s) (sym (tree_of_rows-rows_of t rows s w.rows_are w.text_is)) w

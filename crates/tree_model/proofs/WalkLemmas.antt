@@ -1,13 +1,20 @@
 -- The rows of a subtree are its places in preorder.
-use Rattle.std.proofs.Common.{◌≡◌, ℕ, zero, suc, ◌+◌, ◌-◌, ◌<◌, [], ◌∷◌, ◌++◌, length, map, get_or, refl, sym, ap, ◌∙◌, arith, append-nil}
+use Rattle.std.proofs.Common.{map}
+use Rattle.tree_model.specs.Cursor.{at_place}
+use Rattle.tree_model.specs.Cursor.{Cursor}
+use Rattle.tree_model.specs.Tree.{Place}
+use Rattle.std.proofs.Common.{◌≡◌, ℕ, zero, suc, ◌+◌, ◌-◌, ◌<◌, ◌∷◌, ◌++◌, length, get_or, refl, sym, ap, ◌∙◌, arith, append-nil, []}
+use Rattle.tree_model.specs.Tree.{Tree, node, token, nil, cons, size, places}
+use Rattle.tree_model.specs.Rows.{place_at, start_at}
+use Rattle.tree_model.specs.Cursor.{cursor_at, cursors_from}
+use Rattle.tree_model.proofs.At.{At, located, lift, shift-zero, length-places_from}
+use Rattle.tree_model.proofs.StepLemmas.{place_from_At}
 use Rattle.std.proofs.lemmas.List.{same_lists, get_or-map, length-map}
 use Rattle.std.proofs.lemmas.List.FromFn.{get_or-map-range_with_len, length-map-range_with_len}
-use Rattle.tree_model.specs.Tree.{Tree, node, token, nil, cons, size, Place, places}
-use Rattle.tree_model.specs.Rows.{place_at, tree_at, start_at, row_at, EndsWithin}
-use Rattle.tree_model.specs.Cursor.{Cursor, at_place, descendants_of, cursor_at, cursors_from}
-use Rattle.tree_model.proofs.At.{At, located, lift, shift-zero, length-places_from, At-fits, forest_size-cons}
+use Rattle.tree_model.specs.Cursor.{descendants_of, cursors_from}
 use Rattle.tree_model.proofs.TableLemmas.{at_row}
-use Rattle.tree_model.proofs.StepLemmas.{end_of_row, place_from_At}
+use Rattle.tree_model.specs.Rows.{tree_at}
+use Rattle.tree_model.specs.Tree.{places}
 
 pub length-places : (t : Tree) → length (places t) ≡ size t
 length-places (token k x) = refl
@@ -23,10 +30,19 @@ place_below whole n (suc m) i (node k c) a h is_i =
     let there : At (cons whole nil) i ((0 ∷ place_at whole n) ++ w.p) w.t (start_at whole n + w.b) = lift a w.is_at (omega (arith, is_i)) refl in
     sym (place_from_At there) ∙ ap (λ p. place_at whole n ++ p) (sym (w.is_place 0 ∙ shift-zero w.p))
 
-pub descendants-cursors_from : (whole : Tree) (n e : ℕ) → n < size whole → e ≡ (row_at whole n).end → cursors_from whole n (e - n) ≡ descendants_of (cursor_at whole n)
-descendants-cursors_from whole n e h is_e =
+pub cursors_from-step : (whole : Tree) (a e : ℕ) → a < e → cursors_from whole a (e - a) ≡ cursor_at whole a ∷ cursors_from whole (a + 1) (e - (a + 1))
+cursors_from-step whole a e h = let count : e - a ≡ suc (e - (a + 1)) = omega arith in ap (cursors_from whole a) count
+
+-- row 0 is the root
+pub root_place : (whole : Tree) → place_at whole 0 ≡ []
+root_place (node k c) = refl
+root_place (token k x) = refl
+
+-- the places of a subtree are those with the numbers from its own on
+pub descendants-numbered : (whole : Tree) (n e : ℕ) → n < size whole → e ≡ n + size (tree_at whole n) → cursors_from whole n (e - n) ≡ descendants_of (cursor_at whole n)
+descendants-numbered whole n e h is_e =
     let t = tree_at whole n in
-    let count : e - n ≡ size t = omega (arith, is_e, end_of_row whole n h) in
+    let count : e - n ≡ size t = omega (arith, is_e) in
     let below : Place → Cursor = λ q. at_place (cursor_at whole n) (place_at whole n ++ q) in
     same_lists (cursors_from whole n (e - n)) (map below (places t))
     (length-map-range_with_len (cursor_at whole) n (e - n) ∙ count ∙ sym (length-map (places t) below ∙ length-places t))
@@ -36,14 +52,3 @@ descendants-cursors_from whole n e h is_e =
     get_or-map-range_with_len (cursor_at whole) n (e - n) k (n + k) d lt' refl
     ∙ ap (λ p. at_place (cursor_at whole n) p) (place_below whole n k (n + k) t (at_row whole n h) (omega (arith, lt', count)) refl)
     ∙ sym (get_or-map below (places t) k [] d lt2))
-
-pub cursors_from-step : (whole : Tree) (a e : ℕ) → a < e → cursors_from whole a (e - a) ≡ cursor_at whole a ∷ cursors_from whole (a + 1) (e - (a + 1))
-cursors_from-step whole a e h = let count : e - a ≡ suc (e - (a + 1)) = omega arith in ap (cursors_from whole a) count
-
-pub row_ends_within : (whole : Tree) (n e : ℕ) → n < size whole → e ≡ (row_at whole n).end → EndsWithin whole e
-row_ends_within whole n e h is_e = omega (arith, is_e, end_of_row whole n h, At-fits (at_row whole n h), forest_size-cons whole nil)
-
--- row 0 is the root
-pub root_place : (whole : Tree) → place_at whole 0 ≡ []
-root_place (node k c) = refl
-root_place (token k x) = refl

@@ -3,7 +3,6 @@
 use Rattle.std.specs.Prelude.{ℕ, Bool, true, false, ◌==◌, ◌&&◌, List, ◌++◌}
 use Rattle.std.specs.Cmp.Lexicographic.{pointwise}
 use Rattle.std.specs.Hash as fed
-use Rattle.tree_model.specs.declared.rows.Row.{Row}
 use Rattle.syntax_kind.specs.Kinds.{kind_raw, is_same_kind}
 use Rattle.tree_model.specs.Tree.{Tree, node, token, Forest, nil, cons, kind_of, size}
 use Rattle.tree_model.specs.Cursor.{Cursor, focus, range_start, range_end}
@@ -21,15 +20,6 @@ is_same_tree t u = is_same_forest (cons t nil) (cons u nil)
 -- the same place in equal whole trees
 abbrev pub is_same_cursor : Cursor → Cursor → Bool
 is_same_cursor c d = is_same_tree c.tree d.tree && pointwise ◌==◌ c.place d.place
-
-abbrev pub is_same_bool : Bool → Bool → Bool
-is_same_bool true b = b
-is_same_bool false true = false
-is_same_bool false false = true
-
--- the same row of two tables
-abbrev pub is_same_row : Row → Row → Bool
-is_same_row a b = is_same_kind a.kind b.kind && (is_same_bool a.is_token b.is_token && (a.start == b.start && (a.end == b.end && a.parent == b.parent)))
 
 -- what a cursor's hash is made of: the kind, the range, and how many nodes and tokens stand there
 abbrev pub cursor_hash : Cursor → List (List ℕ)

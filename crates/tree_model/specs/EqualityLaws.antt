@@ -3,23 +3,22 @@ use Rattle.std.proofs.Common.{◌≡◌, ◌==◌, ◌&&◌, true, false, Bool, 
 use Rattle.std.specs.Cmp.{decided, unsigned_Decides, IsEquivalence}
 use Rattle.std.specs.Cmp.Lexicographic.{pointwise, pointwise_decides}
 use Rattle.syntax_kind.specs.declared.syntax_kind.SyntaxKind.{SyntaxKind}
-use Rattle.tree_model.specs.declared.rows.Row.{Row}
 use Rattle.syntax_kind.specs.Kinds.{is_same_kind}
 use Rattle.syntax_kind.specs.KindLaws.{is_same_kind-equal}
 use Rattle.tree_model.specs.Tree.{Tree, node, token, Forest, nil, cons}
 use Rattle.tree_model.specs.Rows.{first_tree}
 use Rattle.tree_model.specs.Cursor.{Cursor}
-use Rattle.tree_model.specs.Equality.{is_same_forest, is_same_tree, is_same_cursor, is_same_bool, is_same_row, cursor_hash}
+use Rattle.tree_model.specs.Equality.{is_same_forest, is_same_tree, is_same_cursor, cursor_hash}
 
 -- two tests that decide two facts, one after another
-and_Decides : {P Q R : Type 0} (a b : Bool) → Decides a P → Decides b Q → (P → Q → R) → (R → P × Q) → Decides (a && b) R
+pub and_Decides : {P Q R : Type 0} (a b : Bool) → Decides a P → Decides b Q → (P → Q → R) → (R → P × Q) → Decides (a && b) R
 and_Decides true b p q make split = (λ e. make (p.0 refl) (q.0 e), λ r. q.1 (split r).1)
 and_Decides false b p q make split = (λ e. (let no : false ≡ true = e in cc), λ r. p.1 (split r).0)
 
-never : {R : Type 0} → (R → ⊥) → Decides false R
+pub never : {R : Type 0} → (R → ⊥) → Decides false R
 never f = (λ e. (let no : false ≡ true = e in cc), λ r. absurd (f r))
 
-kind_Decides : (j k : SyntaxKind) → Decides (is_same_kind j k) (j ≡ k)
+pub kind_Decides : (j k : SyntaxKind) → Decides (is_same_kind j k) (j ≡ k)
 kind_Decides j k = (λ e. (is_same_kind-equal j k).0 e, λ e. (is_same_kind-equal j k).1 e)
 
 pub forest_Decides : (f g : Forest) → Decides (is_same_forest f g) (f ≡ g)
@@ -61,38 +60,11 @@ cursor_Decides c d =
     made : c.tree ≡ d.tree → c.place ≡ d.place → c ≡ d
     made p q = ap (λ t. record { tree = t; place = c.place }) p ∙ ap (λ x. record { tree = d.tree; place = x }) q
 
-bool_Decides : (a b : Bool) → Decides (is_same_bool a b) (a ≡ b)
-bool_Decides true true = (λ _. refl, λ _. refl)
-bool_Decides true false = never (λ e. (let no : true ≡ false = e in cc))
-bool_Decides false true = never (λ e. (let no : false ≡ true = e in cc))
-bool_Decides false false = (λ _. refl, λ _. refl)
-
-pub row_Decides : (a b : Row) → Decides (is_same_row a b) (a ≡ b)
-row_Decides a b =
-    and_Decides (is_same_kind a.kind b.kind) (is_same_bool a.is_token b.is_token && (a.start == b.start && (a.end == b.end && a.parent == b.parent))) (kind_Decides a.kind b.kind)
-    (and_Decides (is_same_bool a.is_token b.is_token) (a.start == b.start && (a.end == b.end && a.parent == b.parent)) (bool_Decides a.is_token b.is_token)
-    (and_Decides (a.start == b.start) (a.end == b.end && a.parent == b.parent) (unsigned_Decides a.start b.start)
-    (and_Decides (a.end == b.end) (a.parent == b.parent) (unsigned_Decides a.end b.end) (unsigned_Decides a.parent b.parent) (λ p q. (p, q)) (λ e. e))
-    (λ p q. (p, q)) (λ e. e)) (λ p q. (p, q)) (λ e. e))
-    (λ p q. made p q.0 q.1.0 q.1.1.0 q.1.1.1)
-    (λ e. (ap (λ r. r.kind) e, (ap (λ r. r.is_token) e, (ap (λ r. r.start) e, (ap (λ r. r.end) e, ap (λ r. r.parent) e)))))
-  where
-    made : a.kind ≡ b.kind → a.is_token ≡ b.is_token → a.start ≡ b.start → a.end ≡ b.end → a.parent ≡ b.parent → a ≡ b
-    made p q s t u =
-        ap (λ x. record { kind = x; is_token = a.is_token; start = a.start; end = a.end; parent = a.parent }) p
-        ∙ ap (λ x. record { kind = b.kind; is_token = x; start = a.start; end = a.end; parent = a.parent }) q
-        ∙ ap (λ x. record { kind = b.kind; is_token = b.is_token; start = x; end = a.end; parent = a.parent }) s
-        ∙ ap (λ x. record { kind = b.kind; is_token = b.is_token; start = b.start; end = x; parent = a.parent }) t
-        ∙ ap (λ x. record { kind = b.kind; is_token = b.is_token; start = b.start; end = b.end; parent = x }) u
-
 pub tree_equivalence : IsEquivalence is_same_tree
 tree_equivalence = decided is_same_tree tree_Decides
 
 pub cursor_equivalence : IsEquivalence is_same_cursor
 cursor_equivalence = decided is_same_cursor cursor_Decides
-
-pub row_equivalence : IsEquivalence is_same_row
-row_equivalence = decided is_same_row row_Decides
 
 -- equal cursors hash alike
 pub cursors_alike : (c d : Cursor) → is_same_cursor c d ≡ true → cursor_hash c ≡ cursor_hash d

@@ -1,8 +1,8 @@
 -- Events, the forest that they build, and why they may build no tree.
 -- (Upstream: the calls of `rowan`'s `GreenNodeBuilder`.)
-use Rattle.std.specs.Prelude.{◌≡◌, ℕ, zero, suc, ◌+◌, ◌<◌, ◌^◌, List, [], ◌∷◌, ◌++◌, length, ◌≤◌, Option, None, Some, nat_lt, if◌then◌else◌, MatchOption}
+use Rattle.std.specs.Prelude.{◌≡◌, ℕ, zero, suc, ◌+◌, ◌<◌, ◌^◌, List, [], ◌∷◌, ◌++◌, length, ◌≤◌, Option, None, Some, nat_lt, if◌then◌else◌, MatchOption, ⊤}
 use Rattle.syntax_kind.specs.declared.syntax_kind.SyntaxKind.{SyntaxKind}
-use Rattle.tree_model.specs.Tree.{Tree, node, token, Forest, nil, cons, IsNode}
+use Rattle.tree_model.specs.Tree.{Tree, node, token, Forest, nil, cons, IsNode, text, forest_text}
 use Rattle.tree_model.specs.declared.error.FinishError.{FinishError}
 use Rattle.tree_model.specs.declared.error.FinishError.TheVariants.{TooLong, OverClosed, Unclosed, Empty, ManyRoots, TokenRoot, ErrorPastText, Memory}
 
@@ -30,6 +30,13 @@ text_len [] = 0
 text_len (enter k ∷ es) = text_len es
 text_len (leaf k t ∷ es) = length t + text_len es
 text_len (exit ∷ es) = text_len es
+
+-- the texts, joined in order
+abbrev pub texts : List Event → List ℕ
+texts [] = []
+texts (enter k ∷ es) = texts es
+texts (leaf k t ∷ es) = t ++ texts es
+texts (exit ∷ es) = texts es
 
 -- how many nodes are open after the events, where d are open before them; None where some front has more exits than that
 abbrev pub open_after : ℕ → List Event → Option ℕ
@@ -126,7 +133,7 @@ pub record BuildsToken (es : List Event) : Type 0 where
   pub its_text : List ℕ
   pub builds : Builds es (cons (token kind its_text) nil)
 
--- what each refusal says of the events; an error past the text, and want of memory, say nothing of them
+-- what each refusal says of the events: an error past the text is never said of them alone, and memory may want with any
 abbrev pub Holds : FinishError → List Event → Type 0
 Holds TooLong es = 2 ^ 32 ≤ text_len es
 Holds OverClosed es = HasOverClosedFront 0 es
@@ -135,7 +142,7 @@ Holds Empty es = Builds es nil
 Holds ManyRoots es = BuildsMany es
 Holds TokenRoot es = BuildsToken es
 Holds ErrorPastText es = ⊥
-Holds Memory es = ⊥
+Holds Memory es = ⊤
 
 -- the order in which the refusals are looked at
 abbrev pub refusal_number : FinishError → ℕ
@@ -148,7 +155,7 @@ refusal_number TokenRoot = 6
 refusal_number ErrorPastText = 7
 refusal_number Memory = 8
 
--- the refusal holds, and none before it
+-- the refusal holds, and none before it: so want of memory comes only where no other refusal holds
 pub record IsFirstRefusal (es : List Event) (e : FinishError) : Type 0 where
   pub holds : Holds e es
   pub first : (d : FinishError) → refusal_number d < refusal_number e → Holds d es → ⊥
@@ -163,3 +170,11 @@ pub record IsAccepted (es : List Event) : Type 0 where
 -- enters and exits over fronts of the list, the others by what the events build
 abbrev pub RefusalsHold : Type 0
 RefusalsHold = (es : List Event) → MatchOption (first_refusal es) (IsAccepted es) (IsFirstRefusal es)
+
+-- a forest that events build has their texts, joined
+abbrev pub TextsAreBuilt : Type 0
+TextsAreBuilt = (es : List Event) (f : Forest) → Builds es f → forest_text f ≡ texts es
+
+-- events that build one node of a text shorter than 2^32 meet no refusal
+abbrev pub NodesAreAccepted : Type 0
+NodesAreAccepted = (es : List Event) (t : Tree) → BuildsNode es t → length (text t) < 2 ^ 32 → first_refusal es ≡ None

@@ -2,9 +2,6 @@ pub mod Tree
 pub mod Events
 pub mod TreeCode
 pub mod Rows
-pub mod RowSteps
-pub mod MovedRows
-pub mod RowSearch
 pub mod TokenSearch
 pub mod Pointer
 pub mod Covering
@@ -12,11 +9,7 @@ pub mod Cursor
 pub mod Edit
 pub mod Placed
 pub mod Every
-pub mod Builder
 pub mod Scan
-pub mod Run
-pub mod RowLemmas
 pub mod Equality
 pub mod EqualityLaws
-pub mod PackedRow
 pub mod CursorLaws

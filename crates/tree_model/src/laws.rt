@@ -1,34 +1,24 @@
 //! Laws of the definitions that contracts on trees cite. The functions do nothing: the contract is the law.
 ghost use Rattle.tree_model.specs.CursorLaws.{ChildrenFillNodes, EqualityIsSameness, EqualCursorsHashAlike};
 ghost use Rattle.tree_model.specs.Edit.{PlacesAreReached, TextAround, ReplacedText, EditedInside};
-ghost use Rattle.tree_model.specs.Covering.{CoveringHolds};
 ghost use Rattle.tree_model.specs.Every.{EveryIsDescendants};
-ghost use Rattle.tree_model.specs.Events.{RefusalsHold};
-ghost use Rattle.tree_model.specs.Pointer.{PointersResolve};
-ghost use Rattle.tree_model.specs.RowSteps.{ParentsAreNearest};
-ghost use Rattle.tree_model.specs.TokenSearch.{AtMostTwo};
+ghost use Rattle.tree_model.specs.Events.{RefusalsHold, TextsAreBuilt, NodesAreAccepted};
 
-/// At most two tokens of a node that have a text touch one offset.
-pub fn at_most_two_tokens()
-    ensures { AtMostTwo }
-{}
-
-/// A pointer resolves to the node that it was made of, where that has a text and no node above it has its kind and range.
-pub fn pointers_resolve()
-    ensures { PointersResolve }
-{}
-
-/// What covers a range is a place of the tree; its range holds the range where that of the node does from which it was
-/// sought, and so do the ranges of all nodes above it.
-pub fn covering_holds()
-    ensures { CoveringHolds }
-{}
-
-/// What the contract of `TreeBuilder::finish` calls the first refusal is the first that holds: a text that is too long,
+/// The refusal that a reading of the events from left to right finds is the first that holds: a text that is too long,
 /// then some front of the events with more exits than enters, then more enters than exits in all, then what the
-/// balanced events build.
+/// balanced events build. Where it finds none, the events build one node of a text that is not too long.
 pub fn refusals_hold()
     ensures { RefusalsHold }
+{}
+
+/// The text of what events build is the texts of their tokens, joined.
+pub fn texts_are_built()
+    ensures { TextsAreBuilt }
+{}
+
+/// Events that build one node of a text of fewer than 2^32 bytes meet no refusal.
+pub fn nodes_are_accepted()
+    ensures { NodesAreAccepted }
 {}
 
 /// A place of a tree's list of places is one that can be reached from the root, one child after another.
@@ -70,9 +60,4 @@ pub fn equal_cursors_hash_alike()
 /// A test of every node and token of a subtree is a test of each item of its `descendants_with_tokens`.
 pub fn every_is_descendants()
     ensures { EveryIsDescendants }
-{}
-
-/// The parent of a row is the nearest earlier row whose subtree reaches past it.
-pub fn parents_are_nearest()
-    ensures { ParentsAreNearest }
 {}

@@ -1,19 +1,11 @@
-//! Trees as contracts see them, and the table of rows that holds one.
+//! Trees as contracts see them: the definitions that contracts on trees cite, and laws on them.
 //!
-//! Cursors stand on it; who reads trees uses those.
+//! `tree_rows` keeps a tree, and `lossless_tree` has its cursors; who reads trees uses those.
 #![tactic(auto)]
 
 mod direction;
 mod error;
-mod finish;
 pub mod laws;
-mod rows;
-mod step;
-mod table;
 
 pub use direction::Direction;
 pub use error::{FinishError, ReplaceError};
-pub use finish::{build_rows, first_refusal};
-pub use rows::{Row, Rows};
-pub use step::Step;
-pub use table::Table;

@@ -9,7 +9,7 @@ use super::element::{NodeOrToken, SyntaxElement, element};
 use super::node::SyntaxNode;
 use shared_pointer::Shared;
 use std::marker::Model;
-use tree_model::Table;
+use tree_rows::Table;
 
 /// The children of a node, nodes and tokens, in order. A clause sees the cursors that are left.
 #[derive(Clone, Drop)]
@@ -22,7 +22,8 @@ pub struct SyntaxElementChildren {
 impl Model for SyntaxElementChildren {
     ghost use Rattle.std.specs.Prelude.{List};
     ghost use Rattle.std.specs.Coded.{coded_list};
-    ghost use Rattle.tree_model.specs.Cursor.{Cursor, cursor_code, siblings_left, HaveParentEnd};
+    ghost use Rattle.tree_model.specs.Cursor.{Cursor, cursor_code};
+    ghost use Rattle.tree_rows.specs.Cursor.{siblings_left, HaveParentEnd};
 
     ghost Value = { List Cursor };
 

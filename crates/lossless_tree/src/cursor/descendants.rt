@@ -10,7 +10,7 @@ use super::element::{NodeOrToken, SyntaxElement, element};
 use super::node::SyntaxNode;
 use shared_pointer::Shared;
 use std::marker::Model;
-use tree_model::Table;
+use tree_rows::Table;
 
 /// The nodes and tokens of a subtree in preorder, itself first. A clause sees the cursors that are left.
 #[derive(Clone, Drop)]

@@ -16,10 +16,11 @@ use shared_pointer::Shared;
 use std::alloc::{AllocError, Global};
 use syntax_kind::SyntaxKind;
 use text_size::TextRange;
-use tree_model::{Direction, Table};
+use tree_model::Direction;
+use tree_rows::Table;
 
 /// A node or a token, of any two types that stand for them.
-#[derive(Clone, PartialEq, Eq, Hash, Drop)]
+#[derive(Clone, Hash, Drop)]
 pub enum NodeOrToken<N, T> {
     /// A node.
     Node(N),
@@ -177,6 +178,50 @@ impl NodeOrToken<SyntaxNode, SyntaxToken> {
             NodeOrToken::Node(node) => node.next_sibling_or_token(),
             NodeOrToken::Token(token) => token.next_sibling_or_token(),
         }
+    }
+}
+
+/// Equal where both are nodes, or both tokens, and these are equal.
+impl<N: PartialEq, T: PartialEq> PartialEq for NodeOrToken<N, T> {
+    ghost use Rattle.lossless_tree.specs.Element.{is_same_by};
+    ghost use Rattle.lossless_tree.specs.ElementLaws.{same_partial};
+
+    ghost eq = { is_same_by N.eq T.eq };
+
+    ghost laws = { same_partial N.eq T.eq N.laws T.laws };
+
+    fn eq(&self, other: &NodeOrToken<N, T>) -> bool {
+        match (self, other) {
+            (NodeOrToken::Node(node), NodeOrToken::Node(other)) => *node == *other,
+            (NodeOrToken::Token(token), NodeOrToken::Token(other)) => *token == *other,
+            _ => false,
+        }
+    }
+}
+
+impl<N: Eq, T: Eq> Eq for NodeOrToken<N, T> {
+    ghost use Rattle.lossless_tree.specs.ElementLaws.{same_equivalence};
+
+    ghost laws = { same_equivalence N.eq T.eq N.Eq.laws T.Eq.laws };
+}
+
+impl From<SyntaxNode> for NodeOrToken<SyntaxNode, SyntaxToken> {
+    ghost use Rattle.lossless_tree.specs.declared.cursor.element.NodeOrToken.TheVariants.{Node};
+
+    ghost from_gives = { λ node element. element ≡ Node node };
+
+    fn from(node: SyntaxNode) -> SyntaxElement {
+        NodeOrToken::Node(node)
+    }
+}
+
+impl From<SyntaxToken> for NodeOrToken<SyntaxNode, SyntaxToken> {
+    ghost use Rattle.lossless_tree.specs.declared.cursor.element.NodeOrToken.TheVariants.{Token};
+
+    ghost from_gives = { λ token element. element ≡ Token token };
+
+    fn from(token: SyntaxToken) -> SyntaxElement {
+        NodeOrToken::Token(token)
     }
 }
 

@@ -6,7 +6,7 @@ ghost use Rattle.tree_model.specs.Equality.{is_same_cursor, cursor_hash};
 
 use shared_pointer::Shared;
 use std::hash::{Hash, Hasher};
-use tree_model::Table;
+use tree_rows::Table;
 
 // Whether a row of a table is the same place as a row of another in an equal tree. Of one shared table it takes
 // constant time; of two, where the row numbers are equal, it compares texts and rows.

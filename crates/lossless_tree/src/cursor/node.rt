@@ -3,7 +3,8 @@ ghost use Rattle.std.specs.Prelude.{◌≡◌, option_map, IfOk, IfSome, reverse
 ghost use Rattle.std.specs.List.{filter, find};
 ghost use Rattle.tree_model.specs.Tree.{text, kind_of, IsNode, forest_of_children};
 ghost use Rattle.tree_model.specs.Rows.{IsRow};
-ghost use Rattle.tree_model.specs.Cursor.{focus, range_of, parent_of, ancestors_of, children_of, first_child_of, last_child_of, next_sibling_of, prev_sibling_of, following_of, preceding_of, siblings_in, siblings_from, at_node, at_token, descendants_of, walk_of, moves_at_node, range_start};
+ghost use Rattle.tree_model.specs.Cursor.{focus, range_of, parent_of, ancestors_of, children_of, first_child_of, last_child_of, next_sibling_of, prev_sibling_of, following_of, preceding_of, siblings_in, at_node, at_token, descendants_of, walk_of, moves_at_node, range_start};
+ghost use Rattle.tree_rows.specs.Cursor.{siblings_from};
 ghost use Rattle.tree_model.specs.declared.error.ReplaceError.TheVariants.{TooLong};
 ghost use Rattle.lossless_tree.specs.Trees.{child_text, is_no_trivia};
 ghost use Rattle.tree_model.specs.Edit.{replace, root_of};
@@ -22,14 +23,15 @@ use super::text::SyntaxText;
 use super::token::SyntaxToken;
 use super::token_at_offset::TokenAtOffset;
 use crate::dump;
-use crate::trees::Trees;
+use crate::siblings_left::SiblingsLeft;
 use shared_pointer::Shared;
 use std::alloc::{AllocError, Global};
 use std::hash::{Hash, Hasher};
 use std::marker::Model;
 use syntax_kind::SyntaxKind;
 use text_size::{TextRange, TextSize};
-use tree_model::{Direction, ReplaceError, Table};
+use tree_model::{Direction, ReplaceError};
+use tree_rows::Table;
 
 /// A node of a tree: a cursor, which shares the whole tree with every other cursor of it.
 ///
@@ -123,10 +125,10 @@ impl SyntaxNode {
     }
 
     /// The node's children, as siblings that are left to read.
-    pub fn trees(&self) -> Trees<'_>
+    pub fn trees(&self) -> SiblingsLeft<'_>
         ensures { result ≡ record { trees = forest_of_children (focus self.now); start = range_start self.now } }
     {
-        Trees::below(&self.table, self.row)
+        SiblingsLeft::below(&self.table, self.row)
     }
 
     /// The text of child number `n`, from 0, where that is a token; `None` for a node, and where there is no such child.

@@ -3,14 +3,15 @@ ghost use Rattle.std.specs.Prelude.{◌≡◌, ◌∷◌, [], true, false, map, 
 ghost use Rattle.std.specs.List.{filter};
 ghost use Rattle.std.specs.Iterator.{YieldsFirst, item_count};
 ghost use Rattle.tree_model.specs.Rows.{IsRow};
-ghost use Rattle.tree_model.specs.Cursor.{walk_of, walk_left, cursor_at, IsWalk, MovesLevel, moves_at_node};
+ghost use Rattle.tree_model.specs.Cursor.{walk_of, cursor_at, moves_at_node};
+ghost use Rattle.tree_rows.specs.Cursor.{walk_left, IsWalk, MovesLevel};
 ghost use Rattle.lossless_tree.specs.WalkEvent.{walk_event, node_event, event_of_node};
 
 use super::element::{NodeOrToken, SyntaxElement, element};
 use super::node::SyntaxNode;
 use shared_pointer::Shared;
 use std::marker::Model;
-use tree_model::Table;
+use tree_rows::Table;
 
 /// What a walk does at an element: it enters it, walks what is below, and leaves it.
 #[derive(Clone, PartialEq, Eq, Hash, Drop)]
@@ -33,7 +34,8 @@ pub struct PreorderWithTokens {
 impl Model for PreorderWithTokens {
     ghost use Rattle.std.specs.Prelude.{List, Bool};
     ghost use Rattle.std.specs.Coded.{coded_list, coded×, coded_bool};
-    ghost use Rattle.tree_model.specs.Cursor.{Cursor, cursor_code, walk_left, IsWalk};
+    ghost use Rattle.tree_model.specs.Cursor.{Cursor, cursor_code};
+    ghost use Rattle.tree_rows.specs.Cursor.{walk_left, IsWalk};
 
     ghost Value = { List (Bool × Cursor) };
 

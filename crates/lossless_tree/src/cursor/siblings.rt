@@ -3,7 +3,8 @@ ghost use Rattle.std.specs.Prelude.{◌≡◌, map, IfSome, option_map};
 ghost use Rattle.std.specs.List.{filter, find};
 ghost use Rattle.std.specs.Iterator.{YieldsFirst, item_count};
 ghost use Rattle.tree_model.specs.Rows.{IsRow};
-ghost use Rattle.tree_model.specs.Cursor.{siblings_from, at_node};
+ghost use Rattle.tree_model.specs.Cursor.{at_node};
+ghost use Rattle.tree_rows.specs.Cursor.{siblings_from};
 ghost use Rattle.lossless_tree.specs.Element.{element_of, is_trivia_element};
 ghost use Rattle.lossless_tree.specs.Trees.{is_no_trivia};
 
@@ -11,7 +12,8 @@ use super::element::{NodeOrToken, SyntaxElement, element};
 use super::node::SyntaxNode;
 use shared_pointer::Shared;
 use std::marker::Model;
-use tree_model::{Direction, Table};
+use tree_model::Direction;
+use tree_rows::Table;
 
 /// A node or token and its siblings in a direction, nodes and tokens. A clause sees the cursors that are left.
 #[derive(Clone, Drop)]
@@ -24,7 +26,8 @@ pub struct SyntaxElementSiblings {
 impl Model for SyntaxElementSiblings {
     ghost use Rattle.std.specs.Prelude.{List, IfSome};
     ghost use Rattle.std.specs.Coded.{coded_list};
-    ghost use Rattle.tree_model.specs.Cursor.{Cursor, cursor_code, siblings_from};
+    ghost use Rattle.tree_model.specs.Cursor.{Cursor, cursor_code};
+    ghost use Rattle.tree_rows.specs.Cursor.{siblings_from};
     ghost use Rattle.tree_model.specs.Rows.{IsRow};
 
     ghost Value = { List Cursor };

@@ -8,7 +8,7 @@ use std::alloc::{AllocError, Global};
 use std::fmt;
 use std::marker::Model;
 use text_size::TextSize;
-use tree_model::Table;
+use tree_rows::Table;
 
 /// The text of a node, borrowed from its tree. A clause sees the bytes.
 #[derive(Drop)]

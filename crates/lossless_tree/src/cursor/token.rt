@@ -22,7 +22,8 @@ use std::hash::{Hash, Hasher};
 use std::marker::Model;
 use syntax_kind::SyntaxKind;
 use text_size::TextRange;
-use tree_model::{Direction, ReplaceError, Table};
+use tree_model::{Direction, ReplaceError};
+use tree_rows::Table;
 
 /// A token of a tree: a cursor, which shares the whole tree with every other cursor of it.
 ///

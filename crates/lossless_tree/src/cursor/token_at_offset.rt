@@ -1,7 +1,7 @@
 //! The tokens at an offset.
 ghost use Rattle.std.specs.Prelude.{◌≡◌, Some, None};
 ghost use Rattle.std.specs.Iterator.{YieldsFirst, item_count};
-ghost use Rattle.lossless_tree.specs.TokenAtOffset.{found_tokens, leftmost, rightmost};
+ghost use Rattle.lossless_tree.specs.TokenAtOffset.{found_tokens, leftmost, rightmost, Each, EachBecomes};
 
 use std::mem;
 
@@ -9,7 +9,7 @@ use std::mem;
 /// and two where it is between two tokens.
 ///
 /// It gives them in order as an iterator.
-#[derive(Clone, Drop)]
+#[derive(Clone, Debug, Drop)]
 pub enum TokenAtOffset<T> {
     /// No token: there is none with a text, or the offset is outside of the node's text.
     None,
@@ -20,6 +20,18 @@ pub enum TokenAtOffset<T> {
 }
 
 impl<T> TokenAtOffset<T> {
+    /// What `f` gives of each token, in their order.
+    pub fn map<U, F: Fn(T) -> U + Drop>(self, f: F) -> TokenAtOffset<U>
+        requires { Each (F.pre f) self }
+        ensures { EachBecomes (F.post f) self result }
+    {
+        match self {
+            TokenAtOffset::None => TokenAtOffset::None,
+            TokenAtOffset::Single(token) => TokenAtOffset::Single(f(token)),
+            TokenAtOffset::Between(left, right) => TokenAtOffset::Between(f(left), f(right)),
+        }
+    }
+
     /// The token, of two the left one.
     pub fn left_biased(self) -> Option<T>
     where

@@ -1,13 +1,13 @@
 use Rattle.std.proofs.Common.{◌≡◌, ◌∙◌, sym, ap, subst, arith, [], Some}
 use Rattle.std.specs.Prelude.{string_bytes}
 use Rattle.tree_model.specs.Events.{BuildsNode, first_refusal}
-use Rattle.tree_model.specs.Builder.{events_from}
+use Rattle.tree_rows.specs.Builder.{events_from}
 use Rattle.tree_model.specs.Tree.{node, cons, nil}
-use Rattle.tree_model.specs.Rows.{rows_of, tree_of_rows}
-use Rattle.tree_model.specs.Run.{text_len}
+use Rattle.tree_rows.specs.Rows.{rows_of, tree_of_rows}
+use Rattle.tree_rows.specs.Run.{text_len}
 use Rattle.tree_model.specs.Scan.{scan}
 use Rattle.tree_model.specs.declared.error.FinishError.TheVariants.{Empty}
-use Rattle.tree_model.proofs.FinishLemmas.{Ready, ready, first_refusal-short, first_refusal-long, refusal_of-scan, table_built, node_built, step_text_len}
+use Rattle.tree_rows.proofs.FinishLemmas.{Ready, ready, first_refusal-short, first_refusal-long, refusal_of-scan, table_built, node_built, step_text_len}
 use Rattle.lossless_tree.proofs.builder.TreeBuilder.build.Goals as goal
 use Rattle.lossless_tree.proofs.builder.TreeBuilder.build.Goals.{In-None, In-Ok, After-first_refusal}
 

@@ -1,7 +1,7 @@
 use Rattle.std.proofs.Common.{length, sym, ap, ◌∙◌}
 use Rattle.std.specs.Prelude.{string_bytes}
 use Rattle.tree_model.specs.Events.{text_len}
-use Rattle.tree_model.proofs.FinishLemmas.{event_text_len}
+use Rattle.tree_rows.proofs.FinishLemmas.{event_text_len}
 use Rattle.lossless_tree.proofs.builder.TreeBuilder.text_len.Goals as goal
 
 pub returns : goal.returns

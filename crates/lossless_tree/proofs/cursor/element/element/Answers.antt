@@ -1,8 +1,8 @@
 use Rattle.std.proofs.Common.{◌∙◌, ap}
-use Rattle.tree_model.specs.Rows.{row_at}
+use Rattle.tree_rows.specs.Rows.{row_at}
 use Rattle.tree_model.specs.Cursor.{cursor_at}
 use Rattle.lossless_tree.specs.declared.cursor.element.NodeOrToken.TheVariants.{Node, Token}
-use Rattle.tree_model.proofs.StepLemmas.{row_token, row_node}
+use Rattle.tree_rows.proofs.StepLemmas.{row_token, row_node}
 use Rattle.lossless_tree.proofs.ElementLemmas.{element_of_token, element_of_node}
 use Rattle.lossless_tree.proofs.cursor.element.element.Goals as goal
 

@@ -1,8 +1,10 @@
 use Rattle.std.proofs.Common.{◌≡◌, ◌<◌, ◌≤◌, ◌∷◌, ◌∙◌, ap, subst, arith, false, Some, None}
-use Rattle.tree_model.specs.Rows.{tree_at, row_at}
-use Rattle.tree_model.specs.Cursor.{walk_left, IsWalk, cursor_at}
+use Rattle.tree_model.specs.Rows.{tree_at}
+use Rattle.tree_rows.specs.Rows.{row_at}
+use Rattle.tree_model.specs.Cursor.{cursor_at}
+use Rattle.tree_rows.specs.Cursor.{walk_left, IsWalk}
 use Rattle.tree_model.proofs.At.{some_row}
-use Rattle.tree_model.proofs.StepLemmas.{end_of_row}
+use Rattle.tree_rows.proofs.StepLemmas.{end_of_row}
 use Rattle.lossless_tree.proofs.WalkSteps.{level_enter, level_leave, step_enter, step_last, step_leave_to, step_done, open_row, next_row_within}
 use Rattle.lossless_tree.proofs.cursor.preorder.walk_step.Goals as goal
 use Rattle.lossless_tree.proofs.cursor.preorder.walk_step.Goals.{In-None, In-Some, Then-inner-start, After-parent_row}

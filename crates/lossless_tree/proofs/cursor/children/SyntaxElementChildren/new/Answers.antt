@@ -1,8 +1,9 @@
 use Rattle.std.proofs.Common.{◌+◌, ◌∙◌, ap, arith}
-use Rattle.tree_model.specs.Rows.{row_at, tree_at}
+use Rattle.tree_model.specs.Rows.{tree_at}
+use Rattle.tree_rows.specs.Rows.{row_at}
 use Rattle.tree_model.proofs.At.{some_row}
-use Rattle.tree_model.proofs.ChildLists.{children_begin}
-use Rattle.tree_model.proofs.StepLemmas.{end_of_row}
+use Rattle.tree_rows.proofs.ChildLists.{children_begin}
+use Rattle.tree_rows.proofs.StepLemmas.{end_of_row}
 use Rattle.lossless_tree.proofs.cursor.children.SyntaxElementChildren.new.Goals as goal
 
 pub overflow_add-result : goal.overflow_add-result

@@ -1,8 +1,9 @@
 use Rattle.std.proofs.Common.{◌≡◌, ◌∷◌, ◌∙◌, sym, ap, map, length, arith}
-use Rattle.tree_model.specs.Rows.{row_at}
-use Rattle.tree_model.specs.Cursor.{cursor_at, siblings_left, HaveParentEnd}
+use Rattle.tree_rows.specs.Rows.{row_at}
+use Rattle.tree_model.specs.Cursor.{cursor_at}
+use Rattle.tree_rows.specs.Cursor.{siblings_left, HaveParentEnd}
 use Rattle.lossless_tree.specs.Element.{element_of}
-use Rattle.tree_model.proofs.ChildLists.{siblings_left-step}
+use Rattle.tree_rows.proofs.ChildLists.{siblings_left-step}
 use Rattle.lossless_tree.proofs.cursor.children.SyntaxElementChildrenIterator.next.Goals as goal
 use Rattle.lossless_tree.proofs.cursor.children.SyntaxElementChildrenIterator.next.Goals.{After-element}
 

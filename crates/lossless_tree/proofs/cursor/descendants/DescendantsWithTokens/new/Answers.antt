@@ -1,6 +1,6 @@
 use Rattle.std.proofs.Common.{◌∙◌, ap}
-use Rattle.tree_model.specs.Rows.{row_at}
-use Rattle.tree_model.proofs.WalkLemmas.{descendants-cursors_from, row_ends_within}
+use Rattle.tree_rows.specs.Rows.{row_at}
+use Rattle.tree_rows.proofs.WalkLemmas.{descendants-cursors_from, row_ends_within}
 use Rattle.lossless_tree.proofs.cursor.descendants.DescendantsWithTokens.new.Goals as goal
 
 pub invariant_of-result : goal.invariant_of-result

@@ -1,4 +1,4 @@
-use Rattle.tree_model.proofs.PointerLemmas.{finds_nothing}
+use Rattle.tree_rows.proofs.PointerLemmas.{finds_nothing}
 use Rattle.lossless_tree.proofs.cursor.node.SyntaxNode.first_in_root.Goals as goal
 
 pub returns-then-self-ne0 : goal.returns-then-self-ne0

@@ -4,7 +4,7 @@ use Rattle.std.specs.List.{find}
 use Rattle.tree_model.specs.Tree.{last_child_place}
 use Rattle.tree_model.specs.Rows.{place_at}
 use Rattle.tree_model.specs.Cursor.{at_node, children_of}
-use Rattle.tree_model.proofs.ChildLists.{reversed_children_are}
+use Rattle.tree_rows.proofs.ChildLists.{reversed_children_are}
 use Rattle.lossless_tree.proofs.cursor.node.SyntaxNode.last_child.Goals as goal
 
 pub returns : goal.returns

@@ -4,10 +4,11 @@ use Rattle.std.specs.List.{find}
 use Rattle.tree_model.specs.declared.direction.Direction.TheVariants.{Next}
 use Rattle.tree_model.specs.Tree.{next_sibling_place}
 use Rattle.tree_model.specs.Rows.{place_at}
-use Rattle.tree_model.specs.Cursor.{following_of, siblings_from}
+use Rattle.tree_model.specs.Cursor.{following_of}
+use Rattle.tree_rows.specs.Cursor.{siblings_from}
 use Rattle.lossless_tree.specs.Element.{element_of}
 use Rattle.lossless_tree.specs.Trees.{is_no_trivia}
-use Rattle.tree_model.proofs.ChildLists.{following_is}
+use Rattle.tree_rows.proofs.ChildLists.{following_is}
 use Rattle.lossless_tree.proofs.cursor.node.SyntaxNode.next_no_trivia.Goals as goal
 
 pub returns : goal.returns

@@ -4,7 +4,7 @@ use Rattle.std.specs.List.{find}
 use Rattle.tree_model.specs.Tree.{next_sibling_place}
 use Rattle.tree_model.specs.Rows.{place_at}
 use Rattle.tree_model.specs.Cursor.{at_node, following_of}
-use Rattle.tree_model.proofs.ChildLists.{following_is}
+use Rattle.tree_rows.proofs.ChildLists.{following_is}
 use Rattle.lossless_tree.proofs.cursor.node.SyntaxNode.next_sibling.Goals as goal
 
 pub returns : goal.returns

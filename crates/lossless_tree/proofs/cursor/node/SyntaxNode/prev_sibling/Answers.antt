@@ -4,7 +4,7 @@ use Rattle.std.specs.List.{find}
 use Rattle.tree_model.specs.Tree.{prev_sibling_place}
 use Rattle.tree_model.specs.Rows.{place_at}
 use Rattle.tree_model.specs.Cursor.{at_node, preceding_of}
-use Rattle.tree_model.proofs.ChildLists.{preceding_is}
+use Rattle.tree_rows.proofs.ChildLists.{preceding_is}
 use Rattle.lossless_tree.proofs.cursor.node.SyntaxNode.prev_sibling.Goals as goal
 
 pub returns : goal.returns

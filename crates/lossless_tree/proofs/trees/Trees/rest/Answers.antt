@@ -1,9 +1,0 @@
-use Rattle.std.proofs.Common.{ap}
-use Rattle.lossless_tree.proofs.TreesLemmas.{later, rest_seen}
-use Rattle.lossless_tree.proofs.trees.Trees.rest.Goals as goal
-
-pub invariant_of-result : goal.invariant_of-result
-invariant_of-result c = (later c.self.inside.table.now c.self.inside.row c.self.inside.end c.self.inside.start c.row.result.end c.end_at.result c.self.invariant c.if-self.true (ap (λ r. r.end) c.row.ensures.value) c.end_at.ensures.value).is_trees
-
-pub returns-then-self : goal.returns-then-self
-returns-then-self c = rest_seen c.args.self.now c.self.inside.table.now c.self.inside.row c.self.inside.end c.self.inside.start c.row.result.end c.end_at.result c.self.view_is c.self.invariant c.if-self.true (ap (λ r. r.end) c.row.ensures.value) c.end_at.ensures.value

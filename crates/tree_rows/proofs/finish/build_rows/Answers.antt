@@ -1,0 +1,5 @@
+use Rattle.tree_rows.proofs.Run.{run_all}
+use Rattle.tree_rows.proofs.finish.build_rows.Goals as goal
+
+pub returns : goal.returns
+returns c = λ f is. run_all f c.args.steps.now _ c.loop-step.innermost c.loop-step.at c.loop-step.step-index is c.loop-step-test.false c.loop-step.invariant.same_run

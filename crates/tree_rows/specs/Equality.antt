@@ -1,0 +1,14 @@
+-- Whether two trees, and two cursors, are the same.
+-- (Upstream: `rowan`'s `SyntaxNode: PartialEq`; there two cursors are equal where they stand at the same node of one tree in memory.)
+use Rattle.std.specs.Prelude.{Bool, true, false, ◌==◌, ◌&&◌}
+use Rattle.tree_rows.specs.declared.rows.Row.{Row}
+use Rattle.syntax_kind.specs.Kinds.{is_same_kind}
+
+abbrev pub is_same_bool : Bool → Bool → Bool
+is_same_bool true b = b
+is_same_bool false true = false
+is_same_bool false false = true
+
+-- the same row of two tables
+abbrev pub is_same_row : Row → Row → Bool
+is_same_row a b = is_same_kind a.kind b.kind && (is_same_bool a.is_token b.is_token && (a.start == b.start && (a.end == b.end && a.parent == b.parent)))

@@ -1,0 +1,11 @@
+pub mod Rows
+pub mod RowSteps
+pub mod MovedRows
+pub mod RowSearch
+pub mod Cursor
+pub mod Builder
+pub mod Run
+pub mod RowLemmas
+pub mod Equality
+pub mod EqualityLaws
+pub mod PackedRow

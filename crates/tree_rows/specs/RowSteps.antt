@@ -1,0 +1,38 @@
+-- What row calls on steps answer, in rows. No contract outside this crate names these.
+use Rattle.std.specs.Prelude.{◌≡◌, ℕ, ◌+◌, ◌<◌, ◌≤◌, Option, MatchOption, ◌↔◌}
+use Rattle.tree_model.specs.Tree.{Tree, size, IsToken, IsNode}
+use Rattle.tree_model.specs.Rows.{tree_at}
+use Rattle.tree_rows.specs.Rows.{row_at}
+
+-- row n stands below row q
+pub record IsBelow (tree : Tree) (q n : ℕ) : Type 0 where
+  pub behind : q < n
+  pub reaches : n < (row_at tree q).end
+  pub in_range : q < size tree
+
+-- row c is the child of row q whose subtree holds row n
+pub record IsChildOver (tree : Tree) (q n c : ℕ) : Type 0 where
+  pub behind : q < c
+  pub from : c ≤ n
+  pub reaches : n < (row_at tree c).end
+  pub parent_is : (row_at tree c).parent ≡ q
+
+-- row q is the nearest row before row n whose subtree reaches past it
+pub record IsNearestOver (tree : Tree) (n q : ℕ) : Type 0 where
+  pub earlier : q < n
+  pub reaches : n < (row_at tree q).end
+  pub between : (k : ℕ) → q < k → k < n → (row_at tree k).end ≤ n
+
+-- the parent of each row but the root's is the nearest earlier row whose subtree reaches past it, and no other row is
+abbrev pub ParentsAreNearest : Type 0
+ParentsAreNearest = (tree : Tree) (n q : ℕ) → 0 < n → n < size tree → ((row_at tree n).parent ≡ q) ↔ IsNearestOver tree n q
+
+-- the first token among the rows from a to b, if there is one; and the last
+abbrev pub NoTokens : Tree → ℕ → ℕ → Type 0
+NoTokens tree a b = (k : ℕ) → a ≤ k → k < b → IsNode (tree_at tree k)
+
+abbrev pub IsFirstToken : Tree → ℕ → ℕ → Option ℕ → Type 0
+IsFirstToken tree a b r = MatchOption r (NoTokens tree a b) (λ m. (a ≤ m) × (m < b) × IsToken (tree_at tree m) × NoTokens tree a m)
+
+abbrev pub IsLastToken : Tree → ℕ → ℕ → Option ℕ → Type 0
+IsLastToken tree a b r = MatchOption r (NoTokens tree a b) (λ m. (a ≤ m) × (m < b) × IsToken (tree_at tree m) × NoTokens tree (m + 1) b)

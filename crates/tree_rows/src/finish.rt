@@ -1,0 +1,122 @@
+//! What `finish` does with the steps.
+ghost use Rattle.std.specs.Prelude.{◌≡◌, ◌<◌, ◌^◌, [], Some, map, length, IfOk};
+ghost use Rattle.tree_model.specs.declared.error.FinishError.TheVariants.{Empty};
+ghost use Rattle.tree_model.specs.Tree.{Forest};
+ghost use Rattle.tree_model.specs.Events.{events_of};
+ghost use Rattle.tree_rows.specs.Builder.{events_from, step_of};
+ghost use Rattle.tree_model.specs.Scan.{after_top, scan};
+ghost use Rattle.tree_rows.specs.Rows.{rows_of};
+ghost use Rattle.tree_rows.specs.Run.{text_len, row_count};
+
+use tree_model::FinishError;
+use crate::rows::{Row, Rows};
+use crate::builder_event::BuilderEvent;
+use std::alloc::{AllocError, Global};
+
+// The refusal for the top elements, after one more.
+fn after_top(root: Option<FinishError>, is_token: bool) -> Option<FinishError>
+    ensures { result ≡ after_top root is_token }
+{
+    match root {
+        Some(FinishError::Empty) => {
+            if is_token {
+                Some(FinishError::TokenRoot)
+            } else {
+                None
+            }
+        }
+        _ => Some(FinishError::ManyRoots),
+    }
+}
+
+/// The first refusal that holds, lengths and memory aside.
+pub fn first_refusal(steps: &[BuilderEvent]) -> Option<FinishError>
+    ensures { result ≡ scan 0 (Some Empty) (events_from steps.now []) }
+{
+    let mut open: usize = 0;
+    let mut root = Some(FinishError::Empty);
+    for step in steps {
+        match step {
+            BuilderEvent::Enter(_) => {
+                if open == 0 {
+                    root = after_top(root, false);
+                }
+                open += 1;
+            }
+            BuilderEvent::Token(_, _) => {
+                if open == 0 {
+                    root = after_top(root, true);
+                }
+            }
+            BuilderEvent::Exit => {
+                if open == 0 {
+                    return Some(FinishError::OverClosed);
+                }
+                open -= 1;
+            }
+        }
+    }
+    if open > 0 {
+        return Some(FinishError::Unclosed);
+    }
+    root
+}
+
+// How many rows the steps make: one for each but the exits.
+fn row_count(steps: &[BuilderEvent]) -> usize
+    ensures { result ≡ row_count steps.now }
+{
+    let mut count: usize = 0;
+    for step in steps {
+        if !matches!(step, BuilderEvent::Exit) {
+            count += 1;
+        }
+    }
+    count
+}
+
+/// The rows of the steps of a forest.
+pub fn build_rows(alloc: Global, steps: &[BuilderEvent]) -> Result<Rows, AllocError>
+    requires { text_len steps.now < 2 ^ 32 }
+    ensures { IfOk result (λ rows. (f : Forest) → steps.now ≡ map step_of (events_of f) → rows ≡ rows_of f 0 0 0) }
+{
+    let mut rows = Rows::with_capacity(alloc, row_count(steps))?;
+    let mut innermost: usize = 0;
+    let mut at: u32 = 0;
+    for step in steps {
+        match *step {
+            BuilderEvent::Enter(kind) => {
+                let row = rows.len();
+                rows.push(Row {
+                    kind,
+                    is_token: false,
+                    start: at,
+                    end: 0,
+                    parent: innermost,
+                })?;
+                innermost = row;
+            }
+            BuilderEvent::Token(kind, len) => {
+                let end = rows.len() + 1;
+                rows.push(Row {
+                    kind,
+                    is_token: true,
+                    start: at,
+                    end,
+                    parent: innermost,
+                })?;
+                at += len as u32;
+            }
+            BuilderEvent::Exit => {
+                // Of steps that close no more than they open, each finds its node.
+                let row = innermost;
+                if row < rows.len() {
+                    let end = rows.len();
+                    innermost = rows.get(row).parent;
+                    rows.set_end(row, end);
+                }
+            }
+        }
+    }
+    Ok(rows)
+}

@@ -1,0 +1,27 @@
+//! Laws of the definitions that contracts on trees cite, which are proved by rows. The functions do nothing: the contract
+//! is the law.
+ghost use Rattle.tree_model.specs.Covering.{CoveringHolds};
+ghost use Rattle.tree_model.specs.Pointer.{PointersResolve};
+ghost use Rattle.tree_model.specs.TokenSearch.{AtMostTwo};
+ghost use Rattle.tree_rows.specs.RowSteps.{ParentsAreNearest};
+
+/// At most two tokens of a node that have a text touch one offset.
+pub fn at_most_two_tokens()
+    ensures { AtMostTwo }
+{}
+
+/// A pointer resolves to the node that it was made of, where that has a text and no node above it has its kind and range.
+pub fn pointers_resolve()
+    ensures { PointersResolve }
+{}
+
+/// What covers a range is a place of the tree; its range holds the range where that of the node does from which it was
+/// sought, and so do the ranges of all nodes above it.
+pub fn covering_holds()
+    ensures { CoveringHolds }
+{}
+
+/// The parent of a row is the nearest earlier row whose subtree reaches past it.
+pub fn parents_are_nearest()
+    ensures { ParentsAreNearest }
+{}

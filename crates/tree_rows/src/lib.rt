@@ -1,0 +1,15 @@
+//! The table of rows that holds a tree: one text, and one row for each place in preorder.
+//!
+//! `lossless_tree` stands its cursors on it; who reads trees uses those.
+#![tactic(auto)]
+
+mod builder_event;
+mod finish;
+pub mod laws;
+mod rows;
+mod table;
+
+pub use builder_event::BuilderEvent;
+pub use finish::{build_rows, first_refusal};
+pub use rows::{Row, Rows};
+pub use table::Table;
