@@ -14,7 +14,6 @@ pub use Rattle.tree_model.specs.Every
 pub use Rattle.tree_model.specs.Placed
 pub use Rattle.tree_model.specs.Equality
 pub use Rattle.tree_model.specs.EqualityLaws
-
 pub mod Element
 pub mod ElementLaws
 pub mod TokenAtOffset

@@ -8,10 +8,10 @@ ghost use Rattle.tree_model.specs.Scan.{after_top, scan};
 ghost use Rattle.tree_rows.specs.Rows.{rows_of};
 ghost use Rattle.tree_rows.specs.Run.{text_len, row_count};
 
-use tree_model::FinishError;
-use crate::rows::{Row, Rows};
 use crate::builder_event::BuilderEvent;
+use crate::rows::{Row, Rows};
 use std::alloc::{AllocError, Global};
+use tree_model::FinishError;
 
 // The refusal for the top elements, after one more.
 fn after_top(root: Option<FinishError>, is_token: bool) -> Option<FinishError>

@@ -10,10 +10,10 @@ ghost use Rattle.tree_model.specs.Placed.{IsPlaced};
 ghost use Rattle.tree_rows.specs.MovedRows.{moved_number, moved_row, MoveFits, rows_between, moved_before, moved_behind};
 
 use super::Table;
-use tree_model::ReplaceError;
 use crate::rows::{Row, Rows};
 use std::alloc::{AllocError, Global};
 use syntax_kind::SyntaxKind;
+use tree_model::ReplaceError;
 
 /// How rows move: the row numbers from `from_row` on become those from `to_row` on, and the bytes from `from_byte` on those from
 /// `to_byte` on. Row numbers before `from_row` stay, as those of the nodes around a piece.
