@@ -5,7 +5,7 @@ ghost use Rattle.lossless_tree.specs.Trees.{first_of};
 ghost use Rattle.operator_powers.specs.Rules.{wants, token_start, is_wanted};
 
 use crate::powers::kind_powers;
-use lossless_tree::Trees;
+use lossless_tree::SiblingsLeft;
 use syntax_kind::SyntaxKind;
 
 /// The token that an operator's start is looked for by.
@@ -37,14 +37,14 @@ pub fn wants(wanted: Wanted, kind: SyntaxKind) -> bool
     }
 }
 
-fn is_wanted(left: &Trees<'_>, wanted: Wanted) -> bool
+fn is_wanted(left: &SiblingsLeft<'_>, wanted: Wanted) -> bool
     ensures { result ≡ is_wanted wanted (first_of left.now.trees) }
 {
     left.is_token() && wants(wanted, left.kind())
 }
 
 /// Where the first child token that is wanted starts, and its kind.
-pub fn token_start(trees: &Trees<'_>, wanted: Wanted) -> Option<(usize, SyntaxKind)>
+pub fn token_start(trees: &SiblingsLeft<'_>, wanted: Wanted) -> Option<(usize, SyntaxKind)>
     ensures { result ≡ token_start wanted trees.now.trees trees.now.start }
 {
     let mut left = trees.all();

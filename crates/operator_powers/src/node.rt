@@ -9,7 +9,7 @@ ghost use Rattle.tree_model.specs.Tree.{is_token, kind_of};
 
 use crate::look::{Wanted, token_start};
 use crate::powers::{Strength, kind_powers};
-use lossless_tree::Trees;
+use lossless_tree::SiblingsLeft;
 use operator_trees::{Form, form_of};
 use syntax_kind::SyntaxKind;
 
@@ -19,14 +19,14 @@ fn is_arguments(kind: SyntaxKind) -> bool
     matches!(form_of(kind), Form::Arguments)
 }
 
-fn is_list(left: &Trees<'_>) -> bool
+fn is_list(left: &SiblingsLeft<'_>) -> bool
     ensures { result ≡ is_list (first_of left.now.trees) }
 {
     !left.is_token() && is_arguments(left.kind())
 }
 
 // Where the first `(` in the first list of arguments starts.
-fn opening_start(trees: &Trees<'_>) -> Option<(usize, SyntaxKind)>
+fn opening_start(trees: &SiblingsLeft<'_>) -> Option<(usize, SyntaxKind)>
     ensures { result ≡ opening_start trees.now.trees trees.now.start }
 {
     let mut left = trees.all();
@@ -40,7 +40,7 @@ fn opening_start(trees: &Trees<'_>) -> Option<(usize, SyntaxKind)>
 }
 
 // The operator of a node of a form.
-fn operator_token(form: Form, trees: &Trees<'_>) -> Option<(usize, SyntaxKind)>
+fn operator_token(form: Form, trees: &SiblingsLeft<'_>) -> Option<(usize, SyntaxKind)>
     ensures { result ≡ operator_token form trees.now.trees trees.now.start }
 {
     match form {
@@ -57,7 +57,7 @@ fn operator_token(form: Form, trees: &Trees<'_>) -> Option<(usize, SyntaxKind)>
 }
 
 /// Where the operator of a node starts; where the node does, if it has none.
-pub fn operator_start(form: Form, trees: &Trees<'_>) -> usize
+pub fn operator_start(form: Form, trees: &SiblingsLeft<'_>) -> usize
     ensures { result ≡ operator_start form trees.now.trees trees.now.start }
 {
     match operator_token(form, trees) {
@@ -66,7 +66,7 @@ pub fn operator_start(form: Form, trees: &Trees<'_>) -> usize
     }
 }
 
-fn binary_powers(trees: &Trees<'_>) -> Strength
+fn binary_powers(trees: &SiblingsLeft<'_>) -> Strength
     ensures { pow result.left result.right ≡ powers_or (token_start want.Operator trees.now.trees trees.now.start) }
 {
     match token_start(trees, Wanted::Operator) {
@@ -76,7 +76,7 @@ fn binary_powers(trees: &Trees<'_>) -> Strength
 }
 
 /// The powers of a node of a form that a term has.
-pub fn form_powers(form: Form, trees: &Trees<'_>) -> Strength
+pub fn form_powers(form: Form, trees: &SiblingsLeft<'_>) -> Strength
     ensures { pow result.left result.right ≡ form_powers form trees.now.trees trees.now.start }
 {
     match form {

@@ -8,21 +8,27 @@ ghost use Rattle.operator_trees.specs.Forms.{form_of};
 ghost use Rattle.operator_reads.specs.Reads.{part_asks, child_asks, still_before, asks_from, parts_ask, node_fits};
 ghost use Rattle.operator_powers.specs.Rules.{form_powers};
 
-use lossless_tree::{SyntaxNode, Trees};
+use lossless_tree::{SiblingsLeft, SyntaxNode};
 use operator_powers::ask::is_term_form;
 use operator_powers::node::{form_powers, is_call_form, is_field_form};
 use operator_powers::powers::{Strength, by_power};
 use operator_trees::{Form, form_of};
 
 // The powers of a node of a form; where it starts is of no matter.
-fn powers_of(form: Form, trees: &Trees<'_>) -> Strength
+fn powers_of(form: Form, trees: &SiblingsLeft<'_>) -> Strength
     ensures { pow result.left result.right ≡ form_powers form trees.now.trees 0 }
 {
     form_powers(form, trees)
 }
 
 // A part asks for a pair, by its form and powers.
-fn part_asks(own: Form, own_trees: &Trees<'_>, form: Form, parent: Strength, before: bool) -> bool
+fn part_asks(
+    own: Form,
+    own_trees: &SiblingsLeft<'_>,
+    form: Form,
+    parent: Strength,
+    before: bool,
+) -> bool
     ensures { result ≡ part_asks own own_trees.now.trees form (pow parent.left parent.right) before }
 {
     if is_field_form(own) && is_call_form(form) {
@@ -32,7 +38,7 @@ fn part_asks(own: Form, own_trees: &Trees<'_>, form: Form, parent: Strength, bef
 }
 
 // So does the first of the siblings.
-fn child_asks(left: &Trees<'_>, form: Form, parent: Strength, before: bool) -> bool
+fn child_asks(left: &SiblingsLeft<'_>, form: Form, parent: Strength, before: bool) -> bool
     ensures { result ≡ child_asks form (pow parent.left parent.right) before (first_of left.now.trees) }
 {
     if left.is_token() {
@@ -42,7 +48,7 @@ fn child_asks(left: &Trees<'_>, form: Form, parent: Strength, before: bool) -> b
     is_term_form(own) && part_asks(own, &left.inside(), form, parent, before)
 }
 
-fn still_before(left: &Trees<'_>, before: bool) -> bool
+fn still_before(left: &SiblingsLeft<'_>, before: bool) -> bool
     ensures { result ≡ still_before (first_of left.now.trees) before }
 {
     if left.is_token() {
@@ -52,7 +58,7 @@ fn still_before(left: &Trees<'_>, before: bool) -> bool
     }
 }
 
-fn asks_from(form: Form, parent: Strength, trees: &Trees<'_>) -> bool
+fn asks_from(form: Form, parent: Strength, trees: &SiblingsLeft<'_>) -> bool
     ensures { result ≡ asks_from form (pow parent.left parent.right) true trees.now.trees }
 {
     let mut before = true;
@@ -67,7 +73,7 @@ fn asks_from(form: Form, parent: Strength, trees: &Trees<'_>) -> bool
     false
 }
 
-fn parts_ask(form: Form, trees: &Trees<'_>) -> bool
+fn parts_ask(form: Form, trees: &SiblingsLeft<'_>) -> bool
     ensures { result ≡ parts_ask form trees.now.trees }
 {
     is_term_form(form) && asks_from(form, powers_of(form, trees), trees)

@@ -10,7 +10,7 @@ ghost use Rattle.operator_reads.specs.Take.{is_sign, is_what, take, is_end, firs
 ghost use Rattle.operator_reads.specs.declared.take.What.TheVariants as what;
 
 use crate::texts::text_fits;
-use lossless_tree::Trees;
+use lossless_tree::SiblingsLeft;
 use operator_trees::{Form, form_of};
 use syntax_kind::SyntaxKind;
 
@@ -153,7 +153,7 @@ fn form_is(wanted: What, form: Form) -> bool
     }
 }
 
-fn first_is(here: &Trees<'_>, wanted: What) -> bool
+fn first_is(here: &SiblingsLeft<'_>, wanted: What) -> bool
     requires { is_done here.now.trees ≡ false }
     ensures { result ≡ is_what wanted (first_meaning (first_of here.now.trees)) }
 {
@@ -165,7 +165,7 @@ fn first_is(here: &Trees<'_>, wanted: What) -> bool
 }
 
 /// What stands behind the first that is no trivia, if that is what is wanted.
-pub fn take<'t>(trees: &Trees<'t>, wanted: What) -> Option<Trees<'t>>
+pub fn take<'t>(trees: &SiblingsLeft<'t>, wanted: What) -> Option<SiblingsLeft<'t>>
     ensures { option_map (λ s. assumed s.trees) result ≡ take wanted (assumed trees.now.trees) }
 {
     let here = trees.without_trivia();
@@ -180,14 +180,14 @@ pub fn take<'t>(trees: &Trees<'t>, wanted: What) -> Option<Trees<'t>>
 }
 
 /// Whether nothing but trivia is left.
-pub fn is_end(trees: &Trees<'_>) -> bool
+pub fn is_end(trees: &SiblingsLeft<'_>) -> bool
     ensures { result ≡ is_end (Some (assumed trees.now.trees)) }
 {
     trees.without_trivia().is_done()
 }
 
 /// Whether just this is left, trivia aside.
-pub fn is_one(trees: &Trees<'_>, a: What) -> bool
+pub fn is_one(trees: &SiblingsLeft<'_>, a: What) -> bool
     ensures { result ≡ is_end (take a (assumed trees.now.trees)) }
 {
     match take(trees, a) {
@@ -197,7 +197,7 @@ pub fn is_one(trees: &Trees<'_>, a: What) -> bool
 }
 
 /// Whether just these two are left, in this order.
-pub fn is_two(trees: &Trees<'_>, a: What, b: What) -> bool
+pub fn is_two(trees: &SiblingsLeft<'_>, a: What, b: What) -> bool
     ensures { result ≡ is_end (option_and_then (take b) (take a (assumed trees.now.trees))) }
 {
     match take(trees, a) {
@@ -207,7 +207,7 @@ pub fn is_two(trees: &Trees<'_>, a: What, b: What) -> bool
 }
 
 /// Whether just these three are left, in this order.
-pub fn is_three(trees: &Trees<'_>, a: What, b: What, c: What) -> bool
+pub fn is_three(trees: &SiblingsLeft<'_>, a: What, b: What, c: What) -> bool
     ensures { result ≡ is_end (option_and_then (take c) (option_and_then (take b) (take a (assumed trees.now.trees)))) }
 {
     match take(trees, a) {
@@ -217,7 +217,7 @@ pub fn is_three(trees: &Trees<'_>, a: What, b: What, c: What) -> bool
 }
 
 /// Whether just these four are left, in this order.
-pub fn is_four(trees: &Trees<'_>, a: What, b: What, c: What, d: What) -> bool
+pub fn is_four(trees: &SiblingsLeft<'_>, a: What, b: What, c: What, d: What) -> bool
     ensures { result ≡ is_end (option_and_then (take d) (option_and_then (take c) (option_and_then (take b) (take a (assumed trees.now.trees))))) }
 {
     match take(trees, a) {

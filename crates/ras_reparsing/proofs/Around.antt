@@ -7,7 +7,7 @@ use Rattle.tree_model.specs.Tree.{Tree, node, token, text, Place, IsPlace}
 use Rattle.tree_model.specs.Cursor.{Cursor, focus, at_place, range_start, range_end, parent_of, ancestors_of, ancestors_from}
 use Rattle.tree_model.specs.Edit.{replace, root_of, splice, text_before, text_behind}
 use Rattle.tree_model.proofs.AncestorLemmas.{ancestors_of-step}
-use Rattle.tree_model.proofs.CoveringLaws.{covering_holds}
+use Rattle.tree_rows.proofs.CoveringLaws.{covering_holds}
 use Rattle.tree_model.proofs.EditLaws.{text_around, edited_inside}
 use Rattle.tree_model.proofs.EditLemmas.{length-splice}
 use Rattle.tree_model.proofs.PlaceLemmas.{places_are_reached}
