@@ -18,3 +18,6 @@ pub mod PatCases
 pub mod StmtCases
 pub mod TypeCases
 pub mod TypeOrConstParamCases
+pub mod ExprParts
+pub mod ExprShapes
+pub mod OperatorTexts

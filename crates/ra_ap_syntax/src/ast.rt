@@ -2,13 +2,16 @@
 
 mod expr_ext;
 mod node_ext;
+pub mod operators;
 mod raw;
 mod token_ext;
 mod traits;
 mod typed;
 mod views;
 
-pub use expr_ext::{CallableExpr, ElseBranch};
+pub use expr_ext::{
+    ArrayExprKind, BlockModifier, CallableExpr, ElseBranch, FieldKind, LiteralKind, RangeItem,
+};
 pub use views::adt::Adt;
 pub use views::any_attr::AnyAttr;
 pub use views::any_has_attrs::AnyHasAttrs;
@@ -46,6 +49,7 @@ pub use views::nodes::{
 };
 pub use node_ext::{Macro, NameLike, NameOrNameRef, Statements, TypeOrConstParam};
 pub(crate) use ras_node::support;
+pub use operators::{ArithOp, BinaryOp, CmpOp, LogicOp, Ordering, RangeOp, UnaryOp};
 pub use ras_node::{AstChildren, AstNode, AstToken, cast_ref};
 pub use token_ext::{AnyComment, AnyString};
 pub use traits::{
