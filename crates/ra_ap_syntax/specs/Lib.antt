@@ -21,3 +21,5 @@ pub mod TypeOrConstParamCases
 pub mod ExprParts
 pub mod ExprShapes
 pub mod OperatorTexts
+pub mod NodeParts
+pub mod NodeShapes

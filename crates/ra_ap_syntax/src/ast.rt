@@ -47,7 +47,11 @@ pub use views::nodes::{
     TypeBoundList, UseBoundGenericArgs, UseTree, UseTreeList, Variant, Visibility, VisibilityInner,
     WhereClause, WherePred,
 };
-pub use node_ext::{Macro, NameLike, NameOrNameRef, Statements, TypeOrConstParam};
+pub use node_ext::{
+    CfgAtomKey, LifetimeArgs, LifetimeParams, Macro, NameLike, NameOrNameRef, PathSegmentKind,
+    SelfParamKind, Statements, StructKind, TypeBoundKind, TypeOrConstParam, TypeOrConstParams,
+    VisibilityKind,
+};
 pub(crate) use ras_node::support;
 pub use operators::{ArithOp, BinaryOp, CmpOp, LogicOp, Ordering, RangeOp, UnaryOp};
 pub use ras_node::{AstChildren, AstNode, AstToken, cast_ref};

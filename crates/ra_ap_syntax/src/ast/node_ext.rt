@@ -10,12 +10,23 @@ ghost use Rattle.ra_ap_syntax.specs.NameLikeCases.{name_like_node, name_like_cas
 ghost use Rattle.ra_ap_syntax.specs.NameOrNameRefCases.{name_or_name_ref_node, name_or_name_ref_castable};
 ghost use Rattle.ra_ap_syntax.specs.TypeOrConstParamCases.{type_or_const_param_node, type_or_const_param_castable};
 
+mod attrs;
 mod block;
+mod items;
+mod names;
+mod paths;
+mod patterns;
+mod types;
+mod uses;
 
+pub use attrs::CfgAtomKey;
 use crate::ast::{self, AstNode, Typed};
 pub use block::Statements;
+pub use items::{SelfParamKind, StructKind, VisibilityKind};
+pub use paths::PathSegmentKind;
+pub use types::{LifetimeArgs, LifetimeParams, TypeBoundKind, TypeOrConstParams};
 use lossless_tree::{SyntaxKind, SyntaxNode};
-use ras_node::sets::{KindSet, Macros, NameLikes, NameOrNameRefs, TypeOrConstParams};
+use ras_node::sets::{self, KindSet, Macros, NameLikes, NameOrNameRefs};
 use std::fmt;
 
 /// A definition of a macro.
@@ -205,7 +216,7 @@ impl AstNode for TypeOrConstParam {
     ghost castable = { type_or_const_param_castable };
 
     fn can_cast(kind: SyntaxKind) -> bool {
-        TypeOrConstParams::has(kind)
+        sets::TypeOrConstParams::has(kind)
     }
 
     fn cast(syntax: SyntaxNode) -> Option<TypeOrConstParam> {
