@@ -10,7 +10,8 @@ mod typed;
 mod views;
 
 pub use expr_ext::{
-    ArrayExprKind, BlockModifier, CallableExpr, ElseBranch, FieldKind, LiteralKind, RangeItem,
+    ArgsMaybeEmpty, ArrayExprKind, BlockModifier, CallableExpr, ElseBranch, FieldKind, LiteralKind,
+    RangeItem,
 };
 pub use views::adt::Adt;
 pub use views::any_attr::AnyAttr;
@@ -48,12 +49,12 @@ pub use views::nodes::{
     WhereClause, WherePred,
 };
 pub use node_ext::{
-    CfgAtomKey, LifetimeArgs, LifetimeParams, Macro, NameLike, NameOrNameRef, PathSegmentKind,
-    SelfParamKind, Statements, StructKind, TypeBoundKind, TypeOrConstParam, TypeOrConstParams,
-    VisibilityKind,
+    CfgAtomKey, Commas, LifetimeArgs, LifetimeParams, Macro, NameLike, NameOrNameRef,
+    PathSegmentKind, Segments, SelfParamKind, Statements, StructKind, TypeBoundKind,
+    TypeOrConstParam, TypeOrConstParams, VisibilityKind,
 };
-pub(crate) use ras_node::support;
 pub use operators::{ArithOp, BinaryOp, CmpOp, LogicOp, Ordering, RangeOp, UnaryOp};
+pub(crate) use ras_node::support;
 pub use ras_node::{AstChildren, AstNode, AstToken, cast_ref};
 pub use token_ext::{AnyComment, AnyString};
 pub use traits::{

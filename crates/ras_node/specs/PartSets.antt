@@ -57,3 +57,27 @@ abbrev pub is_before_index : SyntaxKind → Bool
 is_before_index (Token token.INT_NUMBER) = false
 is_before_index (Token token.FLOAT_NUMBER) = false
 is_before_index _ = true
+
+-- paths, and their segments
+abbrev pub is_path : SyntaxKind → Bool
+is_path (Node kind.PATH) = true
+is_path _ = false
+
+abbrev pub is_path_segment : SyntaxKind → Bool
+is_path_segment (Node kind.PATH_SEGMENT) = true
+is_path_segment _ = false
+
+-- `!`
+abbrev pub is_bang : SyntaxKind → Bool
+is_bang (Token token.BANG) = true
+is_bang _ = false
+
+-- inner documentation comments
+abbrev pub is_inner_doc : SyntaxKind → Bool
+is_inner_doc (Token token.INNER_DOC_COMMENT) = true
+is_inner_doc _ = false
+
+-- `,`
+abbrev pub is_comma : SyntaxKind → Bool
+is_comma (Token token.COMMA) = true
+is_comma _ = false

@@ -7,8 +7,11 @@ mod holders;
 mod parts;
 
 pub use holders::{AttrHolders, GenericParamHolders};
-pub use parts::{BeforeIndex, BeforeLiteral, BinaryOperators, RangeOperators};
 use lossless_tree::SyntaxKind;
+pub use parts::{
+    Bangs, BeforeIndex, BeforeLiteral, BinaryOperators, CommaTokens, InnerDocs, PathSegments,
+    Paths, RangeOperators,
+};
 
 /// A set of kinds.
 pub trait KindSet {

@@ -19,15 +19,16 @@ mod patterns;
 mod types;
 mod uses;
 
-pub use attrs::CfgAtomKey;
 use crate::ast::{self, AstNode, Typed};
+pub use attrs::CfgAtomKey;
 pub use block::Statements;
 pub use items::{SelfParamKind, StructKind, VisibilityKind};
-pub use paths::PathSegmentKind;
-pub use types::{LifetimeArgs, LifetimeParams, TypeBoundKind, TypeOrConstParams};
 use lossless_tree::{SyntaxKind, SyntaxNode};
+pub use paths::{PathSegmentKind, Segments};
 use ras_node::sets::{self, KindSet, Macros, NameLikes, NameOrNameRefs};
 use std::fmt;
+pub use types::{LifetimeArgs, LifetimeParams, TypeBoundKind, TypeOrConstParams};
+pub use uses::Commas;
 
 /// A definition of a macro.
 #[derive(Clone, PartialEq, Eq, Drop)]

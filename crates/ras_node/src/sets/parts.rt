@@ -1,5 +1,5 @@
 //! Sets of kinds that no enum has: operators, and what stands before a part that is looked for.
-ghost use Rattle.ras_node.specs.PartSets.{is_range_operator, is_binary_operator, is_before_literal, is_before_index};
+ghost use Rattle.ras_node.specs.PartSets.{is_range_operator, is_binary_operator, is_before_literal, is_before_index, is_path, is_path_segment, is_bang, is_inner_doc, is_comma};
 
 use crate::sets::KindSet;
 use lossless_tree::SyntaxKind;
@@ -82,5 +82,60 @@ impl KindSet for BeforeIndex {
 
     fn has(kind: SyntaxKind) -> bool {
         !matches!(kind, SyntaxKind::INT_NUMBER | SyntaxKind::FLOAT_NUMBER)
+    }
+}
+
+/// The kind of paths.
+pub enum Paths {}
+
+impl KindSet for Paths {
+    ghost kinds = { is_path };
+
+    fn has(kind: SyntaxKind) -> bool {
+        matches!(kind, SyntaxKind::PATH)
+    }
+}
+
+/// The kind of the segments of paths.
+pub enum PathSegments {}
+
+impl KindSet for PathSegments {
+    ghost kinds = { is_path_segment };
+
+    fn has(kind: SyntaxKind) -> bool {
+        matches!(kind, SyntaxKind::PATH_SEGMENT)
+    }
+}
+
+/// The kind of `!`.
+pub enum Bangs {}
+
+impl KindSet for Bangs {
+    ghost kinds = { is_bang };
+
+    fn has(kind: SyntaxKind) -> bool {
+        matches!(kind, SyntaxKind::BANG)
+    }
+}
+
+/// The kind of inner documentation comments.
+pub enum InnerDocs {}
+
+impl KindSet for InnerDocs {
+    ghost kinds = { is_inner_doc };
+
+    fn has(kind: SyntaxKind) -> bool {
+        matches!(kind, SyntaxKind::INNER_DOC_COMMENT)
+    }
+}
+
+/// The kind of `,`.
+pub enum CommaTokens {}
+
+impl KindSet for CommaTokens {
+    ghost kinds = { is_comma };
+
+    fn has(kind: SyntaxKind) -> bool {
+        matches!(kind, SyntaxKind::COMMA)
     }
 }

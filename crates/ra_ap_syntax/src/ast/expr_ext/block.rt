@@ -87,7 +87,6 @@ impl ast::BlockExpr {
     }
 }
 
-
 // It is the first expression there, or there is none.
 fn is_first_expr(block: &SyntaxNode, parent: &SyntaxNode) -> bool
     ensures { result ≡ option_map_or (λ e. is_same_cursor e block.now) (typed_child ⟦<ast::Expr as AstNode>⟧.casts parent.now) true }

@@ -50,4 +50,3 @@ impl ast::Literal {
         }
     }
 }
-

@@ -1,6 +1,7 @@
 //! Paths and their segments.
-ghost use Rattle.std.specs.Prelude.{◌≡◌, option_map};
-ghost use Rattle.tree_model.specs.Cursor.{parent_of};
+ghost use Rattle.std.specs.Prelude.{◌≡◌, option_map, drop};
+ghost use Rattle.tree_model.specs.Cursor.{parent_of, ancestors_of};
+ghost use Rattle.ras_path.specs.Path.{AreSegments, IsFirstQualifier, IsQualifierEnd, IsFirstSegment, top_from};
 ghost use Rattle.ras_node.specs.Lookups.{IsViewOf, view_in};
 ghost use Rattle.ra_ap_syntax.specs.NodeParts.{single_segment, single_name, name_token, qualifying_trait};
 ghost use Rattle.ra_ap_syntax.specs.NodeShapes.{segment_shape, segment_kind, name_by_kind, anchored};
@@ -10,7 +11,45 @@ ghost use Rattle.ra_ap_syntax.specs.NodeParts.{first_token_kind};
 use crate::ast::{self, AstNode, support};
 use lossless_tree::{SyntaxKind, SyntaxNode, SyntaxToken};
 
+/// The segments of a path, in order.
+pub type Segments = ras_path::Segments<ast::Path, ast::PathSegment>;
+
 impl ast::Path {
+    /// The segments, from that of the deepest qualifier outwards to this path's own. A path without a segment ends them.
+    pub fn segments(&self) -> Segments
+        ensures { AreSegments ⟦<ast::Path as AstNode>⟧.casts ⟦<ast::PathSegment as AstNode>⟧.casts self.now.syntax result }
+    {
+        Segments::new(support::copy(self))
+    }
+
+    /// The end of the chain of qualifiers: `a` of `a::b::c`. `None` where the path has no qualifier. It takes time in their number.
+    pub fn first_qualifier(&self) -> Option<ast::Path>
+        ensures { IsQualifierEnd ⟦<ast::Path as AstNode>⟧.casts self.now.syntax (option_map (λ it. it.syntax) result) }
+    {
+        ras_path::first_qualifier(self)
+    }
+
+    /// The end of the chain of qualifiers; this path where it has none. It takes time in their number.
+    pub fn first_qualifier_or_self(&self) -> ast::Path
+        ensures { IsFirstQualifier ⟦<ast::Path as AstNode>⟧.casts self.now.syntax result.syntax }
+    {
+        ras_path::first_qualifier_or_self(support::copy(self))
+    }
+
+    /// The segment at the end of the chain of qualifiers, if that path has one: `a` of `a::b::c`.
+    pub fn first_segment(&self) -> Option<ast::PathSegment>
+        ensures { IsFirstSegment ⟦<ast::Path as AstNode>⟧.casts ⟦<ast::PathSegment as AstNode>⟧.casts self.now.syntax (option_map (λ it. it.syntax) result) }
+    {
+        self.first_qualifier_or_self().segment()
+    }
+
+    /// The outermost of the paths that it is a qualifier in; this path where it is none's. It takes time in their number.
+    pub fn top_path(&self) -> ast::Path
+        ensures { result.syntax ≡ top_from ⟦<ast::Path as AstNode>⟧.casts self.now.syntax (drop 1 (ancestors_of self.now.syntax)) }
+    {
+        ras_path::top_path(support::copy(self))
+    }
+
     /// The path that it is the qualifier of: the parent, if that is a path.
     pub fn parent_path(&self) -> Option<ast::Path>
         ensures { IsViewOf ⟦<ast::Path as AstNode>⟧ (view_in ⟦<ast::Path as AstNode>⟧.casts (parent_of self.now.syntax)) result }

@@ -88,10 +88,7 @@ impl ast::RecordPatField {
     pub fn for_field_name_ref(field_name: &ast::NameRef) -> Option<ast::RecordPatField>
         ensures { IsViewOf ⟦<ast::RecordPatField as AstNode>⟧ (option_and_then (if_its_part_is field_name.now.syntax (pat_field_name ⟦<ast::NameRef as AstNode>⟧.casts ⟦<ast::Name as AstNode>⟧.casts ⟦<ast::Pat as AstNode>⟧.casts)) (view_in ⟦<ast::RecordPatField as AstNode>⟧.casts (parent_of field_name.now.syntax))) result }
     {
-        if_named(
-            support::parent_as(&field_name.syntax),
-            &field_name.syntax,
-        )
+        if_named(support::parent_as(&field_name.syntax), &field_name.syntax)
     }
 
     /// The field that is the parent of a name's pattern, if the name is the field's.

@@ -2,13 +2,23 @@
 ghost use Rattle.std.specs.Prelude.{◌≡◌, option_map};
 ghost use Rattle.std.specs.Option.{option_map_or};
 ghost use Rattle.std.specs.Prelude.{false};
-ghost use Rattle.tree_model.specs.Cursor.{parent_of};
+ghost use Rattle.tree_model.specs.Cursor.{parent_of, ancestors_of, children_of};
+ghost use Rattle.std.specs.Prelude.{drop, map};
+ghost use Rattle.lossless_tree.specs.Element.{element_of};
+ghost use Rattle.ras_node.specs.PartSets.{is_comma};
+ghost use Rattle.ras_node.specs.Searches.{tokens_among};
+ghost use Rattle.ras_path.specs.Path.{top_tree_from};
 ghost use Rattle.ras_node.specs.Lookups.{IsViewOf, view_in};
 ghost use Rattle.ras_node.specs.Nodes.{typed_child};
 ghost use Rattle.ra_ap_syntax.specs.NodeParts.{is_glob, is_simple_path, has_token};
 
 use crate::ast::{self, AstNode, support};
 use lossless_tree::SyntaxKind;
+use ras_node::TokenChildren;
+use ras_node::sets::CommaTokens;
+
+/// The commas in a list, in order.
+pub type Commas = TokenChildren<CommaTokens>;
 
 // It has a `*`, and no list.
 fn is_glob(tree: &ast::UseTree) -> bool
@@ -43,6 +53,14 @@ impl ast::UseTree {
         self.star_token().is_none()
     }
 
+    /// The outermost of the use trees around it, going up by lists while there are such; this tree where it stands in no list of a
+    /// tree. It takes time in their number.
+    pub fn top_use_tree(&self) -> ast::UseTree
+        ensures { result.syntax ≡ top_tree_from ⟦<ast::UseTreeList as AstNode>⟧.casts ⟦<ast::UseTree as AstNode>⟧.casts self.now.syntax (drop 1 (ancestors_of self.now.syntax)) }
+    {
+        ras_path::top_use_tree::<ast::UseTreeList, ast::UseTree>(support::copy(self))
+    }
+
     /// The list that it stands in: the parent, if that is one.
     pub fn parent_use_tree_list(&self) -> Option<ast::UseTreeList>
         ensures { IsViewOf ⟦<ast::UseTreeList as AstNode>⟧ (view_in ⟦<ast::UseTreeList as AstNode>⟧.casts (parent_of self.now.syntax)) result }
@@ -57,6 +75,13 @@ impl ast::UseTreeList {
         ensures { IsViewOf ⟦<ast::UseTree as AstNode>⟧ (view_in ⟦<ast::UseTree as AstNode>⟧.casts (parent_of self.now.syntax)) result }
     {
         support::parent_as(&self.syntax)
+    }
+
+    /// The commas among the children, in order.
+    pub fn comma(&self) -> Commas
+        ensures { result ≡ tokens_among is_comma (map element_of (children_of self.now.syntax)) }
+    {
+        Commas::new(&self.syntax)
     }
 
     /// Whether a comment is a child.
