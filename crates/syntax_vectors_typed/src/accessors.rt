@@ -17,8 +17,8 @@ pub fn view<N: AstNode>(rt: &HostRuntime, words: &'static str) -> Result<N, Fail
     Ok(N::cast(root(rt, words)?).ok_or("the root is of another kind")?)
 }
 
-// The first node below the root that is an `N`.
-pub fn inner<N: AstNode>(rt: &HostRuntime, words: &'static str) -> Result<N, Fail> {
+// The last node of the tree, in preorder, that is an `N`.
+pub fn inner<N: AstNode + Drop>(rt: &HostRuntime, words: &'static str) -> Result<N, Fail> {
     let mut found = None;
     for node in root(rt, words)?.descendants() {
         if N::can_cast(node.kind()) {
