@@ -18,3 +18,8 @@ pub mod PatCases
 pub mod StmtCases
 pub mod TypeCases
 pub mod TypeOrConstParamCases
+pub mod ExprParts
+pub mod ExprShapes
+pub mod OperatorTexts
+pub mod NodeParts
+pub mod NodeShapes

@@ -2,13 +2,17 @@
 
 mod expr_ext;
 mod node_ext;
+pub mod operators;
 mod raw;
 mod token_ext;
 mod traits;
 mod typed;
 mod views;
 
-pub use expr_ext::{CallableExpr, ElseBranch};
+pub use expr_ext::{
+    ArgsMaybeEmpty, ArrayExprKind, BlockModifier, CallableExpr, ElseBranch, FieldKind, LiteralKind,
+    RangeItem,
+};
 pub use views::adt::Adt;
 pub use views::any_attr::AnyAttr;
 pub use views::any_has_attrs::AnyHasAttrs;
@@ -44,7 +48,12 @@ pub use views::nodes::{
     TypeBoundList, UseBoundGenericArgs, UseTree, UseTreeList, Variant, Visibility, VisibilityInner,
     WhereClause, WherePred,
 };
-pub use node_ext::{Macro, NameLike, NameOrNameRef, Statements, TypeOrConstParam};
+pub use node_ext::{
+    CfgAtomKey, Commas, LifetimeArgs, LifetimeParams, Macro, NameLike, NameOrNameRef,
+    PathSegmentKind, Segments, SelfParamKind, Statements, StructKind, TypeBoundKind,
+    TypeOrConstParam, TypeOrConstParams, VisibilityKind,
+};
+pub use operators::{ArithOp, BinaryOp, CmpOp, LogicOp, Ordering, RangeOp, UnaryOp};
 pub(crate) use ras_node::support;
 pub use ras_node::{AstChildren, AstNode, AstToken, cast_ref};
 pub use token_ext::{AnyComment, AnyString};

@@ -4,3 +4,4 @@ pub mod Lookups
 pub mod Nodes
 pub mod Searches
 pub mod Sets
+pub mod PartSets

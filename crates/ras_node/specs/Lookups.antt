@@ -7,7 +7,7 @@ use Rattle.syntax_kind.specs.Kinds.{is_same_kind}
 use Rattle.syntax_kind.specs.declared.syntax_kind.SyntaxKind.{SyntaxKind}
 use Rattle.syntax_kind.specs.declared.syntax_kind.SyntaxKind.TheVariants.{Node}
 use Rattle.syntax_kind.specs.declared.syntax_kind.node_kind.NodeKind.TheVariants.{LOOP_EXPR}
-use Rattle.tree_model.specs.Cursor.{Cursor}
+use Rattle.tree_model.specs.Cursor.{Cursor, parent_of}
 use Rattle.ras_node.specs.declared.node.AstNode.{Ghosts}
 use Rattle.ras_node.specs.Nodes.{kind_at, typed_child, typed_children}
 
@@ -41,3 +41,7 @@ if_of kinds c = if kinds (kind_at c) then Some c else None
 
 abbrev pub view_in : (SyntaxKind → Bool) → Option Cursor → Option Cursor
 view_in kinds o = option_and_then (if_of kinds) o
+
+-- the parent's parent
+abbrev pub grandparent_of : Cursor → Option Cursor
+grandparent_of c = option_and_then parent_of (parent_of c)

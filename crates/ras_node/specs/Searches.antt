@@ -1,5 +1,5 @@
 -- The children of a node by their kinds, as cursors.
-use Rattle.std.specs.Prelude.{Bool, false, not, ◌&&◌, List, [], ◌∷◌, Option, if◌then◌else◌}
+use Rattle.std.specs.Prelude.{Bool, false, not, ◌&&◌, List, [], ◌∷◌, Option, Some, None, if◌then◌else◌}
 use Rattle.std.specs.List.{filter, find}
 use Rattle.lossless_tree.specs.declared.cursor.element.NodeOrToken.{NodeOrToken}
 use Rattle.lossless_tree.specs.declared.cursor.element.NodeOrToken.TheVariants.{Node, Token}
@@ -44,3 +44,16 @@ behind kinds (c ∷ l) = if is_token_in kinds c then l else behind kinds l
 abbrev pub before : (SyntaxKind → Bool) → List Cursor → List Cursor
 before kinds [] = []
 before kinds (c ∷ l) = if is_token_in kinds c then [] else c ∷ before kinds l
+
+-- the token, if an element is one with a kind of the set; and all of these, in order
+abbrev pub token_among : (SyntaxKind → Bool) → NodeOrToken Cursor Cursor → Option Cursor
+token_among kinds (Node c) = None
+token_among kinds (Token c) = if kinds (kind_at c) then Some c else None
+
+abbrev pub with_first : Option Cursor → List Cursor → List Cursor
+with_first None l = l
+with_first (Some c) l = c ∷ l
+
+abbrev pub tokens_among : (SyntaxKind → Bool) → List (NodeOrToken Cursor Cursor) → List Cursor
+tokens_among kinds [] = []
+tokens_among kinds (e ∷ l) = with_first (token_among kinds e) (tokens_among kinds l)

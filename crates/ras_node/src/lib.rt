@@ -9,9 +9,11 @@ pub mod search;
 pub mod sets;
 pub mod support;
 pub mod token;
+pub mod token_children;
 
 pub use children::AstChildren;
 pub use node::{AstNode, cast_ref};
 pub use search::{behind, first_node, first_node_before, first_other, first_token};
 pub use sets::KindSet;
 pub use token::AstToken;
+pub use token_children::TokenChildren;

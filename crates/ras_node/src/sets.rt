@@ -4,9 +4,14 @@ ghost use Rattle.syntax_kind.specs.declared.syntax_kind.SyntaxKind.{SyntaxKind};
 ghost use Rattle.ras_node.specs.Sets.{is_adt, is_any_attr, is_any_comment, is_any_string, is_assoc_item, is_callable_expr, is_else_branch, is_expr, is_extern_item, is_generic_arg, is_generic_param, is_item, is_macro, is_meta, is_name_like, is_name_or_name_ref, is_pat, is_stmt, is_ty, is_type_or_const_param};
 
 mod holders;
+mod parts;
 
 pub use holders::{AttrHolders, GenericParamHolders};
 use lossless_tree::SyntaxKind;
+pub use parts::{
+    Bangs, BeforeIndex, BeforeLiteral, BinaryOperators, CommaTokens, InnerDocs, PathSegments,
+    Paths, RangeOperators,
+};
 
 /// A set of kinds.
 pub trait KindSet {

@@ -2,7 +2,7 @@
 ghost use Rattle.std.specs.Prelude.{◌≡◌, drop, option_map};
 ghost use Rattle.std.specs.List.{find, slice_get};
 ghost use Rattle.syntax_kind.specs.declared.syntax_kind.SyntaxKind.{SyntaxKind};
-ghost use Rattle.ras_node.specs.Lookups.{second_typed_child, view_in};
+ghost use Rattle.ras_node.specs.Lookups.{second_typed_child, view_in, grandparent_of};
 ghost use Rattle.ras_node.specs.Searches.{first_node, before};
 ghost use Rattle.tree_model.specs.Cursor.{ancestors_of, parent_of};
 ghost use Rattle.ras_node.specs.Nodes.{has_kind_in, typed_children, typed_child, token_child, is_token_of};
@@ -137,6 +137,13 @@ pub fn parent_as<N: AstNode>(node: &SyntaxNode) -> Option<N>
     ensures { option_map N.node result ≡ view_in N.casts (parent_of node.now) }
 {
     view(node.parent())
+}
+
+/// The parent's parent, viewed as an `N`; `None` where there is none, and where it can't be viewed so.
+pub fn grandparent_as<N: AstNode>(node: &SyntaxNode) -> Option<N>
+    ensures { option_map N.node result ≡ view_in N.casts (grandparent_of node.now) }
+{
+    view(node.parent()?.parent())
 }
 
 /// The nearest node above a node that can be viewed as an `N`; `None` where there is none.

@@ -2,6 +2,8 @@
 #![tactic(auto)]
 
 #[cfg(test)]
+mod accessors;
+#[cfg(test)]
 mod algo;
 #[cfg(test)]
 mod casts;

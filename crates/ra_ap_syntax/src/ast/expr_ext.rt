@@ -7,8 +7,22 @@ ghost use Rattle.ras_node.specs.Sets.{is_callable_expr, is_else_branch};
 ghost use Rattle.ra_ap_syntax.specs.ElseBranchCases.{else_branch_node, else_branch_castable};
 ghost use Rattle.ra_ap_syntax.specs.CallableExprCases.{callable_expr_node, callable_expr_castable};
 
+mod args;
+mod array;
+mod block;
+mod branches;
+mod field;
+mod literal;
+mod operands;
+
 use crate::ast::{self, AstNode, Typed};
+pub use args::ArgsMaybeEmpty;
+pub use array::ArrayExprKind;
+pub use block::BlockModifier;
+pub use field::FieldKind;
+pub use literal::LiteralKind;
 use lossless_tree::{SyntaxKind, SyntaxNode};
+pub use operands::RangeItem;
 use ras_node::sets::{CallableExprs, ElseBranches, KindSet};
 use std::fmt;
 use std::hash::Hash;

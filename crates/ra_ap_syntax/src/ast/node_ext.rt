@@ -10,13 +10,25 @@ ghost use Rattle.ra_ap_syntax.specs.NameLikeCases.{name_like_node, name_like_cas
 ghost use Rattle.ra_ap_syntax.specs.NameOrNameRefCases.{name_or_name_ref_node, name_or_name_ref_castable};
 ghost use Rattle.ra_ap_syntax.specs.TypeOrConstParamCases.{type_or_const_param_node, type_or_const_param_castable};
 
+mod attrs;
 mod block;
+mod items;
+mod names;
+mod paths;
+mod patterns;
+mod types;
+mod uses;
 
 use crate::ast::{self, AstNode, Typed};
+pub use attrs::CfgAtomKey;
 pub use block::Statements;
+pub use items::{SelfParamKind, StructKind, VisibilityKind};
 use lossless_tree::{SyntaxKind, SyntaxNode};
-use ras_node::sets::{KindSet, Macros, NameLikes, NameOrNameRefs, TypeOrConstParams};
+pub use paths::{PathSegmentKind, Segments};
+use ras_node::sets::{self, KindSet, Macros, NameLikes, NameOrNameRefs};
 use std::fmt;
+pub use types::{LifetimeArgs, LifetimeParams, TypeBoundKind, TypeOrConstParams};
+pub use uses::Commas;
 
 /// A definition of a macro.
 #[derive(Clone, PartialEq, Eq, Drop)]
@@ -205,7 +217,7 @@ impl AstNode for TypeOrConstParam {
     ghost castable = { type_or_const_param_castable };
 
     fn can_cast(kind: SyntaxKind) -> bool {
-        TypeOrConstParams::has(kind)
+        sets::TypeOrConstParams::has(kind)
     }
 
     fn cast(syntax: SyntaxNode) -> Option<TypeOrConstParam> {

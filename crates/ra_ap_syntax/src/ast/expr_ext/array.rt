@@ -1,0 +1,49 @@
+//! Arrays, and places in them.
+ghost use Rattle.std.specs.Prelude.{◌≡◌};
+ghost use Rattle.ras_node.specs.Lookups.{IsFirstChild, IsViewOf, second_typed_child};
+ghost use Rattle.ra_ap_syntax.specs.ExprShapes.{array_shape, array_kind};
+
+use crate::ast::{self, AstChildren, AstNode, support};
+
+/// How an array is written.
+#[derive(Clone, Drop)]
+pub enum ArrayExprKind {
+    /// `[initializer; repeat]`
+    Repeat {
+        initializer: Option<ast::Expr>,
+        repeat: Option<ast::Expr>,
+    },
+    /// `[a, b, c]`
+    ElementList(AstChildren<ast::Expr>),
+}
+
+impl ast::ArrayExpr {
+    /// One value with a number, the first and the second expression, where a `;` is a child; else the list of the expressions.
+    pub fn kind(&self) -> ArrayExprKind
+        ensures { array_shape result ≡ array_kind ⟦<ast::Expr as AstNode>⟧.casts self.now.syntax }
+    {
+        if self.semicolon_token().is_some() {
+            return ArrayExprKind::Repeat {
+                initializer: support::child(&self.syntax),
+                repeat: support::second_child(&self.syntax),
+            };
+        }
+        ArrayExprKind::ElementList(support::children(&self.syntax))
+    }
+}
+
+impl ast::IndexExpr {
+    /// What has the places: the first expression, if there is one.
+    pub fn base(&self) -> Option<ast::Expr>
+        ensures { IsFirstChild ⟦<ast::Expr as AstNode>⟧ self.now.syntax result }
+    {
+        support::child(&self.syntax)
+    }
+
+    /// The place: the second expression, if there is one.
+    pub fn index(&self) -> Option<ast::Expr>
+        ensures { IsViewOf ⟦<ast::Expr as AstNode>⟧ (second_typed_child ⟦<ast::Expr as AstNode>⟧.casts self.now.syntax) result }
+    {
+        support::second_child(&self.syntax)
+    }
+}

@@ -1,0 +1,87 @@
+//! Conditions, branches and arms.
+ghost use Rattle.std.specs.Prelude.{◌≡◌, option_map};
+ghost use Rattle.ras_node.specs.Lookups.{IsViewOf, grandparent_of, view_in};
+ghost use Rattle.ras_node.specs.Nodes.{kind_at};
+ghost use Rattle.ra_ap_syntax.specs.ExprCases.{expr_node};
+ghost use Rattle.ra_ap_syntax.specs.ExprParts.{unless_lone_block, second_as, third_as, is_block_like};
+
+use crate::ast::{self, AstNode, ElseBranch, support};
+use lossless_tree::{SyntaxKind, SyntaxNode};
+
+// The first child that can be viewed as an `N`; where it is a block, only if there is another one.
+fn unless_lone_block<N: AstNode + Drop>(parent: &SyntaxNode) -> Option<N>
+    ensures { option_map N.node result ≡ unless_lone_block N.casts parent.now }
+{
+    let first = support::child::<N>(parent)?;
+    if first.syntax().kind() == SyntaxKind::BLOCK_EXPR {
+        let _second = support::second_child::<N>(parent)?;
+    }
+    Some(first)
+}
+
+impl ast::Expr {
+    /// Whether it ends in a block, as an `if`, a loop, a block or a `match` does: as a statement it needs no `;`.
+    pub fn is_block_like(&self) -> bool
+        ensures { result ≡ is_block_like (kind_at (expr_node self.now)) }
+    {
+        matches!(
+            self.syntax().kind(),
+            SyntaxKind::IF_EXPR
+                | SyntaxKind::LOOP_EXPR
+                | SyntaxKind::FOR_EXPR
+                | SyntaxKind::WHILE_EXPR
+                | SyntaxKind::BLOCK_EXPR
+                | SyntaxKind::MATCH_EXPR
+        )
+    }
+}
+
+impl ast::IfExpr {
+    /// The first expression; where that is a block, only if there is another one.
+    pub fn condition(&self) -> Option<ast::Expr>
+        ensures { IsViewOf ⟦<ast::Expr as AstNode>⟧ (unless_lone_block ⟦<ast::Expr as AstNode>⟧.casts self.now.syntax) result }
+    {
+        unless_lone_block(&self.syntax)
+    }
+
+    /// The second expression, if it is a block.
+    pub fn then_branch(&self) -> Option<ast::BlockExpr>
+        ensures { IsViewOf ⟦<ast::BlockExpr as AstNode>⟧ (second_as ⟦<ast::Expr as AstNode>⟧.casts ⟦<ast::BlockExpr as AstNode>⟧.casts self.now.syntax) result }
+    {
+        support::recast(support::second_child::<ast::Expr>(&self.syntax))
+    }
+
+    /// The third expression, if it is a block or an `if`.
+    pub fn else_branch(&self) -> Option<ElseBranch>
+        ensures { IsViewOf ⟦<ElseBranch as AstNode>⟧ (third_as ⟦<ast::Expr as AstNode>⟧.casts ⟦<ElseBranch as AstNode>⟧.casts self.now.syntax) result }
+    {
+        support::recast(support::third_child::<ast::Expr>(&self.syntax))
+    }
+}
+
+impl ast::WhileExpr {
+    /// The first expression; where that is a block, only if there is another one.
+    pub fn condition(&self) -> Option<ast::Expr>
+        ensures { IsViewOf ⟦<ast::Expr as AstNode>⟧ (unless_lone_block ⟦<ast::Expr as AstNode>⟧.casts self.now.syntax) result }
+    {
+        unless_lone_block(&self.syntax)
+    }
+}
+
+impl ast::ForExpr {
+    /// What the loop goes over: the first expression; where that is a block, only if there is another one.
+    pub fn iterable(&self) -> Option<ast::Expr>
+        ensures { IsViewOf ⟦<ast::Expr as AstNode>⟧ (unless_lone_block ⟦<ast::Expr as AstNode>⟧.casts self.now.syntax) result }
+    {
+        unless_lone_block(&self.syntax)
+    }
+}
+
+impl ast::MatchArm {
+    /// The `match` that it is an arm of: the parent's parent, if that is one.
+    pub fn parent_match(&self) -> Option<ast::MatchExpr>
+        ensures { IsViewOf ⟦<ast::MatchExpr as AstNode>⟧ (view_in ⟦<ast::MatchExpr as AstNode>⟧.casts (grandparent_of self.now.syntax)) result }
+    {
+        support::grandparent_as(&self.syntax)
+    }
+}

@@ -1,0 +1,95 @@
+//! Fields, where they are read and where a record is made.
+ghost use Rattle.std.specs.Prelude.{◌≡◌, option_map, drop};
+ghost use Rattle.std.specs.List.{find};
+ghost use Rattle.std.specs.Option.{option_and_then};
+ghost use Rattle.tree_model.specs.Cursor.{ancestors_of};
+ghost use Rattle.ras_node.specs.Lookups.{IsViewOf};
+ghost use Rattle.ras_node.specs.Nodes.{has_kind_in};
+ghost use Rattle.ra_ap_syntax.specs.ExprParts.{index_token, record_field_name, record_field_around, if_part_is, shorthand_name};
+ghost use Rattle.ra_ap_syntax.specs.ExprShapes.{field_shape, field_access};
+
+use crate::ast::{self, AstNode, support};
+use lossless_tree::SyntaxToken;
+use ras_node::sets::BeforeIndex;
+
+/// How a field is named.
+#[derive(Clone, PartialEq, Eq, Drop)]
+pub enum FieldKind {
+    /// `a.f`
+    Name(ast::NameRef),
+    /// `a.0`
+    Index(SyntaxToken),
+}
+
+impl ast::FieldExpr {
+    /// The first child of a number's kind, if it is a token: the field's number.
+    pub fn index_token(&self) -> Option<SyntaxToken>
+        ensures { result ≡ index_token self.now.syntax }
+    {
+        ras_node::first_other::<BeforeIndex>(self.syntax.children_with_tokens())?.into_token()
+    }
+
+    /// The field's name, or else its number; `None` where it has neither.
+    pub fn field_access(&self) -> Option<FieldKind>
+        ensures { option_map field_shape result ≡ field_access ⟦<ast::NameRef as AstNode>⟧.casts self.now.syntax }
+    {
+        if let Some(name) = self.name_ref() {
+            return Some(FieldKind::Name(name));
+        }
+        Some(FieldKind::Index(self.index_token()?))
+    }
+}
+
+// The name of a path that is one name alone.
+fn shorthand_name(path: &ast::Path) -> Option<ast::NameRef>
+    ensures { IsViewOf ⟦<ast::NameRef as AstNode>⟧ (shorthand_name ⟦<ast::Path as AstNode>⟧.casts ⟦<ast::PathSegment as AstNode>⟧.casts ⟦<ast::NameRef as AstNode>⟧.casts path.now.syntax) result }
+{
+    if path.qualifier().is_some() {
+        return None;
+    }
+    path.segment()?.name_ref()
+}
+
+impl ast::RecordExprField {
+    /// The field's name: its own, or that of the path of one name that stands for the field and its value, as in `S { x }`.
+    pub fn field_name(&self) -> Option<ast::NameRef>
+        ensures { IsViewOf ⟦<ast::NameRef as AstNode>⟧ (record_field_name ⟦<ast::Expr as AstNode>⟧.casts ⟦<ast::PathExpr as AstNode>⟧.casts ⟦<ast::Path as AstNode>⟧.casts ⟦<ast::PathSegment as AstNode>⟧.casts ⟦<ast::NameRef as AstNode>⟧.casts self.now.syntax) result }
+    {
+        if let Some(name) = self.name_ref() {
+            return Some(name);
+        }
+        let value = support::recast::<ast::Expr, ast::PathExpr>(self.expr())?;
+        shorthand_name(&value.path()?)
+    }
+
+    /// The field around a name: the name's parent, or else the fourth node above it, if that is one.
+    pub fn for_name_ref(name_ref: &ast::NameRef) -> Option<ast::RecordExprField>
+        ensures { IsViewOf ⟦<ast::RecordExprField as AstNode>⟧ (record_field_around ⟦<ast::RecordExprField as AstNode>⟧.casts name_ref.now.syntax) result }
+    {
+        if let Some(field) = support::parent_as(&name_ref.syntax) {
+            return Some(field);
+        }
+        let above = name_ref.syntax.parent()?.parent()?;
+        support::grandparent_as(&above)
+    }
+
+    /// The field around a name, if the name is the field's.
+    pub fn for_field_name(field_name: &ast::NameRef) -> Option<ast::RecordExprField>
+        ensures { IsViewOf ⟦<ast::RecordExprField as AstNode>⟧ (option_and_then (if_part_is field_name.now.syntax (record_field_name ⟦<ast::Expr as AstNode>⟧.casts ⟦<ast::PathExpr as AstNode>⟧.casts ⟦<ast::Path as AstNode>⟧.casts ⟦<ast::PathSegment as AstNode>⟧.casts ⟦<ast::NameRef as AstNode>⟧.casts)) (record_field_around ⟦<ast::RecordExprField as AstNode>⟧.casts field_name.now.syntax)) result }
+    {
+        let field = ast::RecordExprField::for_name_ref(field_name)?;
+        let name = field.field_name()?;
+        if name.syntax == field_name.syntax {
+            Some(field)
+        } else {
+            None
+        }
+    }
+
+    /// The record that it is a field of: the nearest record expression above it.
+    pub fn parent_record_lit(&self) -> Option<ast::RecordExpr>
+        ensures { IsViewOf ⟦<ast::RecordExpr as AstNode>⟧ (find (has_kind_in ⟦<ast::RecordExpr as AstNode>⟧.casts) (drop 1 (ancestors_of self.now.syntax))) result }
+    {
+        support::ancestor_as(&self.syntax)
+    }
+}

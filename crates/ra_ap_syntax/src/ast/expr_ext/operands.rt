@@ -1,0 +1,174 @@
+//! Operators and their operands.
+ghost use Rattle.std.specs.Prelude.{◌≡◌, option_map, is_some, not};
+ghost use Rattle.std.specs.Option.{option_and_then};
+ghost use Rattle.ras_node.specs.Lookups.{IsFirstChild, IsViewOf, second_typed_child};
+ghost use Rattle.ras_node.specs.Nodes.{kind_at, typed_child};
+ghost use Rattle.ra_ap_syntax.specs.OperatorTexts.{unary_op, range_op, binary_op};
+ghost use Rattle.ra_ap_syntax.specs.ExprParts.{first_child_token, binary_operator, range_operator, range_start_of, range_end_of, bound_before};
+ghost use Rattle.ra_ap_syntax.specs.ExprCases.{expr_node};
+
+use crate::ast::operators::{BinaryOp, RangeOp, UnaryOp, binary_op, range_op, unary_op};
+use crate::ast::{self, AstNode, support};
+use lossless_tree::{SyntaxNode, SyntaxToken};
+use ras_node::sets::{BinaryOperators, RangeOperators};
+
+impl ast::PrefixExpr {
+    /// The first child, if it is a token: the operator.
+    pub fn op_token(&self) -> Option<SyntaxToken>
+        ensures { result ≡ first_child_token self.now.syntax }
+    {
+        self.syntax.first_child_or_token()?.into_token()
+    }
+
+    /// What that token is; `None` where it is no prefix operator.
+    pub fn op_kind(&self) -> Option<UnaryOp>
+        ensures { result ≡ option_and_then (λ t. unary_op (kind_at t)) (first_child_token self.now.syntax) }
+    {
+        unary_op(self.op_token()?.kind())
+    }
+}
+
+impl ast::BinExpr {
+    /// The first token that is a binary operator, and what it is.
+    pub fn op_details(&self) -> Option<(SyntaxToken, BinaryOp)>
+        ensures { result ≡ option_and_then (λ t. option_map (λ o. (t, o)) (binary_op (kind_at t))) (binary_operator self.now.syntax) }
+    {
+        let token = self.op_token()?;
+        let operator = binary_op(token.kind())?;
+        Some((token, operator))
+    }
+
+    /// What the first token that is a binary operator is.
+    pub fn op_kind(&self) -> Option<BinaryOp>
+        ensures { result ≡ option_and_then (λ t. binary_op (kind_at t)) (binary_operator self.now.syntax) }
+    {
+        binary_op(self.op_token()?.kind())
+    }
+
+    /// The first token that is a binary operator.
+    pub fn op_token(&self) -> Option<SyntaxToken>
+        ensures { result ≡ binary_operator self.now.syntax }
+    {
+        ras_node::first_token::<BinaryOperators>(self.syntax.children_with_tokens())
+    }
+
+    /// The first expression, if there is one.
+    pub fn lhs(&self) -> Option<ast::Expr>
+        ensures { IsFirstChild ⟦<ast::Expr as AstNode>⟧ self.now.syntax result }
+    {
+        support::child(&self.syntax)
+    }
+
+    /// The second expression, if there is one.
+    pub fn rhs(&self) -> Option<ast::Expr>
+        ensures { IsViewOf ⟦<ast::Expr as AstNode>⟧ (second_typed_child ⟦<ast::Expr as AstNode>⟧.casts self.now.syntax) result }
+    {
+        support::second_child(&self.syntax)
+    }
+
+    /// The first and the second expression, where there are such.
+    pub fn sub_exprs(&self) -> (Option<ast::Expr>, Option<ast::Expr>)
+        ensures left { option_map expr_node result.0 ≡ typed_child ⟦<ast::Expr as AstNode>⟧.casts self.now.syntax }
+        ensures right { option_map expr_node result.1 ≡ second_typed_child ⟦<ast::Expr as AstNode>⟧.casts self.now.syntax }
+    {
+        (self.lhs(), self.rhs())
+    }
+}
+
+/// A range, of expressions or of patterns.
+pub trait RangeItem {
+    /// What stands at its ends.
+    type Bound;
+
+    /// The end before the operator, if there is one.
+    fn start(&self) -> Option<Self::Bound>;
+
+    /// The end behind the operator, if there is one.
+    fn end(&self) -> Option<Self::Bound>;
+
+    /// What the operator is.
+    fn op_kind(&self) -> Option<RangeOp>;
+
+    /// The first `..` or `..=`.
+    fn op_token(&self) -> Option<SyntaxToken>;
+}
+
+impl RangeItem for ast::RangeExpr {
+    type Bound = ast::Expr;
+
+    /// The first expression before the operator; `None` where there is no operator.
+    fn start(&self) -> Option<ast::Expr>
+        ensures { IsViewOf ⟦<ast::Expr as AstNode>⟧ (range_start_of ⟦<ast::Expr as AstNode>⟧.casts self.now.syntax) result }
+    {
+        let _operator = self.op_token()?;
+        support::first_before::<ast::Expr, RangeOperators>(self.syntax.children_with_tokens())
+    }
+
+    /// The first expression behind the operator; `None` where there is no operator.
+    fn end(&self) -> Option<ast::Expr>
+        ensures { IsViewOf ⟦<ast::Expr as AstNode>⟧ (range_end_of ⟦<ast::Expr as AstNode>⟧.casts self.now.syntax) result }
+    {
+        support::first(ras_node::behind::<RangeOperators>(self.syntax.children_with_tokens()))
+    }
+
+    fn op_kind(&self) -> Option<RangeOp>
+        ensures { result ≡ option_and_then (λ t. range_op (kind_at t)) (range_operator self.now.syntax) }
+    {
+        range_op(self.op_token()?.kind())
+    }
+
+    fn op_token(&self) -> Option<SyntaxToken>
+        ensures { result ≡ range_operator self.now.syntax }
+    {
+        ras_node::first_token::<RangeOperators>(self.syntax.children_with_tokens())
+    }
+}
+
+impl RangeItem for ast::RangePat {
+    type Bound = ast::Pat;
+
+    /// The first pattern before the operator; without operator the first pattern.
+    fn start(&self) -> Option<ast::Pat>
+        ensures { IsViewOf ⟦<ast::Pat as AstNode>⟧ (bound_before ⟦<ast::Pat as AstNode>⟧.casts self.now.syntax) result }
+    {
+        support::first_before::<ast::Pat, RangeOperators>(self.syntax.children_with_tokens())
+    }
+
+    /// The first pattern behind the operator; `None` where there is no operator.
+    fn end(&self) -> Option<ast::Pat>
+        ensures { IsViewOf ⟦<ast::Pat as AstNode>⟧ (range_end_of ⟦<ast::Pat as AstNode>⟧.casts self.now.syntax) result }
+    {
+        support::first(ras_node::behind::<RangeOperators>(self.syntax.children_with_tokens()))
+    }
+
+    fn op_kind(&self) -> Option<RangeOp>
+        ensures { result ≡ option_and_then (λ t. range_op (kind_at t)) (range_operator self.now.syntax) }
+    {
+        range_op(self.op_token()?.kind())
+    }
+
+    fn op_token(&self) -> Option<SyntaxToken>
+        ensures { result ≡ range_operator self.now.syntax }
+    {
+        ras_node::first_token::<RangeOperators>(self.syntax.children_with_tokens())
+    }
+}
+
+// No child can be viewed as an `N`.
+fn has_no_child<N: AstNode + Drop>(parent: &SyntaxNode) -> bool
+    ensures { result ≡ not (is_some (typed_child N.casts parent.now)) }
+{
+    match support::child::<N>(parent) {
+        Some(_child) => false,
+        None => true,
+    }
+}
+
+impl ast::RangeExpr {
+    /// Whether it has no end at all, as `..` alone: no child is an expression.
+    pub fn is_range_full(&self) -> bool
+        ensures { result ≡ not (is_some (typed_child ⟦<ast::Expr as AstNode>⟧.casts self.now.syntax)) }
+    {
+        has_no_child::<ast::Expr>(&self.syntax)
+    }
+}

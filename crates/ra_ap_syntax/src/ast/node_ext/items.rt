@@ -1,0 +1,272 @@
+//! Items and what stands in them.
+ghost use Rattle.std.specs.Prelude.{◌≡◌, option_map, is_some, ◌||◌, not};
+ghost use Rattle.std.specs.Option.{option_and_then};
+ghost use Rattle.ras_node.specs.Lookups.{IsViewOf, IsFirstChild, grandparent_of, view_in};
+ghost use Rattle.ras_node.specs.Nodes.{typed_child, token_child};
+ghost use Rattle.ra_ap_syntax.specs.ItemCases.{item_node};
+ghost use Rattle.ra_ap_syntax.specs.TypeOrConstParamCases.{type_or_const_param_node};
+ghost use Rattle.ra_ap_syntax.specs.NodeParts.{trait_of, self_type_of, impl_around, impl_trait, macro_args, macro_body, generic_params_of, if_kind};
+ghost use Rattle.ra_ap_syntax.specs.NodeShapes.{struct_shape, struct_kind, self_param_kind, visibility_shape, inner_visibility, visibility_kind, seen_by_words, seen_in_path, in_path};
+
+use crate::ast::{self, AnyHasGenericParams, AstNode, TypedToken, support};
+use lossless_tree::{SyntaxKind, SyntaxNode};
+
+impl ast::MacroDef {
+    /// Of two token trees the first; `None` where there is one alone or none.
+    pub fn args(&self) -> Option<ast::TokenTree>
+        ensures { IsViewOf ⟦<ast::TokenTree as AstNode>⟧ (macro_args ⟦<ast::TokenTree as AstNode>⟧.casts self.now.syntax) result }
+    {
+        let first = support::child::<ast::TokenTree>(&self.syntax)?;
+        let _second = support::second_child::<ast::TokenTree>(&self.syntax)?;
+        Some(first)
+    }
+
+    /// The second token tree, or the first where there is one alone.
+    pub fn body(&self) -> Option<ast::TokenTree>
+        ensures { IsViewOf ⟦<ast::TokenTree as AstNode>⟧ (macro_body ⟦<ast::TokenTree as AstNode>⟧.casts self.now.syntax) result }
+    {
+        match support::second_child(&self.syntax) {
+            Some(second) => Some(second),
+            None => support::child(&self.syntax),
+        }
+    }
+}
+
+impl ast::Impl {
+    /// The trait: the first type, if it starts before the `for`; `None` where there is no `for`.
+    pub fn trait_(&self) -> Option<ast::Type>
+        ensures { IsViewOf ⟦<ast::Type as AstNode>⟧ (trait_of ⟦<ast::Type as AstNode>⟧.casts self.now.syntax) result }
+    {
+        let for_token = self.for_token()?;
+        let first = support::children::<ast::Type>(&self.syntax).next()?;
+        if first.syntax().text_range().start() < for_token.text_range().start() {
+            Some(first)
+        } else {
+            None
+        }
+    }
+
+    /// The type that it is for: the one after the trait, or the first type where there is no trait.
+    pub fn self_ty(&self) -> Option<ast::Type>
+        ensures { IsViewOf ⟦<ast::Type as AstNode>⟧ (self_type_of ⟦<ast::Type as AstNode>⟧.casts self.now.syntax) result }
+    {
+        let mut types = support::children::<ast::Type>(&self.syntax);
+        let first = types.next()?;
+        if let Some(for_token) = self.for_token() {
+            if first.syntax().text_range().start() < for_token.text_range().start() {
+                return types.next();
+            }
+        }
+        Some(first)
+    }
+
+    /// The nearest impl above a name, if its trait starts where the name does.
+    pub fn for_trait_name_ref(name_ref: &ast::NameRef) -> Option<ast::Impl>
+        ensures { IsViewOf ⟦<ast::Impl as AstNode>⟧ (impl_around ⟦<ast::Impl as AstNode>⟧.casts ⟦<ast::Type as AstNode>⟧.casts name_ref.now.syntax) result }
+    {
+        let around = support::ancestor_as::<ast::Impl>(&name_ref.syntax)?;
+        let start = around.trait_()?.syntax().text_range().start();
+        if start == name_ref.syntax.text_range().start() {
+            Some(around)
+        } else {
+            None
+        }
+    }
+}
+
+impl ast::Item {
+    /// The list of generic parameters, of the items that may have one.
+    pub fn generic_param_list(&self) -> Option<ast::GenericParamList>
+        ensures { IsViewOf ⟦<ast::GenericParamList as AstNode>⟧ (generic_params_of ⟦<AnyHasGenericParams as AstNode>⟧.casts ⟦<ast::GenericParamList as AstNode>⟧.casts (item_node self.now)) result }
+    {
+        if AnyHasGenericParams::can_cast(self.syntax().kind()) {
+            support::child(self.syntax())
+        } else {
+            None
+        }
+    }
+}
+
+impl ast::TypeOrConstParam {
+    /// The parameter's name.
+    pub fn name(&self) -> Option<ast::Name>
+        ensures { IsFirstChild ⟦<ast::Name as AstNode>⟧ (type_or_const_param_node self.now) result }
+    {
+        support::child(self.syntax())
+    }
+}
+
+/// The fields of a struct, a union or a variant.
+#[derive(Clone, PartialEq, Eq, Drop)]
+pub enum StructKind {
+    /// `{ f: T }`
+    Record(ast::RecordFieldList),
+    /// `(T)`
+    Tuple(ast::TupleFieldList),
+    /// None.
+    Unit,
+}
+
+// The list of named fields, or else of numbered ones, or none.
+fn struct_kind(node: &SyntaxNode) -> StructKind
+    ensures { struct_shape result ≡ struct_kind ⟦<ast::RecordFieldList as AstNode>⟧.casts ⟦<ast::TupleFieldList as AstNode>⟧.casts node.now }
+{
+    if let Some(fields) = support::child(node) {
+        return StructKind::Record(fields);
+    }
+    match support::child(node) {
+        Some(fields) => StructKind::Tuple(fields),
+        None => StructKind::Unit,
+    }
+}
+
+impl ast::Struct {
+    /// Its fields: named ones, or else numbered ones, or none.
+    pub fn kind(&self) -> StructKind
+        ensures { struct_shape result ≡ struct_kind ⟦<ast::RecordFieldList as AstNode>⟧.casts ⟦<ast::TupleFieldList as AstNode>⟧.casts self.now.syntax }
+    {
+        struct_kind(&self.syntax)
+    }
+}
+
+impl ast::Union {
+    /// Its fields: named ones, or else numbered ones, or none.
+    pub fn kind(&self) -> StructKind
+        ensures { struct_shape result ≡ struct_kind ⟦<ast::RecordFieldList as AstNode>⟧.casts ⟦<ast::TupleFieldList as AstNode>⟧.casts self.now.syntax }
+    {
+        struct_kind(&self.syntax)
+    }
+}
+
+impl ast::Variant {
+    /// Its fields: named ones, or else numbered ones, or none.
+    pub fn kind(&self) -> StructKind
+        ensures { struct_shape result ≡ struct_kind ⟦<ast::RecordFieldList as AstNode>⟧.casts ⟦<ast::TupleFieldList as AstNode>⟧.casts self.now.syntax }
+    {
+        struct_kind(&self.syntax)
+    }
+
+    /// The enum that it is a variant of: the parent's parent, if that is one.
+    pub fn parent_enum(&self) -> Option<ast::Enum>
+        ensures { IsViewOf ⟦<ast::Enum as AstNode>⟧ (view_in ⟦<ast::Enum as AstNode>⟧.casts (grandparent_of self.now.syntax)) result }
+    {
+        support::grandparent_as(&self.syntax)
+    }
+}
+
+impl ast::Module {
+    /// The module that it stands in: the parent's parent, if that is one.
+    pub fn parent(&self) -> Option<ast::Module>
+        ensures { IsViewOf ⟦<ast::Module as AstNode>⟧ (view_in ⟦<ast::Module as AstNode>⟧.casts (grandparent_of self.now.syntax)) result }
+    {
+        support::grandparent_as(&self.syntax)
+    }
+}
+
+impl ast::Abi {
+    /// The first token that is a string: the name of the calling convention.
+    pub fn abi_string(&self) -> Option<ast::String>
+        ensures { option_map (λ it. it.syntax) result ≡ option_and_then (if_kind SyntaxKind.STRING) (token_child SyntaxKind.STRING self.now.syntax) }
+    {
+        let syntax = support::token(&self.syntax, SyntaxKind::STRING)?;
+        match syntax.kind() {
+            SyntaxKind::STRING => Some(TypedToken { syntax }),
+            _ => None,
+        }
+    }
+}
+
+/// How a method takes its receiver.
+#[derive(Clone, Copy, Debug, PartialEq, Eq, Hash)]
+pub enum SelfParamKind {
+    /// `self`
+    Owned,
+    /// `&self`
+    Ref,
+    /// `&mut self`
+    MutRef,
+}
+
+impl ast::SelfParam {
+    /// Without `&` owned; with `mut` a mutable borrow, else a shared one.
+    pub fn kind(&self) -> SelfParamKind
+        ensures { result ≡ self_param_kind self.now.syntax }
+    {
+        if self.amp_token().is_some() {
+            if self.mut_token().is_some() {
+                SelfParamKind::MutRef
+            } else {
+                SelfParamKind::Ref
+            }
+        } else {
+            SelfParamKind::Owned
+        }
+    }
+}
+
+/// How far something may be seen.
+#[derive(Clone, Drop)]
+pub enum VisibilityKind {
+    /// `pub(in a::b)`, and any path that is not one of the words below.
+    In(ast::Path),
+    /// `pub(crate)`
+    PubCrate,
+    /// `pub(super)`
+    PubSuper,
+    /// `pub(self)`
+    PubSelf,
+    /// `pub`
+    Pub,
+}
+
+// By the words in the one segment of the path.
+fn seen_by_words(segment: &ast::PathSegment, path: ast::Path) -> VisibilityKind
+    ensures { visibility_shape result ≡ seen_by_words ⟦<ast::NameRef as AstNode>⟧.casts segment.now.syntax (in_path path.syntax) }
+{
+    if segment.coloncolon_token().is_some() {
+        return VisibilityKind::In(path);
+    }
+    if segment.crate_token().is_some() {
+        return VisibilityKind::PubCrate;
+    }
+    if segment.super_token().is_some() {
+        return VisibilityKind::PubSuper;
+    }
+    if segment.self_token().is_some() {
+        return VisibilityKind::PubSelf;
+    }
+    VisibilityKind::In(path)
+}
+
+fn seen_in_path(path: ast::Path) -> VisibilityKind
+    ensures { visibility_shape result ≡ seen_in_path ⟦<ast::Path as AstNode>⟧.casts ⟦<ast::PathSegment as AstNode>⟧.casts ⟦<ast::NameRef as AstNode>⟧.casts path.syntax }
+{
+    match path.as_single_segment() {
+        Some(segment) => seen_by_words(&segment, path),
+        None => VisibilityKind::In(path),
+    }
+}
+
+impl ast::VisibilityInner {
+    /// `crate`, `super` or `self` where the path is that one segment without `::`; any other path; all, where there is no path.
+    pub fn kind(&self) -> VisibilityKind
+        ensures { visibility_shape result ≡ inner_visibility ⟦<ast::Path as AstNode>⟧.casts ⟦<ast::PathSegment as AstNode>⟧.casts ⟦<ast::NameRef as AstNode>⟧.casts self.now.syntax }
+    {
+        match self.path() {
+            Some(path) => seen_in_path(path),
+            None => VisibilityKind::Pub,
+        }
+    }
+}
+
+impl ast::Visibility {
+    /// What its part in parentheses says; all, where it has none.
+    pub fn kind(&self) -> VisibilityKind
+        ensures { visibility_shape result ≡ visibility_kind ⟦<ast::VisibilityInner as AstNode>⟧.casts ⟦<ast::Path as AstNode>⟧.casts ⟦<ast::PathSegment as AstNode>⟧.casts ⟦<ast::NameRef as AstNode>⟧.casts self.now.syntax }
+    {
+        match self.visibility_inner() {
+            Some(inner) => inner.kind(),
+            None => VisibilityKind::Pub,
+        }
+    }
+}

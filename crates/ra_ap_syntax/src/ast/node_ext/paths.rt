@@ -1,0 +1,178 @@
+//! Paths and their segments.
+ghost use Rattle.std.specs.Prelude.{◌≡◌, option_map, drop};
+ghost use Rattle.tree_model.specs.Cursor.{parent_of, ancestors_of};
+ghost use Rattle.ras_path.specs.Path.{AreSegments, IsFirstQualifier, IsQualifierEnd, IsFirstSegment, top_from};
+ghost use Rattle.ras_node.specs.Lookups.{IsViewOf, view_in};
+ghost use Rattle.ra_ap_syntax.specs.NodeParts.{single_segment, single_name, name_token, qualifying_trait};
+ghost use Rattle.ra_ap_syntax.specs.NodeShapes.{segment_shape, segment_kind, name_by_kind, anchored};
+ghost use Rattle.ras_node.specs.Nodes.{kind_at};
+ghost use Rattle.ra_ap_syntax.specs.NodeParts.{first_token_kind};
+
+use crate::ast::{self, AstNode, support};
+use lossless_tree::{SyntaxKind, SyntaxNode, SyntaxToken};
+
+/// The segments of a path, in order.
+pub type Segments = ras_path::Segments<ast::Path, ast::PathSegment>;
+
+impl ast::Path {
+    /// The segments, from that of the deepest qualifier outwards to this path's own. A path without a segment ends them.
+    pub fn segments(&self) -> Segments
+        ensures { AreSegments ⟦<ast::Path as AstNode>⟧.casts ⟦<ast::PathSegment as AstNode>⟧.casts self.now.syntax result }
+    {
+        Segments::new(support::copy(self))
+    }
+
+    /// The end of the chain of qualifiers: `a` of `a::b::c`. `None` where the path has no qualifier. It takes time in their number.
+    pub fn first_qualifier(&self) -> Option<ast::Path>
+        ensures { IsQualifierEnd ⟦<ast::Path as AstNode>⟧.casts self.now.syntax (option_map (λ it. it.syntax) result) }
+    {
+        ras_path::first_qualifier(self)
+    }
+
+    /// The end of the chain of qualifiers; this path where it has none. It takes time in their number.
+    pub fn first_qualifier_or_self(&self) -> ast::Path
+        ensures { IsFirstQualifier ⟦<ast::Path as AstNode>⟧.casts self.now.syntax result.syntax }
+    {
+        ras_path::first_qualifier_or_self(support::copy(self))
+    }
+
+    /// The segment at the end of the chain of qualifiers, if that path has one: `a` of `a::b::c`.
+    pub fn first_segment(&self) -> Option<ast::PathSegment>
+        ensures { IsFirstSegment ⟦<ast::Path as AstNode>⟧.casts ⟦<ast::PathSegment as AstNode>⟧.casts self.now.syntax (option_map (λ it. it.syntax) result) }
+    {
+        self.first_qualifier_or_self().segment()
+    }
+
+    /// The outermost of the paths that it is a qualifier in; this path where it is none's. It takes time in their number.
+    pub fn top_path(&self) -> ast::Path
+        ensures { result.syntax ≡ top_from ⟦<ast::Path as AstNode>⟧.casts self.now.syntax (drop 1 (ancestors_of self.now.syntax)) }
+    {
+        ras_path::top_path(support::copy(self))
+    }
+
+    /// The path that it is the qualifier of: the parent, if that is a path.
+    pub fn parent_path(&self) -> Option<ast::Path>
+        ensures { IsViewOf ⟦<ast::Path as AstNode>⟧ (view_in ⟦<ast::Path as AstNode>⟧.casts (parent_of self.now.syntax)) result }
+    {
+        support::parent_as(&self.syntax)
+    }
+
+    /// The segment of a path without a qualifier.
+    pub fn as_single_segment(&self) -> Option<ast::PathSegment>
+        ensures { IsViewOf ⟦<ast::PathSegment as AstNode>⟧ (single_segment ⟦<ast::Path as AstNode>⟧.casts ⟦<ast::PathSegment as AstNode>⟧.casts self.now.syntax) result }
+    {
+        if self.qualifier().is_some() {
+            return None;
+        }
+        self.segment()
+    }
+
+    /// The name in the segment of a path without a qualifier.
+    pub fn as_single_name_ref(&self) -> Option<ast::NameRef>
+        ensures { IsViewOf ⟦<ast::NameRef as AstNode>⟧ (single_name ⟦<ast::Path as AstNode>⟧.casts ⟦<ast::PathSegment as AstNode>⟧.casts ⟦<ast::NameRef as AstNode>⟧.casts self.now.syntax) result }
+    {
+        self.as_single_segment()?.name_ref()
+    }
+}
+
+/// What a segment of a path is.
+#[derive(Clone, PartialEq, Eq, Drop)]
+pub enum PathSegmentKind {
+    /// A name, with or without generic arguments.
+    Name(ast::NameRef),
+    /// `<T>`, `<T as U>`.
+    Ty {
+        type_ref: Option<ast::Type>,
+        trait_ref: Option<ast::PathType>,
+    },
+    /// `Self`
+    SelfTypeKw,
+    /// `self`
+    SelfKw,
+    /// `super`
+    SuperKw,
+    /// `crate`
+    CrateKw,
+}
+
+// What a segment with a name is, by the name's first token.
+fn name_by_kind(name: ast::NameRef) -> PathSegmentKind
+    ensures { segment_shape result ≡ name_by_kind (first_token_kind name.syntax) name.syntax }
+{
+    match name.token_kind() {
+        SyntaxKind::SELF_TYPE_KW => PathSegmentKind::SelfTypeKw,
+        SyntaxKind::SELF_KW => PathSegmentKind::SelfKw,
+        SyntaxKind::SUPER_KW => PathSegmentKind::SuperKw,
+        SyntaxKind::CRATE_KW => PathSegmentKind::CrateKw,
+        _ => PathSegmentKind::Name(name),
+    }
+}
+
+// `<T as U>`: the first type, and the second if it is a path type.
+fn anchored(anchor: &SyntaxNode) -> PathSegmentKind
+    ensures { segment_shape result ≡ anchored ⟦<ast::Type as AstNode>⟧.casts ⟦<ast::PathType as AstNode>⟧.casts anchor.now }
+{
+    PathSegmentKind::Ty {
+        type_ref: support::child(anchor),
+        trait_ref: support::recast(support::second_child::<ast::Type>(anchor)),
+    }
+}
+
+impl ast::PathSegment {
+    /// What it is, by the first token of its name; without a name by its anchor `<T as U>`. `None` where it has neither.
+    pub fn kind(&self) -> Option<PathSegmentKind>
+        ensures { option_map segment_shape result ≡ segment_kind ⟦<ast::NameRef as AstNode>⟧.casts ⟦<ast::TypeAnchor as AstNode>⟧.casts ⟦<ast::Type as AstNode>⟧.casts ⟦<ast::PathType as AstNode>⟧.casts self.now.syntax }
+    {
+        if let Some(name) = self.name_ref() {
+            return Some(name_by_kind(name));
+        }
+        let anchor = self.type_anchor()?;
+        Some(anchored(&anchor.syntax))
+    }
+
+    /// The path that it is the segment of: the parent, if that is a path.
+    pub fn parent_path(&self) -> Option<ast::Path>
+        ensures { IsViewOf ⟦<ast::Path as AstNode>⟧ (view_in ⟦<ast::Path as AstNode>⟧.casts (parent_of self.now.syntax)) result }
+    {
+        support::parent_as(&self.syntax)
+    }
+
+    /// The trait of `<T as Trait>`: the second path type in the anchor, or else the first.
+    pub fn qualifying_trait(&self) -> Option<ast::PathType>
+        ensures { IsViewOf ⟦<ast::PathType as AstNode>⟧ (qualifying_trait ⟦<ast::TypeAnchor as AstNode>⟧.casts ⟦<ast::PathType as AstNode>⟧.casts self.now.syntax) result }
+    {
+        let anchor = self.type_anchor()?;
+        match support::second_child(&anchor.syntax) {
+            Some(second) => Some(second),
+            None => support::child(&anchor.syntax),
+        }
+    }
+
+    /// The first token `crate` in its name.
+    pub fn crate_token(&self) -> Option<SyntaxToken>
+        ensures { result ≡ name_token ⟦<ast::NameRef as AstNode>⟧.casts SyntaxKind.CRATE_KW self.now.syntax }
+    {
+        self.name_ref()?.crate_token()
+    }
+
+    /// The first token `self` in its name.
+    pub fn self_token(&self) -> Option<SyntaxToken>
+        ensures { result ≡ name_token ⟦<ast::NameRef as AstNode>⟧.casts SyntaxKind.SELF_KW self.now.syntax }
+    {
+        self.name_ref()?.self_token()
+    }
+
+    /// The first token `Self` in its name.
+    pub fn self_type_token(&self) -> Option<SyntaxToken>
+        ensures { result ≡ name_token ⟦<ast::NameRef as AstNode>⟧.casts SyntaxKind.SELF_TYPE_KW self.now.syntax }
+    {
+        self.name_ref()?.self_type_token()
+    }
+
+    /// The first token `super` in its name.
+    pub fn super_token(&self) -> Option<SyntaxToken>
+        ensures { result ≡ name_token ⟦<ast::NameRef as AstNode>⟧.casts SyntaxKind.SUPER_KW self.now.syntax }
+    {
+        self.name_ref()?.super_token()
+    }
+}

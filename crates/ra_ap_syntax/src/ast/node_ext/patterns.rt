@@ -1,0 +1,123 @@
+//! Patterns.
+ghost use Rattle.std.specs.Prelude.{◌≡◌, option_map, drop, not, is_some};
+ghost use Rattle.std.specs.List.{find};
+ghost use Rattle.std.specs.Option.{option_and_then};
+ghost use Rattle.tree_model.specs.Cursor.{ancestors_of, parent_of};
+ghost use Rattle.ras_node.specs.Lookups.{IsViewOf, view_in, grandparent_of};
+ghost use Rattle.ras_node.specs.Nodes.{typed_child, has_kind_in, kind_at};
+ghost use Rattle.ra_ap_syntax.specs.NodeParts.{leading_pipe, bound_name, bound_in_box, pat_field_name, if_its_part_is, is_simple_ident, if_kind};
+
+use crate::ast::{self, AstNode, HasName, NameOrNameRef, support};
+use lossless_tree::{SyntaxKind, SyntaxNode, SyntaxToken};
+
+impl ast::OrPat {
+    /// The first child that is no white space or comment, if it is a `|`.
+    pub fn leading_pipe(&self) -> Option<SyntaxToken>
+        ensures { result ≡ leading_pipe self.now.syntax }
+    {
+        let token = self.syntax.first_child_no_trivia()?.into_token()?;
+        if token.kind() == SyntaxKind::PIPE {
+            Some(token)
+        } else {
+            None
+        }
+    }
+}
+
+impl ast::IdentPat {
+    /// Whether it is a name alone: it has no `@`, `mut`, `ref` and no pattern behind an `@`.
+    pub fn is_simple_ident(&self) -> bool
+        ensures { result ≡ is_simple_ident ⟦<ast::Pat as AstNode>⟧.casts self.now.syntax }
+    {
+        if self.at_token().is_some() || self.mut_token().is_some() {
+            return false;
+        }
+        if self.ref_token().is_some() {
+            return false;
+        }
+        has_no_pattern::<ast::Pat>(&self.syntax)
+    }
+}
+
+// No child can be viewed as an `N`.
+fn has_no_pattern<N: AstNode + Drop>(parent: &SyntaxNode) -> bool
+    ensures { result ≡ not (is_some (typed_child N.casts parent.now)) }
+{
+    match support::child::<N>(parent) {
+        Some(_child) => false,
+        None => true,
+    }
+}
+
+// The name that the pattern in a `box` pattern is, where it is a name.
+fn bound_in_box<N: AstNode + Drop>(boxed: &SyntaxNode) -> Option<ast::Name>
+    ensures { IsViewOf ⟦<ast::Name as AstNode>⟧ (bound_in_box ⟦<ast::Name as AstNode>⟧.casts N.casts boxed.now) result }
+{
+    let inner = support::child::<N>(boxed)?;
+    if inner.syntax().kind() == SyntaxKind::IDENT_PAT {
+        support::child(inner.syntax())
+    } else {
+        None
+    }
+}
+
+// The name that a pattern binds, also behind `box`.
+fn bound_name(pat: &SyntaxNode) -> Option<ast::Name>
+    ensures { IsViewOf ⟦<ast::Name as AstNode>⟧ (bound_name ⟦<ast::Name as AstNode>⟧.casts ⟦<ast::Pat as AstNode>⟧.casts pat.now) result }
+{
+    match pat.kind() {
+        SyntaxKind::IDENT_PAT => support::child(pat),
+        SyntaxKind::BOX_PAT => bound_in_box::<ast::Pat>(pat),
+        _ => None,
+    }
+}
+
+impl ast::RecordPatField {
+    /// The field's name: its own, or the name that its pattern binds, also behind `box`.
+    pub fn field_name(&self) -> Option<NameOrNameRef>
+        ensures { IsViewOf ⟦<NameOrNameRef as AstNode>⟧ (pat_field_name ⟦<ast::NameRef as AstNode>⟧.casts ⟦<ast::Name as AstNode>⟧.casts ⟦<ast::Pat as AstNode>⟧.casts self.now.syntax) result }
+    {
+        if let Some(name) = self.name_ref() {
+            return Some(NameOrNameRef::NameRef(name));
+        }
+        let pat = self.pat()?;
+        Some(NameOrNameRef::Name(bound_name(pat.syntax())?))
+    }
+
+    /// The field that is a name's parent, if the name is the field's.
+    pub fn for_field_name_ref(field_name: &ast::NameRef) -> Option<ast::RecordPatField>
+        ensures { IsViewOf ⟦<ast::RecordPatField as AstNode>⟧ (option_and_then (if_its_part_is field_name.now.syntax (pat_field_name ⟦<ast::NameRef as AstNode>⟧.casts ⟦<ast::Name as AstNode>⟧.casts ⟦<ast::Pat as AstNode>⟧.casts)) (view_in ⟦<ast::RecordPatField as AstNode>⟧.casts (parent_of field_name.now.syntax))) result }
+    {
+        if_named(support::parent_as(&field_name.syntax), &field_name.syntax)
+    }
+
+    /// The field that is the parent of a name's pattern, if the name is the field's.
+    pub fn for_field_name(field_name: &ast::Name) -> Option<ast::RecordPatField>
+        ensures { IsViewOf ⟦<ast::RecordPatField as AstNode>⟧ (option_and_then (if_its_part_is field_name.now.syntax (pat_field_name ⟦<ast::NameRef as AstNode>⟧.casts ⟦<ast::Name as AstNode>⟧.casts ⟦<ast::Pat as AstNode>⟧.casts)) (view_in ⟦<ast::RecordPatField as AstNode>⟧.casts (grandparent_of field_name.now.syntax))) result }
+    {
+        if_named(
+            support::grandparent_as(&field_name.syntax),
+            &field_name.syntax,
+        )
+    }
+
+    /// The record that it is a field of: the nearest record pattern above it.
+    pub fn parent_record_pat(&self) -> Option<ast::RecordPat>
+        ensures { IsViewOf ⟦<ast::RecordPat as AstNode>⟧ (find (has_kind_in ⟦<ast::RecordPat as AstNode>⟧.casts) (drop 1 (ancestors_of self.now.syntax))) result }
+    {
+        support::ancestor_as(&self.syntax)
+    }
+}
+
+// The field, if this node is its name.
+fn if_named(field: Option<ast::RecordPatField>, name: &SyntaxNode) -> Option<ast::RecordPatField>
+    ensures { IsViewOf ⟦<ast::RecordPatField as AstNode>⟧ (option_and_then (if_its_part_is name.now (pat_field_name ⟦<ast::NameRef as AstNode>⟧.casts ⟦<ast::Name as AstNode>⟧.casts ⟦<ast::Pat as AstNode>⟧.casts)) (option_map (λ it. it.syntax) field)) result }
+{
+    let field = field?;
+    let own = field.field_name()?;
+    if own.syntax() == name {
+        Some(field)
+    } else {
+        None
+    }
+}

@@ -1,0 +1,116 @@
+//! Types, their bounds and generic arguments.
+ghost use Rattle.std.specs.Prelude.{◌≡◌, option_map, is_some, ◌||◌, not};
+ghost use Rattle.ras_node.specs.Lookups.{IsViewOf};
+ghost use Rattle.ras_node.specs.Nodes.{typed_children, kind_at};
+ghost use Rattle.ra_ap_syntax.specs.TypeCases.{ty_node};
+ghost use Rattle.ra_ap_syntax.specs.NodeParts.{generic_args_of};
+ghost use Rattle.ra_ap_syntax.specs.NodeShapes.{bound_shape, bound_kind, bound_of_for, bound_without_path};
+
+use crate::ast::{self, AstChildren, AstNode, HasGenericArgs, support};
+use lossless_tree::SyntaxNode;
+
+/// What a bound asks for.
+#[derive(Clone, PartialEq, Eq, Hash, Drop)]
+pub enum TypeBoundKind {
+    /// A trait: `Trait`, `for<'a> Trait`.
+    PathType(Option<ast::ForBinder>, ast::PathType),
+    /// What is captured: `use<'a, T>`.
+    Use(ast::UseBoundGenericArgs),
+    /// A lifetime: `'a`.
+    Lifetime(ast::Lifetime),
+}
+
+// The bound by the type of a `for` type, if that is a path type.
+fn bound_of_for(for_type: &ast::ForType) -> Option<TypeBoundKind>
+    ensures { option_map bound_shape result ≡ bound_of_for ⟦<ast::Type as AstNode>⟧.casts ⟦<ast::PathType as AstNode>⟧.casts ⟦<ast::ForBinder as AstNode>⟧.casts for_type.now.syntax }
+{
+    let path = support::recast::<ast::Type, ast::PathType>(for_type.ty())?;
+    Some(TypeBoundKind::PathType(for_type.for_binder(), path))
+}
+
+// What a bound without a path is.
+fn bound_without_path(bound: &ast::TypeBound) -> Option<TypeBoundKind>
+    ensures { option_map bound_shape result ≡ bound_without_path ⟦<ast::UseBoundGenericArgs as AstNode>⟧.casts ⟦<ast::Lifetime as AstNode>⟧.casts bound.now.syntax }
+{
+    if let Some(captured) = bound.use_bound_generic_args() {
+        return Some(TypeBoundKind::Use(captured));
+    }
+    Some(TypeBoundKind::Lifetime(bound.lifetime()?))
+}
+
+impl ast::TypeBound {
+    /// A path type with the bound's binder; or else the path type in a `for` type, with the binder there, and `None` where that is
+    /// another type; or else what is captured, or a lifetime. `None` where there is none of these.
+    pub fn kind(&self) -> Option<TypeBoundKind>
+        ensures { option_map bound_shape result ≡ bound_kind ⟦<ast::PathType as AstNode>⟧.casts ⟦<ast::ForType as AstNode>⟧.casts ⟦<ast::Type as AstNode>⟧.casts ⟦<ast::ForBinder as AstNode>⟧.casts ⟦<ast::UseBoundGenericArgs as AstNode>⟧.casts ⟦<ast::Lifetime as AstNode>⟧.casts self.now.syntax }
+    {
+        if let Some(path) = support::child::<ast::PathType>(&self.syntax) {
+            return Some(TypeBoundKind::PathType(self.for_binder(), path));
+        }
+        if let Some(for_type) = support::child::<ast::ForType>(&self.syntax) {
+            return bound_of_for(&for_type);
+        }
+        bound_without_path(self)
+    }
+}
+
+impl ast::Type {
+    /// The generic arguments of a path type: those of the segment of its path; `None` for other types.
+    pub fn generic_arg_list(&self) -> Option<ast::GenericArgList>
+        ensures { IsViewOf ⟦<ast::GenericArgList as AstNode>⟧ (generic_args_of ⟦<ast::PathType as AstNode>⟧.casts ⟦<ast::Path as AstNode>⟧.casts ⟦<ast::PathSegment as AstNode>⟧.casts ⟦<ast::GenericArgList as AstNode>⟧.casts (ty_node self.now)) result }
+    {
+        if !ast::PathType::can_cast(self.syntax().kind()) {
+            return None;
+        }
+        let path = support::child::<ast::Path>(self.syntax())?;
+        path.segment()?.generic_arg_list()
+    }
+
+    /// Whether the type needs angle brackets where it begins a path, as in `<[T]>::len`: it is no path type, or it has generic
+    /// arguments.
+    pub fn needs_angles_in_path(&self) -> bool
+        ensures { result ≡ (not (⟦<ast::PathType as AstNode>⟧.casts (kind_at (ty_node self.now))) || is_some (generic_args_of ⟦<ast::PathType as AstNode>⟧.casts ⟦<ast::Path as AstNode>⟧.casts ⟦<ast::PathSegment as AstNode>⟧.casts ⟦<ast::GenericArgList as AstNode>⟧.casts (ty_node self.now))) }
+    {
+        if !ast::PathType::can_cast(self.syntax().kind()) {
+            return true;
+        }
+        match self.generic_arg_list() {
+            Some(_arguments) => true,
+            None => false,
+        }
+    }
+}
+
+/// The lifetimes among generic arguments, in order.
+pub type LifetimeArgs = AstChildren<ast::LifetimeArg>;
+
+/// The lifetimes among generic parameters, in order.
+pub type LifetimeParams = AstChildren<ast::LifetimeParam>;
+
+/// The types and constants among generic parameters, in order.
+pub type TypeOrConstParams = AstChildren<ast::TypeOrConstParam>;
+
+impl ast::GenericArgList {
+    /// The arguments that are lifetimes, in order.
+    pub fn lifetime_args(&self) -> LifetimeArgs
+        ensures { result ≡ typed_children ⟦<ast::LifetimeArg as AstNode>⟧.casts self.now.syntax }
+    {
+        support::children(&self.syntax)
+    }
+}
+
+impl ast::GenericParamList {
+    /// The parameters that are lifetimes, in order.
+    pub fn lifetime_params(&self) -> LifetimeParams
+        ensures { result ≡ typed_children ⟦<ast::LifetimeParam as AstNode>⟧.casts self.now.syntax }
+    {
+        support::children(&self.syntax)
+    }
+
+    /// The parameters that are types or constants, in order.
+    pub fn type_or_const_params(&self) -> TypeOrConstParams
+        ensures { result ≡ typed_children ⟦<ast::TypeOrConstParam as AstNode>⟧.casts self.now.syntax }
+    {
+        support::children(&self.syntax)
+    }
+}

@@ -1,0 +1,54 @@
+-- A path, its qualifiers and its segments: `a::b::c` is the path of the segment `c` over the path of `b` over that of `a`.
+-- (Upstream: `ast::Path` in `ast::node_ext` of rust-analyzer's `syntax`.)
+use Rattle.std.specs.Prelude.{◌≡◌, ℕ, zero, suc, Bool, ◌&&◌, List, [], ◌∷◌, Option, Some, None, nat_le, if◌then◌else◌}
+use Rattle.text_size.specs.TextRange.{Bounds}
+use Rattle.syntax_kind.specs.declared.syntax_kind.SyntaxKind.{SyntaxKind}
+use Rattle.tree_model.specs.Tree.{size}
+use Rattle.tree_model.specs.Cursor.{Cursor, focus, range_start, range_end, range_of, ancestors_of}
+use Rattle.ras_node.specs.Nodes.{kind_at, typed_child}
+
+-- d is what stands at the end of the chain of qualifiers of c: of the first children that are paths
+pub data IsFirstQualifier (paths : SyntaxKind → Bool) : Cursor → Cursor → Type 0 where
+  here : {c : Cursor} → typed_child paths c ≡ None → IsFirstQualifier paths c c
+  below : {c q d : Cursor} → typed_child paths c ≡ Some q → IsFirstQualifier paths q d → IsFirstQualifier paths c d
+
+-- the end of that chain below c, where it has a qualifier at all
+abbrev pub IsQualifierEnd : (SyntaxKind → Bool) → Cursor → Option Cursor → Type 0
+IsQualifierEnd paths c None = typed_child paths c ≡ None
+IsQualifierEnd paths c (Some d) = (q : Cursor) × (typed_child paths c ≡ Some q) × IsFirstQualifier paths q d
+
+-- s is the segment of the path at the end of the chain
+abbrev pub IsFirstSegment : (paths segments : SyntaxKind → Bool) → Cursor → Option Cursor → Type 0
+IsFirstSegment paths segments c s = (first : Cursor) × IsFirstQualifier paths c first × (s ≡ typed_child segments first)
+
+-- a path whose text lies in a range
+abbrev pub is_path_within : (SyntaxKind → Bool) → Bounds → Cursor → Bool
+is_path_within paths range c = paths (kind_at c) && (nat_le range.start (range_start c) && nat_le (range_end c) range.end)
+
+-- the item and then the rest; nothing without an item
+abbrev pub then_rest : Option Cursor → List Cursor → List Cursor
+then_rest None rest = []
+then_rest (Some c) rest = c ∷ rest
+
+-- the segments of a path and of those around it, outwards, while they are paths within the range and have a segment
+abbrev pub outward : (paths segments : SyntaxKind → Bool) → Bounds → List Cursor → List Cursor
+outward paths segments range [] = []
+outward paths segments range (p ∷ ps) =
+    if is_path_within paths range p then then_rest (typed_child segments p) (outward paths segments range ps) else []
+
+-- the segments of a path: from its first qualifier's outwards, while the path around lies in the path's own range
+abbrev pub AreSegments : (paths segments : SyntaxKind → Bool) → Cursor → List Cursor → Type 0
+AreSegments paths segments c l =
+    (first : Cursor) × IsFirstQualifier paths c first × (l ≡ outward paths segments (range_of c) (ancestors_of first))
+
+-- the last of the paths above a path, going up while there are such; the path itself where there is none
+abbrev pub top_from : (SyntaxKind → Bool) → Cursor → List Cursor → Cursor
+top_from paths top [] = top
+top_from paths top (a ∷ above) = if paths (kind_at a) then top_from paths a above else top
+
+-- the same over use trees, whose parents are lists
+abbrev pub top_tree_from : (lists trees : SyntaxKind → Bool) → Cursor → List Cursor → Cursor
+top_tree_from lists trees top [] = top
+top_tree_from lists trees top (l ∷ []) = top
+top_tree_from lists trees top (l ∷ t ∷ above) =
+    if lists (kind_at l) && trees (kind_at t) then top_tree_from lists trees t above else top
