@@ -6,6 +6,7 @@ use crate::command::Command;
 use crate::dump::dump;
 use crate::events::events;
 use crate::refusal::Refusal;
+use crate::reparse::reparse_answer;
 use std::alloc::Global;
 use std::str::from_utf8;
 
@@ -19,5 +20,6 @@ pub(crate) fn answer_to(alloc: Global, command: Command, input: &[u8]) -> Result
     match command {
         Command::Events => events(alloc, text),
         Command::Dump => dump(alloc, text),
+        Command::Reparse => reparse_answer(alloc, text),
     }
 }

@@ -11,6 +11,7 @@ mod lines;
 mod output;
 mod program;
 mod refusal;
+mod reparse;
 
 pub use command::Command;
 pub use program::run;

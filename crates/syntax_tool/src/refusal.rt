@@ -15,6 +15,8 @@ pub enum Refusal {
     BadLine,
     /// A line has a form, and the kind that it names is none.
     BadKind,
+    /// A range ends before it starts, or does not lie in the text on character boundaries.
+    BadRange,
     /// The text is longer than 4,294,967,295 bytes.
     TooLong,
     /// Some front of the events has more exits than enters.
@@ -45,6 +47,7 @@ impl Refusal {
             Refusal::NotUtf8 => "refused: NotUtf8\n",
             Refusal::BadLine => "refused: BadLine\n",
             Refusal::BadKind => "refused: BadKind\n",
+            Refusal::BadRange => "refused: BadRange\n",
             Refusal::TooLong => "refused: TooLong\n",
             Refusal::OverClosed => "refused: OverClosed\n",
             Refusal::Unclosed => "refused: Unclosed\n",

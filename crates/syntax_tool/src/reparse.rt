@@ -1,0 +1,158 @@
+//! The command `reparse`: an edit and a text to the dump of the tree after the edit.
+ghost use Rattle.std.specs.Prelude.{◌≡◌, ◌↔◌, ◌⊎◌, ◌++◌, ◌≤◌, ◌^◌, length, Ok, Err, IfOk, IfErr, IfSome, IsSome, MatchResult, string_bytes};
+ghost use Rattle.std.specs.List.{list_all};
+ghost use Rattle.tree_model.specs.Tree.{text};
+ghost use Rattle.ras_front_end.specs.declared.parse_error.ParseError.TheVariants.{TooLong};
+ghost use Rattle.ras_reparsing.specs.Edit.{IsEditOf, edited};
+ghost use Rattle.ras_typed_parse.specs.AllErrors.{debug_dump_of};
+ghost use Rattle.syntax_tool.specs.Requests.{is_digit, value_from, number_of, told, IsRange, IsReread, AnswersEdit, AnswersRange, AnswersReparse};
+
+use crate::escapes::unescape;
+use crate::lines::cut;
+use crate::refusal::Refusal;
+use ra_ap_syntax::{Edition, Parse, ParseError, SourceFile, TextRange, TextSize};
+use std::alloc::{AllocError, Global};
+use std::fmt::Write;
+use tiny_front::Tiny;
+
+// What stands for every number that is too great.
+const TOO_GREAT: usize = 1 << 32;
+
+fn is_digit(byte: u8) -> bool
+    ensures { result ≡ is_digit byte }
+{
+    48 <= byte && byte <= 57
+}
+
+fn all_digits(bytes: &[u8]) -> bool
+    ensures { result ≡ list_all is_digit bytes.now }
+{
+    bytes.iter().all(|byte| is_digit(*byte))
+}
+
+// The number that decimal digits write.
+fn number(text: &str) -> Option<usize>
+    ensures { result ≡ number_of text.now }
+{
+    let bytes = text.as_bytes();
+    if bytes.is_empty() || !all_digits(bytes) {
+        return None;
+    }
+    Some(value(bytes))
+}
+
+fn value(digits: &[u8]) -> usize
+    ensures { result ≡ value_from 0 digits.now }
+{
+    let mut value: usize = 0;
+    for digit in digits {
+        value = (10 * value + (*digit as usize).saturating_sub(48)).min(TOO_GREAT);
+    }
+    value
+}
+
+// The range, where it lies in the text, on character boundaries.
+fn range_in(text: &str, start: usize, end: usize) -> Option<TextRange>
+    ensures exact { IsSome result ↔ IsRange text.now start end }
+    ensures is { IfSome result (λ r. r ≡ record { start = start; end = end }) }
+{
+    if start > end || end > text.len() || end > u32::MAX as usize {
+        return None;
+    }
+    if !text.is_char_boundary(start) || !text.is_char_boundary(end) {
+        return None;
+    }
+    Some(TextRange::new(TextSize::new(start as u32), TextSize::new(end as u32)))
+}
+
+// The first line, and the dump.
+fn report(
+    alloc: Global,
+    piece: Option<TextRange>,
+    new: &Parse<SourceFile>,
+) -> Result<String, AllocError>
+    ensures { IfOk result (λ out. string_bytes out ≡ told piece ++ debug_dump_of new.now) }
+{
+    let mut out = String::new(alloc);
+    match piece {
+        Some(range) => writeln!(&mut out, "piece {range}")?,
+        None => out.push_str("whole\n")?,
+    }
+    let dump = new.debug_dump(alloc)?;
+    out.push_str(dump.as_str())?;
+    Ok(out)
+}
+
+// The parse after an edit, and the range that was read anew, where not all was.
+fn edit_parse(
+    alloc: Global,
+    old: &Parse<SourceFile>,
+    delete: TextRange,
+    insert: &str,
+) -> Result<(Option<TextRange>, Parse<SourceFile>), ParseError>
+    requires { IsEditOf (text old.now.tree) (record { delete = delete; insert = insert.now }) }
+    ensures read { IfOk result (λ p. IsReread old.now (record { delete = delete; insert = insert.now }) p.0 p.1) }
+    ensures refused { IfErr result (λ e. (e ≡ TooLong) ↔ (2 ^ 32 ≤ length (edited (text old.now.tree) (record { delete = delete; insert = insert.now })))) }
+{
+    match old.incremental_reparse(alloc, &Tiny, delete, insert, Edition::CURRENT)? {
+        Some((new, range)) => Ok((Some(range), new)),
+        None => {
+            let new = old.reparse(alloc, &Tiny, delete, insert, Edition::CURRENT)?;
+            Ok((None, new))
+        }
+    }
+}
+
+// The answer to an edit of a parse.
+fn edit_answer(
+    alloc: Global,
+    old: &Parse<SourceFile>,
+    delete: TextRange,
+    insert: &str,
+) -> Result<String, Refusal>
+    requires { IsEditOf (text old.now.tree) (record { delete = delete; insert = insert.now }) }
+    ensures { MatchResult result
+        (λ out. AnswersEdit old.now (record { delete = delete; insert = insert.now }) (Ok (string_bytes out)))
+        (λ e. (e ≡ Refusal.Memory) ⊎ AnswersEdit old.now (record { delete = delete; insert = insert.now }) (Err e)) }
+{
+    let (piece, new) = edit_parse(alloc, old, delete, insert)?;
+    Ok(report(alloc, piece, &new)?)
+}
+
+// The answer to an edit of a text, which is read first.
+fn range_answer(
+    alloc: Global,
+    text: &str,
+    start: usize,
+    end: usize,
+    insert: &str,
+) -> Result<String, Refusal>
+    ensures { MatchResult result
+        (λ out. AnswersRange text.now start end insert.now (Ok (string_bytes out)))
+        (λ e. (e ≡ Refusal.Memory) ⊎ AnswersRange text.now start end insert.now (Err e)) }
+{
+    let delete = match range_in(text, start, end) {
+        Some(delete) => delete,
+        None => return Err(Refusal::BadRange),
+    };
+    let old = SourceFile::parse(alloc, text, &Tiny, Edition::CURRENT)?;
+    edit_answer(alloc, &old, delete, insert)
+}
+
+// The answer to a request: its lines, and then the text.
+pub(crate) fn reparse_answer(alloc: Global, input: &str) -> Result<String, Refusal>
+    ensures { MatchResult result
+        (λ out. AnswersReparse input.now (Ok (string_bytes out)))
+        (λ e. (e ≡ Refusal.Memory) ⊎ AnswersReparse input.now (Err e)) }
+{
+    let (first, behind) = cut(input, '\n');
+    let (second, whole) = cut(behind, '\n');
+    let (start, end) = cut(first, ' ');
+    let mut insert = String::new(alloc);
+    unescape(&mut insert, second)?;
+    let (start, end) = match (number(start), number(end)) {
+        (Some(start), Some(end)) => (start, end),
+        _ => return Err(Refusal::BadLine),
+    };
+    range_answer(alloc, whole, start, end, insert.as_str())
+}
