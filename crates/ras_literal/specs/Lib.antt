@@ -1,3 +1,4 @@
+pub mod Answered
 pub mod Comments
 pub mod Literals
 pub mod Numbers

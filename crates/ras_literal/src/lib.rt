@@ -12,7 +12,8 @@ pub mod values;
 pub use chars::{byte_value, char_value};
 pub use comments::{AttrKind, CommentKind, CommentShape, comment_text, spans_multiple_lines};
 pub use numbers::{
-    IntError, Radix, float_value_string, int_value, int_value_string, split_float, split_int,
+    IntError, Radix, float_suffix, float_value_string, int_suffix, int_value, int_value_string,
+    split_float, split_int,
 };
 pub use parts::{cut, is_raw};
 pub use places::{first_place, last_place};
