@@ -45,9 +45,12 @@ pub use views::nodes::{
     WhereClause, WherePred,
 };
 pub use node_ext::{Macro, NameLike, NameOrNameRef, Statements, TypeOrConstParam};
+pub use ras_literal::{
+    AttrKind, CommentKind, CommentShape, IntError, QuoteOffsets, Radix, ValueError,
+};
 pub(crate) use ras_node::support;
 pub use ras_node::{AstChildren, AstNode, AstToken, cast_ref};
-pub use token_ext::{AnyComment, AnyString};
+pub use token_ext::{AnyComment, AnyString, IsString};
 pub use traits::{
     HasArgList, HasAttrs, HasGenericArgs, HasGenericParams, HasLoopBody, HasModuleItem, HasName,
     HasTypeBounds, HasVisibility,

@@ -2,4 +2,5 @@ pub mod Answered
 pub mod Comments
 pub mod Literals
 pub mod Numbers
+pub mod Quotes
 pub mod Texts

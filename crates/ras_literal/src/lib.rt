@@ -6,6 +6,7 @@ pub mod comments;
 pub mod numbers;
 pub mod parts;
 pub mod places;
+pub mod quotes;
 pub mod strings;
 pub mod values;
 
@@ -17,5 +18,6 @@ pub use numbers::{
 };
 pub use parts::{cut, is_raw};
 pub use places::{first_place, last_place};
+pub use quotes::{QuoteOffsets, offset_down, quote_offsets, range_up};
 pub use strings::{last_fault, quote_places, string_content};
 pub use values::{ValueError, bytes_value, string_value};
