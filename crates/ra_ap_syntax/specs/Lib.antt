@@ -4,6 +4,7 @@ pub mod AnyHasAttrsCases
 pub mod AnyStringCases
 pub mod AssocItemCases
 pub mod CallableExprCases
+pub mod CommentKinds
 pub mod ElseBranchCases
 pub mod ExprCases
 pub mod ExternItemCases

@@ -54,9 +54,12 @@ pub use node_ext::{
     TypeOrConstParam, TypeOrConstParams, VisibilityKind,
 };
 pub use operators::{ArithOp, BinaryOp, CmpOp, LogicOp, Ordering, RangeOp, UnaryOp};
+pub use ras_literal::{
+    AttrKind, CommentKind, CommentShape, IntError, QuoteOffsets, Radix, ValueError,
+};
 pub(crate) use ras_node::support;
 pub use ras_node::{AstChildren, AstNode, AstToken, cast_ref};
-pub use token_ext::{AnyComment, AnyString};
+pub use token_ext::{AnyComment, AnyString, IsString};
 pub use traits::{
     HasArgList, HasAttrs, HasGenericArgs, HasGenericParams, HasLoopBody, HasModuleItem, HasName,
     HasTypeBounds, HasVisibility,

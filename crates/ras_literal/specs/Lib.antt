@@ -1,4 +1,6 @@
+pub mod Answered
 pub mod Comments
 pub mod Literals
 pub mod Numbers
+pub mod Quotes
 pub mod Texts

@@ -1,19 +1,19 @@
 -- The contents and values of literals, by their texts. (Upstream: rust-analyzer's `token_ext`; the Rust Reference, "Tokens".)
-use Rattle.std.specs.Prelude.{◌≡◌, ℕ, ◌+◌, ◌-◌, ◌==◌, ◌&&◌, Bool, nat_eq, nat_lt, codes, List, [], ◌∷◌, flat_map, length, encode_utf8, Option, None, Some, Result, Ok, Err, if◌then◌else◌}
+use Rattle.std.specs.Prelude.{◌≡◌, ℕ, ◌+◌, ◌-◌, ◌==◌, ◌&&◌, ◌||◌, not, Bool, false, nat_eq, nat_lt, codes, List, [], ◌∷◌, flat_map, length, encode_utf8, Option, None, Some, Result, Ok, Err, if◌then◌else◌}
 use Rattle.std.specs.List.{list_any, starts_with, ends_with}
-use Rattle.std.specs.Option.{option_and_then}
+use Rattle.std.specs.Option.{option_and_then, option_map_or}
 use Rattle.std.specs.Str.{chars}
 use Rattle.literal_escape.specs.Literal.{is_warning, numbered}
 use Rattle.literal_escape.specs.Pieces.{single}
 use Rattle.literal_escape.specs.Reading.{reports_in}
 use Rattle.literal_escape.specs.declared.error.EscapeError.{EscapeError}
-use Rattle.literal_escape.specs.declared.error.EscapeError.TheVariants.{ZeroChars}
+use Rattle.literal_escape.specs.declared.error.EscapeError.TheVariants.{ZeroChars, LoneSlash}
 use Rattle.literal_escape.specs.declared.mode.Mode.{Mode}
 use Rattle.literal_escape.specs.declared.mode.Mode.TheVariants as modes
 use Rattle.literal_escape.specs.declared.mode.MixedUnit.{MixedUnit}
 use Rattle.literal_escape.specs.declared.mode.MixedUnit.TheVariants as units
 use Rattle.literal_escape.specs.declared.reader.Report.{Report}
-use Rattle.ras_literal.specs.Texts.{part, first_place, last_place}
+use Rattle.ras_literal.specs.Texts.{part, first_place, last_place, is_raw}
 
 -- ---- characters and bytes
 
@@ -95,3 +95,23 @@ string_meanings content = flat_map report_text (reports_in modes.Str (chars cont
 -- a backslash (92) stands in the content
 abbrev pub has_backslash : List ℕ → Bool
 has_backslash content = list_any (λ b. b == 92) content
+
+-- the value of a content that is not raw: its last fatal fault; else its meanings joined where it has a backslash, and
+-- itself where it has none
+abbrev pub unless_fault : Option EscapeError → List ℕ → Result (List ℕ) EscapeError
+unless_fault (Some e) value = Err e
+unless_fault None value = Ok value
+
+abbrev pub content_value : (List ℕ → List ℕ) → Mode → List ℕ → Result (List ℕ) EscapeError
+content_value joined mode content = unless_fault (last_fault mode content) (if has_backslash content then joined content else content)
+
+-- the value of a literal by its text: of a raw one the content
+abbrev pub quoted_value : (List ℕ → List ℕ) → Mode → Bool → List ℕ → Result (List ℕ) EscapeError
+quoted_value joined mode raw content = if raw then Ok content else content_value joined mode content
+
+abbrev pub literal_value : (List ℕ → List ℕ) → Mode → List ℕ → List ℕ → Result (List ℕ) EscapeError
+literal_value joined mode prefix text = option_map_or (quoted_value joined mode (is_raw prefix text)) (content_of text) (Err LoneSlash)
+
+-- no memory is needed: the literal is raw, or its content has no backslash
+abbrev pub can_borrow : List ℕ → List ℕ → Bool
+can_borrow prefix text = is_raw prefix text || not (option_map_or has_backslash (content_of text) false)

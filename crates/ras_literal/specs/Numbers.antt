@@ -108,3 +108,8 @@ float_digits text = take (float_len text) text
 
 abbrev pub float_suffix : List ℕ → List ℕ
 float_suffix text = drop (float_len text) text
+
+-- a text that is not empty
+abbrev pub if_any : List ℕ → Option (List ℕ)
+if_any [] = None
+if_any (b ∷ text) = Some (b ∷ text)

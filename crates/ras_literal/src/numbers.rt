@@ -1,9 +1,9 @@
 //! Integers and floating point numbers.
-ghost use Rattle.std.specs.Prelude.{◌≡◌, ◌+◌, ◌*◌, ◌<◌, ◌≤◌, true, length, drop, IfOk, string_bytes};
+ghost use Rattle.std.specs.Prelude.{◌≡◌, ◌+◌, ◌*◌, ◌<◌, ◌≤◌, true, length, drop, IfOk, option_map, string_bytes};
 ghost use Rattle.std.specs.List.{position_or_len, list_any};
 ghost use Rattle.std.specs.Str.Parse.{digits_value};
 ghost use Rattle.std.specs.Str.{IsCharBoundary};
-ghost use Rattle.ras_literal.specs.Numbers.{radix_of, base_of, prefix_len, starts_suffix, int_prefix, int_digits, int_suffix, first_letter, is_exponent, float_len, float_digits, float_suffix, value_text, digit_of, are_digits, if_small, appended, number_after, is_no_underscore, without_underscores, int_value};
+ghost use Rattle.ras_literal.specs.Numbers.{radix_of, base_of, prefix_len, starts_suffix, int_prefix, int_digits, int_suffix, first_letter, is_exponent, float_len, float_digits, float_suffix, if_any, value_text, digit_of, are_digits, if_small, appended, number_after, is_no_underscore, without_underscores, int_value};
 
 use std::alloc::{AllocError, Global};
 
@@ -146,6 +146,29 @@ pub fn split_float(text: &str) -> (&str, &str)
 {
     let (digits, suffix) = text.split_at(float_len(text));
     (digits, suffix)
+}
+
+// A text; `None` where it is empty.
+fn if_any(text: &str) -> Option<&str>
+    ensures { option_map (λ s. s.now) result ≡ if_any text.now }
+{
+    if text.is_empty() { None } else { Some(text) }
+}
+
+/// The suffix of an integer, as `u8`; `None` where there is none.
+pub fn int_suffix(text: &str) -> Option<&str>
+    ensures { option_map (λ s. s.now) result ≡ if_any (int_suffix text.now) }
+{
+    let (_, _, suffix) = split_int(text);
+    if_any(suffix)
+}
+
+/// The suffix of a floating point number, as `f64`; `None` where there is none.
+pub fn float_suffix(text: &str) -> Option<&str>
+    ensures { option_map (λ s. s.now) result ≡ if_any (float_suffix text.now) }
+{
+    let (_, suffix) = split_float(text);
+    if_any(suffix)
 }
 
 /// Why an integer has no value. The first that holds is answered, in this order.

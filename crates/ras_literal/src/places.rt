@@ -1,5 +1,5 @@
 //! Where a byte stands in a text.
-ghost use Rattle.std.specs.Prelude.{◌≡◌, None};
+ghost use Rattle.std.specs.Prelude.{◌≡◌, ◌<◌, length, None, IfSome};
 ghost use Rattle.ras_literal.specs.Texts.{first_place, last_place};
 
 /// Where a byte stands first; `None` where it stands nowhere.
@@ -17,7 +17,8 @@ pub fn first_place(text: &str, byte: u8) -> Option<usize>
 
 /// Where a byte stands last; `None` where it stands nowhere.
 pub fn last_place(text: &str, byte: u8) -> Option<usize>
-    ensures { result ≡ last_place byte 0 None text.now }
+    ensures value { result ≡ last_place byte 0 None text.now }
+    ensures within { IfSome result (λ place. place < length text.now) }
 {
     let mut found = None;
     let bytes = text.as_bytes();

@@ -1,5 +1,5 @@
 //! The quotes, contents and faults of strings.
-ghost use Rattle.std.specs.Prelude.{◌≡◌, None, option_map};
+ghost use Rattle.std.specs.Prelude.{◌≡◌, ◌<◌, length, None, IfSome, option_map};
 ghost use Rattle.std.specs.Str.{chars};
 ghost use Rattle.ras_literal.specs.Literals.{quote_places, content_of, fatal, last_fault};
 
@@ -9,7 +9,9 @@ use literal_escape::{EscapeError, MixedUnit, Mode, Units};
 
 /// Where the first and the last `"` of a text stand; `None` where there are not two.
 pub fn quote_places(text: &str) -> Option<(usize, usize)>
-    ensures { result ≡ quote_places text.now }
+    ensures value { result ≡ quote_places text.now }
+    ensures order { IfSome result (λ p. p.0 < p.1) }
+    ensures within { IfSome result (λ p. p.1 < length text.now) }
 {
     let first = first_place(text, b'"')?;
     let last = last_place(text, b'"')?;

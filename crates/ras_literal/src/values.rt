@@ -1,14 +1,12 @@
 //! The values of strings, byte strings and C strings.
-ghost use Rattle.std.specs.Prelude.{◌≡◌, ◌++◌, true, false, IfOk, OnOk, Some, Err, string_bytes};
-ghost use Rattle.std.specs.Option.{ForSome};
+ghost use Rattle.std.specs.Prelude.{◌≡◌, ◌++◌, true, false, codes, IfOk, OnOk, string_bytes};
 ghost use Rattle.std.specs.Cow.{cow_str_bytes, IsBorrowedStr, cow_slice_items, IsBorrowedSlice};
-ghost use Rattle.std.specs.Result.{IsErrOf};
-ghost use Rattle.literal_escape.specs.declared.error.EscapeError.{EscapeError};
 ghost use Rattle.literal_escape.specs.declared.mode.Mode.TheVariants as modes;
-ghost use Rattle.ras_literal.specs.Literals.{unit_bytes, unit_text, meanings, string_meanings, last_fault, has_backslash};
-ghost use Rattle.ras_literal.specs.declared.values.ValueError.TheVariants as error;
+ghost use Rattle.ras_literal.specs.Literals.{unit_bytes, unit_text, meanings, string_meanings, has_backslash, content_value, literal_value, can_borrow};
+ghost use Rattle.ras_literal.specs.Answered.{IsValueOf, TakesNoMemory};
 
-use crate::strings::last_fault;
+use crate::parts::is_raw;
+use crate::strings::{last_fault, string_content};
 use literal_escape::{EscapeError, MixedUnit, Mode, Units};
 use std::alloc::{AllocError, Global};
 use std::borrow::{CowSlice, CowStr};
@@ -57,18 +55,14 @@ fn meanings(alloc: Global, mode: Mode, content: &str) -> Result<Vec<u8>, AllocEr
     Ok(value)
 }
 
-/// The value of the content of a byte string or a C string that is not raw: borrowed, and without memory, where it has no
-/// backslash, else the meanings of its units joined. The last fatal fault refuses it; warnings pass.
-pub fn bytes_value(
+// The value of the content of a byte string or a C string that is not raw.
+fn content_bytes(
     alloc: Global,
     mode: Mode,
     content: &str,
 ) -> Result<CowSlice<'_, u8, Global>, ValueError>
-    ensures fault { ForSome (last_fault mode content.now) (λ e. result ≡ Err (error.Escape e)) }
-    ensures escape { (e : EscapeError) → result ≡ Err (error.Escape e) → last_fault mode content.now ≡ Some e }
-    ensures value { has_backslash content.now ≡ true → IfOk result (λ v. cow_slice_items v ≡ meanings mode content.now) }
-    ensures plain { has_backslash content.now ≡ false → IfOk result (λ v. IsBorrowedSlice v × (cow_slice_items v ≡ content.now)) }
-    ensures memory { has_backslash content.now ≡ false → IsErrOf result error.Memory → ⊥ }
+    ensures value { IsValueOf cow_slice_items (content_value (meanings mode) mode content.now) result }
+    ensures borrowed { has_backslash content.now ≡ false → TakesNoMemory IsBorrowedSlice result }
 {
     if let Some(fault) = last_fault(mode, content) {
         return Err(ValueError::Escape(fault));
@@ -80,6 +74,29 @@ pub fn bytes_value(
         Ok(value) => Ok(CowSlice::Owned(value)),
         Err(_) => Err(ValueError::Memory),
     }
+}
+
+/// The value of a byte string or a C string: the content of a raw one, which begins with `prefix`, else the meanings of its
+/// units joined.
+///
+/// Without two quotes it is `Escape(LoneSlash)`, else the last fatal fault refuses it; warnings pass. A content that is raw or
+/// has no backslash is borrowed, and takes no memory.
+pub fn bytes_value<'t>(
+    alloc: Global,
+    mode: Mode,
+    prefix: &str,
+    text: &'t str,
+) -> Result<CowSlice<'t, u8, Global>, ValueError>
+    ensures value { IsValueOf cow_slice_items (literal_value (meanings mode) mode prefix.now text.now) result }
+    ensures borrowed { can_borrow prefix.now text.now ≡ true → TakesNoMemory IsBorrowedSlice result }
+{
+    let Some(content) = string_content(text) else {
+        return Err(ValueError::Escape(EscapeError::LoneSlash));
+    };
+    if is_raw(text, prefix) {
+        return Ok(CowSlice::Borrowed(content.as_bytes()));
+    }
+    content_bytes(alloc, mode, content)
 }
 
 // Adds what a unit of a string means.
@@ -104,14 +121,10 @@ fn string_meanings(alloc: Global, content: &str) -> Result<String, AllocError>
     Ok(value)
 }
 
-/// The value of the content of a string that is not raw: borrowed, and without memory, where it has no backslash, else the
-/// meanings of its units joined. The last fatal fault refuses it; warnings pass.
-pub fn string_value(alloc: Global, content: &str) -> Result<CowStr<'_, Global>, ValueError>
-    ensures fault { ForSome (last_fault modes.Str content.now) (λ e. result ≡ Err (error.Escape e)) }
-    ensures escape { (e : EscapeError) → result ≡ Err (error.Escape e) → last_fault modes.Str content.now ≡ Some e }
-    ensures value { has_backslash content.now ≡ true → IfOk result (λ v. cow_str_bytes v ≡ string_meanings content.now) }
-    ensures plain { has_backslash content.now ≡ false → IfOk result (λ v. IsBorrowedStr v × (cow_str_bytes v ≡ content.now)) }
-    ensures memory { has_backslash content.now ≡ false → IsErrOf result error.Memory → ⊥ }
+// The value of the content of a string that is not raw.
+fn content_text(alloc: Global, content: &str) -> Result<CowStr<'_, Global>, ValueError>
+    ensures value { IsValueOf cow_str_bytes (content_value string_meanings modes.Str content.now) result }
+    ensures borrowed { has_backslash content.now ≡ false → TakesNoMemory IsBorrowedStr result }
 {
     if let Some(fault) = last_fault(Mode::Str, content) {
         return Err(ValueError::Escape(fault));
@@ -123,4 +136,18 @@ pub fn string_value(alloc: Global, content: &str) -> Result<CowStr<'_, Global>, 
         Ok(value) => Ok(CowStr::Owned(value)),
         Err(_) => Err(ValueError::Memory),
     }
+}
+
+/// The value of a string, as [`bytes_value`].
+pub fn string_value(alloc: Global, text: &str) -> Result<CowStr<'_, Global>, ValueError>
+    ensures value { IsValueOf cow_str_bytes (literal_value string_meanings modes.Str (codes "r") text.now) result }
+    ensures borrowed { can_borrow (codes "r") text.now ≡ true → TakesNoMemory IsBorrowedStr result }
+{
+    let Some(content) = string_content(text) else {
+        return Err(ValueError::Escape(EscapeError::LoneSlash));
+    };
+    if is_raw(text, "r") {
+        return Ok(CowStr::Borrowed(content));
+    }
+    content_text(alloc, content)
 }

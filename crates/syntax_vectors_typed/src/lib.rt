@@ -8,6 +8,8 @@ mod algo;
 #[cfg(test)]
 mod casts;
 #[cfg(test)]
+mod literals;
+#[cfg(test)]
 mod lookups;
 #[cfg(test)]
 mod matches;

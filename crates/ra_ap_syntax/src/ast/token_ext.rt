@@ -9,7 +9,13 @@ ghost use Rattle.ras_node.specs.Nodes.{kind_at};
 ghost use Rattle.ras_node.specs.Sets.{is_any_comment, is_any_string};
 ghost use Rattle.ra_ap_syntax.specs.AnyStringCases.{any_string_token, any_string_castable};
 
+mod comments;
+mod is_string;
+mod numbers;
+mod strings;
+
 use crate::ast::{self, AstToken, TypedToken};
+pub use is_string::IsString;
 use lossless_tree::{SyntaxKind, SyntaxToken};
 use ras_node::sets::{AnyComments, AnyStrings, KindSet};
 use std::alloc::AllocError;
