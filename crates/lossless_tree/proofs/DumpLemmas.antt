@@ -12,8 +12,8 @@ use Rattle.tree_model.specs.Tree.{Tree, node, token, Forest, nil, cons, text, ki
 use Rattle.syntax_kind.specs.Kinds.{kind_name}
 use Rattle.text_size.specs.TextRange.{range_text}
 use Rattle.tree_model.specs.Cursor.{Cursor, focus, at_place, range_of, level_below, walk_of, cursor_at}
-use Rattle.tree_rows.specs.Cursor.{walk_left}
-use Rattle.lossless_tree.proofs.WalkSteps.{walk_left-whole}
+use Rattle.tree_rows.specs.Walks.{walk_left}
+use Rattle.tree_rows.proofs.WalkSteps.{walk_left-whole}
 
 if_zero : {A : Type 0} (n : ℕ) (x y : A) → n ≡ 0 → (if n == 0 then x else y) ≡ x
 if_zero n x y h = grind (arith, nat_tests)

@@ -221,10 +221,3 @@ done_seen tree row end b w =
 
     done : (m n : ℕ) → m ≤ n → leb m n ≡ true
     done m n h = grind arith
-
-pub row_is_token : (tree : Tree) (row : ℕ) → row < size tree → (row_at tree row).is_token ≡ is_token (tree_at tree row)
-row_is_token tree row h = ap (λ r. r.is_token) (row_at-is tree row h) ∙ of_kind (tree_at tree row)
-  where
-    of_kind : (t : Tree) → (row_of t row (start_at tree row) (up_at tree row h)).is_token ≡ is_token t
-    of_kind (token k x) = refl
-    of_kind (node k c) = refl

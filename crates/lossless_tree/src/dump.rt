@@ -4,7 +4,6 @@ ghost use Rattle.tree_model.specs.Rows.{IsRow, tree_at};
 ghost use Rattle.tree_model.specs.Cursor.{cursor_at};
 ghost use Rattle.lossless_tree.specs.Dump.{shown_text, dump_line, dump_of};
 
-use crate::cursor::preorder::walk_step;
 use crate::quoted::Quoted;
 use std::alloc::{AllocError, Global};
 use std::fmt::Write;
@@ -15,7 +14,7 @@ fn push_text(out: &mut String, table: &Table, row: usize) -> Result<(), AllocErr
     requires { IsRow table.now row }
     ensures { OnOk result (string_bytes out.new ≡ string_bytes out.old ++ shown_text (tree_at table.now row)) }
 {
-    if table.row(row).is_token {
+    if table.is_token_at(row) {
         let text = Quoted(table.text_at(row));
         write!(out, " {text}")?;
     }
@@ -55,7 +54,7 @@ pub(crate) fn dump(alloc: Global, table: &Table, start: usize) -> Result<String,
     let mut level: usize = 0;
     let mut next = start;
     let mut innermost = None;
-    while let Some(step) = walk_step(table, start, next, innermost) {
+    while let Some(step) = table.walk_step(start, next, innermost) {
         next = step.next;
         innermost = step.innermost;
         if step.enters {

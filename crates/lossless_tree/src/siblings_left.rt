@@ -39,12 +39,12 @@ impl<'t> SiblingsLeft<'t> {
         requires { IsRow table.now row }
         ensures { result ≡ record { trees = forest_of_children (tree_at table.now row); start = start_at table.now row } }
     {
-        let first = table.row(row);
+        let (first, end) = table.rows_below(row);
         SiblingsLeft {
             table,
-            row: row + 1,
-            end: first.end,
-            start: first.start as usize,
+            row: first,
+            end,
+            start: table.start_at(row) as usize,
         }
     }
 
@@ -82,7 +82,7 @@ impl<'t> SiblingsLeft<'t> {
     pub fn is_token(&self) -> bool
         ensures { result ≡ is_token (first_of self.now.trees) }
     {
-        self.row < self.end && self.table.row(self.row).is_token
+        self.row < self.end && self.table.is_token_at(self.row)
     }
 
     /// The text of the first one.
@@ -111,7 +111,7 @@ impl<'t> SiblingsLeft<'t> {
         if self.row < self.end {
             SiblingsLeft {
                 table: self.table,
-                row: self.table.row(self.row).end,
+                row: self.table.row_behind(self.row),
                 end: self.end,
                 start: self.table.end_at(self.row),
             }

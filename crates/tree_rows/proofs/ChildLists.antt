@@ -8,7 +8,7 @@ use Rattle.tree_model.specs.Tree.{Tree, size, child_count, forest_of_children, p
 use Rattle.tree_model.specs.Rows.{place_at, tree_at}
 use Rattle.tree_rows.specs.Rows.{row_at}
 use Rattle.tree_model.specs.Cursor.{Cursor, at_place, cursor_at, children_of, following_of, preceding_of, siblings_in}
-use Rattle.tree_rows.specs.Cursor.{siblings_from, siblings_left, HaveParentEnd}
+use Rattle.tree_rows.specs.Walks.{siblings_from, siblings_left, HaveParentEnd}
 use Rattle.tree_model.proofs.At.{place_above-append}
 use Rattle.tree_model.proofs.StepLemmas.{parent_place-append, if_above, if_not_above}
 use Rattle.tree_rows.proofs.StepLemmas.{hangs, same_parent, parent_by_row, first_child_found, no_first_child_found, next_sibling_found, no_next_sibling_found}

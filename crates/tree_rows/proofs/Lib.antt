@@ -20,3 +20,4 @@ pub mod TokenLemmas
 pub mod ChildLists
 pub mod TableLemmas
 pub mod WalkLemmas
+pub mod WalkSteps

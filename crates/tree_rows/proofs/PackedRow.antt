@@ -8,7 +8,7 @@ use Rattle.syntax_kind.specs.declared.syntax_kind.SyntaxKind.TheVariants.{OTHER}
 use Rattle.syntax_kind.specs.Kinds.{is_same_kind}
 use Rattle.tree_rows.specs.declared.rows.Row.{Row}
 use Rattle.tree_rows.specs.declared.rows.PackedRow.{PackedRow}
-use Rattle.tree_rows.specs.Equality.{is_same_row, is_same_bool}
+use Rattle.tree_rows.specs.RowEquality.{is_same_row, is_same_bool}
 use Rattle.tree_rows.specs.PackedRow.{unpacked, rows_kept, is_same_packed}
 use Rattle.tree_rows.specs.Rows.{no_row}
 use Rattle.tree_model.proofs.At.{cong₂}

@@ -1,9 +1,9 @@
 -- Parent, first child and next sibling, by row numbers.
 use Rattle.std.proofs.Common.{◌≡◌, ℕ, zero, suc, ◌+◌, ◌-◌, ◌<◌, ◌≤◌, ◌⊎◌, inl, inr, ◌∷◌, ◌++◌, refl, sym, ap, subst, ◌∙◌, arith, []}
 use Rattle.std.specs.Prelude.{None, Some, nat_lt, if◌then◌else◌, ◌↔◌}
-use Rattle.std.proofs.Common.{true, false}
+use Rattle.std.proofs.Common.{Bool, true, false}
 use Rattle.tree_rows.specs.declared.rows.Row.{Row}
-use Rattle.tree_model.specs.Tree.{IsNode, IsToken, kind_of}
+use Rattle.tree_model.specs.Tree.{is_token, IsNode, IsToken, kind_of}
 use Rattle.tree_model.specs.Tree.{Tree, node, token, nil, cons, size, forest_size, Place, child_at, child_count, forest_of_children, parent_place, first_child_place, next_sibling_place}
 use Rattle.tree_model.specs.Rows.{place_at, tree_at, start_at}
 use Rattle.tree_rows.specs.Rows.{row_at, row_of, no_row}
@@ -255,3 +255,23 @@ row_token whole n x h is e = token_by (tree_at whole n) n (start_at whole n) (up
 
 pub row_node : (whole : Tree) (n : ℕ) (x : Row) → n < size whole → x ≡ row_at whole n → x.is_token ≡ false → IsNode (tree_at whole n)
 row_node whole n x h is e = node_by (tree_at whole n) n (start_at whole n) (up_at whole n h) (sym (ap (λ r. r.is_token) (is ∙ row_at-is whole n h)) ∙ e)
+
+pub row_is_token : (tree : Tree) (row : ℕ) → row < size tree → (row_at tree row).is_token ≡ is_token (tree_at tree row)
+row_is_token tree row h = ap (λ r. r.is_token) (row_at-is tree row h) ∙ of_kind (tree_at tree row)
+  where
+    of_kind : (t : Tree) → (row_of t row (start_at tree row) (up_at tree row h)).is_token ≡ is_token t
+    of_kind (token k x) = refl
+    of_kind (node k c) = refl
+
+-- the row behind a subtree is where its row ends
+pub end_is_behind : (whole : Tree) (n e : ℕ) → n < size whole → e ≡ n + size (tree_at whole n) → e ≡ (row_at whole n).end
+end_is_behind whole n e h is = is ∙ sym (end_of_row whole n h)
+
+-- what a test says of the tree at a row
+pub token_stands : (t : Tree) (b : Bool) → b ≡ is_token t → b ≡ true → IsToken t
+token_stands (token k x) b is h = tt
+token_stands (node k c) b is h = (let no : false ≡ true = sym is ∙ h in cc)
+
+pub node_stands : (t : Tree) (b : Bool) → b ≡ is_token t → b ≡ false → IsNode t
+node_stands (token k x) b is h = (let no : true ≡ false = sym is ∙ h in cc)
+node_stands (node k c) b is h = tt

@@ -2,10 +2,10 @@ pub mod Rows
 pub mod RowSteps
 pub mod MovedRows
 pub mod RowSearch
-pub mod Cursor
+pub mod Walks
 pub mod Builder
 pub mod Run
 pub mod RowLemmas
-pub mod Equality
-pub mod EqualityLaws
+pub mod RowEquality
+pub mod RowEqualityLaws
 pub mod PackedRow

@@ -6,8 +6,8 @@ use Rattle.std.specs.Cmp.Lexicographic.{pointwise, pointwise_decides}
 use Rattle.syntax_kind.specs.declared.syntax_kind.SyntaxKind.{SyntaxKind}
 use Rattle.tree_rows.specs.declared.rows.Row.{Row}
 use Rattle.tree_rows.specs.declared.rows.PackedRow.{PackedRow}
-use Rattle.tree_rows.specs.Equality.{is_same_row}
-use Rattle.tree_rows.specs.EqualityLaws.{row_Decides, row_equivalence}
+use Rattle.tree_rows.specs.RowEquality.{is_same_row}
+use Rattle.tree_rows.specs.RowEqualityLaws.{row_Decides, row_equivalence}
 use Rattle.tree_model.specs.TreeCode.{kind_code}
 
 -- the row that is kept so, whose parent has the row number up

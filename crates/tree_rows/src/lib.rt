@@ -11,5 +11,5 @@ mod table;
 
 pub use builder_event::BuilderEvent;
 pub use finish::{build_rows, first_refusal};
-pub use rows::{Row, Rows};
-pub use table::Table;
+pub use rows::Rows;
+pub use table::{Table, WalkStep};

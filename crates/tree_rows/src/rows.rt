@@ -11,7 +11,7 @@ use syntax_kind::SyntaxKind;
 
 /// One node or token. Rows are numbered from 0 in preorder.
 #[derive(Clone, Copy)]
-pub struct Row {
+pub(crate) struct Row {
     /// Its kind.
     pub kind: SyntaxKind,
     /// Whether it is a token.
@@ -125,7 +125,7 @@ impl Rows {
     }
 
     /// Row `n`.
-    pub fn get(&self, n: usize) -> Row
+    pub(crate) fn get(&self, n: usize) -> Row
         requires { n < length self.now }
         ensures value { result ≡ get_or self.now n no_row }
         ensures fits { result.end < 2 ^ 63 }
@@ -134,7 +134,7 @@ impl Rows {
     }
 
     /// One more row at the end; where there is no memory for it, the rows stay as they were.
-    pub fn push(&mut self, row: Row) -> Result<(), AllocError>
+    pub(crate) fn push(&mut self, row: Row) -> Result<(), AllocError>
         requires { row.end < 2 ^ 63 }
         ensures ok { OnOk result (self.new ≡ self.old ++ row ∷ []) }
         ensures err { OnErr result (self.new ≡ self.old) }
@@ -150,7 +150,7 @@ impl Rows {
     }
 
     /// Row `n` with another end.
-    pub fn set_end(&mut self, n: usize, end: usize)
+    pub(crate) fn set_end(&mut self, n: usize, end: usize)
         requires is_row { n < length self.old }
         requires fits { end < 2 ^ 63 }
         ensures { self.new ≡ set self.old n (record (get_or self.old n no_row) { end = end }) }
@@ -177,8 +177,8 @@ impl Rows {
 }
 
 impl PartialEq for Row {
-    ghost use Rattle.tree_rows.specs.Equality.{is_same_row};
-    ghost use Rattle.tree_rows.specs.EqualityLaws.{row_equivalence};
+    ghost use Rattle.tree_rows.specs.RowEquality.{is_same_row};
+    ghost use Rattle.tree_rows.specs.RowEqualityLaws.{row_equivalence};
     ghost use Rattle.std.specs.Cmp.{partial_equiv_from_equiv};
 
     ghost eq = { is_same_row };

@@ -1,17 +1,19 @@
 //! A tree as one text and one row for each place in preorder.
-ghost use Rattle.std.specs.Prelude.{◌≡◌, ◌<◌, ◌^◌, option_map, IfSome, string_bytes};
-ghost use Rattle.tree_model.specs.Tree.{size, text, kind_of, IsNode, parent_place, first_child_place, next_sibling_place};
+ghost use Rattle.std.specs.Prelude.{◌≡◌, ◌<◌, ◌+◌, ◌^◌, option_map, IfSome, string_bytes};
+ghost use Rattle.tree_model.specs.Tree.{size, text, kind_of, is_token, IsNode, parent_place, first_child_place, next_sibling_place};
 ghost use Rattle.tree_model.specs.Rows.{tree_at, start_at, end_at, place_at};
 ghost use Rattle.tree_rows.specs.Rows.{row_at, tree_of_rows, Represents};
 
 mod edit;
 mod search;
 mod steps;
+mod walk;
 
 use crate::rows::{Row, Rows};
 use std::marker::Model;
 use syntax_kind::SyntaxKind;
 use text_size::{TextRange, TextSize};
+pub use walk::WalkStep;
 
 /// A tree as one text and its rows. A clause sees the tree.
 #[derive(Drop)]
@@ -52,8 +54,8 @@ impl Table {
         self.rows.len()
     }
 
-    /// Row `n`.
-    pub fn row(&self, n: usize) -> Row
+    // Row `n`.
+    fn row(&self, n: usize) -> Row
         requires { n < size self.now }
         ensures value { result ≡ row_at self.now n }
         ensures end_fits { result.end < 2 ^ 63 }
@@ -69,7 +71,34 @@ impl Table {
         self.row(n).kind
     }
 
-    fn start_at(&self, n: usize) -> u32
+    /// Whether what stands at row `n` is a token.
+    pub fn is_token_at(&self, n: usize) -> bool
+        requires { n < size self.now }
+        ensures { result ≡ is_token (tree_at self.now n) }
+    {
+        self.row(n).is_token
+    }
+
+    /// The row of the place behind the subtree at row `n`: as many rows on as stand there.
+    pub fn row_behind(&self, n: usize) -> usize
+        requires { n < size self.now }
+        ensures { result ≡ n + size (tree_at self.now n) }
+    {
+        self.row(n).end
+    }
+
+    /// The rows of the places below row `n`: the first, and that behind the last.
+    pub fn rows_below(&self, n: usize) -> (usize, usize)
+        requires { n < size self.now }
+        ensures first { result.0 ≡ n + 1 }
+        ensures behind { result.1 ≡ n + size (tree_at self.now n) }
+    {
+        let end = self.row(n).end;
+        (n + 1, end)
+    }
+
+    /// Where the text of the subtree at row `n` starts.
+    pub fn start_at(&self, n: usize) -> u32
         requires { n < size self.now }
         ensures { result ≡ start_at self.now n }
     {

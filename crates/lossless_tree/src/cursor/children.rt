@@ -23,7 +23,7 @@ impl Model for SyntaxElementChildren {
     ghost use Rattle.std.specs.Prelude.{List};
     ghost use Rattle.std.specs.Coded.{coded_list};
     ghost use Rattle.tree_model.specs.Cursor.{Cursor, cursor_code};
-    ghost use Rattle.tree_rows.specs.Cursor.{siblings_left, HaveParentEnd};
+    ghost use Rattle.tree_rows.specs.Walks.{siblings_left, HaveParentEnd};
 
     ghost Value = { List Cursor };
 
@@ -39,12 +39,8 @@ impl SyntaxElementChildren {
         requires { IsRow table.value row }
         ensures { result ≡ children_of (cursor_at table.value row) }
     {
-        let end = table.row(row).end;
-        SyntaxElementChildren {
-            table,
-            next: row + 1,
-            end,
-        }
+        let (next, end) = table.rows_below(row);
+        SyntaxElementChildren { table, next, end }
     }
 }
 
@@ -58,7 +54,7 @@ impl Iterator for SyntaxElementChildren {
     fn next(&mut self) -> Option<SyntaxElement> {
         let row = self.next;
         if row < self.end {
-            self.next = self.table.row(row).end;
+            self.next = self.table.row_behind(row);
             Some(element(&self.table, row))
         } else {
             None

@@ -40,7 +40,7 @@ impl DescendantsWithTokens {
         requires { IsRow table.value row }
         ensures { result ≡ descendants_of (cursor_at table.value row) }
     {
-        let end = table.row(row).end;
+        let end = table.row_behind(row);
         DescendantsWithTokens {
             table,
             next: row,

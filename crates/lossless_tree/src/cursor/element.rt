@@ -230,7 +230,7 @@ pub(crate) fn element(table: &Shared<Table>, row: usize) -> SyntaxElement
     requires { IsRow table.now.value row }
     ensures { result ≡ element_of (cursor_at table.now.value row) }
 {
-    if table.row(row).is_token {
+    if table.is_token_at(row) {
         NodeOrToken::Token(SyntaxToken::at(table.share(), row))
     } else {
         NodeOrToken::Node(SyntaxNode::at(table.share(), row))

@@ -4,7 +4,7 @@ ghost use Rattle.std.specs.List.{filter, find};
 ghost use Rattle.tree_model.specs.Tree.{text, kind_of, IsNode, forest_of_children};
 ghost use Rattle.tree_model.specs.Rows.{IsRow};
 ghost use Rattle.tree_model.specs.Cursor.{focus, range_of, parent_of, ancestors_of, children_of, first_child_of, last_child_of, next_sibling_of, prev_sibling_of, following_of, preceding_of, siblings_in, at_node, at_token, descendants_of, walk_of, moves_at_node, range_start};
-ghost use Rattle.tree_rows.specs.Cursor.{siblings_from};
+ghost use Rattle.tree_rows.specs.Walks.{siblings_from};
 ghost use Rattle.tree_model.specs.declared.error.ReplaceError.TheVariants.{TooLong};
 ghost use Rattle.lossless_tree.specs.Trees.{child_text, is_no_trivia};
 ghost use Rattle.tree_model.specs.Edit.{replace, root_of};

@@ -1,10 +1,10 @@
 //! The walk that enters and leaves each node and token of a subtree.
-ghost use Rattle.std.specs.Prelude.{◌≡◌, ◌∷◌, [], true, false, map, length, None, MatchOption, IfSome};
+ghost use Rattle.std.specs.Prelude.{◌≡◌, map};
 ghost use Rattle.std.specs.List.{filter};
 ghost use Rattle.std.specs.Iterator.{YieldsFirst, item_count};
 ghost use Rattle.tree_model.specs.Rows.{IsRow};
 ghost use Rattle.tree_model.specs.Cursor.{walk_of, cursor_at, moves_at_node};
-ghost use Rattle.tree_rows.specs.Cursor.{walk_left, IsWalk, MovesLevel};
+ghost use Rattle.tree_rows.specs.Walks.{walk_left, IsWalk, MovesLevel};
 ghost use Rattle.lossless_tree.specs.WalkEvent.{walk_event, node_event, event_of_node};
 
 use super::element::{NodeOrToken, SyntaxElement, element};
@@ -35,7 +35,7 @@ impl Model for PreorderWithTokens {
     ghost use Rattle.std.specs.Prelude.{List, Bool};
     ghost use Rattle.std.specs.Coded.{coded_list, coded×, coded_bool};
     ghost use Rattle.tree_model.specs.Cursor.{Cursor, cursor_code};
-    ghost use Rattle.tree_rows.specs.Cursor.{walk_left, IsWalk};
+    ghost use Rattle.tree_rows.specs.Walks.{walk_left, IsWalk};
 
     ghost Value = { List (Bool × Cursor) };
 
@@ -44,72 +44,6 @@ impl Model for PreorderWithTokens {
     ghost view = { λ a. walk_left a.table.value a.start a.next a.innermost };
 
     ghost invariant = { λ a. IsWalk a.table.value a.start a.next a.innermost };
-}
-
-// One step of a walk: the row that is entered or left, and where the walk stands then.
-#[derive(Clone, Copy)]
-pub(crate) struct WalkStep {
-    pub enters: bool,
-    pub row: usize,
-    pub next: usize,
-    pub innermost: Option<usize>,
-}
-
-// The walk of the rows from `start` on, when those before `next` have been entered and `innermost` is open.
-pub(crate) fn walk_step(
-    table: &Table,
-    start: usize,
-    next: usize,
-    innermost: Option<usize>,
-) -> Option<WalkStep>
-    requires { IsWalk table.now start next innermost }
-    ensures rest { MatchOption result (walk_left table.now start next innermost ≡ [])
-        (λ s. walk_left table.now start next innermost
-        ≡ (s.enters, cursor_at table.now s.row) ∷ walk_left table.now start s.next s.innermost) }
-    ensures state { MatchOption result (IsWalk table.now start next innermost)
-        (λ s. IsRow table.now s.row × IsWalk table.now start s.next s.innermost) }
-    ensures level { IfSome result (λ s. MovesLevel table.now start innermost s.enters s.row s.innermost) }
-{
-    match innermost {
-        None => {
-            if next != start {
-                return None;
-            }
-            let _end = table.row(start);
-            let next = start + 1;
-            Some(WalkStep {
-                enters: true,
-                row: start,
-                next,
-                innermost: Some(start),
-            })
-        }
-        Some(inner) => {
-            if next < table.row(inner).end {
-                let after = next + 1;
-                Some(WalkStep {
-                    enters: true,
-                    row: next,
-                    next: after,
-                    innermost: Some(next),
-                })
-            } else if inner == start {
-                Some(WalkStep {
-                    enters: false,
-                    row: inner,
-                    next,
-                    innermost: None,
-                })
-            } else {
-                Some(WalkStep {
-                    enters: false,
-                    row: inner,
-                    next,
-                    innermost: table.parent_row(inner),
-                })
-            }
-        }
-    }
 }
 
 impl PreorderWithTokens {
@@ -134,7 +68,7 @@ impl Iterator for PreorderWithTokens {
     ghost remaining = { item_count (map walk_event) };
 
     fn next(&mut self) -> Option<WalkEvent<SyntaxElement>> {
-        let step = walk_step(&self.table, self.start, self.next, self.innermost)?;
+        let step = self.table.walk_step(self.start, self.next, self.innermost)?;
         self.next = step.next;
         self.innermost = step.innermost;
         let element = element(&self.table, step.row);

@@ -4,7 +4,7 @@ ghost use Rattle.std.specs.List.{filter, find};
 ghost use Rattle.std.specs.Iterator.{YieldsFirst, item_count};
 ghost use Rattle.tree_model.specs.Rows.{IsRow};
 ghost use Rattle.tree_model.specs.Cursor.{at_node};
-ghost use Rattle.tree_rows.specs.Cursor.{siblings_from};
+ghost use Rattle.tree_rows.specs.Walks.{siblings_from};
 ghost use Rattle.lossless_tree.specs.Element.{element_of, is_trivia_element};
 ghost use Rattle.lossless_tree.specs.Trees.{is_no_trivia};
 
@@ -27,7 +27,7 @@ impl Model for SyntaxElementSiblings {
     ghost use Rattle.std.specs.Prelude.{List, IfSome};
     ghost use Rattle.std.specs.Coded.{coded_list};
     ghost use Rattle.tree_model.specs.Cursor.{Cursor, cursor_code};
-    ghost use Rattle.tree_rows.specs.Cursor.{siblings_from};
+    ghost use Rattle.tree_rows.specs.Walks.{siblings_from};
     ghost use Rattle.tree_model.specs.Rows.{IsRow};
 
     ghost Value = { List Cursor };

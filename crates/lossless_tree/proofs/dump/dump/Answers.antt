@@ -1,5 +1,5 @@
 use Rattle.std.proofs.Common.{refl}
-use Rattle.lossless_tree.proofs.WalkSteps.{walk_begins}
+use Rattle.tree_rows.proofs.WalkSteps.{walk_begins}
 use Rattle.lossless_tree.proofs.DumpLemmas.{lines_at_start}
 use Rattle.lossless_tree.proofs.dump.dump.Goals as goal
 

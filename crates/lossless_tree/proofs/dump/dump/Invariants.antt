@@ -1,7 +1,7 @@
 use Rattle.std.proofs.Common.{◌≡◌, ◌++◌, length}
 use Rattle.std.specs.Prelude.{string_bytes}
 use Rattle.tree_model.specs.Cursor.{cursor_at}
-use Rattle.tree_rows.specs.Cursor.{walk_left, IsWalk, open_count}
+use Rattle.tree_rows.specs.Walks.{walk_left, IsWalk, open_count}
 use Rattle.lossless_tree.specs.Dump.{dump_of}
 use Rattle.lossless_tree.proofs.DumpLemmas.{event_lines}
 use Rattle.lossless_tree.proofs.dump.dump.Given as goal

@@ -1,25 +1,26 @@
 use Rattle.std.proofs.Common.{◌∙◌, ap}
-use Rattle.tree_rows.specs.Rows.{row_at}
+use Rattle.tree_model.specs.Tree.{is_token}
+use Rattle.tree_model.specs.Rows.{tree_at}
 use Rattle.tree_model.specs.Cursor.{cursor_at}
 use Rattle.lossless_tree.specs.declared.cursor.element.NodeOrToken.TheVariants.{Node, Token}
-use Rattle.tree_rows.proofs.StepLemmas.{row_token, row_node}
+use Rattle.tree_rows.proofs.StepLemmas.{token_stands, node_stands}
 use Rattle.lossless_tree.proofs.ElementLemmas.{element_of_token, element_of_node}
 use Rattle.lossless_tree.proofs.cursor.element.element.Goals as goal
 
 pub at-requires-clause-is_token : goal.at-requires-clause-is_token
 at-requires-clause-is_token c =
-    rw c.share.ensures.value (row_token c.args.table.now.value c.args.row c.row.result c.requires (c.row.ensures.value ∙ ap (λ t. row_at t c.args.row) c.deref.ensures) c.if-row.true)
+    rw c.share.ensures.value (token_stands (tree_at c.args.table.now.value c.args.row) c.is_token_at.result (c.is_token_at.ensures ∙ ap (λ t. is_token (tree_at t c.args.row)) c.deref.ensures) c.if-is_token_at.true)
 
-pub at-requires-else-row-clause-is_node : goal.at-requires-else-row-clause-is_node
-at-requires-else-row-clause-is_node c =
-    rw c.share-else-row.ensures.value (row_node c.args.table.now.value c.args.row c.row.result c.requires (c.row.ensures.value ∙ ap (λ t. row_at t c.args.row) c.deref.ensures) c.if-row.false)
+pub at-requires-else-is_token_at-clause-is_node : goal.at-requires-else-is_token_at-clause-is_node
+at-requires-else-is_token_at-clause-is_node c =
+    rw c.share-else-is_token_at.ensures.value (node_stands (tree_at c.args.table.now.value c.args.row) c.is_token_at.result (c.is_token_at.ensures ∙ ap (λ t. is_token (tree_at t c.args.row)) c.deref.ensures) c.if-is_token_at.false)
 
-pub returns-then-row : goal.returns-then-row
-returns-then-row c =
+pub returns-then-is_token_at : goal.returns-then-is_token_at
+returns-then-is_token_at c =
     ap Token (c.at.ensures ∙ ap (λ t. cursor_at t c.args.row) c.share.ensures.value)
-    ∙ element_of_token (cursor_at c.args.table.now.value c.args.row) (row_token c.args.table.now.value c.args.row c.row.result c.requires (c.row.ensures.value ∙ ap (λ t. row_at t c.args.row) c.deref.ensures) c.if-row.true)
+    ∙ element_of_token (cursor_at c.args.table.now.value c.args.row) (token_stands (tree_at c.args.table.now.value c.args.row) c.is_token_at.result (c.is_token_at.ensures ∙ ap (λ t. is_token (tree_at t c.args.row)) c.deref.ensures) c.if-is_token_at.true)
 
-pub returns-else-row : goal.returns-else-row
-returns-else-row c =
-    ap Node (c.at-else-row.ensures ∙ ap (λ t. cursor_at t c.args.row) c.share-else-row.ensures.value)
-    ∙ element_of_node (cursor_at c.args.table.now.value c.args.row) (row_node c.args.table.now.value c.args.row c.row.result c.requires (c.row.ensures.value ∙ ap (λ t. row_at t c.args.row) c.deref.ensures) c.if-row.false)
+pub returns-else-is_token_at : goal.returns-else-is_token_at
+returns-else-is_token_at c =
+    ap Node (c.at-else-is_token_at.ensures ∙ ap (λ t. cursor_at t c.args.row) c.share-else-is_token_at.ensures.value)
+    ∙ element_of_node (cursor_at c.args.table.now.value c.args.row) (node_stands (tree_at c.args.table.now.value c.args.row) c.is_token_at.result (c.is_token_at.ensures ∙ ap (λ t. is_token (tree_at t c.args.row)) c.deref.ensures) c.if-is_token_at.false)

@@ -1,7 +1,7 @@
 use Rattle.std.proofs.Common.{◌∙◌, ap}
 use Rattle.std.specs.List.{filter}
 use Rattle.tree_model.specs.Cursor.{at_node}
-use Rattle.tree_rows.specs.Cursor.{siblings_from}
+use Rattle.tree_rows.specs.Walks.{siblings_from}
 use Rattle.lossless_tree.proofs.NodeLists.{first_kept}
 use Rattle.lossless_tree.proofs.cursor.node.nearest_node.Goals as goal
 

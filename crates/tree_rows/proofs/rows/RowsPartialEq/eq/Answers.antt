@@ -1,7 +1,7 @@
 use Rattle.std.proofs.Common.{◌≡◌, ◌&&◌, ◌∙◌, ap, sym}
 use Rattle.std.specs.Prelude.{◌==◌}
 use Rattle.std.specs.Cmp.Lexicographic.{pointwise}
-use Rattle.tree_rows.specs.Equality.{is_same_row}
+use Rattle.tree_rows.specs.RowEquality.{is_same_row}
 use Rattle.tree_rows.specs.PackedRow.{is_same_packed, are_same_rows}
 use Rattle.tree_model.proofs.At.{cong₂}
 use Rattle.tree_rows.proofs.PackedRow.{same_rows}

@@ -6,7 +6,7 @@ use Rattle.tree_model.specs.Tree.{cons, nil, text}
 use Rattle.tree_rows.specs.Rows.{Represents, rows_of, tree_of_rows}
 use Rattle.tree_model.specs.Equality.{is_same_tree}
 use Rattle.tree_model.specs.EqualityLaws.{tree_Decides, same_test}
-use Rattle.tree_rows.specs.EqualityLaws.{row_Decides}
+use Rattle.tree_rows.specs.RowEqualityLaws.{row_Decides}
 use Rattle.tree_model.proofs.At.{cong₂}
 use Rattle.tree_rows.proofs.TableLemmas.{shown}
 use Rattle.tree_rows.proofs.table.TablePartialEq.eq.Goals as goal

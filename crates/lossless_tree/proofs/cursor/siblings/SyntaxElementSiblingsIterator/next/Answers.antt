@@ -2,7 +2,7 @@ use Rattle.std.proofs.Common.{◌≡◌, ◌∷◌, ◌∙◌, sym, ap, map, len
 use Rattle.std.specs.Prelude.{option_map}
 use Rattle.tree_model.specs.Tree.{sibling_place_in}
 use Rattle.tree_model.specs.Rows.{place_at}
-use Rattle.tree_rows.specs.Cursor.{siblings_from}
+use Rattle.tree_rows.specs.Walks.{siblings_from}
 use Rattle.lossless_tree.specs.Element.{element_of}
 use Rattle.tree_rows.proofs.ChildLists.{siblings_in-step}
 use Rattle.lossless_tree.proofs.cursor.siblings.SyntaxElementSiblingsIterator.next.Goals as goal

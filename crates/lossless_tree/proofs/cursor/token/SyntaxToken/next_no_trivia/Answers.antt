@@ -5,7 +5,7 @@ use Rattle.tree_model.specs.declared.direction.Direction.TheVariants.{Next}
 use Rattle.tree_model.specs.Tree.{next_sibling_place}
 use Rattle.tree_model.specs.Rows.{place_at}
 use Rattle.tree_model.specs.Cursor.{following_of}
-use Rattle.tree_rows.specs.Cursor.{siblings_from}
+use Rattle.tree_rows.specs.Walks.{siblings_from}
 use Rattle.lossless_tree.specs.Element.{element_of}
 use Rattle.lossless_tree.specs.Trees.{is_no_trivia}
 use Rattle.tree_rows.proofs.ChildLists.{following_is}
