@@ -1,12 +1,12 @@
 -- What stands at a row and behind it, as a rest of siblings.
 use Rattle.std.proofs.Common.{◌≡◌, ℕ, zero, suc, ◌+◌, ◌-◌, ◌<◌, ◌≤◌, inl, inr, [], ◌∷◌, ◌++◌, Bool, true, false, nat_lt, leb, length, if◌then◌else◌, refl, sym, ap, subst, ◌∙◌, arith}
-use Rattle.tree_model.specs.Tree.{Tree, node, token, Forest, nil, cons, text, size, forest_size, Place, forest_of_children, start, is_token}
+use Rattle.tree_model.specs.Tree.{Tree, node, token, Forest, nil, cons, text, size, forest_size, Place, forest_of_children, start}
 use Rattle.lossless_tree.specs.Trees.{Siblings, forest_at, trees_at, IsTrees, is_done, first_of, rest_of, behind_first, inside_first}
 use Rattle.tree_model.specs.Rows.{tree_at, place_at, start_at, end_at}
-use Rattle.tree_rows.specs.Rows.{row_at, row_of}
+use Rattle.tree_rows.specs.Rows.{row_at}
 use Rattle.tree_model.proofs.At.{At, cong₂, here, below, after, lift, At-fits, subtree-At, start-At, below_or_after, some_row, find, forest_size-cons}
-use Rattle.tree_model.proofs.TableLemmas.{at_row, up_at}
-use Rattle.tree_rows.proofs.TableLemmas.{row_at-is, next_start_at, row_end_fits}
+use Rattle.tree_model.proofs.TableLemmas.{at_row}
+use Rattle.tree_rows.proofs.TableLemmas.{next_start_at, row_end_fits}
 use Rattle.tree_model.proofs.StepLemmas.{place_from_At}
 use Rattle.tree_rows.proofs.StepLemmas.{end_of_row, row_start}
 

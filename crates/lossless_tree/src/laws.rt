@@ -10,8 +10,8 @@ use crate::cursor::token::SyntaxToken;
 pub use syntax_kind::laws::{kind_names_differ, kind_numbers_differ};
 pub use tree_model::laws::{
     children_fill_nodes, edited_inside_a_piece, equal_cursors_hash_alike, equality_is_sameness,
-    every_is_descendants, nodes_are_accepted, places_are_reached, refusals_hold, replaced_text,
-    text_around_a_place, texts_are_built,
+    every_is_descendants, nodes_are_accepted, places_are_reached, places_end_within, refusals_hold,
+    replaced_text, root_is_place, text_around_a_place, texts_are_built,
 };
 pub use tree_rows::laws::{at_most_two_tokens, covering_holds, pointers_resolve};
 

@@ -27,3 +27,4 @@ pub mod AllFit
 pub mod Precedences
 pub mod CastFree
 pub mod Rows
+pub mod WorkedTokens

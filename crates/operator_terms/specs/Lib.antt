@@ -19,5 +19,6 @@ pub mod Sign
 -- worked terms
 pub mod Notation
 pub mod WorkedTerms
+pub mod WorkedTokens
 pub mod WorkedPlaces
 pub mod WorkedPairs

@@ -17,6 +17,7 @@ ghost use Rattle.operator_terms.specs.Token.{Token, fixed};
 ghost use Rattle.operator_terms.specs.Notation.{a, b, c, x, less, dot_f, calling};
 ghost use Rattle.operator_terms.specs.WorkedPairs.{IsRightPair, pairs, IsRightChange, changes};
 ghost use Rattle.operator_terms.specs.WorkedPlaces.{IsRightAt, strong_places, sides, IsRightIn, precedences};
+ghost use Rattle.operator_terms.specs.WorkedTokens.{HasTokens, binary_tokens, literal_tokens, other_tokens};
 ghost use Rattle.operator_terms.specs.WorkedTerms.{EachRow, IsRight, grouping, ranges, prefixes, postfixes, casts};
 
 // ---- reading
@@ -190,6 +191,13 @@ pub fn worked_terms()
     ensures casts { EachRow IsRight casts }
     ensures no_chain { (k : ℕ) → Reads k (tokens (less (less a b) c)) (less (less a b) c) → ⊥ }
     ensures method { Reads 0 (tokens (calling (dot_f a) x)) (Method a (codes "f") (Last x)) }
+{}
+
+/// Worked tokens: the kinds and the texts of the tokens of terms, with each operator, each literal kind and each form once.
+pub fn worked_tokens()
+    ensures binary { EachRow HasTokens binary_tokens }
+    ensures literals { EachRow HasTokens literal_tokens }
+    ensures others { EachRow HasTokens other_tokens }
 {}
 
 /// For each place of an operand, with one operator of each level, and samples of all forms: which of them the test by binding powers

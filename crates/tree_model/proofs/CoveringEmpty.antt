@@ -1,5 +1,5 @@
 -- What covers an empty range below a row of which no child holds it.
-use Rattle.std.proofs.Common.{◌≡◌, suc, ◌+◌, ◌-◌, ◌<◌, ◌≤◌, refl, ◌∙◌, arith}
+use Rattle.std.proofs.Common.{◌≡◌, suc, ◌<◌, refl, arith}
 use Rattle.tree_model.specs.Tree.{Tree, node, token, nil, cons, size, forest_size, forest_of_children, child_count}
 
 -- ---- the last of the last

@@ -1,5 +1,5 @@
 -- What covers a range, by rows.
-use Rattle.std.proofs.Common.{◌≡◌, ◌⊎◌, ℕ, zero, suc, ◌+◌, ◌<◌, ◌≤◌, ◌∷◌, ◌++◌, length, List, refl, ap, ◌∙◌, arith, append-nil, []}
+use Rattle.std.proofs.Common.{◌≡◌, ℕ, zero, suc, ◌+◌, ◌<◌, ◌≤◌, ◌∷◌, ◌++◌, length, List, refl, ap, ◌∙◌, arith, append-nil, []}
 use Rattle.std.specs.Prelude.{None}
 use Rattle.text_size.specs.TextRange.{Bounds}
 use Rattle.tree_model.specs.Tree.{Tree, Forest, nil, cons, size, forest_of_children, child_at, child_count, bytes_before}

@@ -1,12 +1,12 @@
 -- Which events are accepted, and why the first refusal is one alone.
-use Rattle.std.proofs.Common.{◌≡◌, ℕ, zero, suc, ◌+◌, ◌<◌, ◌≤◌, ◌^◌, List, [], ◌∷◌, ◌++◌, length, refl, sym, ap, subst, ◌∙◌, arith, append_assoc, append-nil}
+use Rattle.std.proofs.Common.{◌≡◌, ℕ, zero, suc, ◌<◌, ◌≤◌, ◌^◌, List, [], ◌∷◌, ◌++◌, length, refl, sym, ap, subst, ◌∙◌, arith, append_assoc, append-nil}
 use Rattle.std.specs.Prelude.{Option, None, Some, nat_lt, if◌then◌else◌, MatchOption}
 use Rattle.std.proofs.lemmas.Bool.Decides.{nat_tests}
 use native.Mathlib.Decide.{dec_lt}
 use Rattle.tree_model.specs.declared.error.FinishError.{FinishError}
 use Rattle.tree_model.specs.declared.error.FinishError.TheVariants.{TooLong, OverClosed, Unclosed, Empty, ManyRoots, TokenRoot, ErrorPastText, Memory}
 use Rattle.tree_model.specs.Tree.{Tree, node, token, Forest, nil, cons, text, IsNode}
-use Rattle.tree_model.specs.Events.{Event, enter, leaf, exit, Builds, BuildsNode, events_of, texts, text_len, open_after, forest_of, root_refusal, balance_refusal, first_refusal, refusal_of, Holds, refusal_number, IsFirstRefusal, IsAccepted, TextsAreBuilt, NodesAreAccepted}
+use Rattle.tree_model.specs.Events.{Event, exit, Builds, BuildsNode, events_of, texts, text_len, open_after, forest_of, root_refusal, balance_refusal, first_refusal, refusal_of, Holds, refusal_number, IsFirstRefusal, IsAccepted, TextsAreBuilt, NodesAreAccepted}
 use Rattle.tree_model.specs.TreeCode.{forest_of-events_of}
 use Rattle.tree_model.proofs.Balance.{events_of-builds, builds_one}
 use Rattle.tree_model.proofs.Counts.{never_over, counted, refusals_hold}

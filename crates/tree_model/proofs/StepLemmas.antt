@@ -1,6 +1,6 @@
 -- Parent, first child and next sibling, by row numbers.
-use Rattle.std.proofs.Common.{◌≡◌, ℕ, suc, ◌+◌, ◌-◌, ◌<◌, ◌≤◌, ◌⊎◌, ◌∷◌, ◌++◌, refl, ap, subst, ◌∙◌, arith, []}
-use Rattle.std.specs.Prelude.{None, Some, nat_lt, if◌then◌else◌, ◌↔◌}
+use Rattle.std.proofs.Common.{◌≡◌, ℕ, suc, ◌<◌, ◌≤◌, ◌∷◌, ◌++◌, refl, ap, subst, arith, []}
+use Rattle.std.specs.Prelude.{None, Some, nat_lt, if◌then◌else◌}
 use Rattle.std.proofs.lemmas.Bool.Decides.{nat_tests}
 use Rattle.tree_model.specs.Tree.{IsNode}
 use Rattle.tree_model.specs.Tree.{Tree, node, token, nil, cons, size, Place, subtree, child_count, forest_of_children, parent_place, sibling_count, next_sibling_place}

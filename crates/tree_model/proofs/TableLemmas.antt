@@ -1,5 +1,5 @@
 -- What the rows of a table say of its tree.
-use Rattle.std.proofs.Common.{◌≡◌, ℕ, ◌+◌, ◌-◌, ◌<◌, ◌≤◌, inl, inr, List, ◌∷◌, ◌++◌, length, take, drop, sym, ap, subst, ◌∙◌, arith, length-append, []}
+use Rattle.std.proofs.Common.{◌≡◌, ℕ, ◌+◌, ◌-◌, ◌<◌, ◌≤◌, inl, inr, List, ◌∷◌, length, take, drop, sym, ap, subst, arith, length-append, []}
 use Rattle.std.specs.Prelude.{◌^◌}
 use Rattle.std.specs.Str.{IsCharBoundary}
 use Rattle.tree_model.proofs.Texts.{next_row, forest_text-cons}

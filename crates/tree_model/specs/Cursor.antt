@@ -1,6 +1,6 @@
 -- A cursor is a whole tree and a place in it, and every step from one cursor to another.
 -- (Upstream: `rowan`'s `SyntaxNode`, `SyntaxToken` and their methods of these names.)
-use Rattle.std.specs.Prelude.{◌≡◌, ℕ, ◌+◌, List, ◌∷◌, ◌++◌, length, Option, None, Some, MatchOption, refl, option_map, map, Bool, if◌then◌else◌, ◌-◌, ◌<◌, ◌≤◌, ◌⊎◌, []}
+use Rattle.std.specs.Prelude.{◌≡◌, ℕ, ◌+◌, List, ◌∷◌, ◌++◌, length, Option, None, Some, MatchOption, refl, option_map, map, Bool, ◌-◌, []}
 use Rattle.std.specs.List.{range_with_len, filter}
 use Rattle.tree_model.specs.declared.direction.Direction.{Direction}
 use Rattle.tree_model.specs.declared.direction.Direction.TheVariants.{Next, Prev}

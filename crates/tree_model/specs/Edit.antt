@@ -53,6 +53,14 @@ TextAround =
     (t : Tree) (p : Place) → IsPlace t p
     → (text t ≡ text_before t p ++ (text (subtree t p) ++ text_behind t p)) × (length (text_before t p) ≡ start t p)
 
+-- a place ends within the text
+abbrev pub PlacesEndWithin : Type 0
+PlacesEndWithin = (t : Tree) (p : Place) → IsPlace t p → end t p ≤ length (text t)
+
+-- the root's place is one of the tree's
+abbrev pub RootIsPlace : Type 0
+RootIsPlace = (t : Tree) → IsPlace t []
+
 -- the text of a tree with a piece replaced is the spliced text, and the piece stands at its place
 abbrev pub ReplacedText : Type 0
 ReplacedText =

@@ -1,6 +1,6 @@
 //! Laws of the definitions that contracts on trees cite. The functions do nothing: the contract is the law.
 ghost use Rattle.tree_model.specs.CursorLaws.{ChildrenFillNodes, EqualityIsSameness, EqualCursorsHashAlike};
-ghost use Rattle.tree_model.specs.Edit.{PlacesAreReached, TextAround, ReplacedText, EditedInside};
+ghost use Rattle.tree_model.specs.Edit.{PlacesAreReached, PlacesEndWithin, RootIsPlace, TextAround, ReplacedText, EditedInside};
 ghost use Rattle.tree_model.specs.Every.{EveryIsDescendants};
 ghost use Rattle.tree_model.specs.Events.{RefusalsHold, TextsAreBuilt, NodesAreAccepted};
 
@@ -24,6 +24,16 @@ pub fn nodes_are_accepted()
 /// A place of a tree's list of places is one that can be reached from the root, one child after another.
 pub fn places_are_reached()
     ensures { PlacesAreReached }
+{}
+
+/// A place of a tree ends within the tree's text.
+pub fn places_end_within()
+    ensures { PlacesEndWithin }
+{}
+
+/// The root's place is one of the tree's places.
+pub fn root_is_place()
+    ensures { RootIsPlace }
 {}
 
 /// A tree's text is the text before a place, that of the place, and the text behind it.

@@ -1,4 +1,4 @@
-use Rattle.std.proofs.Common.{◌≡◌, ◌+◌, ◌∙◌, ap}
+use Rattle.std.proofs.Common.{◌+◌, ◌∙◌, ap}
 use Rattle.tree_model.specs.Tree.{size}
 use Rattle.tree_model.specs.Rows.{tree_at}
 use Rattle.tree_model.proofs.WalkLemmas.{descendants-numbered}
