@@ -1,3 +1,4 @@
 pub mod Boundaries
-pub mod ValueTexts
 pub mod IntValues
+pub mod Plain
+pub mod ValueTexts

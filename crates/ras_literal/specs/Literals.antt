@@ -1,5 +1,5 @@
 -- The contents and values of literals, by their texts. (Upstream: rust-analyzer's `token_ext`; the Rust Reference, "Tokens".)
-use Rattle.std.specs.Prelude.{◌≡◌, ℕ, ◌+◌, ◌-◌, ◌==◌, ◌&&◌, ◌||◌, not, Bool, false, nat_eq, nat_lt, codes, List, [], ◌∷◌, flat_map, length, encode_utf8, Option, None, Some, Result, Ok, Err, if◌then◌else◌}
+use Rattle.std.specs.Prelude.{ℕ, ◌+◌, ◌-◌, ◌==◌, ◌||◌, not, Bool, false, nat_eq, nat_lt, codes, List, [], ◌∷◌, flat_map, length, encode_utf8, Option, None, Some, Result, Ok, Err, if◌then◌else◌}
 use Rattle.std.specs.List.{list_any, starts_with, ends_with}
 use Rattle.std.specs.Option.{option_and_then, option_map_or}
 use Rattle.std.specs.Str.{chars}

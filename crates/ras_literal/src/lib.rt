@@ -3,6 +3,7 @@
 
 pub mod chars;
 pub mod comments;
+pub mod laws;
 pub mod numbers;
 pub mod parts;
 pub mod places;

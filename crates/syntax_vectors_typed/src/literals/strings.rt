@@ -1,9 +1,13 @@
 //! Characters, bytes and strings.
 use literal_escape::{EscapeError, Mode};
-use ras_literal::{ValueError, byte_value, bytes_value, char_value, string_content, string_value};
+use ras_literal::{
+    ValueError, byte_value, bytes_value, char_value, offset_down, quote_offsets, range_up,
+    string_content, string_value,
+};
 use std::alloc::Global;
 use std::borrow::{CowSlice, CowStr};
 use std::test::Fail;
+use text_size::{TextRange, TextSize};
 
 #[test]
 fn characters_and_bytes(rt: HostRuntime) -> Result<(), Fail> {
@@ -92,6 +96,57 @@ fn values_of_byte_strings(rt: HostRuntime) -> Result<(), Fail> {
             unicode,
             Err(ValueError::Escape(EscapeError::UnicodeEscapeInByte))
         )
+    );
+    Ok(())
+}
+
+#[test]
+fn quotes_of_strings(rt: HostRuntime) -> Result<(), Fail> {
+    let found = quote_offsets("\"ab\"", TextSize::new(4)).ok_or("no quotes")?;
+    assert_eq!(rt;
+        found.quotes.0,
+        TextRange::new(TextSize::new(4), TextSize::new(5))
+    );
+    assert_eq!(rt;
+        found.contents,
+        TextRange::new(TextSize::new(5), TextSize::new(7))
+    );
+    assert_eq!(rt;
+        found.quotes.1,
+        TextRange::new(TextSize::new(7), TextSize::new(8))
+    );
+    let raw = quote_offsets("br#\"a\"\"#", TextSize::new(0)).ok_or("no quotes")?;
+    assert_eq!(rt;
+        raw.contents,
+        TextRange::new(TextSize::new(4), TextSize::new(6))
+    );
+    assert_eq!(rt; quote_offsets("\"", TextSize::new(0)), None);
+    assert_eq!(rt; quote_offsets("a", TextSize::new(0)), None);
+    Ok(())
+}
+
+#[test]
+fn places_in_contents(rt: HostRuntime) -> Result<(), Fail> {
+    let contents = TextRange::new(TextSize::new(5), TextSize::new(7));
+    let whole = TextRange::up_to(TextSize::new(2));
+    assert_eq!(rt; range_up(contents, whole), Some(contents));
+    let end = TextRange::empty(TextSize::new(2));
+    assert_eq!(rt;
+        range_up(contents, end),
+        Some(TextRange::empty(TextSize::new(7)))
+    );
+    assert_eq!(rt;
+        range_up(contents, TextRange::up_to(TextSize::new(3))),
+        None
+    );
+    assert_eq!(rt; offset_down(contents, TextSize::new(4)), None);
+    assert_eq!(rt;
+        offset_down(contents, TextSize::new(5)),
+        Some(TextSize::new(0))
+    );
+    assert_eq!(rt;
+        offset_down(contents, TextSize::new(9)),
+        Some(TextSize::new(4))
     );
     Ok(())
 }
