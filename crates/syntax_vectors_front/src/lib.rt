@@ -1,0 +1,7 @@
+//! Tests of parses, of the small front end, and of edits: outside rows, through the program and through calls.
+#![tactic(auto)]
+
+#[cfg(test)]
+mod parses;
+#[cfg(test)]
+mod program;
