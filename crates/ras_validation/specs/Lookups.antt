@@ -13,7 +13,7 @@ use Rattle.ras_node.specs.Nodes.{is_of_kind, token_child}
 use Rattle.ras_node.specs.Searches.{first_node, first_token, behind, has_other_kind}
 use Rattle.ras_node.specs.Sets.{is_expr, is_ty}
 use Rattle.ras_search.specs.Algo.{tokens_beyond, has_no_trivia_kind}
-use Rattle.ras_validation.specs.Kinds.{is_range_operator, is_binary_operator, is_before_literal}
+use Rattle.ras_node.specs.PartSets.{is_range_operator, is_binary_operator, is_before_literal}
 
 -- the first child node of a kind
 abbrev pub node_child : SyntaxKind → Cursor → Option Cursor
