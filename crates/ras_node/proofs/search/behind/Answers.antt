@@ -1,6 +1,7 @@
 use Rattle.std.proofs.Common.{◌∙◌, sym, ap}
 use Rattle.ras_node.specs.Searches.{behind}
-use Rattle.ras_node.proofs.Steps.{behind_found, behind_passed, ended}
+use Rattle.lossless_tree.proofs.ChildSteps.{ended}
+use Rattle.ras_node.proofs.Steps.{behind_found, behind_passed}
 use Rattle.ras_node.proofs.search.behind.Goals as goal
 
 pub returns-then-is_token_among : goal.returns-then-is_token_among

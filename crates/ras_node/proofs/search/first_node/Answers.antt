@@ -1,6 +1,7 @@
 use Rattle.std.proofs.Common.{◌∙◌, sym, ap}
 use Rattle.ras_node.specs.Searches.{first_node}
-use Rattle.ras_node.proofs.Steps.{node_found, node_passed, ended}
+use Rattle.lossless_tree.proofs.ChildSteps.{ended}
+use Rattle.ras_node.proofs.Steps.{node_found, node_passed}
 use Rattle.ras_node.proofs.search.first_node.Goals as goal
 
 pub returns-then-is_node_among : goal.returns-then-is_node_among

@@ -1,6 +1,7 @@
 use Rattle.std.proofs.Common.{◌∙◌, sym, ap}
 use Rattle.ras_node.specs.Searches.{first_node, before}
-use Rattle.ras_node.proofs.Steps.{before_found, before_ended, before_passed, ended}
+use Rattle.lossless_tree.proofs.ChildSteps.{ended}
+use Rattle.ras_node.proofs.Steps.{before_found, before_ended, before_passed}
 use Rattle.ras_node.proofs.search.first_node_before.Goals as goal
 
 pub returns-then-is_node_among : goal.returns-then-is_node_among

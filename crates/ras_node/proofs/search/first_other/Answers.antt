@@ -3,7 +3,8 @@ use Rattle.std.specs.Prelude.{option_map}
 use Rattle.std.specs.List.{find}
 use Rattle.lossless_tree.specs.Element.{element_of}
 use Rattle.ras_node.specs.Searches.{has_other_kind}
-use Rattle.ras_node.proofs.Steps.{other_found, other_passed, ended}
+use Rattle.lossless_tree.proofs.ChildSteps.{ended}
+use Rattle.ras_node.proofs.Steps.{other_found, other_passed}
 use Rattle.ras_node.proofs.search.first_other.Goals as goal
 
 pub returns-then-is_other : goal.returns-then-is_other

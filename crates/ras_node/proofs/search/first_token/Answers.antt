@@ -1,6 +1,7 @@
 use Rattle.std.proofs.Common.{◌∙◌, sym, ap}
 use Rattle.ras_node.specs.Searches.{first_token}
-use Rattle.ras_node.proofs.Steps.{token_found, token_passed, ended}
+use Rattle.lossless_tree.proofs.ChildSteps.{ended}
+use Rattle.ras_node.proofs.Steps.{token_found, token_passed}
 use Rattle.ras_node.proofs.search.first_token.Goals as goal
 
 pub returns-then-is_token_among : goal.returns-then-is_token_among
