@@ -103,6 +103,7 @@ impl SyntaxTreeBuilder {
     }
 
     // The root and the errors.
+    #[tactic(auto, using(tree_model::proofs::Refusals::is_first_refusal, tree_model::proofs::Refusals::accepted_none))]
     fn finish_raw(self) -> Result<Built, FinishError>
         ensures ok { IfOk result (λ b. IsRoot b.root × BuildsNode self.events b.root.tree × (b.errors.items ≡ self.faults)) }
         ensures in_text { IfOk result (λ b. ErrorsLieIn (record { tree = b.root.tree; errors = b.errors.items })) }

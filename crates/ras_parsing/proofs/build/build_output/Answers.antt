@@ -4,6 +4,7 @@ use Rattle.std.specs.Prelude.{IsCharBoundary}
 use Rattle.std.specs.Vec.Iter.{into_iter_items}
 use Rattle.std.proofs.lemmas.Str.{IsCharBoundary-from_drop}
 use Rattle.ras_front_end.specs.Reading.{front_steps, reading_of}
+use Rattle.tree_model.proofs.Refusals.{is_first_refusal}
 use Rattle.ras_parsing.proofs.TreeTexts.{Cuts-IsUtf8}
 use Rattle.ras_parsing.proofs.BuildLemmas.{token_end, IsFinished, finished, not_refused}
 use Rattle.ras_parsing.proofs.build.build_output.Goals as goal
@@ -29,7 +30,7 @@ pub unreachable-requires : goal.unreachable-requires
 unreachable-requires c =
     let none : into_iter_items c.loop-step.step-iterator ≡ [] = nil_from_length (into_iter_items c.loop-step.step-iterator) (sym c.loop-step.step-iterator.rest.ok.0 ∙ c.in-None.ensures.steps.0) in
     let e = not_refused c.args.text.now (reading_of c.args.output) c.requires.keeps (front_steps (into_iter_items c.loop-step.step-iterator)) c.loop-step.at c.loop-step.builder c.loop-step.errors.items c.in-Err.refusal
-    c.requires.short c.loop-step.invariant (ap front_steps none) c.in-Err.ensures.refused in
+    c.requires.short c.loop-step.invariant (ap front_steps none) (is_first_refusal c.loop-step.builder c.in-Err.refusal c.in-Err.ensures.refused) in
     c.in_default.not-Memory e
 
 pub returns-in-Ok-clause-parsed : goal.returns-in-Ok-clause-parsed
