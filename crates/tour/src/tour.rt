@@ -15,7 +15,10 @@ fn a_text_becomes_a_tree(rt: HostRuntime) -> Result<(), Fail> {
     let errors = parse.errors(alloc)?;
     assert_eq!(rt; errors.len(), 1);
     for error in &errors {
-        assert_eq!(rt; format!(in alloc; "{error}")?.as_str(), "expected an expression");
+        assert_eq!(rt;
+            format!(in alloc; "{error}")?.as_str(),
+            "expected an expression"
+        );
     }
     let file = parse.tree().ok_or("no file")?;
     let mut items: u32 = 0;
@@ -52,7 +55,13 @@ fn a_place_leads_to_a_view(rt: HostRuntime) -> Result<(), Fail> {
     let pointer = AstPtr::new(&sum);
     assert!(rt; pointer.to_node(&root) == Some(sum));
     let function = root.first_child().ok_or("no function")?;
-    assert_eq!(rt; name_of(&function).ok_or("no name")?.text().ok_or("no text")?, "foo");
+    assert_eq!(rt;
+        name_of(&function)
+            .ok_or("no name")?
+            .text()
+            .ok_or("no text")?,
+        "foo"
+    );
     Ok(())
 }
 
@@ -63,7 +72,10 @@ fn an_edit_reads_a_token_anew(rt: HostRuntime) -> Result<(), Fail> {
     let text = parse.syntax_node();
     assert_eq!(rt; text.as_str(), "fn foo() {  }");
     let root = text.clone_subtree(alloc)?;
-    let name = root.token_at_offset(TextSize::new(4)).right_biased().ok_or("no token")?;
+    let name = root
+        .token_at_offset(TextSize::new(4))
+        .right_biased()
+        .ok_or("no token")?;
     assert!(rt; name.text_range() == TextRange::new(TextSize::new(3), TextSize::new(6)));
     Ok(())
 }
