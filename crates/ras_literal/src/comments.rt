@@ -25,12 +25,14 @@ impl CommentShape {
         }
     }
 
+    /// Whether it ends with its line: `//`.
     pub fn is_line(self) -> bool
         ensures { result ≡ is_line_shape self }
     {
         matches!(self, CommentShape::Line)
     }
 
+    /// Whether it is closed by a mark of its own: `/* */`.
     pub fn is_block(self) -> bool
         ensures { result ≡ is_block_shape self }
     {
@@ -48,12 +50,14 @@ pub enum AttrKind {
 }
 
 impl AttrKind {
+    /// Whether it belongs to what it stands in.
     pub fn is_inner(&self) -> bool
         ensures { result ≡ is_inner_kind self.now }
     {
         matches!(self, AttrKind::Inner)
     }
 
+    /// Whether it belongs to what it stands before.
     pub fn is_outer(&self) -> bool
         ensures { result ≡ is_outer_kind self.now }
     {
