@@ -42,7 +42,7 @@ fn put(open: &mut Vec<Unfinished>, tree: PlainTree) -> Result<Option<PlainTree>,
 
 impl PlainTree {
     /// Reads a tree. Words are parted by a space: `KIND(` or `(` enters a node, `)` leaves it, and `KIND:text` or `:text`
-    /// is a token. In a text `~` stands for a space.
+    /// is a token. No text has a space; a `~` can stand in its place.
     pub fn read(alloc: Global, words: &'static str) -> Result<PlainTree, Fail> {
         let mut open: Vec<Unfinished> = Vec::new(alloc);
         let mut number: u16 = 0;

@@ -16,6 +16,8 @@ mod matches;
 #[cfg(test)]
 mod pointers;
 #[cfg(test)]
+mod tokens;
+#[cfg(test)]
 mod trees;
 #[cfg(test)]
 mod violations;
