@@ -2,7 +2,7 @@
 use ra_ap_syntax::ast::{self, ArithOp, BinaryOp, HasModuleItem, HasName};
 use ra_ap_syntax::unescape::unescape_str;
 use ra_ap_syntax::{
-    AstNode, AstPtr, Edition, SourceFile, SyntaxKind, SyntaxNode, T, TextRange, TextSize,
+    AstNode, AstPtr, Edition, SourceFile, SyntaxKind, SyntaxNode, TextRange, TextSize,
     TreeBuilder, algo, match_ast,
 };
 use std::test::Fail;
@@ -51,7 +51,7 @@ fn a_place_leads_to_a_view(rt: HostRuntime) -> Result<(), Fail> {
     assert_eq!(rt; left.ok_or("no left")?.syntax().as_str(), "1");
     assert!(rt; operator == Some(BinaryOp::ArithOp(ArithOp::Add)));
     assert_eq!(rt; right.ok_or("no right")?.syntax().as_str(), "2");
-    assert!(rt; sum.op_token().ok_or("no token")?.kind() == T![+]);
+    assert!(rt; sum.op_token().ok_or("no token")?.kind() == SyntaxKind::PLUS);
     let pointer = AstPtr::new(&sum);
     assert!(rt; pointer.to_node(&root) == Some(sum));
     let function = root.first_child().ok_or("no function")?;
