@@ -2,8 +2,6 @@
 #![tactic(auto)]
 
 #[cfg(test)]
-mod accessors;
-#[cfg(test)]
 mod algo;
 #[cfg(test)]
 mod casts;
@@ -15,8 +13,6 @@ mod lookups;
 mod matches;
 #[cfg(test)]
 mod pointers;
-#[cfg(test)]
-mod tokens;
 #[cfg(test)]
 mod trees;
 #[cfg(test)]
