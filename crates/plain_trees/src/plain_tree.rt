@@ -68,6 +68,7 @@ impl PlainTree {
         Err(Fail::from("the words make no tree"))
     }
 
+    /// The kind of the node or token.
     pub fn kind(&self) -> SyntaxKind {
         match self {
             PlainTree::Node(kind, _) => *kind,

@@ -34,7 +34,7 @@ fn add(steps: &mut Vec<Step>, step: Step) -> Result<(), AllocError>
     Ok(())
 }
 
-// The steps of a root round the marks, of which the last stands first.
+/// The steps of a root round the marks, of which the last stands first. It takes time linear in their number.
 pub fn rooted(
     alloc: Global,
     root: SyntaxKind,
