@@ -1,4 +1,5 @@
 pub mod Escapes
 pub mod Lines
+pub mod Needless
 pub mod Output
 pub mod Requests

@@ -15,10 +15,11 @@ use Rattle.ras_front_end.specs.Parsed.{Parsed, IsParseOf}
 use Rattle.ras_typed_parse.specs.AllErrors.{debug_dump_of}
 use Rattle.tiny_front.specs.Front.{tiny_front}
 use Rattle.syntax_tool.specs.declared.command.Command.{Command}
-use Rattle.syntax_tool.specs.declared.command.Command.TheVariants.{Events, Dump, Reparse}
+use Rattle.syntax_tool.specs.declared.command.Command.TheVariants.{Events, Dump, Parens, Reparse}
 use Rattle.syntax_tool.specs.declared.refusal.Refusal.{Refusal}
-use Rattle.syntax_tool.specs.declared.refusal.Refusal.TheVariants.{Read, NotUtf8, BadLine, BadKind, BadRange, TooLong, OverClosed, Unclosed, Empty, ManyRoots, TokenRoot, ErrorPastText, Memory}
+use Rattle.syntax_tool.specs.declared.refusal.Refusal.TheVariants.{Read, NotUtf8, BadLine, BadKind, BadRange, OtherRoot, TooLong, OverClosed, Unclosed, Empty, ManyRoots, TokenRoot, ErrorPastText, Memory}
 use Rattle.syntax_tool.specs.Lines.{lines_of, ReadsLines}
+use Rattle.syntax_tool.specs.Needless.{AnswersParens}
 use Rattle.syntax_tool.specs.Requests.{AnswersReparse}
 
 -- the program's name of a refusal of `finish`
@@ -38,6 +39,7 @@ refusal_name NotUtf8 = codes "NotUtf8"
 refusal_name BadLine = codes "BadLine"
 refusal_name BadKind = codes "BadKind"
 refusal_name BadRange = codes "BadRange"
+refusal_name OtherRoot = codes "OtherRoot"
 refusal_name TooLong = codes "TooLong"
 refusal_name OverClosed = codes "OverClosed"
 refusal_name Unclosed = codes "Unclosed"
@@ -54,7 +56,7 @@ refusal_of_parse parse.Memory = Memory
 
 -- the command that a word names
 abbrev pub command_of : List ℕ → Option Command
-command_of word = if bytes_eq word (codes "events") then Some Events else (if bytes_eq word (codes "dump") then Some Dump else (if bytes_eq word (codes "reparse") then Some Reparse else None))
+command_of word = if bytes_eq word (codes "events") then Some Events else (if bytes_eq word (codes "dump") then Some Dump else (if bytes_eq word (codes "parens") then Some Parens else (if bytes_eq word (codes "reparse") then Some Reparse else None)))
 
 -- the events build a tree, which is dumped; else the first refusal of `finish` is named
 abbrev pub DumpsEvents : List Event → Result (List ℕ) Refusal → Type 0
@@ -81,6 +83,7 @@ AnswersText text r =
 abbrev pub AnswersAs : Command → List ℕ → Result (List ℕ) Refusal → Type 0
 AnswersAs Events text r = AnswersEvents text r
 AnswersAs Dump text r = AnswersText text r
+AnswersAs Parens text r = AnswersParens text r
 AnswersAs Reparse text r = AnswersReparse text r
 
 -- the answer of a command: that the input is text is looked at first

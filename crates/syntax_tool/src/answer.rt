@@ -5,6 +5,7 @@ ghost use Rattle.syntax_tool.specs.Output.{AnswersInput};
 use crate::command::Command;
 use crate::dump::dump;
 use crate::events::events;
+use crate::parens::parens;
 use crate::refusal::Refusal;
 use crate::reparse::reparse_answer;
 use std::alloc::Global;
@@ -20,6 +21,7 @@ pub(crate) fn answer_to(alloc: Global, command: Command, input: &[u8]) -> Result
     match command {
         Command::Events => events(alloc, text),
         Command::Dump => dump(alloc, text),
+        Command::Parens => parens(alloc, text),
         Command::Reparse => reparse_answer(alloc, text),
     }
 }

@@ -9,6 +9,8 @@ pub enum Command {
     Events,
     /// A file's text to the dump of its tree, with its errors.
     Dump,
+    /// An expression's text to whether its tree reads back, and its needless pairs of parentheses.
+    Parens,
     /// An edit and a file's text to the dump of the tree after the edit, and what was read anew.
     Reparse,
 }
@@ -22,6 +24,8 @@ impl Command {
             Some(Command::Events)
         } else if name == "dump" {
             Some(Command::Dump)
+        } else if name == "parens" {
+            Some(Command::Parens)
         } else if name == "reparse" {
             Some(Command::Reparse)
         } else {

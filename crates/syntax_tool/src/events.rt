@@ -8,8 +8,12 @@ use crate::refusal::Refusal;
 use ra_ap_syntax::SyntaxTreeBuilder;
 use std::alloc::Global;
 
-// A builder with the events of all lines.
-fn read_events(alloc: Global, text: &str) -> Result<SyntaxTreeBuilder, Refusal>
+/// A builder with the events of all lines of a text.
+///
+/// A line is `enter KIND`, `exit` or `token KIND TEXT`; in TEXT, `\n`, `\r`, `\t` and `\\` are escapes, and without it the token
+/// is empty. Empty lines are skipped. The first line that has none of these forms (`BadLine`), or names no kind (`BadKind`),
+/// refuses; `Memory` as soon as memory runs out. Time linear in the text.
+pub fn read_events(alloc: Global, text: &str) -> Result<SyntaxTreeBuilder, Refusal>
     ensures { MatchResult result (λ builder. ReadsLines (lines_of text.now) (Ok builder.events) × (builder.faults ≡ [])) (λ e. (e ≡ Refusal.Memory) ⊎ ReadsLines (lines_of text.now) (Err e)) }
 {
     let mut builder = SyntaxTreeBuilder::new(alloc);

@@ -9,10 +9,12 @@ mod events;
 mod input;
 mod lines;
 mod output;
+mod parens;
 mod program;
 mod refusal;
 mod reparse;
 
 pub use command::Command;
+pub use events::read_events;
 pub use program::run;
 pub use refusal::Refusal;

@@ -17,6 +17,8 @@ pub enum Refusal {
     BadKind,
     /// A range ends before it starts, or does not lie in the text on character boundaries.
     BadRange,
+    /// The root of the tree of an expression's text is no expression.
+    OtherRoot,
     /// The text is longer than 4,294,967,295 bytes.
     TooLong,
     /// Some front of the events has more exits than enters.
@@ -48,6 +50,7 @@ impl Refusal {
             Refusal::BadLine => "refused: BadLine\n",
             Refusal::BadKind => "refused: BadKind\n",
             Refusal::BadRange => "refused: BadRange\n",
+            Refusal::OtherRoot => "refused: OtherRoot\n",
             Refusal::TooLong => "refused: TooLong\n",
             Refusal::OverClosed => "refused: OverClosed\n",
             Refusal::Unclosed => "refused: Unclosed\n",

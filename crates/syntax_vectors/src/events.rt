@@ -181,7 +181,7 @@ fn refusals_of_lines(rt: HostRuntime) -> Result<(), Fail> {
 #[test]
 fn other_commands_read_nothing(rt: HostRuntime) -> Result<(), Fail> {
     let usage = b"usage: syntax_tool events|dump|parens|reparse\n";
-    for command in ["print", "", "parens", "event", "events ", "dump "] {
+    for command in ["print", "", "paren", "event", "events ", "dump "] {
         let mut reader = Source::new(STORED, usize::MAX, usize::MAX);
         let mut writer = Sink::new(Vec::new(rt.alloc()), usize::MAX, usize::MAX);
         let status = run(rt.alloc(), &mut reader, &mut writer, command);
