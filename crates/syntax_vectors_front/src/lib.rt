@@ -5,3 +5,5 @@
 mod parses;
 #[cfg(test)]
 mod program;
+#[cfg(test)]
+mod tour;

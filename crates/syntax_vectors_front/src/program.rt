@@ -1,4 +1,4 @@
-//! The commands `dump` and `reparse`.
+//! The commands `dump`, `parens` and `reparse`.
 use std::process::Abort;
 use std::test::Fail;
 use syntax_tool::run;
@@ -90,4 +90,55 @@ fn edits(rt: HostRuntime) -> Result<(), Fail> {
         b"refused: BadLine\n",
         1,
     )
+}
+
+// Runs `parens` over an expression's text.
+fn expect_parens<R: Abort + AllocGlobal>(rt: &R, text: &str, output: &[u8]) -> Result<(), Fail> {
+    expect_run(rt, "parens", text.as_bytes(), output, 0)
+}
+
+#[test]
+fn pairs_that_may_go(rt: HostRuntime) -> Result<(), Fail> {
+    expect_parens(&rt, "a + (b * c)", b"reads_back true\nneedless 4..11\n")?;
+    expect_parens(&rt, "-(a.f)", b"reads_back true\nneedless 1..6\n")?;
+    expect_parens(&rt, "(a.b())()", b"reads_back true\nneedless 0..7\n")?;
+    expect_parens(&rt, "f((a), b = (c))", b"reads_back true\nneedless 2..5\nneedless 11..14\n")?;
+    expect_parens(&rt, " (a) + b", b"reads_back true\nneedless 1..4\n")?;
+    expect_parens(&rt, "(a - b) - c", b"reads_back true\nneedless 0..7\n")?;
+    expect_parens(&rt, "((a + b)) * c", b"reads_back true\nneedless 0..9\nneedless 1..8\n")
+}
+
+#[test]
+fn pairs_that_stay(rt: HostRuntime) -> Result<(), Fail> {
+    for text in [
+        "(-a).f",
+        "(a = b) = c",
+        "(a..b)..c",
+        "(a)",
+        "a - ( b - c )",
+        "(a.f)(x)",
+    ] {
+        expect_parens(&rt, text, b"reads_back true\n")?;
+    }
+    expect_parens(&rt, "a +", b"reads_back none\n")
+}
+
+#[test]
+fn pairs_around_casts(rt: HostRuntime) -> Result<(), Fail> {
+    expect_parens(&rt, "(a + b as T) < c", b"reads_back true\n")?;
+    expect_parens(&rt, "(a + b as T) <= c", b"reads_back true\nneedless 0..12\n")?;
+    expect_parens(&rt, "(a as T) as U", b"reads_back true\nneedless 0..8\n")?;
+    expect_parens(&rt, "(-a) as T", b"reads_back true\nneedless 0..4\n")?;
+    for text in ["-(a as T)", "(a as T).f", "x + (a as T) < c"] {
+        expect_parens(&rt, text, b"reads_back true\n")?;
+    }
+    Ok(())
+}
+
+#[test]
+fn roots_that_are_no_expressions(rt: HostRuntime) -> Result<(), Fail> {
+    for text in ["", "a < b < c", "a b", "a as T < b"] {
+        expect_run(&rt, "parens", text.as_bytes(), b"refused: OtherRoot\n", 1)?;
+    }
+    Ok(())
 }

@@ -1,0 +1,117 @@
+//! The README's tour: each snippet there stands here.
+use ra_ap_syntax::ast::{self, ArithOp, BinaryOp, HasModuleItem, HasName};
+use ra_ap_syntax::unescape::unescape_str;
+use ra_ap_syntax::{
+    AstNode, AstPtr, Edition, SourceFile, SyntaxKind, SyntaxNode, TextRange, TextSize, TreeBuilder,
+    algo, match_ast,
+};
+use std::alloc::Global;
+use std::test::Fail;
+use tiny_front::Tiny;
+
+#[test]
+fn a_text_has_errors(rt: HostRuntime) -> Result<(), Fail> {
+    let alloc = rt.alloc();
+    let parse = SourceFile::parse(alloc, "fn f() { 1 + }", &Tiny, Edition::CURRENT)?;
+    for error in &parse.errors(alloc)? {
+        let line = format!(in alloc; "{}: {error}", error.range())?;
+        assert_eq!(rt; line.as_str(), "13..13: expected an expression");
+    }
+    Ok(())
+}
+
+#[test]
+fn a_text_has_items(rt: HostRuntime) -> Result<(), Fail> {
+    let alloc = rt.alloc();
+    let parse = SourceFile::parse(alloc, "fn f() { 1 + }", &Tiny, Edition::CURRENT)?;
+    let file = parse.tree().ok_or("no file")?;
+    for item in file.items() {
+        assert_eq!(rt; item.syntax().as_str(), "fn f() { 1 + }");
+    }
+    Ok(())
+}
+
+fn name_of(node: &SyntaxNode) -> Option<ast::Name> {
+    match_ast! {
+        match node {
+            ast::Fn(it) => it.name(),
+            ast::Struct(it) => it.name(),
+            _ => None,
+        }
+    }
+}
+
+#[test]
+fn a_node_has_a_name(rt: HostRuntime) -> Result<(), Fail> {
+    let parse = SourceFile::parse(rt.alloc(), "fn foo() {}", &Tiny, Edition::CURRENT)?;
+    let function = parse.syntax_node().first_child().ok_or("no function")?;
+    let name = name_of(&function).ok_or("no name")?;
+    assert_eq!(rt; name.text().ok_or("no text")?, "foo");
+    Ok(())
+}
+
+fn sum_at(root: &SyntaxNode, offset: TextSize) -> Result<ast::BinExpr, Fail> {
+    let sum = algo::find_node_at_offset::<ast::BinExpr>(root, offset).ok_or("no sum")?;
+    Ok(sum)
+}
+
+#[test]
+fn a_place_leads_to_a_view(rt: HostRuntime) -> Result<(), Fail> {
+    let parse = SourceFile::parse(rt.alloc(), "fn foo() { 1 + 2 }", &Tiny, Edition::CURRENT)?;
+    let sum = sum_at(&parse.syntax_node(), TextSize::new(13))?;
+    assert!(rt; sum.op_kind() == Some(BinaryOp::ArithOp(ArithOp::Add)));
+    let right = sum.rhs().ok_or("no right side")?;
+    assert_eq!(rt; right.syntax().as_str(), "2");
+    Ok(())
+}
+
+#[test]
+fn a_pointer_finds_its_view(rt: HostRuntime) -> Result<(), Fail> {
+    let parse = SourceFile::parse(rt.alloc(), "fn foo() { 1 + 2 }", &Tiny, Edition::CURRENT)?;
+    let root = parse.syntax_node();
+    let sum = sum_at(&root, TextSize::new(13))?;
+    let pointer = AstPtr::new(&sum);
+    assert!(rt; pointer.to_node(&root) == Some(sum));
+    Ok(())
+}
+
+#[test]
+fn an_edit_reads_a_token_anew(rt: HostRuntime) -> Result<(), Fail> {
+    let alloc = rt.alloc();
+    let parse = SourceFile::parse(alloc, "fn foo() {}", &Tiny, Edition::CURRENT)?;
+    let name = TextRange::new(TextSize::new(3), TextSize::new(6));
+    let edited = parse.incremental_reparse(alloc, &Tiny, name, "bar", Edition::CURRENT)?;
+    let (new, read_anew) = edited.ok_or("all was read anew")?;
+    assert!(rt; read_anew == name);
+    assert_eq!(rt; new.syntax_node().as_str(), "fn bar() {}");
+    Ok(())
+}
+
+fn name_tree(alloc: Global) -> Result<SyntaxNode, Fail> {
+    let mut builder = TreeBuilder::new(alloc);
+    builder.start_node(SyntaxKind::NAME)?;
+    builder.token(SyntaxKind::IDENT, "foo")?;
+    builder.finish_node()?;
+    let root = builder.finish()?;
+    Ok(root)
+}
+
+#[test]
+fn events_become_a_tree(rt: HostRuntime) -> Result<(), Fail> {
+    let alloc = rt.alloc();
+    let root = name_tree(alloc)?;
+    let first = root.first_token().ok_or("no token")?;
+    let other = first.replace_with(alloc, SyntaxKind::IDENT, "bar")?;
+    assert_eq!(rt; other.as_str(), "bar");
+    Ok(())
+}
+
+#[test]
+fn a_literal_means_its_units(rt: HostRuntime) -> Result<(), Fail> {
+    let mut units: u32 = 0;
+    unescape_str(r"a\u{e9}\q", |_range, _unit| {
+        units = u32::wrapping_add(units, 1);
+    });
+    assert_eq!(rt; units, 3);
+    Ok(())
+}
