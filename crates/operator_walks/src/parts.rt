@@ -1,0 +1,86 @@
+//! The parts of an expression that the walks ask for.
+ghost use Rattle.std.specs.Prelude.{◌≡◌, false};
+ghost use Rattle.ras_node.specs.Nodes.{typed_child};
+ghost use Rattle.ras_node.specs.Lookups.{second_typed_child};
+ghost use Rattle.ras_node.specs.Sets.{is_expr};
+ghost use Rattle.operator_walks.specs.Parts.{is_it, is_and, is_and_token, range_ends_in_block, is_block_of, second_of};
+
+use lossless_tree::{SyntaxKind, SyntaxNode, SyntaxNodeChildren, SyntaxToken};
+use ras_node::sets::{BinaryOperators, Exprs, KindSet, RangeOperators};
+
+/// The first expression among the children.
+pub fn first_expr(node: &SyntaxNode) -> Option<SyntaxNode>
+    ensures { result ≡ typed_child is_expr node.now }
+{
+    ras_node::first_node::<Exprs>(node.children_with_tokens())
+}
+
+// The second expression of some nodes.
+fn second_of(nodes: SyntaxNodeChildren) -> Option<SyntaxNode>
+    ensures { result ≡ second_of false nodes }
+{
+    let mut nodes = nodes;
+    let mut passed = false;
+    while let Some(node) = nodes.next() {
+        if Exprs::has(node.kind()) {
+            if passed {
+                return Some(node);
+            }
+            passed = true;
+        }
+    }
+    None
+}
+
+/// The second expression among the children.
+pub fn second_expr(node: &SyntaxNode) -> Option<SyntaxNode>
+    ensures { result ≡ second_typed_child is_expr node.now }
+{
+    second_of(node.children())
+}
+
+/// Whether a node was found, and is this one.
+pub fn is_it(node: &SyntaxNode, found: Option<SyntaxNode>) -> bool
+    ensures { result ≡ is_it node.now found }
+{
+    match found {
+        Some(other) => other == *node,
+        None => false,
+    }
+}
+
+fn is_and_token(found: Option<SyntaxToken>) -> bool
+    ensures { result ≡ is_and_token found }
+{
+    match found {
+        Some(operator) => operator.kind() == SyntaxKind::AMP2,
+        None => false,
+    }
+}
+
+/// Whether it is an `&&` with its operands, or what there is of them.
+pub fn is_and(node: &SyntaxNode) -> bool
+    ensures { result ≡ is_and node.now }
+{
+    node.kind() == SyntaxKind::BIN_EXPR
+        && is_and_token(ras_node::first_token::<BinaryOperators>(node.children_with_tokens()))
+}
+
+fn is_block_of(found: Option<SyntaxNode>) -> bool
+    ensures { result ≡ is_block_of found }
+{
+    match found {
+        Some(end) => end.kind() == SyntaxKind::BLOCK_EXPR,
+        None => false,
+    }
+}
+
+/// Whether it is a range whose end is a block.
+pub fn range_ends_in_block(node: &SyntaxNode) -> bool
+    ensures { result ≡ range_ends_in_block node.now }
+{
+    node.kind() == SyntaxKind::RANGE_EXPR
+        && is_block_of(ras_node::first_node::<Exprs>(ras_node::behind::<RangeOperators>(
+            node.children_with_tokens(),
+        )))
+}
