@@ -1,0 +1,5 @@
+//! Whether an expression needs parentheses, wherever it stands.
+#![tactic(auto)]
+
+pub mod order;
+pub mod rules;
