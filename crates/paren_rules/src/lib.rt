@@ -1,5 +1,6 @@
 //! Whether an expression needs parentheses, wherever it stands.
 #![tactic(auto)]
 
+pub mod needless;
 pub mod order;
 pub mod rules;
