@@ -10,7 +10,7 @@ use Rattle.ras_node.specs.Nodes.{kind_at}
 use Rattle.ras_node.specs.PartSets.{is_range_operator}
 use Rattle.ras_node.specs.Sets.{is_expr}
 use Rattle.operator_walks.specs.declared.along.Toward.{Toward}
-use Rattle.operator_walks.specs.declared.along.Toward.TheVariants.{Start, End}
+use Rattle.operator_walks.specs.declared.along.Toward.TheVariants.{Start, End, Block, Any}
 use Rattle.operator_walks.specs.declared.along.Meant.{Meant}
 use Rattle.operator_walks.specs.declared.along.Meant.TheVariants.{First, Second, BehindDots}
 use Rattle.operator_walks.specs.declared.along.Turn.{Turn}
@@ -31,9 +31,15 @@ abbrev pub is_braced : SyntaxKind → Bool
 is_braced (Node kind.RECORD_EXPR) = true
 is_braced k = is_block_like k
 
+abbrev pub is_block : SyntaxKind → Bool
+is_block (Node kind.BLOCK_EXPR) = true
+is_block _ = false
+
 abbrev pub is_found : Toward → SyntaxKind → Bool
 is_found Start k = is_block_like k
 is_found End k = is_braced k
+is_found Block k = is_block k
+is_found Any k = true
 
 -- what begins with an operand
 abbrev pub begins_with_operand : SyntaxKind → Bool
@@ -59,6 +65,8 @@ ends_with_operand _ = false
 abbrev pub goes_on : Toward → SyntaxKind → Bool
 goes_on Start k = begins_with_operand k
 goes_on End k = ends_with_operand k
+goes_on Block k = false
+goes_on Any k = false
 
 -- which of its expressions it ends with
 abbrev pub last_operand : SyntaxKind → Meant
@@ -67,8 +75,8 @@ last_operand (Node kind.RANGE_EXPR) = BehindDots
 last_operand _ = First
 
 abbrev pub operand : Toward → SyntaxKind → Meant
-operand Start k = First
 operand End k = last_operand k
+operand _ k = First
 
 -- which expression is meant behind a token
 abbrev pub past_token : Meant → SyntaxKind → Meant

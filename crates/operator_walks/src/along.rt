@@ -8,11 +8,14 @@ ghost use Rattle.operator_walks.specs.Along.{is_found, goes_on, operand, past_to
 use lossless_tree::{SiblingsLeft, SyntaxKind, SyntaxNode};
 use ras_node::sets::{Exprs, KindSet, RangeOperators};
 
-/// Which way a walk goes: to the operand that an expression begins with, or to the one that it ends with.
+/// What a walk looks for: a block or the like at the start of an expression; a brace at its end; a block, and any expression, at
+/// the first operand that is meant.
 #[derive(Clone, Copy)]
 pub enum Toward {
     Start,
     End,
+    Block,
+    Any,
 }
 
 /// Which expression is meant among the children that are left: the first, the second, or the first behind `..` or `..=`.
@@ -55,6 +58,8 @@ fn is_found(toward: Toward, kind: SyntaxKind) -> bool
                 | SyntaxKind::FOR_EXPR
                 | SyntaxKind::RECORD_EXPR
         ),
+        Toward::Block => matches!(kind, SyntaxKind::BLOCK_EXPR),
+        Toward::Any => true,
     }
 }
 
@@ -82,6 +87,7 @@ fn goes_on(toward: Toward, kind: SyntaxKind) -> bool
                 | SyntaxKind::RANGE_EXPR
                 | SyntaxKind::CLOSURE_EXPR
         ),
+        Toward::Block | Toward::Any => false,
     }
 }
 
@@ -90,7 +96,7 @@ fn operand(toward: Toward, kind: SyntaxKind) -> Meant
     ensures { result ≡ operand toward kind }
 {
     match toward {
-        Toward::Start => Meant::First,
+        Toward::Start | Toward::Block | Toward::Any => Meant::First,
         Toward::End => match kind {
             SyntaxKind::BIN_EXPR => Meant::Second,
             SyntaxKind::RANGE_EXPR => Meant::BehindDots,
@@ -147,7 +153,10 @@ fn turn_at(toward: Toward, meant: Meant, left: &SiblingsLeft<'_>) -> Turn
     }
 }
 
-fn reaches(toward: Toward, meant: Meant, trees: &SiblingsLeft<'_>) -> bool
+/// Whether the expression that is meant among the trees is what the walk looks for, or begins or ends with such a one.
+///
+/// It takes time linear in the children of the nodes that it goes through.
+pub fn reaches(toward: Toward, meant: Meant, trees: &SiblingsLeft<'_>) -> bool
     ensures { result ≡ reaches toward meant trees.now.trees }
 {
     let mut meant = meant;

@@ -5,6 +5,7 @@ ghost use Rattle.tree_model.specs.Cursor.{ancestors_of, descendants_of, at_node,
 ghost use Rattle.ras_node.specs.Nodes.{kind_at};
 ghost use Rattle.operator_walks.specs.Inside.{is_side, is_base, is_operand, opens, is_step, is_sought, lacks_side, leads_up, is_open, holds, has_exterior_record, has_let};
 
+use crate::along::{Meant, Toward, reaches};
 use crate::parts::{first_expr, is_and, is_it, second_expr};
 use lossless_tree::{SyntaxKind, SyntaxNode};
 
@@ -65,10 +66,7 @@ fn is_step(sought: Sought, node: &SyntaxNode) -> bool
 fn lacks_side(node: &SyntaxNode) -> bool
     ensures { result ≡ lacks_side node.now }
 {
-    match second_expr(node) {
-        Some(_right) => false,
-        None => true,
-    }
+    !reaches(Toward::Any, Meant::Second, &node.trees())
 }
 
 fn is_sought(sought: Sought, node: &SyntaxNode) -> bool

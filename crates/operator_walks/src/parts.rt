@@ -3,10 +3,11 @@ ghost use Rattle.std.specs.Prelude.{◌≡◌, false};
 ghost use Rattle.ras_node.specs.Nodes.{typed_child};
 ghost use Rattle.ras_node.specs.Lookups.{second_typed_child};
 ghost use Rattle.ras_node.specs.Sets.{is_expr};
-ghost use Rattle.operator_walks.specs.Parts.{is_it, is_and, is_and_token, range_ends_in_block, is_block_of, second_of};
+ghost use Rattle.operator_walks.specs.Parts.{is_it, is_and, is_and_token, range_ends_in_block, second_of};
 
+use crate::along::{Meant, Toward, reaches};
 use lossless_tree::{SyntaxKind, SyntaxNode, SyntaxNodeChildren, SyntaxToken};
-use ras_node::sets::{BinaryOperators, Exprs, KindSet, RangeOperators};
+use ras_node::sets::{BinaryOperators, Exprs, KindSet};
 
 /// The first expression among the children.
 pub fn first_expr(node: &SyntaxNode) -> Option<SyntaxNode>
@@ -66,21 +67,10 @@ pub fn is_and(node: &SyntaxNode) -> bool
         && is_and_token(ras_node::first_token::<BinaryOperators>(node.children_with_tokens()))
 }
 
-fn is_block_of(found: Option<SyntaxNode>) -> bool
-    ensures { result ≡ is_block_of found }
-{
-    match found {
-        Some(end) => end.kind() == SyntaxKind::BLOCK_EXPR,
-        None => false,
-    }
-}
-
-/// Whether it is a range whose end is a block.
+/// Whether it is a range whose end, the first expression behind its operator, is a block.
 pub fn range_ends_in_block(node: &SyntaxNode) -> bool
     ensures { result ≡ range_ends_in_block node.now }
 {
     node.kind() == SyntaxKind::RANGE_EXPR
-        && is_block_of(ras_node::first_node::<Exprs>(ras_node::behind::<RangeOperators>(
-            node.children_with_tokens(),
-        )))
+        && reaches(Toward::Block, Meant::BehindDots, &node.trees())
 }

@@ -20,6 +20,7 @@ use Rattle.operator_trees.specs.Leaves.{leaves_of}
 use Rattle.operator_trees.specs.Shown.{shown}
 use Rattle.operator_powers.specs.Rules.{by_power, form_at, is_call_form, is_field_form}
 use Rattle.operator_places.specs.Next.{kind_behind}
+use Rattle.operator_pairs.specs.Pairs as pairs
 use Rattle.operator_precedence.specs.declared.level.ExprPrecedence.{ExprPrecedence}
 use Rattle.operator_precedence.specs.declared.level.ExprPrecedence.TheVariants as level
 use Rattle.operator_precedence.specs.Levels.{precedence_of, is_valueless}
@@ -122,3 +123,7 @@ abbrev pub asks : (own parent place : Cursor) → Bool
 asks own parent place =
     if not (is_at_or_above parent place) then false
     else (if is_expr (kind_at parent) then asks_in_expr own parent place else is_statement (kind_at parent) && asks_in_statement own parent)
+
+-- the test of operator trees alone, by powers and by a cast's name before `<` and `<<`
+abbrev pub asks_by_operators : (own parent place : Cursor) → Bool
+asks_by_operators own parent place = pairs.asks own parent place
