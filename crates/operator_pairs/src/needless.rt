@@ -28,8 +28,8 @@ fn may_go_from(inside: &SyntaxNode, parent: &SyntaxNode, pair: &SyntaxNode) -> b
     !is_foreign(form_of(inside.kind())) && !needs_parens_in_place_of(inside, parent, pair)
 }
 
-// A pair whose inside needs no parentheses in its place.
-fn is_needless(node: &SyntaxNode) -> bool
+/// Whether the node is a pair whose inside needs no parentheses in its place.
+pub fn is_needless(node: &SyntaxNode) -> bool
     ensures { result ≡ is_needless node.now }
 {
     if !is_paren(form_of(node.kind())) {

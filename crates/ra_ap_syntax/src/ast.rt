@@ -3,6 +3,7 @@
 mod expr_ext;
 mod node_ext;
 pub mod operators;
+pub mod prec;
 mod raw;
 mod token_ext;
 mod traits;

@@ -1,0 +1,5 @@
+pub mod Along
+pub mod Parts
+pub mod Inside
+pub mod Above
+pub mod CastName

@@ -1,0 +1,8 @@
+//! Walks from an expression: to what it begins or ends with, to what stands in it outside delimiters, and up from it.
+#![tactic(auto)]
+
+pub mod above;
+pub mod along;
+pub mod cast_name;
+pub mod inside;
+pub mod parts;

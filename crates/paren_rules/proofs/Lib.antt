@@ -1,0 +1,5 @@
+pub mod Shows
+pub mod Pushed
+pub mod KindFacts
+pub mod Nothing
+pub mod Agree

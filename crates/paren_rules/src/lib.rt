@@ -1,0 +1,7 @@
+//! Whether an expression needs parentheses, wherever it stands.
+#![tactic(auto)]
+
+pub mod laws;
+pub mod needless;
+pub mod order;
+pub mod rules;

@@ -1,0 +1,93 @@
+//! Precedences of expressions, and parentheses.
+ghost use Rattle.std.specs.Prelude.{◌≡◌, ◌↔◌, ◌&&◌, IfOk, IfSome, Some, map, option_map, true};
+ghost use Rattle.tree_model.specs.Cursor.{focus};
+ghost use Rattle.ras_node.specs.Nodes.{kind_at};
+ghost use Rattle.operator_terms.specs.Term.{Term};
+ghost use Rattle.operator_terms.specs.Places.{MayStandBefore};
+ghost use Rattle.operator_trees.specs.Leaves.{leaves_behind};
+ghost use Rattle.operator_trees.specs.Shown.{shown, meaning, IsTerm};
+ghost use Rattle.operator_reads.specs.Reads.{ReadsBack};
+ghost use Rattle.operator_pairs.specs.Pairs.{NeedlessOf, AskedNowhere};
+ghost use Rattle.operator_precedence.specs.Levels.{precedence_of, is_valueless, is_dyn_or_impl, is_pointing};
+ghost use Rattle.paren_rules.specs.Rules.{asks};
+ghost use Rattle.ra_ap_syntax.specs.ExprCases.{expr_node};
+ghost use Rattle.ra_ap_syntax.specs.TypeCases.{ty_node};
+
+use crate::ast::{self, AstNode};
+use lossless_tree::SyntaxNode;
+pub use operator_precedence::{ExprPrecedence, Fixity};
+use std::alloc::{AllocError, Global};
+
+/// The precedence of an expression: of a binary operator by its token, of a closure without a return type that of a jump. It takes
+/// time linear in the children.
+pub fn precedence(expr: &ast::Expr) -> ExprPrecedence
+    ensures { result ≡ precedence_of (expr_node expr.now) }
+{
+    operator_precedence::node::precedence_of(expr.syntax())
+}
+
+impl ast::Expr {
+    /// The precedence of the expression, as `precedence` tells it.
+    pub fn precedence(&self) -> ExprPrecedence
+        ensures { result ≡ precedence_of (expr_node self.now) }
+    {
+        precedence(self)
+    }
+
+    /// Whether it is a `continue`, or a `return`, `break`, `yield` or `become` without a value.
+    pub fn is_ret_like_with_no_value(&self) -> bool
+        ensures { result ≡ is_valueless (expr_node self.now) }
+    {
+        operator_precedence::node::is_ret_like_with_no_value(self.syntax())
+    }
+
+    /// Whether the expression needs parentheses below a parent of its, or an ancestor; false where the node is neither.
+    ///
+    /// Below an expression that a block follows, and below an `&&`, it may read the whole of the expression.
+    pub fn needs_parens_in(&self, parent: &SyntaxNode) -> bool
+        ensures { result ≡ asks (expr_node self.now) parent.now (expr_node self.now) }
+    {
+        paren_rules::rules::needs_parens_in(self.syntax(), parent)
+    }
+
+    /// Whether the expression would need parentheses in place of what stands at `place`, below that one's parent, or an ancestor.
+    pub fn needs_parens_in_place_of(&self, parent: &SyntaxNode, place: &SyntaxNode) -> bool
+        ensures { result ≡ asks (expr_node self.now) parent.now place.now }
+    {
+        paren_rules::rules::needs_parens_in_place_of(self.syntax(), parent, place)
+    }
+}
+
+impl ast::Type {
+    /// Whether the type needs parentheses below a parent: a `dyn` or `impl` type in a cast, behind `&` or in a pointer type.
+    pub fn needs_parens_in(&self, parent: &SyntaxNode) -> bool
+        ensures { result ≡ (is_dyn_or_impl (kind_at (ty_node self.now)) && is_pointing (kind_at parent.now)) }
+    {
+        operator_precedence::node::type_needs_parens_in(self.syntax(), parent)
+    }
+}
+
+/// Whether the expression is a reading of its own tokens; `None` where it shows no term.
+///
+/// It is one exactly where no operand below it needs parentheses in its own parent, if the tree may stand before what follows it.
+/// It takes no memory, and time linear in the expression.
+pub fn reads_back(expr: &ast::Expr) -> Option<bool>
+    ensures reads { ReadsBack result (shown (focus (expr_node expr.now))) }
+    ensures tied { IfSome result (λ b. (t : Term) → meaning (focus (expr_node expr.now)) ≡ IsTerm t
+        → MayStandBefore (leaves_behind (expr_node expr.now).tree (expr_node expr.now).place) t → b ≡ true ↔ AskedNowhere (expr_node expr.now) t) }
+{
+    operator_pairs::needless::reads_back(expr.syntax())
+}
+
+/// The pairs of parentheses below the expression that may go, in preorder: those whose inside needs none in their place. `None`
+/// unless the expression reads back. That several may go at once is not said.
+///
+/// Where neither `<` nor `<<` follows the expression, they are those without which its tokens read as the term without the pair.
+pub fn needless_parens(
+    alloc: Global,
+    expr: &ast::Expr,
+) -> Result<Option<Vec<ast::ParenExpr>>, AllocError>
+    ensures { IfOk result (λ answer. NeedlessOf (expr_node expr.now) (option_map (λ found. map (λ pair. pair.syntax) found.items) answer) (shown (focus (expr_node expr.now)))) }
+{
+    paren_rules::needless::needless_parens::<ast::ParenExpr>(alloc, expr.syntax())
+}
