@@ -1,0 +1,13 @@
+//! Attributes, documentation comments and token trees. The types of the views are parameters. No call takes memory but
+//! `skip_cfg_attrs`.
+#![tactic(auto)]
+
+mod attrs;
+mod holder;
+mod metas;
+mod token_trees;
+
+pub use attrs::{AttrNodes, AttrsWithDoc, is_inner};
+pub use holder::{inner_attributes_node, may_carry_attributes};
+pub use metas::{innermost_meta, skip_cfg_attrs};
+pub use token_trees::{TokenTreeChildren, TokenTreesAndTokens};
