@@ -1,5 +1,5 @@
 //! Attributes, documentation comments and token trees. The types of the views are parameters. No call takes memory but
-//! `skip_cfg_attrs`.
+//! `skip_cfg_attrs`, `meta_name` and `owned`.
 #![tactic(auto)]
 
 mod attrs;
@@ -9,5 +9,5 @@ mod token_trees;
 
 pub use attrs::{AttrNodes, AttrsWithDoc, is_inner};
 pub use holder::{inner_attributes_node, may_carry_attributes};
-pub use metas::{innermost_meta, skip_cfg_attrs};
+pub use metas::{innermost_meta, meta_name, meta_path, owned, skip_cfg_attrs};
 pub use token_trees::{TokenTreeChildren, TokenTreesAndTokens};
