@@ -1,11 +1,13 @@
 //! The attributes and documentation comments of a node.
 ghost use Rattle.std.specs.Prelude.{◌≡◌};
 ghost use Rattle.std.specs.Iterator.{YieldsFirstBy, item_count};
+ghost use Rattle.std.specs.List.{filter};
 ghost use Rattle.ras_attr.specs.Attrs.{is_inner, stands, attrs_of, attrs_with_inner};
+ghost use Rattle.ras_node.specs.Nodes.{has_kind_in};
 
 use lossless_tree::{SyntaxKind, SyntaxNode};
 use ras_node::{AstChildren, AstNode, support};
-use std::marker::Model;
+use std::marker::{Model, PhantomData};
 
 /// Whether an attribute has a `!`, or a documentation comment an inner comment token; `false` for other nodes.
 pub fn is_inner(node: &SyntaxNode) -> bool
@@ -131,5 +133,56 @@ impl<A: AstNode + Drop> Iterator for AttrsWithDoc<A> {
                 None => None,
             },
         }
+    }
+}
+
+/// Those of the attributes and documentation comments of an owner that can be viewed as a `T`, in order. A clause sees those
+/// that are left.
+#[derive(Drop)]
+pub struct AttrsIter<A: AstNode, T: AstNode> {
+    inner: AttrsWithDoc<A>,
+    view: PhantomData<T>,
+}
+
+impl<A: AstNode, T: AstNode> Model for AttrsIter<A, T> {
+    ghost use Rattle.std.specs.Prelude.{List};
+    ghost use Rattle.std.specs.List.{filter};
+    ghost use Rattle.std.specs.Coded.{coded_list};
+    ghost use Rattle.tree_model.specs.Cursor.{Cursor, cursor_code};
+    ghost use Rattle.ras_node.specs.Nodes.{has_kind_in};
+
+    ghost Value = { List Cursor };
+
+    ghost coded = { coded_list cursor_code };
+
+    ghost view = { λ a. filter (has_kind_in T.casts) a.inner };
+}
+
+impl<A: AstNode, T: AstNode> AttrsIter<A, T> {
+    /// Those among the ones that are left.
+    pub fn new(inner: AttrsWithDoc<A>) -> AttrsIter<A, T>
+        ensures { result ≡ filter (has_kind_in T.casts) inner }
+    {
+        AttrsIter {
+            inner,
+            view: PhantomData,
+        }
+    }
+}
+
+impl<A: AstNode + Drop, T: AstNode> Iterator for AttrsIter<A, T> {
+    type Item = T;
+
+    ghost next_gives = { YieldsFirstBy T.node (λ left. left) };
+
+    ghost remaining = { item_count (λ left. left) };
+
+    fn next(&mut self) -> Option<T> {
+        while let Some(attr) = self.inner.next() {
+            if let Some(it) = support::recast::<A, T>(Some(attr)) {
+                return Some(it);
+            }
+        }
+        None
     }
 }
