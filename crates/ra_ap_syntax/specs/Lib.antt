@@ -24,3 +24,4 @@ pub mod ExprShapes
 pub mod OperatorTexts
 pub mod NodeParts
 pub mod NodeShapes
+pub mod AttrParts

@@ -49,10 +49,13 @@ pub use views::nodes::{
     TypeBoundList, UseBoundGenericArgs, UseTree, UseTreeList, Variant, Visibility, VisibilityInner,
     WhereClause, WherePred,
 };
+// Laid out by hand: of so many names the formatter would write one a line.
+#[rattlefmt::skip]
 pub use node_ext::{
-    CfgAtomKey, Commas, LifetimeArgs, LifetimeParams, Macro, NameLike, NameOrNameRef,
-    PathSegmentKind, Segments, SelfParamKind, Statements, StructKind, TypeBoundKind,
-    TypeOrConstParam, TypeOrConstParams, VisibilityKind,
+    AttrsIter, AttrsWithDoc, CfgAtomKey, Commas, LifetimeArgs, LifetimeBounds, LifetimeParams,
+    Macro, NameLike, NameOrNameRef, PathSegmentKind, Qualifiers, Segments, SelfParamKind,
+    SlicePatComponents, Statements, StructKind, TokenTreeChildren, TokenTreesAndTokens,
+    TypeBoundKind, TypeOrConstParam, TypeOrConstParams, VisibilityKind,
 };
 pub use operators::{ArithOp, BinaryOp, CmpOp, LogicOp, Ordering, RangeOp, UnaryOp};
 pub use ras_literal::{
@@ -63,7 +66,7 @@ pub use ras_node::{AstChildren, AstNode, AstToken, cast_ref};
 pub use token_ext::{AnyComment, AnyString, IsString};
 pub use traits::{
     HasArgList, HasAttrs, HasGenericArgs, HasGenericParams, HasLoopBody, HasModuleItem, HasName,
-    HasTypeBounds, HasVisibility,
+    HasTypeBounds, HasVisibility, attrs_including_inner, attrs_with_doc_including_inner,
 };
 pub use typed::{Typed, TypedToken};
 pub use views::pat::{

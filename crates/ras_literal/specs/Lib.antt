@@ -1,5 +1,6 @@
 pub mod Answered
 pub mod Comments
+pub mod Fields
 pub mod Literals
 pub mod Numbers
 pub mod Quotes

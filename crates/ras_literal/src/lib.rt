@@ -3,6 +3,7 @@
 
 pub mod chars;
 pub mod comments;
+pub mod fields;
 pub mod laws;
 pub mod numbers;
 pub mod parts;
@@ -13,6 +14,7 @@ pub mod values;
 
 pub use chars::{byte_value, char_value};
 pub use comments::{AttrKind, CommentKind, CommentShape, comment_text, spans_multiple_lines};
+pub use fields::tuple_field;
 pub use numbers::{
     IntError, Radix, float_suffix, float_value_string, int_suffix, int_value, int_value_string,
     split_float, split_int,

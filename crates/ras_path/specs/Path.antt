@@ -1,6 +1,7 @@
 -- A path, its qualifiers and its segments: `a::b::c` is the path of the segment `c` over the path of `b` over that of `a`.
 -- (Upstream: `ast::Path` in `ast::node_ext` of rust-analyzer's `syntax`.)
 use Rattle.std.specs.Prelude.{◌≡◌, ℕ, zero, suc, Bool, ◌&&◌, List, [], ◌∷◌, Option, Some, None, nat_le, if◌then◌else◌}
+use Rattle.std.specs.Option.{option_map_or}
 use Rattle.text_size.specs.TextRange.{Bounds}
 use Rattle.syntax_kind.specs.declared.syntax_kind.SyntaxKind.{SyntaxKind}
 use Rattle.tree_model.specs.Tree.{size}
@@ -52,3 +53,20 @@ top_tree_from lists trees top [] = top
 top_tree_from lists trees top (l ∷ []) = top
 top_tree_from lists trees top (l ∷ t ∷ above) =
     if lists (kind_at l) && trees (kind_at t) then top_tree_from lists trees t above else top
+
+-- the paths from one on, each the qualifier of the one before it, at most so many
+abbrev pub down : (SyntaxKind → Bool) → ℕ → Option Cursor → List Cursor
+down paths zero o = []
+down paths (suc n) None = []
+down paths (suc n) (Some c) = c ∷ down paths n (typed_child paths c)
+
+-- all of them: a qualifier is smaller than its path, so they are no more than the nodes and tokens of the first
+abbrev pub chain_length : Option Cursor → ℕ
+chain_length o = option_map_or (λ c. size (focus c)) o 0
+
+abbrev pub chain_from : (SyntaxKind → Bool) → Option Cursor → List Cursor
+chain_from paths o = down paths (chain_length o) o
+
+-- the qualifiers of a path, the nearest first
+abbrev pub qualifiers_of : (SyntaxKind → Bool) → Cursor → List Cursor
+qualifiers_of paths c = chain_from paths (typed_child paths c)

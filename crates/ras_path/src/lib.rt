@@ -3,7 +3,9 @@
 #![tactic(auto)]
 
 pub mod chain;
+pub mod qualifiers;
 pub mod segments;
 
 pub use chain::{first_qualifier, first_qualifier_or_self, top_path, top_use_tree};
+pub use qualifiers::Qualifiers;
 pub use segments::Segments;

@@ -13,6 +13,7 @@ ghost use Rattle.ra_ap_syntax.specs.TypeOrConstParamCases.{type_or_const_param_n
 mod attrs;
 mod block;
 mod items;
+mod metas;
 mod names;
 mod paths;
 mod patterns;
@@ -20,14 +21,15 @@ mod types;
 mod uses;
 
 use crate::ast::{self, AstNode, Typed};
-pub use attrs::CfgAtomKey;
+pub use attrs::{AttrsIter, AttrsWithDoc, CfgAtomKey, TokenTreeChildren, TokenTreesAndTokens};
 pub use block::Statements;
 pub use items::{SelfParamKind, StructKind, VisibilityKind};
 use lossless_tree::{SyntaxKind, SyntaxNode};
-pub use paths::{PathSegmentKind, Segments};
+pub use paths::{PathSegmentKind, Qualifiers, Segments};
+pub use patterns::SlicePatComponents;
 use ras_node::sets::{self, KindSet, Macros, NameLikes, NameOrNameRefs};
 use std::fmt;
-pub use types::{LifetimeArgs, LifetimeParams, TypeBoundKind, TypeOrConstParams};
+pub use types::{LifetimeArgs, LifetimeBounds, LifetimeParams, TypeBoundKind, TypeOrConstParams};
 pub use uses::Commas;
 
 /// A definition of a macro.

@@ -1,10 +1,12 @@
 //! The lookups that several types share. A call takes time in the children that it passes, and no memory.
 ghost use Rattle.std.specs.Prelude.{◌≡◌};
 ghost use Rattle.ras_node.specs.Lookups.{IsFirstChild, IsViewOf, loop_body};
-ghost use Rattle.ras_node.specs.Nodes.{token_child, typed_children};
+ghost use Rattle.std.specs.List.{filter};
+ghost use Rattle.ras_node.specs.Nodes.{has_kind_in, token_child, typed_children};
+ghost use Rattle.ras_attr.specs.Attrs.{inner_holder, attrs_with_inner};
 
-use crate::ast::{self, AstChildren, AstNode, support};
-use lossless_tree::{SyntaxKind, SyntaxToken, T};
+use crate::ast::{self, AstChildren, AstNode, AttrsIter, AttrsWithDoc, support};
+use lossless_tree::{SyntaxKind, SyntaxNode, SyntaxToken, T};
 
 /// What has a name.
 pub trait HasName: AstNode {
@@ -137,4 +139,27 @@ pub trait HasAttrs: AstNode {
     {
         support::children(self.syntax())
     }
+
+    /// The node in which its inner attributes stand: a file itself; a block itself, where it may have them; of a function the
+    /// statements of its body; of an extern block, a `match`, an implementation, a trait and a module the list in it. `None`
+    /// of others, and where that part is missing.
+    final fn inner_attributes_node(&self) -> Option<SyntaxNode>
+        ensures { result ≡ inner_holder (Self.node self.now) }
+    {
+        ras_attr::inner_attributes_node(self.syntax())
+    }
+}
+
+/// The outer attributes and documentation comments of an owner, and then the inner ones, in order.
+pub fn attrs_with_doc_including_inner<H: HasAttrs>(owner: &H) -> AttrsWithDoc
+    ensures { result ≡ attrs_with_inner ⟦<ast::AnyAttr as AstNode>⟧.casts (H.node owner.now) (inner_holder (H.node owner.now)) }
+{
+    AttrsWithDoc::new(owner.syntax(), owner.inner_attributes_node())
+}
+
+/// The outer attributes of an owner, and then the inner ones, in order, without documentation comments.
+pub fn attrs_including_inner<H: HasAttrs>(owner: &H) -> AttrsIter
+    ensures { result ≡ filter (has_kind_in ⟦<ast::Attr as AstNode>⟧.casts) (attrs_with_inner ⟦<ast::AnyAttr as AstNode>⟧.casts (H.node owner.now) (inner_holder (H.node owner.now))) }
+{
+    AttrsIter::new(attrs_with_doc_including_inner(owner))
 }

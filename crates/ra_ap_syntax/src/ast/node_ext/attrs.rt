@@ -1,13 +1,99 @@
-//! Attributes' atoms and token trees.
-ghost use Rattle.std.specs.Prelude.{◌≡◌, option_map};
+//! Attributes, documentation comments and token trees.
+ghost use Rattle.std.specs.Prelude.{◌≡◌, map, option_map};
 ghost use Rattle.std.specs.Option.{option_and_then};
-ghost use Rattle.tree_model.specs.Cursor.{parent_of};
+ghost use Rattle.tree_model.specs.Cursor.{focus, children_of, parent_of};
+ghost use Rattle.lossless_tree.specs.Element.{element_of};
+ghost use Rattle.lossless_tree.specs.Trees.{child_text};
+ghost use Rattle.ras_attr.specs.Attrs.{is_inner};
+ghost use Rattle.ras_attr.specs.TokenTrees.{trees_and_tokens};
 ghost use Rattle.ras_node.specs.Lookups.{IsViewOf, view_in};
 ghost use Rattle.ra_ap_syntax.specs.NodeParts.{left_delimiter, right_delimiter, is_opening, is_closing};
+ghost use Rattle.ra_ap_syntax.specs.NodeParts.{has_token, if_in};
 ghost use Rattle.ra_ap_syntax.specs.NodeShapes.{atom_shape, atom_key};
+ghost use Rattle.ra_ap_syntax.specs.AnyAttrCases.{any_attr_node};
+ghost use Rattle.ra_ap_syntax.specs.AttrParts.{kind_by, doc_shape, doc_text, doc_token};
 
-use crate::ast::{self, AstNode, support};
+use crate::ast::{self, AnyAttr, AnyComment, AstNode, AstToken, support};
 use lossless_tree::{SyntaxKind, SyntaxToken};
+use ras_literal::{AttrKind, CommentShape};
+
+/// The attributes and documentation comments of what has them, inner ones too, in order.
+pub type AttrsWithDoc = ras_attr::AttrsWithDoc<AnyAttr>;
+
+/// The attributes among these, in order.
+pub type AttrsIter = ras_attr::AttrsIter<AnyAttr, ast::Attr>;
+
+/// The token trees and tokens in a token tree, without its delimiters, white space and comments, in order.
+pub type TokenTreeChildren = ras_attr::TokenTreeChildren<ast::TokenTree>;
+
+/// All token trees and tokens among the children of a token tree, in order.
+pub type TokenTreesAndTokens = ras_attr::TokenTreesAndTokens<ast::TokenTree>;
+
+fn kind_by(inner: bool) -> AttrKind
+    ensures { result ≡ kind_by inner }
+{
+    if inner {
+        AttrKind::Inner
+    } else {
+        AttrKind::Outer
+    }
+}
+
+impl ast::Attr {
+    /// Inner where it has a `!`, else outer.
+    pub fn kind(&self) -> AttrKind
+        ensures { result ≡ kind_by (has_token SyntaxKind.BANG self.now.syntax) }
+    {
+        kind_by(self.excl_token().is_some())
+    }
+}
+
+impl ast::DocComment {
+    /// Inner where it has an inner comment token, else outer.
+    pub fn kind(&self) -> AttrKind
+        ensures { result ≡ kind_by (has_token SyntaxKind.INNER_DOC_COMMENT self.now.syntax) }
+    {
+        kind_by(self.inner_doc_comment_token().is_some())
+    }
+
+    /// The first token, at any depth, if it is a comment.
+    pub fn token(&self) -> Option<AnyComment>
+        ensures { option_map (λ it. it.syntax) result ≡ doc_token self.now.syntax }
+    {
+        AnyComment::cast(self.syntax.first_token()?)
+    }
+
+    /// Whether the text ends with its line or with its closing marker; `None` where the first child is no token.
+    pub fn shape(&self) -> Option<CommentShape>
+        ensures { result ≡ doc_shape self.now.syntax }
+    {
+        Some(CommentShape::from_text(self.text_with_markers()?))
+    }
+
+    /// The text of the first child, if that is a token.
+    pub fn text_with_markers(&self) -> Option<&str>
+        ensures { option_map (λ s. s.now) result ≡ child_text (focus self.now.syntax) 0 }
+    {
+        self.syntax.child_text(0)
+    }
+
+    /// The text of the first child without the markers, of which the closing one may be missing; `None` where that is no
+    /// token, has no three bytes, or a character stands across their end.
+    pub fn text(&self) -> Option<&str>
+        ensures { option_map (λ s. s.now) result ≡ doc_text self.now.syntax }
+    {
+        ras_literal::comment_text(self.text_with_markers()?, 3)
+    }
+}
+
+impl AnyAttr {
+    /// Inner or outer, as the attribute or the documentation comment is.
+    pub fn kind(&self) -> AttrKind
+        ensures { result ≡ kind_by (is_inner (any_attr_node self.now)) }
+    {
+        kind_by(ras_attr::is_inner(self.syntax()))
+    }
+}
 
 /// The key of an atom in a `cfg`.
 #[derive(Clone, Drop)]
@@ -56,6 +142,13 @@ impl ast::TokenTree {
             SyntaxKind::R_CURLY | SyntaxKind::R_PAREN | SyntaxKind::R_BRACK => Some(token),
             _ => None,
         }
+    }
+
+    /// The children that are token trees or tokens, in order.
+    pub fn token_trees_and_tokens(&self) -> TokenTreesAndTokens
+        ensures { result ≡ trees_and_tokens ⟦<ast::TokenTree as AstNode>⟧.casts (map element_of (children_of self.now.syntax)) }
+    {
+        TokenTreesAndTokens::new(&self.syntax)
     }
 
     /// The meta that it stands in: the parent, if that is one.

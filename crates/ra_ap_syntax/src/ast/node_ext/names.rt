@@ -1,8 +1,9 @@
 //! Names and their texts.
-ghost use Rattle.std.specs.Prelude.{◌≡◌, option_map};
+ghost use Rattle.std.specs.Prelude.{◌≡◌, ℕ, List, Some, None, option_map};
 ghost use Rattle.tree_model.specs.Cursor.{focus};
 ghost use Rattle.lossless_tree.specs.Trees.{child_text};
-ghost use Rattle.ra_ap_syntax.specs.NameLikeCases.{name_like_node};
+ghost use Rattle.ras_literal.specs.Fields.{IsTupleField};
+ghost use Rattle.ra_ap_syntax.specs.NameLikeCases.{name_like_node, used_name, lifetime_in};
 ghost use Rattle.ra_ap_syntax.specs.NameOrNameRefCases.{name_or_name_ref_node};
 ghost use Rattle.ra_ap_syntax.specs.NodeParts.{first_token_kind};
 
@@ -26,6 +27,14 @@ impl ast::NameRef {
         self.syntax.child_text(0)
     }
 
+    /// The number that the text is, where it names a field of a tuple, as std reads a `usize`; `None` of other texts.
+    pub fn as_tuple_field(&self) -> Option<usize>
+        ensures text { (name : List ℕ) → child_text (focus self.now.syntax) 0 ≡ Some name → IsTupleField name result }
+        ensures none { child_text (focus self.now.syntax) 0 ≡ None → result ≡ None }
+    {
+        ras_literal::tuple_field(self.text()?)
+    }
+
     /// The kind of the first token, at any depth; `ERROR` where there is none.
     pub fn token_kind(&self) -> SyntaxKind
         ensures { result ≡ first_token_kind self.now.syntax }
@@ -47,6 +56,26 @@ impl ast::Lifetime {
 }
 
 impl NameLike {
+    /// The name, where it is one that is used.
+    pub fn as_name_ref(&self) -> Option<&ast::NameRef>
+        ensures { option_map (λ it. it.now.syntax) result ≡ used_name self.now }
+    {
+        match self {
+            NameLike::NameRef(it) => Some(it),
+            NameLike::Name(_) | NameLike::Lifetime(_) => None,
+        }
+    }
+
+    /// The lifetime, where it is one.
+    pub fn as_lifetime(&self) -> Option<&ast::Lifetime>
+        ensures { option_map (λ it. it.now.syntax) result ≡ lifetime_in self.now }
+    {
+        match self {
+            NameLike::Lifetime(it) => Some(it),
+            NameLike::NameRef(_) | NameLike::Name(_) => None,
+        }
+    }
+
     /// The text of the first child, if that is a token.
     pub fn text(&self) -> Option<&str>
         ensures { option_map (λ s. s.now) result ≡ child_text (focus (name_like_node self.now)) 0 }

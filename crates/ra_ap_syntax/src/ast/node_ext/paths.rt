@@ -1,7 +1,7 @@
 //! Paths and their segments.
 ghost use Rattle.std.specs.Prelude.{◌≡◌, option_map, drop};
 ghost use Rattle.tree_model.specs.Cursor.{parent_of, ancestors_of};
-ghost use Rattle.ras_path.specs.Path.{AreSegments, IsFirstQualifier, IsQualifierEnd, IsFirstSegment, top_from};
+ghost use Rattle.ras_path.specs.Path.{AreSegments, IsFirstQualifier, IsQualifierEnd, IsFirstSegment, qualifiers_of, top_from};
 ghost use Rattle.ras_node.specs.Lookups.{IsViewOf, view_in};
 ghost use Rattle.ra_ap_syntax.specs.NodeParts.{single_segment, single_name, name_token, qualifying_trait};
 ghost use Rattle.ra_ap_syntax.specs.NodeShapes.{segment_shape, segment_kind, name_by_kind, anchored};
@@ -14,12 +14,22 @@ use lossless_tree::{SyntaxKind, SyntaxNode, SyntaxToken};
 /// The segments of a path, in order.
 pub type Segments = ras_path::Segments<ast::Path, ast::PathSegment>;
 
+/// The qualifiers of a path, the nearest first.
+pub type Qualifiers = ras_path::Qualifiers<ast::Path>;
+
 impl ast::Path {
     /// The segments, from that of the deepest qualifier outwards to this path's own. A path without a segment ends them.
     pub fn segments(&self) -> Segments
         ensures { AreSegments ⟦<ast::Path as AstNode>⟧.casts ⟦<ast::PathSegment as AstNode>⟧.casts self.now.syntax result }
     {
         Segments::new(support::copy(self))
+    }
+
+    /// The qualifiers, the nearest first: `a::b` and `a` of `a::b::c`.
+    pub fn qualifiers(&self) -> Qualifiers
+        ensures { result ≡ qualifiers_of ⟦<ast::Path as AstNode>⟧.casts self.now.syntax }
+    {
+        Qualifiers::new(self)
     }
 
     /// The end of the chain of qualifiers: `a` of `a::b::c`. `None` where the path has no qualifier. It takes time in their number.

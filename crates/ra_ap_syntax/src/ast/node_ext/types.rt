@@ -1,12 +1,13 @@
 //! Types, their bounds and generic arguments.
 ghost use Rattle.std.specs.Prelude.{◌≡◌, option_map, is_some, ◌||◌, not};
 ghost use Rattle.ras_node.specs.Lookups.{IsViewOf};
-ghost use Rattle.ras_node.specs.Nodes.{typed_children, kind_at};
+ghost use Rattle.ras_node.specs.Nodes.{typed_child, typed_children, kind_at};
+ghost use Rattle.ras_item.specs.Bounds.{lifetime_bounds};
 ghost use Rattle.ra_ap_syntax.specs.TypeCases.{ty_node};
 ghost use Rattle.ra_ap_syntax.specs.NodeParts.{generic_args_of};
 ghost use Rattle.ra_ap_syntax.specs.NodeShapes.{bound_shape, bound_kind, bound_of_for, bound_without_path};
 
-use crate::ast::{self, AstChildren, AstNode, HasGenericArgs, support};
+use crate::ast::{self, AstChildren, AstNode, HasGenericArgs, HasTypeBounds, support};
 use lossless_tree::SyntaxNode;
 
 /// What a bound asks for.
@@ -89,6 +90,18 @@ pub type LifetimeParams = AstChildren<ast::LifetimeParam>;
 
 /// The types and constants among generic parameters, in order.
 pub type TypeOrConstParams = AstChildren<ast::TypeOrConstParam>;
+
+/// The lifetimes among the bounds of a lifetime, in order, as tokens.
+pub type LifetimeBounds = ras_item::LifetimeBounds<ast::TypeBound, ast::Lifetime>;
+
+impl ast::LifetimeParam {
+    /// The lifetimes among its bounds, in order: `'b` and `'c` of `'a: 'b + 'c`.
+    pub fn lifetime_bounds(&self) -> LifetimeBounds
+        ensures { result ≡ lifetime_bounds ⟦<ast::TypeBound as AstNode>⟧.casts ⟦<ast::Lifetime as AstNode>⟧.casts (typed_child ⟦<ast::TypeBoundList as AstNode>⟧.casts self.now.syntax) }
+    {
+        LifetimeBounds::new(self.type_bound_list())
+    }
+}
 
 impl ast::GenericArgList {
     /// The arguments that are lifetimes, in order.

@@ -1,7 +1,7 @@
 use Rattle.tree_model.specs.Cursor.{at_node}
 use Rattle.tree_model.proofs.Smaller.{smaller}
 use Rattle.ras_node.specs.Nodes.{has_kind_in}
-use Rattle.ras_path.specs.Path.{IsFirstQualifier, here, below}
+use Rattle.ras_path.specs.Path.{here, below}
 use Rattle.ras_path.proofs.Chains.{found, none_found}
 use Rattle.ras_path.proofs.chain.first_qualifier_or_self.Goals as goal
 

@@ -1,4 +1,3 @@
-use Rattle.std.proofs.Common.{◌≡◌}
 use Rattle.tree_model.specs.Tree.{size}
 use Rattle.tree_model.specs.Cursor.{Cursor, focus}
 use Rattle.ras_path.specs.Path.{IsFirstQualifier}

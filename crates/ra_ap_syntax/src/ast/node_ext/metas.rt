@@ -1,0 +1,179 @@
+//! What attributes say.
+ghost use Rattle.std.specs.Prelude.{◌≡◌, ℕ, List, Option, Some, None, [], map, option_map, drop, string_bytes, IfOk};
+ghost use Rattle.std.specs.List.{find};
+ghost use Rattle.std.specs.Option.{option_and_then, option_map_or};
+ghost use Rattle.tree_model.specs.Cursor.{Cursor, ancestors_of};
+ghost use Rattle.ras_node.specs.Lookups.{IsViewOf};
+ghost use Rattle.ras_node.specs.Nodes.{has_kind_in, typed_child};
+ghost use Rattle.ras_attr.specs.Metas.{opened, IsMetaPath, IsMetaName};
+ghost use Rattle.ra_ap_syntax.specs.MetaCases.{meta_node};
+ghost use Rattle.ra_ap_syntax.specs.AttrParts.{simple_path, atom_of, simple_atom, simple_call, call_in};
+
+use crate::ast::{self, AstNode, Meta, support};
+use lossless_tree::{SyntaxKind, SyntaxNode};
+use std::alloc::{AllocError, Global};
+
+// The text of the one name of a path.
+fn atom_of(alloc: Global, path: Option<ast::Path>) -> Result<Option<String>, AllocError>
+    ensures { IfOk result (λ atom. option_map (λ t. string_bytes t) atom ≡ option_and_then (atom_of ⟦<ast::Path as AstNode>⟧.casts ⟦<ast::PathSegment as AstNode>⟧.casts ⟦<ast::NameRef as AstNode>⟧.casts) (option_map (λ it. it.syntax) path)) }
+{
+    let Some(path) = path else {
+        return Ok(None);
+    };
+    match path.as_single_name_ref() {
+        Some(name) => ras_attr::owned(alloc, name.text()),
+        None => Ok(None),
+    }
+}
+
+fn with_tree(name: Option<String>, tree: ast::TokenTree) -> Option<(String, ast::TokenTree)>
+    ensures { option_map {U = List ℕ × Cursor} (λ p. (string_bytes p.0, p.1.syntax)) result ≡ option_map {U = List ℕ × Cursor} (λ word. (word, tree.syntax)) (option_map (λ t. string_bytes t) name) }
+{
+    match name {
+        Some(name) => Some((name, tree)),
+        None => None,
+    }
+}
+
+// The one name of a meta, with its arguments.
+fn call_in(
+    alloc: Global,
+    meta: &SyntaxNode,
+    tree: ast::TokenTree,
+) -> Result<Option<(String, ast::TokenTree)>, AllocError>
+    ensures { IfOk result (λ call. option_map (λ p. (string_bytes p.0, p.1.syntax)) call ≡ call_in ⟦<ast::Path as AstNode>⟧.casts ⟦<ast::PathSegment as AstNode>⟧.casts ⟦<ast::NameRef as AstNode>⟧.casts meta.now tree.syntax) }
+{
+    let name = atom_of(alloc, support::child(meta))?;
+    Ok(with_tree(name, tree))
+}
+
+impl Meta {
+    /// Its path, of an `unsafe(..)` that of the meta in it; `None` of a `cfg` and a `cfg_attr`.
+    pub fn path(&self) -> Option<ast::Path>
+        ensures { IsMetaPath ⟦<ast::Meta as AstNode>⟧.casts ⟦<ast::Path as AstNode>⟧.casts (meta_node self.now) (option_map (λ it. it.syntax) result) }
+    {
+        ras_attr::meta_path::<Meta, ast::Path>(support::copy(self))
+    }
+
+    /// The path of a meta that is a path alone, as `a::b`; `None` of others.
+    pub fn as_simple_path(&self) -> Option<ast::Path>
+        ensures { IsViewOf ⟦<ast::Path as AstNode>⟧ (simple_path ⟦<ast::Path as AstNode>⟧.casts (meta_node self.now)) result }
+    {
+        if self.syntax().kind() != SyntaxKind::PATH_META {
+            return None;
+        }
+        support::child(self.syntax())
+    }
+
+    /// The text of a meta that is one name, as `a`; `None` of others. It takes memory for the text.
+    pub fn as_simple_atom(&self, alloc: Global) -> Result<Option<String>, AllocError>
+        ensures { IfOk result (λ atom. option_map (λ t. string_bytes t) atom ≡ simple_atom ⟦<ast::Path as AstNode>⟧.casts ⟦<ast::PathSegment as AstNode>⟧.casts ⟦<ast::NameRef as AstNode>⟧.casts (meta_node self.now)) }
+    {
+        atom_of(alloc, self.as_simple_path())
+    }
+
+    /// The name and the arguments of a meta that is one name with arguments, as `a(..)`; `None` of others. It takes memory
+    /// for the name.
+    pub fn as_simple_call(
+        &self,
+        alloc: Global,
+    ) -> Result<Option<(String, ast::TokenTree)>, AllocError>
+        ensures { IfOk result (λ call. option_map (λ p. (string_bytes p.0, p.1.syntax)) call ≡ simple_call ⟦<ast::Path as AstNode>⟧.casts ⟦<ast::PathSegment as AstNode>⟧.casts ⟦<ast::NameRef as AstNode>⟧.casts ⟦<ast::TokenTree as AstNode>⟧.casts (meta_node self.now)) }
+    {
+        if self.syntax().kind() != SyntaxKind::TOKEN_TREE_META {
+            return Ok(None);
+        }
+        let Some(tree) = support::child::<ast::TokenTree>(self.syntax()) else {
+            return Ok(None);
+        };
+        call_in(alloc, self.syntax(), tree)
+    }
+
+    /// The word by which it is known: `cfg`, `cfg_attr`, and of others the first token of their path, where this is one
+    /// segment. It takes memory for the word.
+    pub fn simple_name(&self, alloc: Global) -> Result<Option<String>, AllocError>
+        ensures { IfOk result (λ name. IsMetaName ⟦<ast::Meta as AstNode>⟧.casts ⟦<ast::Path as AstNode>⟧.casts ⟦<ast::PathSegment as AstNode>⟧.casts (meta_node self.now) (option_map (λ t. string_bytes t) name)) }
+    {
+        ras_attr::meta_name::<Meta, ast::Path, ast::PathSegment>(alloc, self)
+    }
+
+    /// Itself; or, of a `cfg_attr`, the metas in it whatever its predicate, in order, of which each that is a `cfg_attr` again
+    /// gives way to those in it.
+    ///
+    /// It takes memory for the answer.
+    pub fn skip_cfg_attrs(self, alloc: Global) -> Result<Vec<Meta>, AllocError>
+        ensures { IfOk result (λ metas. map meta_node metas.items ≡ opened ⟦<ast::Meta as AstNode>⟧.casts (meta_node self)) }
+    {
+        ras_attr::skip_cfg_attrs(alloc, self)
+    }
+
+    /// The nearest attribute above it.
+    pub fn parent_attr(&self) -> Option<ast::Attr>
+        ensures { IsViewOf ⟦<ast::Attr as AstNode>⟧ (find (has_kind_in ⟦<ast::Attr as AstNode>⟧.casts) (drop 1 (ancestors_of (meta_node self.now)))) result }
+    {
+        support::ancestor_as(self.syntax())
+    }
+}
+
+impl ast::Attr {
+    /// The path of its meta.
+    pub fn path(&self) -> Option<ast::Path>
+        ensures meta { (meta : Cursor) → typed_child ⟦<ast::Meta as AstNode>⟧.casts self.now.syntax ≡ Some meta → IsMetaPath ⟦<ast::Meta as AstNode>⟧.casts ⟦<ast::Path as AstNode>⟧.casts meta (option_map (λ it. it.syntax) result) }
+        ensures none { typed_child ⟦<ast::Meta as AstNode>⟧.casts self.now.syntax ≡ None → result ≡ None }
+    {
+        self.meta()?.path()
+    }
+
+    /// The path of its meta, where that is a path alone.
+    pub fn as_simple_path(&self) -> Option<ast::Path>
+        ensures { IsViewOf ⟦<ast::Path as AstNode>⟧ (option_and_then (simple_path ⟦<ast::Path as AstNode>⟧.casts) (typed_child ⟦<ast::Meta as AstNode>⟧.casts self.now.syntax)) result }
+    {
+        self.meta()?.as_simple_path()
+    }
+
+    /// The text of its meta, where that is one name. It takes memory for the text.
+    pub fn as_simple_atom(&self, alloc: Global) -> Result<Option<String>, AllocError>
+        ensures { IfOk result (λ atom. option_map (λ t. string_bytes t) atom ≡ option_and_then (simple_atom ⟦<ast::Path as AstNode>⟧.casts ⟦<ast::PathSegment as AstNode>⟧.casts ⟦<ast::NameRef as AstNode>⟧.casts) (typed_child ⟦<ast::Meta as AstNode>⟧.casts self.now.syntax)) }
+    {
+        match self.meta() {
+            Some(meta) => meta.as_simple_atom(alloc),
+            None => Ok(None),
+        }
+    }
+
+    /// The name and the arguments of its meta, where that is one name with arguments. It takes memory for the name.
+    pub fn as_simple_call(
+        &self,
+        alloc: Global,
+    ) -> Result<Option<(String, ast::TokenTree)>, AllocError>
+        ensures { IfOk result (λ call. option_map (λ p. (string_bytes p.0, p.1.syntax)) call ≡ option_and_then (simple_call ⟦<ast::Path as AstNode>⟧.casts ⟦<ast::PathSegment as AstNode>⟧.casts ⟦<ast::NameRef as AstNode>⟧.casts ⟦<ast::TokenTree as AstNode>⟧.casts) (typed_child ⟦<ast::Meta as AstNode>⟧.casts self.now.syntax)) }
+    {
+        match self.meta() {
+            Some(meta) => meta.as_simple_call(alloc),
+            None => Ok(None),
+        }
+    }
+
+    /// The word by which its meta is known. It takes memory for the word.
+    pub fn simple_name(&self, alloc: Global) -> Result<Option<String>, AllocError>
+        ensures meta { (meta : Cursor) → typed_child ⟦<ast::Meta as AstNode>⟧.casts self.now.syntax ≡ Some meta → IfOk result (λ name. IsMetaName ⟦<ast::Meta as AstNode>⟧.casts ⟦<ast::Path as AstNode>⟧.casts ⟦<ast::PathSegment as AstNode>⟧.casts meta (option_map (λ t. string_bytes t) name)) }
+        ensures none { typed_child ⟦<ast::Meta as AstNode>⟧.casts self.now.syntax ≡ None → IfOk result (λ name. name ≡ None) }
+    {
+        match self.meta() {
+            Some(meta) => meta.simple_name(alloc),
+            None => Ok(None),
+        }
+    }
+
+    /// Its meta, or, of a `cfg_attr`, the metas in it, as `Meta::skip_cfg_attrs` has them; none without a meta.
+    ///
+    /// It takes memory for the answer.
+    pub fn skip_cfg_attrs(&self, alloc: Global) -> Result<Vec<Meta>, AllocError>
+        ensures { IfOk result (λ metas. map meta_node metas.items ≡ option_map_or (opened ⟦<ast::Meta as AstNode>⟧.casts) (typed_child ⟦<ast::Meta as AstNode>⟧.casts self.now.syntax) []) }
+    {
+        match self.meta() {
+            Some(meta) => meta.skip_cfg_attrs(alloc),
+            None => Ok(Vec::new(alloc)),
+        }
+    }
+}

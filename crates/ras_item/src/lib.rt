@@ -1,0 +1,8 @@
+//! Parts of items, types and patterns. The types of the views are parameters. No call takes memory but `slice_components`.
+#![tactic(auto)]
+
+mod bounds;
+mod slices;
+
+pub use bounds::LifetimeBounds;
+pub use slices::{SliceComponents, slice_components};
