@@ -2,6 +2,7 @@ pub mod AdtCases
 pub mod AnyAttrCases
 pub mod AnyHasAttrsCases
 pub mod AnyStringCases
+pub mod AnyStringValues
 pub mod AssocItemCases
 pub mod CallableExprCases
 pub mod CommentKinds

@@ -5,3 +5,4 @@ pub mod Literals
 pub mod Numbers
 pub mod Quotes
 pub mod Texts
+pub mod Units

@@ -2,12 +2,12 @@
 use Rattle.std.specs.Prelude.{ℕ, ◌+◌, ◌-◌, ◌==◌, ◌||◌, not, Bool, false, nat_eq, nat_lt, codes, List, [], ◌∷◌, flat_map, length, encode_utf8, Option, None, Some, Result, Ok, Err, if◌then◌else◌}
 use Rattle.std.specs.List.{list_any, starts_with, ends_with}
 use Rattle.std.specs.Option.{option_and_then, option_map_or}
-use Rattle.std.specs.Str.{chars}
+use Rattle.std.specs.Str.{chars, is_utf8}
 use Rattle.literal_escape.specs.Literal.{is_warning, numbered}
 use Rattle.literal_escape.specs.Pieces.{single}
 use Rattle.literal_escape.specs.Reading.{reports_in}
 use Rattle.literal_escape.specs.declared.error.EscapeError.{EscapeError}
-use Rattle.literal_escape.specs.declared.error.EscapeError.TheVariants.{ZeroChars, LoneSlash}
+use Rattle.literal_escape.specs.declared.error.EscapeError.TheVariants.{ZeroChars, LoneSlash, NonAsciiCharInByte}
 use Rattle.literal_escape.specs.declared.mode.Mode.{Mode}
 use Rattle.literal_escape.specs.declared.mode.Mode.TheVariants as modes
 use Rattle.literal_escape.specs.declared.mode.MixedUnit.{MixedUnit}
@@ -115,3 +115,12 @@ literal_value joined mode prefix text = option_map_or (quoted_value joined mode 
 -- no memory is needed: the literal is raw, or its content has no backslash
 abbrev pub can_borrow : List ℕ → List ℕ → Bool
 can_borrow prefix text = is_raw prefix text || not (option_map_or has_backslash (content_of text) false)
+
+-- bytes as a text: what is no UTF-8 is none
+abbrev pub as_text : List ℕ → Result (List ℕ) EscapeError
+as_text bytes = if is_utf8 bytes then Ok bytes else Err NonAsciiCharInByte
+
+-- the same of a value
+abbrev pub value_as_text : Result (List ℕ) EscapeError → Result (List ℕ) EscapeError
+value_as_text (Ok bytes) = as_text bytes
+value_as_text (Err e) = Err e

@@ -10,6 +10,8 @@ pub mod parts;
 pub mod places;
 pub mod quotes;
 pub mod strings;
+pub mod text_values;
+pub mod units;
 pub mod values;
 
 pub use chars::{byte_value, char_value};
@@ -23,4 +25,6 @@ pub use parts::{cut, is_raw};
 pub use places::{first_place, last_place};
 pub use quotes::{QuoteOffsets, offset_down, quote_offsets, range_up};
 pub use strings::{last_fault, quote_places, string_content};
+pub use text_values::text_value;
+pub use units::{escaped_char_ranges, unescape};
 pub use values::{ValueError, bytes_value, string_value};

@@ -6,8 +6,9 @@ ghost use Rattle.tree_model.specs.Cursor.{focus};
 ghost use Rattle.literal_escape.specs.declared.mode.Mode.TheVariants as modes;
 ghost use Rattle.ras_literal.specs.Literals.{meanings, string_meanings, literal_value, can_borrow};
 ghost use Rattle.ras_literal.specs.Answered.{IsValueOf, TakesNoMemory};
+ghost use Rattle.ra_ap_syntax.specs.AnyStringValues.{IsAnyStringValue, any_string_can_borrow};
 
-use crate::ast;
+use crate::ast::{self, AnyString};
 use literal_escape::Mode;
 use ras_literal::ValueError;
 use std::alloc::Global;
@@ -43,5 +44,31 @@ impl ast::CString {
         ensures borrowed { can_borrow (codes "cr") (text (focus self.now.syntax)) ≡ true → TakesNoMemory IsBorrowedSlice result }
     {
         ras_literal::bytes_value(alloc, Mode::CStr, "cr", self.syntax.text())
+    }
+}
+
+impl AnyString {
+    /// The value as a text, as that of the string, byte string or C string.
+    ///
+    /// Bytes that are no UTF-8 are `Escape(NonAsciiCharInByte)`. Where memory is out before that is known, it is `Memory`.
+    pub fn value(&self, alloc: Global) -> Result<CowStr<'_, Global>, ValueError>
+        ensures value { IsAnyStringValue cow_str_bytes self.now result }
+        ensures borrowed { any_string_can_borrow self.now ≡ true → TakesNoMemory IsBorrowedStr result }
+    {
+        match self {
+            AnyString::ByteString(it) => ras_literal::text_value(
+                alloc,
+                Mode::ByteStr,
+                "br",
+                it.syntax.text(),
+            ),
+            AnyString::CString(it) => ras_literal::text_value(
+                alloc,
+                Mode::CStr,
+                "cr",
+                it.syntax.text(),
+            ),
+            AnyString::String(it) => it.value(alloc),
+        }
     }
 }
