@@ -1,5 +1,5 @@
 -- Every operand below the root of a tree that shows a term, asked with its own parent: the answer is whether it fits.
-use Rattle.std.proofs.Common.{◌≡◌, ◌++◌, ℕ, zero, suc, List, [], ◌∷◌, Bool, true, false, cond, Option, Some, None, option_and_then, refl, sym, ap, subst, ◌∙◌, ◌↔◌, arith, append_assoc, append-nil}
+use Rattle.std.proofs.Common.{◌≡◌, ◌++◌, ℕ, zero, suc, List, [], ◌∷◌, Bool, true, false, ◌||◌, cond, Option, Some, None, option_and_then, refl, sym, ap, subst, ◌∙◌, ◌↔◌, arith, append_assoc, append-nil}
 use Rattle.syntax_kind.specs.declared.syntax_kind.token_kind.TokenKind.TheVariants as tok
 use Rattle.tree_model.specs.Tree.{Tree, node, token, Place, subtree, child_at, forest_of_children, kind_of}
 use Rattle.tree_model.specs.Cursor.{Cursor, focus, at_place, parent_of}
@@ -13,15 +13,15 @@ use Rattle.operator_terms.proofs.Power.{needs_where_unfit}
 use Rattle.operator_terms.proofs.Headlines.{behind-last}
 use Rattle.operator_trees.specs.Forms.{form_of}
 use Rattle.operator_trees.specs.Shown.{IsSign, IsTerm, IsArguments, leaf, meaning, meanings}
-use Rattle.operator_trees.specs.Shape.{kid_meanings}
+use Rattle.operator_trees.specs.Shape.{kid_meanings, term_form}
 use Rattle.operator_trees.specs.Before.{kid_at, part_kid, is_direct, argument_kid}
 use Rattle.operator_trees.specs.Leaves.{leaves_behind}
 use Rattle.operator_trees.specs.Operands.{part_place, operand_place, below_part}
 use Rattle.operator_trees.proofs.Inversion.{no, arguments_formed}
 use Rattle.operator_trees.proofs.Operands.{PartStands, Stands, kid_stands, operand_stands, told_parts}
 use Rattle.operator_trees.proofs.Tokens.{sound-term}
-use Rattle.operator_powers.specs.Rules.{is_arguments, kid_place, operators_ask}
-use Rattle.operator_powers.proofs.Cursors.{not_arguments, operators_asked, child_parent, place_parent}
+use Rattle.operator_powers.specs.Rules.{form_at, is_arguments, is_term_form, kid_place, operators_ask}
+use Rattle.operator_powers.proofs.Cursors.{form_told, not_arguments, operators_asked, child_parent, place_parent}
 use Rattle.operator_places.proofs.Deep.{Asked, asked_so}
 use Rattle.operator_pairs.specs.Pairs.{operand_cursor, angle_behind, asks}
 use Rattle.operator_pairs.proofs.Listed.{direct_place}
@@ -146,11 +146,20 @@ pub record AskedAt (r : Cursor) (t : Term) (q : List ℕ) (held : Part) : Type 0
   pub shows : meaning (focus (operand_cursor r t q)) ≡ IsTerm held.term
   pub parent : Cursor
   pub is_parent : parent_of (operand_cursor r t q) ≡ Some parent
+  pub holds : is_term_form (form_at parent) || is_arguments (form_at parent) ≡ true
   pub fits : (own : Cursor) (s : Term) → meaning (focus own) ≡ IsTerm s → asks own parent (operand_cursor r t q) ≡ false ↔ FitsPlace held.demand (angle_behind r t q) s
 
 pub operand_shown : (r : Cursor) (t : Term) (q : List ℕ) (held : Part) → meaning (focus r) ≡ IsTerm t → operand t q ≡ Some held → meaning (focus (operand_cursor r t q)) ≡ IsTerm held.term
 operand_shown r t q held shows is =
     ap meaning (subtree-append r.tree r.place (operand_place q (focus r) t)) ∙ (operand_stands q (focus r) (AtLeast 0) t held shows is).shows
+
+formed : (t : Term) → is_term_form (term_form t) ≡ true
+formed (Paren e) = refl
+formed _ = refl
+
+or_true : (b : Bool) → b || true ≡ true
+or_true true = refl
+or_true false = refl
 
 asked_directly : (r : Cursor) (t : Term) (q : List ℕ) (i : ℕ) (holder held : Part) → meaning (focus r) ≡ IsTerm t → operand t q ≡ Some holder → part holder.term i ≡ Some held → operand t (q ++ i ∷ []) ≡ Some held
     → is_direct holder.term i ≡ true → AskedAt r t (q ++ i ∷ []) held
@@ -169,6 +178,7 @@ asked_directly r t q i holder held shows is has whole direct =
       shows = operand_shown r t (q ++ i ∷ []) held shows whole;
       parent = parent;
       is_parent = place_parent parent own n here;
+      holds = ap (λ b. b || is_arguments (form_at parent)) (ap is_term_form (form_told (focus parent) holder.term a.holder_shown) ∙ formed holder.term);
       fits = λ s_own s s_shows.
           let angle : Bool = angle_behind r t (q ++ i ∷ []) in
           let f = needs_where_unfit holder.term i held.demand held.term s angle has in
@@ -202,6 +212,7 @@ asked_in_list r t q i holder held shows is has whole direct =
       shows = operand_shown r t (q ++ i ∷ []) held shows whole;
       parent = parent;
       is_parent = ap parent_of here ∙ child_parent parent x.child;
+      holds = ap (λ b. is_term_form (form_at parent) || b) (ap (λ w. is_arguments (form_of (kind_of w))) list ∙ x.is_list) ∙ or_true (is_term_form (form_at parent));
       fits = λ s_own s s_shows.
           let g : asks s_own parent own ≡ false =
           ap (λ b. cond b false (operators_ask s_own parent own (begins_with_angle (leaves_behind own.tree own.place)))) (ap (λ w. is_arguments (form_of (kind_of w))) list ∙ x.is_list) in

@@ -1,5 +1,5 @@
 -- Where an operator tree is asked, the whole test is that of operator trees.
-use Rattle.std.proofs.Common.{◌≡◌, ◌-◌, length, Bool, true, false, not, ◌&&◌, ◌||◌, cond, List, [], ◌∷◌, ◌++◌, Some, None, refl, sym, ap, ◌∙◌}
+use Rattle.std.proofs.Common.{ℕ, ◌≡◌, ◌-◌, length, Bool, true, false, not, ◌&&◌, ◌||◌, cond, List, [], ◌∷◌, ◌++◌, Some, None, refl, sym, ap, subst, ◌∙◌}
 use Rattle.std.specs.Prelude.{is_some, if◌then◌else◌}
 use Rattle.std.specs.List.{find}
 use Rattle.std.specs.Option.{option_and_then}
@@ -13,7 +13,7 @@ use Rattle.ras_node.specs.Sets.{is_expr}
 use Rattle.operator_terms.specs.Token.{Token}
 use Rattle.operator_terms.specs.Term.{Term, Literal, Name, Paren, Field, Await, Try, Cast, Method, Call, Index, Prefix, Borrow, Binary, RangeFull, RangeFrom, RangeTo, Range, tokens}
 use Rattle.operator_terms.specs.Reading.{begins_with_angle}
-use Rattle.operator_terms.specs.Places.{ends_in_cast}
+use Rattle.operator_terms.specs.Places.{Part, ends_in_cast, operand}
 use Rattle.operator_terms.specs.Powers.{Powers, like_postfix}
 use Rattle.operator_trees.specs.declared.form.Form.{Form}
 use Rattle.operator_trees.specs.declared.form.Form.TheVariants as form
@@ -27,6 +27,8 @@ use Rattle.operator_powers.proofs.Cursors.{not_foreign}
 use Rattle.operator_powers.proofs.Walk.{leaf_here, flat, leaves_descendants}
 use Rattle.operator_places.specs.Next.{first_kind, kind_behind}
 use Rattle.operator_pairs.specs.Pairs as pairs
+use Rattle.operator_pairs.specs.Pairs.{operand_cursor}
+use Rattle.operator_pairs.proofs.Asked.{AskedAt, asked_at, operand_shown}
 use Rattle.operator_precedence.specs.Levels.{is_valueless, precedence_of}
 use Rattle.operator_walks.specs.Above.{child_toward, first_child_of_it, is_among, is_at_or_above, is_child_of, is_followed_by_block}
 use Rattle.operator_walks.specs.CastName.{ends_in_cast_name}
@@ -220,3 +222,22 @@ arguments_ask own parent place holder =
     by : (b : Bool) → (if b then false else false) ≡ false
     by true = refl
     by false = refl
+
+-- ---- at the operands of an operator tree
+
+one_or_other : (own parent place : Cursor) (s u : Term) → meaning (focus own) ≡ IsTerm s → meaning (focus place) ≡ IsTerm u → parent_of place ≡ Some parent
+    → is_term_form (form_at parent) || is_arguments (form_at parent) ≡ true → asks own parent place ≡ pairs.asks own parent place
+one_or_other own parent place s u self shows at holds = by (is_term_form (form_at parent)) refl holds
+  where
+    by : (b : Bool) → is_term_form (form_at parent) ≡ b → b || is_arguments (form_at parent) ≡ true → asks own parent place ≡ pairs.asks own parent place
+    by true e h = asked_by_operators own parent place s u self shows at e
+    by false e h = arguments_ask own parent place h
+
+pub operand_asked : (r : Cursor) (t s : Term) (i : ℕ) (q : List ℕ) (held : Part) (own parent place : Cursor) (b : Bool) → b ≡ asks own parent place → meaning (focus r) ≡ IsTerm t → operand t (i ∷ q) ≡ Some held
+    → place ≡ operand_cursor r t (i ∷ q) → parent_of place ≡ Some parent → meaning (focus own) ≡ IsTerm s → b ≡ pairs.asks own parent place
+operand_asked r t s i q held own parent place b is_b shows is at above self =
+    let a : AskedAt r t (i ∷ q) held = asked_at r t i q held shows is in
+    let both : Some a.parent ≡ Some parent = sym a.is_parent ∙ ap parent_of (sym at) ∙ above in
+    let same : a.parent ≡ parent = cc in
+    is_b ∙ one_or_other own parent place s held.term self (ap (λ o. meaning (focus o)) at ∙ operand_shown r t (i ∷ q) held shows is) above
+    (subst (λ p. is_term_form (form_at p) || is_arguments (form_at p) ≡ true) same a.holds)

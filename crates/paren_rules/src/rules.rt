@@ -1,11 +1,15 @@
 //! The rules by which an expression needs parentheses.
-ghost use Rattle.std.specs.Prelude.{◌≡◌, ◌&&◌, is_some};
+ghost use Rattle.std.specs.Prelude.{◌≡◌, ◌↔◌, ◌∷◌, List, ℕ, Some, true, false, is_some};
 ghost use Rattle.std.specs.List.{find};
-ghost use Rattle.tree_model.specs.Cursor.{focus, at_token, descendants_of, children_of};
+ghost use Rattle.tree_model.specs.Cursor.{Cursor, focus, parent_of};
+ghost use Rattle.operator_terms.specs.Term.{Term, Paren, tokens};
+ghost use Rattle.operator_terms.specs.Reading.{begins_with_angle, Reads};
+ghost use Rattle.operator_terms.specs.Pairs.{without};
 ghost use Rattle.operator_terms.specs.Powers.{pow, like_postfix};
-ghost use Rattle.operator_terms.specs.Places.{ends_in_cast};
-ghost use Rattle.operator_trees.specs.Leaves.{leaves_of};
-ghost use Rattle.operator_trees.specs.Shown.{shown};
+ghost use Rattle.operator_terms.specs.Places.{Demand, Part, some_part, operand, Fits, FitsPlace};
+ghost use Rattle.operator_trees.specs.Leaves.{leaves_behind};
+ghost use Rattle.operator_trees.specs.Shown.{meaning, IsTerm};
+ghost use Rattle.operator_pairs.specs.Pairs.{operand_cursor, angle_behind, MayGoBefore};
 ghost use Rattle.operator_precedence.specs.declared.level.ExprPrecedence.{ExprPrecedence};
 ghost use Rattle.ras_node.specs.Nodes.{kind_at, typed_child};
 ghost use Rattle.ras_node.specs.Searches.{first_token};
@@ -205,9 +209,8 @@ fn is_statement(kind: SyntaxKind) -> bool
     Stmts::has(kind) || matches!(kind, SyntaxKind::STMT_LIST)
 }
 
-/// Whether an expression needs parentheses in place of what stands at `place`, where `parent` is the parent of that, or stands
-/// further up, or is the place itself; false where it is neither.
-pub fn needs_parens_in_place_of(own: &SyntaxNode, parent: &SyntaxNode, place: &SyntaxNode) -> bool
+// The whole test.
+fn asks(own: &SyntaxNode, parent: &SyntaxNode, place: &SyntaxNode) -> bool
     ensures { result ≡ asks own.now parent.now place.now }
 {
     if !is_at_or_above(parent, place) {
@@ -220,9 +223,40 @@ pub fn needs_parens_in_place_of(own: &SyntaxNode, parent: &SyntaxNode, place: &S
     is_statement(kind) && asks_in_statement(own, parent)
 }
 
+/// Whether an expression needs parentheses in place of what stands at `place`, where `parent` is the parent of that, or stands
+/// further up, or is the place itself; false where it is neither.
+///
+/// At an operand below the root of an operator tree, asked with the operand's own parent node (for an argument that is the list
+/// of arguments), it answers false exactly where the expression fits there, before the tokens that stand behind the operand in the
+/// whole tree. Of a pair's inside in place of the pair, where the tree reads back, this is: exactly where the tokens without the
+/// pair read as the term without it; and then no other term reads them.
+pub fn needs_parens_in_place_of(own: &SyntaxNode, parent: &SyntaxNode, place: &SyntaxNode) -> bool
+    ensures asks { result ≡ asks own.now parent.now place.now }
+    ensures fits { (r : Cursor) (t s : Term) (i : ℕ) (q : List ℕ) (held : Part) → meaning (focus r) ≡ IsTerm t → operand t (i ∷ q) ≡ Some held
+        → place.now ≡ operand_cursor r t (i ∷ q) → parent_of place.now ≡ Some parent.now → meaning (focus own.now) ≡ IsTerm s
+        → result ≡ false ↔ FitsPlace held.demand (angle_behind r t (i ∷ q)) s }
+    ensures pairs { (r : Cursor) (t : Term) (i : ℕ) (q : List ℕ) (d : Demand) (e : Term) → meaning (focus r) ≡ IsTerm t → operand t (i ∷ q) ≡ some_part d (Paren e)
+        → place.now ≡ operand_cursor r t (i ∷ q) → parent_of place.now ≡ Some parent.now → meaning (focus own.now) ≡ IsTerm e
+        → Reads 0 (tokens t) t → MayGoBefore (leaves_behind r.tree r.place) t (i ∷ q)
+        → (result ≡ false ↔ Reads 0 (tokens (without (i ∷ q) t)) (without (i ∷ q) t))
+        × (result ≡ false → (u : Term) → Reads 0 (tokens (without (i ∷ q) t)) u → u ≡ without (i ∷ q) t) }
+{
+    asks(own, parent, place)
+}
+
 /// The same in its own place.
+///
+/// At an operand below the root of an operator tree, asked with the operand's own parent node, it answers false exactly where the
+/// operand fits, before the tokens that stand behind it in the whole tree. Where neither `<` nor `<<` follows the operator tree,
+/// this is `Fits`, of the term alone.
 pub fn needs_parens_in(own: &SyntaxNode, parent: &SyntaxNode) -> bool
-    ensures { result ≡ asks own.now parent.now own.now }
+    ensures asks { result ≡ asks own.now parent.now own.now }
+    ensures fits { (r : Cursor) (t : Term) (i : ℕ) (q : List ℕ) (held : Part) → meaning (focus r) ≡ IsTerm t → operand t (i ∷ q) ≡ Some held
+        → own.now ≡ operand_cursor r t (i ∷ q) → parent_of own.now ≡ Some parent.now
+        → result ≡ false ↔ FitsPlace held.demand (angle_behind r t (i ∷ q)) held.term }
+    ensures alone { (r : Cursor) (t : Term) (i : ℕ) (q : List ℕ) (held : Part) → meaning (focus r) ≡ IsTerm t → operand t (i ∷ q) ≡ Some held
+        → own.now ≡ operand_cursor r t (i ∷ q) → parent_of own.now ≡ Some parent.now → begins_with_angle (leaves_behind r.tree r.place) ≡ false
+        → result ≡ false ↔ Fits t (i ∷ q) }
 {
     needs_parens_in_place_of(own, parent, own)
 }
