@@ -1,19 +1,18 @@
 -- The parts of expressions that are more than the first child of a kind: cursors among the children of a node, and above it.
 -- (Upstream: `ast::expr_ext` of rust-analyzer's `syntax`.)
-use Rattle.std.specs.Prelude.{Bool, true, false, not, ◌&&◌, ◌||◌, List, [], ◌∷◌, Option, Some, None, option_map, is_some, if◌then◌else◌}
-use Rattle.std.specs.List.{find, slice_get, filter}
+use Rattle.std.specs.Prelude.{Bool, true, false, ◌||◌, Option, Some, None, option_map, is_some, if◌then◌else◌}
+use Rattle.std.specs.List.{find, slice_get}
 use Rattle.std.specs.Option.{option_and_then, option_or, option_map_or}
 use Rattle.syntax_kind.specs.declared.syntax_kind.SyntaxKind.{SyntaxKind}
-use Rattle.syntax_kind.specs.declared.syntax_kind.SyntaxKind.TheVariants.{Node, Token}
+use Rattle.syntax_kind.specs.declared.syntax_kind.SyntaxKind.TheVariants.{Node}
 use Rattle.syntax_kind.specs.declared.syntax_kind.node_kind.NodeKind.TheVariants as kind
-use Rattle.syntax_kind.specs.declared.syntax_kind.token_kind.TokenKind.TheVariants as token
-use Rattle.tree_model.specs.Cursor.{Cursor, children_of, first_child_of, parent_of, at_node}
+use Rattle.tree_model.specs.Cursor.{Cursor, children_of, first_child_of, parent_of}
 use Rattle.tree_model.specs.Equality.{is_same_cursor}
 use Rattle.lossless_tree.specs.Element.{element_of, token_part}
 use Rattle.ras_node.specs.PartSets.{is_range_operator, is_binary_operator, is_before_literal, is_before_index}
 use Rattle.ras_node.specs.Searches.{first_node, first_token, behind, before, has_other_kind}
 use Rattle.ras_node.specs.Lookups.{second_typed_child, view_in, grandparent_of}
-use Rattle.ras_node.specs.Nodes.{kind_at, is_of_kind, has_kind_in, typed_child, typed_children, token_child}
+use Rattle.ras_node.specs.Nodes.{kind_at, is_of_kind, typed_child, typed_children}
 
 -- an expression that ends in a block, and so needs no `;` as a statement
 abbrev pub is_block_like : SyntaxKind → Bool

@@ -1,6 +1,6 @@
 -- The variants of answers about items, patterns, types and paths, with cursors in the place of views.
-use Rattle.std.specs.Prelude.{Bool, Option, Some, None, option_map, is_some, not, if◌then◌else◌}
-use Rattle.std.specs.Option.{option_and_then, option_or, option_map_or}
+use Rattle.std.specs.Prelude.{Bool, Option, Some, None, option_map, is_some, if◌then◌else◌}
+use Rattle.std.specs.Option.{option_or, option_map_or}
 use Rattle.syntax_kind.specs.declared.syntax_kind.SyntaxKind.{SyntaxKind}
 use Rattle.syntax_kind.specs.declared.syntax_kind.SyntaxKind.TheVariants.{Token}
 use Rattle.syntax_kind.specs.declared.syntax_kind.token_kind.TokenKind.TheVariants as token

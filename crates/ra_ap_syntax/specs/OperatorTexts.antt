@@ -1,5 +1,5 @@
 -- The operators of the language by their tokens, and how they are written (Rust Reference, "Operator expressions").
-use Rattle.std.specs.Prelude.{Bool, true, false, Option, Some, None, List, ℕ, codes, ◌++◌}
+use Rattle.std.specs.Prelude.{true, false, Option, Some, None, List, ℕ, codes, ◌++◌}
 use Rattle.syntax_kind.specs.declared.syntax_kind.SyntaxKind.{SyntaxKind}
 use Rattle.syntax_kind.specs.declared.syntax_kind.SyntaxKind.TheVariants.{Token}
 use Rattle.syntax_kind.specs.declared.syntax_kind.token_kind.TokenKind.TheVariants as token
