@@ -8,23 +8,13 @@ use tiny_front::Tiny;
 
 type File = Parse<SourceFile>;
 
+// The first byte that goes, the byte behind the last one, and what comes in their place.
+type Edit = (u32, u32, &'static str);
+
 const NOW: Edition = Edition::CURRENT;
 
-// The first byte that goes, the byte behind the last one, and what comes in their place.
-const EDITS: [(u32, u32, &str); 5] = [
-    (3, 6, "main"),
-    (12, 13, "1 + x"),
-    (0, 0, "fn f() {}\n"),
-    (13, 17, "g"),
-    (8, 9, ""),
-];
-
 // The file after an edit, and the range that was read anew; `None` where the text has no such range.
-fn edit(
-    alloc: Global,
-    old: &File,
-    edit: (u32, u32, &str),
-) -> Result<Option<(File, TextRange)>, ParseError> {
+fn edit(alloc: Global, old: &File, edit: Edit) -> Result<Option<(File, TextRange)>, ParseError> {
     let (start, end, insert) = edit;
     let root = old.syntax_node();
     let (text, from, to) = (root.as_str(), start as usize, end as usize);
@@ -40,19 +30,30 @@ fn edit(
     Ok(Some((whole, range)))
 }
 
+fn apply(rt: &HostRuntime, old: File, change: Edit) -> io::Result<File> {
+    let Ok(edited) = edit(rt.alloc(), &old, change) else {
+        println!(rt; "out of memory")?;
+        return Ok(old);
+    };
+    let Some((new, range)) = edited else {
+        println!(rt; "{}..{} is no range of the text", change.0, change.1)?;
+        return Ok(old);
+    };
+    println!(rt;
+        "{}..{} by {:?}: {range} read anew",
+        change.0, change.1, change.2
+    )?;
+    Ok(new)
+}
+
 fn main(rt: HostRuntime) -> io::Result<()> {
     let Ok(mut file) = SourceFile::parse(rt.alloc(), "fn foo() { 1 }\n", &Tiny, NOW) else {
         return println!(rt; "out of memory");
     };
-    for (start, end, insert) in EDITS {
-        match edit(rt.alloc(), &file, (start, end, insert)) {
-            Err(refusal) => return println!(rt; "{refusal}"),
-            Ok(None) => println!(rt; "{start}..{end} is no range of the text")?,
-            Ok(Some((new, range))) => {
-                println!(rt; "{start}..{end} by {insert:?}: {range} read anew")?;
-                file = new;
-            }
-        }
-    }
+    file = apply(&rt, file, (3, 6, "main"))?;
+    file = apply(&rt, file, (12, 13, "1 + x"))?;
+    file = apply(&rt, file, (0, 0, "fn f() {}\n"))?;
+    file = apply(&rt, file, (13, 17, "g"))?;
+    file = apply(&rt, file, (8, 9, ""))?;
     print!(rt; "{}", file.syntax_node().as_str())
 }
