@@ -1,0 +1,79 @@
+//! The quotes and the content of strings, in the offsets of the tree.
+use crate::tokens::{range, typed};
+use ra_ap_syntax::ast::{AnyString, IsString};
+use ra_ap_syntax::{SyntaxKind, TextSize};
+use std::test::Fail;
+
+#[test]
+fn prefixes(rt: HostRuntime) -> Result<(), Fail> {
+    let rows = [
+        (SyntaxKind::STRING, "\"a\"", "r", false),
+        (SyntaxKind::STRING, "r\"a\"", "r", true),
+        (SyntaxKind::BYTE_STRING, "b\"a\"", "br", false),
+        (SyntaxKind::BYTE_STRING, "br#\"a\"#", "br", true),
+        (SyntaxKind::C_STRING, "c\"a\"", "cr", false),
+        (SyntaxKind::C_STRING, "cr\"a\"", "cr", true),
+    ];
+    for (kind, text, prefix, raw) in rows {
+        let string: AnyString = typed(rt.alloc(), kind, text)?;
+        assert_eq!(rt; string.raw_prefix(), prefix);
+        assert_eq!(rt; string.is_raw(), raw, "in {text}");
+    }
+    Ok(())
+}
+
+#[test]
+fn quotes_around_a_content(rt: HostRuntime) -> Result<(), Fail> {
+    let string: AnyString = typed(rt.alloc(), SyntaxKind::STRING, "\"ab\"")?;
+    let offsets = string.quote_offsets().ok_or("no quotes")?;
+    assert_eq!(rt; offsets.quotes.0, range(4, 1));
+    assert_eq!(rt; offsets.quotes.1, range(7, 1));
+    assert_eq!(rt; offsets.contents, range(5, 2));
+    assert_eq!(rt; string.text_range_between_quotes(), Some(range(5, 2)));
+    assert_eq!(rt; string.open_quote_text_range(), Some(range(4, 1)));
+    assert_eq!(rt; string.close_quote_text_range(), Some(range(7, 1)));
+    assert_eq!(rt; string.text_without_quotes(), "ab");
+    Ok(())
+}
+
+#[test]
+fn quotes_of_a_raw_string(rt: HostRuntime) -> Result<(), Fail> {
+    let string: AnyString = typed(rt.alloc(), SyntaxKind::BYTE_STRING, "br#\"a\"b\"#")?;
+    let offsets = string.quote_offsets().ok_or("no quotes")?;
+    assert_eq!(rt; offsets.quotes.0, range(4, 4));
+    assert_eq!(rt; offsets.quotes.1, range(11, 2));
+    assert_eq!(rt; offsets.contents, range(8, 3));
+    assert_eq!(rt; string.text_without_quotes(), "a\"b");
+    Ok(())
+}
+
+#[test]
+fn one_quote_alone(rt: HostRuntime) -> Result<(), Fail> {
+    let string: AnyString = typed(rt.alloc(), SyntaxKind::STRING, "\"")?;
+    assert_eq!(rt; string.quote_offsets(), None);
+    assert_eq!(rt; string.text_range_between_quotes(), None);
+    assert_eq!(rt; string.open_quote_text_range(), None);
+    assert_eq!(rt; string.close_quote_text_range(), None);
+    assert_eq!(rt; string.text_without_quotes(), "\"");
+    assert_eq!(rt; string.map_range_up(range(0, 0)), None);
+    assert_eq!(rt; string.map_offset_down(TextSize::new(9)), None);
+    Ok(())
+}
+
+#[test]
+fn places_in_a_content(rt: HostRuntime) -> Result<(), Fail> {
+    let string: AnyString = typed(rt.alloc(), SyntaxKind::C_STRING, "c\"ab\"")?;
+    assert_eq!(rt; string.map_range_up(range(0, 2)), Some(range(6, 2)));
+    assert_eq!(rt; string.map_range_up(range(2, 0)), Some(range(8, 0)));
+    assert_eq!(rt; string.map_range_up(range(1, 2)), None);
+    assert_eq!(rt; string.map_offset_down(TextSize::new(5)), None);
+    assert_eq!(rt;
+        string.map_offset_down(TextSize::new(6)),
+        Some(TextSize::new(0))
+    );
+    assert_eq!(rt;
+        string.map_offset_down(TextSize::new(8)),
+        Some(TextSize::new(2))
+    );
+    Ok(())
+}
