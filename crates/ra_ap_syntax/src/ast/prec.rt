@@ -1,13 +1,15 @@
 //! Precedences of expressions, and parentheses.
-ghost use Rattle.std.specs.Prelude.{◌≡◌, ◌↔◌, ◌&&◌, IfOk, IfSome, Some, map, option_map, true};
-ghost use Rattle.tree_model.specs.Cursor.{focus};
+ghost use Rattle.std.specs.Prelude.{◌≡◌, ◌↔◌, ◌&&◌, ◌∷◌, ℕ, List, IfOk, IfSome, Some, map, option_map, true, false};
+ghost use Rattle.tree_model.specs.Cursor.{Cursor, focus, parent_of};
 ghost use Rattle.ras_node.specs.Nodes.{kind_at};
-ghost use Rattle.operator_terms.specs.Term.{Term};
-ghost use Rattle.operator_terms.specs.Places.{MayStandBefore};
+ghost use Rattle.operator_terms.specs.Term.{Term, Paren, tokens};
+ghost use Rattle.operator_terms.specs.Reading.{begins_with_angle, Reads};
+ghost use Rattle.operator_terms.specs.Pairs.{without};
+ghost use Rattle.operator_terms.specs.Places.{Demand, Part, some_part, operand, Fits, FitsPlace, MayStandBefore};
 ghost use Rattle.operator_trees.specs.Leaves.{leaves_behind};
 ghost use Rattle.operator_trees.specs.Shown.{shown, meaning, IsTerm};
 ghost use Rattle.operator_reads.specs.Reads.{ReadsBack};
-ghost use Rattle.operator_pairs.specs.Pairs.{NeedlessOf, AskedNowhere};
+ghost use Rattle.operator_pairs.specs.Pairs.{NeedlessOf, AskedNowhere, operand_cursor, angle_behind, MayGoBefore};
 ghost use Rattle.operator_precedence.specs.Levels.{precedence_of, is_valueless, is_dyn_or_impl, is_pointing};
 ghost use Rattle.paren_rules.specs.Rules.{asks};
 ghost use Rattle.ra_ap_syntax.specs.ExprCases.{expr_node};
@@ -43,16 +45,36 @@ impl ast::Expr {
 
     /// Whether the expression needs parentheses below a parent of its, or an ancestor; false where the node is neither.
     ///
-    /// Below an expression that a block follows, and below an `&&`, it may read the whole of the expression.
+    /// At an operand below the root of an operator tree, asked with the operand's own parent node (for an argument that is the list
+    /// of arguments), it answers false exactly where the operand fits, before the tokens that stand behind it in the whole tree;
+    /// where neither `<` nor `<<` follows the operator tree, this is `Fits`, of the term alone. Below an expression that a block
+    /// follows, and below an `&&`, it may read the whole of the expression.
     pub fn needs_parens_in(&self, parent: &SyntaxNode) -> bool
-        ensures { result ≡ asks (expr_node self.now) parent.now (expr_node self.now) }
+        ensures asks { result ≡ asks (expr_node self.now) parent.now (expr_node self.now) }
+        ensures fits { (r : Cursor) (t : Term) (i : ℕ) (q : List ℕ) (held : Part) → meaning (focus r) ≡ IsTerm t → operand t (i ∷ q) ≡ Some held
+            → expr_node self.now ≡ operand_cursor r t (i ∷ q) → parent_of (expr_node self.now) ≡ Some parent.now
+            → result ≡ false ↔ FitsPlace held.demand (angle_behind r t (i ∷ q)) held.term }
+        ensures alone { (r : Cursor) (t : Term) (i : ℕ) (q : List ℕ) (held : Part) → meaning (focus r) ≡ IsTerm t → operand t (i ∷ q) ≡ Some held
+            → expr_node self.now ≡ operand_cursor r t (i ∷ q) → parent_of (expr_node self.now) ≡ Some parent.now
+            → begins_with_angle (leaves_behind r.tree r.place) ≡ false → result ≡ false ↔ Fits t (i ∷ q) }
     {
         paren_rules::rules::needs_parens_in(self.syntax(), parent)
     }
 
     /// Whether the expression would need parentheses in place of what stands at `place`, below that one's parent, or an ancestor.
+    ///
+    /// Of a pair's inside in place of the pair, below the root of an operator tree that reads back, it answers false exactly where
+    /// the tokens without the pair read as the term without it; and then no other term reads them.
     pub fn needs_parens_in_place_of(&self, parent: &SyntaxNode, place: &SyntaxNode) -> bool
-        ensures { result ≡ asks (expr_node self.now) parent.now place.now }
+        ensures asks { result ≡ asks (expr_node self.now) parent.now place.now }
+        ensures fits { (r : Cursor) (t s : Term) (i : ℕ) (q : List ℕ) (held : Part) → meaning (focus r) ≡ IsTerm t → operand t (i ∷ q) ≡ Some held
+            → place.now ≡ operand_cursor r t (i ∷ q) → parent_of place.now ≡ Some parent.now → meaning (focus (expr_node self.now)) ≡ IsTerm s
+            → result ≡ false ↔ FitsPlace held.demand (angle_behind r t (i ∷ q)) s }
+        ensures pairs { (r : Cursor) (t : Term) (i : ℕ) (q : List ℕ) (d : Demand) (e : Term) → meaning (focus r) ≡ IsTerm t → operand t (i ∷ q) ≡ some_part d (Paren e)
+            → place.now ≡ operand_cursor r t (i ∷ q) → parent_of place.now ≡ Some parent.now → meaning (focus (expr_node self.now)) ≡ IsTerm e
+            → Reads 0 (tokens t) t → MayGoBefore (leaves_behind r.tree r.place) t (i ∷ q)
+            → (result ≡ false ↔ Reads 0 (tokens (without (i ∷ q) t)) (without (i ∷ q) t))
+            × (result ≡ false → (u : Term) → Reads 0 (tokens (without (i ∷ q) t)) u → u ≡ without (i ∷ q) t) }
     {
         paren_rules::rules::needs_parens_in_place_of(self.syntax(), parent, place)
     }
