@@ -102,10 +102,18 @@ fn pairs_that_may_go(rt: HostRuntime) -> Result<(), Fail> {
     expect_parens(&rt, "a + (b * c)", b"reads_back true\nneedless 4..11\n")?;
     expect_parens(&rt, "-(a.f)", b"reads_back true\nneedless 1..6\n")?;
     expect_parens(&rt, "(a.b())()", b"reads_back true\nneedless 0..7\n")?;
-    expect_parens(&rt, "f((a), b = (c))", b"reads_back true\nneedless 2..5\nneedless 11..14\n")?;
+    expect_parens(
+        &rt,
+        "f((a), b = (c))",
+        b"reads_back true\nneedless 2..5\nneedless 11..14\n",
+    )?;
     expect_parens(&rt, " (a) + b", b"reads_back true\nneedless 1..4\n")?;
     expect_parens(&rt, "(a - b) - c", b"reads_back true\nneedless 0..7\n")?;
-    expect_parens(&rt, "((a + b)) * c", b"reads_back true\nneedless 0..9\nneedless 1..8\n")
+    expect_parens(
+        &rt,
+        "((a + b)) * c",
+        b"reads_back true\nneedless 0..9\nneedless 1..8\n",
+    )
 }
 
 #[test]
@@ -126,7 +134,11 @@ fn pairs_that_stay(rt: HostRuntime) -> Result<(), Fail> {
 #[test]
 fn pairs_around_casts(rt: HostRuntime) -> Result<(), Fail> {
     expect_parens(&rt, "(a + b as T) < c", b"reads_back true\n")?;
-    expect_parens(&rt, "(a + b as T) <= c", b"reads_back true\nneedless 0..12\n")?;
+    expect_parens(
+        &rt,
+        "(a + b as T) <= c",
+        b"reads_back true\nneedless 0..12\n",
+    )?;
     expect_parens(&rt, "(a as T) as U", b"reads_back true\nneedless 0..8\n")?;
     expect_parens(&rt, "(-a) as T", b"reads_back true\nneedless 0..4\n")?;
     for text in ["-(a as T)", "(a as T).f", "x + (a as T) < c"] {
