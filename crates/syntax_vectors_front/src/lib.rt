@@ -2,6 +2,12 @@
 #![tactic(auto)]
 
 #[cfg(test)]
+mod broken;
+#[cfg(test)]
+mod edits;
+#[cfg(test)]
 mod parses;
 #[cfg(test)]
 mod program;
+#[cfg(test)]
+mod runs;

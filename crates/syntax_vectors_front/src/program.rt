@@ -1,23 +1,6 @@
 //! The commands `dump` and `reparse`.
-use std::process::Abort;
+use crate::runs::expect_run;
 use std::test::Fail;
-use syntax_tool::run;
-
-// Runs a command over memory, and looks at what it wrote and at its status.
-fn expect_run<R: Abort + AllocGlobal>(
-    rt: &R,
-    command: &str,
-    input: &[u8],
-    output: &[u8],
-    status: u8,
-) -> Result<(), Fail> {
-    let mut reader = input;
-    let mut written: Vec<u8> = Vec::new(rt.alloc());
-    let answered = run(rt.alloc(), &mut reader, &mut written, command);
-    assert!(rt; written.as_slice() == output);
-    assert_eq!(rt; answered, status);
-    Ok(())
-}
 
 #[test]
 fn dumps(rt: HostRuntime) -> Result<(), Fail> {
