@@ -66,10 +66,10 @@ impl<T, A: Allocator> Shared<T, A> {
         }
     }
 
-    /// Whether both own one value at one place, as with `Rc::ptr_eq`. It takes constant time, so it
-    /// is a fast first test of equality.
     // Pointers into two different blocks may not be compared. So this lowers the count through the
     // first owner for a moment, and looks for that through the second.
+    /// Whether both own one value at one place, as with `Rc::ptr_eq`. It takes constant time, so it
+    /// is a fast first test of equality.
     pub fn ptr_eq(this: &Shared<T, A>, other: &Shared<T, A>) -> bool
         ensures place { IsTrue result ↔ (place_of this.now ≡ place_of other.now) }
         ensures value { IsTrue result → (this.now.value ≡ other.now.value) }
