@@ -16,19 +16,24 @@ static int is_chosen(const char *name, long *seen) {
     return number != NULL && *seen == atol(number);
 }
 
+// Whether this allocation is refused; it says so on standard error.
+static int is_refused(void) {
+    if (!is_chosen("REFUSE_ALLOCATION", &allocations))
+        return 0;
+    errno = ENOMEM;
+    syscall(SYS_write, 2, "allocation refused\n", 19);
+    return 1;
+}
+
 void *malloc(size_t size) {
-    if (is_chosen("REFUSE_ALLOCATION", &allocations)) {
-        errno = ENOMEM;
+    if (is_refused())
         return NULL;
-    }
     return __libc_malloc(size);
 }
 
 void *realloc(void *old, size_t size) {
-    if (is_chosen("REFUSE_ALLOCATION", &allocations)) {
-        errno = ENOMEM;
+    if (is_refused())
         return NULL;
-    }
     return __libc_realloc(old, size);
 }
 

@@ -1,4 +1,5 @@
 //! What is wrong with trees: each rule on a tree that breaks it, on those that nearly do, and deeper in a tree.
+mod deep;
 mod exprs;
 mod items;
 mod literals;

@@ -1,0 +1,116 @@
+//! Copies and edits of trees, values, and the accessors that take memory.
+use crate::asking::{First, Stopped, say};
+use crate::samples::{ATTRIBUTE, ESCAPED, Event, NUMBER, SLICE, SUM, built};
+use ra_ap_syntax::ast::prec::needless_parens;
+use ra_ap_syntax::{AstNode, AstToken, Edition, SyntaxKind, SyntaxNode, SyntaxToken, ast};
+use std::alloc::Global;
+use tiny_front::Tiny;
+
+fn sample(alloc: Global, events: &[Event]) -> Result<SyntaxNode, Stopped> {
+    let (root, _) = crate::asked!("finish", built(alloc, events));
+    Ok(root)
+}
+
+fn trees(rt: &HostRuntime) -> Result<(), Stopped> {
+    let alloc = rt.alloc();
+    let root = sample(alloc, &SUM)?;
+    let before = root.clone()?;
+    let (copy, first) = crate::asked!("clone_subtree", root.clone_subtree(alloc));
+    say(rt, "clone_subtree", first, root == before, copy.text())?;
+    let operand = root.first_child().ok_or(Stopped::Other("first_child"))?;
+    let (new, first) = crate::asked!("replace_with", operand.replace_with(alloc, &root));
+    say(rt, "replace_with", first, root == before, new.text())?;
+    let token = root.first_token().ok_or(Stopped::Other("first_token"))?;
+    let (new, first) = crate::asked!(
+        "replace_with of a token",
+        token.replace_with(alloc, SyntaxKind::INT_NUMBER, "23")
+    );
+    say(
+        rt,
+        "replace_with of a token",
+        first,
+        root == before,
+        new.text(),
+    )?;
+    let (dump, first) = crate::asked!("dump", root.dump(alloc));
+    say(rt, "dump", first, root == before, dump.len())
+}
+
+fn token(root: &SyntaxNode) -> Result<SyntaxToken, Stopped> {
+    root.first_token().ok_or(Stopped::Other("first_token"))
+}
+
+fn values(rt: &HostRuntime) -> Result<(), Stopped> {
+    let alloc = rt.alloc();
+    let escaped = ast::String::cast(token(&sample(alloc, &ESCAPED)?)?).ok_or(Stopped::Other(
+        "cast",
+    ))?;
+    let (value, first) = crate::asked!("value", escaped.value(alloc));
+    say(
+        rt,
+        "value",
+        first,
+        escaped.text() == "\"\\x61bcde\"",
+        value.as_str(),
+    )?;
+    let number = ast::IntNumber::cast(token(&sample(alloc, &NUMBER)?)?).ok_or(Stopped::Other(
+        "cast",
+    ))?;
+    let (digits, first) = crate::asked!("value_string", number.value_string(alloc));
+    say(
+        rt,
+        "value_string",
+        first,
+        number.text() == "1_000u8",
+        digits.as_str(),
+    )
+}
+
+fn accessors(rt: &HostRuntime) -> Result<(), Stopped> {
+    let alloc = rt.alloc();
+    let meta = ast::Meta::cast(sample(alloc, &ATTRIBUTE)?).ok_or(Stopped::Other("cast"))?;
+    let (metas, first) = crate::asked!("skip_cfg_attrs", meta.clone()?.skip_cfg_attrs(alloc));
+    say(
+        rt,
+        "skip_cfg_attrs",
+        first,
+        meta.syntax().as_str() == "pab",
+        metas.len(),
+    )?;
+    let slice = ast::SlicePat::cast(sample(alloc, &SLICE)?).ok_or(Stopped::Other("cast"))?;
+    let (parts, first) = crate::asked!("components", slice.components(alloc));
+    let count = parts.prefix.len().wrapping_add(parts.suffix.len());
+    say(
+        rt,
+        "components",
+        first,
+        slice.syntax().as_str() == "a..b",
+        count,
+    )
+}
+
+fn parentheses(rt: &HostRuntime) -> Result<(), Stopped> {
+    let alloc = rt.alloc();
+    let text = "((a)) + (b * c)";
+    let (parse, _) = crate::asked!(
+        "parse",
+        ast::Expr::parse(alloc, text, &Tiny, Edition::CURRENT)
+    );
+    let expr = parse.tree().ok_or(Stopped::Other("tree"))?;
+    let (pairs, first) = crate::asked!("needless_parens", needless_parens(alloc, &expr));
+    let count = pairs.map_or(0, |pairs| pairs.len());
+    say(
+        rt,
+        "needless_parens",
+        first,
+        expr.syntax().as_str() == text,
+        count,
+    )
+}
+
+pub fn ask(rt: &HostRuntime) -> Result<(), Stopped> {
+    trees(rt)?;
+    values(rt)?;
+    accessors(rt)?;
+    parentheses(rt)
+}
