@@ -1,0 +1,95 @@
+//! What a row's tree answers.
+
+use crate::short::written_out;
+use crate::stopped::Stopped;
+use ra_ap_syntax::{AstNode, SyntaxKind, SyntaxNode, TreeBuilder, ast};
+use std::alloc::Global;
+
+// The numbers, among the nodes in preorder, of those that are marked.
+#[derive(Clone, Copy, Default)]
+struct Marks {
+    own: Option<usize>,
+    parent: Option<usize>,
+    place: Option<usize>,
+}
+
+impl Marks {
+    // Takes the marks off a word that begins with the node of this number.
+    fn take<'a>(&mut self, word: &'a str, number: usize) -> &'a str {
+        let mut left = word;
+        if let Some(rest) = left.strip_prefix('^') {
+            self.parent = Some(number);
+            left = rest;
+        }
+        if let Some(rest) = left.strip_prefix('@') {
+            self.place = Some(number);
+            left = rest;
+        }
+        if let Some(rest) = left.strip_prefix('>') {
+            self.own = Some(number);
+            left = rest;
+        }
+        left
+    }
+}
+
+fn kind_of(name: &str) -> Result<SyntaxKind, Stopped> {
+    SyntaxKind::from_name(name).ok_or(Stopped::NoKind)
+}
+
+// Appends an event, and says whether it enters a node.
+fn add(builder: &mut TreeBuilder, word: &str) -> Result<bool, Stopped> {
+    if let Some((name, token)) = word.split_once(':') {
+        builder.token(kind_of(name)?, token)?;
+        return Ok(false);
+    }
+    if let Some(name) = word.strip_suffix('(') {
+        builder.start_node(kind_of(name)?)?;
+        return Ok(true);
+    }
+    builder.finish_node()?;
+    Ok(false)
+}
+
+fn read(alloc: Global, words: &str) -> Result<(SyntaxNode, Marks), Stopped> {
+    let mut builder = TreeBuilder::new(alloc);
+    let mut marks = Marks::default();
+    let mut nodes: usize = 0;
+    for marked in words.split(' ') {
+        let word = marks.take(marked, nodes);
+        for event in written_out(word).split(' ') {
+            if add(&mut builder, event)? {
+                nodes = nodes.saturating_add(1);
+            }
+        }
+    }
+    Ok((builder.finish()?, marks))
+}
+
+fn marked(root: &SyntaxNode, number: Option<usize>) -> Result<SyntaxNode, Stopped> {
+    match number {
+        Some(number) => root
+            .descendants()
+            .skip(number)
+            .next()
+            .ok_or(Stopped::NoNode),
+        None => Err(Stopped::NoNode),
+    }
+}
+
+/// Whether the marked node needs parentheses.
+pub fn answer(alloc: Global, words: &str) -> Result<bool, Stopped> {
+    let (root, marks) = read(alloc, words)?;
+    let own = marked(&root, marks.own)?;
+    let parent = marked(&root, marks.parent)?;
+    if let Some(expr) = ast::cast_ref::<ast::Expr>(&own) {
+        return match marks.place {
+            None => Ok(expr.needs_parens_in(&parent)),
+            place => Ok(expr.needs_parens_in_place_of(&parent, &marked(&root, place)?)),
+        };
+    }
+    match ast::cast_ref::<ast::Type>(&own) {
+        Some(ty) => Ok(ty.needs_parens_in(&parent)),
+        None => Err(Stopped::NoNode),
+    }
+}
