@@ -9,6 +9,7 @@ mod exprs;
 mod items;
 mod lookups;
 mod paths;
+mod rules;
 mod shared;
 mod sheet;
 
@@ -69,8 +70,9 @@ fn answers(sheet: &mut Sheet, root: &SyntaxNode) -> Result<(), AllocError> {
         attrs::answers(sheet, &node)?;
         shared::answers(sheet, &node)?;
         lookups::answers(sheet, &node)?;
+        rules::answers(sheet, &node)?;
     }
-    Ok(())
+    rules::violations(sheet, root)
 }
 
 fn answer_line(sheet: &mut Sheet, line: &str) -> Result<(), AllocError> {

@@ -1,6 +1,6 @@
 // What is written about a tree: a line for each answer.
 use ra_ap_syntax::ast::{AstNode, AstToken};
-use ra_ap_syntax::{NodeOrToken, SyntaxKind, SyntaxNode, SyntaxToken};
+use ra_ap_syntax::{NodeOrToken, SyntaxKind, SyntaxNode, SyntaxToken, TextRange};
 use std::alloc::{AllocError, Global};
 use std::fmt::{Debug, Write};
 
@@ -39,6 +39,11 @@ impl Sheet {
     /// The line above the answers about a node.
     pub fn head(&mut self, node: &SyntaxNode) -> Result<(), AllocError> {
         writeln!(&mut self.text, "{node:?}")
+    }
+
+    /// A rule that a piece of the text breaks.
+    pub fn broken(&mut self, range: TextRange, message: &str) -> Result<(), AllocError> {
+        writeln!(&mut self.text, "violation {range}: {message}")
     }
 
     /// The name of an answer.
