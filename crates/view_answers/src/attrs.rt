@@ -1,7 +1,9 @@
 // Attributes, documentation comments and token trees: accessors that are no plain lookups.
 use crate::sheet::Sheet;
-use ra_ap_syntax::ast::{self, AnyAttr, AnyHasAttrs, AstNode, HasAttrs, Meta, TokenTreeChildren, cast_ref};
 use ra_ap_syntax::SyntaxNode;
+use ra_ap_syntax::ast::{
+    self, AnyAttr, AnyHasAttrs, AstNode, HasAttrs, Meta, TokenTreeChildren, cast_ref,
+};
 use std::alloc::AllocError;
 
 pub fn answers(sheet: &mut Sheet, node: &SyntaxNode) -> Result<(), AllocError> {
@@ -114,9 +116,15 @@ fn token_tree(sheet: &mut Sheet, node: &SyntaxNode) -> Result<(), AllocError> {
         return Ok(());
     };
     sheet.token("TokenTree.left_delimiter_token", it.left_delimiter_token())?;
-    sheet.token("TokenTree.right_delimiter_token", it.right_delimiter_token())?;
+    sheet.token(
+        "TokenTree.right_delimiter_token",
+        it.right_delimiter_token(),
+    )?;
     sheet.node("TokenTree.parent_meta", it.parent_meta())?;
-    sheet.parts("TokenTree.token_trees_and_tokens", it.token_trees_and_tokens())?;
+    sheet.parts(
+        "TokenTree.token_trees_and_tokens",
+        it.token_trees_and_tokens(),
+    )?;
     sheet.parts("TokenTreeChildren", TokenTreeChildren::new(&it))
 }
 

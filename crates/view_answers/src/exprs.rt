@@ -1,7 +1,7 @@
 // Expressions: accessors that are no plain lookups.
 use crate::sheet::Sheet;
-use ra_ap_syntax::{SyntaxNode, SyntaxToken};
 use ra_ap_syntax::ast::{self, AstNode, BinaryOp, RangeItem, cast_ref};
+use ra_ap_syntax::{SyntaxNode, SyntaxToken};
 use std::alloc::AllocError;
 
 pub fn answers(sheet: &mut Sheet, node: &SyntaxNode) -> Result<(), AllocError> {

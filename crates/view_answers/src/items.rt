@@ -34,7 +34,10 @@ fn impls(sheet: &mut Sheet, node: &SyntaxNode) -> Result<(), AllocError> {
         sheet.node("Impl.self_ty", it.self_ty())?;
     }
     if let Some(it) = cast_ref::<ast::NameRef>(node) {
-        sheet.node("Impl.for_trait_name_ref", ast::Impl::for_trait_name_ref(&it))?;
+        sheet.node(
+            "Impl.for_trait_name_ref",
+            ast::Impl::for_trait_name_ref(&it),
+        )?;
     }
     Ok(())
 }
@@ -110,12 +113,7 @@ fn parents(sheet: &mut Sheet, node: &SyntaxNode) -> Result<(), AllocError> {
     Ok(())
 }
 
-fn seen(
-    sheet: &mut Sheet,
-    call: &str,
-    path: &str,
-    kind: VisibilityKind,
-) -> Result<(), AllocError> {
+fn seen(sheet: &mut Sheet, call: &str, path: &str, kind: VisibilityKind) -> Result<(), AllocError> {
     match kind {
         VisibilityKind::In(it) => {
             sheet.word(call, "In")?;

@@ -1,7 +1,10 @@
 // Lookups that several types share.
 use crate::sheet::Sheet;
 use ra_ap_syntax::SyntaxNode;
-use ra_ap_syntax::ast::{self, HasArgList, HasGenericArgs, HasGenericParams, HasLoopBody, HasModuleItem, HasName, HasTypeBounds, HasVisibility, cast_ref};
+use ra_ap_syntax::ast::{
+    self, HasArgList, HasGenericArgs, HasGenericParams, HasLoopBody, HasModuleItem, HasName,
+    HasTypeBounds, HasVisibility, cast_ref,
+};
 use std::alloc::AllocError;
 
 pub fn answers(sheet: &mut Sheet, node: &SyntaxNode) -> Result<(), AllocError> {
@@ -170,12 +173,37 @@ fn type_bounds_of<N: HasTypeBounds + Drop>(
 }
 
 fn type_bounds(sheet: &mut Sheet, node: &SyntaxNode) -> Result<(), AllocError> {
-    type_bounds_of::<ast::AssocTypeArg>(sheet, "AssocTypeArg.type_bound_list", "AssocTypeArg.colon_token", node)?;
-    type_bounds_of::<ast::LifetimeParam>(sheet, "LifetimeParam.type_bound_list", "LifetimeParam.colon_token", node)?;
+    type_bounds_of::<ast::AssocTypeArg>(
+        sheet,
+        "AssocTypeArg.type_bound_list",
+        "AssocTypeArg.colon_token",
+        node,
+    )?;
+    type_bounds_of::<ast::LifetimeParam>(
+        sheet,
+        "LifetimeParam.type_bound_list",
+        "LifetimeParam.colon_token",
+        node,
+    )?;
     type_bounds_of::<ast::Trait>(sheet, "Trait.type_bound_list", "Trait.colon_token", node)?;
-    type_bounds_of::<ast::TypeAlias>(sheet, "TypeAlias.type_bound_list", "TypeAlias.colon_token", node)?;
-    type_bounds_of::<ast::TypeParam>(sheet, "TypeParam.type_bound_list", "TypeParam.colon_token", node)?;
-    type_bounds_of::<ast::WherePred>(sheet, "WherePred.type_bound_list", "WherePred.colon_token", node)
+    type_bounds_of::<ast::TypeAlias>(
+        sheet,
+        "TypeAlias.type_bound_list",
+        "TypeAlias.colon_token",
+        node,
+    )?;
+    type_bounds_of::<ast::TypeParam>(
+        sheet,
+        "TypeParam.type_bound_list",
+        "TypeParam.colon_token",
+        node,
+    )?;
+    type_bounds_of::<ast::WherePred>(
+        sheet,
+        "WherePred.type_bound_list",
+        "WherePred.colon_token",
+        node,
+    )
 }
 
 fn generic_params_of<N: HasGenericParams + Drop>(
@@ -192,5 +220,10 @@ fn generic_params_of<N: HasGenericParams + Drop>(
 }
 
 fn generic_params(sheet: &mut Sheet, node: &SyntaxNode) -> Result<(), AllocError> {
-    generic_params_of::<ast::AnyHasGenericParams>(sheet, "AnyHasGenericParams.generic_param_list", "AnyHasGenericParams.where_clause", node)
+    generic_params_of::<ast::AnyHasGenericParams>(
+        sheet,
+        "AnyHasGenericParams.generic_param_list",
+        "AnyHasGenericParams.where_clause",
+        node,
+    )
 }

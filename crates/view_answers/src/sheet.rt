@@ -122,7 +122,11 @@ impl Sheet {
     }
 
     /// The same of a node that stays where it is.
-    pub fn borrowed<N: AstNode>(&mut self, call: &str, found: Option<&N>) -> Result<(), AllocError> {
+    pub fn borrowed<N: AstNode>(
+        &mut self,
+        call: &str,
+        found: Option<&N>,
+    ) -> Result<(), AllocError> {
         match found {
             Some(it) => self.bare(call, it.syntax()),
             None => self.word(call, "-"),

@@ -56,7 +56,10 @@ fn cfg_attr_meta(sheet: &mut Sheet, node: &SyntaxNode) -> Result<(), AllocError>
 
 fn doc_comment(sheet: &mut Sheet, node: &SyntaxNode) -> Result<(), AllocError> {
     match cast_ref::<ast::DocComment>(node) {
-        Some(it) => sheet.token("DocComment.inner_doc_comment_token", it.inner_doc_comment_token()),
+        Some(it) => sheet.token(
+            "DocComment.inner_doc_comment_token",
+            it.inner_doc_comment_token(),
+        ),
         None => Ok(()),
     }
 }

@@ -242,7 +242,10 @@ fn type_bound(sheet: &mut Sheet, node: &SyntaxNode) -> Result<(), AllocError> {
     sheet.node("TypeBound.for_binder", it.for_binder())?;
     sheet.node("TypeBound.lifetime", it.lifetime())?;
     sheet.node("TypeBound.ty", it.ty())?;
-    sheet.node("TypeBound.use_bound_generic_args", it.use_bound_generic_args())
+    sheet.node(
+        "TypeBound.use_bound_generic_args",
+        it.use_bound_generic_args(),
+    )
 }
 
 fn type_bound_list(sheet: &mut Sheet, node: &SyntaxNode) -> Result<(), AllocError> {
