@@ -7,6 +7,7 @@ ghost use Rattle.ras_node.specs.Nodes.{has_kind_in};
 
 use lossless_tree::{SyntaxKind, SyntaxNode};
 use ras_node::{AstChildren, AstNode, support};
+use std::alloc::AllocError;
 use std::marker::{Model, PhantomData};
 
 /// Whether an attribute has a `!`, or a documentation comment an inner comment token; `false` for other nodes.
@@ -65,6 +66,21 @@ impl<A: AstNode> AttrNodes<A> {
     }
 }
 
+impl<A: AstNode> Clone for AttrNodes<A> {
+    ghost use Rattle.std.specs.Prelude.{◌≡◌, ⊤};
+
+    ghost is_clone = { λ s copy. copy ≡ s };
+
+    ghost is_infallible = { λ _. ⊤ };
+
+    fn clone(&self) -> Result<AttrNodes<A>, AllocError> {
+        Ok(AttrNodes {
+            left: self.left.clone()?,
+            inner: self.inner,
+        })
+    }
+}
+
 impl<A: AstNode + Drop> Iterator for AttrNodes<A> {
     type Item = A;
 
@@ -118,6 +134,21 @@ impl<A: AstNode> AttrsWithDoc<A> {
     }
 }
 
+impl<A: AstNode> Clone for AttrsWithDoc<A> {
+    ghost use Rattle.std.specs.Prelude.{◌≡◌, ⊤};
+
+    ghost is_clone = { λ s copy. copy ≡ s };
+
+    ghost is_infallible = { λ _. ⊤ };
+
+    fn clone(&self) -> Result<AttrsWithDoc<A>, AllocError> {
+        Ok(AttrsWithDoc {
+            outer: self.outer.clone()?,
+            inner: self.inner.clone()?,
+        })
+    }
+}
+
 impl<A: AstNode + Drop> Iterator for AttrsWithDoc<A> {
     type Item = A;
 
@@ -167,6 +198,21 @@ impl<A: AstNode, T: AstNode> AttrsIter<A, T> {
             inner,
             view: PhantomData,
         }
+    }
+}
+
+impl<A: AstNode, T: AstNode> Clone for AttrsIter<A, T> {
+    ghost use Rattle.std.specs.Prelude.{◌≡◌, ⊤};
+
+    ghost is_clone = { λ s copy. copy ≡ s };
+
+    ghost is_infallible = { λ _. ⊤ };
+
+    fn clone(&self) -> Result<AttrsIter<A, T>, AllocError> {
+        Ok(AttrsIter {
+            inner: self.inner.clone()?,
+            view: PhantomData,
+        })
     }
 }
 

@@ -9,6 +9,7 @@ use lossless_tree::{
     NodeOrToken, SyntaxElement, SyntaxElementChildren, SyntaxKind, SyntaxNode, SyntaxToken,
 };
 use ras_node::{AstNode, support};
+use std::alloc::AllocError;
 use std::marker::{Model, PhantomData};
 
 // The view of a token tree, if a node is one.
@@ -144,6 +145,21 @@ impl<T: AstNode> TokenTreeChildren<T> {
             left,
             view: PhantomData,
         }
+    }
+}
+
+impl<T: AstNode> Clone for TokenTreeChildren<T> {
+    ghost use Rattle.std.specs.Prelude.{◌≡◌, ⊤};
+
+    ghost is_clone = { λ s copy. copy ≡ s };
+
+    ghost is_infallible = { λ _. ⊤ };
+
+    fn clone(&self) -> Result<TokenTreeChildren<T>, AllocError> {
+        Ok(TokenTreeChildren {
+            left: self.left.clone()?,
+            view: PhantomData,
+        })
     }
 }
 

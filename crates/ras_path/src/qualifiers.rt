@@ -4,6 +4,7 @@ ghost use Rattle.std.specs.Iterator.{YieldsFirstBy, item_count};
 ghost use Rattle.ras_path.specs.Path.{qualifiers_of};
 
 use ras_node::{AstNode, support};
+use std::alloc::AllocError;
 use std::marker::Model;
 
 /// The qualifiers of a path, the nearest first: `a::b` and `a` of `a::b::c`. A clause sees those that are left.
@@ -33,6 +34,22 @@ impl<P: AstNode> Qualifiers<P> {
         Qualifiers {
             next: support::child(path.syntax()),
         }
+    }
+}
+
+impl<P: AstNode + Drop> Clone for Qualifiers<P> {
+    ghost use Rattle.std.specs.Prelude.{◌≡◌, ⊤};
+
+    ghost is_clone = { λ s copy. copy ≡ s };
+
+    ghost is_infallible = { λ _. ⊤ };
+
+    fn clone(&self) -> Result<Qualifiers<P>, AllocError> {
+        let next = match &self.next {
+            Some(path) => Some(support::copy(path)),
+            None => None,
+        };
+        Ok(Qualifiers { next })
     }
 }
 

@@ -6,6 +6,7 @@ ghost use Rattle.ras_path.specs.Path.{is_path_within, AreSegments};
 use crate::chain::first_qualifier_or_self;
 use lossless_tree::{SyntaxNode, TextRange};
 use ras_node::{AstNode, support};
+use std::alloc::AllocError;
 use std::marker::{Model, PhantomData};
 
 fn is_path_within<P: AstNode>(node: &SyntaxNode, range: TextRange) -> bool
@@ -52,6 +53,23 @@ impl<P: AstNode + Drop, S: AstNode> Segments<P, S> {
             path: PhantomData,
             segment: PhantomData,
         }
+    }
+}
+
+impl<P: AstNode, S: AstNode> Clone for Segments<P, S> {
+    ghost use Rattle.std.specs.Prelude.{◌≡◌, ⊤};
+
+    ghost is_clone = { λ s copy. copy ≡ s };
+
+    ghost is_infallible = { λ _. ⊤ };
+
+    fn clone(&self) -> Result<Segments<P, S>, AllocError> {
+        Ok(Segments {
+            next: self.next.clone()?,
+            range: self.range,
+            path: PhantomData,
+            segment: PhantomData,
+        })
     }
 }
 

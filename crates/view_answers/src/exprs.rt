@@ -1,0 +1,254 @@
+// Expressions: accessors that are no plain lookups.
+use crate::sheet::Sheet;
+use ra_ap_syntax::ast::{self, AstNode, BinaryOp, RangeItem, cast_ref};
+use ra_ap_syntax::{SyntaxNode, SyntaxToken};
+use std::alloc::AllocError;
+
+pub fn answers(sheet: &mut Sheet, node: &SyntaxNode) -> Result<(), AllocError> {
+    expr(sheet, node)?;
+    branches(sheet, node)?;
+    loops(sheet, node)?;
+    prefix(sheet, node)?;
+    binary(sheet, node)?;
+    range_expr(sheet, node)?;
+    range_pat(sheet, node)?;
+    places(sheet, node)?;
+    array(sheet, node)?;
+    literal(sheet, node)?;
+    block(sheet, node)?;
+    arguments(sheet, node)?;
+    field(sheet, node)?;
+    record_field(sheet, node)
+}
+
+fn expr(sheet: &mut Sheet, node: &SyntaxNode) -> Result<(), AllocError> {
+    if let Some(it) = cast_ref::<ast::Expr>(node) {
+        sheet.flag("Expr.is_block_like", it.is_block_like())?;
+    }
+    if let Some(it) = cast_ref::<ast::CallableExpr>(node) {
+        let variant = match &it {
+            ast::CallableExpr::Call(_) => "Call",
+            ast::CallableExpr::MethodCall(_) => "MethodCall",
+        };
+        sheet.word("CallableExpr", variant)?;
+    }
+    Ok(())
+}
+
+fn branches(sheet: &mut Sheet, node: &SyntaxNode) -> Result<(), AllocError> {
+    let Some(it) = cast_ref::<ast::IfExpr>(node) else {
+        return Ok(());
+    };
+    sheet.node("IfExpr.condition", it.condition())?;
+    sheet.node("IfExpr.then_branch", it.then_branch())?;
+    let branch = it.else_branch();
+    let variant = match &branch {
+        Some(ast::ElseBranch::Block(_)) => "Block",
+        Some(ast::ElseBranch::IfExpr(_)) => "IfExpr",
+        None => "-",
+    };
+    sheet.word("IfExpr.else_branch", variant)?;
+    sheet.node("IfExpr.else_branch.0", branch)
+}
+
+fn loops(sheet: &mut Sheet, node: &SyntaxNode) -> Result<(), AllocError> {
+    if let Some(it) = cast_ref::<ast::WhileExpr>(node) {
+        sheet.node("WhileExpr.condition", it.condition())?;
+    }
+    if let Some(it) = cast_ref::<ast::ForExpr>(node) {
+        sheet.node("ForExpr.iterable", it.iterable())?;
+    }
+    if let Some(it) = cast_ref::<ast::MatchArm>(node) {
+        sheet.node("MatchArm.parent_match", it.parent_match())?;
+    }
+    Ok(())
+}
+
+fn prefix(sheet: &mut Sheet, node: &SyntaxNode) -> Result<(), AllocError> {
+    let Some(it) = cast_ref::<ast::PrefixExpr>(node) else {
+        return Ok(());
+    };
+    sheet.token("PrefixExpr.op_token", it.op_token())?;
+    sheet.value("PrefixExpr.op_kind", it.op_kind())
+}
+
+fn operator(sheet: &mut Sheet, found: Option<BinaryOp>) -> Result<(), AllocError> {
+    sheet.value("BinExpr.op_kind", found)?;
+    match found {
+        Some(op) => {
+            let text = std::format!(in sheet.alloc(); "{op}")?;
+            sheet.text("BinExpr.op_kind.text", Some(text.as_str()))
+        }
+        None => Ok(()),
+    }
+}
+
+fn binary(sheet: &mut Sheet, node: &SyntaxNode) -> Result<(), AllocError> {
+    let Some(it) = cast_ref::<ast::BinExpr>(node) else {
+        return Ok(());
+    };
+    sheet.node("BinExpr.lhs", it.lhs())?;
+    sheet.node("BinExpr.rhs", it.rhs())?;
+    let (left, right) = it.sub_exprs();
+    sheet.node("BinExpr.sub_exprs.0", left)?;
+    sheet.node("BinExpr.sub_exprs.1", right)?;
+    sheet.token("BinExpr.op_token", it.op_token())?;
+    operator(sheet, it.op_kind())?;
+    match it.op_details() {
+        Some((token, op)) => {
+            sheet.token("BinExpr.op_details.0", Some(token))?;
+            sheet.value("BinExpr.op_details.1", Some(op))
+        }
+        None => sheet.word("BinExpr.op_details.0", "-"),
+    }
+}
+
+fn range_expr(sheet: &mut Sheet, node: &SyntaxNode) -> Result<(), AllocError> {
+    let Some(it) = cast_ref::<ast::RangeExpr>(node) else {
+        return Ok(());
+    };
+    sheet.node("RangeExpr.start", it.start())?;
+    sheet.node("RangeExpr.end", it.end())?;
+    sheet.token("RangeExpr.op_token", it.op_token())?;
+    sheet.value("RangeExpr.op_kind", it.op_kind())?;
+    sheet.flag("RangeExpr.is_range_full", it.is_range_full())
+}
+
+fn range_pat(sheet: &mut Sheet, node: &SyntaxNode) -> Result<(), AllocError> {
+    let Some(it) = cast_ref::<ast::RangePat>(node) else {
+        return Ok(());
+    };
+    sheet.node("RangePat.start", it.start())?;
+    sheet.node("RangePat.end", it.end())?;
+    sheet.token("RangePat.op_token", it.op_token())?;
+    sheet.value("RangePat.op_kind", it.op_kind())
+}
+
+fn places(sheet: &mut Sheet, node: &SyntaxNode) -> Result<(), AllocError> {
+    let Some(it) = cast_ref::<ast::IndexExpr>(node) else {
+        return Ok(());
+    };
+    sheet.node("IndexExpr.base", it.base())?;
+    sheet.node("IndexExpr.index", it.index())
+}
+
+fn array(sheet: &mut Sheet, node: &SyntaxNode) -> Result<(), AllocError> {
+    let Some(it) = cast_ref::<ast::ArrayExpr>(node) else {
+        return Ok(());
+    };
+    match it.kind() {
+        ast::ArrayExprKind::Repeat {
+            initializer,
+            repeat,
+        } => {
+            sheet.word("ArrayExpr.kind", "Repeat")?;
+            sheet.node("ArrayExpr.kind.initializer", initializer)?;
+            sheet.node("ArrayExpr.kind.repeat", repeat)
+        }
+        ast::ArrayExprKind::ElementList(list) => {
+            sheet.word("ArrayExpr.kind", "ElementList")?;
+            sheet.nodes("ArrayExpr.kind.0", list)
+        }
+    }
+}
+
+fn literal(sheet: &mut Sheet, node: &SyntaxNode) -> Result<(), AllocError> {
+    let Some(it) = cast_ref::<ast::Literal>(node) else {
+        return Ok(());
+    };
+    sheet.token("Literal.token", it.token())?;
+    let kind = match it.kind() {
+        Some(ast::LiteralKind::String(_)) => "String",
+        Some(ast::LiteralKind::ByteString(_)) => "ByteString",
+        Some(ast::LiteralKind::CString(_)) => "CString",
+        Some(ast::LiteralKind::IntNumber(_)) => "IntNumber",
+        Some(ast::LiteralKind::FloatNumber(_)) => "FloatNumber",
+        Some(ast::LiteralKind::Char(_)) => "Char",
+        Some(ast::LiteralKind::Byte(_)) => "Byte",
+        Some(ast::LiteralKind::Bool(true)) => "Bool(true)",
+        Some(ast::LiteralKind::Bool(false)) => "Bool(false)",
+        None => "-",
+    };
+    sheet.word("Literal.kind", kind)
+}
+
+fn modifier(sheet: &mut Sheet, name: &str, token: SyntaxToken) -> Result<(), AllocError> {
+    sheet.word("BlockExpr.modifier", name)?;
+    sheet.token("BlockExpr.modifier.0", Some(token))
+}
+
+fn block_modifier(sheet: &mut Sheet, it: &ast::BlockExpr) -> Result<(), AllocError> {
+    match it.modifier() {
+        Some(ast::BlockModifier::Async(token)) => modifier(sheet, "Async", token),
+        Some(ast::BlockModifier::Unsafe(token)) => modifier(sheet, "Unsafe", token),
+        Some(
+            ast::BlockModifier::Try {
+                try_token,
+                bikeshed_token,
+                result_type,
+            },
+        ) => {
+            modifier(sheet, "Try", try_token)?;
+            sheet.token("BlockExpr.modifier.bikeshed_token", bikeshed_token)?;
+            sheet.node("BlockExpr.modifier.result_type", result_type)
+        }
+        Some(ast::BlockModifier::Const(token)) => modifier(sheet, "Const", token),
+        Some(ast::BlockModifier::AsyncGen(token)) => modifier(sheet, "AsyncGen", token),
+        Some(ast::BlockModifier::Gen(token)) => modifier(sheet, "Gen", token),
+        Some(ast::BlockModifier::Label(label)) => {
+            sheet.word("BlockExpr.modifier", "Label")?;
+            sheet.node("BlockExpr.modifier.0", Some(label))
+        }
+        None => sheet.word("BlockExpr.modifier", "-"),
+    }
+}
+
+fn block(sheet: &mut Sheet, node: &SyntaxNode) -> Result<(), AllocError> {
+    let Some(it) = cast_ref::<ast::BlockExpr>(node) else {
+        return Ok(());
+    };
+    block_modifier(sheet, &it)?;
+    sheet.flag("BlockExpr.is_standalone", it.is_standalone())?;
+    sheet.flag("BlockExpr.may_carry_attributes", it.may_carry_attributes())?;
+    sheet.nodes("BlockExpr.statements", it.statements())?;
+    sheet.node("BlockExpr.tail_expr", it.tail_expr())
+}
+
+fn arguments(sheet: &mut Sheet, node: &SyntaxNode) -> Result<(), AllocError> {
+    match cast_ref::<ast::ArgList>(node) {
+        Some(it) => sheet.gaps("ArgList.args_maybe_empty", it.args_maybe_empty()),
+        None => Ok(()),
+    }
+}
+
+fn field(sheet: &mut Sheet, node: &SyntaxNode) -> Result<(), AllocError> {
+    let Some(it) = cast_ref::<ast::FieldExpr>(node) else {
+        return Ok(());
+    };
+    sheet.token("FieldExpr.index_token", it.index_token())?;
+    match it.field_access() {
+        Some(ast::FieldKind::Name(name)) => {
+            sheet.word("FieldExpr.field_access", "Name")?;
+            sheet.node("FieldExpr.field_access.0", Some(name))
+        }
+        Some(ast::FieldKind::Index(token)) => {
+            sheet.word("FieldExpr.field_access", "Index")?;
+            sheet.token("FieldExpr.field_access.0", Some(token))
+        }
+        None => sheet.word("FieldExpr.field_access", "-"),
+    }
+}
+
+fn record_field(sheet: &mut Sheet, node: &SyntaxNode) -> Result<(), AllocError> {
+    if let Some(it) = cast_ref::<ast::RecordExprField>(node) {
+        sheet.node("RecordExprField.field_name", it.field_name())?;
+        sheet.node("RecordExprField.parent_record_lit", it.parent_record_lit())?;
+    }
+    if let Some(it) = cast_ref::<ast::NameRef>(node) {
+        let around = ast::RecordExprField::for_name_ref(&it);
+        sheet.node("RecordExprField.for_name_ref", around)?;
+        let named = ast::RecordExprField::for_field_name(&it);
+        sheet.node("RecordExprField.for_field_name", named)?;
+    }
+    Ok(())
+}

@@ -1,0 +1,14 @@
+// Plain lookups.
+mod attrs;
+mod exprs;
+mod items;
+
+use crate::sheet::Sheet;
+use ra_ap_syntax::SyntaxNode;
+use std::alloc::AllocError;
+
+pub fn answers(sheet: &mut Sheet, node: &SyntaxNode) -> Result<(), AllocError> {
+    exprs::answers(sheet, node)?;
+    items::answers(sheet, node)?;
+    attrs::answers(sheet, node)
+}

@@ -1,0 +1,56 @@
+// The rules over nodes: precedences, parentheses, and what is wrong with a tree.
+use crate::sheet::Sheet;
+use ra_ap_syntax::SyntaxNode;
+use ra_ap_syntax::ast::{self, cast_ref, prec};
+use std::alloc::AllocError;
+
+pub fn answers(sheet: &mut Sheet, node: &SyntaxNode) -> Result<(), AllocError> {
+    expr(sheet, node)?;
+    parens(sheet, node)?;
+    type_parens(sheet, node)
+}
+
+fn expr(sheet: &mut Sheet, node: &SyntaxNode) -> Result<(), AllocError> {
+    let Some(it) = cast_ref::<ast::Expr>(node) else {
+        return Ok(());
+    };
+    sheet.value("Expr.precedence", Some(it.precedence()))?;
+    let valueless = it.is_ret_like_with_no_value();
+    sheet.flag("Expr.is_ret_like_with_no_value", valueless)?;
+    sheet.value("reads_back", prec::reads_back(&it))?;
+    match prec::needless_parens(sheet.alloc(), &it)? {
+        Some(pairs) => sheet.slice("needless_parens", pairs.as_slice()),
+        None => sheet.word("needless_parens", "-"),
+    }
+}
+
+fn parens(sheet: &mut Sheet, node: &SyntaxNode) -> Result<(), AllocError> {
+    let Some(it) = cast_ref::<ast::Expr>(node) else {
+        return Ok(());
+    };
+    let Some(parent) = node.parent() else {
+        return Ok(());
+    };
+    sheet.flag("Expr.needs_parens_in", it.needs_parens_in(&parent))?;
+    let in_place = it.needs_parens_in_place_of(&parent, node);
+    sheet.flag("Expr.needs_parens_in_place_of", in_place)
+}
+
+fn type_parens(sheet: &mut Sheet, node: &SyntaxNode) -> Result<(), AllocError> {
+    let Some(it) = cast_ref::<ast::Type>(node) else {
+        return Ok(());
+    };
+    match node.parent() {
+        Some(parent) => sheet.flag("Type.needs_parens_in", it.needs_parens_in(&parent)),
+        None => Ok(()),
+    }
+}
+
+/// The rules that a tree breaks.
+pub fn violations(sheet: &mut Sheet, root: &SyntaxNode) -> Result<(), AllocError> {
+    for found in &ras_validation::violations(sheet.alloc(), root)? {
+        let range = found.range;
+        sheet.broken(range, found.message())?;
+    }
+    Ok(())
+}
