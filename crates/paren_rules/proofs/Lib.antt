@@ -3,3 +3,4 @@ pub mod Pushed
 pub mod KindFacts
 pub mod Nothing
 pub mod Agree
+pub mod Precedences
