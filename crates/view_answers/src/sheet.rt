@@ -1,4 +1,6 @@
 // What is written about a tree: a line for each answer.
+ghost use Rattle.std.specs.Iterator.{IsFinite};
+
 use ra_ap_syntax::ast::{AstNode, AstToken};
 use ra_ap_syntax::{NodeOrToken, SyntaxKind, SyntaxNode, SyntaxToken, TextRange};
 use std::alloc::{AllocError, Global};
@@ -46,9 +48,42 @@ impl Sheet {
         writeln!(&mut self.text, "violation {range}: {message}")
     }
 
+    fn call(&mut self, call: &str) -> Result<(), AllocError> {
+        self.text.push_str("  ")?;
+        self.text.push_str(call)?;
+        self.text.push_str(" =")
+    }
+
+    fn list(&mut self, call: &str) -> Result<(), AllocError> {
+        self.call(call)?;
+        self.text.push_str(" [")
+    }
+
+    fn one_node(&mut self, node: &SyntaxNode) -> Result<(), AllocError> {
+        write!(&mut self.text, " {node:?} \"{node}\"")
+    }
+
+    fn one_token(&mut self, token: &SyntaxToken) -> Result<(), AllocError> {
+        write!(&mut self.text, " {token:?}")
+    }
+
+    fn node_line(&mut self, call: &str, node: &SyntaxNode) -> Result<(), AllocError> {
+        self.call(call)?;
+        self.one_node(node)?;
+        self.text.push('\n')
+    }
+
+    fn token_line(&mut self, call: &str, token: &SyntaxToken) -> Result<(), AllocError> {
+        self.call(call)?;
+        self.one_token(token)?;
+        self.text.push('\n')
+    }
+
     /// The name of an answer.
     pub fn word(&mut self, call: &str, word: &str) -> Result<(), AllocError> {
-        writeln!(&mut self.text, "  {call} = {word}")
+        self.call(call)?;
+        self.text.push(' ')?;
+        self.line(word)
     }
 
     /// The answer of a call that says yes or no.
@@ -58,7 +93,8 @@ impl Sheet {
 
     /// The answer of a call that gives a kind.
     pub fn kind(&mut self, call: &str, kind: SyntaxKind) -> Result<(), AllocError> {
-        writeln!(&mut self.text, "  {call} = {kind}")
+        self.call(call)?;
+        writeln!(&mut self.text, " {kind}")
     }
 
     /// The answer of a call that gives a value or none.
@@ -67,18 +103,20 @@ impl Sheet {
         call: &str,
         found: Option<D>,
     ) -> Result<(), AllocError> {
-        match found {
-            Some(it) => writeln!(&mut self.text, "  {call} = {it:?}"),
-            None => self.word(call, "-"),
-        }
+        let Some(it) = found else {
+            return self.word(call, "-");
+        };
+        self.call(call)?;
+        writeln!(&mut self.text, " {it:?}")
     }
 
     /// The answer of a call that gives a text or none.
     pub fn text(&mut self, call: &str, found: Option<&str>) -> Result<(), AllocError> {
-        match found {
-            Some(text) => writeln!(&mut self.text, "  {call} = \"{text}\""),
-            None => self.word(call, "-"),
-        }
+        let Some(text) = found else {
+            return self.word(call, "-");
+        };
+        self.call(call)?;
+        writeln!(&mut self.text, " \"{text}\"")
     }
 
     /// The same of a text of its own.
@@ -91,7 +129,10 @@ impl Sheet {
 
     /// The answer of a call that gives a token or none.
     pub fn token(&mut self, call: &str, found: Option<SyntaxToken>) -> Result<(), AllocError> {
-        self.value(call, found)
+        match found {
+            Some(token) => self.token_line(call, &token),
+            None => self.word(call, "-"),
+        }
     }
 
     /// The same of a typed token.
@@ -101,10 +142,7 @@ impl Sheet {
         found: Option<T>,
     ) -> Result<(), AllocError> {
         match found {
-            Some(it) => {
-                let token = it.syntax();
-                writeln!(&mut self.text, "  {call} = {token:?}")
-            }
+            Some(it) => self.token_line(call, it.syntax()),
             None => self.word(call, "-"),
         }
     }
@@ -116,7 +154,7 @@ impl Sheet {
         found: Option<N>,
     ) -> Result<(), AllocError> {
         match found {
-            Some(it) => self.bare(call, it.syntax()),
+            Some(it) => self.node_line(call, it.syntax()),
             None => self.word(call, "-"),
         }
     }
@@ -128,19 +166,17 @@ impl Sheet {
         found: Option<&N>,
     ) -> Result<(), AllocError> {
         match found {
-            Some(it) => self.bare(call, it.syntax()),
+            Some(it) => self.node_line(call, it.syntax()),
             None => self.word(call, "-"),
         }
     }
 
-    fn bare(&mut self, call: &str, node: &SyntaxNode) -> Result<(), AllocError> {
-        write!(&mut self.text, "  {call} =")?;
-        self.item(node)?;
-        self.text.push('\n')
-    }
-
-    fn item(&mut self, node: &SyntaxNode) -> Result<(), AllocError> {
-        write!(&mut self.text, " {node:?} \"{node}\"")
+    /// The same of a node that is no view.
+    pub fn plain(&mut self, call: &str, found: Option<SyntaxNode>) -> Result<(), AllocError> {
+        match found {
+            Some(node) => self.node_line(call, &node),
+            None => self.word(call, "-"),
+        }
     }
 
     /// The answer of a call that gives nodes, in order.
@@ -148,26 +184,21 @@ impl Sheet {
         &mut self,
         call: &str,
         found: I,
-    ) -> Result<(), AllocError> {
-        write!(&mut self.text, "  {call} = [")?;
+    ) -> Result<(), AllocError>
+        requires { I.can_next found × IsFinite (I.remaining found) }
+    {
+        self.list(call)?;
         for it in found {
-            self.item(it.syntax())?;
+            self.one_node(it.syntax())?;
         }
         self.text.push_str(" ]\n")
     }
 
-    /// The answer of a call that gives nodes or gaps, in order.
-    pub fn gaps<N: AstNode + Drop, I: Iterator<Item = Option<N>> + Drop>(
-        &mut self,
-        call: &str,
-        found: I,
-    ) -> Result<(), AllocError> {
-        write!(&mut self.text, "  {call} = [")?;
+    /// The answer of a call that gives a list of nodes.
+    pub fn slice<N: AstNode + Drop>(&mut self, call: &str, found: &[N]) -> Result<(), AllocError> {
+        self.list(call)?;
         for it in found {
-            match it {
-                Some(it) => self.item(it.syntax())?,
-                None => self.text.push_str(" -")?,
-            }
+            self.one_node(it.syntax())?;
         }
         self.text.push_str(" ]\n")
     }
@@ -177,12 +208,46 @@ impl Sheet {
         &mut self,
         call: &str,
         found: I,
-    ) -> Result<(), AllocError> {
-        write!(&mut self.text, "  {call} = [")?;
+    ) -> Result<(), AllocError>
+        requires { I.can_next found × IsFinite (I.remaining found) }
+    {
+        self.list(call)?;
         for it in found {
-            write!(&mut self.text, " {it:?}")?;
+            self.one_token(&it)?;
         }
         self.text.push_str(" ]\n")
+    }
+
+    fn one_or_gap<N: AstNode + Drop>(&mut self, found: Option<N>) -> Result<(), AllocError> {
+        match found {
+            Some(it) => self.one_node(it.syntax()),
+            None => self.text.push_str(" -"),
+        }
+    }
+
+    /// The answer of a call that gives nodes or gaps, in order.
+    pub fn gaps<N: AstNode + Drop, I: Iterator<Item = Option<N>> + Drop>(
+        &mut self,
+        call: &str,
+        found: I,
+    ) -> Result<(), AllocError>
+        requires { I.can_next found × IsFinite (I.remaining found) }
+    {
+        self.list(call)?;
+        for it in found {
+            self.one_or_gap(it)?;
+        }
+        self.text.push_str(" ]\n")
+    }
+
+    fn one_part<N: AstNode + Drop>(
+        &mut self,
+        found: NodeOrToken<N, SyntaxToken>,
+    ) -> Result<(), AllocError> {
+        match found {
+            NodeOrToken::Node(it) => self.one_node(it.syntax()),
+            NodeOrToken::Token(it) => self.one_token(&it),
+        }
     }
 
     /// The answer of a call that gives nodes and tokens, in order.
@@ -190,31 +255,13 @@ impl Sheet {
         &mut self,
         call: &str,
         found: I,
-    ) -> Result<(), AllocError> {
-        write!(&mut self.text, "  {call} = [")?;
+    ) -> Result<(), AllocError>
+        requires { I.can_next found × IsFinite (I.remaining found) }
+    {
+        self.list(call)?;
         for it in found {
-            match it {
-                NodeOrToken::Node(it) => self.item(it.syntax())?,
-                NodeOrToken::Token(it) => write!(&mut self.text, " {it:?}")?,
-            }
+            self.one_part(it)?;
         }
         self.text.push_str(" ]\n")
-    }
-
-    /// The answer of a call that gives a list of nodes.
-    pub fn slice<N: AstNode + Drop>(&mut self, call: &str, found: &[N]) -> Result<(), AllocError> {
-        write!(&mut self.text, "  {call} = [")?;
-        for it in found {
-            self.item(it.syntax())?;
-        }
-        self.text.push_str(" ]\n")
-    }
-
-    /// The answer of a call that gives a node that is no view, or none.
-    pub fn plain(&mut self, call: &str, found: Option<SyntaxNode>) -> Result<(), AllocError> {
-        match found {
-            Some(node) => self.bare(call, &node),
-            None => self.word(call, "-"),
-        }
     }
 }
