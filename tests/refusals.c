@@ -1,4 +1,4 @@
-// Preloaded into the program: refuses one allocation, fails one read or write, or lets each write take one byte.
+// Preloaded into the program: refuses one allocation, or all from one on, fails one read or write, or lets each write take one byte.
 #include <errno.h>
 #include <stdlib.h>
 #include <sys/syscall.h>
@@ -16,9 +16,10 @@ static int is_chosen(const char *name, long *seen) {
     return number != NULL && *seen == atol(number);
 }
 
-// Whether this allocation is refused; it says so on standard error.
+// Whether this allocation is refused, as the one that is named or as one behind it; it says so on standard error.
 static int is_refused(void) {
-    if (!is_chosen("REFUSE_ALLOCATION", &allocations))
+    const char *first = getenv("REFUSE_FROM");
+    if (!is_chosen("REFUSE_ALLOCATION", &allocations) && (first == NULL || allocations < atol(first)))
         return 0;
     errno = ENOMEM;
     syscall(SYS_write, 2, "allocation refused\n", 19);

@@ -26,24 +26,25 @@ fn meta(sheet: &mut Sheet, node: &SyntaxNode) -> Result<(), AllocError> {
     sheet.node("Meta.path", it.path())?;
     sheet.node("Meta.as_simple_path", it.as_simple_path())?;
     sheet.node("Meta.parent_attr", it.parent_attr())?;
-    let opened = it.skip_cfg_attrs(sheet.alloc())?;
-    sheet.slice("Meta.skip_cfg_attrs", opened.as_slice())
+    match it.skip_cfg_attrs(sheet.alloc()) {
+        Ok(opened) => sheet.slice("Meta.skip_cfg_attrs", opened.as_slice()),
+        Err(_) => sheet.refused("Meta.skip_cfg_attrs"),
+    }
 }
 
 fn meta_words(sheet: &mut Sheet, node: &SyntaxNode) -> Result<(), AllocError> {
     let Some(it) = cast_ref::<Meta>(node) else {
         return Ok(());
     };
-    let atom = it.as_simple_atom(sheet.alloc())?;
-    sheet.string("Meta.as_simple_atom", atom)?;
-    let name = it.simple_name(sheet.alloc())?;
-    sheet.string("Meta.simple_name", name)?;
-    match it.as_simple_call(sheet.alloc())? {
-        Some((name, tree)) => {
+    sheet.asked("Meta.as_simple_atom", it.as_simple_atom(sheet.alloc()))?;
+    sheet.asked("Meta.simple_name", it.simple_name(sheet.alloc()))?;
+    match it.as_simple_call(sheet.alloc()) {
+        Ok(Some((name, tree))) => {
             sheet.string("Meta.as_simple_call.0", Some(name))?;
             sheet.node("Meta.as_simple_call.1", Some(tree))
         }
-        None => sheet.word("Meta.as_simple_call.0", "-"),
+        Ok(None) => sheet.word("Meta.as_simple_call.0", "-"),
+        Err(_) => sheet.refused("Meta.as_simple_call.0"),
     }
 }
 
@@ -54,24 +55,25 @@ fn attr(sheet: &mut Sheet, node: &SyntaxNode) -> Result<(), AllocError> {
     sheet.value("Attr.kind", Some(it.kind()))?;
     sheet.node("Attr.path", it.path())?;
     sheet.node("Attr.as_simple_path", it.as_simple_path())?;
-    let opened = it.skip_cfg_attrs(sheet.alloc())?;
-    sheet.slice("Attr.skip_cfg_attrs", opened.as_slice())
+    match it.skip_cfg_attrs(sheet.alloc()) {
+        Ok(opened) => sheet.slice("Attr.skip_cfg_attrs", opened.as_slice()),
+        Err(_) => sheet.refused("Attr.skip_cfg_attrs"),
+    }
 }
 
 fn attr_words(sheet: &mut Sheet, node: &SyntaxNode) -> Result<(), AllocError> {
     let Some(it) = cast_ref::<ast::Attr>(node) else {
         return Ok(());
     };
-    let atom = it.as_simple_atom(sheet.alloc())?;
-    sheet.string("Attr.as_simple_atom", atom)?;
-    let name = it.simple_name(sheet.alloc())?;
-    sheet.string("Attr.simple_name", name)?;
-    match it.as_simple_call(sheet.alloc())? {
-        Some((name, tree)) => {
+    sheet.asked("Attr.as_simple_atom", it.as_simple_atom(sheet.alloc()))?;
+    sheet.asked("Attr.simple_name", it.simple_name(sheet.alloc()))?;
+    match it.as_simple_call(sheet.alloc()) {
+        Ok(Some((name, tree))) => {
             sheet.string("Attr.as_simple_call.0", Some(name))?;
             sheet.node("Attr.as_simple_call.1", Some(tree))
         }
-        None => sheet.word("Attr.as_simple_call.0", "-"),
+        Ok(None) => sheet.word("Attr.as_simple_call.0", "-"),
+        Err(_) => sheet.refused("Attr.as_simple_call.0"),
     }
 }
 

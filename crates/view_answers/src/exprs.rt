@@ -75,10 +75,7 @@ fn prefix(sheet: &mut Sheet, node: &SyntaxNode) -> Result<(), AllocError> {
 fn operator(sheet: &mut Sheet, found: Option<BinaryOp>) -> Result<(), AllocError> {
     sheet.value("BinExpr.op_kind", found)?;
     match found {
-        Some(op) => {
-            let text = std::format!(in sheet.alloc(); "{op}")?;
-            sheet.text("BinExpr.op_kind.text", Some(text.as_str()))
-        }
+        Some(op) => sheet.shown("BinExpr.op_kind.text", op),
         None => Ok(()),
     }
 }

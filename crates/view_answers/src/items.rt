@@ -149,7 +149,9 @@ fn slice_pat(sheet: &mut Sheet, node: &SyntaxNode) -> Result<(), AllocError> {
     let Some(it) = cast_ref::<ast::SlicePat>(node) else {
         return Ok(());
     };
-    let parts = it.components(sheet.alloc())?;
+    let Ok(parts) = it.components(sheet.alloc()) else {
+        return sheet.refused("SlicePat.components");
+    };
     sheet.slice("SlicePat.components.prefix", parts.prefix.as_slice())?;
     sheet.slice("SlicePat.components.suffix", parts.suffix.as_slice())?;
     sheet.node("SlicePat.components.slice", parts.slice)

@@ -88,7 +88,7 @@ fn answer_line(sheet: &mut Sheet, line: &str) -> Result<(), AllocError> {
 }
 
 fn answers_of_input(rt: &HostRuntime) -> Result<Sheet, AllocError> {
-    let mut sheet = Sheet::new(rt.alloc());
+    let mut sheet = Sheet::new(rt.alloc())?;
     match io::read_to_string(rt.alloc(), rt.reader()) {
         Ok(input) => {
             for line in input.as_str().lines() {

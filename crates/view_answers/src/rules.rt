@@ -18,9 +18,10 @@ fn expr(sheet: &mut Sheet, node: &SyntaxNode) -> Result<(), AllocError> {
     let valueless = it.is_ret_like_with_no_value();
     sheet.flag("Expr.is_ret_like_with_no_value", valueless)?;
     sheet.value("reads_back", prec::reads_back(&it))?;
-    match prec::needless_parens(sheet.alloc(), &it)? {
-        Some(pairs) => sheet.slice("needless_parens", pairs.as_slice()),
-        None => sheet.word("needless_parens", "-"),
+    match prec::needless_parens(sheet.alloc(), &it) {
+        Ok(Some(pairs)) => sheet.slice("needless_parens", pairs.as_slice()),
+        Ok(None) => sheet.word("needless_parens", "-"),
+        Err(_) => sheet.refused("needless_parens"),
     }
 }
 
@@ -48,7 +49,10 @@ fn type_parens(sheet: &mut Sheet, node: &SyntaxNode) -> Result<(), AllocError> {
 
 /// The rules that a tree breaks.
 pub fn violations(sheet: &mut Sheet, root: &SyntaxNode) -> Result<(), AllocError> {
-    for found in &ras_validation::violations(sheet.alloc(), root)? {
+    let Ok(violations) = ras_validation::violations(sheet.alloc(), root) else {
+        return sheet.refused("violations");
+    };
+    for found in &violations {
         let range = found.range;
         sheet.broken(range, found.message())?;
     }

@@ -4,7 +4,7 @@ ghost use Rattle.std.specs.Iterator.{IsFinite};
 use ra_ap_syntax::ast::{AstNode, AstToken};
 use ra_ap_syntax::{NodeOrToken, SyntaxKind, SyntaxNode, SyntaxToken, TextRange};
 use std::alloc::{AllocError, Global};
-use std::fmt::{Debug, Write};
+use std::fmt::{Debug, Display, Write};
 
 /// The lines that are written so far. An answer is `-` where there is none, and a list stands in brackets.
 #[derive(Drop)]
@@ -13,13 +13,16 @@ pub struct Sheet {
     text: String,
 }
 
+// How many bytes a sheet has room for, so that what a few trees answer takes no more memory.
+const ROOM: usize = 1_000_000;
+
 impl Sheet {
     /// One without lines.
-    pub fn new(alloc: Global) -> Sheet {
-        Sheet {
+    pub fn new(alloc: Global) -> Result<Sheet, AllocError> {
+        Ok(Sheet {
             alloc,
-            text: String::new(alloc),
-        }
+            text: String::with_capacity(alloc, ROOM)?,
+        })
     }
 
     /// Where memory comes from, for calls that take some.
@@ -86,6 +89,11 @@ impl Sheet {
         self.line(word)
     }
 
+    /// A call that was refused memory.
+    pub fn refused(&mut self, call: &str) -> Result<(), AllocError> {
+        self.word(call, "out of memory")
+    }
+
     /// The answer of a call that says yes or no.
     pub fn flag(&mut self, call: &str, holds: bool) -> Result<(), AllocError> {
         self.word(call, if holds { "true" } else { "false" })
@@ -110,6 +118,12 @@ impl Sheet {
         writeln!(&mut self.text, " {it:?}")
     }
 
+    /// The text of an answer.
+    pub fn shown<D: Display + Drop>(&mut self, call: &str, answer: D) -> Result<(), AllocError> {
+        self.call(call)?;
+        writeln!(&mut self.text, " \"{answer}\"")
+    }
+
     /// The answer of a call that gives a text or none.
     pub fn text(&mut self, call: &str, found: Option<&str>) -> Result<(), AllocError> {
         let Some(text) = found else {
@@ -124,6 +138,18 @@ impl Sheet {
         match found {
             Some(text) => self.text(call, Some(text.as_str())),
             None => self.word(call, "-"),
+        }
+    }
+
+    /// The same of a call that takes memory for it.
+    pub fn asked(
+        &mut self,
+        call: &str,
+        answer: Result<Option<String>, AllocError>,
+    ) -> Result<(), AllocError> {
+        match answer {
+            Ok(found) => self.string(call, found),
+            Err(_) => self.refused(call),
         }
     }
 
