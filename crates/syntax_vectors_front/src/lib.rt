@@ -1,9 +1,5 @@
-//! Tests of parses, of the small front end, and of edits: outside rows, through the program and through calls.
+//! The README's tour, as tests.
 #![tactic(auto)]
 
-#[cfg(test)]
-mod parses;
-#[cfg(test)]
-mod program;
 #[cfg(test)]
 mod tour;

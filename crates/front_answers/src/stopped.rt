@@ -1,0 +1,20 @@
+//! Why a request has no answer.
+
+use ra_ap_syntax::{FinishError, ParseError};
+use std::alloc::AllocError;
+use std::io;
+use thiserror::Error;
+
+#[derive(Debug, Error, Drop)]
+pub enum Stopped {
+    #[error("no memory is left")]
+    Memory(#[from] AllocError),
+    #[error("a text is too long")]
+    Text(#[from] ParseError),
+    #[error("the events make no tree")]
+    Tree(#[from] FinishError),
+    #[error("input or output failed")]
+    Io(#[from] io::Error),
+    #[error("a line is no request")]
+    NoRequest,
+}

@@ -1,0 +1,90 @@
+//! Edits of a text: one token, one block, or all read anew.
+
+use crate::parse::print;
+use crate::stopped::Stopped;
+use crate::text::Input;
+use ra_ap_syntax::{Edition, Parse, SourceFile, TextRange, TextSize};
+use std::time::Instant;
+use tiny_front::Tiny;
+
+const NOW: Edition = Edition::CURRENT;
+
+type File = Parse<SourceFile>;
+
+// The nanoseconds of an edit, and whether a piece was read anew.
+fn edit(
+    rt: &HostRuntime,
+    old: &File,
+    from: u32,
+    to: u32,
+    insert: &str,
+) -> Result<(u128, bool), Stopped> {
+    let root = old.syntax_node();
+    let (text, start, end) = (root.as_str(), from as usize, to as usize);
+    if from > to || !text.is_char_boundary(start) || !text.is_char_boundary(end) {
+        return Err(Stopped::Edit);
+    }
+    let delete = TextRange::new(TextSize::new(from), TextSize::new(to));
+    let begun = Instant::now(rt)?;
+    let new = old.reparse(rt.alloc(), &Tiny, delete, insert, NOW)?;
+    let ended = Instant::now(rt)?;
+    drop(new);
+    let piece = old.incremental_reparse(rt.alloc(), &Tiny, delete, insert, NOW)?;
+    Ok((ended.duration_since(begun).as_nanos(), piece.is_some()))
+}
+
+fn time_edit(
+    rt: &HostRuntime,
+    name: &str,
+    input: Input,
+    old: &File,
+    change: (u32, u32, &str),
+    runs: u32,
+) -> Result<(), Stopped> {
+    let (from, to, insert) = change;
+    let mut least = u128::MAX;
+    for _run in 0..runs {
+        let (nanoseconds, piece) = edit(rt, old, from, to, insert)?;
+        if piece == (name == "whole") {
+            return Err(Stopped::Edit);
+        }
+        least = least.min(nanoseconds);
+    }
+    print(rt, name, input, old.syntax_node().as_str(), least)
+}
+
+// A copy of the tree's text and rows.
+fn time_copy(rt: &HostRuntime, input: Input, old: &File, runs: u32) -> Result<(), Stopped> {
+    let root = old.syntax_node();
+    let mut least = u128::MAX;
+    for _run in 0..runs {
+        let begun = Instant::now(rt)?;
+        let copy = root.clone_subtree(rt.alloc())?;
+        let ended = Instant::now(rt)?;
+        drop(copy);
+        least = least.min(ended.duration_since(begun).as_nanos());
+    }
+    print(rt, "copy", input, root.as_str(), least)
+}
+
+pub fn time_edits(rt: &HostRuntime, input: Input, runs: u32) -> Result<(), Stopped> {
+    let text = input.text(rt.alloc())?;
+    let old = SourceFile::parse(rt.alloc(), text.as_str(), &Tiny, NOW)?;
+    let function = input.function(text.as_str()).ok_or(Stopped::Edit)?;
+    let rest = text.as_str().get(function..).ok_or(Stopped::Edit)?;
+    let statement = rest.find(";").ok_or(Stopped::Edit)?;
+    let at = u32::try_from(function).unwrap_or(0);
+    let name = at.saturating_add(3);
+    let block = at.saturating_add(u32::try_from(statement).unwrap_or(0));
+    time_copy(rt, input, &old, runs)?;
+    time_edit(
+        rt,
+        "token",
+        input,
+        &old,
+        (name, name.saturating_add(1), "x"),
+        runs,
+    )?;
+    time_edit(rt, "block", input, &old, (block, block, " + 1"), runs)?;
+    time_edit(rt, "whole", input, &old, (at, at, "fn g() {} "), runs)
+}
