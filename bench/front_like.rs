@@ -678,8 +678,6 @@ fn anew(old: &File, from: u32, to: u32, insert: &str) -> (GreenNode, Vec<Problem
     (new.root, new.errors, false)
 }
 
-// ---- the dump
-
 fn push_dump(out: &mut String, node: &Green, offset: u32, level: usize) {
     use std::fmt::Write;
     for _ in 0..level {
@@ -720,8 +718,6 @@ fn dump(file: &File) -> String {
     }
     out
 }
-
-// ---- measuring
 
 const FUNCTION: &str = "fn name() {\n    let mut sum = a + b * (c - 1);\n    f(sum, 2)[0].g()?;\n}\n";
 const LINE: &str = "    sum = f(sum, 2)[0].g()?;\n";
