@@ -24,13 +24,20 @@ pub record Pairing : Type 0 where
 abbrev pub pairing_of : Pairs → Pairing
 pairing_of p = record { starts = reverse p.starts.items; closed = p.closed.items }
 
+abbrev pub started : ℕ → Pairing → Pairing
+started i s = record s { starts = i ∷ s.starts }
+
 abbrev pub closed_on : ℕ → Pairing → List ℕ → Pairing
-closed_on i s [] = s
-closed_on i s (first ∷ starts) = record { starts = starts; closed = s.closed ++ (record { kind = Node node.PAREN_EXPR; first = first; end = i + 1 }) ∷ [] }
+closed_on n s [] = s
+closed_on n s (first ∷ starts) = record { starts = starts; closed = s.closed ++ (record { kind = Node node.PAREN_EXPR; first = first; end = n }) ∷ [] }
+
+-- a bracket that closes; without a partner it is no node's
+abbrev pub closed_of : ℕ → Pairing → Pairing
+closed_of n s = closed_on n s s.starts
 
 abbrev pub met_of : ℕ → SyntaxKind → Pairing → Pairing
-met_of i (Token token.L_PAREN) s = record s { starts = i ∷ s.starts }
-met_of i (Token token.R_PAREN) s = closed_on i s s.starts
+met_of i (Token token.L_PAREN) s = started i s
+met_of i (Token token.R_PAREN) s = closed_of (i + 1) s
 met_of i _ s = s
 
 abbrev pub met_at : ℕ → Option LexedToken → Pairing → Pairing

@@ -1,8 +1,8 @@
 //! A front end for words in round brackets: each pair of brackets is a node. A bracket without a partner is a token like any
 //! other. Nothing here shows that the nodes nest: `lay_out` makes one tree of any spans.
-ghost use Rattle.std.specs.Prelude.{◌≡◌, ◌<◌, length, IfOk, OnOk, option_map, slice_get};
+ghost use Rattle.std.specs.Prelude.{◌≡◌, ◌<◌, ◌-◌, ◌^◌, length, IfOk, OnOk, option_map, slice_get};
 ghost use Rattle.ras_front_end.specs.Reading.{reading_of, single_of};
-ghost use Rattle.bracket_front.specs.Front.{pairing_of, met_at, pairs_of, kinds_of, single_with, reading_with};
+ghost use Rattle.bracket_front.specs.Front.{pairing_of, started, closed_of, met_at, pairs_of, kinds_of, single_with, reading_with};
 
 use ras_front_end::{Edition, Entry, FrontEnd, Output, Reparser};
 use std::alloc::{AllocError, Global};
@@ -24,32 +24,55 @@ pub struct Pairs {
 }
 
 impl Pairs {
-    // One more token.
-    fn meet(&mut self, tokens: &[Token], number: usize) -> Made<()>
-        requires { number < length tokens.now }
-        ensures { OnOk result (pairing_of self.new ≡ met_at number (slice_get tokens.now number) (pairing_of self.old)) }
+    fn start(&mut self, number: usize) -> Made<()>
+        ensures { OnOk result (pairing_of self.new ≡ started number (pairing_of self.old)) }
     {
-        match tokens[number].kind {
-            SyntaxKind::L_PAREN => self.starts.push(number)?,
-            SyntaxKind::R_PAREN => {
-                if let Some(first) = self.starts.pop() {
-                    let (kind, end) = (SyntaxKind::PAREN_EXPR, number + 1);
-                    self.closed.push(Span { kind, first, end })?;
-                }
-            }
-            _ => {}
-        }
+        self.starts.push(number)?;
         Ok(())
+    }
+
+    fn close(&mut self, end: usize) -> Made<()>
+        ensures { OnOk result (pairing_of self.new ≡ closed_of end (pairing_of self.old)) }
+    {
+        match self.starts.pop() {
+            None => Ok(()),
+            Some(first) => {
+                let kind = SyntaxKind::PAREN_EXPR;
+                self.closed.push(Span { kind, first, end })?;
+                Ok(())
+            }
+        }
+    }
+
+    // One more token, with this number.
+    fn meet(&mut self, token: Option<Token>, number: usize) -> Made<()>
+        requires { number < 2 ^ 64 - 1 }
+        ensures { OnOk result (pairing_of self.new ≡ met_at number token (pairing_of self.old)) }
+    {
+        match token {
+            None => Ok(()),
+            Some(token) => match token.kind {
+                SyntaxKind::L_PAREN => self.start(number),
+                SyntaxKind::R_PAREN => self.close(number + 1),
+                _ => Ok(()),
+            },
+        }
     }
 }
 
-fn pairs(alloc: Global, tokens: &[Token]) -> Made<Pairs>
+fn token_at(tokens: &[Token], number: usize) -> Option<Token>
+    ensures { result ≡ slice_get tokens.now number }
+{
+    tokens.get(number).copied()
+}
+
+fn closed_pairs(alloc: Global, tokens: &[Token]) -> Made<Pairs>
     ensures { IfOk result (λ p. pairing_of p ≡ pairs_of (length tokens.now) tokens.now) }
 {
     let (starts, closed) = (Vec::new(alloc), Vec::new(alloc));
     let mut pairs = Pairs { starts, closed };
     for number in 0..tokens.len() {
-        pairs.meet(tokens, number)?;
+        pairs.meet(token_at(tokens, number), number)?;
     }
     Ok(pairs)
 }
@@ -58,7 +81,7 @@ fn read(alloc: Global, root: SyntaxKind, text: &str, e: Edition) -> Made<Output>
     ensures { IfOk result (λ output. reading_of output ≡ reading_with root e text.now) }
 {
     let lexed = lex(alloc, text, e)?;
-    let pairs = pairs(alloc, &lexed.tokens)?;
+    let pairs = closed_pairs(alloc, &lexed.tokens)?;
     let steps = lay_out(alloc, root, &lexed.tokens, pairs.closed)?;
     let errors = Vec::new(alloc);
     Ok(Output { steps, errors })
