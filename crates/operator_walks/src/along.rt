@@ -3,7 +3,7 @@ ghost use Rattle.std.specs.Prelude.{◌≡◌};
 ghost use Rattle.tree_model.specs.Tree.{forest_of_children};
 ghost use Rattle.tree_model.specs.Cursor.{focus};
 ghost use Rattle.lossless_tree.specs.Trees.{first_of};
-ghost use Rattle.operator_walks.specs.Along.{is_found, goes_on, operand, past_token, at_expr, turn_at, reaches, begins_with_block, ends_in_brace};
+ghost use Rattle.operator_walks.specs.Along.{is_block_like, is_found, goes_on, operand, past_token, at_expr, turn_at, reaches, begins_with_block, ends_in_brace};
 
 use lossless_tree::{SiblingsLeft, SyntaxKind, SyntaxNode};
 use ras_node::sets::{Exprs, KindSet, RangeOperators};
@@ -34,30 +34,32 @@ pub enum Turn {
     Into(Meant),
 }
 
+/// Whether an expression of this kind ends in a block, as an `if`, a loop, a block or a `match` does: as a statement it needs no
+/// `;`.
+pub fn is_block_like(kind: SyntaxKind) -> bool
+    ensures { result ≡ is_block_like kind }
+{
+    matches!(
+        kind,
+        SyntaxKind::IF_EXPR
+            | SyntaxKind::MATCH_EXPR
+            | SyntaxKind::BLOCK_EXPR
+            | SyntaxKind::WHILE_EXPR
+            | SyntaxKind::LOOP_EXPR
+            | SyntaxKind::FOR_EXPR
+    )
+}
+
 // What the walk looks for: toward the start what is a statement without `;`, toward the end what ends in a brace.
 fn is_found(toward: Toward, kind: SyntaxKind) -> bool
     ensures { result ≡ is_found toward kind }
 {
     match toward {
-        Toward::Start => matches!(
-            kind,
-            SyntaxKind::IF_EXPR
-                | SyntaxKind::MATCH_EXPR
-                | SyntaxKind::BLOCK_EXPR
-                | SyntaxKind::WHILE_EXPR
-                | SyntaxKind::LOOP_EXPR
-                | SyntaxKind::FOR_EXPR
-        ),
-        Toward::End => matches!(
-            kind,
-            SyntaxKind::IF_EXPR
-                | SyntaxKind::MATCH_EXPR
-                | SyntaxKind::BLOCK_EXPR
-                | SyntaxKind::WHILE_EXPR
-                | SyntaxKind::LOOP_EXPR
-                | SyntaxKind::FOR_EXPR
-                | SyntaxKind::RECORD_EXPR
-        ),
+        Toward::Start => is_block_like(kind),
+        Toward::End => match kind {
+            SyntaxKind::RECORD_EXPR => true,
+            _ => is_block_like(kind),
+        },
         Toward::Block => matches!(kind, SyntaxKind::BLOCK_EXPR),
         Toward::Any => true,
     }

@@ -14,16 +14,6 @@ use Rattle.ras_node.specs.Searches.{first_node, first_token, behind, before, has
 use Rattle.ras_node.specs.Lookups.{second_typed_child, view_in, grandparent_of}
 use Rattle.ras_node.specs.Nodes.{kind_at, is_of_kind, typed_child, typed_children}
 
--- an expression that ends in a block, and so needs no `;` as a statement
-abbrev pub is_block_like : SyntaxKind → Bool
-is_block_like (Node kind.IF_EXPR) = true
-is_block_like (Node kind.LOOP_EXPR) = true
-is_block_like (Node kind.FOR_EXPR) = true
-is_block_like (Node kind.WHILE_EXPR) = true
-is_block_like (Node kind.BLOCK_EXPR) = true
-is_block_like (Node kind.MATCH_EXPR) = true
-is_block_like _ = false
-
 -- the first expression; where it is a block, only if there is another: that block may be a body
 abbrev pub unless_lone_block : (SyntaxKind → Bool) → Cursor → Option Cursor
 unless_lone_block exprs c =
@@ -66,10 +56,6 @@ literal_token c = option_and_then token_part (option_map element_of (find (has_o
 -- the number of a tuple's field: the first child of a number's kind, if that is a token
 abbrev pub index_token : Cursor → Option Cursor
 index_token c = option_and_then token_part (option_map element_of (find (has_other_kind is_before_index) (children_of c)))
-
--- a block that stands in a block or is a statement
-abbrev pub may_carry_attributes : Cursor → Bool
-may_carry_attributes c = option_map_or (λ p. is_of_kind (Node kind.BLOCK_EXPR) p || is_of_kind (Node kind.EXPR_STMT) p) (parent_of c) false
 
 -- a block is no part of what it stands in: in a `for` or an `if` it is the first expression, or there is none; it is never so as
 -- the `else` of a `let`, the body of a function or a loop, or a constant pattern

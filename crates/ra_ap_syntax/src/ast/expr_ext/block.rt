@@ -1,6 +1,7 @@
 //! Blocks: what stands before them, and where they stand.
 ghost use Rattle.std.specs.Prelude.{◌≡◌, option_map};
-ghost use Rattle.ra_ap_syntax.specs.ExprParts.{may_carry_attributes, is_standalone, is_standalone_in};
+ghost use Rattle.ra_ap_syntax.specs.ExprParts.{is_standalone, is_standalone_in};
+ghost use Rattle.ras_attr.specs.Attrs.{may_carry_attributes};
 ghost use Rattle.ra_ap_syntax.specs.ExprShapes.{modifier_shape, block_modifier};
 ghost use Rattle.ras_node.specs.Nodes.{kind_at, typed_child};
 ghost use Rattle.std.specs.Option.{option_map_or};
@@ -77,13 +78,7 @@ impl ast::BlockExpr {
     pub fn may_carry_attributes(&self) -> bool
         ensures { result ≡ may_carry_attributes self.now.syntax }
     {
-        match self.syntax.parent() {
-            Some(parent) => matches!(
-                parent.kind(),
-                SyntaxKind::BLOCK_EXPR | SyntaxKind::EXPR_STMT
-            ),
-            None => false,
-        }
+        ras_attr::may_carry_attributes(&self.syntax)
     }
 }
 

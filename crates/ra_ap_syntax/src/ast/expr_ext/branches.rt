@@ -3,7 +3,8 @@ ghost use Rattle.std.specs.Prelude.{◌≡◌, option_map};
 ghost use Rattle.ras_node.specs.Lookups.{IsViewOf, grandparent_of, view_in};
 ghost use Rattle.ras_node.specs.Nodes.{kind_at};
 ghost use Rattle.ra_ap_syntax.specs.ExprCases.{expr_node};
-ghost use Rattle.ra_ap_syntax.specs.ExprParts.{unless_lone_block, second_as, third_as, is_block_like};
+ghost use Rattle.ra_ap_syntax.specs.ExprParts.{unless_lone_block, second_as, third_as};
+ghost use Rattle.operator_walks.specs.Along.{is_block_like};
 
 use crate::ast::{self, AstNode, ElseBranch, support};
 use lossless_tree::{SyntaxKind, SyntaxNode};
@@ -24,15 +25,7 @@ impl ast::Expr {
     pub fn is_block_like(&self) -> bool
         ensures { result ≡ is_block_like (kind_at (expr_node self.now)) }
     {
-        matches!(
-            self.syntax().kind(),
-            SyntaxKind::IF_EXPR
-                | SyntaxKind::LOOP_EXPR
-                | SyntaxKind::FOR_EXPR
-                | SyntaxKind::WHILE_EXPR
-                | SyntaxKind::BLOCK_EXPR
-                | SyntaxKind::MATCH_EXPR
-        )
+        operator_walks::along::is_block_like(self.syntax().kind())
     }
 }
 
