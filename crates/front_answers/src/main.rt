@@ -7,6 +7,7 @@
 //! - `file FRONT TEXT`, `expr FRONT TEXT`: the parse's dump, its errors, what `tree`, `cast` and `ok` answer.
 //! - `edit FRONT START END |INSERT|TEXT`: what is read anew, the new text, whether the parse equals that of the new text, errors.
 //! - `edits FRONT TEXT`: each range of the text edited with nothing, `x`, `}`, `"` and a newline.
+//! - `offsets FRONT TEXT`: each offset and each range of the text, asked of the tree and of plain searches.
 //! - `walk TEXT`: its items, their names, and what is in and around the last expression of each body.
 //! - `built WORDS`: the errors of a tree that is built; `KIND(` enters, `)` leaves, `KIND:text` is a token, `!5` an error at 5.
 //! - `name WORD`: whether it is an identifier, and a raw one.
@@ -15,6 +16,7 @@
 mod built;
 mod edits;
 mod every_edit;
+mod every_offset;
 mod parses;
 mod request;
 mod stopped;
@@ -23,6 +25,7 @@ mod walk;
 use built::show_built;
 use edits::show_edit;
 use every_edit::show_every_edit;
+use every_offset::show_every_offset;
 use parses::{show_expr, show_file};
 use ra_ap_syntax::utils::{is_identifier, is_raw_identifier};
 use ra_ap_syntax::{Edition, FrontEnd};
@@ -67,6 +70,7 @@ fn show_by<F: FrontEnd>(
         "expr" => show_expr(alloc, out, front, text),
         "edit" => show_edit(alloc, out, front, text),
         "edits" => show_every_edit(alloc, out, front, text),
+        "offsets" => show_every_offset(alloc, out, front, text),
         _ => Err(Stopped::NoRequest),
     }
 }

@@ -23,28 +23,47 @@ struct Calls {
     error: First,
 }
 
-// One event of a tree.
+// A node begins, or a token comes.
+fn enter(
+    builder: &mut SyntaxTreeBuilder,
+    calls: &mut Calls,
+    element: &SyntaxElement,
+) -> Result<(), Stopped> {
+    match element {
+        NodeOrToken::Node(node) => {
+            let (_, first) = crate::asked!("start_node", builder.start_node(node.kind()));
+            calls.start_node = calls.start_node.or(first);
+        }
+        NodeOrToken::Token(token) => {
+            let (_, first) = crate::asked!("token", builder.token(token.kind(), token.text()));
+            calls.token = calls.token.or(first);
+        }
+    }
+    Ok(())
+}
+
+// A node ends.
+fn leave(
+    builder: &mut SyntaxTreeBuilder,
+    calls: &mut Calls,
+    element: &SyntaxElement,
+) -> Result<(), Stopped> {
+    if element.as_node().is_some() {
+        let (_, first) = crate::asked!("finish_node", builder.finish_node());
+        calls.finish_node = calls.finish_node.or(first);
+    }
+    Ok(())
+}
+
 fn add_event(
     builder: &mut SyntaxTreeBuilder,
     calls: &mut Calls,
     event: &WalkEvent<SyntaxElement>,
 ) -> Result<(), Stopped> {
     match event {
-        WalkEvent::Enter(NodeOrToken::Node(node)) => {
-            let (_, first) = crate::asked!("start_node", builder.start_node(node.kind()));
-            calls.start_node = calls.start_node.or(first);
-        }
-        WalkEvent::Enter(NodeOrToken::Token(token)) => {
-            let (_, first) = crate::asked!("token", builder.token(token.kind(), token.text()));
-            calls.token = calls.token.or(first);
-        }
-        WalkEvent::Leave(NodeOrToken::Node(_)) => {
-            let (_, first) = crate::asked!("finish_node", builder.finish_node());
-            calls.finish_node = calls.finish_node.or(first);
-        }
-        WalkEvent::Leave(NodeOrToken::Token(_)) => {}
+        WalkEvent::Enter(element) => enter(builder, calls, element),
+        WalkEvent::Leave(element) => leave(builder, calls, element),
     }
-    Ok(())
 }
 
 fn add_error(

@@ -129,6 +129,21 @@ fn places(sheet: &mut Sheet, node: &SyntaxNode) -> Result<(), AllocError> {
     sheet.node("IndexExpr.index", it.index())
 }
 
+fn repeated(
+    sheet: &mut Sheet,
+    initializer: Option<ast::Expr>,
+    repeat: Option<ast::Expr>,
+) -> Result<(), AllocError> {
+    sheet.word("ArrayExpr.kind", "Repeat")?;
+    sheet.node("ArrayExpr.kind.initializer", initializer)?;
+    sheet.node("ArrayExpr.kind.repeat", repeat)
+}
+
+fn listed(sheet: &mut Sheet, list: ast::AstChildren<ast::Expr>) -> Result<(), AllocError> {
+    sheet.word("ArrayExpr.kind", "ElementList")?;
+    sheet.nodes("ArrayExpr.kind.0", list)
+}
+
 fn array(sheet: &mut Sheet, node: &SyntaxNode) -> Result<(), AllocError> {
     let Some(it) = cast_ref::<ast::ArrayExpr>(node) else {
         return Ok(());
@@ -137,15 +152,8 @@ fn array(sheet: &mut Sheet, node: &SyntaxNode) -> Result<(), AllocError> {
         ast::ArrayExprKind::Repeat {
             initializer,
             repeat,
-        } => {
-            sheet.word("ArrayExpr.kind", "Repeat")?;
-            sheet.node("ArrayExpr.kind.initializer", initializer)?;
-            sheet.node("ArrayExpr.kind.repeat", repeat)
-        }
-        ast::ArrayExprKind::ElementList(list) => {
-            sheet.word("ArrayExpr.kind", "ElementList")?;
-            sheet.nodes("ArrayExpr.kind.0", list)
-        }
+        } => repeated(sheet, initializer, repeat),
+        ast::ArrayExprKind::ElementList(list) => listed(sheet, list),
     }
 }
 

@@ -1,0 +1,123 @@
+//! Every offset and every range of a text, asked of its tree, beside searches that look at all there is.
+
+use crate::stopped::Stopped;
+use ra_ap_syntax::algo::ancestors_at_offset;
+use ra_ap_syntax::{
+    Edition, FrontEnd, NodeOrToken, SourceFile, SyntaxElement, SyntaxNode, SyntaxToken, TextRange,
+    TextSize,
+};
+use std::alloc::Global;
+use std::fmt::Write;
+
+// The tokens with a text that touch an offset: the first and the last of them, and how many nodes stand above them in all.
+#[derive(Drop)]
+struct Touching {
+    first: Option<SyntaxToken>,
+    last: Option<SyntaxToken>,
+    above: usize,
+}
+
+fn tokens_touching(root: &SyntaxNode, offset: u32) -> Result<Touching, Stopped> {
+    let mut found = Touching {
+        first: None,
+        last: None,
+        above: 0,
+    };
+    for element in root.descendants_with_tokens() {
+        if let NodeOrToken::Token(token) = element {
+            let range = token.text_range();
+            if !range.is_empty() && range.start().raw() <= offset && offset <= range.end().raw() {
+                found.above = found.above.saturating_add(token.parent_ancestors().count());
+                if found.first.is_none() {
+                    found.first = Some(token.clone()?);
+                }
+                found.last = Some(token);
+            }
+        }
+    }
+    Ok(found)
+}
+
+// Whether the tree answers at an offset as a look at all of its tokens does.
+fn is_right_at(root: &SyntaxNode, offset: u32) -> Result<bool, Stopped> {
+    let wanted = tokens_touching(root, offset)?;
+    let at = TextSize::new(offset);
+    let tokens = root.token_at_offset(at).left_biased() == wanted.first
+        && root.token_at_offset(at).right_biased() == wanted.last;
+    let (mut above, mut len, mut ordered) = (0_usize, 0_u32, true);
+    for node in ancestors_at_offset(root, at) {
+        let range = node.text_range();
+        ordered = ordered
+            && len <= range.len().raw()
+            && range.start().raw() <= offset
+            && offset <= range.end().raw();
+        len = range.len().raw();
+        above = above.saturating_add(1);
+    }
+    Ok(tokens && ordered && above == wanted.above)
+}
+
+// Whether a child is where the search for what covers a range goes on: it holds the range, an empty one strictly inside.
+fn holds(child: TextRange, range: TextRange) -> bool {
+    if range.is_empty() {
+        child.start().raw() < range.start().raw() && range.end().raw() < child.end().raw()
+    } else {
+        child.contains_range(range)
+    }
+}
+
+// The child to go to, if there is one: one that holds the range; else, for an empty range, the last that ends before it, or the
+// first.
+fn child_towards(node: &SyntaxNode, range: TextRange) -> Option<SyntaxElement> {
+    let mut nearest = None;
+    for child in node.children_with_tokens() {
+        if holds(child.text_range(), range) {
+            return Some(child);
+        }
+        let ends = child.text_range().end().raw() <= range.start().raw();
+        if range.is_empty() && (ends || nearest.is_none()) {
+            nearest = Some(child);
+        }
+    }
+    nearest
+}
+
+// What covers a range, step by step down from the root; more steps than there are nodes are never taken.
+fn covering(root: &SyntaxNode, range: TextRange) -> Result<SyntaxElement, Stopped> {
+    let mut here = root.clone()?;
+    for _step in 0..root.descendants().count() {
+        match child_towards(&here, range) {
+            Some(NodeOrToken::Node(child)) => here = child,
+            Some(token) => return Ok(token),
+            None => return Ok(NodeOrToken::Node(here)),
+        }
+    }
+    Ok(NodeOrToken::Node(here))
+}
+
+/// Each offset and each range of a text.
+pub fn show_every_offset<F: FrontEnd>(
+    alloc: Global,
+    out: &mut String,
+    front: &F,
+    text: &str,
+) -> Result<(), Stopped> {
+    let file = SourceFile::parse(alloc, text, front, Edition::CURRENT)?;
+    let root = file.syntax_node();
+    let behind = root.text_range().end().raw().saturating_add(1);
+    let (mut offsets, mut ranges) = (0_u32, 0_u32);
+    for start in 0..behind {
+        offsets = offsets.saturating_add(1);
+        if !is_right_at(&root, start)? {
+            writeln!(out, "wrong: {start}")?;
+        }
+        for end in start..behind {
+            let range = TextRange::new(TextSize::new(start), TextSize::new(end));
+            ranges = ranges.saturating_add(1);
+            if root.covering_element(range) != covering(&root, range)? {
+                writeln!(out, "wrong: {range}")?;
+            }
+        }
+    }
+    Ok(writeln!(out, "offsets {offsets}, ranges {ranges}")?)
+}
