@@ -30,24 +30,34 @@ fn without(alloc: Global, text: &str, pair: &ast::ParenExpr) -> Result<String, A
     Ok(out)
 }
 
-fn lint(alloc: Global, text: &str) -> Result<String, ParseError> {
+// The line on a pair.
+fn name(out: &mut String, text: &str, pair: &ast::ParenExpr) -> Result<(), AllocError> {
+    let (start, shown) = (pair.syntax().text_range().start(), pair.syntax().as_str());
+    let before = text.get(..start.raw() as usize).unwrap_or("");
+    let line = before.split('\n').count();
+    let last = before.rsplit('\n').next().unwrap_or("").chars();
+    let column = last.count().saturating_add(1);
+    writeln!(out, "{line}:{column}: {shown} needs no parentheses")
+}
+
+fn report(alloc: Global, text: &str, expr: &ast::Expr) -> Result<String, AllocError> {
     let mut out = String::new(alloc);
-    if let Some(expr) = ast::Expr::parse(alloc, text, &Tiny, Edition::CURRENT)?.tree() {
-        let pairs = needless_parens(alloc, &expr)?.unwrap_or(Vec::new(alloc));
-        for pair in pairs.iter() {
-            let (start, shown) = (pair.syntax().text_range().start(), pair.syntax().as_str());
-            let before = text.get(..start.raw() as usize).unwrap_or("");
-            let line = before.split('\n').count();
-            let last = before.rsplit('\n').next().unwrap_or("").chars();
-            let column = last.count().saturating_add(1);
-            writeln!(&mut out, "{line}:{column}: {shown} needs no parentheses")?;
-        }
-        if let Some(first) = pairs.as_slice().first() {
-            let shorter = without(alloc, text, first)?;
-            write!(&mut out, "without the first:\n{shorter}")?;
-        }
+    let pairs = needless_parens(alloc, expr)?.unwrap_or(Vec::new(alloc));
+    for pair in pairs.iter() {
+        name(&mut out, text, pair)?;
+    }
+    if let Some(first) = pairs.as_slice().first() {
+        out.push_str("without the first:\n")?;
+        out.push_str(without(alloc, text, first)?.as_str())?;
     }
     Ok(out)
+}
+
+fn lint(alloc: Global, text: &str) -> Result<String, ParseError> {
+    match ast::Expr::parse(alloc, text, &Tiny, Edition::CURRENT)?.tree() {
+        Some(expr) => Ok(report(alloc, text, &expr)?),
+        None => Ok(String::new(alloc)),
+    }
 }
 
 fn main(rt: HostRuntime) -> io::Result<()> {

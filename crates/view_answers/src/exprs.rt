@@ -131,12 +131,12 @@ fn places(sheet: &mut Sheet, node: &SyntaxNode) -> Result<(), AllocError> {
 
 fn repeated(
     sheet: &mut Sheet,
-    initializer: Option<ast::Expr>,
-    repeat: Option<ast::Expr>,
+    initializer: Option<&ast::Expr>,
+    repeat: Option<&ast::Expr>,
 ) -> Result<(), AllocError> {
     sheet.word("ArrayExpr.kind", "Repeat")?;
-    sheet.node("ArrayExpr.kind.initializer", initializer)?;
-    sheet.node("ArrayExpr.kind.repeat", repeat)
+    sheet.borrowed("ArrayExpr.kind.initializer", initializer)?;
+    sheet.borrowed("ArrayExpr.kind.repeat", repeat)
 }
 
 fn listed(sheet: &mut Sheet, list: ast::AstChildren<ast::Expr>) -> Result<(), AllocError> {
@@ -144,16 +144,20 @@ fn listed(sheet: &mut Sheet, list: ast::AstChildren<ast::Expr>) -> Result<(), Al
     sheet.nodes("ArrayExpr.kind.0", list)
 }
 
-fn array(sheet: &mut Sheet, node: &SyntaxNode) -> Result<(), AllocError> {
-    let Some(it) = cast_ref::<ast::ArrayExpr>(node) else {
-        return Ok(());
-    };
-    match it.kind() {
+fn array_kind(sheet: &mut Sheet, kind: &ast::ArrayExprKind) -> Result<(), AllocError> {
+    match kind {
         ast::ArrayExprKind::Repeat {
             initializer,
             repeat,
-        } => repeated(sheet, initializer, repeat),
-        ast::ArrayExprKind::ElementList(list) => listed(sheet, list),
+        } => repeated(sheet, initializer.as_ref(), repeat.as_ref()),
+        ast::ArrayExprKind::ElementList(list) => listed(sheet, list.clone()?),
+    }
+}
+
+fn array(sheet: &mut Sheet, node: &SyntaxNode) -> Result<(), AllocError> {
+    match cast_ref::<ast::ArrayExpr>(node) {
+        Some(it) => array_kind(sheet, &it.kind()),
+        None => Ok(()),
     }
 }
 

@@ -5,35 +5,44 @@ use ra_ap_syntax::ast::{self, cast_ref, prec};
 use std::alloc::AllocError;
 
 pub fn answers(sheet: &mut Sheet, node: &SyntaxNode) -> Result<(), AllocError> {
-    expr(sheet, node)?;
-    parens(sheet, node)?;
+    if let Some(it) = cast_ref::<ast::Expr>(node) {
+        expr(sheet, node, &it)?;
+    }
     type_parens(sheet, node)
 }
 
-fn expr(sheet: &mut Sheet, node: &SyntaxNode) -> Result<(), AllocError> {
-    let Some(it) = cast_ref::<ast::Expr>(node) else {
-        return Ok(());
-    };
+fn expr(sheet: &mut Sheet, node: &SyntaxNode, it: &ast::Expr) -> Result<(), AllocError> {
+    precedence(sheet, it)?;
+    needless(sheet, it)?;
+    match node.parent() {
+        Some(parent) => parens(sheet, node, &parent, it),
+        None => Ok(()),
+    }
+}
+
+fn precedence(sheet: &mut Sheet, it: &ast::Expr) -> Result<(), AllocError> {
     sheet.value("Expr.precedence", Some(it.precedence()))?;
     let valueless = it.is_ret_like_with_no_value();
     sheet.flag("Expr.is_ret_like_with_no_value", valueless)?;
-    sheet.value("reads_back", prec::reads_back(&it))?;
-    match prec::needless_parens(sheet.alloc(), &it) {
+    sheet.value("reads_back", prec::reads_back(it))
+}
+
+fn needless(sheet: &mut Sheet, it: &ast::Expr) -> Result<(), AllocError> {
+    match prec::needless_parens(sheet.alloc(), it) {
         Ok(Some(pairs)) => sheet.slice("needless_parens", pairs.as_slice()),
         Ok(None) => sheet.word("needless_parens", "-"),
         Err(_) => sheet.refused("needless_parens"),
     }
 }
 
-fn parens(sheet: &mut Sheet, node: &SyntaxNode) -> Result<(), AllocError> {
-    let Some(it) = cast_ref::<ast::Expr>(node) else {
-        return Ok(());
-    };
-    let Some(parent) = node.parent() else {
-        return Ok(());
-    };
-    sheet.flag("Expr.needs_parens_in", it.needs_parens_in(&parent))?;
-    let in_place = it.needs_parens_in_place_of(&parent, node);
+fn parens(
+    sheet: &mut Sheet,
+    node: &SyntaxNode,
+    parent: &SyntaxNode,
+    it: &ast::Expr,
+) -> Result<(), AllocError> {
+    sheet.flag("Expr.needs_parens_in", it.needs_parens_in(parent))?;
+    let in_place = it.needs_parens_in_place_of(parent, node);
     sheet.flag("Expr.needs_parens_in_place_of", in_place)
 }
 
