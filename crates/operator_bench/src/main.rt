@@ -49,12 +49,14 @@ fn per_operator(nanoseconds: u128, operators: u32) -> u64 {
     tenths.checked_div(operators as u64).unwrap_or(0)
 }
 
-fn time_shape(rt: &HostRuntime, shape: Shape, operators: u32) -> Result<(), Stopped> {
-    let text = shape.text(rt.alloc(), operators)?;
-    let parse = ast::Expr::parse(rt.alloc(), text.as_str(), &Tiny, Edition::CURRENT)?;
-    let expr = parse.tree().ok_or(Stopped::NoExpression)?;
+fn time_calls(
+    rt: &HostRuntime,
+    shape: Shape,
+    operators: u32,
+    expr: &ast::Expr,
+) -> Result<(), Stopped> {
     for call in [Call::ReadsBack, Call::NeedlessParens] {
-        let (least, found) = time(rt, call, &expr)?;
+        let (least, found) = time(rt, call, expr)?;
         let tenths = per_operator(least, operators);
         println!(rt;
             "| `{}` | {} | {operators} | {}.{} | {found} |",
@@ -65,6 +67,15 @@ fn time_shape(rt: &HostRuntime, shape: Shape, operators: u32) -> Result<(), Stop
         )?;
     }
     Ok(())
+}
+
+fn time_shape(rt: &HostRuntime, shape: Shape, operators: u32) -> Result<(), Stopped> {
+    let text = shape.text(rt.alloc(), operators)?;
+    let parse = ast::Expr::parse(rt.alloc(), text.as_str(), &Tiny, Edition::CURRENT)?;
+    match parse.tree() {
+        Some(expr) => time_calls(rt, shape, operators, &expr),
+        None => Err(Stopped::NoExpression),
+    }
 }
 
 fn time_all(rt: &HostRuntime) -> Result<(), Stopped> {

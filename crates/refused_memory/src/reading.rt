@@ -1,10 +1,13 @@
 //! Copies and edits of trees, values, and the accessors that take memory.
 use crate::asking::{First, Stopped, say};
 use crate::samples::{ATTRIBUTE, ESCAPED, Event, NUMBER, SLICE, SUM, built};
+use ra_ap_syntax::ast::ValueError;
 use ra_ap_syntax::ast::prec::needless_parens;
 use ra_ap_syntax::{AstNode, AstToken, Edition, SyntaxKind, SyntaxNode, SyntaxToken, ast};
 use std::alloc::Global;
 use tiny_front::Tiny;
+
+const PAIRS: &str = "((a)) + (b * c)";
 
 fn sample(alloc: Global, events: &[Event]) -> Result<SyntaxNode, Stopped> {
     let (root, _) = crate::asked!("finish", built(alloc, events));
@@ -40,30 +43,26 @@ fn token(root: &SyntaxNode) -> Result<SyntaxToken, Stopped> {
     root.first_token().ok_or(Stopped::Other("first_token"))
 }
 
-fn values(rt: &HostRuntime) -> Result<(), Stopped> {
-    let alloc = rt.alloc();
-    let escaped = ast::String::cast(token(&sample(alloc, &ESCAPED)?)?).ok_or(Stopped::Other(
-        "cast",
-    ))?;
-    let (value, first) = crate::asked!("value", escaped.value(alloc));
-    say(
-        rt,
-        "value",
-        first,
-        escaped.text() == "\"\\x61bcde\"",
-        value.as_str(),
-    )?;
-    let number = ast::IntNumber::cast(token(&sample(alloc, &NUMBER)?)?).ok_or(Stopped::Other(
-        "cast",
-    ))?;
-    let (digits, first) = crate::asked!("value_string", number.value_string(alloc));
-    say(
-        rt,
-        "value_string",
-        first,
-        number.text() == "1_000u8",
-        digits.as_str(),
-    )
+// Whether a string's value is this.
+fn is_value(alloc: Global, string: &ast::String, wanted: &str) -> Result<bool, ValueError> {
+    let value = string.value(alloc)?;
+    Ok(value.as_str() == wanted)
+}
+
+fn value(rt: &HostRuntime) -> Result<(), Stopped> {
+    let token = token(&sample(rt.alloc(), &ESCAPED)?)?;
+    let escaped = ast::String::cast(token).ok_or(Stopped::Other("cast"))?;
+    let (same, first) = crate::asked!("value", is_value(rt.alloc(), &escaped, "abcde"));
+    let stands = escaped.text() == "\"\\x61bcde\"";
+    say(rt, "value", first, stands, same)
+}
+
+fn value_string(rt: &HostRuntime) -> Result<(), Stopped> {
+    let token = token(&sample(rt.alloc(), &NUMBER)?)?;
+    let number = ast::IntNumber::cast(token).ok_or(Stopped::Other("cast"))?;
+    let (digits, first) = crate::asked!("value_string", number.value_string(rt.alloc()));
+    let stands = number.text() == "1_000u8";
+    say(rt, "value_string", first, stands, digits.as_str())
 }
 
 fn accessors(rt: &HostRuntime) -> Result<(), Stopped> {
@@ -89,28 +88,29 @@ fn accessors(rt: &HostRuntime) -> Result<(), Stopped> {
     )
 }
 
+fn pairs(rt: &HostRuntime, expr: &ast::Expr) -> Result<(), Stopped> {
+    let (pairs, first) = crate::asked!("needless_parens", needless_parens(rt.alloc(), expr));
+    let count = pairs.map_or(0, |pairs| pairs.len());
+    let stands = expr.syntax().as_str() == PAIRS;
+    say(rt, "needless_parens", first, stands, count)
+}
+
 fn parentheses(rt: &HostRuntime) -> Result<(), Stopped> {
     let alloc = rt.alloc();
-    let text = "((a)) + (b * c)";
     let (parse, _) = crate::asked!(
         "parse",
-        ast::Expr::parse(alloc, text, &Tiny, Edition::CURRENT)
+        ast::Expr::parse(alloc, PAIRS, &Tiny, Edition::CURRENT)
     );
-    let expr = parse.tree().ok_or(Stopped::Other("tree"))?;
-    let (pairs, first) = crate::asked!("needless_parens", needless_parens(alloc, &expr));
-    let count = pairs.map_or(0, |pairs| pairs.len());
-    say(
-        rt,
-        "needless_parens",
-        first,
-        expr.syntax().as_str() == text,
-        count,
-    )
+    match parse.tree() {
+        Some(expr) => pairs(rt, &expr),
+        None => Err(Stopped::Other("tree")),
+    }
 }
 
 pub fn ask(rt: &HostRuntime) -> Result<(), Stopped> {
     trees(rt)?;
-    values(rt)?;
+    value(rt)?;
+    value_string(rt)?;
     accessors(rt)?;
     parentheses(rt)
 }
