@@ -74,26 +74,68 @@ fn add_error(
     builder.error(error.message().to_string(alloc)?, error.range().start())
 }
 
+fn add_events(
+    builder: &mut SyntaxTreeBuilder,
+    calls: &mut Calls,
+    root: &SyntaxNode,
+) -> Result<(), Stopped> {
+    for event in root.preorder_with_tokens() {
+        add_event(builder, calls, &event)?;
+    }
+    Ok(())
+}
+
+fn add_errors(
+    alloc: Global,
+    builder: &mut SyntaxTreeBuilder,
+    calls: &mut Calls,
+    errors: &[SyntaxError],
+) -> Result<(), Stopped> {
+    for error in errors {
+        let (_, first) = crate::asked!("error", add_error(alloc, builder, error));
+        calls.error = calls.error.or(first);
+    }
+    Ok(())
+}
+
+fn errors_of<T>(alloc: Global, parse: &Parse<T>) -> Result<Vec<SyntaxError>, Stopped> {
+    let (errors, _) = crate::asked!("errors", parse.errors(alloc));
+    Ok(errors)
+}
+
+fn filled(
+    alloc: Global,
+    parse: &Parse<SourceFile>,
+    calls: &mut Calls,
+) -> Result<SyntaxTreeBuilder, Stopped> {
+    let errors = errors_of(alloc, parse)?;
+    let mut builder = SyntaxTreeBuilder::new(alloc);
+    add_events(&mut builder, calls, &parse.syntax_node())?;
+    add_errors(alloc, &mut builder, calls, errors.as_slice())?;
+    Ok(builder)
+}
+
 // The parse that the events of another's tree and its errors make; `None` where memory was out at the end.
 fn rebuilt(
     alloc: Global,
     parse: &Parse<SourceFile>,
     calls: &mut Calls,
 ) -> Result<Option<Parse<SyntaxNode>>, Stopped> {
-    let (errors, _) = crate::asked!("errors", parse.errors(alloc));
-    let mut builder = SyntaxTreeBuilder::new(alloc);
-    for event in parse.syntax_node().preorder_with_tokens() {
-        add_event(&mut builder, calls, &event)?;
-    }
-    for error in errors.iter() {
-        let (_, first) = crate::asked!("error", add_error(alloc, &mut builder, error));
-        calls.error = calls.error.or(first);
-    }
-    match builder.finish() {
+    match filled(alloc, parse, calls)?.finish() {
         Ok(built) => Ok(Some(built)),
         Err(FinishError::Memory) => Ok(None),
         Err(_refusal) => Err(Stopped::Other("finish")),
     }
+}
+
+fn dump_of(alloc: Global, root: &SyntaxNode) -> Result<String, Stopped> {
+    let (dump, _) = crate::asked!("dump", root.dump(alloc));
+    Ok(dump)
+}
+
+fn look_alike(alloc: Global, one: &SyntaxNode, other: &SyntaxNode) -> Result<bool, Stopped> {
+    let dump = dump_of(alloc, one)?;
+    Ok(dump == dump_of(alloc, other)?)
 }
 
 // Whether two parses have trees that look the same, and as many errors.
@@ -102,40 +144,52 @@ fn are_alike(
     parse: &Parse<SourceFile>,
     built: &Parse<SyntaxNode>,
 ) -> Result<bool, Stopped> {
-    let (dump, _) = crate::asked!("dump", parse.syntax_node().dump(alloc));
-    let (other, _) = crate::asked!("dump", built.syntax_node().dump(alloc));
-    let (errors, _) = crate::asked!("errors", parse.errors(alloc));
-    let (others, _) = crate::asked!("errors", built.errors(alloc));
-    Ok(dump == other && errors.len() == others.len())
+    let count = errors_of(alloc, parse)?.len();
+    let same = errors_of(alloc, built)?.len() == count;
+    Ok(same && look_alike(alloc, &parse.syntax_node(), &built.syntax_node())?)
 }
 
-// Builds the tree of a text once more, with its errors; and once more where the end is refused, since the builder is given up then.
-fn rebuild(rt: &HostRuntime, text: &str) -> Result<(), Stopped> {
-    let alloc = rt.alloc();
-    let (parse, _) = crate::asked!(
-        "parse",
-        SourceFile::parse(alloc, text, &Tiny, Edition::CURRENT)
-    );
+// The lines of the calls of a builder.
+fn report(
+    rt: &HostRuntime,
+    calls: &Calls,
+    finish: First,
+    parse: &Parse<SourceFile>,
+    built: &Parse<SyntaxNode>,
+) -> Result<(), Stopped> {
+    let stands = are_alike(rt.alloc(), parse, built)?;
+    let len = built.syntax_node().text_range().len().raw();
+    say(rt, "start_node", calls.start_node, stands, len)?;
+    say(rt, "token", calls.token, stands, len)?;
+    say(rt, "finish_node", calls.finish_node, stands, len)?;
+    say(rt, "error", calls.error, stands, len)?;
+    say(rt, "finish of a parse", finish, stands, len)
+}
+
+// Builds the tree of a parse once more, with its errors; and once more where the end is refused, since the builder is given up
+// then.
+fn rebuild(rt: &HostRuntime, parse: &Parse<SourceFile>) -> Result<(), Stopped> {
     let mut calls = Calls {
         start_node: First::Answered,
         token: First::Answered,
         finish_node: First::Answered,
         error: First::Answered,
     };
-    let (built, first) = match rebuilt(alloc, &parse, &mut calls)? {
-        Some(built) => (built, First::Answered),
-        None => match rebuilt(alloc, &parse, &mut calls)? {
-            Some(built) => (built, First::Refused),
-            None => return Err(Stopped::Twice("finish")),
-        },
-    };
-    let stands = are_alike(alloc, &parse, &built)?;
-    let len = built.syntax_node().text_range().len().raw();
-    say(rt, "start_node", calls.start_node, stands, len)?;
-    say(rt, "token", calls.token, stands, len)?;
-    say(rt, "finish_node", calls.finish_node, stands, len)?;
-    say(rt, "error", calls.error, stands, len)?;
-    say(rt, "finish of a parse", first, stands, len)
+    if let Some(built) = rebuilt(rt.alloc(), parse, &mut calls)? {
+        return report(rt, &calls, First::Answered, parse, &built);
+    }
+    match rebuilt(rt.alloc(), parse, &mut calls)? {
+        Some(built) => report(rt, &calls, First::Refused, parse, &built),
+        None => Err(Stopped::Twice("finish")),
+    }
+}
+
+fn parsed(alloc: Global, text: &str) -> Result<Parse<SourceFile>, Stopped> {
+    let (parse, _) = crate::asked!(
+        "parse",
+        SourceFile::parse(alloc, text, &Tiny, Edition::CURRENT)
+    );
+    Ok(parse)
 }
 
 // A tree of one name.
@@ -149,8 +203,8 @@ fn name(alloc: Global) -> Result<SyntaxNode, Stopped> {
 
 pub fn ask(rt: &HostRuntime) -> Result<(), Stopped> {
     for text in TEXTS {
-        rebuild(rt, text)?;
+        rebuild(rt, &parsed(rt.alloc(), text)?)?;
     }
     let (root, first) = crate::asked!("finish", name(rt.alloc()));
-    say(rt, "finish", first, true, root.text())
+    say(rt, "finish", first, true, root.as_str())
 }

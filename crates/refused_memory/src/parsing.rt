@@ -76,48 +76,56 @@ fn word(answer: &Result<SourceFile, OkError<SourceFile>>) -> &'static str {
     }
 }
 
+fn error_count(alloc: Global, parse: &File) -> Result<usize, Stopped> {
+    let (errors, _) = crate::asked!("errors after ok", parse.errors(alloc));
+    Ok(errors.len())
+}
+
+fn ok_word(alloc: Global, parse: File) -> &'static str {
+    word(&parse.ok(alloc))
+}
+
 // The parse that `ok` hands back where memory is out is the one that it was asked of, and answers its errors.
+fn handed_back(
+    rt: &HostRuntime,
+    name: &'static str,
+    parse: &File,
+    back: File,
+) -> Result<(), Stopped> {
+    let count = error_count(rt.alloc(), parse)?;
+    let stands = back == *parse && error_count(rt.alloc(), &back)? == count;
+    say(rt, name, First::Refused, stands, ok_word(rt.alloc(), back))
+}
+
 fn ok(rt: &HostRuntime, name: &'static str, parse: &File) -> Result<(), Stopped> {
     match parse.clone()?.ok(rt.alloc()) {
-        Err(OkError::Memory(back)) => {
-            let stands = back == *parse;
-            errors(rt, "errors after ok", &back)?;
-            say(rt, name, First::Refused, stands, word(&back.ok(rt.alloc())))
-        }
-        answer => {
-            errors(rt, "errors after ok", parse)?;
-            say(rt, name, First::Answered, true, word(&answer))
-        }
+        Err(OkError::Memory(back)) => handed_back(rt, name, parse, back),
+        answer => say(rt, name, First::Answered, true, word(&answer)),
     }
 }
 
-fn parsed(alloc: Global, text: &str) -> Result<(File, First), Stopped> {
-    Ok(crate::asked!("parse", SourceFile::parse(alloc, text, &Tiny, NOW)))
+fn parsed(rt: &HostRuntime, text: &str) -> Result<File, Stopped> {
+    let (file, first) = crate::asked!("parse", SourceFile::parse(rt.alloc(), text, &Tiny, NOW));
+    let len = file.syntax_node().text_range().len().raw();
+    say(rt, "parse", first, true, len)?;
+    Ok(file)
+}
+
+fn ask_file(rt: &HostRuntime, file: &File) -> Result<(), Stopped> {
+    for change in EDITS {
+        edit(rt, file, change)?;
+        piece(rt, file, change)?;
+    }
+    ok(rt, "ok of a file", file)
+}
+
+fn ask_broken(rt: &HostRuntime, broken: &File) -> Result<(), Stopped> {
+    errors(rt, "errors", broken)?;
+    dump(rt, broken)?;
+    ok(rt, "ok of a broken file", broken)
 }
 
 pub fn ask(rt: &HostRuntime) -> Result<(), Stopped> {
-    let (file, first) = parsed(rt.alloc(), TEXT)?;
-    say(
-        rt,
-        "parse",
-        first,
-        true,
-        file.syntax_node().text_range().len().raw(),
-    )?;
-    let (broken, first) = parsed(rt.alloc(), BROKEN)?;
-    say(
-        rt,
-        "parse",
-        first,
-        true,
-        broken.syntax_node().text_range().len().raw(),
-    )?;
-    errors(rt, "errors", &broken)?;
-    dump(rt, &broken)?;
-    for change in EDITS {
-        edit(rt, &file, change)?;
-        piece(rt, &file, change)?;
-    }
-    ok(rt, "ok of a file", &file)?;
-    ok(rt, "ok of a broken file", &broken)
+    ask_file(rt, &parsed(rt, TEXT)?)?;
+    ask_broken(rt, &parsed(rt, BROKEN)?)
 }

@@ -4,7 +4,7 @@ use crate::samples::{ATTRIBUTE, ESCAPED, Event, NUMBER, SLICE, SUM, built};
 use ra_ap_syntax::ast::ValueError;
 use ra_ap_syntax::ast::prec::needless_parens;
 use ra_ap_syntax::{AstNode, AstToken, Edition, SyntaxKind, SyntaxNode, SyntaxToken, ast};
-use std::alloc::Global;
+use std::alloc::{AllocError, Global};
 use tiny_front::Tiny;
 
 const PAIRS: &str = "((a)) + (b * c)";
@@ -14,29 +14,49 @@ fn sample(alloc: Global, events: &[Event]) -> Result<SyntaxNode, Stopped> {
     Ok(root)
 }
 
-fn trees(rt: &HostRuntime) -> Result<(), Stopped> {
-    let alloc = rt.alloc();
-    let root = sample(alloc, &SUM)?;
-    let before = root.clone()?;
-    let (copy, first) = crate::asked!("clone_subtree", root.clone_subtree(alloc));
-    say(rt, "clone_subtree", first, root == before, copy.text())?;
-    let operand = root.first_child().ok_or(Stopped::Other("first_child"))?;
-    let (new, first) = crate::asked!("replace_with", operand.replace_with(alloc, &root));
-    say(rt, "replace_with", first, root == before, new.text())?;
-    let token = root.first_token().ok_or(Stopped::Other("first_token"))?;
-    let (new, first) = crate::asked!(
-        "replace_with of a token",
-        token.replace_with(alloc, SyntaxKind::INT_NUMBER, "23")
-    );
-    say(
-        rt,
-        "replace_with of a token",
-        first,
-        root == before,
-        new.text(),
-    )?;
-    let (dump, first) = crate::asked!("dump", root.dump(alloc));
+// Each call of a tree's root; `before` is a second cursor at it.
+type Asked<'a> = (&'a SyntaxNode, &'a SyntaxNode);
+
+fn copy(rt: &HostRuntime, (root, before): Asked) -> Result<(), Stopped> {
+    let (copy, first) = crate::asked!("clone_subtree", root.clone_subtree(rt.alloc()));
+    say(rt, "clone_subtree", first, root == before, copy.as_str())
+}
+
+fn replace(rt: &HostRuntime, (root, before): Asked, operand: &SyntaxNode) -> Result<(), Stopped> {
+    let (new, first) = crate::asked!("replace_with", operand.replace_with(rt.alloc(), root));
+    say(rt, "replace_with", first, root == before, new.as_str())
+}
+
+fn replace_token(
+    rt: &HostRuntime,
+    (root, before): Asked,
+    token: &SyntaxToken,
+) -> Result<(), Stopped> {
+    let name = "replace_with of a token";
+    let kind = SyntaxKind::INT_NUMBER;
+    let (new, first) = crate::asked!(name, token.replace_with(rt.alloc(), kind, "23"));
+    say(rt, name, first, root == before, new.as_str())
+}
+
+fn dump(rt: &HostRuntime, (root, before): Asked) -> Result<(), Stopped> {
+    let (dump, first) = crate::asked!("dump", root.dump(rt.alloc()));
     say(rt, "dump", first, root == before, dump.len())
+}
+
+fn trees(rt: &HostRuntime, root: &SyntaxNode, before: &SyntaxNode) -> Result<(), Stopped> {
+    copy(rt, (root, before))?;
+    match root.first_child() {
+        Some(operand) => replace(rt, (root, before), &operand)?,
+        None => return Err(Stopped::Other("first_child")),
+    }
+    replace_token(rt, (root, before), &token(root)?)?;
+    dump(rt, (root, before))
+}
+
+fn sum(rt: &HostRuntime) -> Result<(), Stopped> {
+    let root = sample(rt.alloc(), &SUM)?;
+    let before = root.clone()?;
+    trees(rt, &root, &before)
 }
 
 fn token(root: &SyntaxNode) -> Result<SyntaxToken, Stopped> {
@@ -49,48 +69,72 @@ fn is_value(alloc: Global, string: &ast::String, wanted: &str) -> Result<bool, V
     Ok(value.as_str() == wanted)
 }
 
-fn value(rt: &HostRuntime) -> Result<(), Stopped> {
-    let token = token(&sample(rt.alloc(), &ESCAPED)?)?;
-    let escaped = ast::String::cast(token).ok_or(Stopped::Other("cast"))?;
-    let (same, first) = crate::asked!("value", is_value(rt.alloc(), &escaped, "abcde"));
+fn value(rt: &HostRuntime, escaped: &ast::String) -> Result<(), Stopped> {
+    let (same, first) = crate::asked!("value", is_value(rt.alloc(), escaped, "abcde"));
     let stands = escaped.text() == "\"\\x61bcde\"";
     say(rt, "value", first, stands, same)
 }
 
-fn value_string(rt: &HostRuntime) -> Result<(), Stopped> {
-    let token = token(&sample(rt.alloc(), &NUMBER)?)?;
-    let number = ast::IntNumber::cast(token).ok_or(Stopped::Other("cast"))?;
+fn value_string(rt: &HostRuntime, number: &ast::IntNumber) -> Result<(), Stopped> {
     let (digits, first) = crate::asked!("value_string", number.value_string(rt.alloc()));
     let stands = number.text() == "1_000u8";
     say(rt, "value_string", first, stands, digits.as_str())
 }
 
+fn values(rt: &HostRuntime) -> Result<(), Stopped> {
+    match ast::String::cast(token(&sample(rt.alloc(), &ESCAPED)?)?) {
+        Some(escaped) => value(rt, &escaped)?,
+        None => return Err(Stopped::Other("cast")),
+    }
+    match ast::IntNumber::cast(token(&sample(rt.alloc(), &NUMBER)?)?) {
+        Some(number) => value_string(rt, &number),
+        None => Err(Stopped::Other("cast")),
+    }
+}
+
+// How many metas a `cfg_attr` opens to.
+fn opened(alloc: Global, meta: &ast::Meta) -> Result<usize, AllocError> {
+    let metas = meta.clone()?.skip_cfg_attrs(alloc)?;
+    Ok(metas.len())
+}
+
+fn meta(rt: &HostRuntime, meta: &ast::Meta) -> Result<(), Stopped> {
+    let (count, first) = crate::asked!("skip_cfg_attrs", opened(rt.alloc(), meta));
+    let stands = meta.syntax().as_str() == "pab";
+    say(rt, "skip_cfg_attrs", first, stands, count)
+}
+
+// How many patterns stand before and behind the rest.
+fn around(alloc: Global, slice: &ast::SlicePat) -> Result<usize, AllocError> {
+    let parts = slice.components(alloc)?;
+    Ok(parts.prefix.len().wrapping_add(parts.suffix.len()))
+}
+
+fn slice(rt: &HostRuntime, slice: &ast::SlicePat) -> Result<(), Stopped> {
+    let (count, first) = crate::asked!("components", around(rt.alloc(), slice));
+    let stands = slice.syntax().as_str() == "a..b";
+    say(rt, "components", first, stands, count)
+}
+
 fn accessors(rt: &HostRuntime) -> Result<(), Stopped> {
-    let alloc = rt.alloc();
-    let meta = ast::Meta::cast(sample(alloc, &ATTRIBUTE)?).ok_or(Stopped::Other("cast"))?;
-    let (metas, first) = crate::asked!("skip_cfg_attrs", meta.clone()?.skip_cfg_attrs(alloc));
-    say(
-        rt,
-        "skip_cfg_attrs",
-        first,
-        meta.syntax().as_str() == "pab",
-        metas.len(),
-    )?;
-    let slice = ast::SlicePat::cast(sample(alloc, &SLICE)?).ok_or(Stopped::Other("cast"))?;
-    let (parts, first) = crate::asked!("components", slice.components(alloc));
-    let count = parts.prefix.len().wrapping_add(parts.suffix.len());
-    say(
-        rt,
-        "components",
-        first,
-        slice.syntax().as_str() == "a..b",
-        count,
-    )
+    match ast::Meta::cast(sample(rt.alloc(), &ATTRIBUTE)?) {
+        Some(it) => meta(rt, &it)?,
+        None => return Err(Stopped::Other("cast")),
+    }
+    match ast::SlicePat::cast(sample(rt.alloc(), &SLICE)?) {
+        Some(it) => slice(rt, &it),
+        None => Err(Stopped::Other("cast")),
+    }
+}
+
+// How many pairs may go.
+fn needless(alloc: Global, expr: &ast::Expr) -> Result<usize, AllocError> {
+    let pairs = needless_parens(alloc, expr)?;
+    Ok(pairs.map_or(0, |pairs| pairs.len()))
 }
 
 fn pairs(rt: &HostRuntime, expr: &ast::Expr) -> Result<(), Stopped> {
-    let (pairs, first) = crate::asked!("needless_parens", needless_parens(rt.alloc(), expr));
-    let count = pairs.map_or(0, |pairs| pairs.len());
+    let (count, first) = crate::asked!("needless_parens", needless(rt.alloc(), expr));
     let stands = expr.syntax().as_str() == PAIRS;
     say(rt, "needless_parens", first, stands, count)
 }
@@ -108,9 +152,8 @@ fn parentheses(rt: &HostRuntime) -> Result<(), Stopped> {
 }
 
 pub fn ask(rt: &HostRuntime) -> Result<(), Stopped> {
-    trees(rt)?;
-    value(rt)?;
-    value_string(rt)?;
+    sum(rt)?;
+    values(rt)?;
     accessors(rt)?;
     parentheses(rt)
 }
