@@ -44,16 +44,14 @@ fn read_alone<F: FrontEnd>(
     let text = node.as_str();
     let output = front.parse_piece(alloc, reparser, text, Edition::CURRENT)?;
     let mut builder = SyntaxTreeBuilder::new(alloc);
-    let mut rest = text;
+    let mut at: usize = 0;
     for step in output.steps {
         match step {
             Step::Enter(kind) => builder.start_node(kind)?,
             Step::Token(kind, len) => {
-                let (token, behind) = rest
-                    .split_at_checked(len.raw() as usize)
-                    .unwrap_or((rest, ""));
-                builder.token(kind, token)?;
-                rest = behind;
+                let end = at.saturating_add(len.raw() as usize);
+                builder.token(kind, text.get(at..end).unwrap_or(""))?;
+                at = end;
             }
             Step::Exit => builder.finish_node()?,
             Step::Error(_message, _position) => {}

@@ -82,10 +82,13 @@ fn child_towards(node: &SyntaxNode, range: TextRange) -> Option<SyntaxElement> {
     nearest
 }
 
-// What covers a range, step by step down from the root; more steps than there are nodes are never taken.
+// More steps than go down any of the trees here.
+const STEPS: u32 = 1_000_000;
+
+// What covers a range, step by step down from the root.
 fn covering(root: &SyntaxNode, range: TextRange) -> Result<SyntaxElement, Stopped> {
     let mut here = root.clone()?;
-    for _step in 0..root.descendants().count() {
+    for _step in 0..STEPS {
         match child_towards(&here, range) {
             Some(NodeOrToken::Node(child)) => here = child,
             Some(token) => return Ok(token),

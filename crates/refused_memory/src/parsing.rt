@@ -1,6 +1,6 @@
 //! Parses, their errors, and edits of them.
 use crate::asking::{First, Stopped, say};
-use ra_ap_syntax::{Edition, OkError, Parse, SourceFile, TextRange, TextSize};
+use ra_ap_syntax::{Edition, OkError, Parse, ParseError, SourceFile, TextRange, TextSize};
 use std::alloc::Global;
 use tiny_front::Tiny;
 
@@ -12,46 +12,54 @@ const TEXT: &str = "fn foo() { 1 + 1 }\n";
 
 const BROKEN: &str = "fn f() { 1 +";
 
-fn range(start: u32, end: u32) -> TextRange {
-    let (start, end) = (TextSize::new(start), TextSize::new(end));
-    if start <= end {
-        TextRange::new(start, end)
-    } else {
-        TextRange::empty(start)
-    }
-}
-
 // An edit of the name, of a token in the block, and of what stands before all.
-const EDITS: [(&str, u32, u32, &str); 3] = [
+const EDITS: [Edit; 3] = [
     ("reparse of a token", 3, 6, "main"),
     ("reparse of a block", 11, 12, "2 *"),
     ("reparse of all", 0, 0, "fn g() {}\n"),
 ];
 
-fn edit(rt: &HostRuntime, old: &File, edit: (&'static str, u32, u32, &str)) -> Result<(), Stopped> {
-    let (name, start, end, insert) = edit;
-    let before = old.clone()?;
-    let (new, first) = crate::asked!(
-        name,
-        old.reparse(rt.alloc(), &Tiny, range(start, end), insert, NOW)
-    );
-    let len = new.syntax_node().text_range().len().raw();
-    say(rt, name, first, *old == before, len)
+// The first byte that goes, the byte behind the last one, and what comes in their place, with a name in front.
+type Edit = (&'static str, u32, u32, &'static str);
+
+// The file after an edit; `None` where the text has no such range.
+fn edited(alloc: Global, old: &File, edit: Edit) -> Result<Option<File>, ParseError> {
+    let (_, start, end, insert) = edit;
+    let root = old.syntax_node();
+    let (text, from, to) = (root.as_str(), start as usize, end as usize);
+    if start > end || !text.is_char_boundary(from) || !text.is_char_boundary(to) {
+        return Ok(None);
+    }
+    let delete = TextRange::new(TextSize::new(start), TextSize::new(end));
+    Ok(Some(old.reparse(alloc, &Tiny, delete, insert, NOW)?))
 }
 
-fn piece(
-    rt: &HostRuntime,
-    old: &File,
-    edit: (&'static str, u32, u32, &str),
-) -> Result<(), Stopped> {
+// What is read anew, where that is a piece.
+fn replaced(alloc: Global, old: &File, edit: Edit) -> Result<Option<TextRange>, ParseError> {
     let (_, start, end, insert) = edit;
+    let root = old.syntax_node();
+    let (text, from, to) = (root.as_str(), start as usize, end as usize);
+    if start > end || !text.is_char_boundary(from) || !text.is_char_boundary(to) {
+        return Ok(None);
+    }
+    let delete = TextRange::new(TextSize::new(start), TextSize::new(end));
+    let piece = old.incremental_reparse(alloc, &Tiny, delete, insert, NOW)?;
+    Ok(piece.map(|(_, range)| range))
+}
+
+fn edit(rt: &HostRuntime, old: &File, edit: Edit) -> Result<(), Stopped> {
     let before = old.clone()?;
-    let (new, first) = crate::asked!(
-        "incremental_reparse",
-        old.incremental_reparse(rt.alloc(), &Tiny, range(start, end), insert, NOW)
-    );
-    let replaced = new.map_or(range(0, 0), |(_, replaced)| replaced);
-    say(rt, "incremental_reparse", first, *old == before, replaced)
+    let (new, first) = crate::asked!(edit.0, edited(rt.alloc(), old, edit));
+    let len = new.map_or(0, |file| file.syntax_node().text_range().len().raw());
+    say(rt, edit.0, first, *old == before, len)
+}
+
+fn piece(rt: &HostRuntime, old: &File, edit: Edit) -> Result<(), Stopped> {
+    let before = old.clone()?;
+    let (range, first) = crate::asked!("incremental_reparse", replaced(rt.alloc(), old, edit));
+    let nothing = TextRange::empty(TextSize::new(0));
+    let range = range.unwrap_or(nothing);
+    say(rt, "incremental_reparse", first, *old == before, range)
 }
 
 fn errors(rt: &HostRuntime, name: &'static str, parse: &File) -> Result<(), Stopped> {
