@@ -27,7 +27,9 @@ fn tokens_touching(root: &SyntaxNode, offset: u32) -> Result<Touching, Stopped> 
         if let NodeOrToken::Token(token) = element {
             let range = token.text_range();
             if !range.is_empty() && range.start().raw() <= offset && offset <= range.end().raw() {
-                found.above = found.above.saturating_add(token.parent_ancestors().count());
+                for _node in token.parent_ancestors() {
+                    found.above = found.above.saturating_add(1);
+                }
                 if found.first.is_none() {
                     found.first = Some(token.clone()?);
                 }
