@@ -17,6 +17,14 @@ struct Touching {
     above: usize,
 }
 
+fn nodes_above(token: &SyntaxToken) -> usize {
+    let mut count = 0_usize;
+    for _node in token.parent_ancestors() {
+        count = count.saturating_add(1);
+    }
+    count
+}
+
 fn tokens_touching(root: &SyntaxNode, offset: u32) -> Result<Touching, Stopped> {
     let mut found = Touching {
         first: None,
@@ -27,9 +35,7 @@ fn tokens_touching(root: &SyntaxNode, offset: u32) -> Result<Touching, Stopped> 
         if let NodeOrToken::Token(token) = element {
             let range = token.text_range();
             if !range.is_empty() && range.start().raw() <= offset && offset <= range.end().raw() {
-                for _node in token.parent_ancestors() {
-                    found.above = found.above.saturating_add(1);
-                }
+                found.above = found.above.saturating_add(nodes_above(&token));
                 if found.first.is_none() {
                     found.first = Some(token.clone()?);
                 }
