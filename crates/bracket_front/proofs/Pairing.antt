@@ -2,7 +2,7 @@
 use Rattle.std.proofs.Common.{◌≡◌, ℕ, zero, suc, ◌+◌, List, refl, add-one}
 use Rattle.std.specs.Prelude.{slice_get, []}
 use Rattle.token_layout.specs.declared.span.Token.{Token}
-use Rattle.bracket_front.specs.Front.{pairs_of, met_at}
+use Rattle.bracket_front.specs.Pairing.{pairs_of, met_at}
 
 pub pairs-none : (ts : List Token) → pairs_of 0 ts ≡ record { starts = []; closed = [] }
 unfolding pairs_of

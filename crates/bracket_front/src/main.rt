@@ -5,12 +5,13 @@ mod brackets;
 
 use brackets::Brackets;
 use ra_ap_syntax::{Edition, SourceFile};
+use span_front::SpanFront;
 use std::io;
 
 fn main(rt: HostRuntime) -> io::Result<()> {
     let input = io::read_to_string(rt.alloc(), rt.reader())?;
-    let text = input.as_str();
-    let Ok(parse) = SourceFile::parse(rt.alloc(), text, &Brackets, Edition::CURRENT) else {
+    let (text, front) = (input.as_str(), SpanFront { nodes: Brackets });
+    let Ok(parse) = SourceFile::parse(rt.alloc(), text, &front, Edition::CURRENT) else {
         return println!(rt; "the text is too long, or memory ran out");
     };
     match parse.debug_dump(rt.alloc()) {

@@ -1,9 +1,10 @@
-//! An editor's loop: applies edits to a text, one after another, and says for each which range was read anew.
+//! An editor's loop: applies edits to a text, and says for each which range was read anew, and to standard error in what time.
 #![tactic(auto)]
 
 use ra_ap_syntax::{Edition, Parse, ParseError, SourceFile, TextRange, TextSize};
 use std::alloc::Global;
 use std::io;
+use std::time::Instant;
 use tiny_front::Tiny;
 
 type File = Parse<SourceFile>;
@@ -31,18 +32,15 @@ fn edit(alloc: Global, old: &File, edit: Edit) -> Result<Option<(File, TextRange
 }
 
 fn apply(rt: &HostRuntime, old: File, change: Edit) -> io::Result<File> {
-    let Ok(edited) = edit(rt.alloc(), &old, change) else {
-        println!(rt; "out of memory")?;
+    let begun = Instant::now(rt)?;
+    let Ok(Some((new, range))) = edit(rt.alloc(), &old, change) else {
+        println!(rt; "{change:?} is no edit of the text, or memory ran out")?;
         return Ok(old);
     };
-    let Some((new, range)) = edited else {
-        println!(rt; "{}..{} is no range of the text", change.0, change.1)?;
-        return Ok(old);
-    };
-    println!(rt;
-        "{}..{} by {:?}: {range} read anew",
-        change.0, change.1, change.2
-    )?;
+    let took = Instant::now(rt)?.duration_since(begun).as_nanos();
+    let (start, end, insert) = change;
+    println!(rt; "{start}..{end} by {insert:?}: {range} read anew")?;
+    eprintln!(rt; "in {took} ns")?;
     Ok(new)
 }
 

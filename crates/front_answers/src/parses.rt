@@ -47,6 +47,7 @@ fn show_tree<T: AstNode + Drop>(out: &mut String, parse: &Parse<T>) -> Result<()
     )?)
 }
 
+/// Prints the tree of a file, its errors, and what `tree`, `cast` and `ok` answer.
 pub fn show_file<F: FrontEnd>(
     alloc: Global,
     out: &mut String,
@@ -59,6 +60,7 @@ pub fn show_file<F: FrontEnd>(
     show_ok(alloc, out, parse)
 }
 
+/// Prints the tree of an expression, its errors, and what `tree`, `cast` and `ok` answer.
 pub fn show_expr<F: FrontEnd>(
     alloc: Global,
     out: &mut String,

@@ -40,6 +40,7 @@ fn show_function(out: &mut String, function: &ast::Fn) -> Result<(), Stopped> {
     Ok(())
 }
 
+/// Prints each function of a file: its name, its tail, and what stands round the tail.
 pub fn show_walk(alloc: Global, out: &mut String, text: &str) -> Result<(), Stopped> {
     let parse = SourceFile::parse(alloc, text, &Tiny, Edition::CURRENT)?;
     if let Some(file) = parse.tree() {

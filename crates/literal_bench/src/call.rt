@@ -24,6 +24,7 @@ fn units(content: &str) -> usize {
 }
 
 impl Call {
+    /// Its name in the table.
     pub fn name(self) -> &'static str {
         match self {
             Call::StringValue => "string_value",

@@ -12,6 +12,7 @@ pub enum Content {
 }
 
 impl Content {
+    /// Its name in the table.
     pub fn name(self) -> &'static str {
         match self {
             Content::Plain => "plain",

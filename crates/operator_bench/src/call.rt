@@ -11,6 +11,7 @@ pub enum Call {
 }
 
 impl Call {
+    /// Its name in the table.
     pub fn name(self) -> &'static str {
         match self {
             Call::ReadsBack => "reads_back",
@@ -18,7 +19,7 @@ impl Call {
         }
     }
 
-    // Calls it, and says how many pairs were found, or 1 where the expression reads back.
+    /// Calls it, and says how many pairs were found, or 1 where the expression reads back.
     pub fn run(self, alloc: Global, expr: &ast::Expr) -> Result<usize, AllocError> {
         match self {
             Call::ReadsBack => Ok((reads_back(expr) == Some(true)) as usize),

@@ -13,6 +13,7 @@ pub enum Shape {
 }
 
 impl Shape {
+    /// Its name in the table.
     pub fn name(self) -> &'static str {
         match self {
             Shape::Flat => "flat (`a + a + ..`)",

@@ -1,4 +1,4 @@
-//! A linter: prints where each needless pair of parentheses of an expression stands, and the text without the first pair.
+//! A linter: prints where each needless pair of parentheses of an expression stands, and the text with blanks for the first pair.
 #![tactic(auto)]
 
 use ra_ap_syntax::ast::prec::needless_parens;
@@ -8,35 +8,21 @@ use std::fmt::Write;
 use std::io;
 use tiny_front::Tiny;
 
-// Puts a text behind another, with a blank between where their tokens might else become one.
-fn join(out: &mut String, text: &str) -> Result<(), AllocError> {
-    let apart = |byte: &u8| b" \n\t()[],".contains(byte);
-    if !out.as_bytes().last().is_none_or(apart) && !text.as_bytes().first().is_none_or(apart) {
-        out.push(' ')?;
-    }
-    out.push_str(text)
-}
-
-// The text without a pair: what stands before it, in it and behind it.
-fn without(alloc: Global, text: &str, pair: &ast::ParenExpr) -> Result<String, AllocError> {
-    let range = pair.syntax().text_range();
-    let mut out = String::new(alloc);
-    out.push_str(text.get(..range.start().raw() as usize).unwrap_or(""))?;
-    if let Some(inside) = pair.expr() {
-        join(&mut out, inside.syntax().as_str())?;
-    }
+// What stands before a pair, in it and behind it.
+fn parts<'a>(text: &'a str, pair: &'a ast::ParenExpr) -> (&'a str, &'a str, &'a str) {
+    let (range, shown) = (pair.syntax().text_range(), pair.syntax().as_str());
+    let before = text.get(..range.start().raw() as usize).unwrap_or("");
+    let inside = shown.get(1..shown.len().saturating_sub(1)).unwrap_or("");
     let behind = text.get(range.end().raw() as usize..).unwrap_or("");
-    join(&mut out, behind)?;
-    Ok(out)
+    (before, inside, behind)
 }
 
 // The line on a pair.
 fn name(out: &mut String, text: &str, pair: &ast::ParenExpr) -> Result<(), AllocError> {
-    let (start, shown) = (pair.syntax().text_range().start(), pair.syntax().as_str());
-    let before = text.get(..start.raw() as usize).unwrap_or("");
+    let (before, _, _) = parts(text, pair);
     let line = before.split('\n').count();
     let last = before.rsplit('\n').next().unwrap_or("").chars();
-    let column = last.count().saturating_add(1);
+    let (column, shown) = (last.count().saturating_add(1), pair.syntax().as_str());
     writeln!(out, "{line}:{column}: {shown} needs no parentheses")
 }
 
@@ -47,8 +33,8 @@ fn report(alloc: Global, text: &str, expr: &ast::Expr) -> Result<String, AllocEr
         name(&mut out, text, pair)?;
     }
     if let Some(first) = pairs.as_slice().first() {
-        out.push_str("without the first:\n")?;
-        out.push_str(without(alloc, text, first)?.as_str())?;
+        let (before, inside, behind) = parts(text, first);
+        write!(out, "without the first:\n{before} {inside} {behind}")?;
     }
     Ok(out)
 }
@@ -64,6 +50,6 @@ fn main(rt: HostRuntime) -> io::Result<()> {
     let input = io::read_to_string(rt.alloc(), rt.reader())?;
     match lint(rt.alloc(), input.as_str()) {
         Ok(report) => print!(rt; "{report}"),
-        Err(_) => println!(rt; "the text is too long"),
+        Err(_) => println!(rt; "the text is too long, or memory ran out"),
     }
 }

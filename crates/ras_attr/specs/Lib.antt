@@ -1,3 +1,1 @@
 pub mod Attrs
-pub mod Metas
-pub mod TokenTrees

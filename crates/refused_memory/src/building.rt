@@ -201,6 +201,7 @@ fn name(alloc: Global) -> Result<SyntaxNode, Stopped> {
     Ok(builder.finish()?)
 }
 
+/// Asks each call that builds a tree, and again where memory was refused.
 pub fn ask(rt: &HostRuntime) -> Result<(), Stopped> {
     for text in TEXTS {
         rebuild(rt, &parsed(rt.alloc(), text)?)?;

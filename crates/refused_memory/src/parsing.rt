@@ -133,6 +133,7 @@ fn ask_broken(rt: &HostRuntime, broken: &File) -> Result<(), Stopped> {
     ok(rt, "ok of a broken file", broken)
 }
 
+/// Asks each call that parses, and again where memory was refused.
 pub fn ask(rt: &HostRuntime) -> Result<(), Stopped> {
     ask_file(rt, &parsed(rt, TEXT)?)?;
     ask_broken(rt, &parsed(rt, BROKEN)?)

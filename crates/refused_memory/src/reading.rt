@@ -151,6 +151,7 @@ fn parentheses(rt: &HostRuntime) -> Result<(), Stopped> {
     }
 }
 
+/// Asks each call that makes a new tree, a value or a list, and again where memory was refused.
 pub fn ask(rt: &HostRuntime) -> Result<(), Stopped> {
     sum(rt)?;
     values(rt)?;

@@ -6,6 +6,7 @@ use ra_ap_syntax::ast::{
 };
 use std::alloc::AllocError;
 
+/// Prints what the accessors of attributes, documentation comments and token trees that are no plain lookups answer of a node.
 pub fn answers(sheet: &mut Sheet, node: &SyntaxNode) -> Result<(), AllocError> {
     meta(sheet, node)?;
     meta_words(sheet, node)?;

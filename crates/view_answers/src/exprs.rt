@@ -4,6 +4,7 @@ use ra_ap_syntax::ast::{self, AstNode, BinaryOp, RangeItem, cast_ref};
 use ra_ap_syntax::{SyntaxNode, SyntaxToken};
 use std::alloc::AllocError;
 
+/// Prints what the accessors of expressions that are no plain lookups answer of a node.
 pub fn answers(sheet: &mut Sheet, node: &SyntaxNode) -> Result<(), AllocError> {
     expr(sheet, node)?;
     branches(sheet, node)?;

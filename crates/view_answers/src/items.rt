@@ -4,6 +4,7 @@ use ra_ap_syntax::SyntaxNode;
 use ra_ap_syntax::ast::{self, AstNode, StructKind, TypeBoundKind, VisibilityKind, cast_ref};
 use std::alloc::AllocError;
 
+/// Prints what the accessors of items, patterns and types that are no plain lookups answer of a node.
 pub fn answers(sheet: &mut Sheet, node: &SyntaxNode) -> Result<(), AllocError> {
     macros(sheet, node)?;
     impls(sheet, node)?;

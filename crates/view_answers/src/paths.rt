@@ -4,6 +4,7 @@ use ra_ap_syntax::SyntaxNode;
 use ra_ap_syntax::ast::{self, AstNode, NameLike, NameOrNameRef, PathSegmentKind, cast_ref};
 use std::alloc::AllocError;
 
+/// Prints what the accessors of names, paths and imports that are no plain lookups answer of a node.
 pub fn answers(sheet: &mut Sheet, node: &SyntaxNode) -> Result<(), AllocError> {
     names(sheet, node)?;
     name_ref(sheet, node)?;

@@ -4,6 +4,7 @@ use ra_ap_syntax::SyntaxNode;
 use ra_ap_syntax::ast::{self, cast_ref, prec};
 use std::alloc::AllocError;
 
+/// Prints what the rules over nodes answer of a node.
 pub fn answers(sheet: &mut Sheet, node: &SyntaxNode) -> Result<(), AllocError> {
     if let Some(it) = cast_ref::<ast::Expr>(node) {
         expr(sheet, node, &it)?;

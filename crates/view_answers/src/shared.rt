@@ -7,6 +7,7 @@ use ra_ap_syntax::ast::{
 };
 use std::alloc::AllocError;
 
+/// Prints what the lookups that several types share answer of a node.
 pub fn answers(sheet: &mut Sheet, node: &SyntaxNode) -> Result<(), AllocError> {
     names(sheet, node)?;
     names_from_self_param(sheet, node)?;

@@ -4,6 +4,7 @@ use ra_ap_syntax::SyntaxNode;
 use ra_ap_syntax::ast::{self, AstNode, cast_ref};
 use std::alloc::AllocError;
 
+/// Prints what the plain lookups of attributes, documentation comments, names and paths answer of a node.
 pub fn answers(sheet: &mut Sheet, node: &SyntaxNode) -> Result<(), AllocError> {
     from_attr(sheet, node)?;
     from_use_tree_list(sheet, node)

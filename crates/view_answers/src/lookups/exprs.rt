@@ -4,6 +4,7 @@ use ra_ap_syntax::SyntaxNode;
 use ra_ap_syntax::ast::{self, AstNode, cast_ref};
 use std::alloc::AllocError;
 
+/// Prints what the plain lookups of expressions and what stands in them answer of a node.
 pub fn answers(sheet: &mut Sheet, node: &SyntaxNode) -> Result<(), AllocError> {
     from_arg_list(sheet, node)?;
     from_index_expr(sheet, node)?;

@@ -5,7 +5,7 @@ ghost use Rattle.tree_model.specs.Cursor.{focus, children_of, parent_of};
 ghost use Rattle.lossless_tree.specs.Element.{element_of};
 ghost use Rattle.lossless_tree.specs.Trees.{child_text};
 ghost use Rattle.ras_attr.specs.Attrs.{is_inner};
-ghost use Rattle.ras_attr.specs.TokenTrees.{trees_and_tokens};
+ghost use Rattle.ras_meta.specs.TokenTrees.{trees_and_tokens};
 ghost use Rattle.ras_node.specs.Lookups.{IsViewOf, view_in};
 ghost use Rattle.ra_ap_syntax.specs.NodeParts.{left_delimiter, right_delimiter, is_opening, is_closing};
 ghost use Rattle.ra_ap_syntax.specs.NodeParts.{has_token, if_in};
@@ -24,10 +24,10 @@ pub type AttrsWithDoc = ras_attr::AttrsWithDoc<AnyAttr>;
 pub type AttrsIter = ras_attr::AttrsIter<AnyAttr, ast::Attr>;
 
 /// The token trees and tokens in a token tree, without its delimiters, white space and comments, in order.
-pub type TokenTreeChildren = ras_attr::TokenTreeChildren<ast::TokenTree>;
+pub type TokenTreeChildren = ras_meta::TokenTreeChildren<ast::TokenTree>;
 
 /// All token trees and tokens among the children of a token tree, in order.
-pub type TokenTreesAndTokens = ras_attr::TokenTreesAndTokens<ast::TokenTree>;
+pub type TokenTreesAndTokens = ras_meta::TokenTreesAndTokens<ast::TokenTree>;
 
 fn kind_by(inner: bool) -> AttrKind
     ensures { result ≡ kind_by inner }
