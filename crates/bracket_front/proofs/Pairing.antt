@@ -1,5 +1,5 @@
 -- The brackets of the first tokens, token by token.
-use Rattle.std.proofs.Common.{◌≡◌, ℕ, zero, suc, ◌+◌, List, refl, add-one}
+use Rattle.std.proofs.Common.{◌≡◌, ℕ, suc, ◌+◌, List, refl, add-one}
 use Rattle.std.specs.Prelude.{slice_get, []}
 use Rattle.token_layout.specs.declared.span.Token.{Token}
 use Rattle.bracket_front.specs.Pairing.{pairs_of, met_at}

@@ -1,6 +1,6 @@
 //! Words in round brackets: each pair of brackets is a node. A bracket without a partner is a token like any other.
-ghost use Rattle.std.specs.Prelude.{◌≡◌, ◌<◌, ◌-◌, ◌^◌, length, IfOk, OnOk, slice_get};
-ghost use Rattle.bracket_front.specs.Pairing.{pairing_of, started, closed_of, met_at, pairs_of};
+ghost use Rattle.std.specs.Prelude.{◌≡◌, ◌<◌, ◌-◌, ◌^◌, OnOk, slice_get};
+ghost use Rattle.bracket_front.specs.Pairing.{pairing_of, started, closed_of, met_at};
 
 use span_front::Spans;
 use std::alloc::{AllocError, Global};
