@@ -18,7 +18,7 @@ use Rattle.operator_terms.specs.Powers.{Powers, like_postfix}
 use Rattle.operator_trees.specs.declared.form.Form.{Form}
 use Rattle.operator_trees.specs.declared.form.Form.TheVariants as form
 use Rattle.operator_trees.specs.Before.{stands_before}
-use Rattle.operator_trees.specs.Shown.{meaning, IsTerm, is_right, term_of}
+use Rattle.operator_trees.specs.Shown.{meaning, IsTerm, is_right}
 use Rattle.operator_trees.specs.Leaves.{leaves_of, leaves_behind}
 use Rattle.operator_trees.proofs.Inversion.{no}
 use Rattle.operator_trees.proofs.Tokens.{tokens-shown}
@@ -36,7 +36,8 @@ use Rattle.operator_walks.specs.Inside.{has_exterior_record, has_let}
 use Rattle.operator_walks.specs.Parts.{is_and, range_ends_in_block}
 use Rattle.operator_walks.specs.declared.inside.Sought.TheVariants.{Record, Let}
 use Rattle.paren_rules.specs.Order.{powers_of, other_powers, order_of, start_of, other_operator, keyword, stands_before_in}
-use Rattle.paren_rules.specs.Rules.{is_called_field, is_cut_by_block, is_jump, is_before_logic, is_before_angle, kind_from, kind_next, goes_on_as_type, binds_less, asks_in_expr, asks_in_statement, is_statement, asks}
+use Rattle.paren_rules.specs.Rules.{is_called_field, is_cut_by_block, is_jump, is_before_logic, is_before_angle, kind_from, kind_next, binds_less, asks_in_expr, asks_in_statement, is_statement, asks}
+use Rattle.paren_rules.proofs.CastEdge.{cast_names_agree}
 use Rattle.paren_rules.proofs.KindFacts.{valueless, bare, jumps, expr_of_form, no_expr, no_statement}
 use Rattle.paren_rules.proofs.Nothing.{no_block_at_end, none_sought}
 
@@ -136,9 +137,6 @@ not_cut own s self =
     ∙ ap (λ b. b || has_exterior_record own) (no_block_at_end own (right_term (focus own) s self))
     ∙ none_sought Record own (right_term (focus own) s self)
 
-type_goes_on : (own : Cursor) (s : Term) → meaning (focus own) ≡ IsTerm s → goes_on_as_type own ≡ ends_in_cast (leaves_of (focus own))
-type_goes_on own s self = ap (λ m. if is_some (term_of m) then ends_in_cast (leaves_of (focus own)) else ends_in_cast_name own) self
-
 powers_so : (c : Cursor) → is_foreign (form_at c) ≡ false → powers_of c ≡ form_powers (form_at c) (forest_of_children (focus c)) (range_start c)
 powers_so c h = ap (λ b. if b then other_powers (kind_at c) else form_powers (form_at c) (forest_of_children (focus c)) (range_start c)) h
 
@@ -205,9 +203,9 @@ asked_by_operators own parent place s u self shows at holder =
     ap (λ b. if not b then false else (if is_expr (kind_at parent) then asks_in_expr own parent place else is_statement (kind_at parent) && asks_in_statement own parent)) (above parent place at)
     ∙ ap (λ b. if b then asks_in_expr own parent place else is_statement (kind_at parent) && asks_in_statement own parent) (expr_of_form (kind_at parent) holder)
     ∙ settled (is_called_field own parent) (is_followed_by_block parent) (is_cut_by_block own) (is_valueless own) (like_postfix (powers_of parent)) (is_jump (precedence_of own)) (is_before_logic (kind_next parent place))
-    (is_before_angle (kind_next parent place)) (goes_on_as_type own) (is_and parent) (has_let own) (binds_less own parent place)
+    (is_before_angle (kind_next parent place)) (ends_in_cast_name own) (is_and parent) (has_let own) (binds_less own parent place)
     (not_cut own s self) (valueless (kind_at own) own f) (jumps (kind_at own) own f) (none_sought Let own (right_term (focus own) s self))
-    ∙ ap (λ b. (b && is_before_angle (kind_next parent place)) || (if is_called_field own parent then true else binds_less own parent place)) (type_goes_on own s self)
+    ∙ ap (λ b. (b && is_before_angle (kind_next parent place)) || (if is_called_field own parent then true else binds_less own parent place)) (cast_names_agree own s self)
     ∙ ap (λ b. (ends_in_cast (leaves_of (focus own)) && b) || (if is_called_field own parent then true else binds_less own parent place)) (angle_next parent place u shows at)
     ∙ ap (λ b. (ends_in_cast (leaves_of (focus own)) && begins_with_angle (leaves_behind place.tree place.place)) || b) (powers_ask own parent place f g.0)
     ∙ ap (λ b. cond b false (operators_ask own parent place (begins_with_angle (leaves_behind place.tree place.place)))) (sym g.1)

@@ -52,7 +52,8 @@ one_cursor kinds x l = by (at_token x)
     by true = inside (kinds (kind_at x))
     by false = refl
 
-abbrev child_cursors : Cursor → ℕ → ℕ → List Cursor
+-- n children of a node, from number k on
+abbrev pub child_cursors : Cursor → ℕ → ℕ → List Cursor
 child_cursors d k n = map (at_place d) (map (λ i. d.place ++ i ∷ []) (range_with_len k n))
 
 kind_found : (kinds : SyntaxKind → Bool) (d : Cursor) (k : ℕ) (c : Forest) → ((j : ℕ) → focus (at_place d (d.place ++ (k + j) ∷ [])) ≡ child_at c j)

@@ -8,16 +8,13 @@ use Rattle.syntax_kind.specs.declared.syntax_kind.SyntaxKind.{SyntaxKind}
 use Rattle.syntax_kind.specs.declared.syntax_kind.SyntaxKind.TheVariants.{Node, Token}
 use Rattle.syntax_kind.specs.declared.syntax_kind.node_kind.NodeKind.TheVariants as kind
 use Rattle.syntax_kind.specs.declared.syntax_kind.token_kind.TokenKind.TheVariants as token
-use Rattle.tree_model.specs.Cursor.{Cursor, focus, at_token, children_of, descendants_of}
+use Rattle.tree_model.specs.Cursor.{Cursor, at_token, children_of, descendants_of}
 use Rattle.ras_node.specs.Nodes.{kind_at, is_of_kind, typed_child}
 use Rattle.ras_node.specs.PartSets.{is_binary_operator}
 use Rattle.ras_node.specs.Searches.{first_token}
 use Rattle.ras_node.specs.Sets.{is_expr, is_stmt}
-use Rattle.operator_terms.specs.Places.{ends_in_cast}
 use Rattle.operator_terms.specs.Powers.{like_postfix}
 use Rattle.operator_terms.specs.Reading.{is_angle}
-use Rattle.operator_trees.specs.Leaves.{leaves_of}
-use Rattle.operator_trees.specs.Shown.{shown}
 use Rattle.operator_powers.specs.Rules.{by_power, form_at, is_call_form, is_field_form}
 use Rattle.operator_places.specs.Next.{kind_behind}
 use Rattle.operator_pairs.specs.Pairs as pairs
@@ -71,11 +68,6 @@ abbrev pub is_before_angle : Option SyntaxKind → Bool
 is_before_angle None = false
 is_before_angle (Some k) = is_angle k
 
--- It ends in the name of a cast's type, which `<` and `<<` would go on with: of an operator tree its last two tokens tell that,
--- `as` and a name.
-abbrev pub goes_on_as_type : Cursor → Bool
-goes_on_as_type c = if is_some (shown (focus c)) then ends_in_cast (leaves_of (focus c)) else ends_in_cast_name c
-
 -- by the powers of the two
 abbrev pub binds_less : (own parent place : Cursor) → Bool
 binds_less own parent place = by_power (powers_of own) (powers_of parent) (stands_before_in own parent place)
@@ -90,7 +82,7 @@ asks_in_expr own parent place =
     else (if is_followed_by_block parent && is_cut_by_block own then true
     else (if is_valueless own && like_postfix (powers_of parent) then false
     else (if is_jump (precedence_of own) && is_before_logic (kind_next parent place) then true
-    else (if is_before_angle (kind_next parent place) && goes_on_as_type own then true
+    else (if is_before_angle (kind_next parent place) && ends_in_cast_name own then true
     else (if is_and parent && has_let own then false
     else binds_less own parent place)))))
 

@@ -2,10 +2,13 @@
 ghost use Rattle.std.specs.Prelude.{◌≡◌, Some, true};
 ghost use Rattle.tree_model.specs.Cursor.{Cursor, focus, parent_of};
 ghost use Rattle.operator_terms.specs.Term.{Term};
+ghost use Rattle.operator_terms.specs.Places.{ends_in_cast};
 ghost use Rattle.operator_terms.specs.Precedence.{precedence};
+ghost use Rattle.operator_trees.specs.Leaves.{leaves_of};
 ghost use Rattle.operator_trees.specs.Shown.{meaning, IsTerm};
 ghost use Rattle.operator_powers.specs.Rules.{form_at, is_term_form, is_arguments};
 ghost use Rattle.operator_precedence.specs.Levels.{as_precedence, precedence_of};
+ghost use Rattle.operator_walks.specs.CastName.{ends_in_cast_name};
 ghost use Rattle.paren_rules.specs.Rules.{asks, asks_by_operators};
 
 /// Of what shows a term, asked in place of what shows one, below its own parent, an expression of an operator tree or a list of
@@ -14,6 +17,11 @@ pub fn operator_trees_are_asked_by_operators()
     ensures expression { (own parent place : Cursor) (s u : Term) → meaning (focus own) ≡ IsTerm s → meaning (focus place) ≡ IsTerm u → parent_of place ≡ Some parent
         → is_term_form (form_at parent) ≡ true → asks own parent place ≡ asks_by_operators own parent place }
     ensures arguments { (own parent place : Cursor) → is_arguments (form_at parent) ≡ true → asks own parent place ≡ asks_by_operators own parent place }
+{}
+
+/// What shows a term ends in the name of a cast's type exactly where its last two tokens, trivia left out, are `as` and a name.
+pub fn operator_trees_end_in_casts_by_two_tokens()
+    ensures { (c : Cursor) (t : Term) → meaning (focus c) ≡ IsTerm t → ends_in_cast_name c ≡ ends_in_cast (leaves_of (focus c)) }
 {}
 
 /// What shows a term has the term's precedence.

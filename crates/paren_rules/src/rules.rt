@@ -14,17 +14,16 @@ ghost use Rattle.operator_precedence.specs.declared.level.ExprPrecedence.{ExprPr
 ghost use Rattle.ras_node.specs.Nodes.{kind_at, typed_child};
 ghost use Rattle.ras_node.specs.Searches.{first_token};
 ghost use Rattle.ras_node.specs.PartSets.{is_binary_operator};
-ghost use Rattle.paren_rules.specs.Rules.{is_called_field, is_bare_jump, is_cut_by_block, is_jump, is_logic, kind_from, kind_next, is_before_logic, goes_on_as_type, is_before_angle, binds_less, asks_in_expr, is_let_else_part, is_let_else, is_logic_token, is_logic_expr, asks_in_statement, is_statement, asks};
+ghost use Rattle.paren_rules.specs.Rules.{is_called_field, is_bare_jump, is_cut_by_block, is_jump, is_logic, kind_from, kind_next, is_before_logic, is_before_angle, binds_less, asks_in_expr, is_let_else_part, is_let_else, is_logic_token, is_logic_expr, asks_in_statement, is_statement, asks};
 
 use crate::order::{powers_of, stands_before_in};
 use lossless_tree::{NodeOrToken, SyntaxKind, SyntaxNode, SyntaxToken};
 use operator_places::behind::kind_behind;
-use operator_powers::edge::{edge_of, is_angle};
+use operator_powers::edge::is_angle;
 use operator_powers::node::{is_call_form, is_field_form};
 use operator_powers::powers::{Strength, by_power};
 use operator_precedence::ExprPrecedence;
 use operator_precedence::node::{is_ret_like_with_no_value, precedence_of};
-use operator_reads::reads::reads_back;
 use operator_trees::form_of;
 use operator_walks::above::{child_toward, is_at_or_above, is_followed_by_block};
 use operator_walks::along::{begins_with_block, ends_in_brace};
@@ -106,16 +105,6 @@ fn is_before_angle(parent: &SyntaxNode, place: &SyntaxNode) -> bool
     }
 }
 
-// `<` and `<<` behind it would go on with the type of a cast. Of an operator tree its last two tokens tell.
-fn goes_on_as_type(own: &SyntaxNode) -> bool
-    ensures { result ≡ goes_on_as_type own.now }
-{
-    match reads_back(own) {
-        Some(_reads) => edge_of(own).ends,
-        None => ends_in_cast_name(own),
-    }
-}
-
 fn is_like_postfix(powers: Strength) -> bool
     ensures { result ≡ like_postfix (pow powers.left powers.right) }
 {
@@ -148,7 +137,7 @@ fn asks_in_expr(own: &SyntaxNode, parent: &SyntaxNode, place: &SyntaxNode) -> bo
     if is_jump(precedence_of(own)) && is_before_logic(parent, place) {
         return true;
     }
-    if is_before_angle(parent, place) && goes_on_as_type(own) {
+    if is_before_angle(parent, place) && ends_in_cast_name(own) {
         return true;
     }
     if is_and(parent) && has_let(own) {
