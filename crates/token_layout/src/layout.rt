@@ -5,7 +5,7 @@ ghost use Rattle.token_layout.specs.Layout.{laying_of, enters_of, exits_of, ente
 ghost use Rattle.token_layout.specs.Laid.{IsCut, Laid};
 
 use crate::span::{Span, Token};
-use crate::steps::{Mark, rooted};
+use crate::steps::{add, rooted};
 use ras_front_end::Step;
 use std::alloc::{AllocError, Global};
 use syntax_kind::SyntaxKind;
@@ -16,13 +16,13 @@ fn token_at(tokens: &[Token], i: usize) -> Option<Token>
     tokens.get(i).copied()
 }
 
-// The marks of the tokens from `before` on, last first; `open` are nodes that end there and don't begin there.
+// The steps of the tokens from `before` on, last first; `open` are nodes that end there and don't begin there.
 #[derive(Drop)]
 pub struct Layout {
     pub before: usize,
     pub left: Vec<Span>,
     pub open: Vec<Span>,
-    pub marks: Vec<Mark>,
+    pub steps: Vec<Step>,
 }
 
 impl Layout {
@@ -49,10 +49,7 @@ impl Layout {
     {
         match self.open.pop() {
             None => Ok(()),
-            Some(span) => {
-                self.marks.push(Mark::Enter(span.kind))?;
-                Ok(())
-            }
+            Some(span) => add(&mut self.steps, Step::Enter(span.kind)),
         }
     }
 
@@ -63,8 +60,7 @@ impl Layout {
             None => Ok(()),
             Some(span) => {
                 self.open.push(span)?;
-                self.marks.push(Mark::Exit)?;
-                Ok(())
+                add(&mut self.steps, Step::Exit)
             }
         }
     }
@@ -72,10 +68,10 @@ impl Layout {
     fn emit(&mut self, token: Option<Token>) -> Result<(), AllocError>
         ensures { OnOk result (laying_of self.new ≡ emit_of token (laying_of self.old)) }
     {
-        if let Some(token) = token {
-            self.marks.push(Mark::Token(token.kind, token.len))?;
+        match token {
+            None => Ok(()),
+            Some(token) => add(&mut self.steps, Step::Token(token.kind, token.len)),
         }
-        Ok(())
     }
 
     fn token(&mut self, tokens: &[Token]) -> Result<(), AllocError>
@@ -111,7 +107,8 @@ fn lay(alloc: Global, tokens: &[Token], spans: Vec<Span>) -> Result<Layout, Allo
         before: tokens.len(),
         left: spans,
         open: Vec::new(alloc),
-        marks: Vec::new(alloc),
+        // all of them, and the two of the root
+        steps: Vec::with_capacity(alloc, limit.saturating_add(2))?,
     };
     for i in 0..limit {
         layout.back(tokens)?;
@@ -128,7 +125,7 @@ fn steps(
     ensures { IfOk result (λ v. front_steps v.items ≡ steps_of root tokens.now spans.items) }
 {
     let layout = lay(alloc, tokens, spans)?;
-    rooted(alloc, root, layout.marks)
+    rooted(root, layout.steps)
 }
 
 /// The steps of one node of the kind `root` over all tokens, and in it of the nodes of `spans`.
