@@ -13,7 +13,10 @@ pub use tree_model::laws::{
     every_is_descendants, nodes_are_accepted, places_are_reached, places_end_within, refusals_hold,
     replaced_text, root_is_place, text_around_a_place, texts_are_built,
 };
-pub use tree_rows::laws::{at_most_two_tokens, covering_holds, pointers_resolve};
+pub use tree_rows::laws::{
+    at_most_two_tokens, covering_holds, parents_stand_around, pointers_resolve,
+    siblings_stand_behind, tokens_stand_together,
+};
 
 /// A node's place is one of its tree's and holds a node; the tree's root is a node, and its text is UTF-8 of fewer than
 /// 2^32 bytes.

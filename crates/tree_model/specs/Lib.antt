@@ -13,3 +13,4 @@ pub mod Scan
 pub mod Equality
 pub mod EqualityLaws
 pub mod CursorLaws
+pub mod Neighbours

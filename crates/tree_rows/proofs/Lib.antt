@@ -21,3 +21,4 @@ pub mod ChildLists
 pub mod TableLemmas
 pub mod WalkLemmas
 pub mod WalkSteps
+pub mod Neighbours

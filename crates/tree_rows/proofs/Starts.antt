@@ -1,15 +1,16 @@
 -- The starts of rows: they don't decrease with the row number, and a subtree's rows lie within its text.
-use Rattle.std.proofs.Common.{◌≡◌, ℕ, suc, List, ◌+◌, ◌-◌, ◌<◌, ◌≤◌, ◌∷◌, ◌++◌, length, refl, sym, ap, ◌∙◌, arith, get_or, take, drop, true, false, []}
+use Rattle.std.proofs.Common.{◌≡◌, inl, inr, ℕ, suc, List, ◌+◌, ◌-◌, ◌<◌, ◌≤◌, ◌∷◌, ◌++◌, length, refl, sym, ap, ◌∙◌, arith, get_or, take, drop, true, false, []}
 use Rattle.std.specs.Prelude.{nat_lt}
 use Rattle.std.specs.List.Sorted.{IsPartitionedBy, IsPartitionPoint}
 use Rattle.std.proofs.lemmas.List.{get_or-take, get_or-drop, get_or_default, length-take, length-drop}
 use Rattle.tree_rows.specs.declared.rows.Row.{Row}
 use Rattle.tree_rows.specs.Rows.{rows_of, no_row}
-use Rattle.tree_rows.specs.RowSearch.{SplitsAt}
+use Rattle.tree_rows.specs.RowSearch.{SplitsAt, IsNarrowed}
+use Rattle.tree_rows.specs.declared.table.narrow.Stretch.{Stretch}
 use Rattle.tree_model.specs.Tree.{Tree, node, token, nil, cons, size}
 use Rattle.tree_model.specs.Rows.{tree_at, start_at, end_at, place_at}
 use Rattle.tree_rows.specs.Rows.{row_at}
-use Rattle.tree_model.proofs.At.{At, here, lift, At-fits, some_row, forest_size-cons}
+use Rattle.tree_model.proofs.At.{At, here, lift, At-fits, some_row, forest_size-cons, below_or_after}
 use Rattle.tree_rows.proofs.At.{length-rows_of}
 use Rattle.tree_model.proofs.TableLemmas.{at_row}
 use Rattle.tree_rows.proofs.TableLemmas.{next_start_at}
@@ -87,3 +88,57 @@ splits_at whole from to offset i h fits le w =
           let is = row_in_part whole from to (k - from) no_row h fits (omega arith) in
           omega (arith, is, ap (start_at whole) e, fails _ offset (w.1 (k - from) no_row (omega arith) (omega (arith, len))));
     }
+
+-- ---- guesses
+
+-- row k, in the stretch, starts before the offset, so do those before it
+pub starts_before : (whole : Tree) (s : Stretch) (offset k : ℕ) → s.low ≤ k → k < s.high → s.high ≤ size whole → start_at whole k < offset
+    → (i : ℕ) → s.low ≤ i → i < k + 1 → start_at whole i < offset
+starts_before whole s offset k low high fits lt i from to = omega (arith, lt, starts_rise whole i k (omega (arith, to)) (omega (arith, high, fits)))
+
+pub starts_behind : (whole : Tree) (s : Stretch) (offset k : ℕ) → s.low ≤ k → k < s.high → s.high ≤ size whole → offset ≤ start_at whole k
+    → (i : ℕ) → k ≤ i → i < s.high → offset ≤ start_at whole i
+starts_behind whole s offset k low high fits le i from to = omega (arith, le, starts_rise whole k i from (omega (arith, to, fits)))
+
+pub kept_before : (whole : Tree) (s : Stretch) (offset k : ℕ) → s.low ≤ k → k < s.high → s.high ≤ size whole → offset ≤ start_at whole k
+    → IsNarrowed whole s offset (record { low = s.low; high = k })
+kept_before whole s offset k low high fits le = record {
+  begun = omega arith;
+  ordered = low;
+  within = omega (arith, high);
+  before = λ i a b. absurd (omega (arith, a, b));
+  behind = starts_behind whole s offset k low high fits le;
+}
+
+pub kept_behind : (whole : Tree) (s : Stretch) (offset k : ℕ) → s.low ≤ k → k < s.high → s.high ≤ size whole → start_at whole k < offset
+    → IsNarrowed whole s offset (record { low = k + 1; high = s.high })
+kept_behind whole s offset k low high fits lt = record {
+  begun = omega (arith, low);
+  ordered = omega (arith, high);
+  within = omega arith;
+  before = starts_before whole s offset k low high fits lt;
+  behind = λ i a b. absurd (omega (arith, a, b));
+}
+
+pub kept_between : (whole : Tree) (s : Stretch) (offset j k : ℕ) → s.low ≤ j → j ≤ k → k < s.high → s.high ≤ size whole → start_at whole j < offset → offset ≤ start_at whole k
+    → IsNarrowed whole s offset (record { low = j + 1; high = k })
+kept_between whole s offset j k low order high fits lt le =
+    let apart : j + 1 ≤ k = elim (below_or_after j k) [
+      | inl less ↦ omega (arith, less)
+      | inr same ↦ omega (arith, lt, le, starts_rise whole k j (omega (arith, same.1)) (omega (arith, order, high, fits)))
+    ] in
+    record {
+      begun = omega (arith, low);
+      ordered = apart;
+      within = omega (arith, high);
+      before = starts_before whole s offset j low (omega (arith, order, high)) fits lt;
+      behind = starts_behind whole s offset k (omega (arith, low, order)) high fits le;
+    }
+
+pub split_near : (whole : Tree) (s t : Stretch) (offset i : ℕ) → IsNarrowed whole s offset t → SplitsAt whole t.low t.high offset i → SplitsAt whole s.low s.high offset i
+split_near whole s t offset i a w = record {
+  begun = omega (arith, a.begun, w.begun);
+  within = omega (arith, a.within, w.within);
+  before = λ k from lt. elim (below_or_after k t.low) [ inl early ↦ a.before k from early | inr late ↦ w.before k (omega (arith, late.1)) lt ];
+  behind = λ k from lt. elim (below_or_after k t.high) [ inl early ↦ w.behind k from early | inr late ↦ a.behind k (omega (arith, late.1)) lt ];
+}

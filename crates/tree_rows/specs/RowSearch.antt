@@ -3,6 +3,7 @@ use Rattle.std.specs.Prelude.{◌≡◌, ℕ, suc, ◌<◌, ◌≤◌, Option, S
 use Rattle.text_size.specs.TextRange.{Bounds}
 use Rattle.tree_model.specs.Tree.{Tree, IsNode, IsToken, forest_of_children}
 use Rattle.tree_model.specs.Rows.{start_at, end_at, tree_at, IsRow}
+use Rattle.tree_rows.specs.declared.table.narrow.Stretch.{Stretch}
 use Rattle.tree_model.specs.Cursor.{cursor_at}
 use Rattle.tree_model.specs.Covering.{child_ranges, holds, covering_of}
 
@@ -12,6 +13,14 @@ pub record SplitsAt (tree : Tree) (from to offset i : ℕ) : Type 0 where
   pub within : i ≤ to
   pub before : (k : ℕ) → from ≤ k → k < i → start_at tree k < offset
   pub behind : (k : ℕ) → i ≤ k → k < to → offset ≤ start_at tree k
+
+-- the first row that starts at the offset or behind it is in the stretch near, or right behind it, if it is so with whole
+pub record IsNarrowed (tree : Tree) (whole : Stretch) (offset : ℕ) (near : Stretch) : Type 0 where
+  pub begun : whole.low ≤ near.low
+  pub ordered : near.low ≤ near.high
+  pub within : near.high ≤ whole.high
+  pub before : (k : ℕ) → whole.low ≤ k → k < near.low → start_at tree k < offset
+  pub behind : (k : ℕ) → near.high ≤ k → k < whole.high → offset ≤ start_at tree k
 
 -- the last row before `to`, if it is not before `from` and its text ends at the offset or behind it
 abbrev pub Reaching : Tree → ℕ → ℕ → ℕ → Option ℕ → Type 0

@@ -1,6 +1,7 @@
 //! Laws of the definitions that contracts on trees cite, which are proved by rows. The functions do nothing: the contract
 //! is the law.
 ghost use Rattle.tree_model.specs.Covering.{CoveringHolds};
+ghost use Rattle.tree_model.specs.Neighbours.{TokensStandTogether, ParentsStandAround, SiblingsStandBehind};
 ghost use Rattle.tree_model.specs.Pointer.{PointersResolve};
 ghost use Rattle.tree_model.specs.TokenSearch.{AtMostTwo};
 ghost use Rattle.tree_rows.specs.RowSteps.{ParentsAreNearest};
@@ -24,4 +25,19 @@ pub fn covering_holds()
 /// The parent of a row is the nearest earlier row whose subtree reaches past it.
 pub fn parents_are_nearest()
     ensures { ParentsAreNearest }
+{}
+
+/// The tokens of a node are those among its descendants, and they stand one behind the other among all tokens.
+pub fn tokens_stand_together()
+    ensures { TokensStandTogether }
+{}
+
+/// In preorder the parent of a place is the nearest earlier one whose subtree reaches past it, and no other is.
+pub fn parents_stand_around()
+    ensures { ParentsStandAround }
+{}
+
+/// In preorder the next sibling is the first place behind the subtree, if that is still below the parent.
+pub fn siblings_stand_behind()
+    ensures { SiblingsStandBehind }
 {}

@@ -5,6 +5,7 @@ ghost use Rattle.tree_model.specs.Rows.{tree_at, start_at, end_at, place_at};
 ghost use Rattle.tree_rows.specs.Rows.{row_at, tree_of_rows, Represents};
 
 mod edit;
+mod narrow;
 mod search;
 mod steps;
 mod walk;

@@ -1,4 +1,4 @@
-//! Searches of rows by offset: the starts of rows don't decrease with their numbers, so they go by halves.
+//! Searches of rows by offset: the starts of rows don't decrease with their numbers, so they go by halves, after a guess.
 ghost use Rattle.std.specs.Prelude.{◌≡◌, ◌+◌, ◌≤◌, ◌<◌, ◌^◌, ◌++◌, nat_lt, length, map, option_map, IfSome, IsTrue, ◌↔◌};
 ghost use Rattle.std.specs.Option.{option_to_list};
 ghost use Rattle.tree_model.specs.Tree.{nil, cons, size};
@@ -11,6 +11,7 @@ ghost use Rattle.tree_model.specs.Pointer.{IsFirst, PointsTo};
 ghost use Rattle.tree_model.specs.TokenSearch.{tokens_at};
 
 use super::Table;
+use super::narrow::Stretch;
 use syntax_kind::SyntaxKind;
 use text_size::TextRange;
 
@@ -21,7 +22,14 @@ impl Table {
         requires in_range { to ≤ size self.now }
         ensures { SplitsAt self.now from to offset result }
     {
-        from + self.rows.count_before(from, to, offset)
+        let near = self.narrowed(
+            Stretch {
+                low: from,
+                high: to,
+            },
+            offset,
+        );
+        near.low + self.rows.count_before(near.low, near.high, offset)
     }
 
     /// The tokens in the subtree at row `n` that have a text and touch the offset: one that starts before it, and one
