@@ -11,7 +11,7 @@ use Rattle.operator_walks.specs.declared.along.Toward.{Toward}
 use Rattle.operator_walks.specs.declared.along.Meant.{Meant}
 use Rattle.operator_walks.specs.declared.along.Meant.TheVariants.{First, Second, BehindDots}
 use Rattle.operator_walks.specs.declared.along.Turn.TheVariants.{Answer, Past, Into}
-use Rattle.operator_walks.specs.Along.{is_found, goes_on, operand, past_token, turn_at, reaches}
+use Rattle.operator_walks.specs.Turns.{is_found, goes_on, operand, past_token, turn_at, reaches}
 use Rattle.operator_walks.specs.Parts.{second_of}
 
 first_listed : (cs : List Cursor) → second_of true cs ≡ slice_get (filter (has_kind_in is_expr) cs) 0

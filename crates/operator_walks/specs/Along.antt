@@ -1,20 +1,18 @@
--- Walks along one operand after the other: to what an expression begins with, and to what it ends with.
+-- Along one operand after the other: what an expression begins with, and what it ends with.
 -- (Upstream: `needs_parens_in_stmt` and `trailing_brace` in `ast::prec` of rust-analyzer's `syntax`.)
-use Rattle.std.specs.Prelude.{Bool, true, false, ◌&&◌, ◌||◌, if◌then◌else◌}
+use Rattle.std.specs.Prelude.{Bool, true, false, ◌&&◌, ◌||◌, Option, None, Some, if◌then◌else◌}
 use Rattle.syntax_kind.specs.declared.syntax_kind.SyntaxKind.{SyntaxKind}
 use Rattle.syntax_kind.specs.declared.syntax_kind.SyntaxKind.TheVariants.{Node}
 use Rattle.syntax_kind.specs.declared.syntax_kind.node_kind.NodeKind.TheVariants as kind
-use Rattle.tree_model.specs.Tree.{Tree, node, token, Forest, nil, cons, forest_of_children}
-use Rattle.tree_model.specs.Cursor.{Cursor, focus}
-use Rattle.ras_node.specs.Nodes.{kind_at}
+use Rattle.tree_model.specs.Tree.{Tree, node, token, Forest, nil, cons, kind_of, is_node, is_token, forest_of_children}
+use Rattle.tree_model.specs.Cursor.{Cursor, children_of, focus}
+use Rattle.ras_node.specs.Lookups.{second_typed_child}
+use Rattle.ras_node.specs.Nodes.{kind_at, typed_child}
 use Rattle.ras_node.specs.PartSets.{is_range_operator}
+use Rattle.ras_node.specs.Searches.{behind, first_node}
 use Rattle.ras_node.specs.Sets.{is_expr}
-use Rattle.operator_walks.specs.declared.along.Toward.{Toward}
-use Rattle.operator_walks.specs.declared.along.Toward.TheVariants.{Start, End, Block, Any}
 use Rattle.operator_walks.specs.declared.along.Meant.{Meant}
 use Rattle.operator_walks.specs.declared.along.Meant.TheVariants.{First, Second, BehindDots}
-use Rattle.operator_walks.specs.declared.along.Turn.{Turn}
-use Rattle.operator_walks.specs.declared.along.Turn.TheVariants.{Answer, Past, Into}
 
 -- what is a statement without `;`
 abbrev pub is_block_like : SyntaxKind → Bool
@@ -34,12 +32,6 @@ is_braced k = is_block_like k
 abbrev pub is_block : SyntaxKind → Bool
 is_block (Node kind.BLOCK_EXPR) = true
 is_block _ = false
-
-abbrev pub is_found : Toward → SyntaxKind → Bool
-is_found Start k = is_block_like k
-is_found End k = is_braced k
-is_found Block k = is_block k
-is_found Any k = true
 
 -- what begins with an operand
 abbrev pub begins_with_operand : SyntaxKind → Bool
@@ -62,52 +54,59 @@ ends_with_operand (Node kind.RANGE_EXPR) = true
 ends_with_operand (Node kind.CLOSURE_EXPR) = true
 ends_with_operand _ = false
 
-abbrev pub goes_on : Toward → SyntaxKind → Bool
-goes_on Start k = begins_with_operand k
-goes_on End k = ends_with_operand k
-goes_on Block k = false
-goes_on Any k = false
-
 -- which of its expressions it ends with
 abbrev pub last_operand : SyntaxKind → Meant
 last_operand (Node kind.BIN_EXPR) = Second
 last_operand (Node kind.RANGE_EXPR) = BehindDots
 last_operand _ = First
 
-abbrev pub operand : Toward → SyntaxKind → Meant
-operand End k = last_operand k
-operand _ k = First
+-- of a node's children, the expression that is meant: the first, the second, or the first behind `..` or `..=`
+abbrev pub meant_child : Meant → Cursor → Option Cursor
+meant_child First c = typed_child is_expr c
+meant_child Second c = second_typed_child is_expr c
+meant_child BehindDots c = first_node is_expr (behind is_range_operator (children_of c))
 
--- which expression is meant behind a token
-abbrev pub past_token : Meant → SyntaxKind → Meant
-past_token First k = First
-past_token Second k = Second
-past_token BehindDots k = if is_range_operator k then First else BehindDots
+-- there is one, and it passes
+abbrev pub passes : (Cursor → Bool) → Option Cursor → Bool
+passes test None = false
+passes test (Some c) = test c
 
--- what an expression of this kind among the children says
-abbrev pub at_expr : Toward → Meant → SyntaxKind → Turn
-at_expr w Second k = Past First
-at_expr w BehindDots k = Past BehindDots
-at_expr w First k = if is_found w k then Answer true else (if goes_on w k then Into (operand w k) else Answer false)
+-- ---- the same of the trees below a node, by their structure
 
--- what a child says
-abbrev pub turn_at : Toward → Meant → Tree → Turn
-turn_at w m (token k t) = Past (past_token m k)
-turn_at w m (node k c) = if is_expr k then at_expr w m k else Past m
+abbrev pub is_expr_tree : Tree → Bool
+is_expr_tree u = is_node u && is_expr (kind_of u)
 
--- The operand that is meant among the children is what the walk looks for; or it begins (ends) with an operand in its turn,
--- and the walk from there reaches such a one.
-abbrev pub reaches : Toward → Meant → Forest → Bool
-reaches w m nil = false
-reaches w m (cons (token k t) r) = reaches w (past_token m k) r
-reaches w First (cons (node k c) r) = if is_expr k then is_found w k || (goes_on w k && reaches w (operand w k) c) else reaches w First r
-reaches w Second (cons (node k c) r) = if is_expr k then reaches w First r else reaches w Second r
-reaches w BehindDots (cons (node k c) r) = reaches w BehindDots r
+abbrev pub is_dots : Tree → Bool
+is_dots u = is_token u && is_range_operator (kind_of u)
 
--- it begins with a block-like expression that is not the whole of it
+abbrev mutual
+  -- it is block-like, or begins with an operand that is, or that begins with one in its turn
+  pub begins : Tree → Bool
+  begins (token k t) = false
+  begins (node k c) = is_block_like k || (begins_with_operand k && first_begins c)
+
+  -- the first expression among these trees
+  pub first_begins : Forest → Bool
+  first_begins nil = false
+  first_begins (cons u r) = if is_expr_tree u then begins u else first_begins r
+
+abbrev mutual
+  -- it ends in a brace of its own, or ends with an operand that ends in a brace
+  pub ends : Tree → Bool
+  ends (token k t) = false
+  ends (node k c) = is_braced k || (ends_with_operand k && meant_ends (last_operand k) c)
+
+  -- the expression that is meant among these trees
+  pub meant_ends : Meant → Forest → Bool
+  meant_ends m nil = false
+  meant_ends First (cons u r) = if is_expr_tree u then ends u else meant_ends First r
+  meant_ends Second (cons u r) = if is_expr_tree u then meant_ends First r else meant_ends Second r
+  meant_ends BehindDots (cons u r) = if is_dots u then meant_ends First r else meant_ends BehindDots r
+
+-- It begins with an operand that is block-like, or that begins with one in its turn. As a statement it would end there.
 abbrev pub begins_with_block : Cursor → Bool
-begins_with_block c = goes_on Start (kind_at c) && reaches Start (operand Start (kind_at c)) (forest_of_children (focus c))
+begins_with_block c = begins_with_operand (kind_at c) && first_begins (forest_of_children (focus c))
 
--- it is, or ends with, an expression that ends in a brace
+-- it ends in a brace of its own, or ends with an operand that ends in a brace
 abbrev pub ends_in_brace : Cursor → Bool
-ends_in_brace c = is_found End (kind_at c) || (goes_on End (kind_at c) && reaches End (operand End (kind_at c)) (forest_of_children (focus c)))
+ends_in_brace c = is_braced (kind_at c) || (ends_with_operand (kind_at c) && meant_ends (last_operand (kind_at c)) (forest_of_children (focus c)))

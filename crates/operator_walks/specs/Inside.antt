@@ -1,15 +1,11 @@
 -- What stands in an expression outside delimiters: a record, and a `let` in a condition.
 -- (Upstream: `contains_exterior_struct_lit` and `contains_let_expr` in `ast::prec` of rust-analyzer's `syntax`.)
-use Rattle.std.specs.Prelude.{Bool, false, not, ◌&&◌, ◌||◌, List, [], ◌∷◌, Option, Some, None}
+use Rattle.std.specs.Prelude.{Bool, false, not, ◌&&◌, ◌||◌, List, [], ◌∷◌, Option, Some, None, is_some}
 use Rattle.std.specs.List.{filter}
 use Rattle.syntax_kind.specs.declared.syntax_kind.SyntaxKind.{SyntaxKind}
 use Rattle.syntax_kind.specs.declared.syntax_kind.SyntaxKind.TheVariants.{Node}
 use Rattle.syntax_kind.specs.declared.syntax_kind.node_kind.NodeKind.TheVariants as kind
-use Rattle.tree_model.specs.Tree.{forest_of_children}
-use Rattle.operator_walks.specs.Along.{reaches}
-use Rattle.operator_walks.specs.declared.along.Meant.TheVariants.{Second}
-use Rattle.operator_walks.specs.declared.along.Toward.TheVariants.{Any}
-use Rattle.tree_model.specs.Cursor.{Cursor, focus, at_node, ancestors_of, descendants_of, parent_of}
+use Rattle.tree_model.specs.Cursor.{Cursor, at_node, ancestors_of, descendants_of, parent_of}
 use Rattle.tree_model.specs.Equality.{is_same_cursor}
 use Rattle.ras_node.specs.Nodes.{kind_at, is_of_kind, typed_child}
 use Rattle.ras_node.specs.Lookups.{second_typed_child}
@@ -49,7 +45,7 @@ is_step s c (Some parent) = opens s c parent
 
 -- it has no second expression
 abbrev pub lacks_side : Cursor → Bool
-lacks_side c = not (reaches Any Second (forest_of_children (focus c)))
+lacks_side c = not (is_some (second_typed_child is_expr c))
 
 -- what is looked for: a record; a `let`, or an `&&` that lacks a side
 abbrev pub is_sought : Sought → Cursor → Bool

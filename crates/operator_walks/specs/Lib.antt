@@ -1,4 +1,5 @@
 pub mod Along
+pub mod Turns
 pub mod Parts
 pub mod Inside
 pub mod Above

@@ -3,7 +3,8 @@ ghost use Rattle.std.specs.Prelude.{◌≡◌};
 ghost use Rattle.tree_model.specs.Tree.{forest_of_children};
 ghost use Rattle.tree_model.specs.Cursor.{focus};
 ghost use Rattle.lossless_tree.specs.Trees.{first_of};
-ghost use Rattle.operator_walks.specs.Along.{is_block_like, is_found, goes_on, operand, past_token, at_expr, turn_at, reaches, begins_with_block, ends_in_brace};
+ghost use Rattle.operator_walks.specs.Along.{is_block_like, begins_with_block, ends_in_brace};
+ghost use Rattle.operator_walks.specs.Turns.{is_found, goes_on, operand, past_token, at_expr, turn_at, reaches};
 
 use lossless_tree::{SiblingsLeft, SyntaxKind, SyntaxNode};
 use ras_node::sets::{Exprs, KindSet, RangeOperators};

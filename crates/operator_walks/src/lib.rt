@@ -5,4 +5,5 @@ pub mod above;
 pub mod along;
 pub mod cast_name;
 pub mod inside;
+pub mod laws;
 pub mod parts;

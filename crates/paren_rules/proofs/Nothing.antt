@@ -11,6 +11,7 @@ use Rattle.tree_model.specs.Tree.{Tree, node, token, Forest, nil, cons, kind_of,
 use Rattle.tree_model.specs.Cursor.{Cursor, focus, at_node, ancestors_of, children_of, descendants_of}
 use Rattle.tree_model.specs.Every.{every, every_in}
 use Rattle.tree_model.proofs.EveryLaws.{every_is_descendants}
+use Rattle.ras_node.specs.Nodes.{is_of_kind}
 use Rattle.ras_node.specs.PartSets.{is_binary_operator}
 use Rattle.ras_node.specs.Searches.{first_token}
 use Rattle.ras_node.specs.Sets.{is_expr}
@@ -29,9 +30,11 @@ use Rattle.operator_walks.specs.declared.along.Meant.TheVariants.{First, Second,
 use Rattle.operator_walks.specs.declared.along.Toward.TheVariants.{Block, Any}
 use Rattle.operator_walks.specs.declared.inside.Sought.{Sought}
 use Rattle.operator_walks.specs.declared.inside.Sought.TheVariants.{Record, Let}
-use Rattle.operator_walks.specs.Along.{is_block, past_token, reaches}
+use Rattle.operator_walks.specs.Along.{is_block}
+use Rattle.operator_walks.specs.Turns.{past_token, reaches}
+use Rattle.operator_walks.proofs.Operands.{block_behind_dots, second_meant}
 use Rattle.operator_walks.specs.Inside.{holds, is_sought, leads_up}
-use Rattle.operator_walks.specs.Parts.{is_and_token, range_ends_in_block}
+use Rattle.operator_walks.specs.Parts.{is_and, is_and_token, range_ends_in_block}
 use Rattle.paren_rules.proofs.KindFacts.{other_kind, no_block, expr_of_form}
 
 right_here : Tree → Bool
@@ -77,7 +80,7 @@ and_none true b e = e
 and_none false b e = refl
 
 pub no_block_at_end : (c : Cursor) → is_right (meaning (focus c)) ≡ true → range_ends_in_block c ≡ false
-no_block_at_end c h = and_none _ _ (block_none BehindDots (forest_of_children (focus c)) (children_right (focus c) (sym (right-tree (focus c)) ∙ h)))
+no_block_at_end c h = and_none _ _ (sym (block_behind_dots c) ∙ block_none BehindDots (forest_of_children (focus c)) (children_right (focus c) (sym (right-tree (focus c)) ∙ h)))
 
 -- ---- two sides
 
@@ -178,7 +181,9 @@ sought_none s (node k c) o h n =
 
 sought_at : (s : Sought) (c : Cursor) → is_right (shape (focus c)) ≡ true → at_node c ≡ true → is_sought s c ≡ false
 sought_at Record c h n = (sought_none Record (focus c) true h n).0
-sought_at Let c h n = (sought_none Let (focus c) (is_and_token (first_token is_binary_operator (children_of c))) h n).1
+sought_at Let c h n =
+    ap (λ b. is_of_kind (Node kind.LET_EXPR) c || (is_and c && not b)) (sym (second_meant c))
+    ∙ (sought_none Let (focus c) (is_and_token (first_token is_binary_operator (children_of c))) h n).1
 
 holds_none : (s : Sought) (top : Cursor) (ds : List Cursor) → list_all (λ d. is_right (shape (focus d))) ds ≡ true → holds s top (filter at_node ds) ≡ false
 holds_none s top [] h = refl

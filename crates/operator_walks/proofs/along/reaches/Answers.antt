@@ -1,5 +1,5 @@
 use Rattle.std.proofs.Common.{ap, sym, ◌∙◌}
-use Rattle.operator_walks.specs.Along.{reaches}
+use Rattle.operator_walks.specs.Turns.{reaches}
 use Rattle.operator_walks.proofs.Steps.{into_step}
 use Rattle.operator_walks.proofs.along.reaches.Goals as goal
 

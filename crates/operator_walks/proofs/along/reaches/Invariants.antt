@@ -1,6 +1,6 @@
 use Rattle.std.proofs.Common.{◌≡◌}
 use Rattle.tree_model.specs.Tree.{forest_size}
-use Rattle.operator_walks.specs.Along.{reaches}
+use Rattle.operator_walks.specs.Turns.{reaches}
 use Rattle.operator_walks.proofs.along.reaches.Given as goal
 
 abbrev pub invariant-loop-left : goal.invariant-loop-left
