@@ -1,7 +1,8 @@
 //! The opponent of `front_bench`: a lexer and a parser of the language of `tiny_front`, in plain Rust and std alone, as they
 //! would be written by hand. The parser goes down by recursion, and builds a tree of the kind that `rowan` keeps: green nodes
 //! and tokens that are shared by `Rc`. An edit reads one token or one block anew, by the same conditions, or all; a new tree
-//! shares what did not change. With `dump` it prints the tree of its input as `run dump` does, so that the two can be compared.
+//! shares what did not change. With `dump` it prints the tree of its input as `run dump` does, so that the two can be compared;
+//! with `keep BYTES COUNT` it reads a text of so many bytes as often as is said, for others to see how much memory that takes.
 
 mod like_lexer;
 
@@ -383,24 +384,17 @@ impl<'a> Parser<'a> {
         match self.peek() {
             MINUS | STAR | BANG => {
                 self.bump();
-                let parsed = self.operand(12);
-                self.wrap(PREFIX_EXPR, first);
-                parsed
+                self.prefixed(PREFIX_EXPR, first)
             }
             AMP => {
                 self.bump();
                 if self.peek() == MUT_KW {
                     self.bump();
                 }
-                let parsed = self.operand(12);
-                self.wrap(REF_EXPR, first);
-                parsed
+                self.prefixed(REF_EXPR, first)
             }
             L_PAREN => {
-                self.bump();
-                let parsed = self.operand(0).and_then(|()| self.close(R_PAREN, "expected )"));
-                self.wrap(PAREN_EXPR, first);
-                parsed?;
+                self.enclosed(PAREN_EXPR, first, R_PAREN, "expected )")?;
                 self.postfix(first)
             }
             IDENT => {
@@ -413,6 +407,21 @@ impl<'a> Parser<'a> {
                 self.postfix(first)
             }
         }
+    }
+
+    // The operand of a prefix, and the node of both.
+    fn prefixed(&mut self, node: Kind, first: usize) -> Parsed {
+        let parsed = self.operand(12);
+        self.wrap(node, first);
+        parsed
+    }
+
+    // An expression between two brackets.
+    fn enclosed(&mut self, node: Kind, first: usize, end: Kind, message: &'static str) -> Parsed {
+        self.bump();
+        let parsed = self.operand(0).and_then(|()| self.close(end, message));
+        self.wrap(node, first);
+        parsed
     }
 
     fn close(&mut self, kind: Kind, message: &'static str) -> Parsed {
@@ -459,12 +468,7 @@ impl<'a> Parser<'a> {
                     self.wrap(CALL_EXPR, first);
                     parsed?;
                 }
-                L_BRACK => {
-                    self.bump();
-                    let parsed = self.operand(0).and_then(|()| self.close(R_BRACK, "expected ]"));
-                    self.wrap(INDEX_EXPR, first);
-                    parsed?;
-                }
+                L_BRACK => self.enclosed(INDEX_EXPR, first, R_BRACK, "expected ]")?,
                 _ => return Ok(()),
             }
         }
@@ -783,8 +787,19 @@ fn time_all() {
     time_edits("nested-1000", &deep, 0, 20);
 }
 
+// Reads a text as often as is said, and keeps all trees.
+fn keep(bytes: usize, count: usize) {
+    let text = FUNCTION.repeat(bytes / FUNCTION.len());
+    let files: Vec<File> = (0..count).map(|_| parse(&text)).collect();
+    println!("keep {} {}", text.len(), black_box(files).len());
+    // The system takes the memory back.
+    std::process::exit(0);
+}
+
 fn main() {
-    let all = || match std::env::args().nth(1).as_deref() {
+    let number = |word: usize| std::env::args().nth(word).and_then(|text| text.parse().ok()).unwrap_or(0);
+    let all = move || match std::env::args().nth(1).as_deref() {
+        Some("keep") => keep(number(2), number(3)),
         Some("dump") => {
             let mut text = String::new();
             std::io::stdin().read_to_string(&mut text).unwrap();

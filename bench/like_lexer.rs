@@ -58,24 +58,34 @@ fn word(text: &str) -> Kind {
     }
 }
 
+// What stands alone, whatever follows.
+fn single(byte: u8) -> Option<Kind> {
+    Some(match byte {
+        b';' => SEMICOLON,
+        b',' => COMMA,
+        b'(' => L_PAREN,
+        b')' => R_PAREN,
+        b'{' => L_CURLY,
+        b'}' => R_CURLY,
+        b'[' => L_BRACK,
+        b']' => R_BRACK,
+        b'@' => AT,
+        b'#' => POUND,
+        b'$' => DOLLAR,
+        b'~' => TILDE,
+        b'?' => QUESTION,
+        _ => return None,
+    })
+}
+
 fn punctuation(bytes: &[u8]) -> Option<(Kind, usize)> {
+    if let Some(kind) = single(bytes[0]) {
+        return Some((kind, 1));
+    }
     let second = bytes.get(1).copied().unwrap_or(0);
     let third = bytes.get(2).copied().unwrap_or(0);
     let with_eq = |plain, eq| if second == b'=' { (eq, 2) } else { (plain, 1) };
     Some(match bytes[0] {
-        b';' => (SEMICOLON, 1),
-        b',' => (COMMA, 1),
-        b'(' => (L_PAREN, 1),
-        b')' => (R_PAREN, 1),
-        b'{' => (L_CURLY, 1),
-        b'}' => (R_CURLY, 1),
-        b'[' => (L_BRACK, 1),
-        b']' => (R_BRACK, 1),
-        b'@' => (AT, 1),
-        b'#' => (POUND, 1),
-        b'$' => (DOLLAR, 1),
-        b'~' => (TILDE, 1),
-        b'?' => (QUESTION, 1),
         b':' => if second == b':' { (COLON2, 2) } else { (COLON, 1) },
         b'-' => if second == b'>' { (THIN_ARROW, 2) } else { with_eq(MINUS, MINUSEQ) },
         b'=' => if second == b'>' { (FAT_ARROW, 2) } else { with_eq(EQ, EQ2) },
