@@ -67,6 +67,7 @@ fn time_copy(rt: &HostRuntime, input: Input, old: &File, runs: u32) -> Result<()
     print(rt, "copy", input, root.as_str(), least)
 }
 
+/// Times a copy of a tree's text and rows, and edits of it that read one token, one block and all anew.
 pub fn time_edits(rt: &HostRuntime, input: Input, runs: u32) -> Result<(), Stopped> {
     let text = input.text(rt.alloc())?;
     let old = SourceFile::parse(rt.alloc(), text.as_str(), &Tiny, NOW)?;

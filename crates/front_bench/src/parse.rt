@@ -8,7 +8,7 @@ use tiny_front::Tiny;
 
 const NOW: Edition = Edition::CURRENT;
 
-// A line of what was measured.
+/// Prints a measure: what was done, to which text, its bytes, and the least nanoseconds.
 pub fn print(
     rt: &HostRuntime,
     name: &str,
@@ -64,6 +64,7 @@ fn dump(rt: &HostRuntime, text: &str) -> Result<u128, Stopped> {
     Ok(end.duration_since(start).as_nanos())
 }
 
+/// Times lexing, parsing, errors and the dump of a text.
 pub fn time_parse(rt: &HostRuntime, input: Input, runs: u32) -> Result<(), Stopped> {
     let text = input.text(rt.alloc())?;
     let text = text.as_str();

@@ -64,6 +64,7 @@ fn push_times(out: &mut String, text: &str, times: u32) -> Result<(), Stopped> {
 }
 
 impl Input {
+    /// The text.
     pub fn text(self, alloc: Global) -> Result<String, Stopped> {
         let mut out = String::new(alloc);
         match self {
@@ -87,7 +88,7 @@ impl Input {
         Ok(out)
     }
 
-    // Where the function that is edited begins.
+    /// Where the function begins in which is edited.
     pub fn function(self, text: &str) -> Option<usize> {
         let from = match self {
             Input::Wide(Place::Middle, _) => text.len() / 2,
