@@ -96,7 +96,10 @@ impl Input {
             Input::Wide(Place::End, _) => text.len().saturating_sub(1_200),
             _ => 0,
         };
-        let found = text.get(from..)?.find("fn ")?;
-        from.checked_add(found)
+        match text.get(from..)?.find("fn ") {
+            Some(found) => from.checked_add(found),
+            // There is one function alone.
+            None => Some(0),
+        }
     }
 }
