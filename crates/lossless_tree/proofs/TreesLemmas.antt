@@ -1,7 +1,8 @@
 -- What stands at a row and behind it, as a rest of siblings.
 use Rattle.std.proofs.Common.{◌≡◌, ℕ, zero, suc, ◌+◌, ◌-◌, ◌<◌, ◌≤◌, inl, inr, [], ◌∷◌, ◌++◌, Bool, true, false, nat_lt, leb, length, if◌then◌else◌, refl, sym, ap, subst, ◌∙◌, arith}
-use Rattle.tree_model.specs.Tree.{Tree, node, token, Forest, nil, cons, text, size, forest_size, Place, forest_of_children, start}
-use Rattle.lossless_tree.specs.Trees.{Siblings, forest_at, trees_at, IsTrees, is_done, first_of, rest_of, behind_first, inside_first}
+use Rattle.tree_model.specs.Tree.{Tree, node, token, Forest, nil, cons, text, size, forest_size, Place, forest_of_children, child_at, start}
+use Rattle.lossless_tree.specs.Trees.{Siblings, is_done, first_of, rest_of, behind_first, inside_first}
+use Rattle.lossless_tree.specs.SiblingRows.{forest_at, trees_at, IsTrees}
 use Rattle.tree_model.specs.Rows.{tree_at, place_at, start_at, end_at}
 use Rattle.tree_rows.specs.Rows.{row_at}
 use Rattle.tree_model.proofs.At.{At, cong₂, here, below, after, lift, At-fits, subtree-At, start-At, below_or_after, some_row, find, forest_size-cons}
@@ -221,3 +222,8 @@ done_seen tree row end b w =
 
     done : (m n : ℕ) → m ≤ n → leb m n ≡ true
     done m n h = grind arith
+
+-- a child behind the first, counted from there
+pub child_at_rest : (f : Forest) (n : ℕ) → is_done f ≡ false → child_at (rest_of f) n ≡ child_at f (suc n)
+child_at_rest nil n e = (let no : true ≡ false = e in cc)
+child_at_rest (cons t r) n e = refl

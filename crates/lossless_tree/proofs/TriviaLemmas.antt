@@ -7,10 +7,11 @@ use Rattle.syntax_kind.specs.Kinds.{is_trivia}
 use Rattle.tree_model.specs.Tree.{Tree, node, token, kind_of}
 use Rattle.tree_model.specs.Cursor.{Cursor, focus}
 use Rattle.lossless_tree.specs.Element.{element_of, element_by, is_trivia_element}
-use Rattle.lossless_tree.specs.Trees.{is_trivia_token, is_no_trivia}
+use Rattle.tree_model.specs.NearestToken.{is_trivia_token, is_no_trivia}
 use Rattle.lossless_tree.proofs.NodeLists.{head_of, tail_of, same_cursors}
 
-trivia_of_element : (c : Cursor) → is_trivia_element (element_of c) ≡ is_trivia_token (focus c)
+-- the test of an element is that of what stands at its cursor
+pub trivia_of_element : (c : Cursor) → is_trivia_element (element_of c) ≡ is_trivia_token (focus c)
 trivia_of_element c = here (focus c) refl
   where
     here : (t : Tree) → focus c ≡ t → is_trivia_element (element_by t c) ≡ is_trivia_token t

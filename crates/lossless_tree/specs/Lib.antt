@@ -4,9 +4,11 @@ pub use Rattle.syntax_kind.specs.Kinds
 pub use Rattle.syntax_kind.specs.KindLaws
 pub use Rattle.tree_model.specs.Tree
 pub use Rattle.tree_model.specs.Events
+pub use Rattle.tree_model.specs.Rows
 pub use Rattle.tree_model.specs.Cursor
 pub use Rattle.tree_model.specs.CursorLaws
 pub use Rattle.tree_model.specs.Neighbours
+pub use Rattle.tree_model.specs.NearestToken
 pub use Rattle.tree_model.specs.Covering
 pub use Rattle.tree_model.specs.TokenSearch
 pub use Rattle.tree_model.specs.Pointer
@@ -19,6 +21,7 @@ pub mod Element
 pub mod ElementLaws
 pub mod TokenAtOffset
 pub mod Trees
+pub mod SiblingRows
 pub mod SyntaxText
 pub mod WalkEvent
 pub mod Dump

@@ -1,12 +1,10 @@
--- Siblings that are left to read, as a forest; and trivia, which a reader may pass over.
--- (Own: what a rest of `rowan`'s children with tokens shows, as plain data. Trivia are rust-analyzer's: white space and comments.)
-use Rattle.std.specs.Prelude.{◌≡◌, ℕ, zero, suc, ◌+◌, ◌-◌, ◌<◌, ◌≤◌, List, Bool, true, false, not, length, nat_lt, if◌then◌else◌, Option, None, Some, refl}
+-- Siblings that are left to read, as a forest.
+-- (Own: what a rest of `rowan`'s children with tokens shows, as plain data.)
+use Rattle.std.specs.Prelude.{ℕ, ◌+◌, List, Bool, true, false, length, if◌then◌else◌, Option, None, Some, refl}
 use Rattle.std.specs.Coded.{Coded, code_by, coded×, coded_ℕ}
-use Rattle.syntax_kind.specs.Kinds.{is_trivia}
-use Rattle.tree_model.specs.Tree.{Tree, node, token, Forest, nil, cons, no_tree, text, forest_size, size, forest_of_children, child_at}
+use Rattle.tree_model.specs.Tree.{Tree, node, token, Forest, nil, cons, no_tree, text, forest_of_children, child_at}
 use Rattle.tree_model.specs.TreeCode.{forest_code}
-use Rattle.tree_model.specs.Cursor.{Cursor, focus}
-use Rattle.tree_model.specs.Rows.{start_at}
+use Rattle.tree_model.specs.NearestToken.{is_trivia_token}
 
 -- the siblings that are left, and the byte where the first of them starts in the whole text
 pub record Siblings : Type 0 where
@@ -36,15 +34,6 @@ behind_first s = record { trees = rest_of s.trees; start = s.start + length (tex
 abbrev pub inside_first : Siblings → Siblings
 inside_first s = record { trees = forest_of_children (first_of s.trees); start = s.start }
 
--- a token of white space or a comment
-abbrev pub is_trivia_token : Tree → Bool
-is_trivia_token (node k c) = false
-is_trivia_token (token k t) = is_trivia k
-
--- what stands at a cursor is no trivia
-abbrev pub is_no_trivia : Cursor → Bool
-is_no_trivia c = not (is_trivia_token (focus c))
-
 -- what is left from the first tree on that is no trivia
 abbrev pub past_trivia : Forest → ℕ → Siblings
 past_trivia nil b = record { trees = nil; start = b }
@@ -60,22 +49,3 @@ token_text (token k t) = Some t
 
 abbrev pub child_text : Tree → ℕ → Option (List ℕ)
 child_text t n = token_text (child_at (forest_of_children t) n)
-
--- ---- by row numbers, for the proofs
-
--- the tree at row n, and its later siblings
-abbrev pub forest_at : Forest → ℕ → Forest
-forest_at nil n = nil
-forest_at (cons t r) zero = cons t r
-forest_at (cons (token k t) r) (suc n) = forest_at r n
-forest_at (cons (node k c) r) (suc n) = if nat_lt n (forest_size c) then forest_at c n else forest_at r (n - forest_size c)
-
-abbrev pub trees_at : Tree → ℕ → ℕ → Forest
-trees_at tree row end = if nat_lt row end then forest_at (cons tree nil) row else nil
-
--- the rows from row to end are those of a rest of siblings, and the first starts at byte start
-pub record IsTrees (tree : Tree) (row end start : ℕ) : Type 0 where
-  pub ordered : row ≤ end
-  pub within : end ≤ size tree
-  pub all_of_it : row < end → row + forest_size (forest_at (cons tree nil) row) ≡ end
-  pub starts : row < end → start ≡ start_at tree row

@@ -49,6 +49,7 @@ pub(crate) fn dump(alloc: Global, table: &Table, start: usize) -> Result<String,
     requires { IsRow table.now start }
     ensures { IfOk result (λ s. string_bytes s ≡ dump_of (cursor_at table.now start)) }
 {
+    // For the proof: the number of rows fits.
     let _count = table.len();
     let mut out = String::new(alloc);
     let mut level: usize = 0;

@@ -6,6 +6,7 @@ ghost use Rattle.lossless_tree.specs.Trees.{is_done, first_of, behind_first, ins
 
 use std::marker::Model;
 use syntax_kind::SyntaxKind;
+use text_size::TextSize;
 use tree_rows::Table;
 
 /// Some children of a node that are left to read, from one on to the last: for readers that go over a tree in order and look
@@ -18,11 +19,12 @@ pub struct SiblingsLeft<'t> {
     table: &'t Table,
     row: usize,
     end: usize,
-    start: usize,
+    start: TextSize,
 }
 
 impl<'t> Model for SiblingsLeft<'t> {
-    ghost use Rattle.lossless_tree.specs.Trees.{Siblings, siblings_code, trees_at, IsTrees};
+    ghost use Rattle.lossless_tree.specs.Trees.{Siblings, siblings_code};
+    ghost use Rattle.lossless_tree.specs.SiblingRows.{trees_at, IsTrees};
 
     ghost Value = { Siblings };
 
@@ -44,7 +46,7 @@ impl<'t> SiblingsLeft<'t> {
             table,
             row: first,
             end,
-            start: table.start_at(row) as usize,
+            start: TextSize::new(table.start_at(row)),
         }
     }
 
@@ -96,9 +98,9 @@ impl<'t> SiblingsLeft<'t> {
         }
     }
 
-    /// The byte of the whole text where the first one starts; where nothing is left, where the last one ended, and where
+    /// Where the first one starts in the whole text, in bytes; where nothing is left, where the last one ended, and where
     /// there never was one, where what they would stand below starts.
-    pub fn start(&self) -> usize
+    pub fn start(&self) -> TextSize
         ensures { result ≡ self.now.start }
     {
         self.start
@@ -113,7 +115,7 @@ impl<'t> SiblingsLeft<'t> {
                 table: self.table,
                 row: self.table.row_behind(self.row),
                 end: self.end,
-                start: self.table.end_at(self.row),
+                start: TextSize::new(self.table.end_at(self.row) as u32),
             }
         } else {
             self.all()

@@ -30,9 +30,9 @@ fn asks_at(own: &SyntaxNode, parent: &SyntaxNode, place: &SyntaxNode) -> bool
     let parent_trees = parent.trees();
     let start = operator_start(own_form, &own_trees);
     let before = stands_before(
-        start.saturating_sub(own_trees.start()),
+        start.saturating_sub(own_trees.start().raw() as usize),
         own.as_str().len(),
-        place.trees().start(),
+        place.trees().start().raw() as usize,
         place.text_range().end().raw() as usize,
         operator_start(parent_form, &parent_trees),
     );

@@ -50,7 +50,7 @@ pub fn token_start(trees: &SiblingsLeft<'_>, wanted: Wanted) -> Option<(usize, S
     let mut left = trees.all();
     while !left.is_done() {
         if is_wanted(&left, wanted) {
-            return Some((left.start(), left.kind()));
+            return Some((left.start().raw() as usize, left.kind()));
         }
         left = left.rest();
     }

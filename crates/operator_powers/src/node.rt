@@ -62,7 +62,7 @@ pub fn operator_start(form: Form, trees: &SiblingsLeft<'_>) -> usize
 {
     match operator_token(form, trees) {
         Some((start, _)) => start,
-        None => trees.start(),
+        None => trees.start().raw() as usize,
     }
 }
 

@@ -10,7 +10,8 @@ use Rattle.tree_model.specs.declared.direction.Direction.TheVariants.{Prev}
 use Rattle.tree_model.specs.Tree.{Tree, node, token, Forest, nil, cons, Place, kind_of, is_token, places, places_from, subtree, child_at, no_tree}
 use Rattle.tree_model.specs.Cursor.{Cursor, focus, at_place, at_token, all_tokens}
 use Rattle.tree_model.proofs.EveryLaws.{subtree-append}
-use Rattle.ras_search.specs.Algo.{has_no_trivia_kind, tokens_beyond, tokens_from}
+use Rattle.tree_model.specs.NearestToken.{tokens_beyond}
+use Rattle.ras_search.specs.Algo.{has_no_trivia_kind, tokens_from}
 use Rattle.ras_search.proofs.TokensAround.{beyond-step}
 use Rattle.operator_walks.specs.CastName.{last_leaf}
 

@@ -70,7 +70,7 @@ fn start_of(operator: Option<SyntaxToken>, node: &SyntaxNode) -> usize
 {
     match operator {
         Some(token) => token.text_range().start().raw() as usize,
-        None => node.trees().start(),
+        None => node.trees().start().raw() as usize,
     }
 }
 
@@ -122,9 +122,9 @@ pub fn stands_before_in(own: &SyntaxNode, parent: &SyntaxNode, place: &SyntaxNod
     ensures { result ≡ stands_before_in own.now parent.now place.now }
 {
     stands_before(
-        order_of(own).saturating_sub(own.trees().start()),
+        order_of(own).saturating_sub(own.trees().start().raw() as usize),
         own.as_str().len(),
-        place.trees().start(),
+        place.trees().start().raw() as usize,
         place.text_range().end().raw() as usize,
         order_of(parent),
     )

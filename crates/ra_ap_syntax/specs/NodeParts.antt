@@ -10,7 +10,7 @@ use Rattle.syntax_kind.specs.declared.syntax_kind.token_kind.TokenKind.TheVarian
 use Rattle.tree_model.specs.Cursor.{Cursor, children_of, descendants_of, range_start, ancestors_of, at_token, first_child_of, last_child_of}
 use Rattle.tree_model.specs.Equality.{is_same_cursor}
 use Rattle.lossless_tree.specs.Element.{element_of, token_part}
-use Rattle.lossless_tree.specs.Trees.{is_no_trivia}
+use Rattle.tree_model.specs.NearestToken.{is_no_trivia}
 use Rattle.ras_node.specs.Lookups.{second_typed_child}
 use Rattle.ras_node.specs.Nodes.{kind_at, is_of_kind, has_kind_in, typed_child, typed_children, token_child}
 

@@ -188,6 +188,7 @@ fn spliced(
     ensures new { IfOk result (λ p. p ≡ record { tree = root.tree; errors = merged old.now.errors errors.items replaced (record { delete = delete; insert = insert.now }) }) }
     ensures in_text { IfOk result ErrorsLieIn }
 {
+    // Opens the range's invariant for the proof: its start isn't past its end.
     let _start = delete.start();
     let errors = merge(alloc, old.stored(), errors, replaced, delete, insert)?;
     Parse::from_parts(alloc, root, errors)

@@ -7,20 +7,14 @@ use Rattle.tree_model.specs.declared.direction.Direction.TheVariants.{Next, Prev
 use Rattle.syntax_kind.specs.Kinds.{is_trivia}
 use Rattle.tree_model.specs.Tree.{Tree, node, token, kind_of, is_node, IsNode}
 use Rattle.tree_model.specs.Cursor.{Cursor, focus, siblings_in, at_node}
-use Rattle.lossless_tree.specs.Element.{element_of, element_by, is_trivia_element}
-use Rattle.lossless_tree.specs.Trees.{is_trivia_token, is_no_trivia}
+use Rattle.lossless_tree.specs.Element.{element_of, is_trivia_element}
+use Rattle.lossless_tree.proofs.TriviaLemmas.{trivia_of_element}
+use Rattle.tree_model.specs.NearestToken.{is_trivia_token, is_no_trivia}
 use Rattle.ras_search.specs.Algo.{siblings_beyond}
 
 pub first_is_itself : (d : Direction) (c : Cursor) → siblings_in d c ≡ c ∷ siblings_beyond d c
 first_is_itself Next c = refl
 first_is_itself Prev c = refl
-
-trivia_of_element : (c : Cursor) → is_trivia_element (element_of c) ≡ is_trivia_token (focus c)
-trivia_of_element c = here (focus c) refl
-  where
-    here : (t : Tree) → focus c ≡ t → is_trivia_element (element_by t c) ≡ is_trivia_token t
-    here (node k f) e = refl
-    here (token k s) e = ap (λ t. is_trivia (kind_of t)) e
 
 pub find-elements : (l : List Cursor) → find (λ e. not (is_trivia_element e)) (map element_of l) ≡ option_map element_of (find is_no_trivia l)
 find-elements [] = refl

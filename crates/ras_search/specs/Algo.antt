@@ -2,7 +2,7 @@
 -- (Upstream: rust-analyzer's `algo`. That the left chain comes first at equal lengths is a rule of this crate.)
 use Rattle.std.specs.Prelude.{◌≡◌, ◌==◌, ℕ, Contains, List, [], ◌∷◌, ◌++◌, length, take, drop, reverse, Bool, true, false, not, nat_lt, if◌then◌else◌, Option, None, Some}
 use Rattle.std.specs.Option.{option_and_then}
-use Rattle.std.specs.List.{after_first, before_first, prefix_len, find}
+use Rattle.std.specs.List.{prefix_len, find}
 use Rattle.tree_model.specs.declared.direction.Direction.{Direction}
 use Rattle.tree_model.specs.declared.direction.Direction.TheVariants.{Next, Prev}
 use Rattle.lossless_tree.specs.declared.cursor.element.NodeOrToken.{NodeOrToken}
@@ -10,8 +10,9 @@ use Rattle.lossless_tree.specs.declared.cursor.element.NodeOrToken.TheVariants.{
 use Rattle.syntax_kind.specs.declared.syntax_kind.TheConstants.SyntaxKind.{WHITESPACE, ERROR}
 use Rattle.syntax_kind.specs.Kinds.{is_trivia}
 use Rattle.tree_model.specs.Tree.{Place, text}
-use Rattle.tree_model.specs.Cursor.{Cursor, focus, at_place, at_token, parent_of, ancestors_of, ancestors_from, following_of, preceding_of, descendants_of, all_tokens}
-use Rattle.tree_model.specs.Equality.{is_same_cursor, is_same_tree}
+use Rattle.tree_model.specs.Cursor.{Cursor, focus, at_place, at_token, parent_of, ancestors_of, ancestors_from, following_of, preceding_of, descendants_of}
+use Rattle.tree_model.specs.Equality.{is_same_tree}
+use Rattle.tree_model.specs.NearestToken.{tokens_beyond}
 use Rattle.tree_model.specs.TokenSearch.{tokens_at}
 use Rattle.ras_node.specs.Nodes.{kind_at, is_of_kind}
 
@@ -20,12 +21,7 @@ abbrev pub siblings_beyond : Direction → Cursor → List Cursor
 siblings_beyond Next c = following_of c
 siblings_beyond Prev c = preceding_of c
 
--- the tokens of the whole tree behind a token in order, or those before it, the nearest first
-abbrev pub tokens_beyond : Direction → Cursor → List Cursor
-tokens_beyond Next c = after_first (is_same_cursor c) (all_tokens c)
-tokens_beyond Prev c = reverse (before_first (is_same_cursor c) (all_tokens c))
-
--- the token, and those beyond it
+-- the token, and those of the whole tree beyond it
 abbrev pub tokens_from : Direction → Cursor → List Cursor
 tokens_from d c = c ∷ tokens_beyond d c
 

@@ -5,11 +5,11 @@ ghost use Rattle.std.specs.Iterator.{YieldsFirst, item_count};
 ghost use Rattle.std.specs.List.{filter, find, list_any};
 ghost use Rattle.tree_model.specs.declared.direction.Direction.TheVariants.{Next, Prev};
 ghost use Rattle.tree_model.specs.Cursor.{at_node, at_token, ancestors_of, children_of, descendants_of};
-ghost use Rattle.lossless_tree.specs.Element.{element_of, cursor_of, ancestors_of_element, is_trivia_element};
+ghost use Rattle.lossless_tree.specs.Element.{element_of, cursor_of, ancestors_of_element};
 ghost use Rattle.tree_model.specs.Covering.{covering_of};
-ghost use Rattle.lossless_tree.specs.Trees.{is_no_trivia};
+ghost use Rattle.tree_model.specs.NearestToken.{tokens_beyond, is_no_trivia};
 ghost use Rattle.ras_node.specs.Nodes.{has_kind_in};
-ghost use Rattle.ras_search.specs.Algo.{siblings_beyond, tokens_beyond, tokens_from, first_token_of, last_token_of, has_no_trivia_kind, is_no_whitespace, is_error, common_ancestor, common_ancestor_of_elements, ancestors_at, takes_right};
+ghost use Rattle.ras_search.specs.Algo.{siblings_beyond, tokens_from, first_token_of, last_token_of, has_no_trivia_kind, is_no_whitespace, is_error, common_ancestor, common_ancestor_of_elements, ancestors_at, takes_right};
 
 use lossless_tree::laws::node_is_placed;
 use lossless_tree::{
@@ -110,7 +110,11 @@ pub fn find_node_at_range<N: AstNode>(syntax: &SyntaxNode, range: TextRange) -> 
 pub fn skip_trivia_token(token: SyntaxToken, direction: Direction) -> Option<SyntaxToken>
     ensures { result ≡ find has_no_trivia_kind (tokens_from direction token) }
 {
-    find_non_trivia(Tokens::from(token, direction))
+    if token.kind().is_trivia() {
+        non_trivia_beyond(&token, direction)
+    } else {
+        Some(token)
+    }
 }
 
 /// The first token from this one on, itself included, in a direction, that is no `WHITESPACE`; `None` where there is none.
@@ -130,16 +134,7 @@ pub fn non_trivia_sibling(element: SyntaxElement, direction: Direction) -> Optio
     element
         .siblings_with_tokens(direction)
         .skip(1)
-        .find(|sibling| !is_trivia(sibling))
-}
-
-fn is_trivia(element: &SyntaxElement) -> bool
-    ensures { result ≡ is_trivia_element element.now }
-{
-    match element {
-        NodeOrToken::Node(_) => false,
-        NodeOrToken::Token(token) => token.kind().is_trivia(),
-    }
+        .find(|sibling| !sibling.is_trivia())
 }
 
 /// The nearest sibling node in a direction that can be viewed as `me` is; `None` where there is none. It passes over the
@@ -207,7 +202,7 @@ pub fn previous_non_trivia_token(element: SyntaxElement) -> Option<SyntaxToken>
     ensures { result ≡ option_and_then (λ first. find has_no_trivia_kind (tokens_beyond Prev first)) (first_token_of element) }
 {
     let first = first_token(element)?;
-    find_non_trivia(Tokens::beyond(&first, Direction::Prev))
+    non_trivia_beyond(&first, Direction::Prev)
 }
 
 /// The nearest token behind this node or token that is no trivia; `None` where there is none, and of a node without tokens.
@@ -216,7 +211,7 @@ pub fn next_non_trivia_token(element: SyntaxElement) -> Option<SyntaxToken>
     ensures { result ≡ option_and_then (λ last. find has_no_trivia_kind (tokens_beyond Next last)) (last_token_of element) }
 {
     let last = last_token(element)?;
-    find_non_trivia(Tokens::beyond(&last, Direction::Next))
+    non_trivia_beyond(&last, Direction::Next)
 }
 
 fn first_token(element: SyntaxElement) -> Option<SyntaxToken>
@@ -237,11 +232,13 @@ fn last_token(element: SyntaxElement) -> Option<SyntaxToken>
     }
 }
 
-fn find_non_trivia(tokens: Tokens) -> Option<SyntaxToken>
-    ensures { result ≡ find has_no_trivia_kind tokens }
+fn non_trivia_beyond(token: &SyntaxToken, direction: Direction) -> Option<SyntaxToken>
+    ensures { result ≡ find has_no_trivia_kind (tokens_beyond direction token.now) }
 {
-    let mut tokens = tokens;
-    tokens.find(|token| !token.kind().is_trivia())
+    match direction {
+        Direction::Next => token.next_token_no_trivia(),
+        Direction::Prev => token.prev_token_no_trivia(),
+    }
 }
 
 // A token and those beyond it in a direction. A clause sees the cursors that are left.

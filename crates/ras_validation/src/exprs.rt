@@ -53,10 +53,7 @@ pub fn range_without_end(range: &SyntaxNode) -> Option<TextRange>
 fn is_and(expr: &SyntaxNode) -> bool
     ensures { result ≡ is_and expr.now }
 {
-    match binary_operator(expr) {
-        Some(operator) => operator.kind() == SyntaxKind::AMP2,
-        None => false,
-    }
+    binary_operator(expr).is_some_and(|operator| operator.kind() == SyntaxKind::AMP2)
 }
 
 // What one node above a `let` says of it: whether it is part of a condition, or `None` where what is above decides.

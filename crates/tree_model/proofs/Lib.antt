@@ -10,6 +10,7 @@ pub mod EditLemmas
 pub mod EventLemmas
 pub mod EventTexts
 pub mod EveryLaws
+pub mod NearestToken
 pub mod PlaceEnds
 pub mod PlaceLemmas
 pub mod Refusals

@@ -117,9 +117,9 @@ walk_of c = map (λ w. (w.0, at_place c (c.place ++ w.1))) (walk (focus c))
 abbrev pub level_below : Cursor → Cursor → ℕ
 level_below c d = length d.place - length c.place
 
--- ---- by row numbers, for the proofs
+-- ---- by the numbers of places in preorder
 
--- the cursors at n rows from a row on
+-- the cursor at place number n; and those at n places from number a on
 abbrev pub cursor_at : Tree → ℕ → Cursor
 cursor_at tree n = record { tree = tree; place = place_at tree n }
 

@@ -14,3 +14,4 @@ pub mod Equality
 pub mod EqualityLaws
 pub mod CursorLaws
 pub mod Neighbours
+pub mod NearestToken

@@ -9,6 +9,7 @@ pub mod MovedRows
 pub mod PackedRow
 pub mod PointerLaws
 pub mod PointerLemmas
+pub mod RowLemmas
 pub mod Run
 pub mod ScanLemmas
 pub mod Starts

@@ -5,7 +5,7 @@ use Rattle.std.proofs.lemmas.Str.{IsCharBoundary-at_seam, IsUtf8-append}
 use Rattle.std.proofs.Math.Seq.{take-append_seam, drop-append_seam}
 use Rattle.tree_rows.specs.declared.rows.Row.{Row}
 use Rattle.tree_model.proofs.Texts.{next_row, split, forest_text-cons}
-use Rattle.tree_rows.specs.RowLemmas.{forest_of_rows-rows_of}
+use Rattle.tree_rows.proofs.RowLemmas.{forest_of_rows-rows_of}
 use Rattle.tree_model.specs.Tree.{Tree, node, token, nil, cons, text, forest_text, size}
 use Rattle.tree_model.specs.Rows.{tree_at, start_at, end_at, first_tree}
 use Rattle.tree_rows.specs.Rows.{row_at, row_of, rows_of, Represents, no_row, tree_of_rows, forest_of_rows}

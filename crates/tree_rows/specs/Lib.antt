@@ -5,7 +5,6 @@ pub mod RowSearch
 pub mod Walks
 pub mod Builder
 pub mod Run
-pub mod RowLemmas
 pub mod RowEquality
 pub mod RowEqualityLaws
 pub mod PackedRow

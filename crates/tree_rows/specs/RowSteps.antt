@@ -1,7 +1,9 @@
 -- What row calls on steps answer, in rows. No contract outside this crate names these.
-use Rattle.std.specs.Prelude.{◌≡◌, ℕ, ◌+◌, ◌<◌, ◌≤◌, Option, MatchOption, ◌↔◌}
+use Rattle.std.specs.Prelude.{◌≡◌, ℕ, ◌+◌, ◌-◌, ◌<◌, ◌≤◌, List, Option, MatchOption, ◌↔◌}
+use Rattle.std.specs.List.{filter}
 use Rattle.tree_model.specs.Tree.{Tree, size, IsToken, IsNode}
 use Rattle.tree_model.specs.Rows.{tree_at}
+use Rattle.tree_model.specs.Cursor.{Cursor, at_token, cursors_from}
 use Rattle.tree_rows.specs.Rows.{row_at}
 
 -- row n stands below row q
@@ -36,3 +38,7 @@ IsFirstToken tree a b r = MatchOption r (NoTokens tree a b) (λ m. (a ≤ m) × 
 
 abbrev pub IsLastToken : Tree → ℕ → ℕ → Option ℕ → Type 0
 IsLastToken tree a b r = MatchOption r (NoTokens tree a b) (λ m. (a ≤ m) × (m < b) × IsToken (tree_at tree m) × NoTokens tree (m + 1) b)
+
+-- the tokens among the rows from a to b, in order
+abbrev pub tokens_among : Tree → ℕ → ℕ → List Cursor
+tokens_among tree a b = filter at_token (cursors_from tree a (b - a))

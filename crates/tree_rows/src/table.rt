@@ -88,6 +88,16 @@ impl Table {
         self.row(n).end
     }
 
+    /// The row of the next place in preorder; behind the last place, the number of rows.
+    pub fn next_row(&self, n: usize) -> usize
+        requires { n < size self.now }
+        ensures { result ≡ n + 1 }
+    {
+        // For the proof: the number of rows fits.
+        let _count = self.len();
+        n + 1
+    }
+
     /// The rows of the places below row `n`: the first, and that behind the last.
     pub fn rows_below(&self, n: usize) -> (usize, usize)
         requires { n < size self.now }

@@ -1,13 +1,14 @@
 //! Tests of trees that name `lossless_tree` alone, in code and in clauses.
 #![tactic(auto)]
 
-ghost use Rattle.std.specs.Prelude.{◌≡◌, ◌↔◌, IfOk, IsTrue};
+ghost use Rattle.std.specs.Prelude.{◌≡◌, ◌↔◌, ◌≤◌, ◌++◌, IfOk, IsTrue, List, length};
 ghost use Rattle.std.specs.List.{filter};
 ghost use Rattle.lossless_tree.specs.Tree.{text, kind_of};
 ghost use Rattle.lossless_tree.specs.Kinds.{is_trivia};
-ghost use Rattle.lossless_tree.specs.Cursor.{focus, IsRoot, children_of, at_node};
+ghost use Rattle.lossless_tree.specs.Cursor.{Cursor, focus, range_of, IsRoot, children_of, descendants_of, all_tokens, at_node, at_token};
 ghost use Rattle.lossless_tree.specs.Element.{cursor_of};
 
+use lossless_tree::laws::{node_is_placed, places_end_within, tokens_stand_together};
 use lossless_tree::{
     FinishError, SyntaxElement, SyntaxKind, SyntaxNode, SyntaxNodeChildren, TreeBuilder,
 };
@@ -42,6 +43,22 @@ pub fn is_same_element(a: &SyntaxElement, b: &SyntaxElement) -> bool
     ensures { IsTrue result ↔ (a.now ≡ b.now) }
 {
     *a == *b
+}
+
+/// The tokens of a node stand one behind the other among those of its tree: a caller has the law from two calls.
+pub fn tokens_of_node(node: &SyntaxNode)
+    ensures { (front : List Cursor) × (back : List Cursor) × (all_tokens node.now ≡ front ++ (filter at_token (descendants_of node.now) ++ back)) }
+{
+    node_is_placed(node);
+    tokens_stand_together();
+}
+
+/// A node ends within the text of its tree: a caller has this law the same way.
+pub fn node_ends_within(node: &SyntaxNode)
+    ensures { (range_of node.now).end ≤ length (text node.now.tree) }
+{
+    node_is_placed(node);
+    places_end_within();
 }
 
 /// A name behind white space.

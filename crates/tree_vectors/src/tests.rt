@@ -1,6 +1,10 @@
-//! How nodes, tokens and elements print, what becomes of elements, and what is found at an offset.
+//! How nodes, tokens and elements print, what becomes of elements, what is found at an offset, and the nearest token that
+//! is no trivia.
 use crate::name_tree;
-use lossless_tree::{SyntaxElement, SyntaxNode, SyntaxToken, TextSize, TokenAtOffset};
+use lossless_tree::{
+    SyntaxElement, SyntaxKind, SyntaxNode, SyntaxToken, TextSize, TokenAtOffset, TreeBuilder,
+};
+use std::alloc::Global;
 use std::test::Fail;
 
 // A struct that holds a node can derive `Debug`.
@@ -57,5 +61,53 @@ fn tokens_at_an_offset_are_mapped(rt: HostRuntime) -> Result<(), Fail> {
         return Err(Fail::from("not two tokens"));
     };
     assert!(rt; left == 1 && right == 2);
+    Ok(())
+}
+
+// ` a /**/ b// `: two names with blanks and comments around, the second inside a node.
+fn spaced_tree(alloc: Global) -> Result<SyntaxNode, Fail> {
+    let mut builder = TreeBuilder::new(alloc);
+    builder.start_node(SyntaxKind::PATH)?;
+    builder.token(SyntaxKind::WHITESPACE, " ")?;
+    builder.token(SyntaxKind::IDENT, "a")?;
+    builder.token(SyntaxKind::WHITESPACE, " ")?;
+    builder.token(SyntaxKind::COMMENT, "/**/")?;
+    builder.start_node(SyntaxKind::NAME_REF)?;
+    builder.token(SyntaxKind::WHITESPACE, " ")?;
+    builder.token(SyntaxKind::IDENT, "b")?;
+    builder.token(SyntaxKind::COMMENT, "// ")?;
+    builder.finish_node()?;
+    builder.finish_node()?;
+    Ok(builder.finish()?)
+}
+
+fn has_text(token: Option<SyntaxToken>, text: &str) -> bool {
+    match token {
+        Some(token) => *token.text() == *text,
+        None => false,
+    }
+}
+
+#[test]
+fn the_nearest_token_passes_blanks_and_comments(rt: HostRuntime) -> Result<(), Fail> {
+    let root = spaced_tree(rt.alloc())?;
+    let first = root
+        .first_token()
+        .ok_or_else(|| Fail::from("no first token"))?;
+    let last = last_token(&root)?;
+    assert!(rt; has_text(first.next_token_no_trivia(), "a"));
+    assert!(rt; first.prev_token_no_trivia().is_none());
+    assert!(rt; has_text(last.prev_token_no_trivia(), "b"));
+    assert!(rt; last.next_token_no_trivia().is_none());
+    let a = first
+        .next_token_no_trivia()
+        .ok_or_else(|| Fail::from("no token behind"))?;
+    let b = last
+        .prev_token_no_trivia()
+        .ok_or_else(|| Fail::from("no token before"))?;
+    assert!(rt; a.next_token_no_trivia() == Some(b.clone()?));
+    assert!(rt; b.prev_token_no_trivia() == Some(a.clone()?));
+    assert!(rt; a.prev_token_no_trivia().is_none());
+    assert!(rt; b.next_token_no_trivia().is_none());
     Ok(())
 }

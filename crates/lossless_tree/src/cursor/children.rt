@@ -100,11 +100,6 @@ impl Iterator for SyntaxNodeChildren {
 
     #[inline]
     fn next(&mut self) -> Option<SyntaxNode> {
-        while let Some(element) = self.elements.next() {
-            if let NodeOrToken::Node(node) = element {
-                return Some(node);
-            }
-        }
-        None
+        self.elements.find_map(NodeOrToken::into_node)
     }
 }

@@ -59,7 +59,7 @@ impl Iterator for DescendantsWithTokens {
     fn next(&mut self) -> Option<SyntaxElement> {
         let row = self.next;
         if row < self.end {
-            self.next = row + 1;
+            self.next = self.table.next_row(row);
             Some(element(&self.table, row))
         } else {
             None
@@ -102,11 +102,6 @@ impl Iterator for Descendants {
     ghost remaining = { item_count (λ left. left) };
 
     fn next(&mut self) -> Option<SyntaxNode> {
-        while let Some(element) = self.elements.next() {
-            if let NodeOrToken::Node(node) = element {
-                return Some(node);
-            }
-        }
-        None
+        self.elements.find_map(NodeOrToken::into_node)
     }
 }

@@ -3,9 +3,9 @@ ghost use Rattle.std.specs.Prelude.{◌≡◌, option_map, option_copied, IfOk, 
 ghost use Rattle.tree_model.specs.Tree.{kind_of, text};
 ghost use Rattle.tree_model.specs.Rows.{IsRow};
 ghost use Rattle.tree_model.specs.Cursor.{cursor_at, focus, range_of, parent_of, next_sibling_of, prev_sibling_of, following_of, siblings_in};
-ghost use Rattle.lossless_tree.specs.Element.{element_of, cursor_of, node_part, token_part, ancestors_of_element};
+ghost use Rattle.lossless_tree.specs.Element.{element_of, cursor_of, node_part, token_part, ancestors_of_element, is_trivia_element};
 ghost use Rattle.std.specs.List.{find};
-ghost use Rattle.lossless_tree.specs.Trees.{is_no_trivia};
+ghost use Rattle.tree_model.specs.NearestToken.{is_no_trivia};
 ghost use Rattle.lossless_tree.specs.Dump.{dump_of};
 
 use super::ancestors::Ancestors;
@@ -85,6 +85,16 @@ impl NodeOrToken<SyntaxNode, SyntaxToken> {
         match self {
             NodeOrToken::Node(node) => node.kind(),
             NodeOrToken::Token(token) => token.kind(),
+        }
+    }
+
+    /// Whether this is a token of white space or a comment. A node is none, also one of comments alone.
+    pub fn is_trivia(&self) -> bool
+        ensures { result ≡ is_trivia_element self.now }
+    {
+        match self {
+            NodeOrToken::Node(_) => false,
+            NodeOrToken::Token(token) => token.kind().is_trivia(),
         }
     }
 

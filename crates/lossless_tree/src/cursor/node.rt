@@ -6,7 +6,8 @@ ghost use Rattle.tree_model.specs.Rows.{IsRow};
 ghost use Rattle.tree_model.specs.Cursor.{focus, range_of, parent_of, ancestors_of, children_of, first_child_of, last_child_of, next_sibling_of, prev_sibling_of, following_of, preceding_of, siblings_in, at_node, at_token, descendants_of, walk_of, moves_at_node, range_start};
 ghost use Rattle.tree_rows.specs.Walks.{siblings_from};
 ghost use Rattle.tree_model.specs.declared.error.ReplaceError.TheVariants.{TooLong};
-ghost use Rattle.lossless_tree.specs.Trees.{child_text, is_no_trivia};
+ghost use Rattle.lossless_tree.specs.Trees.{child_text};
+ghost use Rattle.tree_model.specs.NearestToken.{is_no_trivia};
 ghost use Rattle.tree_model.specs.Edit.{replace, root_of};
 ghost use Rattle.tree_model.specs.Placed.{IsPlaced};
 ghost use Rattle.lossless_tree.specs.Element.{element_of};
@@ -16,13 +17,12 @@ use super::ancestors::Ancestors;
 use super::children::{SyntaxElementChildren, SyntaxNodeChildren};
 use super::descendants::{Descendants, DescendantsWithTokens};
 use super::element::{SyntaxElement, element};
-use super::equality::{feed, is_same};
 use super::preorder::{Preorder, PreorderWithTokens};
 use super::siblings::{SyntaxElementSiblings, SyntaxNodeSiblings, first_no_trivia};
 use super::text::SyntaxText;
 use super::token::SyntaxToken;
 use super::token_at_offset::TokenAtOffset;
-use crate::dump;
+use super::tree_cursor::TreeCursor;
 use crate::siblings_left::SiblingsLeft;
 use shared_pointer::Shared;
 use std::alloc::{AllocError, Global};
@@ -38,8 +38,7 @@ use tree_rows::Table;
 /// Cloning one takes no memory and always succeeds. A clause sees the whole tree and the node's place in it.
 #[derive(Drop)]
 pub struct SyntaxNode {
-    table: Shared<Table>,
-    row: usize,
+    cursor: TreeCursor,
 }
 
 impl Model for SyntaxNode {
@@ -50,26 +49,29 @@ impl Model for SyntaxNode {
     ghost coded = { cursor_code };
 
     ghost use Rattle.tree_model.specs.Tree.{IsNode};
-    ghost use Rattle.tree_model.specs.Rows.{place_at, tree_at, IsRow};
+    ghost use Rattle.tree_model.specs.Cursor.{focus};
 
-    ghost view = { λ a. record { tree = a.table.value; place = place_at a.table.value a.row } };
+    ghost view = { λ a. a.cursor };
 
-    ghost invariant = { λ a. IsRow a.table.value a.row × IsNode (tree_at a.table.value a.row) };
+    ghost invariant = { λ a. IsNode (focus a.cursor) };
 }
 
 impl SyntaxNode {
-    ghost use Rattle.std.specs.Prelude.{◌≡◌};
+    ghost use Rattle.std.specs.Prelude.{◌≡◌, IfOk};
     ghost use Rattle.tree_model.specs.Tree.{IsNode};
     ghost use Rattle.tree_model.specs.Rows.{IsRow, tree_at};
-    ghost use Rattle.tree_model.specs.Cursor.{cursor_at, IsRoot};
+    ghost use Rattle.tree_model.specs.Cursor.{cursor_at};
+    ghost use Rattle.tree_model.specs.Edit.{root_of};
 
-    // The root of a table whose first row is a node.
-    pub(crate) fn root(table: Shared<Table>) -> SyntaxNode
-        requires { IsNode table.value }
-        ensures tree { result.tree ≡ table.value }
-        ensures root { IsRoot result }
+    // The root of the tree of a table whose first row is a node.
+    pub(crate) fn root(alloc: Global, table: Table) -> Result<SyntaxNode, AllocError>
+        requires { IsNode table }
+        ensures { IfOk result (λ root. root ≡ root_of table) }
     {
-        SyntaxNode { table, row: 0 }
+        let table = Shared::new(alloc, table)?;
+        Ok(SyntaxNode {
+            cursor: TreeCursor { table, row: 0 },
+        })
     }
 
     // The node at a row.
@@ -78,7 +80,9 @@ impl SyntaxNode {
         requires is_node { IsNode (tree_at table.value row) }
         ensures { result ≡ cursor_at table.value row }
     {
-        SyntaxNode { table, row }
+        SyntaxNode {
+            cursor: TreeCursor { table, row },
+        }
     }
 }
 
@@ -89,9 +93,8 @@ impl SyntaxNode {
     pub fn clone_subtree(&self, alloc: Global) -> Result<SyntaxNode, AllocError>
         ensures { IfOk result (λ root. root ≡ root_of (focus self.now)) }
     {
-        let table = self.table.subtree(alloc, self.row)?;
-        let table = Shared::new(alloc, table)?;
-        Ok(SyntaxNode::root(table))
+        let table = self.cursor.table.subtree(alloc, self.cursor.row)?;
+        SyntaxNode::root(alloc, table)
     }
 
     /// The root of a new tree: this node's whole tree with `replacement` in place of this node. The old tree stays as
@@ -106,13 +109,10 @@ impl SyntaxNode {
         ensures ok { IfOk result (λ root. root ≡ root_of (replace self.now.tree self.now.place (focus replacement.now))) }
         ensures too_long { IsErrOf result TooLong ↔ (2 ^ 32 ≤ length (text (replace self.now.tree self.now.place (focus replacement.now)))) }
     {
-        let table = self
-            .table
-            .with_node(alloc, self.row, &replacement.table, replacement.row)?;
-        match Shared::new(alloc, table) {
-            Ok(table) => Ok(SyntaxNode::root(table)),
-            Err(_) => Err(ReplaceError::Memory),
-        }
+        let old = &self.cursor;
+        let new = &replacement.cursor;
+        let table = old.table.with_node(alloc, old.row, &new.table, new.row)?;
+        Ok(SyntaxNode::root(alloc, table)?)
     }
 }
 
@@ -121,14 +121,14 @@ impl SyntaxNode {
     pub fn text(&self) -> SyntaxText<'_>
         ensures { result ≡ text (focus self.now) }
     {
-        SyntaxText::of_row(&self.table, self.row)
+        SyntaxText::of_row(&self.cursor.table, self.cursor.row)
     }
 
     /// The node's children, as siblings that are left to read.
     pub fn trees(&self) -> SiblingsLeft<'_>
         ensures { result ≡ record { trees = forest_of_children (focus self.now); start = range_start self.now } }
     {
-        SiblingsLeft::below(&self.table, self.row)
+        SiblingsLeft::below(&self.cursor.table, self.cursor.row)
     }
 
     /// The text of child number `n`, from 0, where that is a token; `None` for a node, and where there is no such child.
@@ -159,7 +159,7 @@ impl SyntaxNode {
         ensures placed { IsPlaced self.now }
         ensures node { IsNode (focus self.now) }
     {
-        self.table.placed(self.row)
+        self.cursor.placed()
     }
 }
 
@@ -168,52 +168,52 @@ impl SyntaxNode {
     pub fn kind(&self) -> SyntaxKind
         ensures { result ≡ kind_of (focus self.now) }
     {
-        self.table.kind_at(self.row)
+        self.cursor.kind()
     }
 
     /// The range of the node's text in the whole tree's text, in bytes. A node without text has an empty range.
     pub fn text_range(&self) -> TextRange
         ensures { result ≡ range_of self.now }
     {
-        self.table.range_at(self.row)
+        self.cursor.text_range()
     }
 
     /// The node's text, a slice of the tree's one text.
     pub fn as_str(&self) -> &str
         ensures { result.now ≡ text (focus self.now) }
     {
-        self.table.text_at(self.row)
+        self.cursor.text()
     }
 
     /// The node that this one is a child of; `None` for the root. It takes constant time.
     pub fn parent(&self) -> Option<SyntaxNode>
         ensures { result ≡ parent_of self.now }
     {
-        let row = self.table.parent_row(self.row)?;
-        Some(SyntaxNode::at(self.table.share(), row))
+        self.cursor.parent()
     }
 
     /// This node, its parent, its parent's parent, up to the root.
     pub fn ancestors(&self) -> Ancestors
         ensures { result ≡ ancestors_of self.now }
     {
-        Ancestors::new(SyntaxNode::at(self.table.share(), self.row))
+        Ancestors::new(SyntaxNode {
+            cursor: self.cursor.share(),
+        })
     }
 
     /// The first child, node or token; `None` where there is none.
     pub fn first_child_or_token(&self) -> Option<SyntaxElement>
         ensures { result ≡ option_map element_of (first_child_of self.now) }
     {
-        let row = self.table.first_child_row(self.row)?;
-        Some(element(&self.table, row))
+        let row = self.cursor.table.first_child_row(self.cursor.row)?;
+        Some(element(&self.cursor.table, row))
     }
 
     /// What follows this node in its parent, node or token; `None` for the last child and the root.
     pub fn next_sibling_or_token(&self) -> Option<SyntaxElement>
         ensures { result ≡ option_map element_of (next_sibling_of self.now) }
     {
-        let row = self.table.next_sibling_row(self.row)?;
-        Some(element(&self.table, row))
+        self.cursor.next_sibling_or_token()
     }
 
     /// The last child, node or token; `None` where there is none. It climbs from the subtree's last row, so it takes
@@ -221,8 +221,8 @@ impl SyntaxNode {
     pub fn last_child_or_token(&self) -> Option<SyntaxElement>
         ensures { result ≡ option_map element_of (last_child_of self.now) }
     {
-        let row = self.table.last_child_row(self.row)?;
-        Some(element(&self.table, row))
+        let row = self.cursor.table.last_child_row(self.cursor.row)?;
+        Some(element(&self.cursor.table, row))
     }
 
     /// What comes before this node in its parent, node or token; `None` for the first child and the root. It climbs
@@ -231,15 +231,14 @@ impl SyntaxNode {
     pub fn prev_sibling_or_token(&self) -> Option<SyntaxElement>
         ensures { result ≡ option_map element_of (prev_sibling_of self.now) }
     {
-        let row = self.table.prev_sibling_row(self.row)?;
-        Some(element(&self.table, row))
+        self.cursor.prev_sibling_or_token()
     }
 
     /// The children, nodes and tokens, in order.
     pub fn children_with_tokens(&self) -> SyntaxElementChildren
         ensures { result ≡ children_of self.now }
     {
-        SyntaxElementChildren::new(self.table.share(), self.row)
+        SyntaxElementChildren::new(self.cursor.table.share(), self.cursor.row)
     }
 
     /// The child nodes, in order.
@@ -262,16 +261,18 @@ impl SyntaxNode {
     pub fn last_child(&self) -> Option<SyntaxNode>
         ensures { result ≡ find at_node (reverse (children_of self.now)) }
     {
-        let last = self.table.last_child_row(self.row);
-        nearest_node(&self.table, last, Direction::Prev)
+        let cursor = &self.cursor;
+        let last = cursor.table.last_child_row(cursor.row);
+        nearest_node(&cursor.table, last, Direction::Prev)
     }
 
     /// The nearest sibling node behind this one; `None` where there is none. It passes over the tokens between.
     pub fn next_sibling(&self) -> Option<SyntaxNode>
         ensures { result ≡ find at_node (following_of self.now) }
     {
-        let next = self.table.next_sibling_row(self.row);
-        nearest_node(&self.table, next, Direction::Next)
+        let cursor = &self.cursor;
+        let next = cursor.table.next_sibling_row(cursor.row);
+        nearest_node(&cursor.table, next, Direction::Next)
     }
 
     /// The nearest sibling node before this one; `None` where there is none. It passes over the tokens between, and takes
@@ -279,8 +280,9 @@ impl SyntaxNode {
     pub fn prev_sibling(&self) -> Option<SyntaxNode>
         ensures { result ≡ find at_node (preceding_of self.now) }
     {
-        let prev = self.table.prev_sibling_row(self.row);
-        nearest_node(&self.table, prev, Direction::Prev)
+        let cursor = &self.cursor;
+        let prev = cursor.table.prev_sibling_row(cursor.row);
+        nearest_node(&cursor.table, prev, Direction::Prev)
     }
 
     /// The first child, node or token, that is no trivia: no token of white space or a comment; `None` where there is
@@ -288,8 +290,9 @@ impl SyntaxNode {
     pub fn first_child_no_trivia(&self) -> Option<SyntaxElement>
         ensures { result ≡ option_map element_of (find is_no_trivia (children_of self.now)) }
     {
-        let first = self.table.first_child_row(self.row);
-        first_no_trivia(SyntaxElementSiblings::new(self.table.share(), first, Direction::Next))
+        let cursor = &self.cursor;
+        let first = cursor.table.first_child_row(cursor.row);
+        first_no_trivia(SyntaxElementSiblings::new(cursor.table.share(), first, Direction::Next))
     }
 
     /// The nearest later sibling, node or token, that is no trivia: no token of white space or a comment; `None` where
@@ -297,8 +300,7 @@ impl SyntaxNode {
     pub fn next_no_trivia(&self) -> Option<SyntaxElement>
         ensures { result ≡ option_map element_of (find is_no_trivia (following_of self.now)) }
     {
-        let later = self.table.next_sibling_row(self.row);
-        first_no_trivia(SyntaxElementSiblings::new(self.table.share(), later, Direction::Next))
+        self.cursor.next_no_trivia()
     }
 
     /// This node and its siblings in a direction, nodes and tokens. A step backwards takes time in the depth of the
@@ -306,7 +308,7 @@ impl SyntaxNode {
     pub fn siblings_with_tokens(&self, direction: Direction) -> SyntaxElementSiblings
         ensures { result ≡ siblings_in direction self.now }
     {
-        SyntaxElementSiblings::new(self.table.share(), Some(self.row), direction)
+        self.cursor.siblings_with_tokens(direction)
     }
 
     /// This node and its sibling nodes in a direction. A step backwards takes time in the depth of the siblings before.
@@ -320,16 +322,16 @@ impl SyntaxNode {
     pub fn first_token(&self) -> Option<SyntaxToken>
         ensures { result ≡ find at_token (descendants_of self.now) }
     {
-        let row = self.table.first_token_in(self.row)?;
-        Some(SyntaxToken::at(self.table.share(), row))
+        let row = self.cursor.table.first_token_in(self.cursor.row)?;
+        Some(SyntaxToken::at(self.cursor.table.share(), row))
     }
 
     /// The last token below this node; `None` where there is none. It takes time in the number of nodes behind it.
     pub fn last_token(&self) -> Option<SyntaxToken>
         ensures { result ≡ find at_token (reverse (descendants_of self.now)) }
     {
-        let row = self.table.last_token_in(self.row)?;
-        Some(SyntaxToken::at(self.table.share(), row))
+        let row = self.cursor.table.last_token_in(self.cursor.row)?;
+        Some(SyntaxToken::at(self.cursor.table.share(), row))
     }
 
     /// The walk of the nodes alone: it enters this node, walks its child nodes in order, and leaves it.
@@ -350,14 +352,14 @@ impl SyntaxNode {
     pub fn preorder_with_tokens(&self) -> PreorderWithTokens
         ensures { result ≡ walk_of self.now }
     {
-        PreorderWithTokens::new(self.table.share(), self.row)
+        PreorderWithTokens::new(self.cursor.table.share(), self.cursor.row)
     }
 
     /// The nodes and tokens of this subtree in preorder, this node first.
     pub fn descendants_with_tokens(&self) -> DescendantsWithTokens
         ensures { result ≡ descendants_of self.now }
     {
-        DescendantsWithTokens::new(self.table.share(), self.row)
+        DescendantsWithTokens::new(self.cursor.table.share(), self.cursor.row)
     }
 }
 
@@ -377,7 +379,10 @@ impl SyntaxNode {
     pub fn token_at_offset(&self, offset: TextSize) -> TokenAtOffset<SyntaxToken>
         ensures { found_tokens result ≡ tokens_at self.now offset }
     {
-        let (left, right) = self.table.tokens_at(self.row, offset.raw() as usize);
+        let (left, right) = self
+            .cursor
+            .table
+            .tokens_at(self.cursor.row, offset.raw() as usize);
         match (left, right) {
             (None, None) => TokenAtOffset::None,
             (Some(row), None) | (None, Some(row)) => TokenAtOffset::Single(self.token(row)),
@@ -398,19 +403,20 @@ impl SyntaxNode {
     pub fn covering_element(&self, range: TextRange) -> SyntaxElement
         ensures { result ≡ element_of (covering_of self.now range) }
     {
-        let row = self.table.covering_row(self.row, range);
-        element(&self.table, row)
+        let row = self.cursor.table.covering_row(self.cursor.row, range);
+        element(&self.cursor.table, row)
     }
 
     // The first node of this tree in preorder with this kind and range; `None` where this node is not the root.
     pub(crate) fn first_in_root(&self, kind: SyntaxKind, range: TextRange) -> Option<SyntaxNode>
         ensures { Finds (record { kind = kind; range = range }) self.now result }
     {
-        if self.row != 0 {
+        let cursor = &self.cursor;
+        if cursor.row != 0 {
             return None;
         }
-        let row = self.table.first_node(kind, range)?;
-        Some(SyntaxNode::at(self.table.share(), row))
+        let row = cursor.table.first_node(kind, range)?;
+        Some(SyntaxNode::at(cursor.table.share(), row))
     }
 
     // The token at a row of this tree.
@@ -419,7 +425,7 @@ impl SyntaxNode {
         requires is_token { IsToken (tree_at self.now.tree row) }
         ensures { result ≡ cursor_at self.now.tree row }
     {
-        SyntaxToken::at(self.table.share(), row)
+        SyntaxToken::at(self.cursor.table.share(), row)
     }
 }
 
@@ -433,7 +439,7 @@ impl SyntaxNode {
     pub fn dump(&self, alloc: Global) -> Result<String, AllocError>
         ensures { IfOk result (λ text. string_bytes text ≡ dump_of self.now) }
     {
-        dump::dump(alloc, &self.table, self.row)
+        self.cursor.dump(alloc)
     }
 }
 
@@ -460,8 +466,7 @@ impl Clone for SyntaxNode {
 
     fn clone(&self) -> Result<SyntaxNode, AllocError> {
         Ok(SyntaxNode {
-            table: self.table.share(),
-            row: self.row,
+            cursor: self.cursor.share(),
         })
     }
 }
@@ -477,7 +482,7 @@ impl PartialEq for SyntaxNode {
     ghost laws = { partial_equiv_from_equiv cursor_equivalence };
 
     fn eq(&self, other: &SyntaxNode) -> bool {
-        is_same(&self.table, self.row, &other.table, other.row)
+        self.cursor.is_same(&other.cursor)
     }
 }
 
@@ -497,6 +502,6 @@ impl Hash for SyntaxNode {
     ghost respects_eq = { cursors_alike };
 
     fn hash<H: Hasher>(&self, state: &mut H) {
-        feed(&self.table, self.row, state);
+        self.cursor.feed(state);
     }
 }

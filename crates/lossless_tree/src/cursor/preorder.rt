@@ -126,11 +126,6 @@ impl Iterator for Preorder {
     ghost remaining = { item_count (map node_event) };
 
     fn next(&mut self) -> Option<WalkEvent<SyntaxNode>> {
-        while let Some(event) = self.events.next() {
-            if let Some(at_node) = event_of_node(event) {
-                return Some(at_node);
-            }
-        }
-        None
+        self.events.find_map(event_of_node)
     }
 }

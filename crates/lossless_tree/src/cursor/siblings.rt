@@ -5,8 +5,8 @@ ghost use Rattle.std.specs.Iterator.{YieldsFirst, item_count};
 ghost use Rattle.tree_model.specs.Rows.{IsRow};
 ghost use Rattle.tree_model.specs.Cursor.{at_node};
 ghost use Rattle.tree_rows.specs.Walks.{siblings_from};
-ghost use Rattle.lossless_tree.specs.Element.{element_of, is_trivia_element};
-ghost use Rattle.lossless_tree.specs.Trees.{is_no_trivia};
+ghost use Rattle.lossless_tree.specs.Element.{element_of};
+ghost use Rattle.tree_model.specs.NearestToken.{is_no_trivia};
 
 use super::element::{NodeOrToken, SyntaxElement, element};
 use super::node::SyntaxNode;
@@ -67,22 +67,13 @@ impl Iterator for SyntaxElementSiblings {
     }
 }
 
-fn is_trivia(element: &SyntaxElement) -> bool
-    ensures { result ≡ is_trivia_element element.now }
-{
-    match element {
-        NodeOrToken::Node(_) => false,
-        NodeOrToken::Token(token) => token.kind().is_trivia(),
-    }
-}
-
 // The first that is no trivia: no token of white space or a comment.
 pub(crate) fn first_no_trivia(elements: SyntaxElementSiblings) -> Option<SyntaxElement>
     ensures { result ≡ option_map element_of (find is_no_trivia elements) }
 {
     let mut left = elements;
     while let Some(element) = left.next() {
-        if !is_trivia(&element) {
+        if !element.is_trivia() {
             return Some(element);
         }
     }
@@ -124,11 +115,6 @@ impl Iterator for SyntaxNodeSiblings {
     ghost remaining = { item_count (λ left. left) };
 
     fn next(&mut self) -> Option<SyntaxNode> {
-        while let Some(element) = self.elements.next() {
-            if let NodeOrToken::Node(node) = element {
-                return Some(node);
-            }
-        }
-        None
+        self.elements.find_map(NodeOrToken::into_node)
     }
 }

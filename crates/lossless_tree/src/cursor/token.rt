@@ -6,16 +6,16 @@ ghost use Rattle.tree_model.specs.declared.error.ReplaceError.TheVariants.{TooLo
 ghost use Rattle.tree_model.specs.Edit.{replace, root_of};
 ghost use Rattle.tree_model.specs.Placed.{IsPlaced};
 ghost use Rattle.std.specs.List.{find};
-ghost use Rattle.lossless_tree.specs.Trees.{is_no_trivia};
+ghost use Rattle.tree_model.specs.NearestToken.{tokens_beyond, is_no_trivia};
+ghost use Rattle.tree_model.specs.declared.direction.Direction.TheVariants.{Next, Prev};
 ghost use Rattle.lossless_tree.specs.Element.{element_of};
 ghost use Rattle.lossless_tree.specs.Dump.{dump_of};
 
 use super::ancestors::Ancestors;
-use super::element::{SyntaxElement, element};
-use super::equality::{feed, is_same};
+use super::element::SyntaxElement;
 use super::node::SyntaxNode;
-use super::siblings::{SyntaxElementSiblings, first_no_trivia};
-use crate::dump;
+use super::siblings::SyntaxElementSiblings;
+use super::tree_cursor::TreeCursor;
 use shared_pointer::Shared;
 use std::alloc::{AllocError, Global};
 use std::hash::{Hash, Hasher};
@@ -30,8 +30,7 @@ use tree_rows::Table;
 /// Cloning one takes no memory and always succeeds. A clause sees the whole tree and the token's place in it.
 #[derive(Drop)]
 pub struct SyntaxToken {
-    table: Shared<Table>,
-    row: usize,
+    cursor: TreeCursor,
 }
 
 impl Model for SyntaxToken {
@@ -42,11 +41,11 @@ impl Model for SyntaxToken {
     ghost coded = { cursor_code };
 
     ghost use Rattle.tree_model.specs.Tree.{IsToken};
-    ghost use Rattle.tree_model.specs.Rows.{place_at, tree_at, IsRow};
+    ghost use Rattle.tree_model.specs.Cursor.{focus};
 
-    ghost view = { λ a. record { tree = a.table.value; place = place_at a.table.value a.row } };
+    ghost view = { λ a. a.cursor };
 
-    ghost invariant = { λ a. IsRow a.table.value a.row × IsToken (tree_at a.table.value a.row) };
+    ghost invariant = { λ a. IsToken (focus a.cursor) };
 }
 
 impl SyntaxToken {
@@ -61,7 +60,9 @@ impl SyntaxToken {
         requires is_token { IsToken (tree_at table.value row) }
         ensures { result ≡ cursor_at table.value row }
     {
-        SyntaxToken { table, row }
+        SyntaxToken {
+            cursor: TreeCursor { table, row },
+        }
     }
 }
 
@@ -79,11 +80,9 @@ impl SyntaxToken {
         ensures ok { IfOk result (λ root. root ≡ root_of (replace self.now.tree self.now.place (token kind new.now))) }
         ensures too_long { IsErrOf result TooLong ↔ (2 ^ 32 ≤ length (text (replace self.now.tree self.now.place (token kind new.now)))) }
     {
-        let table = self.table.with_token(alloc, self.row, kind, new)?;
-        match Shared::new(alloc, table) {
-            Ok(table) => Ok(SyntaxNode::root(table)),
-            Err(_) => Err(ReplaceError::Memory),
-        }
+        let old = &self.cursor;
+        let table = old.table.with_token(alloc, old.row, kind, new)?;
+        Ok(SyntaxNode::root(alloc, table)?)
     }
 }
 
@@ -94,7 +93,7 @@ impl SyntaxToken {
         ensures placed { IsPlaced self.now }
         ensures token { IsToken (focus self.now) }
     {
-        self.table.placed(self.row)
+        self.cursor.placed()
     }
 }
 
@@ -103,21 +102,21 @@ impl SyntaxToken {
     pub fn kind(&self) -> SyntaxKind
         ensures { result ≡ kind_of (focus self.now) }
     {
-        self.table.kind_at(self.row)
+        self.cursor.kind()
     }
 
     /// The range of the token's text in the whole tree's text, in bytes. A token without text has an empty range.
     pub fn text_range(&self) -> TextRange
         ensures { result ≡ range_of self.now }
     {
-        self.table.range_at(self.row)
+        self.cursor.text_range()
     }
 
     /// The token's text, a slice of the tree's one text.
     pub fn text(&self) -> &str
         ensures { result.now ≡ text (focus self.now) }
     {
-        self.table.text_at(self.row)
+        self.cursor.text()
     }
 
     /// The node that this token is a child of. It is never `None`, since the root of a tree is a node. It takes constant
@@ -125,16 +124,14 @@ impl SyntaxToken {
     pub fn parent(&self) -> Option<SyntaxNode>
         ensures { result ≡ parent_of self.now }
     {
-        let row = self.table.parent_row(self.row)?;
-        Some(SyntaxNode::at(self.table.share(), row))
+        self.cursor.parent()
     }
 
     /// What follows this token in its parent, node or token; `None` for the last child.
     pub fn next_sibling_or_token(&self) -> Option<SyntaxElement>
         ensures { result ≡ option_map element_of (next_sibling_of self.now) }
     {
-        let row = self.table.next_sibling_row(self.row)?;
-        Some(element(&self.table, row))
+        self.cursor.next_sibling_or_token()
     }
 
     /// The nodes above this token, the nearest first, up to the root.
@@ -149,8 +146,7 @@ impl SyntaxToken {
     pub fn prev_sibling_or_token(&self) -> Option<SyntaxElement>
         ensures { result ≡ option_map element_of (prev_sibling_of self.now) }
     {
-        let row = self.table.prev_sibling_row(self.row)?;
-        Some(element(&self.table, row))
+        self.cursor.prev_sibling_or_token()
     }
 
     /// The nearest later sibling, node or token, that is no trivia: no token of white space or a comment; `None` where
@@ -158,8 +154,7 @@ impl SyntaxToken {
     pub fn next_no_trivia(&self) -> Option<SyntaxElement>
         ensures { result ≡ option_map element_of (find is_no_trivia (following_of self.now)) }
     {
-        let next = self.table.next_sibling_row(self.row);
-        first_no_trivia(SyntaxElementSiblings::new(self.table.share(), next, Direction::Next))
+        self.cursor.next_no_trivia()
     }
 
     /// This token and its siblings in a direction, nodes and tokens. A step backwards takes time in the depth of the
@@ -167,7 +162,7 @@ impl SyntaxToken {
     pub fn siblings_with_tokens(&self, direction: Direction) -> SyntaxElementSiblings
         ensures { result ≡ siblings_in direction self.now }
     {
-        SyntaxElementSiblings::new(self.table.share(), Some(self.row), direction)
+        self.cursor.siblings_with_tokens(direction)
     }
 
     /// The token right behind this one in the whole tree; `None` for the last. It takes time in the number of nodes
@@ -175,8 +170,8 @@ impl SyntaxToken {
     pub fn next_token(&self) -> Option<SyntaxToken>
         ensures { IsRightBehind (all_tokens self.now) self.now result }
     {
-        let row = self.table.next_token_row(self.row)?;
-        Some(SyntaxToken::at(self.table.share(), row))
+        let row = self.cursor.table.next_token_row(self.cursor.row)?;
+        Some(SyntaxToken::at(self.cursor.table.share(), row))
     }
 
     /// The token right before this one in the whole tree; `None` for the first. It takes time in the number of nodes
@@ -184,15 +179,33 @@ impl SyntaxToken {
     pub fn prev_token(&self) -> Option<SyntaxToken>
         ensures { IsRightBefore (all_tokens self.now) self.now result }
     {
-        let row = self.table.prev_token_row(self.row)?;
-        Some(SyntaxToken::at(self.table.share(), row))
+        let row = self.cursor.table.prev_token_row(self.cursor.row)?;
+        Some(SyntaxToken::at(self.cursor.table.share(), row))
+    }
+
+    /// The nearest token behind this one in the whole tree that is no trivia: no white space or comment; `None` where
+    /// there is none. It takes time in the nodes and tokens that it passes.
+    pub fn next_token_no_trivia(&self) -> Option<SyntaxToken>
+        ensures { result ≡ find is_no_trivia (tokens_beyond Next self.now) }
+    {
+        let row = self.cursor.table.next_no_trivia_token_row(self.cursor.row)?;
+        Some(SyntaxToken::at(self.cursor.table.share(), row))
+    }
+
+    /// The nearest token before this one in the whole tree that is no trivia: no white space or comment; `None` where
+    /// there is none. It takes time in the nodes and tokens that it passes.
+    pub fn prev_token_no_trivia(&self) -> Option<SyntaxToken>
+        ensures { result ≡ find is_no_trivia (tokens_beyond Prev self.now) }
+    {
+        let row = self.cursor.table.prev_no_trivia_token_row(self.cursor.row)?;
+        Some(SyntaxToken::at(self.cursor.table.share(), row))
     }
 
     /// The token's one line, as in the dump of a tree around it.
     pub fn dump(&self, alloc: Global) -> Result<String, AllocError>
         ensures { IfOk result (λ text. string_bytes text ≡ dump_of self.now) }
     {
-        dump::dump(alloc, &self.table, self.row)
+        self.cursor.dump(alloc)
     }
 }
 
@@ -205,8 +218,7 @@ impl Clone for SyntaxToken {
 
     fn clone(&self) -> Result<SyntaxToken, AllocError> {
         Ok(SyntaxToken {
-            table: self.table.share(),
-            row: self.row,
+            cursor: self.cursor.share(),
         })
     }
 }
@@ -222,7 +234,7 @@ impl PartialEq for SyntaxToken {
     ghost laws = { partial_equiv_from_equiv cursor_equivalence };
 
     fn eq(&self, other: &SyntaxToken) -> bool {
-        is_same(&self.table, self.row, &other.table, other.row)
+        self.cursor.is_same(&other.cursor)
     }
 }
 
@@ -242,6 +254,6 @@ impl Hash for SyntaxToken {
     ghost respects_eq = { cursors_alike };
 
     fn hash<H: Hasher>(&self, state: &mut H) {
-        feed(&self.table, self.row, state);
+        self.cursor.feed(state);
     }
 }

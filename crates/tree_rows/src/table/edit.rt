@@ -112,6 +112,7 @@ impl Table {
         requires is_node { IsNode (tree_at self.now n) }
         ensures { IfOk result (λ t. t ≡ tree_at self.now n) }
     {
+        // Opens the table's invariant for the proof.
         let _count = self.rows.len();
         let text = String::from_str(alloc, self.text_at(n))?;
         let mut rows = Rows::with_capacity(alloc, self.size_at(n))?;
@@ -194,6 +195,7 @@ impl Table {
         requires fits { length (splice (text self.now) (start_at self.now n) (end_at self.now n) new.now) < 2 ^ 32 }
         ensures { IfOk result (λ rows. rows ≡ rows_of (cons (replace self.now (place_at self.now n) (token kind new.now)) nil) 0 0 0) }
     {
+        // Opens the table's invariant for the proof.
         let _count = self.rows.len();
         let old = self.row(n);
         let mut rows = self.rows_before(alloc, n, 1)?;
@@ -222,6 +224,7 @@ impl Table {
         requires fits { length (splice (text self.now) (start_at self.now n) (end_at self.now n) (text (tree_at piece.now other))) < 2 ^ 32 }
         ensures { IfOk result (λ rows. rows ≡ rows_of (cons (replace self.now (place_at self.now n) (tree_at piece.now other)) nil) 0 0 0) }
     {
+        // Opens the table's invariant for the proof.
         let _count = self.rows.len();
         let _more = piece.rows.len();
         let old = self.row(n);
@@ -246,6 +249,7 @@ impl Table {
         ensures ok { IfOk result (λ t. (t ≡ replace self.now (place_at self.now n) (token kind new.now)) × IsNode t) }
         ensures too_long { IsErrOf result TooLong ↔ (2 ^ 32 ≤ length (text (replace self.now (place_at self.now n) (token kind new.now)))) }
     {
+        // Opens the table's invariant for the proof.
         let _count = self.rows.len();
         let spliced = self.spliced_text(alloc, n, new)?;
         let rows = self.rows_with_token(alloc, n, kind, new)?;
@@ -266,6 +270,7 @@ impl Table {
         ensures ok { IfOk result (λ t. (t ≡ replace self.now (place_at self.now n) (tree_at piece.now other)) × IsNode t) }
         ensures too_long { IsErrOf result TooLong ↔ (2 ^ 32 ≤ length (text (replace self.now (place_at self.now n) (tree_at piece.now other)))) }
     {
+        // Opens the table's invariant for the proof.
         let _count = self.rows.len();
         let _more = piece.rows.len();
         let spliced = self.spliced_text(alloc, n, piece.text_at(other))?;
@@ -278,6 +283,7 @@ impl Table {
         requires { n < size self.now }
         ensures { IsPlaced (cursor_at self.now n) }
     {
+        // Opens the table's invariant for the proof.
         let _count = self.rows.len();
     }
 }

@@ -1,10 +1,12 @@
 //! Steps from row to row: the last child, the previous sibling, the nearest token.
-ghost use Rattle.std.specs.Prelude.{◌≡◌, ◌+◌, ◌<◌, ◌≤◌, option_map, IfSome, reverse};
+ghost use Rattle.std.specs.Prelude.{◌≡◌, ◌+◌, ◌<◌, ◌≤◌, ◌&&◌, option_map, IfSome, reverse};
 ghost use Rattle.std.specs.List.{find};
 ghost use Rattle.tree_model.specs.Tree.{size, IsToken, last_child_place, prev_sibling_place, sibling_place_in};
 ghost use Rattle.tree_model.specs.Rows.{place_at, tree_at};
 ghost use Rattle.tree_model.specs.Cursor.{cursor_at, at_token, descendants_of, all_tokens, IsRightBehind, IsRightBefore};
-ghost use Rattle.tree_rows.specs.RowSteps.{IsBelow, IsChildOver, IsFirstToken, IsLastToken};
+ghost use Rattle.tree_model.specs.declared.direction.Direction.TheVariants.{Next, Prev};
+ghost use Rattle.tree_model.specs.NearestToken.{tokens_beyond, is_no_trivia};
+ghost use Rattle.tree_rows.specs.RowSteps.{IsBelow, IsChildOver, IsFirstToken, IsLastToken, tokens_among};
 
 use super::Table;
 use tree_model::Direction;
@@ -142,5 +144,69 @@ impl Table {
         ensures in_range { IfSome result (λ q. q < size self.now) }
     {
         self.last_token_row(0, n)
+    }
+
+    // Whether what stands at row `n` is a token that is no trivia. It reads the row once.
+    fn is_no_trivia_token_at(&self, n: usize) -> bool
+        requires { n < size self.now }
+        ensures { result ≡ (at_token (cursor_at self.now n) && is_no_trivia (cursor_at self.now n)) }
+    {
+        let row = self.row(n);
+        row.is_token && !row.kind.is_trivia()
+    }
+
+    // The first token among the rows `from..to` that is no trivia.
+    fn first_no_trivia_token_row(&self, from: usize, to: usize) -> Option<usize>
+        requires { to ≤ size self.now }
+        ensures found { option_map (cursor_at self.now) result ≡ find is_no_trivia (tokens_among self.now from to) }
+        ensures token { IfSome result (λ q. IsToken (tree_at self.now q)) }
+        ensures in_range { IfSome result (λ q. q < size self.now) }
+    {
+        for n in from..to {
+            if self.is_no_trivia_token_at(n) {
+                return Some(n);
+            }
+        }
+        None
+    }
+
+    // The last token among the rows `from..to` that is no trivia.
+    fn last_no_trivia_token_row(&self, from: usize, to: usize) -> Option<usize>
+        requires { to ≤ size self.now }
+        ensures found { option_map (cursor_at self.now) result ≡ find is_no_trivia (reverse (tokens_among self.now from to)) }
+        ensures token { IfSome result (λ q. IsToken (tree_at self.now q)) }
+        ensures in_range { IfSome result (λ q. q < size self.now) }
+    {
+        let mut after = to;
+        while from < after {
+            after -= 1;
+            if self.is_no_trivia_token_at(after) {
+                return Some(after);
+            }
+        }
+        None
+    }
+
+    /// The nearest token behind the token at row `n` that is no trivia. It goes over the rows between, and reads each once.
+    pub fn next_no_trivia_token_row(&self, n: usize) -> Option<usize>
+        requires is_row { n < size self.now }
+        requires is_token { IsToken (tree_at self.now n) }
+        ensures found { option_map (cursor_at self.now) result ≡ find is_no_trivia (tokens_beyond Next (cursor_at self.now n)) }
+        ensures token { IfSome result (λ q. IsToken (tree_at self.now q)) }
+        ensures in_range { IfSome result (λ q. q < size self.now) }
+    {
+        let count = self.len();
+        self.first_no_trivia_token_row(n + 1, count)
+    }
+
+    /// The nearest token before the token at row `n` that is no trivia. It goes over the rows between, and reads each once.
+    pub fn prev_no_trivia_token_row(&self, n: usize) -> Option<usize>
+        requires is_row { n < size self.now }
+        requires is_token { IsToken (tree_at self.now n) }
+        ensures found { option_map (cursor_at self.now) result ≡ find is_no_trivia (tokens_beyond Prev (cursor_at self.now n)) }
+        ensures token { IfSome result (λ q. IsToken (tree_at self.now q)) }
+        ensures in_range { IfSome result (λ q. q < size self.now) }
+    {
+        self.last_no_trivia_token_row(0, n)
     }
 }

@@ -36,6 +36,7 @@ impl Table {
                 if next != start {
                     return None;
                 }
+                // The row's end says, for the proof, that the number behind it fits.
                 let _end = self.row(start);
                 let next = start + 1;
                 Some(WalkStep {

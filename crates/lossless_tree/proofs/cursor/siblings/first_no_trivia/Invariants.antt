@@ -1,6 +1,6 @@
 use Rattle.std.proofs.Common.{◌≡◌, length}
 use Rattle.std.specs.List.{find}
-use Rattle.lossless_tree.specs.Trees.{is_no_trivia}
+use Rattle.tree_model.specs.NearestToken.{is_no_trivia}
 use Rattle.lossless_tree.proofs.cursor.siblings.first_no_trivia.Given as goal
 
 abbrev pub invariant-loop-element : goal.invariant-loop-element

@@ -3,7 +3,8 @@ use Rattle.std.specs.Prelude.{Option}
 use Rattle.tree_model.specs.declared.direction.Direction.{Direction}
 use Rattle.tree_model.specs.declared.direction.Direction.TheVariants.{Next, Prev}
 use Rattle.tree_model.specs.Cursor.{Cursor}
-use Rattle.ras_search.specs.Algo.{tokens_beyond, tokens_left}
+use Rattle.tree_model.specs.NearestToken.{tokens_beyond}
+use Rattle.ras_search.specs.Algo.{tokens_left}
 use Rattle.ras_search.proofs.TokensAround.{beyond-step, IsRightBeyond}
 use Rattle.ras_search.proofs.algo.Tokens.beyond.Goals as goal
 use Rattle.ras_search.proofs.algo.Tokens.beyond.Goals.{in-Next, in-Prev}

@@ -7,15 +7,15 @@ use Rattle.tree_model.specs.Rows.{place_at}
 use Rattle.tree_model.specs.Cursor.{children_of}
 use Rattle.tree_rows.specs.Walks.{siblings_from}
 use Rattle.lossless_tree.specs.Element.{element_of}
-use Rattle.lossless_tree.specs.Trees.{is_no_trivia}
+use Rattle.tree_model.specs.NearestToken.{is_no_trivia}
 use Rattle.tree_rows.proofs.ChildLists.{children_are}
 use Rattle.lossless_tree.proofs.cursor.node.SyntaxNode.first_child_no_trivia.Goals as goal
 
 pub returns : goal.returns
 returns c =
-    let whole = c.self.inside.table.value in
-    let row = c.self.inside.row in
+    let whole = c.cursor.inside.table.value in
+    let row = c.cursor.inside.row in
     let place : option_map (place_at whole) c.first_child_row-first.result ≡ first_child_place whole (place_at whole row) = rw (← c.deref.ensures) c.first_child_row-first.ensures.place in
     c.first_no_trivia.ensures
     ∙ ap (λ l. option_map element_of (find is_no_trivia l))
-    (c.new.ensures ∙ ap (λ t. siblings_from Next t c.first_child_row-first.result) c.share.ensures.value ∙ sym (ap children_of (sym c.self.view_is) ∙ children_are whole row c.first_child_row-first.result place))
+    (c.new.ensures ∙ ap (λ t. siblings_from Next t c.first_child_row-first.result) c.share.ensures.value ∙ sym (ap children_of (sym (c.cursor.view_is ∙ c.self.view_is)) ∙ children_are whole row c.first_child_row-first.result place))

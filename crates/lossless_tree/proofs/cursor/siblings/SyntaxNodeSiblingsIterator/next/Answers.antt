@@ -1,30 +1,18 @@
-use Rattle.std.proofs.Common.{◌≡◌, ◌∷◌, ◌∙◌, sym, ap, length, arith}
+use Rattle.std.proofs.Common.{refl, rules}
+use Rattle.std.specs.Iterator.{YieldsFirst}
 use Rattle.std.specs.List.{filter}
 use Rattle.tree_model.specs.Cursor.{at_node}
-use Rattle.lossless_tree.proofs.NodeLists.{node_first, token_first, nothing_left}
+use Rattle.lossless_tree.specs.Element.{element_of, node_part}
+use Rattle.lossless_tree.proofs.NodeLists.{same_cursors, adds_node}
+use Rattle.lossless_tree.proofs.FindLemmas.{found, progress}
 use Rattle.lossless_tree.proofs.cursor.siblings.SyntaxNodeSiblingsIterator.next.Goals as goal
-use Rattle.lossless_tree.proofs.cursor.siblings.SyntaxNodeSiblingsIterator.next.Goals.{In-Node}
+use Rattle.lossless_tree.proofs.cursor.siblings.SyntaxNodeSiblingsIterator.next.Goals.{After-find_map}
 
-steps : (c : In-Node) → c.args.self.now ≡ c.in-Node.node ∷ filter at_node c.next.new.self
-steps c = sym c.self.view_is ∙ sym c.loop-element.invariant.same ∙ node_first c.loop-element.self-inside.elements c.next.new.self c.in-Some.element c.in-Node.node c.in-Some.ensures.steps c.in-Node.is
-
-pub returns-in-Node-clause-steps : goal.returns-in-Node-clause-steps
-returns-in-Node-clause-steps c = steps (goal.at.returns-in-Node-clause-steps c).In-Node
-
-pub returns-in-Node-clause-goes : goal.returns-in-Node-clause-goes
-returns-in-Node-clause-goes c = record {
-  on = λ _. (tt, tt, omega (arith, ap length (steps (goal.at.returns-in-Node-clause-goes c).In-Node)));
-  keeps = tt;
-  rests = λ _. tt;
-}
-
-pub loop-element-preserved-in_default-element : goal.loop-element-preserved-in_default-element
-loop-element-preserved-in_default-element c = record {
-  same = sym (token_first c.loop-element.self-inside.elements c.next.new.self c.in-Some.element c.in_default-element.field-0 c.in-Some.ensures.steps c.in_default-element.is) ∙ c.loop-element.invariant.same;
-}
+steps : (c : After-find_map) → YieldsFirst (λ left. left) c.args.self.now c.find_map.result (filter at_node c.find_map.new.self)
+steps c = rw (← c.self.view_is) (found element_of same_cursors node_part (filter at_node) refl adds_node _ (λ f x r h d. (refl, search rules)) _ _ _ _ c.find_map.ensures.ran c.find_map.ensures.runs)
 
 pub returns-clause-steps : goal.returns-clause-steps
-returns-clause-steps c = (
-  sym c.self.view_is ∙ sym c.loop-element.invariant.same ∙ nothing_left c.loop-element.self-inside.elements c.in_default.ensures.steps.0,
-  nothing_left c.next.new.self c.in_default.ensures.steps.1,
-)
+returns-clause-steps c = steps c
+
+pub returns-clause-goes : goal.returns-clause-goes
+returns-clause-goes c = progress (λ left. left) _ _ _ (steps c)
