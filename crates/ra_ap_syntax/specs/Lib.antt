@@ -1,3 +1,79 @@
+-- What the clauses of this crate cite of the crates below, so that a crate above names this one alone.
+pub use Rattle.lossless_tree.specs.TextRange
+pub use Rattle.syntax_kind.specs.Kinds
+pub use Rattle.syntax_kind.specs.KindLaws
+pub use Rattle.tree_model.specs.Tree
+pub use Rattle.tree_model.specs.Events
+pub use Rattle.tree_model.specs.Cursor
+pub use Rattle.tree_model.specs.CursorLaws
+pub use Rattle.tree_model.specs.Neighbours
+pub use Rattle.tree_model.specs.Covering
+pub use Rattle.tree_model.specs.TokenSearch
+pub use Rattle.tree_model.specs.Pointer
+pub use Rattle.tree_model.specs.Edit
+pub use Rattle.tree_model.specs.Every
+pub use Rattle.tree_model.specs.Placed
+pub use Rattle.tree_model.specs.Equality
+pub use Rattle.tree_model.specs.EqualityLaws
+pub use Rattle.lossless_tree.specs.Element
+pub use Rattle.lossless_tree.specs.ElementLaws
+pub use Rattle.lossless_tree.specs.TokenAtOffset
+pub use Rattle.lossless_tree.specs.Trees
+pub use Rattle.lossless_tree.specs.SyntaxText
+pub use Rattle.lossless_tree.specs.WalkEvent
+pub use Rattle.lossless_tree.specs.Dump
+pub use Rattle.lossless_tree.specs.PointerEquality
+pub use Rattle.ras_node.specs.EitherCases
+pub use Rattle.ras_node.specs.KindSets
+pub use Rattle.ras_node.specs.Lookups
+pub use Rattle.ras_node.specs.Nodes
+pub use Rattle.ras_node.specs.Searches
+pub use Rattle.ras_node.specs.Sets
+pub use Rattle.ras_node.specs.PartSets
+pub use Rattle.ras_search.specs.Algo
+pub use Rattle.ras_expr.specs.Args
+pub use Rattle.ras_path.specs.Path
+pub use Rattle.ras_attr.specs.Attrs
+pub use Rattle.ras_meta.specs.Metas
+pub use Rattle.ras_meta.specs.TokenTrees
+pub use Rattle.ras_item.specs.Bounds
+pub use Rattle.ras_item.specs.Slices
+pub use Rattle.ras_literal.specs.Answered
+pub use Rattle.ras_literal.specs.Comments
+pub use Rattle.ras_literal.specs.Fields
+pub use Rattle.ras_literal.specs.Literals
+pub use Rattle.ras_literal.specs.Numbers
+pub use Rattle.ras_literal.specs.Quotes
+pub use Rattle.ras_literal.specs.Texts
+pub use Rattle.ras_literal.specs.Units
+pub use Rattle.literal_escape.specs.Pieces
+pub use Rattle.literal_escape.specs.Reading as EscapeReading
+pub use Rattle.literal_escape.specs.Literal as EscapeLiteral
+pub use Rattle.literal_escape.specs.Messages as EscapeMessages
+pub use Rattle.ras_front_end.specs.Front
+pub use Rattle.ras_front_end.specs.Reading
+pub use Rattle.ras_front_end.specs.Parsed
+pub use Rattle.ras_front_end.specs.Keeps
+pub use Rattle.ras_front_end.specs.Fault
+pub use Rattle.ras_front_end.specs.FaultEquality
+pub use Rattle.ras_parsing.specs.Draft
+pub use Rattle.ras_reparsing.specs.Reparse
+pub use Rattle.ras_reparsing.specs.Edit as TextEdit
+pub use Rattle.ras_typed_parse.specs.AllErrors
+pub use Rattle.ras_typed_parse.specs.Names
+pub use Rattle.ras_typed_parse.specs.OkCases
+pub use Rattle.operator_terms.specs.Term
+pub use Rattle.operator_terms.specs.Places
+pub use Rattle.operator_terms.specs.Precedence
+pub use Rattle.operator_terms.specs.Reading as TermReading
+pub use Rattle.operator_terms.specs.Pairs as TermPairs
+pub use Rattle.operator_trees.specs.Shown
+pub use Rattle.operator_trees.specs.Leaves
+pub use Rattle.operator_reads.specs.Reads
+pub use Rattle.operator_pairs.specs.Pairs
+pub use Rattle.operator_walks.specs.Along
+pub use Rattle.operator_precedence.specs.Levels
+pub use Rattle.paren_rules.specs.Rules
 pub mod AdtCases
 pub mod AnyAttrCases
 pub mod AnyHasAttrsCases

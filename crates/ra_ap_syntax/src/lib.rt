@@ -3,6 +3,7 @@
 
 pub mod ast;
 pub mod laws;
+mod macros;
 mod parsing;
 
 pub use ast::{AstNode, AstToken, SourceFile};
@@ -11,7 +12,7 @@ pub use lossless_tree::{
     Ancestors, Descendants, DescendantsWithTokens, Direction, FinishError, Language, NodeOrToken,
     Preorder, PreorderWithTokens, ReplaceError, RustLanguage, SyntaxElement, SyntaxElementChildren,
     SyntaxElementSiblings, SyntaxKind, SyntaxNode, SyntaxNodeChildren, SyntaxNodeSiblings,
-    SyntaxText, SyntaxToken, T, TextRange, TextSize, TokenAtOffset, TreeBuilder, WalkEvent,
+    SyntaxText, SyntaxToken, TextRange, TextSize, TokenAtOffset, TreeBuilder, WalkEvent,
 };
 pub use ras_front_end::{
     Edition, Entry, FrontEnd, Output, ParseError, Reparser, Step, SyntaxError,

@@ -11,8 +11,12 @@ use crate::reparse::reparse_answer;
 use std::alloc::Global;
 use std::str::from_utf8;
 
-// The output of a command, or why there is none.
-pub(crate) fn answer_to(alloc: Global, command: Command, input: &[u8]) -> Result<String, Refusal>
+/// The output of a command to an input, as [`run`](crate::run) writes it, or why there is none: bytes in, text out.
+///
+/// The input is refused as `NotUtf8` before its lines or its text are looked at; `BadLine`, `BadKind`, `BadRange`, `OtherRoot`,
+/// `TooLong` and those of the builder come as each command states them, and `Read` never. `Memory` is answered only where memory
+/// was refused, and says nothing of the input.
+pub fn answer_to(alloc: Global, command: Command, input: &[u8]) -> Result<String, Refusal>
     ensures { MatchResult result (λ text. AnswersInput command input.now (Ok (string_bytes text))) (λ e. (e ≡ Refusal.Memory) ⊎ AnswersInput command input.now (Err e)) }
 {
     let Ok(text) = from_utf8(input) else {

@@ -14,6 +14,7 @@ mod program;
 mod refusal;
 mod reparse;
 
+pub use answer::answer_to;
 pub use command::Command;
 pub use events::read_events;
 pub use program::run;

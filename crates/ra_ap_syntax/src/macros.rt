@@ -1,0 +1,113 @@
+//! Punctuation and keywords by the way they are written.
+
+/// Names the kind of a punctuation or a keyword by its text, as a value and as a pattern.
+///
+/// `T![+]` is `SyntaxKind::PLUS` and `T![match]` is `SyntaxKind::MATCH_KW`; brackets and the dollar
+/// sign are quoted, as in `T!['(']` and `T!['$']`. It has the arms of `lossless_tree`'s macro, so
+/// that who names this crate alone can use it; `tests/kind_names` compares the two.
+#[macro_export]
+macro_rules! T {
+    [;] => { $crate::SyntaxKind::SEMICOLON };
+    [,] => { $crate::SyntaxKind::COMMA };
+    ['('] => { $crate::SyntaxKind::L_PAREN };
+    [')'] => { $crate::SyntaxKind::R_PAREN };
+    ['{'] => { $crate::SyntaxKind::L_CURLY };
+    ['}'] => { $crate::SyntaxKind::R_CURLY };
+    ['['] => { $crate::SyntaxKind::L_BRACK };
+    [']'] => { $crate::SyntaxKind::R_BRACK };
+    [<] => { $crate::SyntaxKind::L_ANGLE };
+    [>] => { $crate::SyntaxKind::R_ANGLE };
+    [@] => { $crate::SyntaxKind::AT };
+    [#] => { $crate::SyntaxKind::POUND };
+    ['$'] => { $crate::SyntaxKind::DOLLAR };
+    [~] => { $crate::SyntaxKind::TILDE };
+    [?] => { $crate::SyntaxKind::QUESTION };
+    [&] => { $crate::SyntaxKind::AMP };
+    [|] => { $crate::SyntaxKind::PIPE };
+    [+] => { $crate::SyntaxKind::PLUS };
+    [*] => { $crate::SyntaxKind::STAR };
+    [/] => { $crate::SyntaxKind::SLASH };
+    [^] => { $crate::SyntaxKind::CARET };
+    [%] => { $crate::SyntaxKind::PERCENT };
+    [_] => { $crate::SyntaxKind::UNDERSCORE };
+    [.] => { $crate::SyntaxKind::DOT };
+    [..] => { $crate::SyntaxKind::DOT2 };
+    [...] => { $crate::SyntaxKind::DOT3 };
+    [..=] => { $crate::SyntaxKind::DOT2EQ };
+    [:] => { $crate::SyntaxKind::COLON };
+    [::] => { $crate::SyntaxKind::COLON2 };
+    [=] => { $crate::SyntaxKind::EQ };
+    [==] => { $crate::SyntaxKind::EQ2 };
+    [=>] => { $crate::SyntaxKind::FAT_ARROW };
+    [!] => { $crate::SyntaxKind::BANG };
+    [!=] => { $crate::SyntaxKind::NEQ };
+    [-] => { $crate::SyntaxKind::MINUS };
+    [->] => { $crate::SyntaxKind::THIN_ARROW };
+    [<=] => { $crate::SyntaxKind::LTEQ };
+    [>=] => { $crate::SyntaxKind::GTEQ };
+    [+=] => { $crate::SyntaxKind::PLUSEQ };
+    [-=] => { $crate::SyntaxKind::MINUSEQ };
+    [|=] => { $crate::SyntaxKind::PIPEEQ };
+    [&=] => { $crate::SyntaxKind::AMPEQ };
+    [^=] => { $crate::SyntaxKind::CARETEQ };
+    [/=] => { $crate::SyntaxKind::SLASHEQ };
+    [*=] => { $crate::SyntaxKind::STAREQ };
+    [%=] => { $crate::SyntaxKind::PERCENTEQ };
+    [&&] => { $crate::SyntaxKind::AMP2 };
+    [||] => { $crate::SyntaxKind::PIPE2 };
+    [<<] => { $crate::SyntaxKind::SHL };
+    [>>] => { $crate::SyntaxKind::SHR };
+    [<<=] => { $crate::SyntaxKind::SHLEQ };
+    [>>=] => { $crate::SyntaxKind::SHREQ };
+    [as] => { $crate::SyntaxKind::AS_KW };
+    [async] => { $crate::SyntaxKind::ASYNC_KW };
+    [auto] => { $crate::SyntaxKind::AUTO_KW };
+    [await] => { $crate::SyntaxKind::AWAIT_KW };
+    [become] => { $crate::SyntaxKind::BECOME_KW };
+    [bikeshed] => { $crate::SyntaxKind::BIKESHED_KW };
+    [break] => { $crate::SyntaxKind::BREAK_KW };
+    [builtin] => { $crate::SyntaxKind::BUILTIN_KW };
+    [const] => { $crate::SyntaxKind::CONST_KW };
+    [continue] => { $crate::SyntaxKind::CONTINUE_KW };
+    [crate] => { $crate::SyntaxKind::CRATE_KW };
+    [default] => { $crate::SyntaxKind::DEFAULT_KW };
+    [do] => { $crate::SyntaxKind::DO_KW };
+    [dyn] => { $crate::SyntaxKind::DYN_KW };
+    [else] => { $crate::SyntaxKind::ELSE_KW };
+    [enum] => { $crate::SyntaxKind::ENUM_KW };
+    [extern] => { $crate::SyntaxKind::EXTERN_KW };
+    [false] => { $crate::SyntaxKind::FALSE_KW };
+    [fn] => { $crate::SyntaxKind::FN_KW };
+    [for] => { $crate::SyntaxKind::FOR_KW };
+    [gen] => { $crate::SyntaxKind::GEN_KW };
+    [if] => { $crate::SyntaxKind::IF_KW };
+    [impl] => { $crate::SyntaxKind::IMPL_KW };
+    [in] => { $crate::SyntaxKind::IN_KW };
+    [let] => { $crate::SyntaxKind::LET_KW };
+    [loop] => { $crate::SyntaxKind::LOOP_KW };
+    [macro] => { $crate::SyntaxKind::MACRO_KW };
+    [macro_rules] => { $crate::SyntaxKind::MACRO_RULES_KW };
+    [match] => { $crate::SyntaxKind::MATCH_KW };
+    [mod] => { $crate::SyntaxKind::MOD_KW };
+    [move] => { $crate::SyntaxKind::MOVE_KW };
+    [mut] => { $crate::SyntaxKind::MUT_KW };
+    [pub] => { $crate::SyntaxKind::PUB_KW };
+    [ref] => { $crate::SyntaxKind::REF_KW };
+    [return] => { $crate::SyntaxKind::RETURN_KW };
+    [self] => { $crate::SyntaxKind::SELF_KW };
+    [Self] => { $crate::SyntaxKind::SELF_TYPE_KW };
+    [static] => { $crate::SyntaxKind::STATIC_KW };
+    [struct] => { $crate::SyntaxKind::STRUCT_KW };
+    [super] => { $crate::SyntaxKind::SUPER_KW };
+    [trait] => { $crate::SyntaxKind::TRAIT_KW };
+    [true] => { $crate::SyntaxKind::TRUE_KW };
+    [try] => { $crate::SyntaxKind::TRY_KW };
+    [type] => { $crate::SyntaxKind::TYPE_KW };
+    [union] => { $crate::SyntaxKind::UNION_KW };
+    [unsafe] => { $crate::SyntaxKind::UNSAFE_KW };
+    [use] => { $crate::SyntaxKind::USE_KW };
+    [where] => { $crate::SyntaxKind::WHERE_KW };
+    [while] => { $crate::SyntaxKind::WHILE_KW };
+    [yeet] => { $crate::SyntaxKind::YEET_KW };
+    [yield] => { $crate::SyntaxKind::YIELD_KW };
+}
