@@ -1,7 +1,9 @@
 //! What `preorder_with_tokens` has to do at the least: a plain Rust loop over rows of 16 bytes and a column of parents, as
-//! `lossless_tree` keeps them, that enters and leaves each row. It makes no cursors and hands nothing out. It goes over the same
-//! trees as `tree_bench` and prints the same lines for that one operation.
+//! `lossless_tree` keeps them, that enters and leaves each row. It makes no cursors and hands nothing out. Asked for `counted`, it
+//! hands out a cursor at each step that is counted up and down again, where a full count stays full, as owners of a tree are in
+//! `shared_pointer`. It goes over the same trees as `tree_bench` and prints the same lines for that one operation.
 
+use std::cell::Cell;
 use std::hint::black_box;
 use std::time::Instant;
 
@@ -65,6 +67,70 @@ impl Rows {
     }
 }
 
+// A cursor, which counts as an owner of the rows while it is there.
+struct Cursor<'r> {
+    rows: &'r Rows,
+    owners: &'r Cell<usize>,
+    row: usize,
+}
+
+impl<'r> Cursor<'r> {
+    fn new(rows: &'r Rows, owners: &'r Cell<usize>, row: usize) -> Cursor<'r> {
+        if owners.get() != usize::MAX {
+            owners.set(owners.get() + 1);
+        }
+        Cursor { rows, owners, row }
+    }
+}
+
+impl Drop for Cursor<'_> {
+    fn drop(&mut self) {
+        if self.owners.get() != usize::MAX {
+            self.owners.set(self.owners.get() - 1);
+        }
+    }
+}
+
+// The walk, whose steps enter (true) or leave a cursor.
+struct Walk<'r> {
+    rows: &'r Rows,
+    owners: &'r Cell<usize>,
+    next: usize,
+    innermost: Option<usize>,
+}
+
+impl<'r> Iterator for Walk<'r> {
+    type Item = (bool, Cursor<'r>);
+
+    fn next(&mut self) -> Option<(bool, Cursor<'r>)> {
+        let (enters, row) = match self.innermost {
+            None if self.next != 0 => return None,
+            None => (true, 0),
+            Some(inner) if self.next < self.rows.rows[inner].behind as usize => (true, self.next),
+            Some(inner) => (false, inner),
+        };
+        if enters {
+            self.next += 1;
+            self.innermost = Some(row);
+        } else {
+            self.innermost = if row == 0 { None } else { Some(self.rows.parents[row] as usize) };
+        }
+        Some((enters, Cursor::new(self.rows, self.owners, row)))
+    }
+}
+
+// How many rows are entered, and the sum of their starts, by cursors.
+fn walk_counted(rows: &Rows, owners: &Cell<usize>) -> (u64, u64) {
+    let (mut count, mut sum) = (0, 0);
+    for (enters, cursor) in (Walk { rows, owners, next: 0, innermost: None }) {
+        if enters {
+            count += 1;
+            sum += cursor.rows.rows[cursor.row].start as u64;
+        }
+    }
+    (count, sum)
+}
+
 fn add_balanced(rows: &mut Rows, depth: u32) {
     if depth == 0 {
         rows.token(2);
@@ -108,21 +174,24 @@ fn chain(depth: u64) -> Rows {
     rows
 }
 
-fn time(name: &str, runs: u32, rows: Rows) {
+fn time(counted: bool, name: &str, runs: u32, rows: Rows) {
+    let owners = Cell::new(1);
     let mut best = u128::MAX;
     let mut seen = (0, 0);
     for _ in 0..runs {
         let start = Instant::now();
-        seen = black_box(black_box(&rows).walk());
+        seen = if counted { walk_counted(black_box(&rows), black_box(&owners)) } else { black_box(&rows).walk() };
+        black_box(seen);
         best = best.min(start.elapsed().as_nanos());
     }
     println!("preorder_with_tokens {name} {} {best} {}", seen.0, seen.1);
 }
 
 fn main() {
+    let counted = std::env::args().nth(1).is_some_and(|word| word == "counted");
     for (depth, runs) in [(5, 50), (7, 20), (8, 10), (10, 3)] {
-        time(&format!("balanced-4^{depth}"), runs, balanced(depth));
+        time(counted, &format!("balanced-4^{depth}"), runs, balanced(depth));
     }
-    time("wide-100000", 10, wide(100_000));
-    time("chain-10000", 20, chain(10_000));
+    time(counted, "wide-100000", 10, wide(100_000));
+    time(counted, "chain-10000", 20, chain(10_000));
 }
