@@ -47,8 +47,9 @@ pub(crate) fn parens(alloc: Global, text: &str) -> Result<String, Refusal>
     ensures { MatchResult result (λ out. AnswersParens text.now (Ok (string_bytes out))) (λ e. (e ≡ Refusal.Memory) ⊎ AnswersParens text.now (Err e)) }
 {
     let parse = Expr::parse(alloc, text, &Tiny, Edition::CURRENT)?;
-    match parse.tree() {
-        Some(tree) => Ok(report(alloc, tree.syntax())?),
-        None => Err(Refusal::OtherRoot),
+    let root = parse.syntax_node();
+    if !Expr::can_cast(root.kind()) {
+        return Err(Refusal::OtherRoot);
     }
+    Ok(report(alloc, &root)?)
 }
