@@ -224,13 +224,13 @@ fn siblings_are_read(rt: HostRuntime) -> Result<(), Fail> {
     assert!(rt; number.inside().is_done());
     let sign = all.rest().without_trivia();
     assert_eq!(rt; sign.kind(), SyntaxKind::PLUS);
-    assert_eq!(rt; sign.start(), 2);
+    assert_eq!(rt; sign.start().raw(), 2);
     let last = sign.rest().without_trivia();
     assert_eq!(rt; last.text(), "1");
-    assert_eq!(rt; last.start(), 4);
+    assert_eq!(rt; last.start().raw(), 4);
     let none = last.rest();
     assert!(rt; none.is_done());
-    assert_eq!(rt; none.start(), 5);
+    assert_eq!(rt; none.start().raw(), 5);
     assert_eq!(rt; none.kind(), SyntaxKind::OTHER(0));
     assert!(rt; none.all().rest().inside().without_trivia().is_done());
     Ok(())
