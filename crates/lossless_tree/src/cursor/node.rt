@@ -17,12 +17,13 @@ use super::ancestors::Ancestors;
 use super::children::{SyntaxElementChildren, SyntaxNodeChildren};
 use super::descendants::{Descendants, DescendantsWithTokens};
 use super::element::{SyntaxElement, element};
+use super::equality::{feed, is_same};
 use super::preorder::{Preorder, PreorderWithTokens};
 use super::siblings::{SyntaxElementSiblings, SyntaxNodeSiblings, first_no_trivia};
 use super::text::SyntaxText;
 use super::token::SyntaxToken;
 use super::token_at_offset::TokenAtOffset;
-use super::tree_cursor::TreeCursor;
+use crate::dump;
 use crate::siblings_left::SiblingsLeft;
 use shared_pointer::Shared;
 use std::alloc::{AllocError, Global};
@@ -38,7 +39,8 @@ use tree_rows::Table;
 /// Cloning one takes no memory and always succeeds. A clause sees the whole tree and the node's place in it.
 #[derive(Drop)]
 pub struct SyntaxNode {
-    cursor: TreeCursor,
+    table: Shared<Table>,
+    row: usize,
 }
 
 impl Model for SyntaxNode {
@@ -49,29 +51,26 @@ impl Model for SyntaxNode {
     ghost coded = { cursor_code };
 
     ghost use Rattle.tree_model.specs.Tree.{IsNode};
-    ghost use Rattle.tree_model.specs.Cursor.{focus};
+    ghost use Rattle.tree_model.specs.Rows.{place_at, tree_at, IsRow};
 
-    ghost view = { λ a. a.cursor };
+    ghost view = { λ a. record { tree = a.table.value; place = place_at a.table.value a.row } };
 
-    ghost invariant = { λ a. IsNode (focus a.cursor) };
+    ghost invariant = { λ a. IsRow a.table.value a.row × IsNode (tree_at a.table.value a.row) };
 }
 
 impl SyntaxNode {
-    ghost use Rattle.std.specs.Prelude.{◌≡◌, IfOk};
+    ghost use Rattle.std.specs.Prelude.{◌≡◌};
     ghost use Rattle.tree_model.specs.Tree.{IsNode};
     ghost use Rattle.tree_model.specs.Rows.{IsRow, tree_at};
-    ghost use Rattle.tree_model.specs.Cursor.{cursor_at};
-    ghost use Rattle.tree_model.specs.Edit.{root_of};
+    ghost use Rattle.tree_model.specs.Cursor.{cursor_at, IsRoot};
 
-    // The root of the tree of a table whose first row is a node.
-    pub(crate) fn root(alloc: Global, table: Table) -> Result<SyntaxNode, AllocError>
-        requires { IsNode table }
-        ensures { IfOk result (λ root. root ≡ root_of table) }
+    // The root of a table whose first row is a node.
+    pub(crate) fn root(table: Shared<Table>) -> SyntaxNode
+        requires { IsNode table.value }
+        ensures tree { result.tree ≡ table.value }
+        ensures root { IsRoot result }
     {
-        let table = Shared::new(alloc, table)?;
-        Ok(SyntaxNode {
-            cursor: TreeCursor { table, row: 0 },
-        })
+        SyntaxNode { table, row: 0 }
     }
 
     // The node at a row.
@@ -80,9 +79,7 @@ impl SyntaxNode {
         requires is_node { IsNode (tree_at table.value row) }
         ensures { result ≡ cursor_at table.value row }
     {
-        SyntaxNode {
-            cursor: TreeCursor { table, row },
-        }
+        SyntaxNode { table, row }
     }
 }
 
@@ -93,8 +90,9 @@ impl SyntaxNode {
     pub fn clone_subtree(&self, alloc: Global) -> Result<SyntaxNode, AllocError>
         ensures { IfOk result (λ root. root ≡ root_of (focus self.now)) }
     {
-        let table = self.cursor.table.subtree(alloc, self.cursor.row)?;
-        SyntaxNode::root(alloc, table)
+        let table = self.table.subtree(alloc, self.row)?;
+        let table = Shared::new(alloc, table)?;
+        Ok(SyntaxNode::root(table))
     }
 
     /// The root of a new tree: this node's whole tree with `replacement` in place of this node. The old tree stays as
@@ -109,10 +107,13 @@ impl SyntaxNode {
         ensures ok { IfOk result (λ root. root ≡ root_of (replace self.now.tree self.now.place (focus replacement.now))) }
         ensures too_long { IsErrOf result TooLong ↔ (2 ^ 32 ≤ length (text (replace self.now.tree self.now.place (focus replacement.now)))) }
     {
-        let old = &self.cursor;
-        let new = &replacement.cursor;
-        let table = old.table.with_node(alloc, old.row, &new.table, new.row)?;
-        Ok(SyntaxNode::root(alloc, table)?)
+        let table = self
+            .table
+            .with_node(alloc, self.row, &replacement.table, replacement.row)?;
+        match Shared::new(alloc, table) {
+            Ok(table) => Ok(SyntaxNode::root(table)),
+            Err(_) => Err(ReplaceError::Memory),
+        }
     }
 }
 
@@ -121,14 +122,14 @@ impl SyntaxNode {
     pub fn text(&self) -> SyntaxText<'_>
         ensures { result ≡ text (focus self.now) }
     {
-        SyntaxText::of_row(&self.cursor.table, self.cursor.row)
+        SyntaxText::of_row(&self.table, self.row)
     }
 
     /// The node's children, as siblings that are left to read.
     pub fn trees(&self) -> SiblingsLeft<'_>
         ensures { result ≡ record { trees = forest_of_children (focus self.now); start = range_start self.now } }
     {
-        SiblingsLeft::below(&self.cursor.table, self.cursor.row)
+        SiblingsLeft::below(&self.table, self.row)
     }
 
     /// The text of child number `n`, from 0, where that is a token; `None` for a node, and where there is no such child.
@@ -159,7 +160,7 @@ impl SyntaxNode {
         ensures placed { IsPlaced self.now }
         ensures node { IsNode (focus self.now) }
     {
-        self.cursor.placed()
+        self.table.placed(self.row)
     }
 }
 
@@ -168,52 +169,52 @@ impl SyntaxNode {
     pub fn kind(&self) -> SyntaxKind
         ensures { result ≡ kind_of (focus self.now) }
     {
-        self.cursor.kind()
+        self.table.kind_at(self.row)
     }
 
     /// The range of the node's text in the whole tree's text, in bytes. A node without text has an empty range.
     pub fn text_range(&self) -> TextRange
         ensures { result ≡ range_of self.now }
     {
-        self.cursor.text_range()
+        self.table.range_at(self.row)
     }
 
     /// The node's text, a slice of the tree's one text.
     pub fn as_str(&self) -> &str
         ensures { result.now ≡ text (focus self.now) }
     {
-        self.cursor.text()
+        self.table.text_at(self.row)
     }
 
     /// The node that this one is a child of; `None` for the root. It takes constant time.
     pub fn parent(&self) -> Option<SyntaxNode>
         ensures { result ≡ parent_of self.now }
     {
-        self.cursor.parent()
+        let row = self.table.parent_row(self.row)?;
+        Some(SyntaxNode::at(self.table.share(), row))
     }
 
     /// This node, its parent, its parent's parent, up to the root.
     pub fn ancestors(&self) -> Ancestors
         ensures { result ≡ ancestors_of self.now }
     {
-        Ancestors::new(SyntaxNode {
-            cursor: self.cursor.share(),
-        })
+        Ancestors::new(SyntaxNode::at(self.table.share(), self.row))
     }
 
     /// The first child, node or token; `None` where there is none.
     pub fn first_child_or_token(&self) -> Option<SyntaxElement>
         ensures { result ≡ option_map element_of (first_child_of self.now) }
     {
-        let row = self.cursor.table.first_child_row(self.cursor.row)?;
-        Some(element(&self.cursor.table, row))
+        let row = self.table.first_child_row(self.row)?;
+        Some(element(&self.table, row))
     }
 
     /// What follows this node in its parent, node or token; `None` for the last child and the root.
     pub fn next_sibling_or_token(&self) -> Option<SyntaxElement>
         ensures { result ≡ option_map element_of (next_sibling_of self.now) }
     {
-        self.cursor.next_sibling_or_token()
+        let row = self.table.next_sibling_row(self.row)?;
+        Some(element(&self.table, row))
     }
 
     /// The last child, node or token; `None` where there is none. It climbs from the subtree's last row, so it takes
@@ -221,8 +222,8 @@ impl SyntaxNode {
     pub fn last_child_or_token(&self) -> Option<SyntaxElement>
         ensures { result ≡ option_map element_of (last_child_of self.now) }
     {
-        let row = self.cursor.table.last_child_row(self.cursor.row)?;
-        Some(element(&self.cursor.table, row))
+        let row = self.table.last_child_row(self.row)?;
+        Some(element(&self.table, row))
     }
 
     /// What comes before this node in its parent, node or token; `None` for the first child and the root. It climbs
@@ -231,14 +232,15 @@ impl SyntaxNode {
     pub fn prev_sibling_or_token(&self) -> Option<SyntaxElement>
         ensures { result ≡ option_map element_of (prev_sibling_of self.now) }
     {
-        self.cursor.prev_sibling_or_token()
+        let row = self.table.prev_sibling_row(self.row)?;
+        Some(element(&self.table, row))
     }
 
     /// The children, nodes and tokens, in order.
     pub fn children_with_tokens(&self) -> SyntaxElementChildren
         ensures { result ≡ children_of self.now }
     {
-        SyntaxElementChildren::new(self.cursor.table.share(), self.cursor.row)
+        SyntaxElementChildren::new(self.table.share(), self.row)
     }
 
     /// The child nodes, in order.
@@ -261,18 +263,16 @@ impl SyntaxNode {
     pub fn last_child(&self) -> Option<SyntaxNode>
         ensures { result ≡ find at_node (reverse (children_of self.now)) }
     {
-        let cursor = &self.cursor;
-        let last = cursor.table.last_child_row(cursor.row);
-        nearest_node(&cursor.table, last, Direction::Prev)
+        let last = self.table.last_child_row(self.row);
+        nearest_node(&self.table, last, Direction::Prev)
     }
 
     /// The nearest sibling node behind this one; `None` where there is none. It passes over the tokens between.
     pub fn next_sibling(&self) -> Option<SyntaxNode>
         ensures { result ≡ find at_node (following_of self.now) }
     {
-        let cursor = &self.cursor;
-        let next = cursor.table.next_sibling_row(cursor.row);
-        nearest_node(&cursor.table, next, Direction::Next)
+        let next = self.table.next_sibling_row(self.row);
+        nearest_node(&self.table, next, Direction::Next)
     }
 
     /// The nearest sibling node before this one; `None` where there is none. It passes over the tokens between, and takes
@@ -280,9 +280,8 @@ impl SyntaxNode {
     pub fn prev_sibling(&self) -> Option<SyntaxNode>
         ensures { result ≡ find at_node (preceding_of self.now) }
     {
-        let cursor = &self.cursor;
-        let prev = cursor.table.prev_sibling_row(cursor.row);
-        nearest_node(&cursor.table, prev, Direction::Prev)
+        let prev = self.table.prev_sibling_row(self.row);
+        nearest_node(&self.table, prev, Direction::Prev)
     }
 
     /// The first child, node or token, that is no trivia: no token of white space or a comment; `None` where there is
@@ -290,9 +289,8 @@ impl SyntaxNode {
     pub fn first_child_no_trivia(&self) -> Option<SyntaxElement>
         ensures { result ≡ option_map element_of (find is_no_trivia (children_of self.now)) }
     {
-        let cursor = &self.cursor;
-        let first = cursor.table.first_child_row(cursor.row);
-        first_no_trivia(SyntaxElementSiblings::new(cursor.table.share(), first, Direction::Next))
+        let first = self.table.first_child_row(self.row);
+        first_no_trivia(SyntaxElementSiblings::new(self.table.share(), first, Direction::Next))
     }
 
     /// The nearest later sibling, node or token, that is no trivia: no token of white space or a comment; `None` where
@@ -300,7 +298,8 @@ impl SyntaxNode {
     pub fn next_no_trivia(&self) -> Option<SyntaxElement>
         ensures { result ≡ option_map element_of (find is_no_trivia (following_of self.now)) }
     {
-        self.cursor.next_no_trivia()
+        let later = self.table.next_sibling_row(self.row);
+        first_no_trivia(SyntaxElementSiblings::new(self.table.share(), later, Direction::Next))
     }
 
     /// This node and its siblings in a direction, nodes and tokens. A step backwards takes time in the depth of the
@@ -308,7 +307,7 @@ impl SyntaxNode {
     pub fn siblings_with_tokens(&self, direction: Direction) -> SyntaxElementSiblings
         ensures { result ≡ siblings_in direction self.now }
     {
-        self.cursor.siblings_with_tokens(direction)
+        SyntaxElementSiblings::new(self.table.share(), Some(self.row), direction)
     }
 
     /// This node and its sibling nodes in a direction. A step backwards takes time in the depth of the siblings before.
@@ -322,16 +321,16 @@ impl SyntaxNode {
     pub fn first_token(&self) -> Option<SyntaxToken>
         ensures { result ≡ find at_token (descendants_of self.now) }
     {
-        let row = self.cursor.table.first_token_in(self.cursor.row)?;
-        Some(SyntaxToken::at(self.cursor.table.share(), row))
+        let row = self.table.first_token_in(self.row)?;
+        Some(SyntaxToken::at(self.table.share(), row))
     }
 
     /// The last token below this node; `None` where there is none. It takes time in the number of nodes behind it.
     pub fn last_token(&self) -> Option<SyntaxToken>
         ensures { result ≡ find at_token (reverse (descendants_of self.now)) }
     {
-        let row = self.cursor.table.last_token_in(self.cursor.row)?;
-        Some(SyntaxToken::at(self.cursor.table.share(), row))
+        let row = self.table.last_token_in(self.row)?;
+        Some(SyntaxToken::at(self.table.share(), row))
     }
 
     /// The walk of the nodes alone: it enters this node, walks its child nodes in order, and leaves it.
@@ -352,14 +351,14 @@ impl SyntaxNode {
     pub fn preorder_with_tokens(&self) -> PreorderWithTokens
         ensures { result ≡ walk_of self.now }
     {
-        PreorderWithTokens::new(self.cursor.table.share(), self.cursor.row)
+        PreorderWithTokens::new(self.table.share(), self.row)
     }
 
     /// The nodes and tokens of this subtree in preorder, this node first.
     pub fn descendants_with_tokens(&self) -> DescendantsWithTokens
         ensures { result ≡ descendants_of self.now }
     {
-        DescendantsWithTokens::new(self.cursor.table.share(), self.cursor.row)
+        DescendantsWithTokens::new(self.table.share(), self.row)
     }
 }
 
@@ -379,10 +378,7 @@ impl SyntaxNode {
     pub fn token_at_offset(&self, offset: TextSize) -> TokenAtOffset<SyntaxToken>
         ensures { found_tokens result ≡ tokens_at self.now offset }
     {
-        let (left, right) = self
-            .cursor
-            .table
-            .tokens_at(self.cursor.row, offset.raw() as usize);
+        let (left, right) = self.table.tokens_at(self.row, offset.raw() as usize);
         match (left, right) {
             (None, None) => TokenAtOffset::None,
             (Some(row), None) | (None, Some(row)) => TokenAtOffset::Single(self.token(row)),
@@ -403,20 +399,19 @@ impl SyntaxNode {
     pub fn covering_element(&self, range: TextRange) -> SyntaxElement
         ensures { result ≡ element_of (covering_of self.now range) }
     {
-        let row = self.cursor.table.covering_row(self.cursor.row, range);
-        element(&self.cursor.table, row)
+        let row = self.table.covering_row(self.row, range);
+        element(&self.table, row)
     }
 
     // The first node of this tree in preorder with this kind and range; `None` where this node is not the root.
     pub(crate) fn first_in_root(&self, kind: SyntaxKind, range: TextRange) -> Option<SyntaxNode>
         ensures { Finds (record { kind = kind; range = range }) self.now result }
     {
-        let cursor = &self.cursor;
-        if cursor.row != 0 {
+        if self.row != 0 {
             return None;
         }
-        let row = cursor.table.first_node(kind, range)?;
-        Some(SyntaxNode::at(cursor.table.share(), row))
+        let row = self.table.first_node(kind, range)?;
+        Some(SyntaxNode::at(self.table.share(), row))
     }
 
     // The token at a row of this tree.
@@ -425,7 +420,7 @@ impl SyntaxNode {
         requires is_token { IsToken (tree_at self.now.tree row) }
         ensures { result ≡ cursor_at self.now.tree row }
     {
-        SyntaxToken::at(self.cursor.table.share(), row)
+        SyntaxToken::at(self.table.share(), row)
     }
 }
 
@@ -439,7 +434,7 @@ impl SyntaxNode {
     pub fn dump(&self, alloc: Global) -> Result<String, AllocError>
         ensures { IfOk result (λ text. string_bytes text ≡ dump_of self.now) }
     {
-        self.cursor.dump(alloc)
+        dump::dump(alloc, &self.table, self.row)
     }
 }
 
@@ -466,7 +461,8 @@ impl Clone for SyntaxNode {
 
     fn clone(&self) -> Result<SyntaxNode, AllocError> {
         Ok(SyntaxNode {
-            cursor: self.cursor.share(),
+            table: self.table.share(),
+            row: self.row,
         })
     }
 }
@@ -482,7 +478,7 @@ impl PartialEq for SyntaxNode {
     ghost laws = { partial_equiv_from_equiv cursor_equivalence };
 
     fn eq(&self, other: &SyntaxNode) -> bool {
-        self.cursor.is_same(&other.cursor)
+        is_same(&self.table, self.row, &other.table, other.row)
     }
 }
 
@@ -502,6 +498,6 @@ impl Hash for SyntaxNode {
     ghost respects_eq = { cursors_alike };
 
     fn hash<H: Hasher>(&self, state: &mut H) {
-        self.cursor.feed(state);
+        feed(&self.table, self.row, state);
     }
 }

@@ -12,10 +12,11 @@ ghost use Rattle.lossless_tree.specs.Element.{element_of};
 ghost use Rattle.lossless_tree.specs.Dump.{dump_of};
 
 use super::ancestors::Ancestors;
-use super::element::SyntaxElement;
+use super::element::{SyntaxElement, element};
+use super::equality::{feed, is_same};
 use super::node::SyntaxNode;
-use super::siblings::SyntaxElementSiblings;
-use super::tree_cursor::TreeCursor;
+use super::siblings::{SyntaxElementSiblings, first_no_trivia};
+use crate::dump;
 use shared_pointer::Shared;
 use std::alloc::{AllocError, Global};
 use std::hash::{Hash, Hasher};
@@ -30,7 +31,8 @@ use tree_rows::Table;
 /// Cloning one takes no memory and always succeeds. A clause sees the whole tree and the token's place in it.
 #[derive(Drop)]
 pub struct SyntaxToken {
-    cursor: TreeCursor,
+    table: Shared<Table>,
+    row: usize,
 }
 
 impl Model for SyntaxToken {
@@ -41,11 +43,11 @@ impl Model for SyntaxToken {
     ghost coded = { cursor_code };
 
     ghost use Rattle.tree_model.specs.Tree.{IsToken};
-    ghost use Rattle.tree_model.specs.Cursor.{focus};
+    ghost use Rattle.tree_model.specs.Rows.{place_at, tree_at, IsRow};
 
-    ghost view = { λ a. a.cursor };
+    ghost view = { λ a. record { tree = a.table.value; place = place_at a.table.value a.row } };
 
-    ghost invariant = { λ a. IsToken (focus a.cursor) };
+    ghost invariant = { λ a. IsRow a.table.value a.row × IsToken (tree_at a.table.value a.row) };
 }
 
 impl SyntaxToken {
@@ -60,9 +62,7 @@ impl SyntaxToken {
         requires is_token { IsToken (tree_at table.value row) }
         ensures { result ≡ cursor_at table.value row }
     {
-        SyntaxToken {
-            cursor: TreeCursor { table, row },
-        }
+        SyntaxToken { table, row }
     }
 }
 
@@ -80,9 +80,11 @@ impl SyntaxToken {
         ensures ok { IfOk result (λ root. root ≡ root_of (replace self.now.tree self.now.place (token kind new.now))) }
         ensures too_long { IsErrOf result TooLong ↔ (2 ^ 32 ≤ length (text (replace self.now.tree self.now.place (token kind new.now)))) }
     {
-        let old = &self.cursor;
-        let table = old.table.with_token(alloc, old.row, kind, new)?;
-        Ok(SyntaxNode::root(alloc, table)?)
+        let table = self.table.with_token(alloc, self.row, kind, new)?;
+        match Shared::new(alloc, table) {
+            Ok(table) => Ok(SyntaxNode::root(table)),
+            Err(_) => Err(ReplaceError::Memory),
+        }
     }
 }
 
@@ -93,7 +95,7 @@ impl SyntaxToken {
         ensures placed { IsPlaced self.now }
         ensures token { IsToken (focus self.now) }
     {
-        self.cursor.placed()
+        self.table.placed(self.row)
     }
 }
 
@@ -102,21 +104,21 @@ impl SyntaxToken {
     pub fn kind(&self) -> SyntaxKind
         ensures { result ≡ kind_of (focus self.now) }
     {
-        self.cursor.kind()
+        self.table.kind_at(self.row)
     }
 
     /// The range of the token's text in the whole tree's text, in bytes. A token without text has an empty range.
     pub fn text_range(&self) -> TextRange
         ensures { result ≡ range_of self.now }
     {
-        self.cursor.text_range()
+        self.table.range_at(self.row)
     }
 
     /// The token's text, a slice of the tree's one text.
     pub fn text(&self) -> &str
         ensures { result.now ≡ text (focus self.now) }
     {
-        self.cursor.text()
+        self.table.text_at(self.row)
     }
 
     /// The node that this token is a child of. It is never `None`, since the root of a tree is a node. It takes constant
@@ -124,14 +126,16 @@ impl SyntaxToken {
     pub fn parent(&self) -> Option<SyntaxNode>
         ensures { result ≡ parent_of self.now }
     {
-        self.cursor.parent()
+        let row = self.table.parent_row(self.row)?;
+        Some(SyntaxNode::at(self.table.share(), row))
     }
 
     /// What follows this token in its parent, node or token; `None` for the last child.
     pub fn next_sibling_or_token(&self) -> Option<SyntaxElement>
         ensures { result ≡ option_map element_of (next_sibling_of self.now) }
     {
-        self.cursor.next_sibling_or_token()
+        let row = self.table.next_sibling_row(self.row)?;
+        Some(element(&self.table, row))
     }
 
     /// The nodes above this token, the nearest first, up to the root.
@@ -146,7 +150,8 @@ impl SyntaxToken {
     pub fn prev_sibling_or_token(&self) -> Option<SyntaxElement>
         ensures { result ≡ option_map element_of (prev_sibling_of self.now) }
     {
-        self.cursor.prev_sibling_or_token()
+        let row = self.table.prev_sibling_row(self.row)?;
+        Some(element(&self.table, row))
     }
 
     /// The nearest later sibling, node or token, that is no trivia: no token of white space or a comment; `None` where
@@ -154,7 +159,8 @@ impl SyntaxToken {
     pub fn next_no_trivia(&self) -> Option<SyntaxElement>
         ensures { result ≡ option_map element_of (find is_no_trivia (following_of self.now)) }
     {
-        self.cursor.next_no_trivia()
+        let next = self.table.next_sibling_row(self.row);
+        first_no_trivia(SyntaxElementSiblings::new(self.table.share(), next, Direction::Next))
     }
 
     /// This token and its siblings in a direction, nodes and tokens. A step backwards takes time in the depth of the
@@ -162,7 +168,7 @@ impl SyntaxToken {
     pub fn siblings_with_tokens(&self, direction: Direction) -> SyntaxElementSiblings
         ensures { result ≡ siblings_in direction self.now }
     {
-        self.cursor.siblings_with_tokens(direction)
+        SyntaxElementSiblings::new(self.table.share(), Some(self.row), direction)
     }
 
     /// The token right behind this one in the whole tree; `None` for the last. It takes time in the number of nodes
@@ -170,8 +176,8 @@ impl SyntaxToken {
     pub fn next_token(&self) -> Option<SyntaxToken>
         ensures { IsRightBehind (all_tokens self.now) self.now result }
     {
-        let row = self.cursor.table.next_token_row(self.cursor.row)?;
-        Some(SyntaxToken::at(self.cursor.table.share(), row))
+        let row = self.table.next_token_row(self.row)?;
+        Some(SyntaxToken::at(self.table.share(), row))
     }
 
     /// The token right before this one in the whole tree; `None` for the first. It takes time in the number of nodes
@@ -179,8 +185,8 @@ impl SyntaxToken {
     pub fn prev_token(&self) -> Option<SyntaxToken>
         ensures { IsRightBefore (all_tokens self.now) self.now result }
     {
-        let row = self.cursor.table.prev_token_row(self.cursor.row)?;
-        Some(SyntaxToken::at(self.cursor.table.share(), row))
+        let row = self.table.prev_token_row(self.row)?;
+        Some(SyntaxToken::at(self.table.share(), row))
     }
 
     /// The nearest token behind this one in the whole tree that is no trivia: no white space or comment; `None` where
@@ -188,8 +194,8 @@ impl SyntaxToken {
     pub fn next_token_no_trivia(&self) -> Option<SyntaxToken>
         ensures { result ≡ find is_no_trivia (tokens_beyond Next self.now) }
     {
-        let row = self.cursor.table.next_no_trivia_token_row(self.cursor.row)?;
-        Some(SyntaxToken::at(self.cursor.table.share(), row))
+        let row = self.table.next_no_trivia_token_row(self.row)?;
+        Some(SyntaxToken::at(self.table.share(), row))
     }
 
     /// The nearest token before this one in the whole tree that is no trivia: no white space or comment; `None` where
@@ -197,15 +203,15 @@ impl SyntaxToken {
     pub fn prev_token_no_trivia(&self) -> Option<SyntaxToken>
         ensures { result ≡ find is_no_trivia (tokens_beyond Prev self.now) }
     {
-        let row = self.cursor.table.prev_no_trivia_token_row(self.cursor.row)?;
-        Some(SyntaxToken::at(self.cursor.table.share(), row))
+        let row = self.table.prev_no_trivia_token_row(self.row)?;
+        Some(SyntaxToken::at(self.table.share(), row))
     }
 
     /// The token's one line, as in the dump of a tree around it.
     pub fn dump(&self, alloc: Global) -> Result<String, AllocError>
         ensures { IfOk result (λ text. string_bytes text ≡ dump_of self.now) }
     {
-        self.cursor.dump(alloc)
+        dump::dump(alloc, &self.table, self.row)
     }
 }
 
@@ -218,7 +224,8 @@ impl Clone for SyntaxToken {
 
     fn clone(&self) -> Result<SyntaxToken, AllocError> {
         Ok(SyntaxToken {
-            cursor: self.cursor.share(),
+            table: self.table.share(),
+            row: self.row,
         })
     }
 }
@@ -234,7 +241,7 @@ impl PartialEq for SyntaxToken {
     ghost laws = { partial_equiv_from_equiv cursor_equivalence };
 
     fn eq(&self, other: &SyntaxToken) -> bool {
-        self.cursor.is_same(&other.cursor)
+        is_same(&self.table, self.row, &other.table, other.row)
     }
 }
 
@@ -254,6 +261,6 @@ impl Hash for SyntaxToken {
     ghost respects_eq = { cursors_alike };
 
     fn hash<H: Hasher>(&self, state: &mut H) {
-        self.cursor.feed(state);
+        feed(&self.table, self.row, state);
     }
 }

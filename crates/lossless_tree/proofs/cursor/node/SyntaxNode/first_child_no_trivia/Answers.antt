@@ -13,9 +13,9 @@ use Rattle.lossless_tree.proofs.cursor.node.SyntaxNode.first_child_no_trivia.Goa
 
 pub returns : goal.returns
 returns c =
-    let whole = c.cursor.inside.table.value in
-    let row = c.cursor.inside.row in
+    let whole = c.self.inside.table.value in
+    let row = c.self.inside.row in
     let place : option_map (place_at whole) c.first_child_row-first.result ≡ first_child_place whole (place_at whole row) = rw (← c.deref.ensures) c.first_child_row-first.ensures.place in
     c.first_no_trivia.ensures
     ∙ ap (λ l. option_map element_of (find is_no_trivia l))
-    (c.new.ensures ∙ ap (λ t. siblings_from Next t c.first_child_row-first.result) c.share.ensures.value ∙ sym (ap children_of (sym (c.cursor.view_is ∙ c.self.view_is)) ∙ children_are whole row c.first_child_row-first.result place))
+    (c.new.ensures ∙ ap (λ t. siblings_from Next t c.first_child_row-first.result) c.share.ensures.value ∙ sym (ap children_of (sym c.self.view_is) ∙ children_are whole row c.first_child_row-first.result place))

@@ -9,7 +9,7 @@ use Rattle.lossless_tree.proofs.cursor.node.SyntaxNode.next_sibling.Goals as goa
 
 pub returns : goal.returns
 returns c =
-    let whole = c.cursor.inside.table.value in
-    let row = c.cursor.inside.row in
+    let whole = c.self.inside.table.value in
+    let row = c.self.inside.row in
     let place : option_map (place_at whole) c.next_sibling_row-next.result ≡ next_sibling_place whole (place_at whole row) = rw (← c.deref.ensures) c.next_sibling_row-next.ensures.place in
-    c.nearest_node.ensures ∙ sym (ap (find at_node) (ap following_of (sym (c.cursor.view_is ∙ c.self.view_is)) ∙ following_is whole row c.next_sibling_row-next.result place))
+    c.nearest_node.ensures ∙ sym (ap (find at_node) (ap following_of (sym c.self.view_is) ∙ following_is whole row c.next_sibling_row-next.result place))

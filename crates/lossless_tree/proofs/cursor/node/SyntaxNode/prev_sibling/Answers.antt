@@ -9,7 +9,7 @@ use Rattle.lossless_tree.proofs.cursor.node.SyntaxNode.prev_sibling.Goals as goa
 
 pub returns : goal.returns
 returns c =
-    let whole = c.cursor.inside.table.value in
-    let row = c.cursor.inside.row in
+    let whole = c.self.inside.table.value in
+    let row = c.self.inside.row in
     let place : option_map (place_at whole) c.prev_sibling_row-prev.result ≡ prev_sibling_place (place_at whole row) = rw (← c.deref.ensures) c.prev_sibling_row-prev.ensures.place in
-    c.nearest_node.ensures ∙ sym (ap (find at_node) (ap preceding_of (sym (c.cursor.view_is ∙ c.self.view_is)) ∙ preceding_is whole row c.prev_sibling_row-prev.result place))
+    c.nearest_node.ensures ∙ sym (ap (find at_node) (ap preceding_of (sym c.self.view_is) ∙ preceding_is whole row c.prev_sibling_row-prev.result place))
