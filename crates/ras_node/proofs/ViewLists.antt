@@ -1,7 +1,10 @@
--- The first of a list of cursors: what a filter keeps, and a search finds.
-use Rattle.std.proofs.Common.{◌≡◌, List, [], ◌∷◌, cond, Bool, true, false, sym, ap, ◌∙◌}
-use Rattle.std.specs.Prelude.{Some, None, Option, option_map, MatchOption}
-use Rattle.std.specs.List.{filter, find}
+-- The first and the last of a list of cursors: what a filter keeps, what a search finds, and what comes last.
+use Rattle.std.proofs.Common.{◌≡◌, List, [], ◌∷◌, cond, Bool, true, false, refl, sym, ap, ◌∙◌}
+use Rattle.std.specs.Prelude.{Some, None, Option, option_map, map, MatchOption}
+use Rattle.std.specs.Iterator.{Drains, YieldsFirstBy}
+use Rattle.std.specs.List.{filter, find, last_or}
+use Rattle.std.proofs.lemmas.Iterator.{items_from_drains}
+use Rattle.std.proofs.lemmas.Iterator.Consumers.{YieldsList-from_first}
 use Rattle.lossless_tree.proofs.NodeLists.{first_kept}
 
 -- the first of the list passes the test: the filter keeps it
@@ -21,3 +24,14 @@ none_kept test l e = ap (filter test) e
 pub first_viewed : {A B : Type 0} (view : B → A) (test : A → Bool) (l s t : List A) (r : Option B) → s ≡ filter test l → MatchOption r ((s ≡ []) × (t ≡ [])) (λ x. s ≡ view x ∷ t) → option_map view r ≡ find test l
 first_viewed view test l s t None is w = first_kept test l s t None is w
 first_viewed view test l s t (Some x) is w = first_kept test l s t (Some (view x)) is w
+
+-- the last item that an iterator gives is the last of what is left, where items are seen by `view`
+pub last_viewed : {A B : Type 0} (view : B → A) (s l : List A) (r : Option B) → s ≡ l
+    → ((xs : List B) × Drains (YieldsFirstBy view (λ left. left)) s xs × (r ≡ last_or None xs)) → option_map view r ≡ last_or None l
+last_viewed {B} view s l r is h =
+    let all : map view h.0 ≡ l = items_from_drains h.0 (h.1.1.0, h.1.1.1, λ _. (h.1.0, h.1.1.2)) (YieldsList-from_first view (λ left. left) l is) in
+    ap (option_map view) h.2 ∙ seen None h.0 ∙ ap (last_or None) all
+  where
+    seen : (o : Option B) (xs : List B) → option_map view (last_or o xs) ≡ last_or (option_map view o) (map view xs)
+    seen o [] = refl
+    seen o (x ∷ xs) = seen (Some x) xs

@@ -1,7 +1,7 @@
 -- What a lookup answers: the first, the second or all of a node's children that can be viewed as one type.
 -- (Upstream: `support::child` and `support::children` of rust-analyzer's `ast`.)
 use Rattle.std.specs.Prelude.{◌≡◌, Bool, List, [], Option, Some, None, option_map, if◌then◌else◌}
-use Rattle.std.specs.List.{slice_get}
+use Rattle.std.specs.List.{slice_get, last_or}
 use Rattle.std.specs.Option.{option_or, option_and_then, option_map_or}
 use Rattle.syntax_kind.specs.Kinds.{is_same_kind}
 use Rattle.syntax_kind.specs.declared.syntax_kind.SyntaxKind.{SyntaxKind}
@@ -22,6 +22,10 @@ IsFirstChild type c r = IsViewOf type (typed_child type.casts c) r
 -- the second child node whose kind is one of the set
 abbrev pub second_typed_child : (SyntaxKind → Bool) → Cursor → Option Cursor
 second_typed_child kinds c = slice_get (typed_children kinds c) 1
+
+-- the last child node whose kind is one of the set
+abbrev pub last_typed_child : (SyntaxKind → Bool) → Cursor → Option Cursor
+last_typed_child kinds c = last_or None (typed_children kinds c)
 
 -- the first child of the kinds in the first child of the kinds `outer`, and all of them there
 abbrev pub typed_child_in : (SyntaxKind → Bool) → (SyntaxKind → Bool) → Cursor → Option Cursor

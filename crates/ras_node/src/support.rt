@@ -2,7 +2,7 @@
 ghost use Rattle.std.specs.Prelude.{◌≡◌, drop, option_map};
 ghost use Rattle.std.specs.List.{find, slice_get};
 ghost use Rattle.syntax_kind.specs.declared.syntax_kind.SyntaxKind.{SyntaxKind};
-ghost use Rattle.ras_node.specs.Lookups.{second_typed_child, view_in, grandparent_of};
+ghost use Rattle.ras_node.specs.Lookups.{second_typed_child, last_typed_child, view_in, grandparent_of};
 ghost use Rattle.ras_node.specs.Searches.{first_node, before};
 ghost use Rattle.tree_model.specs.Cursor.{ancestors_of, parent_of};
 ghost use Rattle.ras_node.specs.Nodes.{has_kind_in, typed_children, typed_child, token_child, is_token_of};
@@ -78,6 +78,13 @@ pub fn second_child<N: AstNode + Drop>(parent: &SyntaxNode) -> Option<N>
     let mut all = children::<N>(parent);
     let _first = all.next()?;
     all.next()
+}
+
+/// The last child that can be viewed as an `N`. It goes over all of them.
+pub fn last_child<N: AstNode + Drop>(parent: &SyntaxNode) -> Option<N>
+    ensures { option_map N.node result ≡ last_typed_child N.casts parent.now }
+{
+    children::<N>(parent).last()
 }
 
 /// The kinds of the nodes that can be viewed as an `N`.

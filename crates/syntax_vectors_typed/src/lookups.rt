@@ -254,3 +254,16 @@ fn bodies_of_loops(rt: HostRuntime) -> Result<(), Fail> {
     assert!(rt; without_blocks.label().is_none());
     Ok(())
 }
+
+#[test]
+fn the_last_child_of_a_type(rt: HostRuntime) -> Result<(), Fail> {
+    let call: ast::ArgList = view(
+        &rt,
+        "ARG_LIST( L_PAREN:( LITERAL( INT_NUMBER:1 ) COMMA:, LITERAL( INT_NUMBER:2 ) COMMA:, LITERAL( INT_NUMBER:3 ) NAME( IDENT:a ) R_PAREN:) )",
+    )?;
+    let last = ras_node::support::last_child::<ast::Expr>(call.syntax());
+    assert_eq!(rt; text(&rt, last)?.as_str(), "3");
+    let none = ras_node::support::last_child::<ast::Type>(call.syntax());
+    assert!(rt; none.is_none());
+    Ok(())
+}
