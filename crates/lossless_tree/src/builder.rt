@@ -4,7 +4,6 @@ ghost use Rattle.tree_model.specs.Events.{enter, leaf, exit, BuildsNode, IsAccep
 ghost use Rattle.tree_model.specs.Cursor.{IsRoot};
 
 use crate::cursor::node::SyntaxNode;
-use shared_pointer::Shared;
 use std::alloc::{AllocError, Global};
 use std::marker::Model;
 use syntax_kind::SyntaxKind;
@@ -107,10 +106,7 @@ impl TreeBuilder {
     {
         let alloc = self.alloc;
         let table = self.build()?;
-        match Shared::new(alloc, table) {
-            Ok(table) => Ok(SyntaxNode::root(table)),
-            Err(_) => Err(FinishError::Memory),
-        }
+        SyntaxNode::root(alloc, table).map_err(|_| FinishError::Memory)
     }
 
     // The table of the tree.

@@ -17,13 +17,12 @@ use super::ancestors::Ancestors;
 use super::children::{SyntaxElementChildren, SyntaxNodeChildren};
 use super::descendants::{Descendants, DescendantsWithTokens};
 use super::element::{SyntaxElement, element};
-use super::equality::{feed, is_same};
 use super::preorder::{Preorder, PreorderWithTokens};
 use super::siblings::{SyntaxElementSiblings, SyntaxNodeSiblings, first_no_trivia};
 use super::text::SyntaxText;
 use super::token::SyntaxToken;
 use super::token_at_offset::TokenAtOffset;
-use crate::dump;
+use super::tree_cursor::TreeCursor;
 use crate::siblings_left::SiblingsLeft;
 use shared_pointer::Shared;
 use std::alloc::{AllocError, Global};
@@ -59,18 +58,19 @@ impl Model for SyntaxNode {
 }
 
 impl SyntaxNode {
-    ghost use Rattle.std.specs.Prelude.{◌≡◌};
+    ghost use Rattle.std.specs.Prelude.{◌≡◌, IfOk};
     ghost use Rattle.tree_model.specs.Tree.{IsNode};
     ghost use Rattle.tree_model.specs.Rows.{IsRow, tree_at};
-    ghost use Rattle.tree_model.specs.Cursor.{cursor_at, IsRoot};
+    ghost use Rattle.tree_model.specs.Cursor.{cursor_at};
+    ghost use Rattle.tree_model.specs.Edit.{root_of};
 
-    // The root of a table whose first row is a node.
-    pub(crate) fn root(table: Shared<Table>) -> SyntaxNode
-        requires { IsNode table.value }
-        ensures tree { result.tree ≡ table.value }
-        ensures root { IsRoot result }
+    // The root of the tree of a table whose first row is a node.
+    pub(crate) fn root(alloc: Global, table: Table) -> Result<SyntaxNode, AllocError>
+        requires { IsNode table }
+        ensures { IfOk result (λ root. root ≡ root_of table) }
     {
-        SyntaxNode { table, row: 0 }
+        let table = Shared::new(alloc, table)?;
+        Ok(SyntaxNode { table, row: 0 })
     }
 
     // The node at a row.
@@ -80,6 +80,14 @@ impl SyntaxNode {
         ensures { result ≡ cursor_at table.value row }
     {
         SyntaxNode { table, row }
+    }
+
+    // What a node and a token have in common, borrowed.
+    pub(crate) fn cursor(&self) -> TreeCursor<'_>
+        ensures place { result ≡ self.now }
+        ensures node { IsNode (focus self.now) }
+    {
+        TreeCursor::at(&self.table, self.row)
     }
 }
 
@@ -91,8 +99,7 @@ impl SyntaxNode {
         ensures { IfOk result (λ root. root ≡ root_of (focus self.now)) }
     {
         let table = self.table.subtree(alloc, self.row)?;
-        let table = Shared::new(alloc, table)?;
-        Ok(SyntaxNode::root(table))
+        SyntaxNode::root(alloc, table)
     }
 
     /// The root of a new tree: this node's whole tree with `replacement` in place of this node. The old tree stays as
@@ -110,10 +117,7 @@ impl SyntaxNode {
         let table = self
             .table
             .with_node(alloc, self.row, &replacement.table, replacement.row)?;
-        match Shared::new(alloc, table) {
-            Ok(table) => Ok(SyntaxNode::root(table)),
-            Err(_) => Err(ReplaceError::Memory),
-        }
+        Ok(SyntaxNode::root(alloc, table)?)
     }
 }
 
@@ -160,7 +164,7 @@ impl SyntaxNode {
         ensures placed { IsPlaced self.now }
         ensures node { IsNode (focus self.now) }
     {
-        self.table.placed(self.row)
+        self.cursor().placed()
     }
 }
 
@@ -169,29 +173,28 @@ impl SyntaxNode {
     pub fn kind(&self) -> SyntaxKind
         ensures { result ≡ kind_of (focus self.now) }
     {
-        self.table.kind_at(self.row)
+        self.cursor().kind()
     }
 
     /// The range of the node's text in the whole tree's text, in bytes. A node without text has an empty range.
     pub fn text_range(&self) -> TextRange
         ensures { result ≡ range_of self.now }
     {
-        self.table.range_at(self.row)
+        self.cursor().text_range()
     }
 
     /// The node's text, a slice of the tree's one text.
     pub fn as_str(&self) -> &str
         ensures { result.now ≡ text (focus self.now) }
     {
-        self.table.text_at(self.row)
+        self.cursor().text()
     }
 
     /// The node that this one is a child of; `None` for the root. It takes constant time.
     pub fn parent(&self) -> Option<SyntaxNode>
         ensures { result ≡ parent_of self.now }
     {
-        let row = self.table.parent_row(self.row)?;
-        Some(SyntaxNode::at(self.table.share(), row))
+        self.cursor().parent()
     }
 
     /// This node, its parent, its parent's parent, up to the root.
@@ -213,8 +216,7 @@ impl SyntaxNode {
     pub fn next_sibling_or_token(&self) -> Option<SyntaxElement>
         ensures { result ≡ option_map element_of (next_sibling_of self.now) }
     {
-        let row = self.table.next_sibling_row(self.row)?;
-        Some(element(&self.table, row))
+        self.cursor().next_sibling_or_token()
     }
 
     /// The last child, node or token; `None` where there is none. It climbs from the subtree's last row, so it takes
@@ -232,8 +234,7 @@ impl SyntaxNode {
     pub fn prev_sibling_or_token(&self) -> Option<SyntaxElement>
         ensures { result ≡ option_map element_of (prev_sibling_of self.now) }
     {
-        let row = self.table.prev_sibling_row(self.row)?;
-        Some(element(&self.table, row))
+        self.cursor().prev_sibling_or_token()
     }
 
     /// The children, nodes and tokens, in order.
@@ -298,8 +299,7 @@ impl SyntaxNode {
     pub fn next_no_trivia(&self) -> Option<SyntaxElement>
         ensures { result ≡ option_map element_of (find is_no_trivia (following_of self.now)) }
     {
-        let later = self.table.next_sibling_row(self.row);
-        first_no_trivia(SyntaxElementSiblings::new(self.table.share(), later, Direction::Next))
+        self.cursor().next_no_trivia()
     }
 
     /// This node and its siblings in a direction, nodes and tokens. A step backwards takes time in the depth of the
@@ -307,7 +307,7 @@ impl SyntaxNode {
     pub fn siblings_with_tokens(&self, direction: Direction) -> SyntaxElementSiblings
         ensures { result ≡ siblings_in direction self.now }
     {
-        SyntaxElementSiblings::new(self.table.share(), Some(self.row), direction)
+        self.cursor().siblings_with_tokens(direction)
     }
 
     /// This node and its sibling nodes in a direction. A step backwards takes time in the depth of the siblings before.
@@ -434,7 +434,7 @@ impl SyntaxNode {
     pub fn dump(&self, alloc: Global) -> Result<String, AllocError>
         ensures { IfOk result (λ text. string_bytes text ≡ dump_of self.now) }
     {
-        dump::dump(alloc, &self.table, self.row)
+        self.cursor().dump(alloc)
     }
 }
 
@@ -478,7 +478,7 @@ impl PartialEq for SyntaxNode {
     ghost laws = { partial_equiv_from_equiv cursor_equivalence };
 
     fn eq(&self, other: &SyntaxNode) -> bool {
-        is_same(&self.table, self.row, &other.table, other.row)
+        self.cursor() == other.cursor()
     }
 }
 
@@ -498,6 +498,6 @@ impl Hash for SyntaxNode {
     ghost respects_eq = { cursors_alike };
 
     fn hash<H: Hasher>(&self, state: &mut H) {
-        feed(&self.table, self.row, state);
+        self.cursor().hash(state);
     }
 }

@@ -8,21 +8,22 @@ ghost use Rattle.lossless_tree.specs.Element.{by_case};
 use super::element::NodeOrToken;
 use super::node::SyntaxNode;
 use super::token::SyntaxToken;
+use super::tree_cursor::TreeCursor;
 use crate::quoted::Quoted;
 use std::fmt;
 
-/// The node's text.
-impl fmt::Display for SyntaxNode {
+// The text of the node or token.
+impl<'t> fmt::Display for TreeCursor<'t> {
     ghost output = { λ c. Some (text (focus c)) };
 
     fn fmt<W: fmt::Write>(&self, f: &mut fmt::Formatter<W>) -> fmt::Result {
-        let text = self.as_str();
+        let text = self.text();
         write!(f, "{text}")
     }
 }
 
-/// The kind and the range, as `NAME@3..8`.
-impl fmt::Debug for SyntaxNode {
+// The kind and the range of the node or token, as `NAME@3..8`.
+impl<'t> fmt::Debug for TreeCursor<'t> {
     ghost debug_output = { λ c. Some (span_text c) };
 
     fn fmt<W: fmt::Write>(&self, f: &mut fmt::Formatter<W>) -> fmt::Result {
@@ -32,13 +33,30 @@ impl fmt::Debug for SyntaxNode {
     }
 }
 
+/// The node's text.
+impl fmt::Display for SyntaxNode {
+    ghost output = { λ c. Some (text (focus c)) };
+
+    fn fmt<W: fmt::Write>(&self, f: &mut fmt::Formatter<W>) -> fmt::Result {
+        fmt::Display::fmt(&self.cursor(), f)
+    }
+}
+
+/// The kind and the range, as `NAME@3..8`.
+impl fmt::Debug for SyntaxNode {
+    ghost debug_output = { λ c. Some (span_text c) };
+
+    fn fmt<W: fmt::Write>(&self, f: &mut fmt::Formatter<W>) -> fmt::Result {
+        fmt::Debug::fmt(&self.cursor(), f)
+    }
+}
+
 /// The token's text.
 impl fmt::Display for SyntaxToken {
     ghost output = { λ c. Some (text (focus c)) };
 
     fn fmt<W: fmt::Write>(&self, f: &mut fmt::Formatter<W>) -> fmt::Result {
-        let text = self.text();
-        write!(f, "{text}")
+        fmt::Display::fmt(&self.cursor(), f)
     }
 }
 
@@ -47,10 +65,9 @@ impl fmt::Debug for SyntaxToken {
     ghost debug_output = { λ c. Some (token_line c) };
 
     fn fmt<W: fmt::Write>(&self, f: &mut fmt::Formatter<W>) -> fmt::Result {
-        let kind = self.kind();
-        let range = self.text_range();
+        fmt::Debug::fmt(&self.cursor(), f)?;
         let text = Quoted(self.text());
-        write!(f, "{kind}@{range} {text}")
+        write!(f, " {text}")
     }
 }
 

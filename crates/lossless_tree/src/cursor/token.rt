@@ -12,11 +12,10 @@ ghost use Rattle.lossless_tree.specs.Element.{element_of};
 ghost use Rattle.lossless_tree.specs.Dump.{dump_of};
 
 use super::ancestors::Ancestors;
-use super::element::{SyntaxElement, element};
-use super::equality::{feed, is_same};
+use super::element::SyntaxElement;
 use super::node::SyntaxNode;
-use super::siblings::{SyntaxElementSiblings, first_no_trivia};
-use crate::dump;
+use super::siblings::SyntaxElementSiblings;
+use super::tree_cursor::TreeCursor;
 use shared_pointer::Shared;
 use std::alloc::{AllocError, Global};
 use std::hash::{Hash, Hasher};
@@ -64,6 +63,14 @@ impl SyntaxToken {
     {
         SyntaxToken { table, row }
     }
+
+    // What a node and a token have in common, borrowed.
+    pub(crate) fn cursor(&self) -> TreeCursor<'_>
+        ensures place { result ≡ self.now }
+        ensures token { IsToken (focus self.now) }
+    {
+        TreeCursor::at(&self.table, self.row)
+    }
 }
 
 impl SyntaxToken {
@@ -81,10 +88,7 @@ impl SyntaxToken {
         ensures too_long { IsErrOf result TooLong ↔ (2 ^ 32 ≤ length (text (replace self.now.tree self.now.place (token kind new.now)))) }
     {
         let table = self.table.with_token(alloc, self.row, kind, new)?;
-        match Shared::new(alloc, table) {
-            Ok(table) => Ok(SyntaxNode::root(table)),
-            Err(_) => Err(ReplaceError::Memory),
-        }
+        Ok(SyntaxNode::root(alloc, table)?)
     }
 }
 
@@ -95,7 +99,7 @@ impl SyntaxToken {
         ensures placed { IsPlaced self.now }
         ensures token { IsToken (focus self.now) }
     {
-        self.table.placed(self.row)
+        self.cursor().placed()
     }
 }
 
@@ -104,21 +108,21 @@ impl SyntaxToken {
     pub fn kind(&self) -> SyntaxKind
         ensures { result ≡ kind_of (focus self.now) }
     {
-        self.table.kind_at(self.row)
+        self.cursor().kind()
     }
 
     /// The range of the token's text in the whole tree's text, in bytes. A token without text has an empty range.
     pub fn text_range(&self) -> TextRange
         ensures { result ≡ range_of self.now }
     {
-        self.table.range_at(self.row)
+        self.cursor().text_range()
     }
 
     /// The token's text, a slice of the tree's one text.
     pub fn text(&self) -> &str
         ensures { result.now ≡ text (focus self.now) }
     {
-        self.table.text_at(self.row)
+        self.cursor().text()
     }
 
     /// The node that this token is a child of. It is never `None`, since the root of a tree is a node. It takes constant
@@ -126,16 +130,14 @@ impl SyntaxToken {
     pub fn parent(&self) -> Option<SyntaxNode>
         ensures { result ≡ parent_of self.now }
     {
-        let row = self.table.parent_row(self.row)?;
-        Some(SyntaxNode::at(self.table.share(), row))
+        self.cursor().parent()
     }
 
     /// What follows this token in its parent, node or token; `None` for the last child.
     pub fn next_sibling_or_token(&self) -> Option<SyntaxElement>
         ensures { result ≡ option_map element_of (next_sibling_of self.now) }
     {
-        let row = self.table.next_sibling_row(self.row)?;
-        Some(element(&self.table, row))
+        self.cursor().next_sibling_or_token()
     }
 
     /// The nodes above this token, the nearest first, up to the root.
@@ -150,8 +152,7 @@ impl SyntaxToken {
     pub fn prev_sibling_or_token(&self) -> Option<SyntaxElement>
         ensures { result ≡ option_map element_of (prev_sibling_of self.now) }
     {
-        let row = self.table.prev_sibling_row(self.row)?;
-        Some(element(&self.table, row))
+        self.cursor().prev_sibling_or_token()
     }
 
     /// The nearest later sibling, node or token, that is no trivia: no token of white space or a comment; `None` where
@@ -159,8 +160,7 @@ impl SyntaxToken {
     pub fn next_no_trivia(&self) -> Option<SyntaxElement>
         ensures { result ≡ option_map element_of (find is_no_trivia (following_of self.now)) }
     {
-        let next = self.table.next_sibling_row(self.row);
-        first_no_trivia(SyntaxElementSiblings::new(self.table.share(), next, Direction::Next))
+        self.cursor().next_no_trivia()
     }
 
     /// This token and its siblings in a direction, nodes and tokens. A step backwards takes time in the depth of the
@@ -168,7 +168,7 @@ impl SyntaxToken {
     pub fn siblings_with_tokens(&self, direction: Direction) -> SyntaxElementSiblings
         ensures { result ≡ siblings_in direction self.now }
     {
-        SyntaxElementSiblings::new(self.table.share(), Some(self.row), direction)
+        self.cursor().siblings_with_tokens(direction)
     }
 
     /// The token right behind this one in the whole tree; `None` for the last. It takes time in the number of nodes
@@ -211,7 +211,7 @@ impl SyntaxToken {
     pub fn dump(&self, alloc: Global) -> Result<String, AllocError>
         ensures { IfOk result (λ text. string_bytes text ≡ dump_of self.now) }
     {
-        dump::dump(alloc, &self.table, self.row)
+        self.cursor().dump(alloc)
     }
 }
 
@@ -241,7 +241,7 @@ impl PartialEq for SyntaxToken {
     ghost laws = { partial_equiv_from_equiv cursor_equivalence };
 
     fn eq(&self, other: &SyntaxToken) -> bool {
-        is_same(&self.table, self.row, &other.table, other.row)
+        self.cursor() == other.cursor()
     }
 }
 
@@ -261,6 +261,6 @@ impl Hash for SyntaxToken {
     ghost respects_eq = { cursors_alike };
 
     fn hash<H: Hasher>(&self, state: &mut H) {
-        feed(&self.table, self.row, state);
+        self.cursor().hash(state);
     }
 }
