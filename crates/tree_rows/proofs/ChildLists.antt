@@ -6,7 +6,7 @@ use Rattle.tree_model.specs.declared.direction.Direction.{Direction}
 use Rattle.tree_model.specs.declared.direction.Direction.TheVariants.{Next, Prev}
 use Rattle.tree_model.specs.Tree.{Tree, size, child_count, forest_of_children, place_above, last_position, parent_place, sibling_count, first_child_place, last_child_place, next_sibling_place, prev_sibling_place, sibling_place_in}
 use Rattle.tree_model.specs.Rows.{place_at, tree_at}
-use Rattle.tree_rows.specs.Rows.{row_at}
+use Rattle.tree_rows.specs.Rows.{row_at, parent_at}
 use Rattle.tree_model.specs.Cursor.{Cursor, at_place, cursor_at, children_of, following_of, preceding_of, siblings_in}
 use Rattle.tree_rows.specs.Walks.{siblings_from, siblings_left, HaveParentEnd}
 use Rattle.tree_model.proofs.At.{place_above-append}
@@ -88,15 +88,15 @@ pub siblings_left-step : (whole : Tree) (n e stop : ℕ) → HaveParentEnd whole
     → (siblings_left whole n stop ≡ cursor_at whole n ∷ siblings_left whole e stop) × HaveParentEnd whole e stop
 siblings_left-step whole n e stop w lt is_e =
     let here = w lt in
-    let up = parent_by_row whole n (row_at whole n).parent here.1 (λ z. absurd (omega (arith, z, here.0))) refl in
+    let up = parent_by_row whole n (parent_at whole n) here.1 (λ z. absurd (omega (arith, z, here.0))) refl in
     elim (dec_lt e stop) [
       | yes more ↦
-          let next = next_sibling_found whole n (row_at whole n).parent e here.1 up.in_range up.place is_e (omega (arith, more, here.2)) in
+          let next = next_sibling_found whole n (parent_at whole n) e here.1 up.in_range up.place is_e (omega (arith, more, here.2)) in
           let place_is = placed (sibling_count whole (place_at whole n)) next.1 in (
             left_some whole n stop lt
                 ∙ ap (λ l. cursor_at whole n ∷ l) (following_of-step (cursor_at whole n) ∙ ap (λ o. onward following_of (option_map (at_place (cursor_at whole n)) o)) (sym next.1) ∙ sym (left_some whole e stop more)),
             elim (hangs whole n here.1) [
-              | inl root ↦ absurd (no_parent (row_at whole n).parent root.0 up.place)
+              | inl root ↦ absurd (no_parent (parent_at whole n) root.0 up.place)
               | inr v ↦
                   let above_is : place_above (place_at whole n) ≡ place_at whole v.q = ap place_above v.place_is ∙ place_above-append (place_at whole v.q) v.w.position in
                   kept whole v.q e (suc (last_position (place_at whole n))) stop v.in_range next.0 (place_is ∙ ap (λ p. p ++ suc (last_position (place_at whole n)) ∷ []) above_is)
@@ -104,7 +104,7 @@ siblings_left-step whole n e stop w lt is_e =
             ],
           )
       | no past ↦
-          let none = no_next_sibling_found whole n (row_at whole n).parent e here.1 up.in_range up.place is_e (omega (arith, past, here.2)) in (
+          let none = no_next_sibling_found whole n (parent_at whole n) e here.1 up.in_range up.place is_e (omega (arith, past, here.2)) in (
             left_some whole n stop lt
                 ∙ ap (λ l. cursor_at whole n ∷ l) (following_of-step (cursor_at whole n) ∙ ap (λ o. onward following_of (option_map (at_place (cursor_at whole n)) o)) (sym none) ∙ sym (left_none whole e stop (omega (arith, past)))),
             no_parent_end whole e stop (omega (arith, past)),

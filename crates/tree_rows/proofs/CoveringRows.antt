@@ -4,7 +4,7 @@ use Rattle.std.specs.Prelude.{Some}
 use Rattle.text_size.specs.TextRange.{Bounds}
 use Rattle.tree_model.specs.Tree.{Tree, node, token, Forest, nil, cons, text, size, forest_of_children, child_at, child_count, bytes_before, Place, subtree}
 use Rattle.tree_model.specs.Rows.{tree_at, start_at, end_at, place_at}
-use Rattle.tree_rows.specs.Rows.{row_at}
+use Rattle.tree_rows.specs.Rows.{row_at, parent_at}
 use Rattle.tree_rows.specs.RowSearch.{SplitsAt, NoneHolds, IsHolding}
 use Rattle.tree_model.specs.Cursor.{cursor_at, at_place}
 use Rattle.tree_model.specs.Covering.{child_ranges, holds, child_towards, covering_place, covering_of}
@@ -12,7 +12,8 @@ use Rattle.tree_model.proofs.At.{At, here, lift, At-fits, some_row, subtree-At, 
 use Rattle.tree_model.proofs.TableLemmas.{at_row}
 use Rattle.tree_rows.proofs.TableLemmas.{row_end_fits}
 use Rattle.tree_model.proofs.StepLemmas.{place_from_At}
-use Rattle.tree_rows.proofs.StepLemmas.{end_of_row, end_from_At, Hangs, hangs}
+use Rattle.tree_rows.proofs.At.{end_from_At}
+use Rattle.tree_rows.proofs.StepLemmas.{end_of_row, Hangs, hangs}
 use Rattle.tree_model.proofs.Starts.{At-ordered}
 use Rattle.tree_rows.proofs.Starts.{Nested, nested, later_starts}
 use Rattle.tree_model.proofs.CoveringPlaces.{Within, place_towards, length-child_ranges, get_or-child_ranges, towards_holder, towards_none, towards_nothing, towards_last, towards_first, holds_means, is_held, not_held, not_both, held_around}
@@ -217,11 +218,11 @@ climbed_in whole n x e bound row asked w c = nested whole n row w.is_row c.low (
 
 -- one step up
 pub climb_on : (whole : Tree) (n x e bound row : ℕ) (asked : Bounds) → Begun whole n x e bound asked → Climbed whole n x row asked → n < row → holds asked (range_at whole row) ≡ false
-    → Climbed whole n x (row_at whole row).parent asked × ((row_at whole row).parent < row)
+    → Climbed whole n x (parent_at whole row) asked × ((parent_at whole row) < row)
 climb_on whole n x e bound row asked w c more fails =
     let up = parent_within whole n row w.is_row more (omega (arith, c.high, w.split.within, w.is_end)) in
     let v = up.0 in
-    let is : (row_at whole row).parent ≡ v.q = v.up_is in
+    let is : parent_at whole row ≡ v.q = v.up_is in
     let inside = nested whole v.q row v.in_range (omega (arith, v.earlier)) (omega (arith, v.reaches, some_row (tree_at whole row))) in
     let climbed : Climbed whole n x v.q asked = record {
       low = up.1;

@@ -9,16 +9,15 @@ use Rattle.tree_model.specs.declared.error.FinishError.{FinishError}
 use Rattle.tree_model.specs.declared.error.FinishError.TheVariants.{TooLong, OverClosed, Unclosed, Empty, ManyRoots, TokenRoot}
 use Rattle.tree_rows.specs.declared.builder_event.BuilderEvent.{BuilderEvent}
 use Rattle.tree_rows.specs.declared.builder_event.BuilderEvent.TheVariants.{Enter, Token, Exit}
-use Rattle.tree_rows.specs.declared.rows.Row.{Row}
 use Rattle.tree_model.specs.Tree.{node, token, Forest, nil, cons, text, forest_text}
 use Rattle.tree_model.specs.Events.{Event, enter, leaf, exit, events_of, open_after, forest_of, balance_refusal, root_refusal, first_refusal, refusal_of, BuildsNode, Builds}
 use Rattle.tree_model.specs.Events as events
 use Rattle.tree_rows.specs.Builder.{events_from, TextsFit, step_of}
 use Rattle.tree_model.specs.Scan.{scan}
 use Rattle.tree_rows.specs.Run as run
-use Rattle.tree_rows.proofs.TableLemmas.{tree_of_rows-rows_of, table_of}
+use Rattle.tree_rows.proofs.TableLemmas.{columns_shown, tree_of_rows-rows_of, table_of}
 use Rattle.tree_model.specs.Rows.{TextsAreUtf8}
-use Rattle.tree_rows.specs.Rows.{rows_of, Represents, tree_of_rows}
+use Rattle.tree_rows.specs.Rows.{Columns, columns_of, Represents, tree_of_rows}
 use Rattle.tree_model.proofs.Balance.{builds-events_of, events_of-forest_of, scan-balance_refusal}
 use Rattle.tree_rows.proofs.ScanLemmas.{scan-texts}
 
@@ -187,12 +186,14 @@ balance_named (Some zero) es e h = root_named (forest_of es) e h
 pub refusal_of-scan : (steps : List BuilderEvent) (e : FinishError) → scan 0 (Some Empty) (events_from steps []) ≡ Some e → refusal_of e ≡ Some e
 refusal_of-scan steps e h = balance_named (open_after 0 (events_from steps [])) (events_from steps []) e (sym (scan-balance_refusal (events_from steps [])) ∙ h)
 
-module _ (steps : List BuilderEvent) (s : List ℕ) (w : Ready steps s) (rows : List Row) (is : rows ≡ rows_of (cons (node w.kind w.children) nil) 0 0 0) where
-  pub tree_built : tree_of_rows rows s ≡ node w.kind w.children
-  tree_built = tree_of_rows-rows_of (node w.kind w.children) rows s is w.text_is
+module _ (steps : List BuilderEvent) (s : List ℕ) (w : Ready steps s) (kept : Columns) (is : kept ≡ columns_of (cons (node w.kind w.children) nil)) where
+  pub tree_built : tree_of_rows kept s ≡ node w.kind w.children
+  tree_built = tree_of_rows-rows_of (node w.kind w.children) kept s (ap (λ c. c.rows) is) w.text_is
 
-  pub table_built : length s < 2 ^ 32 → Represents rows s (tree_of_rows rows s)
-  table_built short = table_of (node w.kind w.children) rows s (record { rows_are = is; text_is = w.text_is; texts_are_utf8 = w.utf8; short = short; root_is_node = tt })
+  pub table_built : length s < 2 ^ 32 → Represents kept s (tree_of_rows kept s)
+  table_built short =
+      let shown = columns_shown (node w.kind w.children) kept is in
+      table_of (node w.kind w.children) kept s (record { rows_are = shown.0; parents_are = shown.1; text_is = w.text_is; texts_are_utf8 = w.utf8; short = short; root_is_node = tt })
 
-  pub node_built : BuildsNode (events_from steps s) (tree_of_rows rows s)
+  pub node_built : BuildsNode (events_from steps s) (tree_of_rows kept s)
   node_built = subst (BuildsNode (events_from steps s)) (sym tree_built) (subst (λ es. Builds es (cons (node w.kind w.children) nil)) (sym w.events_are) (builds-events_of (cons (node w.kind w.children) nil)), tt)

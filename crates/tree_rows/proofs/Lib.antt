@@ -5,8 +5,11 @@ pub mod CoveringLaws
 pub mod CoveringRows
 pub mod EditLemmas
 pub mod FinishLemmas
+pub mod Hung
+pub mod MovedColumns
 pub mod MovedRows
 pub mod PackedRow
+pub mod Parents
 pub mod PointerLaws
 pub mod PointerLemmas
 pub mod RowLemmas

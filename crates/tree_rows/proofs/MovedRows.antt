@@ -1,20 +1,20 @@
--- The rows of a subtree stand together, and are its own rows moved; the rows of a tree with a piece replaced.
+-- The rows of a subtree stand together, and are its own rows moved; the rows of a tree with a piece replaced. They are seen as they
+-- hang, each beside its parent's number.
 use Rattle.std.proofs.Common.{◌≡◌, ℕ, suc, ◌+◌, ◌-◌, ◌<◌, ◌≤◌, List, [], ◌∷◌, ◌++◌, length, map, refl, sym, ap, ◌∙◌, arith, append_assoc, append-nil, length-append}
 use Rattle.std.proofs.Common.{Bool, true, false}
 use Rattle.std.proofs.lemmas.Bool.Decides.{nat_tests}
 use Rattle.std.proofs.lemmas.List.{map-append}
 use Rattle.syntax_kind.specs.declared.syntax_kind.SyntaxKind.{SyntaxKind}
-use Rattle.tree_rows.specs.declared.rows.Row.{Row}
 use Rattle.tree_rows.specs.declared.table.edit.Shift.{Shift}
 use Rattle.tree_model.specs.Tree.{Tree, node, token, Forest, nil, cons, text, size, forest_text, forest_size, Place, child_at}
 use Rattle.tree_model.specs.Rows.{TextsAreUtf8}
-use Rattle.tree_rows.specs.Rows.{rows_of, row_of}
 use Rattle.tree_model.specs.Edit.{set_child, replace}
 use Rattle.tree_rows.specs.MovedRows.{moved_number, moved_row, shift_from}
 use Rattle.tree_model.proofs.Texts.{forest_text-cons, later_utf8}
 use Rattle.tree_model.proofs.Starts.{At-text}
 use Rattle.tree_model.proofs.At.{At, here, below, after, no_empty_place, At-fits, up_of, cong₂, forest_size-cons, some_row}
-use Rattle.tree_rows.proofs.At.{length-rows_of}
+use Rattle.tree_rows.proofs.Hung.{Hung, hung, hung_of}
+use Rattle.tree_rows.proofs.At.{length-hung_of}
 
 pub moved-above : (by : Shift) (n : ℕ) → by.from_row ≤ n → moved_number by n ≡ (n - by.from_row) + by.to_row
 moved-above by n h = grind (arith, nat_tests)
@@ -22,49 +22,53 @@ moved-above by n h = grind (arith, nat_tests)
 pub moved-below : (by : Shift) (n : ℕ) → n < by.from_row → moved_number by n ≡ n
 moved-below by n h = grind (arith, nat_tests)
 
-same_row : (k : SyntaxKind) (b : Bool) (s s' e e' p p' : ℕ) → s ≡ s' → e ≡ e' → p ≡ p'
-    → (let x : Row = record { kind = k; is_token = b; start = s; end = e; parent = p } in x) ≡ record { kind = k; is_token = b; start = s'; end = e'; parent = p' }
-same_row k b s s' e e' p p' is_s is_e is_p =
-    cong₂ (λ x y. record { kind = k; is_token = b; start = x; end = y; parent = p }) is_s is_e
-    ∙ ap (λ x. record { kind = k; is_token = b; start = s'; end = e'; parent = x }) is_p
+-- a row and where it hangs, after the move
+abbrev pub moved_hung : Shift → Hung → Hung
+moved_hung by h = record { row = moved_row by h.row; up = moved_number by h.up }
+
+same_hung : (k : SyntaxKind) (b : Bool) (s s' e e' p p' : ℕ) → s ≡ s' → e ≡ e' → p ≡ p'
+    → (let x : Hung = record { row = record { kind = k; is_token = b; start = s; end = e }; up = p } in x) ≡ record { row = record { kind = k; is_token = b; start = s'; end = e' }; up = p' }
+same_hung k b s s' e e' p p' is_s is_e is_p =
+    cong₂ (λ x y. record { row = record { kind = k; is_token = b; start = x; end = y }; up = p }) is_s is_e
+    ∙ ap (λ x. record { row = record { kind = k; is_token = b; start = s'; end = e' }; up = x }) is_p
 
 -- rows that all stand behind the bound move together
-pub rows_of-moved : (f : Forest) (by : Shift) (m d u m' d' u' : ℕ) → by.from_row ≤ m → by.from_byte ≤ d
+pub hung_of-moved : (f : Forest) (by : Shift) (m d u m' d' u' : ℕ) → by.from_row ≤ m → by.from_byte ≤ d
     → m' ≡ (m - by.from_row) + by.to_row → d' ≡ (d - by.from_byte) + by.to_byte → u' ≡ moved_number by u
-    → rows_of f m' d' u' ≡ map (moved_row by) (rows_of f m d u)
-rows_of-moved nil by m d u m' d' u' h k is_m is_d is_u = refl
-rows_of-moved (cons (token k t) r) by m d u m' d' u' h j is_m is_d is_u =
+    → hung_of f m' d' u' ≡ map (moved_hung by) (hung_of f m d u)
+hung_of-moved nil by m d u m' d' u' h k is_m is_d is_u = refl
+hung_of-moved (cons (token k t) r) by m d u m' d' u' h j is_m is_d is_u =
     let later : by.from_row ≤ suc m = omega arith in
-    cong₂ ◌∷◌ (same_row k true d' ((d - by.from_byte) + by.to_byte) (suc m') (moved_number by (suc m)) u' (moved_number by u) is_d (omega (arith, moved-above by (suc m) later, is_m)) is_u)
-    (rows_of-moved r by (suc m) (d + length t) u (suc m') (d' + length t) u' later (omega (arith, j)) (omega (arith, is_m)) (omega (arith, is_d, j)) is_u)
-rows_of-moved (cons (node k c) r) by m d u m' d' u' h j is_m is_d is_u =
+    cong₂ ◌∷◌ (same_hung k true d' ((d - by.from_byte) + by.to_byte) (suc m') (moved_number by (suc m)) u' (moved_number by u) is_d (omega (arith, moved-above by (suc m) later, is_m)) is_u)
+    (hung_of-moved r by (suc m) (d + length t) u (suc m') (d' + length t) u' later (omega (arith, j)) (omega (arith, is_m)) (omega (arith, is_d, j)) is_u)
+hung_of-moved (cons (node k c) r) by m d u m' d' u' h j is_m is_d is_u =
     let later : by.from_row ≤ suc m + forest_size c = omega arith in
-    cong₂ ◌∷◌ (same_row k false d' ((d - by.from_byte) + by.to_byte) (suc m' + forest_size c) (moved_number by (suc m + forest_size c)) u' (moved_number by u) is_d (omega (arith, moved-above by (suc m + forest_size c) later, is_m)) is_u)
+    cong₂ ◌∷◌ (same_hung k false d' ((d - by.from_byte) + by.to_byte) (suc m' + forest_size c) (moved_number by (suc m + forest_size c)) u' (moved_number by u) is_d (omega (arith, moved-above by (suc m + forest_size c) later, is_m)) is_u)
     (cong₂ ◌++◌
-    (rows_of-moved c by (suc m) d m (suc m') d' m' (omega arith) j (omega (arith, is_m)) is_d (is_m ∙ sym (moved-above by m h)))
-    (rows_of-moved r by (suc m + forest_size c) (d + length (forest_text c)) u (suc m' + forest_size c) (d' + length (forest_text c)) u' later (omega (arith, j)) (omega (arith, is_m)) (omega (arith, is_d, j)) is_u)
-    ∙ sym (map-append (moved_row by) (rows_of c (suc m) d m) (rows_of r (suc m + forest_size c) (d + length (forest_text c)) u)))
+    (hung_of-moved c by (suc m) d m (suc m') d' m' (omega arith) j (omega (arith, is_m)) is_d (is_m ∙ sym (moved-above by m h)))
+    (hung_of-moved r by (suc m + forest_size c) (d + length (forest_text c)) u (suc m' + forest_size c) (d' + length (forest_text c)) u' later (omega (arith, j)) (omega (arith, is_m)) (omega (arith, is_d, j)) is_u)
+    ∙ sym (map-append (moved_hung by) (hung_of c (suc m) d m) (hung_of r (suc m + forest_size c) (d + length (forest_text c)) u)))
 
 -- rows that all end before the bound stay
-rows_of-kept : (f : Forest) (by : Shift) (m d u : ℕ) → m + forest_size f < by.from_row → u < by.from_row → by.from_byte ≡ 0 → by.to_byte ≡ 0
-    → rows_of f m d u ≡ map (moved_row by) (rows_of f m d u)
-rows_of-kept nil by m d u h below_bound is_from is_to = refl
-rows_of-kept (cons (token k t) r) by m d u h below_bound is_from is_to =
-    cong₂ ◌∷◌ (same_row k true d ((d - by.from_byte) + by.to_byte) (suc m) (moved_number by (suc m)) u (moved_number by u) (omega (arith, is_from, is_to)) (sym (moved-below by (suc m) (omega (arith, h)))) (sym (moved-below by u below_bound)))
-    (rows_of-kept r by (suc m) (d + length t) u (omega (arith, h)) below_bound is_from is_to)
-rows_of-kept (cons (node k c) r) by m d u h below_bound is_from is_to =
-    cong₂ ◌∷◌ (same_row k false d ((d - by.from_byte) + by.to_byte) (suc m + forest_size c) (moved_number by (suc m + forest_size c)) u (moved_number by u) (omega (arith, is_from, is_to)) (sym (moved-below by (suc m + forest_size c) (omega (arith, h)))) (sym (moved-below by u below_bound)))
+hung_of-kept : (f : Forest) (by : Shift) (m d u : ℕ) → m + forest_size f < by.from_row → u < by.from_row → by.from_byte ≡ 0 → by.to_byte ≡ 0
+    → hung_of f m d u ≡ map (moved_hung by) (hung_of f m d u)
+hung_of-kept nil by m d u h below_bound is_from is_to = refl
+hung_of-kept (cons (token k t) r) by m d u h below_bound is_from is_to =
+    cong₂ ◌∷◌ (same_hung k true d ((d - by.from_byte) + by.to_byte) (suc m) (moved_number by (suc m)) u (moved_number by u) (omega (arith, is_from, is_to)) (sym (moved-below by (suc m) (omega (arith, h)))) (sym (moved-below by u below_bound)))
+    (hung_of-kept r by (suc m) (d + length t) u (omega (arith, h)) below_bound is_from is_to)
+hung_of-kept (cons (node k c) r) by m d u h below_bound is_from is_to =
+    cong₂ ◌∷◌ (same_hung k false d ((d - by.from_byte) + by.to_byte) (suc m + forest_size c) (moved_number by (suc m + forest_size c)) u (moved_number by u) (omega (arith, is_from, is_to)) (sym (moved-below by (suc m + forest_size c) (omega (arith, h)))) (sym (moved-below by u below_bound)))
     (cong₂ ◌++◌
-    (rows_of-kept c by (suc m) d m (omega (arith, h)) (omega (arith, h)) is_from is_to)
-    (rows_of-kept r by (suc m + forest_size c) (d + length (forest_text c)) u (omega (arith, h)) below_bound is_from is_to)
-    ∙ sym (map-append (moved_row by) (rows_of c (suc m) d m) (rows_of r (suc m + forest_size c) (d + length (forest_text c)) u)))
+    (hung_of-kept c by (suc m) d m (omega (arith, h)) (omega (arith, h)) is_from is_to)
+    (hung_of-kept r by (suc m + forest_size c) (d + length (forest_text c)) u (omega (arith, h)) below_bound is_from is_to)
+    ∙ sym (map-append (moved_hung by) (hung_of c (suc m) d m) (hung_of r (suc m + forest_size c) (d + length (forest_text c)) u)))
 
-rows_of-cons : (u : Tree) (r : Forest) (m d up : ℕ) → rows_of (cons u r) m d up ≡ rows_of (cons u nil) m d up ++ rows_of r (m + size u) (d + length (text u)) up
-rows_of-cons (token k x) r m d up = let e : suc m ≡ m + 1 = omega arith in ap (λ i. row_of (token k x) m d up ∷ rows_of r i (d + length x) up) e
-rows_of-cons (node k c) r m d up =
+hung_of-cons : (u : Tree) (r : Forest) (m d up : ℕ) → hung_of (cons u r) m d up ≡ hung_of (cons u nil) m d up ++ hung_of r (m + size u) (d + length (text u)) up
+hung_of-cons (token k x) r m d up = let e : suc m ≡ m + 1 = omega arith in ap (λ i. hung (token k x) m d up ∷ hung_of r i (d + length x) up) e
+hung_of-cons (node k c) r m d up =
     let e : suc m + forest_size c ≡ m + suc (forest_size c) = omega arith in
-    ap (λ l. row_of (node k c) m d up ∷ l)
-    (cong₂ (λ x i. x ++ rows_of r i (d + length (forest_text c)) up) (sym (append-nil (rows_of c (suc m) d m))) e)
+    ap (λ l. hung (node k c) m d up ∷ l)
+    (cong₂ (λ x i. x ++ hung_of r i (d + length (forest_text c)) up) (sym (append-nil (hung_of c (suc m) d m))) e)
 
 -- what stands behind a subtree starts where that ends, or later
 pub At-later : {f : Forest} {n m : ℕ} {p q : Place} {t v : Tree} {b d : ℕ} → At f n p t b → At f m q v d → n + size t ≤ m → b + length (text t) ≤ d
@@ -104,10 +108,10 @@ replace_in f (i ∷ p) u = set_child f i (replace (child_at f i) p u)
 
 -- the rows around a piece, and around the one that takes its place
 pub record Replaced {f : Forest} {n : ℕ} {p : Place} {t : Tree} {b : ℕ} (a : At f n p t b) (u : Tree) (m d up x x' y y' : ℕ) : Type 0 where
-  pub before : List Row
-  pub behind : List Row
-  pub old : rows_of f m d up ≡ before ++ (rows_of (cons t nil) (m + n) (d + b) (up_of a m up) ++ behind)
-  pub new : rows_of (replace_in f p u) m d up ≡ map (moved_row (shift_from x x' 0 0)) before ++ (rows_of (cons u nil) (m + n) (d + b) (up_of a m up) ++ map (moved_row (shift_from x x' y y')) behind)
+  pub before : List Hung
+  pub behind : List Hung
+  pub old : hung_of f m d up ≡ before ++ (hung_of (cons t nil) (m + n) (d + b) (up_of a m up) ++ behind)
+  pub new : hung_of (replace_in f p u) m d up ≡ map (moved_hung (shift_from x x' 0 0)) before ++ (hung_of (cons u nil) (m + n) (d + b) (up_of a m up) ++ map (moved_hung (shift_from x x' y y')) behind)
   pub count : length before ≡ n
   pub sizes : forest_size (replace_in f p u) + size t ≡ forest_size f + size u
   pub texts : length (forest_text (replace_in f p u)) + length (text t) ≡ length (forest_text f) + length (text u)
@@ -116,17 +120,17 @@ replaced_here : (v : Tree) (r : Forest) (u : Tree) (m d up x x' y y' : ℕ) → 
     → Replaced (here {u = v} {r = r}) u m d up x x' y y'
 replaced_here v r u m d up x x' y y' h is_x is_x' is_y is_y' =
     let by : Shift = shift_from x x' y y' in
-    let later = rows_of r (m + size v) (d + length (text v)) up in
+    let later = hung_of r (m + size v) (d + length (text v)) up in
     let zero_m : m ≡ m + 0 = omega arith in
     let zero_d : d ≡ d + 0 = omega arith in
     let stays : up ≡ moved_number by up = sym (moved-below by up (omega (arith, h, is_x, some_row v))) in
     record {
       before = [];
       behind = later;
-      old = rows_of-cons v r m d up ∙ ap (λ l. l ++ later) (cong₂ (λ i j. rows_of (cons v nil) i j up) zero_m zero_d);
-      new = rows_of-cons u r m d up
-          ∙ cong₂ ◌++◌ (cong₂ (λ i j. rows_of (cons u nil) i j up) zero_m zero_d)
-          (rows_of-moved r by (m + size v) (d + length (text v)) up (m + size u) (d + length (text u)) up (omega (arith, is_x)) (omega (arith, is_y)) (omega (arith, is_x, is_x')) (omega (arith, is_y, is_y')) stays);
+      old = hung_of-cons v r m d up ∙ ap (λ l. l ++ later) (cong₂ (λ i j. hung_of (cons v nil) i j up) zero_m zero_d);
+      new = hung_of-cons u r m d up
+          ∙ cong₂ ◌++◌ (cong₂ (λ i j. hung_of (cons u nil) i j up) zero_m zero_d)
+          (hung_of-moved r by (m + size v) (d + length (text v)) up (m + size u) (d + length (text u)) up (omega (arith, is_x)) (omega (arith, is_y)) (omega (arith, is_x, is_x')) (omega (arith, is_y, is_y')) stays);
       count = refl;
       sizes = omega (arith, forest_size-cons u r, forest_size-cons v r);
       texts = omega (arith, ap length (forest_text-cons u r), length-append (text u) (forest_text r), ap length (forest_text-cons v r), length-append (text v) (forest_text r));
@@ -141,30 +145,30 @@ replaced (below {k} {c} {r} {n} {p = i ∷ q} {t} {b} a) u m d up x x' y y' h is
     let c' = replace_in c (i ∷ q) u in
     let by0 : Shift = shift_from x x' 0 0 in
     let by : Shift = shift_from x x' y y' in
-    let later = rows_of r (suc m + forest_size c) (d + length (forest_text c)) up in
-    let first : Row = row_of (node k c) m d up in
+    let later = hung_of r (suc m + forest_size c) (d + length (forest_text c)) up in
+    let first : Hung = hung (node k c) m d up in
     let e : suc m + n ≡ m + suc n = omega arith in
     let reaches : x ≤ suc m + forest_size c = omega (arith, is_x, At-fits a) in
     let bytes : y ≤ d + length (forest_text c) = omega (arith, is_y, At-text a) in
     let up_stays : up ≡ moved_number by0 up = sym (moved-below by0 up (omega (arith, h, is_x))) in
-    let piece = rows_of (cons u nil) (suc m + n) (d + b) (up_of a (suc m) m) in
-    let first_is : row_of (node k c') m d up ≡ moved_row by0 first =
-    same_row k false d ((d - 0) + 0) (suc m + forest_size c') (moved_number by0 (suc m + forest_size c)) up (moved_number by0 up) (omega arith)
+    let piece = hung_of (cons u nil) (suc m + n) (d + b) (up_of a (suc m) m) in
+    let first_is : hung (node k c') m d up ≡ moved_hung by0 first =
+    same_hung k false d ((d - 0) + 0) (suc m + forest_size c') (moved_number by0 (suc m + forest_size c)) up (moved_number by0 up) (omega arith)
     (omega (arith, moved-above by0 (suc m + forest_size c) reaches, w.sizes, is_x, is_x', reaches)) up_stays in
-    let later_is : rows_of r (suc m + forest_size c') (d + length (forest_text c')) up ≡ map (moved_row by) later =
-    rows_of-moved r by (suc m + forest_size c) (d + length (forest_text c)) up (suc m + forest_size c') (d + length (forest_text c')) up reaches bytes
+    let later_is : hung_of r (suc m + forest_size c') (d + length (forest_text c')) up ≡ map (moved_hung by) later =
+    hung_of-moved r by (suc m + forest_size c) (d + length (forest_text c)) up (suc m + forest_size c') (d + length (forest_text c')) up reaches bytes
     (omega (arith, w.sizes, is_x, is_x', reaches)) (omega (arith, w.texts, is_y, is_y', bytes)) (sym (moved-below by up (omega (arith, h, is_x)))) in
     record {
       before = first ∷ w.before;
       behind = w.behind ++ later;
-      old = ap (λ l. first ∷ (l ++ later)) w.old ∙ ap (λ l. first ∷ l) (append_assoc w.before (rows_of (cons t nil) (suc m + n) (d + b) (up_of a (suc m) m) ++ w.behind) later)
-          ∙ ap (λ l. first ∷ (w.before ++ l)) (append_assoc (rows_of (cons t nil) (suc m + n) (d + b) (up_of a (suc m) m)) w.behind later)
-          ∙ ap (λ i. first ∷ (w.before ++ (rows_of (cons t nil) i (d + b) (up_of a (suc m) m) ++ (w.behind ++ later)))) e;
+      old = ap (λ l. first ∷ (l ++ later)) w.old ∙ ap (λ l. first ∷ l) (append_assoc w.before (hung_of (cons t nil) (suc m + n) (d + b) (up_of a (suc m) m) ++ w.behind) later)
+          ∙ ap (λ l. first ∷ (w.before ++ l)) (append_assoc (hung_of (cons t nil) (suc m + n) (d + b) (up_of a (suc m) m)) w.behind later)
+          ∙ ap (λ i. first ∷ (w.before ++ (hung_of (cons t nil) i (d + b) (up_of a (suc m) m) ++ (w.behind ++ later)))) e;
       new = cong₂ ◌∷◌ first_is (cong₂ ◌++◌ w.new later_is)
-          ∙ ap (λ l. moved_row by0 first ∷ l) (append_assoc (map (moved_row by0) w.before) (piece ++ map (moved_row by) w.behind) (map (moved_row by) later))
-          ∙ ap (λ l. moved_row by0 first ∷ (map (moved_row by0) w.before ++ l)) (append_assoc piece (map (moved_row by) w.behind) (map (moved_row by) later))
-          ∙ ap (λ l. moved_row by0 first ∷ (map (moved_row by0) w.before ++ (piece ++ l))) (sym (map-append (moved_row by) w.behind later))
-          ∙ ap (λ i. moved_row by0 first ∷ (map (moved_row by0) w.before ++ (rows_of (cons u nil) i (d + b) (up_of a (suc m) m) ++ map (moved_row by) (w.behind ++ later)))) e;
+          ∙ ap (λ l. moved_hung by0 first ∷ l) (append_assoc (map (moved_hung by0) w.before) (piece ++ map (moved_hung by) w.behind) (map (moved_hung by) later))
+          ∙ ap (λ l. moved_hung by0 first ∷ (map (moved_hung by0) w.before ++ l)) (append_assoc piece (map (moved_hung by) w.behind) (map (moved_hung by) later))
+          ∙ ap (λ l. moved_hung by0 first ∷ (map (moved_hung by0) w.before ++ (piece ++ l))) (sym (map-append (moved_hung by) w.behind later))
+          ∙ ap (λ i. moved_hung by0 first ∷ (map (moved_hung by0) w.before ++ (hung_of (cons u nil) i (d + b) (up_of a (suc m) m) ++ map (moved_hung by) (w.behind ++ later)))) e;
       count = ap suc w.count;
       sizes = omega (arith, w.sizes);
       texts = omega (arith, w.texts, length-append (forest_text c') (forest_text r), length-append (forest_text c) (forest_text r));
@@ -176,19 +180,19 @@ replaced (after {u = v} {r} {n} {m = q} {i} {p} {t} {b} {d = e} is_m is_d a) u m
     let r' = replace_in r (i ∷ p) u in
     let by0 : Shift = shift_from x x' 0 0 in
     let by : Shift = shift_from x x' y y' in
-    let own = rows_of (cons v nil) m d up in
+    let own = hung_of (cons v nil) m d up in
     let above = up_of a (m + size v) up in
-    let kept : own ≡ map (moved_row by0) own = rows_of-kept (cons v nil) by0 m d up (omega (arith, is_x, is_m, forest_size-cons v nil, some_row t)) (omega (arith, h, is_x, some_row t)) refl refl in
+    let kept : own ≡ map (moved_hung by0) own = hung_of-kept (cons v nil) by0 m d up (omega (arith, is_x, is_m, forest_size-cons v nil, some_row t)) (omega (arith, h, is_x, some_row t)) refl refl in
     record {
       before = own ++ w.before;
       behind = w.behind;
-      old = rows_of-cons v r m d up ∙ ap (λ l. own ++ l) w.old
-          ∙ sym (append_assoc own w.before (rows_of (cons t nil) ((m + size v) + n) ((d + length (text v)) + b) above ++ w.behind))
-          ∙ ap (λ l. (own ++ w.before) ++ (l ++ w.behind)) (cong₂ (λ i j. rows_of (cons t nil) i j above) e1 e2);
-      new = rows_of-cons v r' m d up ∙ cong₂ ◌++◌ kept w.new
-          ∙ sym (append_assoc (map (moved_row by0) own) (map (moved_row by0) w.before) (rows_of (cons u nil) ((m + size v) + n) ((d + length (text v)) + b) above ++ map (moved_row by) w.behind))
-          ∙ cong₂ (λ l s. l ++ (s ++ map (moved_row by) w.behind)) (sym (map-append (moved_row by0) own w.before)) (cong₂ (λ i j. rows_of (cons u nil) i j above) e1 e2);
-      count = length-append own w.before ∙ omega (arith, w.count, length-rows_of (cons v nil) m d up, forest_size-cons v nil, is_m);
+      old = hung_of-cons v r m d up ∙ ap (λ l. own ++ l) w.old
+          ∙ sym (append_assoc own w.before (hung_of (cons t nil) ((m + size v) + n) ((d + length (text v)) + b) above ++ w.behind))
+          ∙ ap (λ l. (own ++ w.before) ++ (l ++ w.behind)) (cong₂ (λ i j. hung_of (cons t nil) i j above) e1 e2);
+      new = hung_of-cons v r' m d up ∙ cong₂ ◌++◌ kept w.new
+          ∙ sym (append_assoc (map (moved_hung by0) own) (map (moved_hung by0) w.before) (hung_of (cons u nil) ((m + size v) + n) ((d + length (text v)) + b) above ++ map (moved_hung by) w.behind))
+          ∙ cong₂ (λ l s. l ++ (s ++ map (moved_hung by) w.behind)) (sym (map-append (moved_hung by0) own w.before)) (cong₂ (λ i j. hung_of (cons u nil) i j above) e1 e2);
+      count = length-append own w.before ∙ omega (arith, w.count, length-hung_of (cons v nil) m d up, forest_size-cons v nil, is_m);
       sizes = omega (arith, w.sizes, forest_size-cons v r, forest_size-cons v r');
       texts = omega (arith, w.texts, ap length (forest_text-cons v r), length-append (text v) (forest_text r), ap length (forest_text-cons v r'), length-append (text v) (forest_text r'));
     }

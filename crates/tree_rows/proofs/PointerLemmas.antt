@@ -6,7 +6,7 @@ use Rattle.syntax_kind.specs.declared.syntax_kind.SyntaxKind.{SyntaxKind}
 use Rattle.tree_model.specs.Tree.{Tree, size, parent_place}
 use Rattle.text_size.specs.TextRange.{Bounds}
 use Rattle.tree_model.specs.Rows.{tree_at, place_at, start_at, end_at}
-use Rattle.tree_rows.specs.Rows.{row_at}
+use Rattle.tree_rows.specs.Rows.{row_at, parent_at}
 use Rattle.tree_model.specs.Cursor.{Cursor, cursor_at, descendants_of}
 use Rattle.tree_model.specs.Pointer.{Pointer, PointsTo, Finds, IsFirst}
 use Rattle.tree_rows.proofs.StepLemmas.{row_kind, row_node, row_token, parent_by_row}
@@ -40,8 +40,8 @@ kind_misses {whole} {n} {r} {b} s says differs at = no_truth b differs (says.1 (
 -- only the first row is the root's
 root_row : (whole : Tree) (n : ℕ) → n < size whole → (n ≡ 0 → ⊥) → place_at whole n ≡ [] → ⊥
 root_row whole n h below is_root =
-    let above = (parent_by_row whole n (row_at whole n).parent h below refl).place in
-    (let e : Some (place_at whole (row_at whole n).parent) ≡ None = above ∙ ap parent_place is_root in cc)
+    let above = (parent_by_row whole n (parent_at whole n) h below refl).place in
+    (let e : Some (place_at whole (parent_at whole n)) ≡ None = above ∙ ap parent_place is_root in cc)
 
 pub finds_nothing : (p : Pointer) (whole : Tree) (n : ℕ) (c : Cursor) → n < size whole → (n ≡ 0 → ⊥) → cursor_at whole n ≡ c → Finds p c None
 finds_nothing p whole n c h below is = record {

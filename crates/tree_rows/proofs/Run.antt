@@ -1,75 +1,108 @@
--- The steps of a forest give its rows.
+-- How rows come from steps, one after another; the steps of a forest give its rows and their parents.
 use Rattle.std.proofs.Common.{◌≡◌, ℕ, zero, suc, ◌+◌, ◌<◌, ◌≤◌, List, ◌∷◌, ◌++◌, length, get_or, map, refl, sym, ap, ◌∙◌, arith, append_assoc, append-nil, length-append, true, false, drop, []}
 use Rattle.std.specs.Prelude.{cond, nat_lt}
-use Rattle.std.proofs.Math.ListN.{set, drop_of_length-le}
-use Rattle.std.proofs.Math.Seq.{set-append_seam, get_or-append_seam}
+use Rattle.std.proofs.Math.ListN.{set, get_or-map, drop_of_length-le}
+use Rattle.std.proofs.Math.Seq.{set-append_seam, get_or-append_seam, map-set_same}
 use Rattle.std.proofs.lemmas.Bool.Decides.{nat_tests}
-use Rattle.std.proofs.lemmas.List.{map-append}
+use Rattle.std.proofs.lemmas.List.{map-append, map-set, length-map}
 use Rattle.syntax_kind.specs.declared.syntax_kind.SyntaxKind.{SyntaxKind}
-use Rattle.tree_rows.specs.declared.rows.Row.{Row}
 use Rattle.tree_rows.specs.declared.builder_event.BuilderEvent.{BuilderEvent}
 use Rattle.tree_rows.specs.declared.builder_event.BuilderEvent.TheVariants.{Enter, Token, Exit}
 use Rattle.tree_model.specs.Tree.{node, token, Forest, nil, cons, forest_text, forest_size}
 use Rattle.tree_model.specs.Events.{exit, events_of}
 use Rattle.tree_rows.specs.Builder.{step_of}
-use Rattle.tree_rows.specs.Rows.{rows_of, no_row}
-use Rattle.tree_rows.specs.Run.{State, run, after_step, row_count}
+use Rattle.tree_rows.specs.Rows.{Columns, no_row, no_rows, one_row, joined, columns_of}
+use Rattle.tree_rows.specs.Run.{row_count}
 use Rattle.tree_model.proofs.At.{cong₂}
-use Rattle.tree_rows.proofs.At.{length-rows_of}
+use Rattle.tree_rows.proofs.Hung.{Hung, hung_of, columns, row_in, up_in, columns-append}
+use Rattle.tree_rows.proofs.At.{length-hung_of}
+use Rattle.tree_rows.proofs.Parents.{columns_of-hung}
+
+-- the rows so far, the row of the innermost open node (0 where none is), and the bytes so far
+pub record State : Type 0 where
+  pub kept : Columns
+  pub innermost : ℕ
+  pub at : ℕ
+
+abbrev pub state : Columns → ℕ → ℕ → State
+state kept innermost at = record { kept = kept; innermost = innermost; at = at }
+
+-- what the loop over the steps does at each
+abbrev pub after_step : BuilderEvent → State → State
+after_step (Enter k) s = state (joined s.kept (one_row (record { kind = k; is_token = false; start = s.at; end = 0 }) s.innermost)) (length s.kept.rows) s.at
+after_step (Token k n) s =
+    state (joined s.kept (one_row (record { kind = k; is_token = true; start = s.at; end = length s.kept.rows + 1 }) s.innermost)) s.innermost (s.at + n)
+after_step Exit s =
+    cond (nat_lt s.innermost (length s.kept.rows))
+    (state (record s.kept { rows = set s.kept.rows s.innermost (record (get_or s.kept.rows s.innermost no_row) { end = length s.kept.rows }) }) (get_or s.kept.parents s.innermost 0) s.at)
+    s
+
+abbrev pub run : List BuilderEvent → State → State
+run [] s = s
+run (e ∷ es) s = run es (after_step e s)
 
 abbrev pub steps_of : Forest → List BuilderEvent
 steps_of f = map step_of (events_of f)
 
-abbrev pub state : List Row → ℕ → ℕ → State
-state rows innermost at = record { rows = rows; innermost = innermost; at = at }
-
 in_range : (s t : State) (m n : ℕ) → m < n → cond (nat_lt m n) s t ≡ s
 in_range s t m n h = grind (arith, nat_tests)
 
--- the exit of the node whose row is r, after the rows C of its children
-exit_step : (rows C : List Row) (r : Row) (n e a : ℕ) → n ≡ length rows → e ≡ suc (n + length C)
-    → after_step Exit (state (rows ++ r ∷ C) n a) ≡ state (rows ++ record r { end = e } ∷ C) r.parent a
-exit_step rows C r n e a is_n is_e =
-    let all = rows ++ r ∷ C in
-    let len : length all ≡ e = omega (arith, length-append rows (r ∷ C), is_n, is_e) in
-    let within : n < length all = omega (arith, len, is_e) in
-    let there : get_or all n no_row ≡ r = ap (λ i. get_or all i no_row) is_n ∙ get_or-append_seam rows r C no_row in
-    in_range (record { rows = set all n (record (get_or all n no_row) { end = length all }); innermost = (get_or all n no_row).parent; at = a }) (state all n a) n (length all) within
-    ∙ cong₂ (λ x l. state (set all n (record x { end = l })) x.parent a) there len
-    ∙ ap (λ i. state (set all i (record r { end = e })) r.parent a) is_n
-    ∙ ap (λ x. state x r.parent a) (set-append_seam rows r C (record r { end = e }))
+-- the exit of the node whose row is h, after the rows C of its children
+exit_step : (hs C : List Hung) (h : Hung) (n e a : ℕ) → n ≡ length hs → e ≡ suc (n + length C)
+    → after_step Exit (state (columns (hs ++ h ∷ C)) n a) ≡ state (columns (hs ++ record { row = record h.row { end = e }; up = h.up } ∷ C)) h.up a
+exit_step hs C h n e a is_n is_e =
+    let all = hs ++ h ∷ C in
+    let none : Hung = record { row = no_row; up = 0 } in
+    let left : Hung = record { row = record h.row { end = e }; up = h.up } in
+    let rows = map row_in all in
+    let ups = map up_in all in
+    let found : get_or all n none ≡ h = ap (λ i. get_or all i none) is_n ∙ get_or-append_seam hs h C none in
+    let put : set all n left ≡ hs ++ left ∷ C = ap (λ i. set all i left) is_n ∙ set-append_seam hs h C left in
+    let len : length rows ≡ e = omega (arith, length-map all row_in, length-append hs (h ∷ C), is_n, is_e) in
+    let within : n < length rows = omega (arith, len, is_e) in
+    let row_there : get_or rows n no_row ≡ h.row = get_or-map row_in all n none ∙ ap row_in found in
+    let up_there : get_or ups n 0 ≡ h.up = get_or-map up_in all n none ∙ ap up_in found in
+    let new_rows : set rows n left.row ≡ map row_in (hs ++ left ∷ C) = sym (map-set row_in all n left) ∙ ap (map row_in) put in
+    let new_ups : ups ≡ map up_in (hs ++ left ∷ C) = sym (map-set_same up_in all n left none (sym (ap up_in found))) ∙ ap (map up_in) put in
+    in_range (state (record { rows = set rows n (record (get_or rows n no_row) { end = length rows }); parents = ups }) (get_or ups n 0) a) (state (columns all) n a) n (length rows) within
+    ∙ cong₂ (λ x l. state (record { rows = set rows n (record x { end = l }); parents = ups }) (get_or ups n 0) a) row_there len
+    ∙ ap (λ u. state (record { rows = set rows n left.row; parents = ups }) u a) up_there
+    ∙ cong₂ (λ x y. state (record { rows = x; parents = y }) h.up a) new_rows new_ups
 
-pub run-steps_of : (f : Forest) (es : List BuilderEvent) (rows : List Row) (up : ℕ) (at : ℕ) → run (steps_of f ++ es) (state rows up at) ≡ run es (state (rows ++ rows_of f (length rows) at up) up (at + length (forest_text f)))
-run-steps_of nil es rows up at = cong₂ (λ r a. run es (state r up a)) (sym (append-nil rows)) (omega arith)
-run-steps_of (cons (token k t) f) es rows up at =
-    let row : ℕ → Row = λ e. record { kind = k; is_token = true; start = at; end = e; parent = up } in
-    let is_end : length rows + 1 ≡ suc (length rows) = omega arith in
-    let n = suc (length rows) in
-    let is_n : length (rows ++ row n ∷ []) ≡ n = omega (arith, length-append rows (row n ∷ [])) in
-    ap (λ e. run (steps_of f ++ es) (state (rows ++ row e ∷ []) up (at + length t))) is_end
-    ∙ run-steps_of f es (rows ++ row n ∷ []) up (at + length t)
-    ∙ cong₂ (λ r a. run es (state r up a))
-    (append_assoc rows (row n ∷ []) (rows_of f (length (rows ++ row n ∷ [])) (at + length t) up) ∙ ap (λ m. rows ++ (row n ∷ rows_of f m (at + length t) up)) is_n)
+pub run-steps_of : (f : Forest) (es : List BuilderEvent) (hs : List Hung) (up at : ℕ)
+    → run (steps_of f ++ es) (state (columns hs) up at) ≡ run es (state (columns (hs ++ hung_of f (length hs) at up)) up (at + length (forest_text f)))
+run-steps_of nil es hs up at = cong₂ (λ l a. run es (state (columns l) up a)) (sym (append-nil hs)) (omega arith)
+run-steps_of (cons (token k t) f) es hs up at =
+    let h : ℕ → Hung = λ e. record { row = record { kind = k; is_token = true; start = at; end = e }; up = up } in
+    let n = suc (length hs) in
+    let is_end : length (map row_in hs) + 1 ≡ n = omega (arith, length-map hs row_in) in
+    let is_n : length (hs ++ h n ∷ []) ≡ n = omega (arith, length-append hs (h n ∷ [])) in
+    ap (λ e. run (steps_of f ++ es) (state (joined (columns hs) (one_row (row_in (h e)) up)) up (at + length t))) is_end
+    ∙ ap (λ c. run (steps_of f ++ es) (state c up (at + length t))) (sym (columns-append hs (h n ∷ [])))
+    ∙ run-steps_of f es (hs ++ h n ∷ []) up (at + length t)
+    ∙ cong₂ (λ l a. run es (state (columns l) up a))
+    (append_assoc hs (h n ∷ []) (hung_of f (length (hs ++ h n ∷ [])) (at + length t) up) ∙ ap (λ m. hs ++ (h n ∷ hung_of f m (at + length t) up)) is_n)
     (omega (arith, length-append t (forest_text f)))
-run-steps_of (cons (node k c) f) es rows up at =
-    let row : ℕ → Row = λ e. record { kind = k; is_token = false; start = at; end = e; parent = up } in
-    let n = length rows in
-    let C = rows_of c (suc n) at n in
+run-steps_of (cons (node k c) f) es hs up at =
+    let h : ℕ → Hung = λ e. record { row = record { kind = k; is_token = false; start = at; end = e }; up = up } in
+    let n = length hs in
+    let C = hung_of c (suc n) at n in
     let e = suc n + forest_size c in
     let b = at + length (forest_text c) in
     let after = Exit ∷ (steps_of f ++ es) in
     let regrouped : map step_of (events_of c ++ exit ∷ events_of f) ++ es ≡ steps_of c ++ after =
     ap (λ l. l ++ es) (map-append step_of (events_of c) (exit ∷ events_of f)) ∙ append_assoc (steps_of c) (Exit ∷ steps_of f) es in
-    let is_n : length (rows ++ row 0 ∷ []) ≡ suc n = omega (arith, length-append rows (row 0 ∷ [])) in
-    let is_e : e ≡ suc (n + length C) = omega (arith, length-rows_of c (suc n) at n) in
-    let is_e' : length (rows ++ row e ∷ C) ≡ e = omega (arith, length-append rows (row e ∷ C), length-rows_of c (suc n) at n) in
-    ap (λ l. run l (state (rows ++ row 0 ∷ []) n at)) regrouped
-    ∙ run-steps_of c after (rows ++ row 0 ∷ []) n at
-    ∙ ap (λ r. run after (state r n b)) (append_assoc rows (row 0 ∷ []) (rows_of c (length (rows ++ row 0 ∷ [])) at n) ∙ ap (λ m. rows ++ (row 0 ∷ rows_of c m at n)) is_n)
-    ∙ ap (run (steps_of f ++ es)) (exit_step rows C (row 0) n e b refl is_e)
-    ∙ run-steps_of f es (rows ++ row e ∷ C) up b
-    ∙ cong₂ (λ r a. run es (state r up a))
-    (append_assoc rows (row e ∷ C) (rows_of f (length (rows ++ row e ∷ C)) b up) ∙ ap (λ m. rows ++ (row e ∷ (C ++ rows_of f m b up))) is_e')
+    let is_n : length (hs ++ h 0 ∷ []) ≡ suc n = omega (arith, length-append hs (h 0 ∷ [])) in
+    let is_e : e ≡ suc (n + length C) = omega (arith, length-hung_of c (suc n) at n) in
+    let is_e' : length (hs ++ h e ∷ C) ≡ e = omega (arith, length-append hs (h e ∷ C), length-hung_of c (suc n) at n) in
+    ap (λ l. run l (state (joined (columns hs) (one_row (row_in (h 0)) up)) (length (map row_in hs)) at)) regrouped
+    ∙ cong₂ (λ x m. run (steps_of c ++ after) (state x m at)) (sym (columns-append hs (h 0 ∷ []))) (length-map hs row_in)
+    ∙ run-steps_of c after (hs ++ h 0 ∷ []) n at
+    ∙ ap (λ l. run after (state (columns l) n b)) (append_assoc hs (h 0 ∷ []) (hung_of c (length (hs ++ h 0 ∷ [])) at n) ∙ ap (λ m. hs ++ (h 0 ∷ hung_of c m at n)) is_n)
+    ∙ ap (run (steps_of f ++ es)) (exit_step hs C (h 0) n e b refl is_e)
+    ∙ run-steps_of f es (hs ++ h e ∷ C) up b
+    ∙ cong₂ (λ l a. run es (state (columns l) up a))
+    (append_assoc hs (h e ∷ C) (hung_of f (length (hs ++ h e ∷ C)) b up) ∙ ap (λ m. hs ++ (h e ∷ (C ++ hung_of f m b up))) is_e')
     (omega (arith, length-append (forest_text c) (forest_text f)))
 
 -- where the step that comes next is a token, a row is left to make
@@ -81,7 +114,8 @@ token_left (e ∷ es) (suc i) d k n h is = token_left es i d k n (omega arith) i
 token_left [] i d k n h is = absurd (omega arith)
 
 -- all the steps of a forest, from nothing
-pub run_all : (f : Forest) (steps : List BuilderEvent) (rows : List Row) (up at i : ℕ) → steps ≡ steps_of f → length steps ≤ i → run (drop i steps) (state rows up at) ≡ run steps (state [] 0 0) → rows ≡ rows_of f 0 0 0
-run_all f steps rows up at i is past same =
+pub run_all : (f : Forest) (steps : List BuilderEvent) (kept : Columns) (up at i : ℕ) → steps ≡ steps_of f → length steps ≤ i → run (drop i steps) (state kept up at) ≡ run steps (state no_rows 0 0) → kept ≡ columns_of f
+run_all f steps kept up at i is past same =
     let ended : drop i steps ≡ [] = drop_of_length-le steps past in
-    ap (λ s. s.rows) (ap (λ l. run l (state rows up at)) (sym ended) ∙ same ∙ ap (λ l. run l (state [] 0 0)) (is ∙ sym (append-nil (steps_of f))) ∙ run-steps_of f [] [] 0 0)
+    ap (λ s. s.kept) (ap (λ l. run l (state kept up at)) (sym ended) ∙ same ∙ ap (λ l. run l (state no_rows 0 0)) (is ∙ sym (append-nil (steps_of f))) ∙ run-steps_of f [] [] 0 0)
+    ∙ sym (columns_of-hung f)

@@ -3,15 +3,16 @@ use Rattle.std.proofs.Common.{◌≡◌, ℕ, suc, ◌+◌, ◌-◌, ◌<◌, �
 use Rattle.std.specs.Prelude.{None, Some, nat_lt, if◌then◌else◌}
 use Rattle.tree_model.specs.Tree.{Tree, node, nil, cons, Forest, size, forest_size, Place, child_at, child_count, forest_of_children, parent_place, last_child_place, prev_sibling_place}
 use Rattle.tree_model.specs.Rows.{place_at, tree_at}
-use Rattle.tree_rows.specs.Rows.{row_at}
+use Rattle.tree_rows.specs.Rows.{row_at, parent_at}
 use Rattle.tree_rows.specs.RowSteps.{IsBelow, IsChildOver}
 use Rattle.tree_model.proofs.At.{At, here, below, after, lift, next_top, no_empty_place, some_row, At-fits, below_or_after, place_above-append, last_position-append, forest_size-cons}
 use Rattle.tree_rows.proofs.TableLemmas.{row_end_fits}
 use Rattle.tree_model.proofs.StepLemmas.{place_from_At, parent_place-append, if_above, if_not_above}
-use Rattle.tree_rows.proofs.StepLemmas.{hangs, Hangs, end_of_row, end_from_At, same_parent}
+use Rattle.tree_rows.proofs.At.{end_from_At}
+use Rattle.tree_rows.proofs.StepLemmas.{hangs, Hangs, end_of_row, same_parent}
 
 -- one step up from a row below q whose parent is another
-pub climbs : (whole : Tree) (q n c up : ℕ) → IsBelow whole q n → q < c → c ≤ n → n < (row_at whole c).end → up ≡ (row_at whole c).parent → (up ≡ q → ⊥)
+pub climbs : (whole : Tree) (q n c up : ℕ) → IsBelow whole q n → q < c → c ≤ n → n < (row_at whole c).end → up ≡ parent_at whole c → (up ≡ q → ⊥)
     → (q < up) × (up < c) × (n < (row_at whole up).end)
 climbs whole q n c up w behind from reaches is_up other =
     let h : c < size whole = omega (arith, row_end_fits whole q w.in_range, w.reaches) in

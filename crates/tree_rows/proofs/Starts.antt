@@ -57,15 +57,15 @@ first_starts whole n m h is_m lt = in_tree (tree_at whole n) (at_row whole n h) 
 
 -- the rows from `from` on, before `to`
 abbrev pub part : Tree → ℕ → ℕ → List Row
-part whole from to = take (to - from) (drop from (rows_of (cons whole nil) 0 0 0))
+part whole from to = take (to - from) (drop from (rows_of (cons whole nil) 0 0))
 
 length-part : (whole : Tree) (from to : ℕ) → from ≤ to → to ≤ size whole → length (part whole from to) ≡ to - from
-length-part whole from to h fits = omega (arith, length-take (to - from) (drop from (rows_of (cons whole nil) 0 0 0)), length-drop from (rows_of (cons whole nil) 0 0 0), length-rows_of (cons whole nil) 0 0 0, forest_size-cons whole nil)
+length-part whole from to h fits = omega (arith, length-take (to - from) (drop from (rows_of (cons whole nil) 0 0)), length-drop from (rows_of (cons whole nil) 0 0), length-rows_of (cons whole nil) 0 0, forest_size-cons whole nil)
 
 row_in_part : (whole : Tree) (from to k : ℕ) (d : Row) → from ≤ to → to ≤ size whole → k < to - from → (get_or (part whole from to) k d).start ≡ start_at whole (from + k)
 row_in_part whole from to k d h fits lt =
     let e : from + k < size whole = omega arith in
-    ap (λ r. r.start) (get_or-take (to - from) (drop from (rows_of (cons whole nil) 0 0 0)) k d lt ∙ get_or-drop from (rows_of (cons whole nil) 0 0 0) k d ∙ get_or_default (rows_of (cons whole nil) 0 0 0) (from + k) d no_row (omega (arith, length-rows_of (cons whole nil) 0 0 0, forest_size-cons whole nil)))
+    ap (λ r. r.start) (get_or-take (to - from) (drop from (rows_of (cons whole nil) 0 0)) k d lt ∙ get_or-drop from (rows_of (cons whole nil) 0 0) k d ∙ get_or_default (rows_of (cons whole nil) 0 0) (from + k) d no_row (omega (arith, length-rows_of (cons whole nil) 0 0, forest_size-cons whole nil)))
     ∙ row_start whole (from + k) e
 
 pub part_is_partitioned : (whole : Tree) (from to offset : ℕ) → from ≤ to → to ≤ size whole → IsPartitionedBy (λ r. nat_lt r.start offset) (part whole from to)

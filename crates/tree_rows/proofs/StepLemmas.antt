@@ -1,21 +1,22 @@
 -- Parent, first child and next sibling, by row numbers.
-use Rattle.std.proofs.Common.{◌≡◌, ℕ, zero, suc, ◌+◌, ◌-◌, ◌<◌, ◌≤◌, ◌⊎◌, inl, inr, ◌∷◌, ◌++◌, refl, sym, ap, subst, ◌∙◌, arith, []}
+use Rattle.std.proofs.Common.{◌≡◌, ℕ, zero, suc, ◌+◌, ◌<◌, ◌≤◌, ◌⊎◌, inl, inr, ◌∷◌, ◌++◌, refl, sym, ap, subst, ◌∙◌, arith, []}
 use Rattle.std.specs.Prelude.{None, Some, nat_lt, if◌then◌else◌, ◌↔◌}
 use Rattle.std.proofs.Common.{Bool, true, false}
 use Rattle.tree_rows.specs.declared.rows.Row.{Row}
 use Rattle.tree_model.specs.Tree.{is_token, IsNode, IsToken, kind_of}
-use Rattle.tree_model.specs.Tree.{Tree, node, token, nil, cons, size, forest_size, Place, child_at, child_count, forest_of_children, parent_place, first_child_place, next_sibling_place}
+use Rattle.tree_model.specs.Tree.{Tree, node, token, nil, cons, size, forest_size, child_at, child_count, forest_of_children, parent_place, first_child_place, next_sibling_place}
 use Rattle.tree_model.specs.Rows.{place_at, tree_at, start_at}
-use Rattle.tree_rows.specs.Rows.{row_at, row_of, no_row}
+use Rattle.tree_rows.specs.Rows.{row_at, parent_at, row_of, rows_of}
 use Rattle.tree_rows.specs.RowSteps.{IsNearestOver}
-use Rattle.tree_model.proofs.At.{At, up_of, here, Inner, inner, lift, located, earlier_ends, next_top, At-unique, At-fits, subtree-At, some_row, forest_size-cons, below_or_after}
-use Rattle.tree_rows.proofs.At.{row-At}
+use Rattle.tree_model.proofs.At.{At, here, Inner, inner, lift, next_top, At-unique, At-fits, subtree-At, some_row, forest_size-cons, below_or_after}
+use Rattle.tree_rows.proofs.At.{row_of-end, end_from_At}
+use Rattle.tree_rows.proofs.Parents.{parent_from_At, nearest_found, between_ends, top_ends}
 use Rattle.tree_model.proofs.TableLemmas.{at_row, up_at}
-use Rattle.tree_rows.proofs.TableLemmas.{row_at-is, row_of-end, row_of-start, row_of-parent}
+use Rattle.tree_rows.proofs.TableLemmas.{row_at-is, row_of-start}
 use Rattle.tree_model.proofs.StepLemmas.{Parent, if_above, if_not_above, next_sibling_place-append, parent_place-append, place_from_At, root_tree, same_place_same_row}
 
 pub end_of_row : (whole : Tree) (n : ℕ) → n < size whole → (row_at whole n).end ≡ n + size (tree_at whole n)
-end_of_row whole n h = ap (λ r. r.end) (row_at-is whole n h) ∙ row_of-end (tree_at whole n) n (start_at whole n) (up_at whole n h)
+end_of_row whole n h = ap (λ r. r.end) (row_at-is whole n h) ∙ row_of-end (tree_at whole n) n (start_at whole n)
 
 -- where a row that is not the root hangs
 pub record Hangs (whole : Tree) (n : ℕ) : Type 0 where
@@ -23,7 +24,7 @@ pub record Hangs (whole : Tree) (n : ℕ) : Type 0 where
   pub h : n < size whole
   pub w : Inner (at_row whole n h)
   pub q_is : q ≡ w.parent_row
-  pub up_is : (row_at whole n).parent ≡ q
+  pub up_is : parent_at whole n ≡ q
   pub in_range : q < size whole
   pub earlier : q < n
   pub reaches : n + size (tree_at whole n) ≤ (row_at whole q).end
@@ -32,11 +33,9 @@ pub record Hangs (whole : Tree) (n : ℕ) : Type 0 where
   pub parent_is : tree_at whole q ≡ node w.kind w.children
   pub between : (k : ℕ) → q < k → k < n → (row_at whole k).end ≤ n
 
-pub end_from_At : {whole : Tree} {n : ℕ} {p : Place} {t : Tree} {b : ℕ} → At (cons whole nil) n p t b → (row_at whole n).end ≡ n + size t
-end_from_At {n} {t} {b} a = ap (λ r. r.end) (row-At a 0 0 0 no_row) ∙ row_of-end t (0 + n) (0 + b) (up_of a 0 0) ∙ omega arith
-
-pub parent_of_row : (whole : Tree) (n : ℕ) (h : n < size whole) → (row_at whole n).parent ≡ up_at whole n h
-parent_of_row whole n h = ap (λ r. r.parent) (row_at-is whole n h) ∙ row_of-parent (tree_at whole n) n (start_at whole n) (up_at whole n h)
+-- the definition of the parent answers where the place hangs
+pub parent_of_row : (whole : Tree) (n : ℕ) (h : n < size whole) → parent_at whole n ≡ up_at whole n h
+parent_of_row whole n h = parent_from_At (at_row whole n h)
 
 hangs_at : (whole : Tree) (n : ℕ) (h : n < size whole) → Inner (at_row whole n h) → Hangs whole n
 hangs_at whole n h w =
@@ -56,13 +55,7 @@ hangs_at whole n h w =
       reaches = omega (arith, end_from_At parent, w.row_is, At-fits w.at_child);
       place_is = (let e : (0 ∷ place_at whole n) ≡ 0 ∷ (place_at whole q ++ w.position ∷ []) = w.place_is ∙ ap (λ p. p ++ w.position ∷ []) above_is in cc);
       parent_is = subtree-At parent;
-      between = λ k after_q before_n.
-          let m : ℕ = k - suc q in
-          let lt : m < w.row_within = omega (arith, w.row_is) in
-          let there = located w.children m (omega (arith, At-fits w.at_child, some_row (tree_at whole n), lt)) in
-          let ends : m + size there.t ≤ w.row_within = earlier_ends w.at_child there.is_at lt in
-          let up : k ≡ suc q + m = omega arith in
-          omega (arith, end_from_At (lift parent there.is_at up refl), ends, up, w.row_is);
+      between = between_ends (at_row whole n h) w;
     }
 
 pub hangs : (whole : Tree) (n : ℕ) → n < size whole → ((place_at whole n ≡ []) × ((k : ℕ) → k < n → (row_at whole k).end ≤ n)) ⊎ Hangs whole n
@@ -70,10 +63,7 @@ hangs whole n h =
     elim (inner (at_row whole n h)) [
       | inl top ↦ inl (
         (let e : (0 ∷ place_at whole n) ≡ (top.position ∷ []) = top.place_is in cc),
-        λ k lt.
-            let a : At (cons whole nil) n (top.position ∷ []) (tree_at whole n) (start_at whole n) = subst (λ p. At (cons whole nil) n p (tree_at whole n) (start_at whole n)) top.place_is (at_row whole n h) in
-            let hk : k < size whole = omega arith in
-            omega (arith, end_of_row whole k hk, earlier_ends a (at_row whole k hk) lt),
+        top_ends (at_row whole n h) top,
       )
       | inr w ↦ inr (hangs_at whole n h w)
     ]
@@ -106,7 +96,7 @@ root_end : (whole : Tree) → (row_at whole 0).end ≡ size whole
 root_end whole = end_of_row whole 0 (some_row whole) ∙ omega (arith, ap size (root_tree whole))
 
 -- the parent is the nearest earlier row whose subtree reaches past the row
-pub parent_is_nearest : (whole : Tree) (n q : ℕ) → 0 < n → n < size whole → ((row_at whole n).parent ≡ q) ↔ IsNearestOver whole n q
+pub parent_is_nearest : (whole : Tree) (n q : ℕ) → 0 < n → n < size whole → (parent_at whole n ≡ q) ↔ IsNearestOver whole n q
 parent_is_nearest whole n q inner_row h =
     elim (hangs whole n h) [
       | inl root ↦ absurd (omega (arith, root.1 0 inner_row, root_end whole, h))
@@ -118,20 +108,11 @@ parent_is_nearest whole n q inner_row h =
               reaches = omega (arith, ap (λ k. (row_at whole k).end) same, w.reaches, some_row (tree_at whole n));
               between = λ k later before. w.between k (omega (arith, same, later)) before;
             }),
-        (λ v.
-            let same : q ≡ w.q =
-            elim (below_or_after q w.q) [
-              | inl less ↦ absurd (omega (arith, v.between w.q less w.earlier, w.reaches, some_row (tree_at whole n)))
-              | inr more ↦ elim (below_or_after w.q q) [
-                | inl less ↦ absurd (omega (arith, w.between q less v.earlier, v.reaches))
-                | inr less ↦ omega (arith, more.1, less.1)
-              ]
-            ] in
-            w.up_is ∙ sym same),
+        (λ v. nearest_found (rows_of (cons whole nil) 0 0) n n q v.earlier v.reaches v.between),
       )
     ]
 
-pub parent_by_row : (whole : Tree) (n q : ℕ) → n < size whole → (n ≡ 0 → ⊥) → q ≡ (row_at whole n).parent → Parent whole n q
+pub parent_by_row : (whole : Tree) (n q : ℕ) → n < size whole → (n ≡ 0 → ⊥) → q ≡ parent_at whole n → Parent whole n q
 parent_by_row whole n q h inner_row is_q =
     elim (hangs whole n h) [
       | inl root ↦ absurd (omega (arith, root.1 0 (not_zero n inner_row), root_end whole, h))
@@ -235,31 +216,31 @@ parent_is_node whole n q h k parent =
 pub row_kind : (whole : Tree) (n : ℕ) → n < size whole → (row_at whole n).kind ≡ kind_of (tree_at whole n)
 row_kind whole n h = ap (λ r. r.kind) (row_at-is whole n h) ∙ kind_in (tree_at whole n)
   where
-    kind_in : (t : Tree) → (row_of t n (start_at whole n) (up_at whole n h)).kind ≡ kind_of t
+    kind_in : (t : Tree) → (row_of t n (start_at whole n)).kind ≡ kind_of t
     kind_in (token k x) = refl
     kind_in (node k c) = refl
 
 pub row_start : (whole : Tree) (n : ℕ) → n < size whole → (row_at whole n).start ≡ start_at whole n
-row_start whole n h = ap (λ r. r.start) (row_at-is whole n h) ∙ row_of-start (tree_at whole n) n (start_at whole n) (up_at whole n h)
+row_start whole n h = ap (λ r. r.start) (row_at-is whole n h) ∙ row_of-start (tree_at whole n) n (start_at whole n)
 
-token_by : (t : Tree) (n b u : ℕ) → (row_of t n b u).is_token ≡ true → IsToken t
-token_by (token k x) n b u e = tt
-token_by (node k c) n b u e = cc
+token_by : (t : Tree) (n b : ℕ) → (row_of t n b).is_token ≡ true → IsToken t
+token_by (token k x) n b e = tt
+token_by (node k c) n b e = cc
 
-node_by : (t : Tree) (n b u : ℕ) → (row_of t n b u).is_token ≡ false → IsNode t
-node_by (token k x) n b u e = cc
-node_by (node k c) n b u e = tt
+node_by : (t : Tree) (n b : ℕ) → (row_of t n b).is_token ≡ false → IsNode t
+node_by (token k x) n b e = cc
+node_by (node k c) n b e = tt
 
 pub row_token : (whole : Tree) (n : ℕ) (x : Row) → n < size whole → x ≡ row_at whole n → x.is_token ≡ true → IsToken (tree_at whole n)
-row_token whole n x h is e = token_by (tree_at whole n) n (start_at whole n) (up_at whole n h) (sym (ap (λ r. r.is_token) (is ∙ row_at-is whole n h)) ∙ e)
+row_token whole n x h is e = token_by (tree_at whole n) n (start_at whole n) (sym (ap (λ r. r.is_token) (is ∙ row_at-is whole n h)) ∙ e)
 
 pub row_node : (whole : Tree) (n : ℕ) (x : Row) → n < size whole → x ≡ row_at whole n → x.is_token ≡ false → IsNode (tree_at whole n)
-row_node whole n x h is e = node_by (tree_at whole n) n (start_at whole n) (up_at whole n h) (sym (ap (λ r. r.is_token) (is ∙ row_at-is whole n h)) ∙ e)
+row_node whole n x h is e = node_by (tree_at whole n) n (start_at whole n) (sym (ap (λ r. r.is_token) (is ∙ row_at-is whole n h)) ∙ e)
 
 pub row_is_token : (tree : Tree) (row : ℕ) → row < size tree → (row_at tree row).is_token ≡ is_token (tree_at tree row)
 row_is_token tree row h = ap (λ r. r.is_token) (row_at-is tree row h) ∙ of_kind (tree_at tree row)
   where
-    of_kind : (t : Tree) → (row_of t row (start_at tree row) (up_at tree row h)).is_token ≡ is_token t
+    of_kind : (t : Tree) → (row_of t row (start_at tree row)).is_token ≡ is_token t
     of_kind (token k x) = refl
     of_kind (node k c) = refl
 

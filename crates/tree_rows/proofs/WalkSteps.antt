@@ -13,7 +13,8 @@ use Rattle.tree_model.proofs.At.{At, here, below, after, lift, at_moved, below_o
 use Rattle.tree_model.proofs.TableLemmas.{at_row}
 use Rattle.tree_model.proofs.WalkLemmas.{place_below}
 use Rattle.tree_model.proofs.StepLemmas.{parent_place-append}
-use Rattle.tree_rows.proofs.StepLemmas.{end_of_row, end_from_At, hangs, parent_found, same_parent}
+use Rattle.tree_rows.proofs.At.{end_from_At}
+use Rattle.tree_rows.proofs.StepLemmas.{end_of_row, hangs, parent_found, same_parent}
 use Rattle.tree_model.proofs.EventLemmas.{visited, walk_from-walk, length-walk}
 
 -- the walk at one of its places

@@ -18,6 +18,7 @@ TextsFit (Enter k ∷ es) s = TextsFit es s
 TextsFit (Token k n ∷ es) s = (n ≤ length s) × IsUtf8 (take n s) × TextsFit es (drop n s)
 TextsFit (Exit ∷ es) s = TextsFit es s
 
+-- an event, its text aside
 abbrev pub step_of : Event → BuilderEvent
 step_of (enter k) = Enter k
 step_of (leaf k t) = Token k (length t)

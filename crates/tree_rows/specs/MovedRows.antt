@@ -1,37 +1,52 @@
 -- Rows moved to another table. No contract outside this crate names them.
-use Rattle.std.specs.Prelude.{ℕ, ◌+◌, ◌-◌, ◌<◌, ◌≤◌, ◌^◌, List, map, take, drop, nat_lt, if◌then◌else◌}
+use Rattle.std.specs.Prelude.{ℕ, ◌+◌, ◌-◌, ◌<◌, ◌≤◌, ◌^◌, ◌∷◌, map, take, drop, nat_lt, if◌then◌else◌}
 use Rattle.tree_rows.specs.declared.rows.Row.{Row}
 use Rattle.tree_rows.specs.declared.table.edit.Shift.{Shift}
 use Rattle.tree_model.specs.Tree.{Tree, cons, nil, size}
 use Rattle.tree_model.specs.Rows.{tree_at, start_at, end_at}
-use Rattle.tree_rows.specs.Rows.{rows_of}
+use Rattle.tree_rows.specs.Rows.{Columns, rows_of, parents_of}
 
 -- a row number after the move: the first ones stay
 abbrev pub moved_number : Shift → ℕ → ℕ
 moved_number by n = if nat_lt n by.from_row then n else (n - by.from_row) + by.to_row
 
+-- a row after the move
 abbrev pub moved_row : Shift → Row → Row
-moved_row by r = record { kind = r.kind; is_token = r.is_token; start = (r.start - by.from_byte) + by.to_byte; end = moved_number by r.end; parent = moved_number by r.parent }
+moved_row by r = record { kind = r.kind; is_token = r.is_token; start = (r.start - by.from_byte) + by.to_byte; end = moved_number by r.end }
+
+-- rows and the numbers of their parents after the move
+abbrev pub moved : Shift → Columns → Columns
+moved by kept = record { rows = map (moved_row by) kept.rows; parents = map (moved_number by) kept.parents }
 
 -- the moved row's numbers fit in their types
 pub record MoveFits (by : Shift) (r : Row) : Type 0 where
   pub byte_is_later : by.from_byte ≤ r.start
   pub byte_fits : (r.start - by.from_byte) + by.to_byte < 2 ^ 32
   pub end_fits : (r.end - by.from_row) + by.to_row < 2 ^ 63
-  pub parent_fits : (r.parent - by.from_row) + by.to_row < 2 ^ 63
 
--- rows a to b of a tree, b left out
-abbrev pub rows_between : Tree → ℕ → ℕ → List Row
-rows_between tree a b = take (b - a) (drop a (rows_of (cons tree nil) 0 0 0))
+-- rows a to b of a tree, b left out, and their parents
+abbrev pub rows_between : Tree → ℕ → ℕ → Columns
+rows_between tree a b = record {
+  rows = take (b - a) (drop a (rows_of (cons tree nil) 0 0));
+  parents = take (b - a) (drop a (parents_of (rows_of (cons tree nil) 0 0)));
+}
 
 -- rows from n on go to those from m on, bytes from b on to those from d on
 abbrev pub shift_from : ℕ → ℕ → ℕ → ℕ → Shift
 shift_from n m b d = record { from_row = n; to_row = m; from_byte = b; to_byte = d }
 
--- the rows before and behind the subtree at row n, when others of so many rows and bytes take its place
-abbrev pub moved_before : Tree → ℕ → ℕ → List Row
-moved_before tree n count = map (moved_row (shift_from (n + size (tree_at tree n)) (n + count) 0 0)) (rows_between tree 0 n)
+-- the rows of the subtree at row n, moved so that the first has row number m, starts at byte b and has the parent up; those
+-- below it keep their parents, which move with them
+abbrev pub moved_subtree : Tree → ℕ → ℕ → ℕ → ℕ → Columns
+moved_subtree tree n m b up = record {
+  rows = rows_of (cons (tree_at tree n) nil) m b;
+  parents = up ∷ (moved (shift_from n m (start_at tree n) b) (rows_between tree (n + 1) (n + size (tree_at tree n)))).parents;
+}
 
-abbrev pub moved_behind : Tree → ℕ → ℕ → ℕ → List Row
+-- the rows before and behind the subtree at row n, when others of so many rows and bytes take its place
+abbrev pub moved_before : Tree → ℕ → ℕ → Columns
+moved_before tree n count = moved (shift_from (n + size (tree_at tree n)) (n + count) 0 0) (rows_between tree 0 n)
+
+abbrev pub moved_behind : Tree → ℕ → ℕ → ℕ → Columns
 moved_behind tree n count bytes =
-    map (moved_row (shift_from (n + size (tree_at tree n)) (n + count) (end_at tree n) (start_at tree n + bytes))) (rows_between tree (n + size (tree_at tree n)) (size tree))
+    moved (shift_from (n + size (tree_at tree n)) (n + count) (end_at tree n) (start_at tree n + bytes)) (rows_between tree (n + size (tree_at tree n)) (size tree))

@@ -4,7 +4,7 @@ use Rattle.std.specs.List.{filter}
 use Rattle.tree_model.specs.Tree.{Tree, size, IsToken, IsNode}
 use Rattle.tree_model.specs.Rows.{tree_at}
 use Rattle.tree_model.specs.Cursor.{Cursor, at_token, cursors_from}
-use Rattle.tree_rows.specs.Rows.{row_at}
+use Rattle.tree_rows.specs.Rows.{row_at, parent_at}
 
 -- row n stands below row q
 pub record IsBelow (tree : Tree) (q n : ℕ) : Type 0 where
@@ -17,7 +17,7 @@ pub record IsChildOver (tree : Tree) (q n c : ℕ) : Type 0 where
   pub behind : q < c
   pub from : c ≤ n
   pub reaches : n < (row_at tree c).end
-  pub parent_is : (row_at tree c).parent ≡ q
+  pub parent_is : parent_at tree c ≡ q
 
 -- row q is the nearest row before row n whose subtree reaches past it
 pub record IsNearestOver (tree : Tree) (n q : ℕ) : Type 0 where
@@ -25,9 +25,9 @@ pub record IsNearestOver (tree : Tree) (n q : ℕ) : Type 0 where
   pub reaches : n < (row_at tree q).end
   pub between : (k : ℕ) → q < k → k < n → (row_at tree k).end ≤ n
 
--- the parent of each row but the root's is the nearest earlier row whose subtree reaches past it, and no other row is
+-- each row but the root's has a nearest earlier row whose subtree reaches past it; that is its parent, and no other row is
 abbrev pub ParentsAreNearest : Type 0
-ParentsAreNearest = (tree : Tree) (n q : ℕ) → 0 < n → n < size tree → ((row_at tree n).parent ≡ q) ↔ IsNearestOver tree n q
+ParentsAreNearest = (tree : Tree) (n q : ℕ) → 0 < n → n < size tree → (parent_at tree n ≡ q) ↔ IsNearestOver tree n q
 
 -- the first token among the rows from a to b, if there is one; and the last
 abbrev pub NoTokens : Tree → ℕ → ℕ → Type 0

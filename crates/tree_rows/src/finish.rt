@@ -5,7 +5,7 @@ ghost use Rattle.tree_model.specs.Tree.{Forest};
 ghost use Rattle.tree_model.specs.Events.{events_of};
 ghost use Rattle.tree_rows.specs.Builder.{events_from, step_of};
 ghost use Rattle.tree_model.specs.Scan.{after_top, scan};
-ghost use Rattle.tree_rows.specs.Rows.{rows_of};
+ghost use Rattle.tree_rows.specs.Rows.{columns_of};
 ghost use Rattle.tree_rows.specs.Run.{text_len, row_count};
 
 use crate::builder_event::BuilderEvent;
@@ -75,10 +75,10 @@ fn row_count(steps: &[BuilderEvent]) -> usize
     count
 }
 
-/// The rows of the steps of a forest.
+/// The rows of the steps of a forest, and their parents.
 pub fn build_rows(alloc: Global, steps: &[BuilderEvent]) -> Result<Rows, AllocError>
     requires { text_len steps.now < 2 ^ 32 }
-    ensures { IfOk result (λ rows. (f : Forest) → steps.now ≡ map step_of (events_of f) → rows ≡ rows_of f 0 0 0) }
+    ensures { IfOk result (λ rows. (f : Forest) → steps.now ≡ map step_of (events_of f) → rows ≡ columns_of f) }
 {
     let mut rows = Rows::with_capacity(alloc, row_count(steps))?;
     let mut innermost: usize = 0;
@@ -87,24 +87,24 @@ pub fn build_rows(alloc: Global, steps: &[BuilderEvent]) -> Result<Rows, AllocEr
         match *step {
             BuilderEvent::Enter(kind) => {
                 let row = rows.len();
-                rows.push(Row {
+                let open = Row {
                     kind,
                     is_token: false,
                     start: at,
                     end: 0,
-                    parent: innermost,
-                })?;
+                };
+                rows.push(open, innermost)?;
                 innermost = row;
             }
             BuilderEvent::Token(kind, len) => {
                 let end = rows.len() + 1;
-                rows.push(Row {
+                let token = Row {
                     kind,
                     is_token: true,
                     start: at,
                     end,
-                    parent: innermost,
-                })?;
+                };
+                rows.push(token, innermost)?;
                 at += len as u32;
             }
             BuilderEvent::Exit => {
@@ -112,7 +112,7 @@ pub fn build_rows(alloc: Global, steps: &[BuilderEvent]) -> Result<Rows, AllocEr
                 let row = innermost;
                 if row < rows.len() {
                     let end = rows.len();
-                    innermost = rows.get(row).parent;
+                    innermost = rows.parent(row);
                     rows.set_end(row, end);
                 }
             }

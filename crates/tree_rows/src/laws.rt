@@ -22,7 +22,7 @@ pub fn covering_holds()
     ensures { CoveringHolds }
 {}
 
-/// The parent of a row is the nearest earlier row whose subtree reaches past it.
+/// Each row but the root's has a nearest earlier row whose subtree reaches past it; that is its parent, and no other row is.
 pub fn parents_are_nearest()
     ensures { ParentsAreNearest }
 {}

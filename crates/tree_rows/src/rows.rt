@@ -1,8 +1,8 @@
 //! Rows, in 16 bytes each, and their parents beside them, in 8.
-ghost use Rattle.std.specs.Prelude.{ℕ, ◌≡◌, ◌<◌, ◌≤◌, ◌-◌, ◌^◌, ◌++◌, [], ◌∷◌, length, get_or, take, drop, nat_lt, true, false, IfOk, OnOk, OnErr};
+ghost use Rattle.std.specs.Prelude.{◌≡◌, ◌<◌, ◌≤◌, ◌-◌, ◌^◌, length, get_or, take, drop, nat_lt, true, false, IfOk, OnOk, OnErr};
 ghost use Rattle.std.specs.List.Sorted.{IsPartitionedBy, IsPartitionPoint};
 ghost use Rattle.std.proofs.Math.ListN.{set};
-ghost use Rattle.tree_rows.specs.Rows.{no_row};
+ghost use Rattle.tree_rows.specs.Rows.{no_row, no_rows, one_row, joined};
 ghost use Rattle.tree_rows.specs.PackedRow.{unpacked};
 
 use std::alloc::{AllocError, Global};
@@ -20,11 +20,9 @@ pub(crate) struct Row {
     pub start: u32,
     /// The number of the first row after the subtree.
     pub end: usize,
-    /// The number of the parent's row; the root is its own.
-    pub parent: usize,
 }
 
-/// How a row is kept, its parent aside: the highest bit of `behind` says whether it is a token.
+/// How a row is kept: the highest bit of `behind` says whether it is a token.
 #[derive(Clone, Copy)]
 pub struct PackedRow {
     kind: SyntaxKind,
@@ -38,7 +36,7 @@ const TOKEN: usize = 9_223_372_036_854_775_808;
 impl PackedRow {
     fn new(row: Row) -> PackedRow
         requires { row.end < 2 ^ 63 }
-        ensures { unpacked result row.parent ≡ row }
+        ensures { unpacked result ≡ row }
     {
         let behind = if row.is_token {
             row.end + TOKEN
@@ -52,9 +50,9 @@ impl PackedRow {
         }
     }
 
-    // The row, whose parent has the row `parent`.
-    fn row(self, parent: usize) -> Row
-        ensures value { result ≡ unpacked self parent }
+    // The row that is kept so.
+    fn row(self) -> Row
+        ensures value { result ≡ unpacked self }
         ensures fits { result.end < 2 ^ 63 }
     {
         let is_token = self.behind >= TOKEN;
@@ -67,13 +65,12 @@ impl PackedRow {
             } else {
                 self.behind
             },
-            parent,
         }
     }
 
     fn set_end(&mut self, end: usize)
         requires { end < 2 ^ 63 }
-        ensures { (up : ℕ) → unpacked self.new up ≡ record (unpacked self.old up) { end = end } }
+        ensures { unpacked self.new ≡ record (unpacked self.old) { end = end } }
     {
         self.behind = if self.behind >= TOKEN {
             end + TOKEN
@@ -83,7 +80,7 @@ impl PackedRow {
     }
 }
 
-/// A list of rows. A clause sees the rows.
+/// A list of rows, and beside it the number of each one's parent, for the calls that go up. A clause sees both columns.
 #[derive(Drop)]
 pub struct Rows {
     packed: Vec<PackedRow>,
@@ -91,14 +88,13 @@ pub struct Rows {
 }
 
 impl Model for Rows {
-    ghost use Rattle.std.specs.Prelude.{List, length, ◌≡◌};
-    ghost use Rattle.std.specs.Coded.{coded_list};
-    ghost use Rattle.tree_rows.specs.declared.rows.Row.{Row};
-    ghost use Rattle.tree_rows.specs.PackedRow.{row_code, rows_kept};
+    ghost use Rattle.std.specs.Prelude.{length, ◌≡◌};
+    ghost use Rattle.tree_rows.specs.Rows.{Columns};
+    ghost use Rattle.tree_rows.specs.PackedRow.{columns_code, rows_kept};
 
-    ghost Value = { List Row };
+    ghost Value = { Columns };
 
-    ghost coded = { coded_list row_code };
+    ghost coded = { columns_code };
 
     ghost view = { λ a. rows_kept a.packed.items a.parents.items };
 
@@ -108,7 +104,7 @@ impl Model for Rows {
 impl Rows {
     /// No rows, with room for this many.
     pub fn with_capacity(alloc: Global, count: usize) -> Result<Rows, AllocError>
-        ensures empty { IfOk result (λ rows. rows ≡ []) }
+        ensures empty { IfOk result (λ rows. rows ≡ no_rows) }
         ensures fits { OnOk result (count < 2 ^ 63) }
     {
         let packed = Vec::with_capacity(alloc, count)?;
@@ -118,7 +114,7 @@ impl Rows {
 
     /// How many rows there are. A vector never has room for 2^63.
     pub fn len(&self) -> usize
-        ensures value { result ≡ length self.now }
+        ensures value { result ≡ length self.now.rows }
         ensures small { result < 2 ^ 63 }
     {
         self.packed.len()
@@ -126,21 +122,29 @@ impl Rows {
 
     /// Row `n`.
     pub(crate) fn get(&self, n: usize) -> Row
-        requires { n < length self.now }
-        ensures value { result ≡ get_or self.now n no_row }
+        requires { n < length self.now.rows }
+        ensures value { result ≡ get_or self.now.rows n no_row }
         ensures fits { result.end < 2 ^ 63 }
     {
-        self.packed[n].row(self.parents[n])
+        self.packed[n].row()
     }
 
-    /// One more row at the end; where there is no memory for it, the rows stay as they were.
-    pub(crate) fn push(&mut self, row: Row) -> Result<(), AllocError>
+    /// The number that stands beside row `n`.
+    pub(crate) fn parent(&self, n: usize) -> usize
+        requires { n < length self.now.rows }
+        ensures { result ≡ get_or self.now.parents n 0 }
+    {
+        self.parents[n]
+    }
+
+    /// One more row at the end, and the number of its parent; where there is no memory for them, all stays as it was.
+    pub(crate) fn push(&mut self, row: Row, parent: usize) -> Result<(), AllocError>
         requires { row.end < 2 ^ 63 }
-        ensures ok { OnOk result (self.new ≡ self.old ++ row ∷ []) }
+        ensures ok { OnOk result (self.new ≡ joined self.old (one_row row parent)) }
         ensures err { OnErr result (self.new ≡ self.old) }
     {
         self.packed.push(PackedRow::new(row))?;
-        match self.parents.push(row.parent) {
+        match self.parents.push(parent) {
             Ok(()) => Ok(()),
             Err(_) => {
                 self.packed.pop();
@@ -151,21 +155,20 @@ impl Rows {
 
     /// Row `n` with another end.
     pub(crate) fn set_end(&mut self, n: usize, end: usize)
-        requires is_row { n < length self.old }
+        requires is_row { n < length self.old.rows }
         requires fits { end < 2 ^ 63 }
-        ensures { self.new ≡ set self.old n (record (get_or self.old n no_row) { end = end }) }
+        ensures { self.new ≡ record self.old { rows = set self.old.rows n (record (get_or self.old.rows n no_row) { end = end }) } }
     {
         self.packed[n].set_end(end);
     }
 
     /// How many of the rows `from..to`, whose starts don't fall, start before `offset`. It goes by halves.
-    #[tactic(auto, using(crate::proofs::PackedRow::kept_length))]
     pub fn count_before(&self, from: usize, to: usize, offset: usize) -> usize
         requires ordered { from ≤ to }
-        requires in_range { to ≤ length self.now }
-        requires rising { IsPartitionedBy (λ r. nat_lt r.start offset) (take (to - from) (drop from self.now)) }
-        ensures bound { result ≤ length (take (to - from) (drop from self.now)) }
-        ensures point { IsPartitionPoint (λ r. nat_lt r.start offset ≡ true) (λ r. nat_lt r.start offset ≡ false) (take (to - from) (drop from self.now)) result }
+        requires in_range { to ≤ length self.now.rows }
+        requires rising { IsPartitionedBy (λ r. nat_lt r.start offset) (take (to - from) (drop from self.now.rows)) }
+        ensures bound { result ≤ length (take (to - from) (drop from self.now.rows)) }
+        ensures point { IsPartitionPoint (λ r. nat_lt r.start offset ≡ true) (λ r. nat_lt r.start offset ≡ false) (take (to - from) (drop from self.now.rows)) result }
     {
         let rows = self.packed.as_slice();
         rows[from..to].partition_point(
@@ -190,7 +193,6 @@ impl PartialEq for Row {
             && self.is_token == other.is_token
             && self.start == other.start
             && self.end == other.end
-            && self.parent == other.parent
     }
 }
 
@@ -203,17 +205,18 @@ impl PartialEq for PackedRow {
     ghost laws = { partial_equiv_from_equiv packed_equivalence };
 
     fn eq(&self, other: &PackedRow) -> bool {
-        self.row(0) == other.row(0)
+        self.row() == other.row()
     }
 }
 
 impl PartialEq for Rows {
-    ghost use Rattle.tree_rows.specs.PackedRow.{are_same_rows, rows_equivalence};
+    ghost use Rattle.tree_rows.specs.RowEquality.{are_same_columns};
+    ghost use Rattle.tree_rows.specs.RowEqualityLaws.{columns_equivalence};
     ghost use Rattle.std.specs.Cmp.{partial_equiv_from_equiv};
 
-    ghost eq = { are_same_rows };
+    ghost eq = { are_same_columns };
 
-    ghost laws = { partial_equiv_from_equiv rows_equivalence };
+    ghost laws = { partial_equiv_from_equiv columns_equivalence };
 
     fn eq(&self, other: &Rows) -> bool {
         self.packed.as_slice() == other.packed.as_slice()

@@ -2,7 +2,7 @@
 ghost use Rattle.std.specs.Prelude.{◌≡◌, ◌<◌, ◌+◌, ◌^◌, option_map, IfSome, string_bytes};
 ghost use Rattle.tree_model.specs.Tree.{size, text, kind_of, is_token, IsNode, parent_place, first_child_place, next_sibling_place};
 ghost use Rattle.tree_model.specs.Rows.{tree_at, start_at, end_at, place_at};
-ghost use Rattle.tree_rows.specs.Rows.{row_at, tree_of_rows, Represents};
+ghost use Rattle.tree_rows.specs.Rows.{row_at, parent_at, tree_of_rows, Represents};
 
 mod edit;
 mod narrow;
@@ -62,6 +62,14 @@ impl Table {
         ensures end_fits { result.end < 2 ^ 63 }
     {
         self.rows.get(n)
+    }
+
+    // The number of the row that is the parent of row `n`; the root answers its own.
+    fn parent(&self, n: usize) -> usize
+        requires { n < size self.now }
+        ensures { result ≡ parent_at self.now n }
+    {
+        self.rows.parent(n)
     }
 
     /// The kind of row `n`.
@@ -166,11 +174,7 @@ impl Table {
         ensures in_range { IfSome result (λ q. q < size self.now) }
         ensures earlier { IfSome result (λ q. q < n) }
     {
-        if n == 0 {
-            None
-        } else {
-            Some(self.row(n).parent)
-        }
+        if n == 0 { None } else { Some(self.parent(n)) }
     }
 
     /// The row of the first child of row `n`; `None` where it has none.

@@ -1,13 +1,13 @@
 //! New tables from the rows and texts of others.
-ghost use Rattle.std.specs.Prelude.{ℕ, ◌≡◌, ◌<◌, ◌≤◌, ◌+◌, ◌-◌, ◌^◌, ◌++◌, ◌↔◌, map, length, IfOk, OnOk, IsErrOf, string_bytes, IsUtf8};
+ghost use Rattle.std.specs.Prelude.{ℕ, ◌≡◌, ◌<◌, ◌≤◌, ◌+◌, ◌-◌, ◌^◌, ◌↔◌, length, IfOk, OnOk, IsErrOf, string_bytes, IsUtf8};
 ghost use Rattle.tree_model.specs.declared.error.ReplaceError.TheVariants.{TooLong};
 ghost use Rattle.tree_model.specs.Tree.{size, text, token, cons, nil, IsNode, IsToken};
 ghost use Rattle.tree_model.specs.Rows.{tree_at, start_at, end_at, place_at};
-ghost use Rattle.tree_rows.specs.Rows.{row_at, rows_of, no_row};
+ghost use Rattle.tree_rows.specs.Rows.{row_at, columns_of, joined};
 ghost use Rattle.tree_model.specs.Cursor.{cursor_at};
 ghost use Rattle.tree_model.specs.Edit.{splice, replace};
 ghost use Rattle.tree_model.specs.Placed.{IsPlaced};
-ghost use Rattle.tree_rows.specs.MovedRows.{moved_number, moved_row, MoveFits, rows_between, moved_before, moved_behind};
+ghost use Rattle.tree_rows.specs.MovedRows.{moved_number, moved_row, moved, MoveFits, rows_between, moved_subtree, moved_before, moved_behind};
 
 use super::Table;
 use crate::rows::{Row, Rows};
@@ -47,7 +47,6 @@ impl Shift {
             is_token: row.is_token,
             start: start as u32,
             end: self.number(row.end),
-            parent: self.number(row.parent),
         }
     }
 }
@@ -64,10 +63,10 @@ impl Table {
         requires ordered { first ≤ end }
         requires in_range { end ≤ size self.now }
         requires fits { (k : ℕ) → first ≤ k → k < end → MoveFits by (row_at self.now k) }
-        ensures { OnOk result (rows.new ≡ rows.old ++ map (moved_row by) (rows_between self.now first end)) }
+        ensures { OnOk result (rows.new ≡ joined rows.old (moved by (rows_between self.now first end))) }
     {
         for n in first..end {
-            rows.push(by.row(self.row(n)))?;
+            rows.push(by.row(self.row(n)), by.number(self.parent(n)))?;
         }
         Ok(())
     }
@@ -86,17 +85,17 @@ impl Table {
         requires is_node { IsNode (tree_at self.now n) }
         requires rows_fit { to + size (tree_at self.now n) < 2 ^ 63 }
         requires bytes_fit { byte + length (text (tree_at self.now n)) < 2 ^ 32 }
-        ensures { OnOk result (rows.new ≡ rows.old ++ rows_of (cons (tree_at self.now n) nil) to byte up) }
+        ensures { OnOk result (rows.new ≡ joined rows.old (moved_subtree self.now n to byte up)) }
     {
         let node = self.row(n);
         let end = node.end;
-        rows.push(Row {
+        let first = Row {
             kind: node.kind,
             is_token: false,
             start: byte as u32,
             end: end - n + to,
-            parent: up,
-        })?;
+        };
+        rows.push(first, up)?;
         let by = Shift {
             from_row: n,
             to_row: to,
@@ -171,7 +170,7 @@ impl Table {
         requires is_row { n < size self.now }
         requires rows_fit { (size self.now - size (tree_at self.now n)) + count < 2 ^ 63 }
         requires bytes_fit { (length (text self.now) - length (text (tree_at self.now n))) + bytes < 2 ^ 32 }
-        ensures { OnOk result (rows.new ≡ rows.old ++ moved_behind self.now n count bytes) }
+        ensures { OnOk result (rows.new ≡ joined rows.old (moved_behind self.now n count bytes)) }
     {
         let after = self.row(n).end;
         let by = Shift {
@@ -193,19 +192,18 @@ impl Table {
     ) -> Result<Rows, AllocError>
         requires is_row { n < size self.now }
         requires fits { length (splice (text self.now) (start_at self.now n) (end_at self.now n) new.now) < 2 ^ 32 }
-        ensures { IfOk result (λ rows. rows ≡ rows_of (cons (replace self.now (place_at self.now n) (token kind new.now)) nil) 0 0 0) }
+        ensures { IfOk result (λ rows. rows ≡ columns_of (cons (replace self.now (place_at self.now n) (token kind new.now)) nil)) }
     {
         // Opens the table's invariant for the proof.
         let _count = self.rows.len();
-        let old = self.row(n);
         let mut rows = self.rows_before(alloc, n, 1)?;
-        rows.push(Row {
+        let token = Row {
             kind,
             is_token: true,
-            start: old.start,
+            start: self.start_at(n),
             end: n + 1,
-            parent: old.parent,
-        })?;
+        };
+        rows.push(token, self.parent(n))?;
         self.push_behind(&mut rows, n, 1, new.len())?;
         Ok(rows)
     }
@@ -222,16 +220,16 @@ impl Table {
         requires is_other { other < size piece.now }
         requires is_node { IsNode (tree_at piece.now other) }
         requires fits { length (splice (text self.now) (start_at self.now n) (end_at self.now n) (text (tree_at piece.now other))) < 2 ^ 32 }
-        ensures { IfOk result (λ rows. rows ≡ rows_of (cons (replace self.now (place_at self.now n) (tree_at piece.now other)) nil) 0 0 0) }
+        ensures { IfOk result (λ rows. rows ≡ columns_of (cons (replace self.now (place_at self.now n) (tree_at piece.now other)) nil)) }
     {
         // Opens the table's invariant for the proof.
         let _count = self.rows.len();
         let _more = piece.rows.len();
-        let old = self.row(n);
+        let start = self.start_at(n) as usize;
         let count = piece.size_at(other);
         let bytes = piece.end_at(other) - piece.start_at(other) as usize;
         let mut rows = self.rows_before(alloc, n, count)?;
-        piece.push_node(&mut rows, other, n, old.start as usize, old.parent)?;
+        piece.push_node(&mut rows, other, n, start, self.parent(n))?;
         self.push_behind(&mut rows, n, count, bytes)?;
         Ok(rows)
     }

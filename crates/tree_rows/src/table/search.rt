@@ -106,7 +106,7 @@ impl Table {
         let bound = if range.is_empty() { start } else { start + 1 };
         let mut row = self.first_row_from(n + 1, end, bound) - 1;
         while row > n && !holds(range, self.range_at(row)) {
-            row = self.row(row).parent;
+            row = self.parent(row);
         }
         row
     }

@@ -18,10 +18,10 @@ impl Table {
         ensures { IsChildOver self.now parent n result }
     {
         let mut child = n;
-        let mut above = self.row(child).parent;
+        let mut above = self.parent(child);
         while above != parent {
             child = above;
-            above = self.row(child).parent;
+            above = self.parent(child);
         }
         child
     }

@@ -1,11 +1,12 @@
-use Rattle.std.proofs.Common.{◌≡◌, ◌+◌, [], drop, length}
-use Rattle.tree_rows.specs.Run.{run, text_len, row_count}
-use Rattle.tree_rows.proofs.Run.{state}
+use Rattle.std.proofs.Common.{◌≡◌, ◌+◌, drop, length}
+use Rattle.tree_rows.specs.Rows.{no_rows}
+use Rattle.tree_rows.specs.Run.{text_len, row_count}
+use Rattle.tree_rows.proofs.Run.{run, state}
 use Rattle.tree_rows.proofs.finish.build_rows.Given as goal
 
 abbrev pub invariant-loop-step : goal.invariant-loop-step
 invariant-loop-step l = record {
-  same_run : run (drop l.step-index l.steps) (state l.rows l.innermost l.at) ≡ run l.steps (state [] 0 0);
+  same_run : run (drop l.step-index l.steps) (state l.rows l.innermost l.at) ≡ run l.steps (state no_rows 0 0);
   text : l.at + text_len (drop l.step-index l.steps) ≡ text_len l.steps;
-  count : length l.rows + row_count (drop l.step-index l.steps) ≡ row_count l.steps;
+  count : length l.rows.rows + row_count (drop l.step-index l.steps) ≡ row_count l.steps;
 }

@@ -3,7 +3,7 @@ use Rattle.std.specs.Prelude.{string_bytes}
 use Rattle.tree_model.specs.Events.{BuildsNode, first_refusal}
 use Rattle.tree_rows.specs.Builder.{events_from}
 use Rattle.tree_model.specs.Tree.{node, cons, nil}
-use Rattle.tree_rows.specs.Rows.{rows_of, tree_of_rows}
+use Rattle.tree_rows.specs.Rows.{columns_of, tree_of_rows}
 use Rattle.tree_rows.specs.Run.{text_len}
 use Rattle.tree_model.specs.Scan.{scan}
 use Rattle.tree_model.specs.declared.error.FinishError.TheVariants.{Empty}
@@ -30,7 +30,7 @@ is_ready c = ready c.self.inside.steps.items (string_bytes c.self.inside.text) c
 pub build_rows-requires : goal.build_rows-requires
 build_rows-requires c = omega (arith, ap text_len c.as_slice-in-None.ensures.value, step_text_len c.self.inside.steps.items (string_bytes c.self.inside.text) c.self.invariant, c.if-len.false, c.len.ensures, c.self.inside.text.bytes.ok.0)
 
-rows_are : (c : In-Ok) (w : Ready c.self.inside.steps.items (string_bytes c.self.inside.text)) → c.in-Ok.rows ≡ rows_of (cons (node w.kind w.children) nil) 0 0 0
+rows_are : (c : In-Ok) (w : Ready c.self.inside.steps.items (string_bytes c.self.inside.text)) → c.in-Ok.rows ≡ columns_of (cons (node w.kind w.children) nil)
 rows_are c w = c.in-Ok.ensures (cons (node w.kind w.children) nil) (c.as_slice-in-None.ensures.value ∙ w.steps_are)
 
 pub from_parts-requires : goal.from_parts-requires

@@ -1,12 +1,13 @@
-use Rattle.std.proofs.Common.{◌∙◌, ◌++◌, ◌∷◌, []}
-use Rattle.tree_rows.specs.PackedRow.{rows_kept}
+use Rattle.std.proofs.Common.{◌∙◌, ◌++◌, ◌∷◌, [], ap, map}
+use Rattle.std.proofs.lemmas.List.{map-append}
+use Rattle.tree_rows.specs.PackedRow.{unpacked}
 use Rattle.tree_model.proofs.At.{cong₂}
-use Rattle.tree_rows.proofs.PackedRow.{rows_kept-push}
+use Rattle.tree_rows.proofs.Hung.{same_columns}
 use Rattle.tree_rows.proofs.rows.Rows.push.Goals as goal
 
 pub returns-in-Ok-clause-ok : goal.returns-in-Ok-clause-ok
 returns-in-Ok-clause-ok c =
     let a = c.self.inside in
-    cong₂ rows_kept c.in_ok-push.ensures.items c.in-Ok.ensures.items
-    ∙ rows_kept-push a.packed.items a.parents.items c.new.result c.args.row.parent c.self.invariant
-    ∙ cong₂ (λ l r. l ++ r ∷ []) c.self.view_is c.new.ensures
+    same_columns _ _
+    (ap (map unpacked) c.in_ok-push.ensures.items ∙ map-append unpacked a.packed.items (c.new.result ∷ []) ∙ cong₂ (λ k r. k.rows ++ r ∷ []) c.self.view_is c.new.ensures)
+    (c.in-Ok.ensures.items ∙ ap (λ k. k.parents ++ c.args.parent ∷ []) c.self.view_is)

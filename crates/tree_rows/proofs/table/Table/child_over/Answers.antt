@@ -1,4 +1,4 @@
-use Rattle.std.proofs.Common.{◌<◌, arith, ap}
+use Rattle.std.proofs.Common.{◌<◌, arith}
 use Rattle.tree_model.specs.Tree.{size}
 use Rattle.tree_rows.proofs.TableLemmas.{row_end_fits}
 use Rattle.tree_rows.proofs.SiblingLemmas.{climbs}
@@ -7,8 +7,8 @@ use Rattle.tree_model.proofs.At.{some_row}
 use Rattle.tree_model.specs.Rows.{tree_at}
 use Rattle.tree_rows.proofs.table.Table.child_over.Goals as goal
 
-pub row-above-requires : goal.row-above-requires
-row-above-requires c = omega (arith, row_end_fits c.args.self.now c.args.parent c.requires.in_range, c.requires.reaches)
+pub parent-above-requires : goal.parent-above-requires
+parent-above-requires c = omega (arith, row_end_fits c.args.self.now c.args.parent c.requires.in_range, c.requires.reaches)
 
 pub loop-above-init : goal.loop-above-init
 loop-above-init c =
@@ -17,11 +17,11 @@ loop-above-init c =
       behind = c.requires.behind;
       from = omega arith;
       reaches = omega (arith, end_of_row c.args.self.now c.args.n h, some_row (tree_at c.args.self.now c.args.n));
-      above_is = ap (λ r. r.parent) c.row-above.ensures.value;
+      above_is = c.parent-above.ensures;
     }
 
-pub row-above-requires-in-loop-above : goal.row-above-requires-in-loop-above
-row-above-requires-in-loop-above c =
+pub parent-above-requires-in-loop-above : goal.parent-above-requires-in-loop-above
+parent-above-requires-in-loop-above c =
     let i = c.loop-above.invariant in
     omega (arith, (climbs c.args.self.now c.args.parent c.args.n c.loop-above.child c.loop-above.above c.requires i.behind i.from i.reaches i.above_is c.loop-above-test.true).1, i.from, row_end_fits c.args.self.now c.args.parent c.requires.in_range, c.requires.reaches)
 
@@ -34,4 +34,4 @@ pub loop-above-preserved : goal.loop-above-preserved
 loop-above-preserved c =
     let i = c.loop-above.invariant in
     let up = climbs c.args.self.now c.args.parent c.args.n c.loop-above.child c.loop-above.above c.requires i.behind i.from i.reaches i.above_is c.loop-above-test.true in
-    record { behind = up.0; from = omega (arith, up.1, i.from); reaches = up.2; above_is = ap (λ r. r.parent) c.row-above-in-loop-above.ensures.value }
+    record { behind = up.0; from = omega (arith, up.1, i.from); reaches = up.2; above_is = c.parent-above-in-loop-above.ensures }

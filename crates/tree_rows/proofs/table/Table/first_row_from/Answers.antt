@@ -8,7 +8,7 @@ use Rattle.tree_rows.proofs.table.Table.first_row_from.Goals as goal
 use Rattle.tree_rows.proofs.table.Table.first_row_from.Goals.{After-self, After-narrowed-near}
 
 -- the rows that are searched
-searched : (c : After-self) → take (c.narrowed-near.result.high - c.narrowed-near.result.low) (drop c.narrowed-near.result.low c.self.inside.rows) ≡ part c.args.self.now c.narrowed-near.result.low c.narrowed-near.result.high
+searched : (c : After-self) → take (c.narrowed-near.result.high - c.narrowed-near.result.low) (drop c.narrowed-near.result.low c.self.inside.rows.rows) ≡ part c.args.self.now c.narrowed-near.result.low c.narrowed-near.result.high
 searched c =
     let w : Represents c.self.inside.rows (string_bytes c.self.inside.text) c.args.self.now = shown _ _ _ c.self.view_is c.self.invariant in
     ap (λ l. take (c.narrowed-near.result.high - c.narrowed-near.result.low) (drop c.narrowed-near.result.low l)) w.rows_are

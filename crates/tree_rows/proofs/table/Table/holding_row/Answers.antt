@@ -9,7 +9,7 @@ use Rattle.tree_model.proofs.CoveringRows.{range_at}
 use Rattle.tree_rows.proofs.CoveringRows.{Begun, Climbed, climb_begins, climb_on, climb_ends, climbed_in}
 use Rattle.tree_model.specs.Covering.{holds}
 use Rattle.tree_rows.proofs.table.Table.holding_row.Goals as goal
-use Rattle.tree_rows.proofs.table.Table.holding_row.Goals.{After-first_row_from-row, After-row-row, then-is_empty, else-is_empty}
+use Rattle.tree_rows.proofs.table.Table.holding_row.Goals.{After-first_row_from-row, After-parent-row, then-is_empty, else-is_empty}
 
 pub overflow_add-n : goal.overflow_add-n
 overflow_add-n c = omega (arith, ap (λ r. r.end) c.row-end.ensures.value, c.row-end.ensures.end_fits, end_of_row c.args.self.now c.args.n c.requires, some_row (tree_at c.args.self.now c.args.n))
@@ -38,20 +38,20 @@ loop-row-init c = climb_begins _ _ _ _ _ _ (begun (goal.at.loop-row-init c).Afte
 pub range_at-requires : goal.range_at-requires
 range_at-requires c = (climbed_in _ _ _ _ _ _ _ (begun (goal.at.range_at-requires c).After-first_row_from-row) c.loop-row.invariant).is_row
 
-pub row-row-requires : goal.row-row-requires
-row-row-requires c = (climbed_in _ _ _ _ _ _ _ (begun (goal.at.row-row-requires c).After-first_row_from-row) c.loop-row.invariant).is_row
+pub parent-row-requires : goal.parent-row-requires
+parent-row-requires c = (climbed_in _ _ _ _ _ _ _ (begun (goal.at.parent-row-requires c).After-first_row_from-row) c.loop-row.invariant).is_row
 
-fails : (c : After-row-row) → holds c.args.range (range_at c.args.self.now c.loop-row.row) ≡ false
+fails : (c : After-parent-row) → holds c.args.range (range_at c.args.self.now c.loop-row.row) ≡ false
 fails c = sym (ap (holds c.args.range) c.range_at.ensures) ∙ sym c.holds.ensures ∙ c.if-not-holds.true
 
 pub loop-row-smaller : goal.loop-row-smaller
 loop-row-smaller c =
-    omega (arith, ap (λ r. r.parent) c.row-row.ensures.value, (climb_on _ _ _ _ _ _ _ (begun (goal.at.loop-row-smaller c).After-first_row_from-row) c.loop-row.invariant c.loop-row-test.true (fails (goal.at.loop-row-smaller c).After-row-row)).1)
+    omega (arith, c.parent-row.ensures, (climb_on _ _ _ _ _ _ _ (begun (goal.at.loop-row-smaller c).After-first_row_from-row) c.loop-row.invariant c.loop-row-test.true (fails (goal.at.loop-row-smaller c).After-parent-row)).1)
 
 pub loop-row-preserved : goal.loop-row-preserved
 loop-row-preserved c =
-    subst (λ r. Climbed c.args.self.now c.args.n (c.first_row_from-row.result - 1) r c.args.range) (sym (ap (λ r. r.parent) c.row-row.ensures.value))
-    (climb_on _ _ _ _ _ _ _ (begun (goal.at.loop-row-preserved c).After-first_row_from-row) c.loop-row.invariant c.loop-row-test.true (fails (goal.at.loop-row-preserved c).After-row-row)).0
+    subst (λ r. Climbed c.args.self.now c.args.n (c.first_row_from-row.result - 1) r c.args.range) (sym c.parent-row.ensures)
+    (climb_on _ _ _ _ _ _ _ (begun (goal.at.loop-row-preserved c).After-first_row_from-row) c.loop-row.invariant c.loop-row-test.true (fails (goal.at.loop-row-preserved c).After-parent-row)).0
 
 pub returns-else-not-holds-clause-holding : goal.returns-else-not-holds-clause-holding
 returns-else-not-holds-clause-holding c = climb_ends _ _ _ _ _ _ _ (begun (goal.at.returns-else-not-holds-clause-holding c).After-first_row_from-row) c.loop-row.invariant (inr (sym (ap (holds c.args.range) c.range_at.ensures) ∙ sym c.holds.ensures ∙ c.if-not-holds.false))

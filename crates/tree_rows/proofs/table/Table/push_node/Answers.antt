@@ -12,8 +12,8 @@ use Rattle.tree_rows.proofs.table.Table.push_node.Goals.{After-row-node}
 ends : (c : After-row-node) → c.row-node.result.end ≡ c.args.n + size (tree_at c.args.self.now c.args.n)
 ends c = ap (λ r. r.end) c.row-node.ensures.value ∙ end_of_row c.args.self.now c.args.n c.requires.is_row
 
-pub overflow_sub-end : goal.overflow_sub-end
-overflow_sub-end c = omega (arith, ends (goal.at.overflow_sub-end c).After-row-node)
+pub overflow_sub-first : goal.overflow_sub-first
+overflow_sub-first c = omega (arith, ends (goal.at.overflow_sub-first c).After-row-node)
 
 pub overflow_add-n : goal.overflow_add-n
 overflow_add-n c = omega (arith, ends (goal.at.overflow_add-n c).After-row-node, c.row-node.ensures.end_fits, some_row (tree_at c.args.self.now c.args.n))

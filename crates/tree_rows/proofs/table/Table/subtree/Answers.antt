@@ -1,8 +1,8 @@
-use Rattle.std.proofs.Common.{◌∙◌, ◌++◌, ap, arith}
+use Rattle.std.proofs.Common.{◌∙◌, ap, arith}
 use Rattle.std.specs.Prelude.{string_bytes}
-use Rattle.tree_model.specs.Tree.{cons, nil}
 use Rattle.tree_model.specs.Rows.{tree_at}
-use Rattle.tree_rows.specs.Rows.{rows_of, Represents}
+use Rattle.tree_rows.specs.Rows.{joined, Represents}
+use Rattle.tree_rows.specs.MovedRows.{moved_subtree}
 use Rattle.tree_rows.proofs.TableLemmas.{shown, rows_len, table_of, tree_of_rows-rows_of}
 use Rattle.tree_model.proofs.EditLemmas.{within_rows}
 use Rattle.tree_rows.proofs.EditLemmas.{subtree_shown, text_fits}
@@ -19,10 +19,10 @@ push_node-requires-clause-bytes_fit c = omega (arith, text_fits _ _ c.args.self.
 
 shows : (c : In_ok-push_node) → Represents c.push_node.new.rows (string_bytes c.in_ok-text.text) (tree_at c.args.self.now c.args.n)
 shows c = subtree_shown c.args.self.now c.args.n _ c.push_node.new.rows _ (string_bytes c.in_ok-text.text) c.requires.is_row c.requires.is_node (shown _ _ _ c.self.view_is c.self.invariant)
-    (c.in_ok-push_node.ensures ∙ ap (λ l. l ++ rows_of (cons (tree_at c.args.self.now c.args.n) nil) 0 0 0) c.in_ok-rows.ensures.empty) (c.in_ok-text.ensures.ok ∙ c.text_at.ensures)
+    (c.in_ok-push_node.ensures ∙ ap (λ k. joined k (moved_subtree c.args.self.now c.args.n 0 0 0)) c.in_ok-rows.ensures.empty) (c.in_ok-text.ensures.ok ∙ c.text_at.ensures)
 
 pub from_parts-requires : goal.from_parts-requires
 from_parts-requires c = table_of (tree_at c.args.self.now c.args.n) _ _ (shows (goal.at.from_parts-requires c).In_ok-push_node)
 
 pub returns : goal.returns
-returns c = let w = shows (goal.at.returns c).In_ok-push_node in c.from_parts.ensures ∙ tree_of_rows-rows_of (tree_at c.args.self.now c.args.n) _ _ w.rows_are w.text_is
+returns c = let w = shows (goal.at.returns c).In_ok-push_node in c.from_parts.ensures ∙ tree_of_rows-rows_of (tree_at c.args.self.now c.args.n) c.push_node.new.rows _ w.rows_are w.text_is
