@@ -12,7 +12,6 @@ use super::ancestors::Ancestors;
 use super::node::SyntaxNode;
 use super::siblings::SyntaxElementSiblings;
 use super::token::SyntaxToken;
-use super::tree_cursor::TreeCursor;
 use shared_pointer::Shared;
 use std::alloc::{AllocError, Global};
 use syntax_kind::SyntaxKind;
@@ -79,21 +78,14 @@ impl<N, T> NodeOrToken<N, T> {
 }
 
 impl NodeOrToken<SyntaxNode, SyntaxToken> {
-    // What a node and a token have in common, borrowed.
-    fn cursor(&self) -> TreeCursor<'_>
-        ensures { result ≡ cursor_of self.now }
-    {
-        match self {
-            NodeOrToken::Node(node) => node.cursor(),
-            NodeOrToken::Token(token) => token.cursor(),
-        }
-    }
-
     /// The kind, as of the node or token.
     pub fn kind(&self) -> SyntaxKind
         ensures { result ≡ kind_of (focus (cursor_of self.now)) }
     {
-        self.cursor().kind()
+        match self {
+            NodeOrToken::Node(node) => node.kind(),
+            NodeOrToken::Token(token) => token.kind(),
+        }
     }
 
     /// Whether this is a token of white space or a comment. A node is none, also one of comments alone.
@@ -110,21 +102,30 @@ impl NodeOrToken<SyntaxNode, SyntaxToken> {
     pub fn text_range(&self) -> TextRange
         ensures { result ≡ range_of (cursor_of self.now) }
     {
-        self.cursor().text_range()
+        match self {
+            NodeOrToken::Node(node) => node.text_range(),
+            NodeOrToken::Token(token) => token.text_range(),
+        }
     }
 
     /// The text of the node or token, a slice of the tree's one text.
     pub fn text(&self) -> &str
         ensures { result.now ≡ text (focus (cursor_of self.now)) }
     {
-        self.cursor().text()
+        match self {
+            NodeOrToken::Node(node) => node.as_str(),
+            NodeOrToken::Token(token) => token.text(),
+        }
     }
 
     /// The node that this is a child of; `None` for the root. It takes constant time.
     pub fn parent(&self) -> Option<SyntaxNode>
         ensures { result ≡ parent_of (cursor_of self.now) }
     {
-        self.cursor().parent()
+        match self {
+            NodeOrToken::Node(node) => node.parent(),
+            NodeOrToken::Token(token) => token.parent(),
+        }
     }
 
     /// The nodes above a token, and a node and the nodes above it, the nearest first, up to the root.
@@ -142,14 +143,20 @@ impl NodeOrToken<SyntaxNode, SyntaxToken> {
     pub fn prev_sibling_or_token(&self) -> Option<SyntaxElement>
         ensures { result ≡ option_map element_of (prev_sibling_of (cursor_of self.now)) }
     {
-        self.cursor().prev_sibling_or_token()
+        match self {
+            NodeOrToken::Node(node) => node.prev_sibling_or_token(),
+            NodeOrToken::Token(token) => token.prev_sibling_or_token(),
+        }
     }
 
     /// The nearest later sibling, node or token, that is no trivia; `None` where there is none.
     pub fn next_no_trivia(&self) -> Option<SyntaxElement>
         ensures { result ≡ option_map element_of (find is_no_trivia (following_of (cursor_of self.now))) }
     {
-        self.cursor().next_no_trivia()
+        match self {
+            NodeOrToken::Node(node) => node.next_no_trivia(),
+            NodeOrToken::Token(token) => token.next_no_trivia(),
+        }
     }
 
     /// This and its siblings in a direction, nodes and tokens. A step backwards takes time in the depth of the sibling
@@ -157,21 +164,30 @@ impl NodeOrToken<SyntaxNode, SyntaxToken> {
     pub fn siblings_with_tokens(&self, direction: Direction) -> SyntaxElementSiblings
         ensures { result ≡ siblings_in direction (cursor_of self.now) }
     {
-        self.cursor().siblings_with_tokens(direction)
+        match self {
+            NodeOrToken::Node(node) => node.siblings_with_tokens(direction),
+            NodeOrToken::Token(token) => token.siblings_with_tokens(direction),
+        }
     }
 
     /// The dump of the node, or the token's one line.
     pub fn dump(&self, alloc: Global) -> Result<String, AllocError>
         ensures { IfOk result (λ text. string_bytes text ≡ dump_of (cursor_of self.now)) }
     {
-        self.cursor().dump(alloc)
+        match self {
+            NodeOrToken::Node(node) => node.dump(alloc),
+            NodeOrToken::Token(token) => token.dump(alloc),
+        }
     }
 
     /// What follows this in its parent, node or token; `None` for the last child and the root.
     pub fn next_sibling_or_token(&self) -> Option<SyntaxElement>
         ensures { result ≡ option_map element_of (next_sibling_of (cursor_of self.now)) }
     {
-        self.cursor().next_sibling_or_token()
+        match self {
+            NodeOrToken::Node(node) => node.next_sibling_or_token(),
+            NodeOrToken::Token(token) => token.next_sibling_or_token(),
+        }
     }
 }
 
