@@ -23,12 +23,13 @@ unpacked p = record {
 abbrev pub rows_kept : List PackedRow → List ℕ → Columns
 rows_kept ps parents = record { rows = map unpacked ps; parents = parents }
 
--- a row, and rows with their parents, as the prover's values
+-- a row as the prover's value
 abbrev pub row_code : Coded Row
 row_code =
     code_by (SyntaxKind × (Bool × (ℕ × ℕ))) (coded× kind_code (coded× coded_bool (coded× coded_ℕ coded_ℕ)))
     (λ r. (r.kind, (r.is_token, (r.start, r.end)))) (λ p. record { kind = p.0; is_token = p.1.0; start = p.1.1.0; end = p.1.1.1 }) (λ _. refl)
 
+-- rows and their parents, likewise
 abbrev pub columns_code : Coded Columns
 columns_code =
     code_by (List Row × List ℕ) (coded× (coded_list row_code) (coded_list coded_ℕ)) (λ c. (c.rows, c.parents)) (λ p. record { rows = p.0; parents = p.1 }) (λ _. refl)
@@ -37,6 +38,7 @@ columns_code =
 abbrev pub is_same_packed : PackedRow → PackedRow → Bool
 is_same_packed a b = is_same_row (unpacked a) (unpacked b)
 
+-- the test is an equivalence, since that of the rows is
 pub packed_equivalence : IsEquivalence is_same_packed
 packed_equivalence = record {
   refl = λ a. row_equivalence.refl (unpacked a);

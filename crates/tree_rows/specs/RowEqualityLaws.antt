@@ -14,6 +14,7 @@ bool_Decides true false = never (λ e. (let no : true ≡ false = e in cc))
 bool_Decides false true = never (λ e. (let no : false ≡ true = e in cc))
 bool_Decides false false = (λ _. refl, λ _. refl)
 
+-- the test of two rows
 pub row_Decides : (a b : Row) → Decides (is_same_row a b) (a ≡ b)
 row_Decides a b =
     and_Decides (is_same_kind a.kind b.kind) (is_same_bool a.is_token b.is_token && (a.start == b.start && a.end == b.end)) (kind_Decides a.kind b.kind)
@@ -33,6 +34,7 @@ row_Decides a b =
 pub row_equivalence : IsEquivalence is_same_row
 row_equivalence = decided is_same_row row_Decides
 
+-- the test of two lists of rows with their parents
 pub columns_Decides : (a b : Columns) → Decides (are_same_columns a b) (a ≡ b)
 columns_Decides a b =
     and_Decides (pointwise is_same_row a.rows b.rows) (pointwise ◌==◌ a.parents b.parents)

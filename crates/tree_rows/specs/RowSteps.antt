@@ -29,13 +29,15 @@ pub record IsNearestOver (tree : Tree) (n q : ℕ) : Type 0 where
 abbrev pub ParentsAreNearest : Type 0
 ParentsAreNearest = (tree : Tree) (n q : ℕ) → 0 < n → n < size tree → (parent_at tree n ≡ q) ↔ IsNearestOver tree n q
 
--- the first token among the rows from a to b, if there is one; and the last
+-- none of the rows from a to b is a token's
 abbrev pub NoTokens : Tree → ℕ → ℕ → Type 0
 NoTokens tree a b = (k : ℕ) → a ≤ k → k < b → IsNode (tree_at tree k)
 
+-- the first token among the rows from a to b, if there is one
 abbrev pub IsFirstToken : Tree → ℕ → ℕ → Option ℕ → Type 0
 IsFirstToken tree a b r = MatchOption r (NoTokens tree a b) (λ m. (a ≤ m) × (m < b) × IsToken (tree_at tree m) × NoTokens tree a m)
 
+-- the last token among them, if there is one
 abbrev pub IsLastToken : Tree → ℕ → ℕ → Option ℕ → Type 0
 IsLastToken tree a b r = MatchOption r (NoTokens tree a b) (λ m. (a ≤ m) × (m < b) × IsToken (tree_at tree m) × NoTokens tree (m + 1) b)
 

@@ -57,13 +57,14 @@ one_row r parent = record { rows = r ∷ []; parents = parent ∷ [] }
 abbrev pub joined : Columns → Columns → Columns
 joined a b = record { rows = a.rows ++ b.rows; parents = a.parents ++ b.parents }
 
--- the trees of the first m rows of a forest, and the rest
+-- the trees of the first m rows of a forest
 abbrev pub front : Forest → ℕ → Forest
 front nil m = nil
 front (cons t r) zero = nil
 front (cons (token k t) r) (suc m) = cons (token k t) (front r m)
 front (cons (node k c) r) (suc m) = cons (node k c) (front r (m - forest_size c))
 
+-- the trees behind its first m rows
 abbrev pub back : Forest → ℕ → Forest
 back nil m = nil
 back (cons t r) zero = cons t r
