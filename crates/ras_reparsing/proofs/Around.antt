@@ -7,11 +7,11 @@ use Rattle.tree_model.specs.Tree.{Tree, node, token, text, Place, IsPlace}
 use Rattle.tree_model.specs.Cursor.{Cursor, focus, at_place, range_start, range_end, parent_of, ancestors_of, ancestors_from}
 use Rattle.tree_model.specs.Edit.{replace, root_of, splice, text_before, text_behind}
 use Rattle.tree_model.proofs.AncestorLemmas.{ancestors_of-step}
-use Rattle.tree_rows.proofs.CoveringLaws.{covering_holds}
 use Rattle.tree_model.proofs.EditLaws.{text_around, edited_inside}
 use Rattle.tree_model.proofs.EditLemmas.{length-splice}
 use Rattle.tree_model.proofs.PlaceLemmas.{places_are_reached}
 use Rattle.lossless_tree.specs.Element.{element_by, ancestors_of_element}
+use Rattle.lossless_tree.proofs.CoveringLaws.{covering_holds}
 use Rattle.ras_front_end.specs.declared.edition.Reparser.{Reparser}
 use Rattle.ras_front_end.specs.Front.{Front}
 use Rattle.ras_reparsing.specs.Edit.{Edit, IsEditOf, edited, covered, edited_at}
