@@ -82,11 +82,11 @@ impl ast::BlockExpr {
     }
 }
 
-// It is the first expression there, or there is none.
-fn is_first_expr(block: &SyntaxNode, parent: &SyntaxNode) -> bool
-    ensures { result ≡ option_map_or (λ e. is_same_cursor e block.now) (typed_child ⟦<ast::Expr as AstNode>⟧.casts parent.now) true }
+// It is the first child there that can be viewed as an `N`, or there is none.
+fn is_first<N: AstNode + Drop>(block: &SyntaxNode, parent: &SyntaxNode) -> bool
+    ensures { result ≡ option_map_or (λ e. is_same_cursor e block.now) (typed_child N.casts parent.now) true }
 {
-    match support::child::<ast::Expr>(parent) {
+    match support::child::<N>(parent) {
         Some(first) => first.syntax() == block,
         None => true,
     }
@@ -96,7 +96,7 @@ fn is_standalone_in(block: &SyntaxNode, parent: &SyntaxNode) -> bool
     ensures { result ≡ is_standalone_in ⟦<ast::Expr as AstNode>⟧.casts block.now (kind_at parent.now) parent.now }
 {
     match parent.kind() {
-        SyntaxKind::FOR_EXPR | SyntaxKind::IF_EXPR => is_first_expr(block, parent),
+        SyntaxKind::FOR_EXPR | SyntaxKind::IF_EXPR => is_first::<ast::Expr>(block, parent),
         SyntaxKind::LET_ELSE
         | SyntaxKind::FN
         | SyntaxKind::WHILE_EXPR

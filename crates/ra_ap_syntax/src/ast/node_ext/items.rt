@@ -32,32 +32,46 @@ impl ast::MacroDef {
     }
 }
 
+// The first child that can be viewed as an `N`, if it starts before the `for`.
+fn before_for<N: AstNode + Drop>(parent: &SyntaxNode) -> Option<N>
+    ensures { option_map N.node result ≡ trait_of N.casts parent.now }
+{
+    let for_token = support::token(parent, SyntaxKind::FOR_KW)?;
+    let first = support::children::<N>(parent).next()?;
+    if first.syntax().text_range().start() < for_token.text_range().start() {
+        Some(first)
+    } else {
+        None
+    }
+}
+
+// The second of these children where the first is the one before the `for`, else the first.
+fn behind_for<N: AstNode + Drop>(parent: &SyntaxNode) -> Option<N>
+    ensures { option_map N.node result ≡ self_type_of N.casts parent.now }
+{
+    let mut all = support::children::<N>(parent);
+    let first = all.next()?;
+    if let Some(for_token) = support::token(parent, SyntaxKind::FOR_KW) {
+        if first.syntax().text_range().start() < for_token.text_range().start() {
+            return all.next();
+        }
+    }
+    Some(first)
+}
+
 impl ast::Impl {
     /// The trait: the first type, if it starts before the `for`; `None` where there is no `for`.
     pub fn trait_(&self) -> Option<ast::Type>
         ensures { IsViewOf ⟦<ast::Type as AstNode>⟧ (trait_of ⟦<ast::Type as AstNode>⟧.casts self.now.syntax) result }
     {
-        let for_token = self.for_token()?;
-        let first = support::children::<ast::Type>(&self.syntax).next()?;
-        if first.syntax().text_range().start() < for_token.text_range().start() {
-            Some(first)
-        } else {
-            None
-        }
+        before_for(&self.syntax)
     }
 
     /// The type that it is for: the one after the trait, or the first type where there is no trait.
     pub fn self_ty(&self) -> Option<ast::Type>
         ensures { IsViewOf ⟦<ast::Type as AstNode>⟧ (self_type_of ⟦<ast::Type as AstNode>⟧.casts self.now.syntax) result }
     {
-        let mut types = support::children::<ast::Type>(&self.syntax);
-        let first = types.next()?;
-        if let Some(for_token) = self.for_token() {
-            if first.syntax().text_range().start() < for_token.text_range().start() {
-                return types.next();
-            }
-        }
-        Some(first)
+        behind_for(&self.syntax)
     }
 
     /// The nearest impl above a name, if its trait starts where the name does.

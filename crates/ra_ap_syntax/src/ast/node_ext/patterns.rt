@@ -92,6 +92,13 @@ fn bound_name(pat: &SyntaxNode) -> Option<ast::Name>
     }
 }
 
+// The name that a viewed pattern binds.
+fn name_bound_by<N: AstNode + Drop>(pat: N) -> Option<ast::Name>
+    ensures { IsViewOf ⟦<ast::Name as AstNode>⟧ (bound_name ⟦<ast::Name as AstNode>⟧.casts ⟦<ast::Pat as AstNode>⟧.casts (N.node pat)) result }
+{
+    bound_name(pat.syntax())
+}
+
 impl ast::RecordPatField {
     /// The field's name: its own, or the name that its pattern binds, also behind `box`.
     pub fn field_name(&self) -> Option<NameOrNameRef>
@@ -100,8 +107,7 @@ impl ast::RecordPatField {
         if let Some(name) = self.name_ref() {
             return Some(NameOrNameRef::NameRef(name));
         }
-        let pat = self.pat()?;
-        Some(NameOrNameRef::Name(bound_name(pat.syntax())?))
+        Some(NameOrNameRef::Name(name_bound_by(self.pat()?)?))
     }
 
     /// The field that is a name's parent, if the name is the field's.
