@@ -1,46 +1,72 @@
 //! Edits of trees, texts of nodes, and siblings left to read: what the calls answer when there is memory. That a
 //! replacement refuses a text that is too long can't be reached here, since it takes one of 4 GiB.
-use lossless_tree::{NodeOrToken, SyntaxKind, SyntaxNode, SyntaxToken, TextSize, TreeBuilder};
+use crate::ensure::ensure;
+use lossless_tree::{
+    NodeOrToken, SyntaxElement, SyntaxKind, SyntaxNode, SyntaxToken, TextSize, TreeBuilder,
+};
+use plain_trees::PlainTree;
 use std::test::Fail;
 
 // PARAM, IDENT_PAT, NAME and IDENT `name`, each inside the one before.
-fn param(rt: &HostRuntime) -> Result<SyntaxNode, Fail> {
-    let mut builder = TreeBuilder::new(rt.alloc());
-    builder.start_node(SyntaxKind::PARAM)?;
-    builder.start_node(SyntaxKind::IDENT_PAT)?;
-    builder.start_node(SyntaxKind::NAME)?;
-    builder.token(SyntaxKind::IDENT, "name")?;
-    builder.finish_node()?;
-    builder.finish_node()?;
-    builder.finish_node()?;
-    Ok(builder.finish()?)
-}
+const PARAM: &str = "PARAM( IDENT_PAT( NAME( IDENT:name ) ) )";
 
-// BIN_EXPR with two literals: `1 + 1`, white space on both sides of the sign.
-fn sum(rt: &HostRuntime) -> Result<SyntaxNode, Fail> {
-    let mut builder = TreeBuilder::new(rt.alloc());
-    builder.start_node(SyntaxKind::BIN_EXPR)?;
-    literal(&mut builder)?;
-    builder.token(SyntaxKind::WHITESPACE, " ")?;
-    builder.token(SyntaxKind::PLUS, "+")?;
-    builder.token(SyntaxKind::WHITESPACE, " ")?;
-    literal(&mut builder)?;
-    builder.finish_node()?;
-    Ok(builder.finish()?)
+const EMPTY_NAME: &str = "NAME( )";
+
+fn built(rt: &HostRuntime, words: &'static str) -> Result<SyntaxNode, Fail> {
+    PlainTree::read(rt.alloc(), words)?.build(rt.alloc())
 }
 
 fn literal(builder: &mut TreeBuilder) -> Result<(), Fail> {
     builder.start_node(SyntaxKind::LITERAL)?;
     builder.token(SyntaxKind::INT_NUMBER, "1")?;
-    builder.finish_node()?;
-    Ok(())
+    Ok(builder.finish_node()?)
 }
 
-fn empty_name(rt: &HostRuntime) -> Result<SyntaxNode, Fail> {
+fn add_sum(builder: &mut TreeBuilder) -> Result<(), Fail> {
+    builder.start_node(SyntaxKind::BIN_EXPR)?;
+    literal(builder)?;
+    builder.token(SyntaxKind::WHITESPACE, " ")?;
+    builder.token(SyntaxKind::PLUS, "+")?;
+    builder.token(SyntaxKind::WHITESPACE, " ")?;
+    literal(builder)?;
+    Ok(builder.finish_node()?)
+}
+
+// BIN_EXPR with two literals: `1 + 1`, white space on both sides of the sign.
+fn sum(rt: &HostRuntime) -> Result<SyntaxNode, Fail> {
     let mut builder = TreeBuilder::new(rt.alloc());
-    builder.start_node(SyntaxKind::NAME)?;
-    builder.finish_node()?;
+    add_sum(&mut builder)?;
     Ok(builder.finish()?)
+}
+
+// The dump of a tree.
+fn ensure_dump(rt: &HostRuntime, node: &SyntaxNode, dump: &'static str) -> Result<(), Fail> {
+    if node.dump(rt.alloc())?.as_str() == dump {
+        Ok(())
+    } else {
+        Err(Fail::from(dump))
+    }
+}
+
+// The text of a tree.
+fn ensure_text(node: &SyntaxNode, text: &'static str) -> Result<(), Fail> {
+    if node.as_str() == text {
+        Ok(())
+    } else {
+        Err(Fail::from(text))
+    }
+}
+
+// The second node is a tree with this dump, which stands in place of the first.
+fn replace(
+    rt: &HostRuntime,
+    node: &SyntaxNode,
+    words: &'static str,
+    dump: &'static str,
+) -> Result<SyntaxNode, Fail> {
+    let new = node.replace_with(rt.alloc(), &built(rt, words)?)?;
+    ensure_dump(rt, &new, dump)?;
+    Ok(new)
 }
 
 // The node that is the first child.
@@ -58,180 +84,241 @@ fn first_token(node: &SyntaxNode) -> Result<SyntaxToken, Fail> {
     Ok(child)
 }
 
+// The identifier of the parameter.
+fn ident_of(root: &SyntaxNode) -> Result<SyntaxToken, Fail> {
+    first_token(&first_node(&first_node(root)?)?)
+}
+
+fn ensure_ident(token: &SyntaxToken) -> Result<(), Fail> {
+    if token.text() == "name" {
+        Ok(())
+    } else {
+        Err(Fail::from("the token that was there"))
+    }
+}
+
 #[test]
 fn a_token_is_replaced(rt: HostRuntime) -> Result<(), Fail> {
-    let root = param(&rt)?;
-    let name = first_node(&first_node(&root)?)?;
-    let ident = first_token(&name)?;
+    let root = built(&rt, PARAM)?;
+    let ident = ident_of(&root)?;
     let new = ident.replace_with(rt.alloc(), SyntaxKind::IDENT, "ab")?;
-    let dump = new.dump(rt.alloc())?;
-    assert_eq!(rt;
-        dump.as_str(),
-        "PARAM@0..2\n  IDENT_PAT@0..2\n    NAME@0..2\n      IDENT@0..2 \"ab\"\n"
-    );
-    assert_eq!(rt; root.as_str(), "name");
-    assert_eq!(rt; ident.text(), "name");
-    Ok(())
+    ensure_dump(
+        &rt,
+        &new,
+        "PARAM@0..2\n  IDENT_PAT@0..2\n    NAME@0..2\n      IDENT@0..2 \"ab\"\n",
+    )?;
+    ensure_text(&root, "name")?;
+    ensure_ident(&ident)
+}
+
+// The parents of all that is below a tree's root, in preorder.
+fn ensure_parents(rt: &HostRuntime, root: &SyntaxNode) -> Result<(), Fail> {
+    let mut kinds = String::new(rt.alloc());
+    for parent in root
+        .descendants_with_tokens()
+        .filter_map(|element| element.parent())
+    {
+        write!(kinds, "{} ", parent.kind())?;
+    }
+    ensure(
+        kinds.as_str()
+            == "BIN_EXPR PARAM IDENT_PAT NAME BIN_EXPR BIN_EXPR BIN_EXPR BIN_EXPR LITERAL ",
+        "parents",
+    )
 }
 
 #[test]
 fn the_first_child_is_replaced(rt: HostRuntime) -> Result<(), Fail> {
-    let root = sum(&rt)?;
-    let one = first_node(&root)?;
-    let new = one.replace_with(rt.alloc(), &param(&rt)?)?;
-    assert_eq!(rt; new.as_str(), "name + 1");
-    let dump = new.dump(rt.alloc())?;
-    assert_eq!(rt;
-        dump.as_str(),
-        "BIN_EXPR@0..8\n  PARAM@0..4\n    IDENT_PAT@0..4\n      NAME@0..4\n        IDENT@0..4 \"name\"\n  WHITESPACE@4..5 \" \"\n  PLUS@5..6 \"+\"\n  WHITESPACE@6..7 \" \"\n  LITERAL@7..8\n    INT_NUMBER@7..8 \"1\"\n"
-    );
-    let mut kinds = String::new(rt.alloc());
-    for element in new.descendants_with_tokens() {
-        if let Some(parent) = element.parent() {
-            write!(kinds, "{} ", parent.kind())?;
-        }
+    let one = first_node(&sum(&rt)?)?;
+    let new = replace(
+        &rt,
+        &one,
+        PARAM,
+        "BIN_EXPR@0..8\n  PARAM@0..4\n    IDENT_PAT@0..4\n      NAME@0..4\n        IDENT@0..4 \"name\"\n  WHITESPACE@4..5 \" \"\n  PLUS@5..6 \"+\"\n  WHITESPACE@6..7 \" \"\n  LITERAL@7..8\n    INT_NUMBER@7..8 \"1\"\n",
+    )?;
+    ensure_text(&new, "name + 1")?;
+    ensure_parents(&rt, &new)
+}
+
+// The last sibling behind this one, or it.
+fn last_from(first: SyntaxElement) -> SyntaxElement {
+    let mut last = first;
+    for _step in 0..9 {
+        let Some(next) = last.next_sibling_or_token() else {
+            return last;
+        };
+        last = next;
     }
-    assert_eq!(rt;
-        kinds.as_str(),
-        "BIN_EXPR PARAM IDENT_PAT NAME BIN_EXPR BIN_EXPR BIN_EXPR BIN_EXPR LITERAL "
-    );
-    Ok(())
+    last
+}
+
+fn last_node(root: &SyntaxNode) -> Result<SyntaxNode, Fail> {
+    let first = root.first_child_or_token().ok_or("no first child")?;
+    Ok(
+        last_from(first)
+            .into_node()
+            .ok_or("the last child is a token")?,
+    )
 }
 
 #[test]
 fn the_last_child_goes_for_an_empty_node(rt: HostRuntime) -> Result<(), Fail> {
-    let root = sum(&rt)?;
-    let Some(sign) = first_node(&root)?.next_sibling_or_token() else {
-        return Err(Fail::from("no second child"));
-    };
-    let mut last = sign;
-    for _step in 0..3 {
-        if let Some(next) = last.next_sibling_or_token() {
-            last = next;
-        }
-    }
-    let Some(last) = last.into_node() else {
-        return Err(Fail::from("the last child is a token"));
-    };
-    let new = last.replace_with(rt.alloc(), &empty_name(&rt)?)?;
-    let dump = new.dump(rt.alloc())?;
-    assert_eq!(rt;
-        dump.as_str(),
-        "BIN_EXPR@0..4\n  LITERAL@0..1\n    INT_NUMBER@0..1 \"1\"\n  WHITESPACE@1..2 \" \"\n  PLUS@2..3 \"+\"\n  WHITESPACE@3..4 \" \"\n  NAME@4..4\n"
-    );
+    let last = last_node(&sum(&rt)?)?;
+    let _new = replace(
+        &rt,
+        &last,
+        EMPTY_NAME,
+        "BIN_EXPR@0..4\n  LITERAL@0..1\n    INT_NUMBER@0..1 \"1\"\n  WHITESPACE@1..2 \" \"\n  PLUS@2..3 \"+\"\n  WHITESPACE@3..4 \" \"\n  NAME@4..4\n",
+    )?;
     Ok(())
 }
 
 #[test]
 fn the_root_is_replaced(rt: HostRuntime) -> Result<(), Fail> {
     let root = sum(&rt)?;
-    let other = param(&rt)?;
-    let new = root.replace_with(rt.alloc(), &first_node(&other)?)?;
-    let dump = new.dump(rt.alloc())?;
-    assert_eq!(rt;
-        dump.as_str(),
-        "IDENT_PAT@0..4\n  NAME@0..4\n    IDENT@0..4 \"name\"\n"
-    );
-    let none = root.replace_with(rt.alloc(), &empty_name(&rt)?)?;
-    let dump = none.dump(rt.alloc())?;
-    assert_eq!(rt; dump.as_str(), "NAME@0..0\n");
+    let pat = first_node(&built(&rt, PARAM)?)?;
+    let new = root.replace_with(rt.alloc(), &pat)?;
+    ensure_dump(
+        &rt,
+        &new,
+        "IDENT_PAT@0..4\n  NAME@0..4\n    IDENT@0..4 \"name\"\n",
+    )?;
+    let _empty = replace(&rt, &root, EMPTY_NAME, "NAME@0..0\n")?;
     Ok(())
+}
+
+// A node inside a tree is a tree of its own as a copy.
+fn ensure_copy(rt: &HostRuntime, node: &SyntaxNode, dump: &'static str) -> Result<(), Fail> {
+    let copy = node.clone_subtree(rt.alloc())?;
+    ensure(copy.parent().is_none(), "the root of a copy")?;
+    ensure_dump(rt, &copy, dump)
 }
 
 #[test]
 fn a_subtree_is_cloned(rt: HostRuntime) -> Result<(), Fail> {
-    let root = sum(&rt)?;
-    let wide = first_node(&root)?.replace_with(rt.alloc(), &param(&rt)?)?;
+    let one = first_node(&sum(&rt)?)?;
+    let wide = one.replace_with(rt.alloc(), &built(&rt, PARAM)?)?;
     let inner = first_node(&first_node(&wide)?)?;
-    let copy = inner.clone_subtree(rt.alloc())?;
-    assert!(rt; copy.parent().is_none());
-    let dump = copy.dump(rt.alloc())?;
-    assert_eq!(rt;
-        dump.as_str(),
-        "IDENT_PAT@0..4\n  NAME@0..4\n    IDENT@0..4 \"name\"\n"
-    );
-    let Some(NodeOrToken::Token(sign)) = first_node(&wide)?.next_sibling_or_token() else {
+    ensure_copy(
+        &rt,
+        &inner,
+        "IDENT_PAT@0..4\n  NAME@0..4\n    IDENT@0..4 \"name\"\n",
+    )
+}
+
+#[test]
+fn a_subtree_behind_a_longer_token_is_cloned(rt: HostRuntime) -> Result<(), Fail> {
+    let one = first_node(&sum(&rt)?)?;
+    let Some(NodeOrToken::Token(sign)) = one.next_sibling_or_token() else {
         return Err(Fail::from("no white space"));
     };
     let stretched = sign.replace_with(rt.alloc(), SyntaxKind::COMMENT, "/**/")?;
-    let Some(NodeOrToken::Node(last)) = last_child(&stretched) else {
-        return Err(Fail::from("no last child"));
-    };
-    let copy = last.clone_subtree(rt.alloc())?;
-    let dump = copy.dump(rt.alloc())?;
-    assert_eq!(rt; dump.as_str(), "LITERAL@0..1\n  INT_NUMBER@0..1 \"1\"\n");
-    Ok(())
+    ensure_copy(
+        &rt,
+        &last_node(&stretched)?,
+        "LITERAL@0..1\n  INT_NUMBER@0..1 \"1\"\n",
+    )
 }
 
-fn last_child(node: &SyntaxNode) -> Option<NodeOrToken<SyntaxNode, SyntaxToken>> {
-    let mut last = node.first_child_or_token()?;
-    for _step in 0..9 {
-        let Some(next) = last.next_sibling_or_token() else {
-            return Some(last);
-        };
-        last = next;
-    }
-    Some(last)
+fn ensure_child_texts(root: &SyntaxNode) -> Result<(), Fail> {
+    let found = [
+        root.child_text(0),
+        root.child_text(2),
+        root.child_text(3),
+        root.child_text(5),
+    ];
+    ensure(found == [None, Some("+"), Some(" "), None], "child_text")
+}
+
+fn char_at(node: &SyntaxNode, offset: u32) -> Option<char> {
+    node.text().char_at(TextSize::new(offset))
+}
+
+fn ensure_text_compares(root: &SyntaxNode) -> Result<(), Fail> {
+    let text = root.text();
+    ensure(text.len().raw() == 5, "len")?;
+    ensure(text.eq_str("1 + 1"), "eq_str")?;
+    ensure(!text.eq_str("1 + "), "eq_str of a prefix")
+}
+
+fn ensure_text_is_copied(rt: &HostRuntime, root: &SyntaxNode) -> Result<(), Fail> {
+    let copy = root.text().to_string(rt.alloc())?;
+    ensure(copy.as_str() == "1 + 1", "to_string")
+}
+
+fn ensure_text_is_printed(rt: &HostRuntime, root: &SyntaxNode) -> Result<(), Fail> {
+    let mut printed = String::new(rt.alloc());
+    write!(printed, "<{}>", root.text())?;
+    ensure(printed.as_str() == "<1 + 1>", "Display")
 }
 
 #[test]
 fn texts_answer(rt: HostRuntime) -> Result<(), Fail> {
     let root = sum(&rt)?;
-    assert_eq!(rt; root.as_str(), "1 + 1");
-    assert!(rt; root.child_text(0).is_none());
-    assert_eq!(rt; root.child_text(2), Some("+"));
-    assert_eq!(rt; root.child_text(3), Some(" "));
-    assert!(rt; root.child_text(5).is_none());
-    let text = root.text();
-    assert_eq!(rt; text.len().raw(), 5);
-    assert_eq!(rt; text.char_at(TextSize::new(2)), Some('+'));
-    assert_eq!(rt; text.char_at(TextSize::new(5)), None);
-    assert_eq!(rt; text.char_at(TextSize::new(6)), None);
-    assert!(rt; text.eq_str("1 + 1"));
-    assert!(rt; !text.eq_str("1 + "));
-    let copy = text.to_string(rt.alloc())?;
-    assert_eq!(rt; copy.as_str(), text.as_str());
-    let mut printed = String::new(rt.alloc());
-    write!(printed, "<{text}>")?;
-    assert_eq!(rt; printed.as_str(), "<1 + 1>");
-    Ok(())
+    ensure_text(&root, "1 + 1")?;
+    ensure_child_texts(&root)?;
+    let found = [char_at(&root, 2), char_at(&root, 5), char_at(&root, 6)];
+    assert!(rt; found == [Some('+'), None, None]);
+    ensure_text_compares(&root)?;
+    ensure_text_is_copied(&rt, &root)?;
+    ensure_text_is_printed(&rt, &root)
 }
 
 #[test]
 fn characters_are_found_by_their_first_byte(rt: HostRuntime) -> Result<(), Fail> {
-    let root = first_token(&first_node(&first_node(&param(&rt)?)?)?)?;
-    let new = root.replace_with(rt.alloc(), SyntaxKind::IDENT, "\u{e9}t\u{e9}")?;
-    let text = new.text();
-    assert_eq!(rt; text.len().raw(), 5);
-    assert_eq!(rt; text.char_at(TextSize::new(0)), Some('\u{e9}'));
-    assert_eq!(rt; text.char_at(TextSize::new(1)), None);
-    assert_eq!(rt; text.char_at(TextSize::new(2)), Some('t'));
-    assert_eq!(rt; text.char_at(TextSize::new(3)), Some('\u{e9}'));
+    let ident = ident_of(&built(&rt, PARAM)?)?;
+    let new = ident.replace_with(rt.alloc(), SyntaxKind::IDENT, "\u{e9}t\u{e9}")?;
+    assert_eq!(rt; new.text().len().raw(), 5);
+    let found = [
+        char_at(&new, 0),
+        char_at(&new, 1),
+        char_at(&new, 2),
+        char_at(&new, 3),
+    ];
+    assert!(rt; found == [Some('\u{e9}'), None, Some('t'), Some('\u{e9}')]);
     Ok(())
+}
+
+// The first sibling, and what is inside it.
+fn ensure_first_sibling(root: &SyntaxNode) -> Result<(), Fail> {
+    let all = root.trees();
+    ensure(!all.is_done(), "is_done of all")?;
+    ensure(!all.is_token(), "is_token of a node")?;
+    ensure(all.kind() == SyntaxKind::LITERAL, "kind of a node")?;
+    let number = all.inside();
+    ensure(number.text() == "1", "text of a token")?;
+    ensure(number.kind() == SyntaxKind::INT_NUMBER, "kind of a token")?;
+    ensure(number.rest().is_done(), "rest of a token")?;
+    ensure(number.inside().is_done(), "inside a token")
+}
+
+// The siblings behind it.
+fn ensure_later_siblings(root: &SyntaxNode) -> Result<(), Fail> {
+    let sign = root.trees().rest().without_trivia();
+    ensure(sign.kind() == SyntaxKind::PLUS, "kind behind trivia")?;
+    ensure(sign.start().raw() == 2, "start behind trivia")?;
+    let last = sign.rest().without_trivia();
+    ensure(last.text() == "1", "text of the last")?;
+    ensure(last.start().raw() == 4, "start of the last")
+}
+
+// What is behind the last one.
+fn ensure_end_of_siblings(root: &SyntaxNode) -> Result<(), Fail> {
+    let sign = root.trees().rest().without_trivia();
+    let none = sign.rest().without_trivia().rest();
+    ensure(none.is_done(), "is_done behind the last")?;
+    ensure(none.start().raw() == 5, "start behind the last")?;
+    ensure(none.kind() == SyntaxKind::OTHER(0), "kind behind the last")?;
+    ensure(
+        none.all().rest().inside().without_trivia().is_done(),
+        "steps behind the last",
+    )
 }
 
 #[test]
 fn siblings_are_read(rt: HostRuntime) -> Result<(), Fail> {
     let root = sum(&rt)?;
-    let all = root.trees();
-    assert!(rt; !all.is_done());
-    assert!(rt; !all.is_token());
-    assert_eq!(rt; all.kind(), SyntaxKind::LITERAL);
-    let number = all.inside();
-    assert_eq!(rt; number.text(), "1");
-    assert_eq!(rt; number.kind(), SyntaxKind::INT_NUMBER);
-    assert!(rt; number.rest().is_done());
-    assert!(rt; number.inside().is_done());
-    let sign = all.rest().without_trivia();
-    assert_eq!(rt; sign.kind(), SyntaxKind::PLUS);
-    assert_eq!(rt; sign.start().raw(), 2);
-    let last = sign.rest().without_trivia();
-    assert_eq!(rt; last.text(), "1");
-    assert_eq!(rt; last.start().raw(), 4);
-    let none = last.rest();
-    assert!(rt; none.is_done());
-    assert_eq!(rt; none.start().raw(), 5);
-    assert_eq!(rt; none.kind(), SyntaxKind::OTHER(0));
-    assert!(rt; none.all().rest().inside().without_trivia().is_done());
-    Ok(())
+    ensure_first_sibling(&root)?;
+    ensure_later_siblings(&root)?;
+    ensure_end_of_siblings(&root)
 }

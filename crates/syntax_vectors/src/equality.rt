@@ -74,31 +74,48 @@ fn copies_of_iterators_go_their_own_way(rt: HostRuntime) -> Result<(), Fail> {
     Ok(())
 }
 
-// `repeat` asks for a copy that can't fail: that it may be called here, on an element too, is what is shown.
+// `repeat` asks for a copy that can't fail: that it may be called on each iterator, and on an element, is what is shown.
+fn node_iterators_are_copied(root: &SyntaxNode) -> [bool; 5] {
+    [
+        repeat(root.ancestors()).next().is_some(),
+        repeat(root.children()).next().is_some(),
+        repeat(root.siblings(Direction::Next)).next().is_some(),
+        repeat(root.descendants()).next().is_some(),
+        repeat(root.preorder()).next().is_some(),
+    ]
+}
+
+fn element_iterators_are_copied(root: &SyntaxNode) -> [bool; 4] {
+    [
+        repeat(root.children_with_tokens()).next().is_some(),
+        repeat(root.siblings_with_tokens(Direction::Prev))
+            .next()
+            .is_some(),
+        repeat(root.descendants_with_tokens()).next().is_some(),
+        repeat(root.preorder_with_tokens()).next().is_some(),
+    ]
+}
+
 #[test]
 fn copies_of_iterators_take_no_memory(rt: HostRuntime) -> Result<(), Fail> {
     let root = built(&rt, WORDS)?;
-    let mut copies = repeat(root.ancestors());
-    assert!(rt; copies.next().is_some());
-    let mut copies = repeat(root.children());
-    assert!(rt; copies.next().is_some());
-    let mut copies = repeat(root.children_with_tokens());
-    assert!(rt; copies.next().is_some());
-    let mut copies = repeat(root.siblings(Direction::Next));
-    assert!(rt; copies.next().is_some());
-    let mut copies = repeat(root.siblings_with_tokens(Direction::Prev));
-    assert!(rt; copies.next().is_some());
-    let mut copies = repeat(root.descendants());
-    assert!(rt; copies.next().is_some());
-    let mut copies = repeat(root.descendants_with_tokens());
-    assert!(rt; copies.next().is_some());
-    let mut copies = repeat(root.preorder());
-    assert!(rt; copies.next().is_some());
-    let mut copies = repeat(root.preorder_with_tokens());
-    assert!(rt; copies.next().is_some());
+    assert!(rt; node_iterators_are_copied(&root) == [true; 5]);
+    assert!(rt; element_iterators_are_copied(&root) == [true; 4]);
+    Ok(())
+}
+
+#[test]
+fn copies_of_tokens_take_no_memory(rt: HostRuntime) -> Result<(), Fail> {
+    let root = built(&rt, WORDS)?;
     let mut copies = repeat(root.token_at_offset(TextSize::new(1)));
     let between = copies.next().ok_or("no copy of the tokens")?;
     assert_eq!(rt; between.size_hint(), (2, Some(2)));
+    Ok(())
+}
+
+#[test]
+fn copies_of_elements_take_no_memory(rt: HostRuntime) -> Result<(), Fail> {
+    let root = built(&rt, WORDS)?;
     let element: SyntaxElement = root.first_child_or_token().ok_or("no first child")?;
     let mut copies = repeat(element);
     assert!(rt; copies.next() == root.first_child_or_token());

@@ -4,6 +4,8 @@
 #[cfg(test)]
 mod edits;
 #[cfg(test)]
+mod ensure;
+#[cfg(test)]
 mod equality;
 #[cfg(test)]
 mod escapes;

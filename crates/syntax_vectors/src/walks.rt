@@ -1,4 +1,5 @@
 //! Walks and steps among nodes and tokens: each call at each place of three small trees, by a plain slow program.
+use crate::ensure::ensure;
 use lossless_tree::{
     Direction, NodeOrToken, SyntaxElement, SyntaxKind, SyntaxNode, SyntaxToken, WalkEvent,
 };
@@ -24,45 +25,127 @@ fn element_kind(element: Option<SyntaxElement>) -> Option<SyntaxKind> {
     Some(element?.kind())
 }
 
-// The call answered as it should.
-fn ensure(holds: bool, call: &'static str) -> Result<(), Fail> {
-    if holds { Ok(()) } else { Err(Fail::from(call)) }
-}
-
-// The children of a node.
-fn children_are(rt: &HostRuntime, plain: &PlainTree, node: &SyntaxNode) -> Result<(), Fail> {
-    let here = plain.find(node.kind()).ok_or("no such place")?;
-    let mut nodes = Vec::new(rt.alloc());
-    let mut both = Vec::new(rt.alloc());
-    here.children(Among::Nodes, &mut nodes)?;
-    here.children(Among::Both, &mut both)?;
+// The kinds of what a node's iterators give.
+fn child_kinds(rt: &HostRuntime, node: &SyntaxNode) -> Result<Vec<SyntaxKind>, Fail> {
     let mut found = Vec::new(rt.alloc());
     for child in node.children() {
         found.push(child.kind())?;
     }
-    ensure(found == nodes, "children")?;
+    Ok(found)
+}
+
+fn child_or_token_kinds(rt: &HostRuntime, node: &SyntaxNode) -> Result<Vec<SyntaxKind>, Fail> {
     let mut found = Vec::new(rt.alloc());
     for child in node.children_with_tokens() {
         found.push(child.kind())?;
     }
-    ensure(found == both, "children_with_tokens")?;
+    Ok(found)
+}
+
+fn sibling_kinds(
+    rt: &HostRuntime,
+    node: &SyntaxNode,
+    direction: Direction,
+) -> Result<Vec<SyntaxKind>, Fail> {
+    let mut found = Vec::new(rt.alloc());
+    for sibling in node.siblings(direction) {
+        found.push(sibling.kind())?;
+    }
+    Ok(found)
+}
+
+fn descendant_kinds(rt: &HostRuntime, node: &SyntaxNode) -> Result<Vec<SyntaxKind>, Fail> {
+    let mut found = Vec::new(rt.alloc());
+    for below in node.descendants() {
+        found.push(below.kind())?;
+    }
+    Ok(found)
+}
+
+fn descendant_or_token_kinds(rt: &HostRuntime, node: &SyntaxNode) -> Result<Vec<SyntaxKind>, Fail> {
+    let mut found = Vec::new(rt.alloc());
+    for below in node.descendants_with_tokens() {
+        found.push(below.kind())?;
+    }
+    Ok(found)
+}
+
+// A step of a walk over nodes: whether it enters, and the kind.
+fn node_step(event: WalkEvent<SyntaxNode>) -> (bool, SyntaxKind) {
+    match event {
+        WalkEvent::Enter(below) => (true, below.kind()),
+        WalkEvent::Leave(below) => (false, below.kind()),
+    }
+}
+
+fn element_step(event: WalkEvent<SyntaxElement>) -> (bool, SyntaxKind) {
+    match event {
+        WalkEvent::Enter(below) => (true, below.kind()),
+        WalkEvent::Leave(below) => (false, below.kind()),
+    }
+}
+
+fn node_steps(rt: &HostRuntime, node: &SyntaxNode) -> Result<Vec<(bool, SyntaxKind)>, Fail> {
+    let mut found = Vec::new(rt.alloc());
+    for event in node.preorder() {
+        found.push(node_step(event))?;
+    }
+    Ok(found)
+}
+
+fn element_steps(rt: &HostRuntime, node: &SyntaxNode) -> Result<Vec<(bool, SyntaxKind)>, Fail> {
+    let mut found = Vec::new(rt.alloc());
+    for event in node.preorder_with_tokens() {
+        found.push(element_step(event))?;
+    }
+    Ok(found)
+}
+
+// The same of an element's.
+fn element_sibling_kinds(
+    rt: &HostRuntime,
+    element: &SyntaxElement,
+    direction: Direction,
+) -> Result<Vec<SyntaxKind>, Fail> {
+    let mut found = Vec::new(rt.alloc());
+    for sibling in element.siblings_with_tokens(direction) {
+        found.push(sibling.kind())?;
+    }
+    Ok(found)
+}
+
+fn ancestor_kinds(rt: &HostRuntime, element: &SyntaxElement) -> Result<Vec<SyntaxKind>, Fail> {
+    let mut found = Vec::new(rt.alloc());
+    for node in element.ancestors() {
+        found.push(node.kind())?;
+    }
+    Ok(found)
+}
+
+fn children_are(rt: &HostRuntime, here: &PlainTree, node: &SyntaxNode) -> Result<(), Fail> {
+    let mut wanted = Vec::new(rt.alloc());
+    here.children(Among::Nodes, &mut wanted)?;
+    ensure(child_kinds(rt, node)? == wanted, "children")?;
+    let (first, last) = (node_kind(node.first_child()), node_kind(node.last_child()));
+    ensure(first == wanted.first().copied(), "first_child")?;
+    ensure(last == wanted.last().copied(), "last_child")
+}
+
+fn children_with_tokens_are(
+    rt: &HostRuntime,
+    here: &PlainTree,
+    node: &SyntaxNode,
+) -> Result<(), Fail> {
+    let mut wanted = Vec::new(rt.alloc());
+    here.children(Among::Both, &mut wanted)?;
     ensure(
-        node_kind(node.first_child()) == nodes.first().copied(),
-        "first_child",
+        child_or_token_kinds(rt, node)? == wanted,
+        "children_with_tokens",
     )?;
-    ensure(
-        node_kind(node.last_child()) == nodes.last().copied(),
-        "last_child",
-    )?;
-    ensure(
-        element_kind(node.first_child_or_token()) == both.first().copied(),
-        "first_child_or_token",
-    )?;
-    ensure(
-        element_kind(node.last_child_or_token()) == both.last().copied(),
-        "last_child_or_token",
-    )?;
-    Ok(())
+    let first = element_kind(node.first_child_or_token());
+    let last = element_kind(node.last_child_or_token());
+    ensure(first == wanted.first().copied(), "first_child_or_token")?;
+    ensure(last == wanted.last().copied(), "last_child_or_token")
 }
 
 // The sibling nodes of a node.
@@ -75,115 +158,136 @@ fn sibling_nodes_are(
     let mut wanted = Vec::new(rt.alloc());
     plain.siblings(node.kind(), direction, Among::Nodes, &mut wanted)?;
     let nearest = match direction {
-        Direction::Next => node.next_sibling(),
-        Direction::Prev => node.prev_sibling(),
+        Direction::Next => node_kind(node.next_sibling()),
+        Direction::Prev => node_kind(node.prev_sibling()),
     };
     ensure(
-        node_kind(nearest) == wanted.first().copied(),
+        nearest == wanted.first().copied(),
         "the nearest sibling node",
     )?;
-    let mut found = Vec::new(rt.alloc());
-    let mut siblings = node.siblings(direction);
-    ensure(node_kind(siblings.next()) == Some(node.kind()), "siblings")?;
-    for sibling in siblings {
-        found.push(sibling.kind())?;
-    }
-    ensure(found == wanted, "siblings")?;
-    Ok(())
+    wanted.insert(0, node.kind())?;
+    ensure(sibling_kinds(rt, node, direction)? == wanted, "siblings")
 }
 
 // The walks below a node.
-fn walks_are(rt: &HostRuntime, plain: &PlainTree, node: &SyntaxNode) -> Result<(), Fail> {
-    let here = plain.find(node.kind()).ok_or("no such place")?;
+fn descendants_are(rt: &HostRuntime, here: &PlainTree, node: &SyntaxNode) -> Result<(), Fail> {
     let mut wanted = Vec::new(rt.alloc());
     here.preorder(Among::Nodes, &mut wanted)?;
-    let mut found = Vec::new(rt.alloc());
-    for below in node.descendants() {
-        found.push(below.kind())?;
-    }
-    ensure(found == wanted, "descendants")?;
-    let mut wanted = Vec::new(rt.alloc());
-    here.preorder(Among::Both, &mut wanted)?;
-    let mut found = Vec::new(rt.alloc());
-    for below in node.descendants_with_tokens() {
-        found.push(below.kind())?;
-    }
-    ensure(found == wanted, "descendants_with_tokens")?;
-    let mut wanted = Vec::new(rt.alloc());
-    here.walk(Among::Nodes, &mut wanted)?;
-    let mut found = Vec::new(rt.alloc());
-    for event in node.preorder() {
-        match event {
-            WalkEvent::Enter(below) => found.push((true, below.kind()))?,
-            WalkEvent::Leave(below) => found.push((false, below.kind()))?,
-        }
-    }
-    ensure(found == wanted, "preorder")?;
-    let mut wanted = Vec::new(rt.alloc());
-    here.walk(Among::Both, &mut wanted)?;
-    let mut found = Vec::new(rt.alloc());
-    for event in node.preorder_with_tokens() {
-        match event {
-            WalkEvent::Enter(below) => found.push((true, below.kind()))?,
-            WalkEvent::Leave(below) => found.push((false, below.kind()))?,
-        }
-    }
-    ensure(found == wanted, "preorder_with_tokens")?;
-    let mut tokens = Vec::new(rt.alloc());
-    here.preorder(Among::Tokens, &mut tokens)?;
-    ensure(
-        token_kind(node.first_token()) == tokens.first().copied(),
-        "first_token",
-    )?;
-    ensure(
-        token_kind(node.last_token()) == tokens.last().copied(),
-        "last_token",
-    )?;
-    Ok(())
+    ensure(descendant_kinds(rt, node)? == wanted, "descendants")
 }
 
-// The siblings of a node or token, and what stands above it.
-fn element_is(rt: &HostRuntime, plain: &PlainTree, element: &SyntaxElement) -> Result<(), Fail> {
+fn descendants_with_tokens_are(
+    rt: &HostRuntime,
+    here: &PlainTree,
+    node: &SyntaxNode,
+) -> Result<(), Fail> {
+    let mut wanted = Vec::new(rt.alloc());
+    here.preorder(Among::Both, &mut wanted)?;
+    ensure(
+        descendant_or_token_kinds(rt, node)? == wanted,
+        "descendants_with_tokens",
+    )
+}
+
+fn node_steps_are(rt: &HostRuntime, here: &PlainTree, node: &SyntaxNode) -> Result<(), Fail> {
+    let mut wanted = Vec::new(rt.alloc());
+    here.walk(Among::Nodes, &mut wanted)?;
+    ensure(node_steps(rt, node)? == wanted, "preorder")
+}
+
+fn element_steps_are(rt: &HostRuntime, here: &PlainTree, node: &SyntaxNode) -> Result<(), Fail> {
+    let mut wanted = Vec::new(rt.alloc());
+    here.walk(Among::Both, &mut wanted)?;
+    ensure(element_steps(rt, node)? == wanted, "preorder_with_tokens")
+}
+
+fn end_tokens_are(rt: &HostRuntime, here: &PlainTree, node: &SyntaxNode) -> Result<(), Fail> {
+    let mut tokens = Vec::new(rt.alloc());
+    here.preorder(Among::Tokens, &mut tokens)?;
+    let (first, last) = (
+        token_kind(node.first_token()),
+        token_kind(node.last_token()),
+    );
+    ensure(first == tokens.first().copied(), "first_token")?;
+    ensure(last == tokens.last().copied(), "last_token")
+}
+
+// The siblings of a node or token on one side.
+fn siblings_are(
+    rt: &HostRuntime,
+    plain: &PlainTree,
+    element: &SyntaxElement,
+    direction: Direction,
+) -> Result<(), Fail> {
+    let mut wanted = Vec::new(rt.alloc());
+    plain.siblings(element.kind(), direction, Among::Both, &mut wanted)?;
+    let nearest = match direction {
+        Direction::Next => element_kind(element.next_sibling_or_token()),
+        Direction::Prev => element_kind(element.prev_sibling_or_token()),
+    };
+    ensure(
+        nearest == wanted.first().copied(),
+        "the nearest sibling or token",
+    )?;
+    wanted.insert(0, element.kind())?;
+    ensure(
+        element_sibling_kinds(rt, element, direction)? == wanted,
+        "siblings_with_tokens",
+    )
+}
+
+// What stands above a node or token.
+fn ancestors_are(rt: &HostRuntime, plain: &PlainTree, element: &SyntaxElement) -> Result<(), Fail> {
     let kind = element.kind();
-    let mut later = Vec::new(rt.alloc());
-    let mut earlier = Vec::new(rt.alloc());
-    plain.siblings(kind, Direction::Next, Among::Both, &mut later)?;
-    plain.siblings(kind, Direction::Prev, Among::Both, &mut earlier)?;
-    ensure(
-        element_kind(element.next_sibling_or_token()) == later.first().copied(),
-        "next_sibling_or_token",
-    )?;
-    ensure(
-        element_kind(element.prev_sibling_or_token()) == earlier.first().copied(),
-        "prev_sibling_or_token",
-    )?;
-    let mut found = Vec::new(rt.alloc());
-    for sibling in element.siblings_with_tokens(Direction::Next) {
-        found.push(sibling.kind())?;
-    }
-    later.insert(0, kind)?;
-    ensure(found == later, "siblings_with_tokens(Next)")?;
-    let mut found = Vec::new(rt.alloc());
-    for sibling in element.siblings_with_tokens(Direction::Prev) {
-        found.push(sibling.kind())?;
-    }
-    earlier.insert(0, kind)?;
-    ensure(found == earlier, "siblings_with_tokens(Prev)")?;
     let mut above = Vec::new(rt.alloc());
     plain.above(kind, &mut above)?;
-    ensure(
-        node_kind(element.parent()) == above.first().copied(),
-        "parent",
-    )?;
-    let here = plain.find(kind).ok_or("no such place")?;
-    if let PlainTree::Node(_, _) = here {
+    let parent = node_kind(element.parent());
+    ensure(parent == above.first().copied(), "parent")?;
+    if let PlainTree::Node(_, _) = plain.find(kind).ok_or("no such place")? {
         above.insert(0, kind)?;
     }
-    let mut found = Vec::new(rt.alloc());
-    for node in element.ancestors() {
-        found.push(node.kind())?;
+    ensure(ancestor_kinds(rt, element)? == above, "ancestors")
+}
+
+fn node_is(rt: &HostRuntime, plain: &PlainTree, node: &SyntaxNode) -> Result<(), Fail> {
+    let here = plain.find(node.kind()).ok_or("no such place")?;
+    children_are(rt, here, node)?;
+    children_with_tokens_are(rt, here, node)?;
+    sibling_nodes_are(rt, plain, node, Direction::Next)?;
+    sibling_nodes_are(rt, plain, node, Direction::Prev)?;
+    descendants_are(rt, here, node)?;
+    descendants_with_tokens_are(rt, here, node)?;
+    node_steps_are(rt, here, node)?;
+    element_steps_are(rt, here, node)?;
+    end_tokens_are(rt, here, node)
+}
+
+fn token_is(rt: &HostRuntime, plain: &PlainTree, token: &SyntaxToken) -> Result<(), Fail> {
+    let mut tokens = Vec::new(rt.alloc());
+    plain.preorder(Among::Tokens, &mut tokens)?;
+    let kind = token.kind();
+    let (next, previous) = (
+        token_kind(token.next_token()),
+        token_kind(token.prev_token()),
+    );
+    ensure(next == behind(&tokens, kind), "next_token")?;
+    ensure(previous == before(&tokens, kind), "prev_token")
+}
+
+fn element_is(rt: &HostRuntime, plain: &PlainTree, element: &SyntaxElement) -> Result<(), Fail> {
+    siblings_are(rt, plain, element, Direction::Next)?;
+    siblings_are(rt, plain, element, Direction::Prev)?;
+    ancestors_are(rt, plain, element)?;
+    match element {
+        NodeOrToken::Node(node) => node_is(rt, plain, node),
+        NodeOrToken::Token(token) => token_is(rt, plain, token),
     }
-    ensure(found == above, "ancestors")?;
+}
+
+fn calls_answer(rt: &HostRuntime, plain: &PlainTree, root: &SyntaxNode) -> Result<(), Fail> {
+    for element in root.descendants_with_tokens() {
+        element_is(rt, plain, &element)?;
+    }
     Ok(())
 }
 
@@ -191,31 +295,7 @@ fn element_is(rt: &HostRuntime, plain: &PlainTree, element: &SyntaxElement) -> R
 fn calls_at_every_place(rt: HostRuntime) -> Result<(), Fail> {
     for words in TREES {
         let plain = PlainTree::read(rt.alloc(), words)?;
-        let root = plain.build(rt.alloc())?;
-        let mut tokens = Vec::new(rt.alloc());
-        plain.preorder(Among::Tokens, &mut tokens)?;
-        for element in root.descendants_with_tokens() {
-            element_is(&rt, &plain, &element)?;
-            match element {
-                NodeOrToken::Node(node) => {
-                    children_are(&rt, &plain, &node)?;
-                    sibling_nodes_are(&rt, &plain, &node, Direction::Next)?;
-                    sibling_nodes_are(&rt, &plain, &node, Direction::Prev)?;
-                    walks_are(&rt, &plain, &node)?;
-                }
-                NodeOrToken::Token(token) => {
-                    let kind = token.kind();
-                    ensure(
-                        token_kind(token.next_token()) == behind(&tokens, kind),
-                        "next_token",
-                    )?;
-                    ensure(
-                        token_kind(token.prev_token()) == before(&tokens, kind),
-                        "prev_token",
-                    )?;
-                }
-            }
-        }
+        calls_answer(&rt, &plain, &plain.build(rt.alloc())?)?;
     }
     Ok(())
 }
