@@ -33,10 +33,7 @@ fn meta(sheet: &mut Sheet, node: &SyntaxNode) -> Result<(), AllocError> {
     }
 }
 
-fn meta_words(sheet: &mut Sheet, node: &SyntaxNode) -> Result<(), AllocError> {
-    let Some(it) = cast_ref::<Meta>(node) else {
-        return Ok(());
-    };
+fn words_of_meta(sheet: &mut Sheet, it: &Meta) -> Result<(), AllocError> {
     sheet.asked("Meta.as_simple_atom", it.as_simple_atom(sheet.alloc()))?;
     sheet.asked("Meta.simple_name", it.simple_name(sheet.alloc()))?;
     match it.as_simple_call(sheet.alloc()) {
@@ -46,6 +43,13 @@ fn meta_words(sheet: &mut Sheet, node: &SyntaxNode) -> Result<(), AllocError> {
         }
         Ok(None) => sheet.word("Meta.as_simple_call.0", "-"),
         Err(_) => sheet.refused("Meta.as_simple_call.0"),
+    }
+}
+
+fn meta_words(sheet: &mut Sheet, node: &SyntaxNode) -> Result<(), AllocError> {
+    match cast_ref::<Meta>(node) {
+        Some(it) => words_of_meta(sheet, &it),
+        None => Ok(()),
     }
 }
 

@@ -7,6 +7,7 @@ use std::alloc::AllocError;
 /// Prints what the accessors of expressions that are no plain lookups answer of a node.
 pub fn answers(sheet: &mut Sheet, node: &SyntaxNode) -> Result<(), AllocError> {
     expr(sheet, node)?;
+    callable_expr(sheet, node)?;
     branches(sheet, node)?;
     loops(sheet, node)?;
     prefix(sheet, node)?;
@@ -23,17 +24,18 @@ pub fn answers(sheet: &mut Sheet, node: &SyntaxNode) -> Result<(), AllocError> {
 }
 
 fn expr(sheet: &mut Sheet, node: &SyntaxNode) -> Result<(), AllocError> {
-    if let Some(it) = cast_ref::<ast::Expr>(node) {
-        sheet.flag("Expr.is_block_like", it.is_block_like())?;
+    match cast_ref::<ast::Expr>(node) {
+        Some(it) => sheet.flag("Expr.is_block_like", it.is_block_like()),
+        None => Ok(()),
     }
-    if let Some(it) = cast_ref::<ast::CallableExpr>(node) {
-        let variant = match &it {
-            ast::CallableExpr::Call(_) => "Call",
-            ast::CallableExpr::MethodCall(_) => "MethodCall",
-        };
-        sheet.word("CallableExpr", variant)?;
+}
+
+fn callable_expr(sheet: &mut Sheet, node: &SyntaxNode) -> Result<(), AllocError> {
+    match cast_ref::<ast::CallableExpr>(node) {
+        Some(ast::CallableExpr::Call(_)) => sheet.word("CallableExpr", "Call"),
+        Some(ast::CallableExpr::MethodCall(_)) => sheet.word("CallableExpr", "MethodCall"),
+        None => Ok(()),
     }
-    Ok(())
 }
 
 fn branches(sheet: &mut Sheet, node: &SyntaxNode) -> Result<(), AllocError> {
@@ -81,24 +83,35 @@ fn operator(sheet: &mut Sheet, found: Option<BinaryOp>) -> Result<(), AllocError
     }
 }
 
-fn binary(sheet: &mut Sheet, node: &SyntaxNode) -> Result<(), AllocError> {
-    let Some(it) = cast_ref::<ast::BinExpr>(node) else {
-        return Ok(());
-    };
-    sheet.node("BinExpr.lhs", it.lhs())?;
-    sheet.node("BinExpr.rhs", it.rhs())?;
-    let (left, right) = it.sub_exprs();
+fn sub_exprs<N: AstNode + Drop>(
+    sheet: &mut Sheet,
+    found: (Option<N>, Option<N>),
+) -> Result<(), AllocError> {
+    let (left, right) = found;
     sheet.node("BinExpr.sub_exprs.0", left)?;
-    sheet.node("BinExpr.sub_exprs.1", right)?;
-    sheet.token("BinExpr.op_token", it.op_token())?;
-    operator(sheet, it.op_kind())?;
-    match it.op_details() {
+    sheet.node("BinExpr.sub_exprs.1", right)
+}
+
+fn op_details(sheet: &mut Sheet, found: Option<(SyntaxToken, BinaryOp)>) -> Result<(), AllocError> {
+    match found {
         Some((token, op)) => {
             sheet.token("BinExpr.op_details.0", Some(token))?;
             sheet.value("BinExpr.op_details.1", Some(op))
         }
         None => sheet.word("BinExpr.op_details.0", "-"),
     }
+}
+
+fn binary(sheet: &mut Sheet, node: &SyntaxNode) -> Result<(), AllocError> {
+    let Some(it) = cast_ref::<ast::BinExpr>(node) else {
+        return Ok(());
+    };
+    sheet.node("BinExpr.lhs", it.lhs())?;
+    sheet.node("BinExpr.rhs", it.rhs())?;
+    sub_exprs(sheet, it.sub_exprs())?;
+    sheet.token("BinExpr.op_token", it.op_token())?;
+    operator(sheet, it.op_kind())?;
+    op_details(sheet, it.op_details())
 }
 
 fn range_expr(sheet: &mut Sheet, node: &SyntaxNode) -> Result<(), AllocError> {
@@ -130,14 +143,14 @@ fn places(sheet: &mut Sheet, node: &SyntaxNode) -> Result<(), AllocError> {
     sheet.node("IndexExpr.index", it.index())
 }
 
-fn repeated(
+fn repeated<N: AstNode + Drop>(
     sheet: &mut Sheet,
-    initializer: Option<&ast::Expr>,
-    repeat: Option<&ast::Expr>,
+    initializer: Option<N>,
+    repeat: Option<N>,
 ) -> Result<(), AllocError> {
     sheet.word("ArrayExpr.kind", "Repeat")?;
-    sheet.borrowed("ArrayExpr.kind.initializer", initializer)?;
-    sheet.borrowed("ArrayExpr.kind.repeat", repeat)
+    sheet.node("ArrayExpr.kind.initializer", initializer)?;
+    sheet.node("ArrayExpr.kind.repeat", repeat)
 }
 
 fn listed(sheet: &mut Sheet, list: ast::AstChildren<ast::Expr>) -> Result<(), AllocError> {
@@ -145,19 +158,19 @@ fn listed(sheet: &mut Sheet, list: ast::AstChildren<ast::Expr>) -> Result<(), Al
     sheet.nodes("ArrayExpr.kind.0", list)
 }
 
-fn array_kind(sheet: &mut Sheet, kind: &ast::ArrayExprKind) -> Result<(), AllocError> {
+fn array_kind(sheet: &mut Sheet, kind: ast::ArrayExprKind) -> Result<(), AllocError> {
     match kind {
         ast::ArrayExprKind::Repeat {
             initializer,
             repeat,
-        } => repeated(sheet, initializer.as_ref(), repeat.as_ref()),
-        ast::ArrayExprKind::ElementList(list) => listed(sheet, list.clone()?),
+        } => repeated(sheet, initializer, repeat),
+        ast::ArrayExprKind::ElementList(list) => listed(sheet, list),
     }
 }
 
 fn array(sheet: &mut Sheet, node: &SyntaxNode) -> Result<(), AllocError> {
     match cast_ref::<ast::ArrayExpr>(node) {
-        Some(it) => array_kind(sheet, &it.kind()),
+        Some(it) => array_kind(sheet, it.kind()),
         None => Ok(()),
     }
 }
@@ -187,28 +200,41 @@ fn modifier(sheet: &mut Sheet, name: &str, token: SyntaxToken) -> Result<(), All
     sheet.token("BlockExpr.modifier.0", Some(token))
 }
 
+fn try_modifier<N: AstNode + Drop>(
+    sheet: &mut Sheet,
+    try_token: SyntaxToken,
+    bikeshed_token: Option<SyntaxToken>,
+    result_type: Option<N>,
+) -> Result<(), AllocError> {
+    modifier(sheet, "Try", try_token)?;
+    sheet.token("BlockExpr.modifier.bikeshed_token", bikeshed_token)?;
+    sheet.node("BlockExpr.modifier.result_type", result_type)
+}
+
+fn label(sheet: &mut Sheet, label: ast::Label) -> Result<(), AllocError> {
+    sheet.word("BlockExpr.modifier", "Label")?;
+    sheet.node("BlockExpr.modifier.0", Some(label))
+}
+
+fn any_modifier(sheet: &mut Sheet, found: ast::BlockModifier) -> Result<(), AllocError> {
+    match found {
+        ast::BlockModifier::Async(token) => modifier(sheet, "Async", token),
+        ast::BlockModifier::Unsafe(token) => modifier(sheet, "Unsafe", token),
+        ast::BlockModifier::Try {
+            try_token,
+            bikeshed_token,
+            result_type,
+        } => try_modifier(sheet, try_token, bikeshed_token, result_type),
+        ast::BlockModifier::Const(token) => modifier(sheet, "Const", token),
+        ast::BlockModifier::AsyncGen(token) => modifier(sheet, "AsyncGen", token),
+        ast::BlockModifier::Gen(token) => modifier(sheet, "Gen", token),
+        ast::BlockModifier::Label(found) => label(sheet, found),
+    }
+}
+
 fn block_modifier(sheet: &mut Sheet, it: &ast::BlockExpr) -> Result<(), AllocError> {
     match it.modifier() {
-        Some(ast::BlockModifier::Async(token)) => modifier(sheet, "Async", token),
-        Some(ast::BlockModifier::Unsafe(token)) => modifier(sheet, "Unsafe", token),
-        Some(
-            ast::BlockModifier::Try {
-                try_token,
-                bikeshed_token,
-                result_type,
-            },
-        ) => {
-            modifier(sheet, "Try", try_token)?;
-            sheet.token("BlockExpr.modifier.bikeshed_token", bikeshed_token)?;
-            sheet.node("BlockExpr.modifier.result_type", result_type)
-        }
-        Some(ast::BlockModifier::Const(token)) => modifier(sheet, "Const", token),
-        Some(ast::BlockModifier::AsyncGen(token)) => modifier(sheet, "AsyncGen", token),
-        Some(ast::BlockModifier::Gen(token)) => modifier(sheet, "Gen", token),
-        Some(ast::BlockModifier::Label(label)) => {
-            sheet.word("BlockExpr.modifier", "Label")?;
-            sheet.node("BlockExpr.modifier.0", Some(label))
-        }
+        Some(found) => any_modifier(sheet, found),
         None => sheet.word("BlockExpr.modifier", "-"),
     }
 }

@@ -43,14 +43,19 @@ fn impls(sheet: &mut Sheet, node: &SyntaxNode) -> Result<(), AllocError> {
     Ok(())
 }
 
+fn item_generics(sheet: &mut Sheet, node: &SyntaxNode) -> Result<(), AllocError> {
+    match cast_ref::<ast::Item>(node) {
+        Some(it) => sheet.node("Item.generic_param_list", it.generic_param_list()),
+        None => Ok(()),
+    }
+}
+
 fn generics(sheet: &mut Sheet, node: &SyntaxNode) -> Result<(), AllocError> {
-    if let Some(it) = cast_ref::<ast::Item>(node) {
-        sheet.node("Item.generic_param_list", it.generic_param_list())?;
+    item_generics(sheet, node)?;
+    match cast_ref::<ast::TypeOrConstParam>(node) {
+        Some(it) => sheet.node("TypeOrConstParam.name", it.name()),
+        None => Ok(()),
     }
-    if let Some(it) = cast_ref::<ast::TypeOrConstParam>(node) {
-        sheet.node("TypeOrConstParam.name", it.name())?;
-    }
-    Ok(())
 }
 
 fn lifetimes(sheet: &mut Sheet, node: &SyntaxNode) -> Result<(), AllocError> {

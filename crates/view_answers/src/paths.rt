@@ -75,6 +75,35 @@ fn path_around(sheet: &mut Sheet, node: &SyntaxNode) -> Result<(), AllocError> {
     sheet.node("Path.as_single_name_ref", it.as_single_name_ref())
 }
 
+fn segment_name(sheet: &mut Sheet, name: ast::NameRef) -> Result<(), AllocError> {
+    sheet.word("PathSegment.kind", "Name")?;
+    sheet.node("PathSegment.kind.0", Some(name))
+}
+
+fn segment_type<A: AstNode + Drop, B: AstNode + Drop>(
+    sheet: &mut Sheet,
+    type_ref: Option<A>,
+    trait_ref: Option<B>,
+) -> Result<(), AllocError> {
+    sheet.word("PathSegment.kind", "Ty")?;
+    sheet.node("PathSegment.kind.type_ref", type_ref)?;
+    sheet.node("PathSegment.kind.trait_ref", trait_ref)
+}
+
+fn segment_kind(sheet: &mut Sheet, kind: PathSegmentKind) -> Result<(), AllocError> {
+    match kind {
+        PathSegmentKind::Name(name) => segment_name(sheet, name),
+        PathSegmentKind::Ty {
+            type_ref,
+            trait_ref,
+        } => segment_type(sheet, type_ref, trait_ref),
+        PathSegmentKind::SelfTypeKw => sheet.word("PathSegment.kind", "SelfTypeKw"),
+        PathSegmentKind::SelfKw => sheet.word("PathSegment.kind", "SelfKw"),
+        PathSegmentKind::SuperKw => sheet.word("PathSegment.kind", "SuperKw"),
+        PathSegmentKind::CrateKw => sheet.word("PathSegment.kind", "CrateKw"),
+    }
+}
+
 fn segment(sheet: &mut Sheet, node: &SyntaxNode) -> Result<(), AllocError> {
     let Some(it) = cast_ref::<ast::PathSegment>(node) else {
         return Ok(());
@@ -82,24 +111,7 @@ fn segment(sheet: &mut Sheet, node: &SyntaxNode) -> Result<(), AllocError> {
     sheet.node("PathSegment.parent_path", it.parent_path())?;
     sheet.node("PathSegment.qualifying_trait", it.qualifying_trait())?;
     match it.kind() {
-        Some(PathSegmentKind::Name(name)) => {
-            sheet.word("PathSegment.kind", "Name")?;
-            sheet.node("PathSegment.kind.0", Some(name))
-        }
-        Some(
-            PathSegmentKind::Ty {
-                type_ref,
-                trait_ref,
-            },
-        ) => {
-            sheet.word("PathSegment.kind", "Ty")?;
-            sheet.node("PathSegment.kind.type_ref", type_ref)?;
-            sheet.node("PathSegment.kind.trait_ref", trait_ref)
-        }
-        Some(PathSegmentKind::SelfTypeKw) => sheet.word("PathSegment.kind", "SelfTypeKw"),
-        Some(PathSegmentKind::SelfKw) => sheet.word("PathSegment.kind", "SelfKw"),
-        Some(PathSegmentKind::SuperKw) => sheet.word("PathSegment.kind", "SuperKw"),
-        Some(PathSegmentKind::CrateKw) => sheet.word("PathSegment.kind", "CrateKw"),
+        Some(kind) => segment_kind(sheet, kind),
         None => sheet.word("PathSegment.kind", "-"),
     }
 }

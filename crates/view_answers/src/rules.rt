@@ -6,10 +6,15 @@ use std::alloc::AllocError;
 
 /// Prints what the rules over nodes answer of a node.
 pub fn answers(sheet: &mut Sheet, node: &SyntaxNode) -> Result<(), AllocError> {
-    if let Some(it) = cast_ref::<ast::Expr>(node) {
-        expr(sheet, node, &it)?;
-    }
+    any_expr(sheet, node)?;
     type_parens(sheet, node)
+}
+
+fn any_expr(sheet: &mut Sheet, node: &SyntaxNode) -> Result<(), AllocError> {
+    match cast_ref::<ast::Expr>(node) {
+        Some(it) => expr(sheet, node, &it),
+        None => Ok(()),
+    }
 }
 
 fn expr(sheet: &mut Sheet, node: &SyntaxNode, it: &ast::Expr) -> Result<(), AllocError> {
@@ -48,11 +53,19 @@ fn parens(
 }
 
 fn type_parens(sheet: &mut Sheet, node: &SyntaxNode) -> Result<(), AllocError> {
-    let Some(it) = cast_ref::<ast::Type>(node) else {
-        return Ok(());
-    };
     match node.parent() {
-        Some(parent) => sheet.flag("Type.needs_parens_in", it.needs_parens_in(&parent)),
+        Some(parent) => type_parens_in(sheet, node, &parent),
+        None => Ok(()),
+    }
+}
+
+fn type_parens_in(
+    sheet: &mut Sheet,
+    node: &SyntaxNode,
+    parent: &SyntaxNode,
+) -> Result<(), AllocError> {
+    match cast_ref::<ast::Type>(node) {
+        Some(it) => sheet.flag("Type.needs_parens_in", it.needs_parens_in(parent)),
         None => Ok(()),
     }
 }
