@@ -3,8 +3,8 @@
 use crate::edits::{Change, File, edited};
 use crate::stopped::Stopped;
 use ra_ap_syntax::{
-    Edition, FrontEnd, NodeOrToken, SourceFile, Step, SyntaxNode, SyntaxTreeBuilder, TextRange,
-    TextSize,
+    Edition, FrontEnd, NodeOrToken, SourceFile, Step, SyntaxElement, SyntaxNode, SyntaxToken,
+    SyntaxTreeBuilder, TextRange, TextSize,
 };
 use std::alloc::Global;
 use std::fmt::Write;
@@ -60,6 +60,60 @@ fn read_alone<F: FrontEnd>(
     Ok(Some(builder.finish()?.syntax_node()))
 }
 
+// Whether a token is the one that its text is alone.
+fn is_single<F: FrontEnd>(alloc: Global, front: &F, token: &SyntaxToken) -> Result<bool, Stopped> {
+    let single = front.single_token(alloc, token.text(), Edition::CURRENT)?;
+    Ok(single.map(|(kind, _error)| kind) == Some(token.kind()))
+}
+
+// Whether a node is what the front end reads alone; `None` where it may not be read alone.
+fn is_as_read_alone<F: FrontEnd>(
+    alloc: Global,
+    front: &F,
+    node: &SyntaxNode,
+) -> Result<Option<bool>, Stopped> {
+    match read_alone(alloc, front, node)? {
+        Some(alone) => Ok(Some(node.clone_subtree(alloc)? == alone)),
+        None => Ok(None),
+    }
+}
+
+// The same of a node with a range; `None` also where its range is another.
+fn is_as_read_over<F: FrontEnd>(
+    alloc: Global,
+    front: &F,
+    node: &SyntaxNode,
+    range: TextRange,
+) -> Result<Option<bool>, Stopped> {
+    if node.text_range() == range {
+        is_as_read_alone(alloc, front, node)
+    } else {
+        Ok(None)
+    }
+}
+
+// Whether the first node with a range, from an element up, that may be read alone is what the front end reads.
+fn is_node_piece<F: FrontEnd>(
+    alloc: Global,
+    front: &F,
+    covering: &SyntaxElement,
+    range: TextRange,
+) -> Result<bool, Stopped> {
+    for node in covering.ancestors() {
+        if let Some(right) = is_as_read_over(alloc, front, &node, range)? {
+            return Ok(right);
+        }
+    }
+    Ok(false)
+}
+
+fn token_with_range(element: &SyntaxElement, range: TextRange) -> Option<&SyntaxToken> {
+    match element {
+        NodeOrToken::Token(token) if token.text_range() == range => Some(token),
+        _ => None,
+    }
+}
+
 // Whether the tree's token with a range is the one that its text is alone, or a node there what the front end reads alone.
 fn is_piece<F: FrontEnd>(
     alloc: Global,
@@ -68,20 +122,10 @@ fn is_piece<F: FrontEnd>(
     range: TextRange,
 ) -> Result<bool, Stopped> {
     let covering = root.covering_element(range);
-    if let NodeOrToken::Token(token) = &covering {
-        if token.text_range() == range {
-            let single = front.single_token(alloc, token.text(), Edition::CURRENT)?;
-            return Ok(single.map(|(kind, _error)| kind) == Some(token.kind()));
-        }
+    match token_with_range(&covering, range) {
+        Some(token) => is_single(alloc, front, token),
+        None => is_node_piece(alloc, front, &covering, range),
     }
-    for node in covering.ancestors() {
-        if node.text_range() == range {
-            if let Some(alone) = read_alone(alloc, front, &node)? {
-                return Ok(node.clone_subtree(alloc)? == alone);
-            }
-        }
-    }
-    Ok(false)
 }
 
 // Where what was read anew stands now.
@@ -96,6 +140,67 @@ fn new_range(old: &SyntaxNode, new: &SyntaxNode, replaced: TextRange) -> TextRan
     TextRange::new(TextSize::new(start), TextSize::new(end))
 }
 
+// Whether the text after an edit is the one that is made plainly.
+fn is_spliced(
+    alloc: Global,
+    before: &SyntaxNode,
+    after: &SyntaxNode,
+    change: Change,
+) -> Result<bool, Stopped> {
+    let expected = spliced(alloc, before.as_str(), change)?;
+    Ok(after.as_str() == expected.as_str())
+}
+
+// Whether what was read anew in place of a range is right.
+fn is_right_piece<F: FrontEnd>(
+    alloc: Global,
+    front: &F,
+    old: &File,
+    new: &File,
+    replaced: TextRange,
+) -> Result<bool, Stopped> {
+    let before = old.syntax_node();
+    let after = new.syntax_node();
+    is_piece(alloc, front, &after, new_range(&before, &after, replaced))
+}
+
+// Whether an edit keeps the text and the errors right.
+fn is_right_file(alloc: Global, old: &File, new: &File, change: Change) -> Result<bool, Stopped> {
+    Ok(
+        is_spliced(alloc, &old.syntax_node(), &new.syntax_node(), change)?
+            && errors_lie(alloc, new)?,
+    )
+}
+
+// Whether an edit keeps the text, the errors and the piece right.
+fn is_right_edit<F: FrontEnd>(
+    alloc: Global,
+    front: &F,
+    old: &File,
+    change: Change,
+    new: &File,
+    piece: Option<TextRange>,
+) -> Result<bool, Stopped> {
+    let right = is_right_file(alloc, old, new, change)?;
+    match piece {
+        Some(replaced) => Ok(is_right_piece(alloc, front, old, new, replaced)? && right),
+        None => Ok(right),
+    }
+}
+
+// Whether an edit is right, and whether it reads a piece.
+fn judged<F: FrontEnd>(
+    alloc: Global,
+    front: &F,
+    old: &File,
+    change: Change,
+    new: &File,
+    piece: Option<TextRange>,
+) -> Result<(bool, bool), Stopped> {
+    let right = is_right_edit(alloc, front, old, change, new, piece)?;
+    Ok((right, piece.is_some()))
+}
+
 // Whether an edit keeps the text, the errors and the piece right; and whether it reads a piece.
 fn try_edit<F: FrontEnd>(
     alloc: Global,
@@ -103,17 +208,90 @@ fn try_edit<F: FrontEnd>(
     old: &File,
     change: Change,
 ) -> Result<(bool, bool), Stopped> {
-    let Some((new, piece)) = edited(alloc, front, old, change)? else {
-        return Ok((false, false));
-    };
-    let (before, after) = (old.syntax_node(), new.syntax_node());
-    let expected = spliced(alloc, before.as_str(), change)?;
-    let mut right = after.as_str() == expected.as_str() && errors_lie(alloc, &new)?;
-    if let Some(replaced) = piece {
-        let range = new_range(&before, &after, replaced);
-        right = is_piece(alloc, front, &after, range)? && right;
+    let found = edited(alloc, front, old, change)?;
+    match &found {
+        Some((new, piece)) => judged(alloc, front, old, change, new, *piece),
+        None => Ok((false, false)),
     }
-    Ok((right, piece.is_some()))
+}
+
+// How many edits were tried, and how many of them read a piece.
+#[derive(Clone, Copy)]
+struct Tried {
+    edits: u32,
+    pieces: u32,
+}
+
+fn show_wrong(out: &mut String, change: Change) -> Result<(), Stopped> {
+    let (start, end, insert) = (change.start, change.end, change.insert);
+    Ok(writeln!(out, "wrong: {start} {end} {insert:?}")?)
+}
+
+fn show_try<F: FrontEnd>(
+    alloc: Global,
+    out: &mut String,
+    front: &F,
+    old: &File,
+    tried: &mut Tried,
+    change: Change,
+) -> Result<(), Stopped> {
+    let (right, piece) = try_edit(alloc, front, old, change)?;
+    tried.edits = tried.edits.saturating_add(1);
+    tried.pieces = tried.pieces.saturating_add(piece as u32);
+    if right {
+        Ok(())
+    } else {
+        show_wrong(out, change)
+    }
+}
+
+// A range, edited with each of the insertions.
+fn show_inserts<F: FrontEnd>(
+    alloc: Global,
+    out: &mut String,
+    front: &F,
+    old: &File,
+    tried: &mut Tried,
+    start: u32,
+    end: u32,
+) -> Result<(), Stopped> {
+    for insert in INSERTS {
+        show_try(alloc, out, front, old, tried, Change { start, end, insert })?;
+    }
+    Ok(())
+}
+
+// The ranges from an offset to each that is not before it.
+fn show_ends<F: FrontEnd>(
+    alloc: Global,
+    out: &mut String,
+    front: &F,
+    old: &File,
+    tried: &mut Tried,
+    start: u32,
+    behind: u32,
+) -> Result<(), Stopped> {
+    for end in start..behind {
+        show_inserts(alloc, out, front, old, tried, start, end)?;
+    }
+    Ok(())
+}
+
+fn show_edits<F: FrontEnd>(
+    alloc: Global,
+    out: &mut String,
+    front: &F,
+    old: &File,
+) -> Result<(), Stopped> {
+    let behind = old.syntax_node().text_range().end().raw().saturating_add(1);
+    let mut tried = Tried {
+        edits: 0,
+        pieces: 0,
+    };
+    for start in 0..behind {
+        show_ends(alloc, out, front, old, &mut tried, start, behind)?;
+    }
+    Ok(writeln!(out, "edits {}, pieces {}", tried.edits, tried.pieces)?)
 }
 
 /// Each range of a text, edited with each of five insertions.
@@ -124,20 +302,5 @@ pub fn show_every_edit<F: FrontEnd>(
     text: &str,
 ) -> Result<(), Stopped> {
     let old = SourceFile::parse(alloc, text, front, Edition::CURRENT)?;
-    let behind = old.syntax_node().text_range().end().raw().saturating_add(1);
-    let mut edits: u32 = 0;
-    let mut pieces: u32 = 0;
-    for start in 0..behind {
-        for end in start..behind {
-            for insert in INSERTS {
-                let (right, piece) = try_edit(alloc, front, &old, Change { start, end, insert })?;
-                edits = edits.saturating_add(1);
-                pieces = pieces.saturating_add(piece as u32);
-                if !right {
-                    writeln!(out, "wrong: {start} {end} {insert:?}")?;
-                }
-            }
-        }
-    }
-    Ok(writeln!(out, "edits {edits}, pieces {pieces}")?)
+    show_edits(alloc, out, front, &old)
 }

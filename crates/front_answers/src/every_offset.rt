@@ -25,6 +25,35 @@ fn nodes_above(token: &SyntaxToken) -> usize {
     count
 }
 
+fn touches(token: &SyntaxToken, offset: u32) -> bool {
+    let range = token.text_range();
+    !range.is_empty() && range.start().raw() <= offset && offset <= range.end().raw()
+}
+
+fn add_token(found: &mut Touching, token: SyntaxToken) -> Result<(), Stopped> {
+    found.above = found.above.saturating_add(nodes_above(&token));
+    if found.first.is_none() {
+        found.first = Some(token.clone()?);
+    }
+    found.last = Some(token);
+    Ok(())
+}
+
+fn add_if_touching(found: &mut Touching, token: SyntaxToken, offset: u32) -> Result<(), Stopped> {
+    if touches(&token, offset) {
+        add_token(found, token)
+    } else {
+        Ok(())
+    }
+}
+
+fn add_element(found: &mut Touching, element: SyntaxElement, offset: u32) -> Result<(), Stopped> {
+    match element {
+        NodeOrToken::Token(token) => add_if_touching(found, token, offset),
+        NodeOrToken::Node(_node) => Ok(()),
+    }
+}
+
 fn tokens_touching(root: &SyntaxNode, offset: u32) -> Result<Touching, Stopped> {
     let mut found = Touching {
         first: None,
@@ -32,28 +61,21 @@ fn tokens_touching(root: &SyntaxNode, offset: u32) -> Result<Touching, Stopped> 
         above: 0,
     };
     for element in root.descendants_with_tokens() {
-        if let NodeOrToken::Token(token) = element {
-            let range = token.text_range();
-            if !range.is_empty() && range.start().raw() <= offset && offset <= range.end().raw() {
-                found.above = found.above.saturating_add(nodes_above(&token));
-                if found.first.is_none() {
-                    found.first = Some(token.clone()?);
-                }
-                found.last = Some(token);
-            }
-        }
+        add_element(&mut found, element, offset)?;
     }
     Ok(found)
 }
 
-// Whether the tree answers at an offset as a look at all of its tokens does.
-fn is_right_at(root: &SyntaxNode, offset: u32) -> Result<bool, Stopped> {
-    let wanted = tokens_touching(root, offset)?;
-    let at = TextSize::new(offset);
-    let tokens = root.token_at_offset(at).left_biased() == wanted.first
-        && root.token_at_offset(at).right_biased() == wanted.last;
+// Whether the tree answers the first and the last token at an offset.
+fn are_tokens_at(root: &SyntaxNode, at: TextSize, wanted: &Touching) -> bool {
+    root.token_at_offset(at).left_biased() == wanted.first
+        && root.token_at_offset(at).right_biased() == wanted.last
+}
+
+// Whether the nodes above an offset are so many, touch it, and come from the shortest to the longest.
+fn are_nodes_above(root: &SyntaxNode, offset: u32, wanted: usize) -> bool {
     let (mut above, mut len, mut ordered) = (0_usize, 0_u32, true);
-    for node in ancestors_at_offset(root, at) {
+    for node in ancestors_at_offset(root, TextSize::new(offset)) {
         let range = node.text_range();
         ordered = ordered
             && len <= range.len().raw()
@@ -62,7 +84,15 @@ fn is_right_at(root: &SyntaxNode, offset: u32) -> Result<bool, Stopped> {
         len = range.len().raw();
         above = above.saturating_add(1);
     }
-    Ok(tokens && ordered && above == wanted.above)
+    ordered && above == wanted
+}
+
+// Whether the tree answers at an offset as a look at all of its tokens does.
+fn is_right_at(root: &SyntaxNode, offset: u32) -> Result<bool, Stopped> {
+    let wanted = tokens_touching(root, offset)?;
+    let tokens = are_tokens_at(root, TextSize::new(offset), &wanted);
+    let nodes = are_nodes_above(root, offset, wanted.above);
+    Ok(tokens && nodes)
 }
 
 // Whether a child is where the search for what covers a range goes on: it holds the range, an empty one strictly inside.
@@ -106,6 +136,53 @@ fn covering(root: &SyntaxNode, range: TextRange) -> Result<SyntaxElement, Stoppe
     Ok(NodeOrToken::Node(here))
 }
 
+fn show_offset(out: &mut String, root: &SyntaxNode, offset: u32) -> Result<(), Stopped> {
+    if !is_right_at(root, offset)? {
+        writeln!(out, "wrong: {offset}")?;
+    }
+    Ok(())
+}
+
+// Whether the tree answers what covers a range as the search step by step does.
+fn is_right_over(root: &SyntaxNode, range: TextRange) -> Result<bool, Stopped> {
+    let covering = covering(root, range)?;
+    Ok(root.covering_element(range) == covering)
+}
+
+fn show_range(out: &mut String, root: &SyntaxNode, range: TextRange) -> Result<(), Stopped> {
+    if !is_right_over(root, range)? {
+        writeln!(out, "wrong: {range}")?;
+    }
+    Ok(())
+}
+
+// The ranges from an offset to each that is not before it; how many there are.
+fn show_ranges(
+    out: &mut String,
+    root: &SyntaxNode,
+    start: u32,
+    behind: u32,
+) -> Result<u32, Stopped> {
+    let mut ranges = 0_u32;
+    for end in start..behind {
+        let range = TextRange::new(TextSize::new(start), TextSize::new(end));
+        ranges = ranges.saturating_add(1);
+        show_range(out, root, range)?;
+    }
+    Ok(ranges)
+}
+
+fn show_offsets(out: &mut String, root: &SyntaxNode) -> Result<(), Stopped> {
+    let behind = root.text_range().end().raw().saturating_add(1);
+    let (mut offsets, mut ranges) = (0_u32, 0_u32);
+    for start in 0..behind {
+        offsets = offsets.saturating_add(1);
+        show_offset(out, root, start)?;
+        ranges = ranges.saturating_add(show_ranges(out, root, start, behind)?);
+    }
+    Ok(writeln!(out, "offsets {offsets}, ranges {ranges}")?)
+}
+
 /// Each offset and each range of a text.
 pub fn show_every_offset<F: FrontEnd>(
     alloc: Global,
@@ -114,21 +191,5 @@ pub fn show_every_offset<F: FrontEnd>(
     text: &str,
 ) -> Result<(), Stopped> {
     let file = SourceFile::parse(alloc, text, front, Edition::CURRENT)?;
-    let root = file.syntax_node();
-    let behind = root.text_range().end().raw().saturating_add(1);
-    let (mut offsets, mut ranges) = (0_u32, 0_u32);
-    for start in 0..behind {
-        offsets = offsets.saturating_add(1);
-        if !is_right_at(&root, start)? {
-            writeln!(out, "wrong: {start}")?;
-        }
-        for end in start..behind {
-            let range = TextRange::new(TextSize::new(start), TextSize::new(end));
-            ranges = ranges.saturating_add(1);
-            if root.covering_element(range) != covering(&root, range)? {
-                writeln!(out, "wrong: {range}")?;
-            }
-        }
-    }
-    Ok(writeln!(out, "offsets {offsets}, ranges {ranges}")?)
+    show_offsets(out, &file.syntax_node())
 }

@@ -39,15 +39,19 @@ use tiny_front::Tiny;
 use useless_fronts::Useless;
 use walk::show_walk;
 
+fn show_written(out: &mut String, written: &[u8]) -> Result<(), Stopped> {
+    match std::str::from_utf8(written) {
+        Ok(text) => Ok(out.push_str(text)?),
+        Err(_) => Ok(out.push_str("no text\n")?),
+    }
+}
+
 // What the program writes for an input.
 fn show_run(alloc: Global, out: &mut String, command: &str, input: &[u8]) -> Result<(), Stopped> {
     let mut reader = input;
     let mut written: Vec<u8> = Vec::new(alloc);
     let status = syntax_tool::run(alloc, &mut reader, &mut written, command);
-    match std::str::from_utf8(written.as_slice()) {
-        Ok(text) => out.push_str(text)?,
-        Err(_) => out.push_str("no text\n")?,
-    }
+    show_written(out, written.as_slice())?;
     Ok(writeln!(out, "status {status}")?)
 }
 
