@@ -14,13 +14,18 @@ pub fn answers(sheet: &mut Sheet, node: &SyntaxNode) -> Result<(), AllocError> {
     binary(sheet, node)?;
     range_expr(sheet, node)?;
     range_pat(sheet, node)?;
+    answers_from_places(sheet, node)
+}
+
+fn answers_from_places(sheet: &mut Sheet, node: &SyntaxNode) -> Result<(), AllocError> {
     places(sheet, node)?;
     array(sheet, node)?;
     literal(sheet, node)?;
     block(sheet, node)?;
     arguments(sheet, node)?;
     field(sheet, node)?;
-    record_field(sheet, node)
+    record_field(sheet, node)?;
+    name_ref_in_record_field(sheet, node)
 }
 
 fn expr(sheet: &mut Sheet, node: &SyntaxNode) -> Result<(), AllocError> {
@@ -38,33 +43,50 @@ fn callable_expr(sheet: &mut Sheet, node: &SyntaxNode) -> Result<(), AllocError>
     }
 }
 
+fn else_branch(sheet: &mut Sheet, found: &Option<ast::ElseBranch>) -> Result<(), AllocError> {
+    let variant = match found {
+        Some(ast::ElseBranch::Block(_)) => "Block",
+        Some(ast::ElseBranch::IfExpr(_)) => "IfExpr",
+        None => "-",
+    };
+    sheet.word("IfExpr.else_branch", variant)
+}
+
 fn branches(sheet: &mut Sheet, node: &SyntaxNode) -> Result<(), AllocError> {
     let Some(it) = cast_ref::<ast::IfExpr>(node) else {
         return Ok(());
     };
     sheet.node("IfExpr.condition", it.condition())?;
     sheet.node("IfExpr.then_branch", it.then_branch())?;
-    let branch = it.else_branch();
-    let variant = match &branch {
-        Some(ast::ElseBranch::Block(_)) => "Block",
-        Some(ast::ElseBranch::IfExpr(_)) => "IfExpr",
-        None => "-",
-    };
-    sheet.word("IfExpr.else_branch", variant)?;
-    sheet.node("IfExpr.else_branch.0", branch)
+    else_branch(sheet, &it.else_branch())?;
+    sheet.node("IfExpr.else_branch.0", it.else_branch())
 }
 
 fn loops(sheet: &mut Sheet, node: &SyntaxNode) -> Result<(), AllocError> {
-    if let Some(it) = cast_ref::<ast::WhileExpr>(node) {
-        sheet.node("WhileExpr.condition", it.condition())?;
+    while_expr(sheet, node)?;
+    for_expr(sheet, node)?;
+    match_arm(sheet, node)
+}
+
+fn while_expr(sheet: &mut Sheet, node: &SyntaxNode) -> Result<(), AllocError> {
+    match cast_ref::<ast::WhileExpr>(node) {
+        Some(it) => sheet.node("WhileExpr.condition", it.condition()),
+        None => Ok(()),
     }
-    if let Some(it) = cast_ref::<ast::ForExpr>(node) {
-        sheet.node("ForExpr.iterable", it.iterable())?;
+}
+
+fn for_expr(sheet: &mut Sheet, node: &SyntaxNode) -> Result<(), AllocError> {
+    match cast_ref::<ast::ForExpr>(node) {
+        Some(it) => sheet.node("ForExpr.iterable", it.iterable()),
+        None => Ok(()),
     }
-    if let Some(it) = cast_ref::<ast::MatchArm>(node) {
-        sheet.node("MatchArm.parent_match", it.parent_match())?;
+}
+
+fn match_arm(sheet: &mut Sheet, node: &SyntaxNode) -> Result<(), AllocError> {
+    match cast_ref::<ast::MatchArm>(node) {
+        Some(it) => sheet.node("MatchArm.parent_match", it.parent_match()),
+        None => Ok(()),
     }
-    Ok(())
 }
 
 fn prefix(sheet: &mut Sheet, node: &SyntaxNode) -> Result<(), AllocError> {
@@ -114,25 +136,41 @@ fn binary(sheet: &mut Sheet, node: &SyntaxNode) -> Result<(), AllocError> {
     op_details(sheet, it.op_details())
 }
 
+fn range_expr_ends(sheet: &mut Sheet, it: &ast::RangeExpr) -> Result<(), AllocError> {
+    sheet.node("RangeExpr.start", it.start())?;
+    sheet.node("RangeExpr.end", it.end())
+}
+
+fn range_expr_operator(sheet: &mut Sheet, it: &ast::RangeExpr) -> Result<(), AllocError> {
+    sheet.token("RangeExpr.op_token", it.op_token())?;
+    sheet.value("RangeExpr.op_kind", it.op_kind())?;
+    sheet.flag("RangeExpr.is_range_full", it.is_range_full())
+}
+
 fn range_expr(sheet: &mut Sheet, node: &SyntaxNode) -> Result<(), AllocError> {
     let Some(it) = cast_ref::<ast::RangeExpr>(node) else {
         return Ok(());
     };
-    sheet.node("RangeExpr.start", it.start())?;
-    sheet.node("RangeExpr.end", it.end())?;
-    sheet.token("RangeExpr.op_token", it.op_token())?;
-    sheet.value("RangeExpr.op_kind", it.op_kind())?;
-    sheet.flag("RangeExpr.is_range_full", it.is_range_full())
+    range_expr_ends(sheet, &it)?;
+    range_expr_operator(sheet, &it)
+}
+
+fn range_pat_ends(sheet: &mut Sheet, it: &ast::RangePat) -> Result<(), AllocError> {
+    sheet.node("RangePat.start", it.start())?;
+    sheet.node("RangePat.end", it.end())
+}
+
+fn range_pat_operator(sheet: &mut Sheet, it: &ast::RangePat) -> Result<(), AllocError> {
+    sheet.token("RangePat.op_token", it.op_token())?;
+    sheet.value("RangePat.op_kind", it.op_kind())
 }
 
 fn range_pat(sheet: &mut Sheet, node: &SyntaxNode) -> Result<(), AllocError> {
     let Some(it) = cast_ref::<ast::RangePat>(node) else {
         return Ok(());
     };
-    sheet.node("RangePat.start", it.start())?;
-    sheet.node("RangePat.end", it.end())?;
-    sheet.token("RangePat.op_token", it.op_token())?;
-    sheet.value("RangePat.op_kind", it.op_kind())
+    range_pat_ends(sheet, &it)?;
+    range_pat_operator(sheet, &it)
 }
 
 fn places(sheet: &mut Sheet, node: &SyntaxNode) -> Result<(), AllocError> {
@@ -175,12 +213,8 @@ fn array(sheet: &mut Sheet, node: &SyntaxNode) -> Result<(), AllocError> {
     }
 }
 
-fn literal(sheet: &mut Sheet, node: &SyntaxNode) -> Result<(), AllocError> {
-    let Some(it) = cast_ref::<ast::Literal>(node) else {
-        return Ok(());
-    };
-    sheet.token("Literal.token", it.token())?;
-    let kind = match it.kind() {
+fn literal_kind(sheet: &mut Sheet, found: Option<ast::LiteralKind>) -> Result<(), AllocError> {
+    let kind = match found {
         Some(ast::LiteralKind::String(_)) => "String",
         Some(ast::LiteralKind::ByteString(_)) => "ByteString",
         Some(ast::LiteralKind::CString(_)) => "CString",
@@ -193,6 +227,14 @@ fn literal(sheet: &mut Sheet, node: &SyntaxNode) -> Result<(), AllocError> {
         None => "-",
     };
     sheet.word("Literal.kind", kind)
+}
+
+fn literal(sheet: &mut Sheet, node: &SyntaxNode) -> Result<(), AllocError> {
+    let Some(it) = cast_ref::<ast::Literal>(node) else {
+        return Ok(());
+    };
+    sheet.token("Literal.token", it.token())?;
+    literal_kind(sheet, it.kind())
 }
 
 fn modifier(sheet: &mut Sheet, name: &str, token: SyntaxToken) -> Result<(), AllocError> {
@@ -239,6 +281,11 @@ fn block_modifier(sheet: &mut Sheet, it: &ast::BlockExpr) -> Result<(), AllocErr
     }
 }
 
+fn block_statements(sheet: &mut Sheet, it: &ast::BlockExpr) -> Result<(), AllocError> {
+    sheet.nodes("BlockExpr.statements", it.statements())?;
+    sheet.node("BlockExpr.tail_expr", it.tail_expr())
+}
+
 fn block(sheet: &mut Sheet, node: &SyntaxNode) -> Result<(), AllocError> {
     let Some(it) = cast_ref::<ast::BlockExpr>(node) else {
         return Ok(());
@@ -246,8 +293,7 @@ fn block(sheet: &mut Sheet, node: &SyntaxNode) -> Result<(), AllocError> {
     block_modifier(sheet, &it)?;
     sheet.flag("BlockExpr.is_standalone", it.is_standalone())?;
     sheet.flag("BlockExpr.may_carry_attributes", it.may_carry_attributes())?;
-    sheet.nodes("BlockExpr.statements", it.statements())?;
-    sheet.node("BlockExpr.tail_expr", it.tail_expr())
+    block_statements(sheet, &it)
 }
 
 fn arguments(sheet: &mut Sheet, node: &SyntaxNode) -> Result<(), AllocError> {
@@ -257,34 +303,46 @@ fn arguments(sheet: &mut Sheet, node: &SyntaxNode) -> Result<(), AllocError> {
     }
 }
 
+fn field_name(sheet: &mut Sheet, name: ast::NameRef) -> Result<(), AllocError> {
+    sheet.word("FieldExpr.field_access", "Name")?;
+    sheet.node("FieldExpr.field_access.0", Some(name))
+}
+
+fn field_index(sheet: &mut Sheet, token: SyntaxToken) -> Result<(), AllocError> {
+    sheet.word("FieldExpr.field_access", "Index")?;
+    sheet.token("FieldExpr.field_access.0", Some(token))
+}
+
+fn field_access(sheet: &mut Sheet, found: Option<ast::FieldKind>) -> Result<(), AllocError> {
+    match found {
+        Some(ast::FieldKind::Name(name)) => field_name(sheet, name),
+        Some(ast::FieldKind::Index(token)) => field_index(sheet, token),
+        None => sheet.word("FieldExpr.field_access", "-"),
+    }
+}
+
 fn field(sheet: &mut Sheet, node: &SyntaxNode) -> Result<(), AllocError> {
     let Some(it) = cast_ref::<ast::FieldExpr>(node) else {
         return Ok(());
     };
     sheet.token("FieldExpr.index_token", it.index_token())?;
-    match it.field_access() {
-        Some(ast::FieldKind::Name(name)) => {
-            sheet.word("FieldExpr.field_access", "Name")?;
-            sheet.node("FieldExpr.field_access.0", Some(name))
-        }
-        Some(ast::FieldKind::Index(token)) => {
-            sheet.word("FieldExpr.field_access", "Index")?;
-            sheet.token("FieldExpr.field_access.0", Some(token))
-        }
-        None => sheet.word("FieldExpr.field_access", "-"),
-    }
+    field_access(sheet, it.field_access())
 }
 
 fn record_field(sheet: &mut Sheet, node: &SyntaxNode) -> Result<(), AllocError> {
-    if let Some(it) = cast_ref::<ast::RecordExprField>(node) {
-        sheet.node("RecordExprField.field_name", it.field_name())?;
-        sheet.node("RecordExprField.parent_record_lit", it.parent_record_lit())?;
-    }
-    if let Some(it) = cast_ref::<ast::NameRef>(node) {
-        let around = ast::RecordExprField::for_name_ref(&it);
-        sheet.node("RecordExprField.for_name_ref", around)?;
-        let named = ast::RecordExprField::for_field_name(&it);
-        sheet.node("RecordExprField.for_field_name", named)?;
-    }
-    Ok(())
+    let Some(it) = cast_ref::<ast::RecordExprField>(node) else {
+        return Ok(());
+    };
+    sheet.node("RecordExprField.field_name", it.field_name())?;
+    sheet.node("RecordExprField.parent_record_lit", it.parent_record_lit())
+}
+
+fn name_ref_in_record_field(sheet: &mut Sheet, node: &SyntaxNode) -> Result<(), AllocError> {
+    let Some(it) = cast_ref::<ast::NameRef>(node) else {
+        return Ok(());
+    };
+    let around = ast::RecordExprField::for_name_ref(&it);
+    sheet.node("RecordExprField.for_name_ref", around)?;
+    let named = ast::RecordExprField::for_field_name(&it);
+    sheet.node("RecordExprField.for_field_name", named)
 }

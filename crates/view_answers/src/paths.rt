@@ -18,21 +18,39 @@ pub fn answers(sheet: &mut Sheet, node: &SyntaxNode) -> Result<(), AllocError> {
 }
 
 fn names(sheet: &mut Sheet, node: &SyntaxNode) -> Result<(), AllocError> {
-    if let Some(it) = cast_ref::<ast::Name>(node) {
-        sheet.text("Name.text", it.text())?;
+    name(sheet, node)?;
+    lifetime(sheet, node)?;
+    name_or_name_ref(sheet, node)
+}
+
+fn name(sheet: &mut Sheet, node: &SyntaxNode) -> Result<(), AllocError> {
+    match cast_ref::<ast::Name>(node) {
+        Some(it) => sheet.text("Name.text", it.text()),
+        None => Ok(()),
     }
-    if let Some(it) = cast_ref::<ast::Lifetime>(node) {
-        sheet.text("Lifetime.text", it.text())?;
+}
+
+fn lifetime(sheet: &mut Sheet, node: &SyntaxNode) -> Result<(), AllocError> {
+    match cast_ref::<ast::Lifetime>(node) {
+        Some(it) => sheet.text("Lifetime.text", it.text()),
+        None => Ok(()),
     }
-    if let Some(it) = cast_ref::<NameOrNameRef>(node) {
-        let variant = match &it {
-            NameOrNameRef::Name(_) => "Name",
-            NameOrNameRef::NameRef(_) => "NameRef",
-        };
-        sheet.word("NameOrNameRef", variant)?;
-        sheet.text("NameOrNameRef.text", it.text())?;
+}
+
+fn name_or_name_ref(sheet: &mut Sheet, node: &SyntaxNode) -> Result<(), AllocError> {
+    match cast_ref::<NameOrNameRef>(node) {
+        Some(it) => either_name(sheet, &it),
+        None => Ok(()),
     }
-    Ok(())
+}
+
+fn either_name(sheet: &mut Sheet, it: &NameOrNameRef) -> Result<(), AllocError> {
+    let variant = match it {
+        NameOrNameRef::Name(_) => "Name",
+        NameOrNameRef::NameRef(_) => "NameRef",
+    };
+    sheet.word("NameOrNameRef", variant)?;
+    sheet.text("NameOrNameRef.text", it.text())
 }
 
 fn name_ref(sheet: &mut Sheet, node: &SyntaxNode) -> Result<(), AllocError> {
@@ -45,9 +63,13 @@ fn name_ref(sheet: &mut Sheet, node: &SyntaxNode) -> Result<(), AllocError> {
 }
 
 fn name_like(sheet: &mut Sheet, node: &SyntaxNode) -> Result<(), AllocError> {
-    let Some(it) = cast_ref::<NameLike>(node) else {
-        return Ok(());
-    };
+    match cast_ref::<NameLike>(node) {
+        Some(it) => name_like_parts(sheet, &it),
+        None => Ok(()),
+    }
+}
+
+fn name_like_parts(sheet: &mut Sheet, it: &NameLike) -> Result<(), AllocError> {
     sheet.text("NameLike.text", it.text())?;
     sheet.borrowed("NameLike.as_name_ref", it.as_name_ref())?;
     sheet.borrowed("NameLike.as_lifetime", it.as_lifetime())
@@ -59,6 +81,10 @@ fn path(sheet: &mut Sheet, node: &SyntaxNode) -> Result<(), AllocError> {
     };
     sheet.nodes("Path.segments", it.segments())?;
     sheet.nodes("Path.qualifiers", it.qualifiers())?;
+    path_start(sheet, &it)
+}
+
+fn path_start(sheet: &mut Sheet, it: &ast::Path) -> Result<(), AllocError> {
     sheet.node("Path.first_qualifier", it.first_qualifier())?;
     let first = it.first_qualifier_or_self();
     sheet.node("Path.first_qualifier_or_self", Some(first))?;
@@ -127,15 +153,24 @@ fn segment_tokens(sheet: &mut Sheet, node: &SyntaxNode) -> Result<(), AllocError
 }
 
 fn uses(sheet: &mut Sheet, node: &SyntaxNode) -> Result<(), AllocError> {
-    if let Some(it) = cast_ref::<ast::Use>(node) {
-        sheet.flag("Use.is_simple_glob", it.is_simple_glob())?;
+    use_item(sheet, node)?;
+    use_tree(sheet, node)
+}
+
+fn use_item(sheet: &mut Sheet, node: &SyntaxNode) -> Result<(), AllocError> {
+    match cast_ref::<ast::Use>(node) {
+        Some(it) => sheet.flag("Use.is_simple_glob", it.is_simple_glob()),
+        None => Ok(()),
     }
-    if let Some(it) = cast_ref::<ast::UseTree>(node) {
-        sheet.flag("UseTree.is_simple_path", it.is_simple_path())?;
-        sheet.node("UseTree.parent_use_tree_list", it.parent_use_tree_list())?;
-        sheet.node("UseTree.top_use_tree", Some(it.top_use_tree()))?;
-    }
-    Ok(())
+}
+
+fn use_tree(sheet: &mut Sheet, node: &SyntaxNode) -> Result<(), AllocError> {
+    let Some(it) = cast_ref::<ast::UseTree>(node) else {
+        return Ok(());
+    };
+    sheet.flag("UseTree.is_simple_path", it.is_simple_path())?;
+    sheet.node("UseTree.parent_use_tree_list", it.parent_use_tree_list())?;
+    sheet.node("UseTree.top_use_tree", Some(it.top_use_tree()))
 }
 
 fn use_tree_list(sheet: &mut Sheet, node: &SyntaxNode) -> Result<(), AllocError> {

@@ -14,6 +14,10 @@ pub fn answers(sheet: &mut Sheet, node: &SyntaxNode) -> Result<(), AllocError> {
     visibilities(sheet, node)?;
     visibilities_from_struct_item(sheet, node)?;
     loop_parts(sheet, node)?;
+    answers_from_arg_lists(sheet, node)
+}
+
+fn answers_from_arg_lists(sheet: &mut Sheet, node: &SyntaxNode) -> Result<(), AllocError> {
     arg_lists(sheet, node)?;
     module_items(sheet, node)?;
     generic_args(sheet, node)?;
@@ -38,6 +42,10 @@ fn names(sheet: &mut Sheet, node: &SyntaxNode) -> Result<(), AllocError> {
     name_of::<ast::Enum>(sheet, "Enum.name", node)?;
     name_of::<ast::Fn>(sheet, "Fn.name", node)?;
     name_of::<ast::IdentPat>(sheet, "IdentPat.name", node)?;
+    names_from_macro(sheet, node)
+}
+
+fn names_from_macro(sheet: &mut Sheet, node: &SyntaxNode) -> Result<(), AllocError> {
     name_of::<ast::Macro>(sheet, "Macro.name", node)?;
     name_of::<ast::MacroDef>(sheet, "MacroDef.name", node)?;
     name_of::<ast::MacroRules>(sheet, "MacroRules.name", node)?;
@@ -73,6 +81,10 @@ fn visibilities(sheet: &mut Sheet, node: &SyntaxNode) -> Result<(), AllocError> 
     visibility_of::<ast::ExternCrate>(sheet, "ExternCrate.visibility", node)?;
     visibility_of::<ast::Fn>(sheet, "Fn.visibility", node)?;
     visibility_of::<ast::Impl>(sheet, "Impl.visibility", node)?;
+    visibilities_from_macro_def(sheet, node)
+}
+
+fn visibilities_from_macro_def(sheet: &mut Sheet, node: &SyntaxNode) -> Result<(), AllocError> {
     visibility_of::<ast::MacroDef>(sheet, "MacroDef.visibility", node)?;
     visibility_of::<ast::MacroRules>(sheet, "MacroRules.visibility", node)?;
     visibility_of::<ast::Module>(sheet, "Module.visibility", node)?;
@@ -187,6 +199,10 @@ fn type_bounds(sheet: &mut Sheet, node: &SyntaxNode) -> Result<(), AllocError> {
         node,
     )?;
     type_bounds_of::<ast::Trait>(sheet, "Trait.type_bound_list", "Trait.colon_token", node)?;
+    type_bounds_from_type_alias(sheet, node)
+}
+
+fn type_bounds_from_type_alias(sheet: &mut Sheet, node: &SyntaxNode) -> Result<(), AllocError> {
     type_bounds_of::<ast::TypeAlias>(
         sheet,
         "TypeAlias.type_bound_list",

@@ -229,6 +229,18 @@ impl Sheet {
         self.text.push_str(" ]\n")
     }
 
+    /// The same of a call that takes memory for it.
+    pub fn asked_slice<N: AstNode + Drop>(
+        &mut self,
+        call: &str,
+        answer: Result<Vec<N>, AllocError>,
+    ) -> Result<(), AllocError> {
+        match answer {
+            Ok(found) => self.slice(call, found.as_slice()),
+            Err(_) => self.refused(call),
+        }
+    }
+
     /// The answer of a call that gives tokens, in order.
     pub fn tokens<I: Iterator<Item = SyntaxToken> + Drop>(
         &mut self,

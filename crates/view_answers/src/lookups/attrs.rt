@@ -18,6 +18,10 @@ fn from_attr(sheet: &mut Sheet, node: &SyntaxNode) -> Result<(), AllocError> {
     key_value_meta(sheet, node)?;
     lifetime(sheet, node)?;
     name_ref(sheet, node)?;
+    from_path(sheet, node)
+}
+
+fn from_path(sheet: &mut Sheet, node: &SyntaxNode) -> Result<(), AllocError> {
     path(sheet, node)?;
     path_meta(sheet, node)?;
     path_segment(sheet, node)?;

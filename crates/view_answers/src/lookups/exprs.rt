@@ -19,6 +19,10 @@ fn from_arg_list(sheet: &mut Sheet, node: &SyntaxNode) -> Result<(), AllocError>
     become_expr(sheet, node)?;
     block_expr(sheet, node)?;
     break_expr(sheet, node)?;
+    from_call_expr(sheet, node)
+}
+
+fn from_call_expr(sheet: &mut Sheet, node: &SyntaxNode) -> Result<(), AllocError> {
     call_expr(sheet, node)?;
     cast_expr(sheet, node)?;
     closure_expr(sheet, node)?;
@@ -36,6 +40,10 @@ fn from_index_expr(sheet: &mut Sheet, node: &SyntaxNode) -> Result<(), AllocErro
     match_guard(sheet, node)?;
     method_call_expr(sheet, node)?;
     offset_of_expr(sheet, node)?;
+    from_paren_expr(sheet, node)
+}
+
+fn from_paren_expr(sheet: &mut Sheet, node: &SyntaxNode) -> Result<(), AllocError> {
     paren_expr(sheet, node)?;
     path_expr(sheet, node)?;
     prefix_expr(sheet, node)?;
@@ -97,6 +105,10 @@ fn block_expr(sheet: &mut Sheet, node: &SyntaxNode) -> Result<(), AllocError> {
     sheet.token("BlockExpr.async_token", it.async_token())?;
     sheet.token("BlockExpr.const_token", it.const_token())?;
     sheet.token("BlockExpr.gen_token", it.gen_token())?;
+    block_expr_from_label(sheet, &it)
+}
+
+fn block_expr_from_label(sheet: &mut Sheet, it: &ast::BlockExpr) -> Result<(), AllocError> {
     sheet.node("BlockExpr.label", it.label())?;
     sheet.node("BlockExpr.stmt_list", it.stmt_list())?;
     sheet.node("BlockExpr.try_block_modifier", it.try_block_modifier())?;

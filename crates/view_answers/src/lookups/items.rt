@@ -19,6 +19,10 @@ fn from_box_pat(sheet: &mut Sheet, node: &SyntaxNode) -> Result<(), AllocError> 
     fn_item(sheet, node)?;
     fn_ptr_type(sheet, node)?;
     for_binder(sheet, node)?;
+    from_for_type(sheet, node)
+}
+
+fn from_for_type(sheet: &mut Sheet, node: &SyntaxNode) -> Result<(), AllocError> {
     for_type(sheet, node)?;
     generic_arg_list(sheet, node)?;
     generic_param_list(sheet, node)?;
@@ -36,6 +40,10 @@ fn from_param_list(sheet: &mut Sheet, node: &SyntaxNode) -> Result<(), AllocErro
     ref_pat(sheet, node)?;
     ref_type(sheet, node)?;
     ret_type(sheet, node)?;
+    from_self_param(sheet, node)
+}
+
+fn from_self_param(sheet: &mut Sheet, node: &SyntaxNode) -> Result<(), AllocError> {
     self_param(sheet, node)?;
     slice_pat(sheet, node)?;
     static_item(sheet, node)?;
