@@ -2,32 +2,39 @@
 use either::Either;
 use lossless_tree::KINDS;
 use ra_ap_syntax::ast::{self, AstNode, AstToken};
-use ra_ap_syntax::{SyntaxKind, SyntaxNode, TreeBuilder};
+use ra_ap_syntax::{SyntaxElement, SyntaxKind, SyntaxNode, SyntaxToken, TreeBuilder};
 use std::test::Fail;
 
-// A tree whose root holds an empty node of each kind.
-fn a_node_of_each_kind(rt: &HostRuntime) -> Result<SyntaxNode, Fail> {
-    let mut builder = TreeBuilder::new(rt.alloc());
-    builder.start_node(SyntaxKind::OTHER(1))?;
+fn add_nodes(builder: &mut TreeBuilder) -> Result<(), Fail> {
     for kind in &KINDS {
         builder.start_node(*kind)?;
         builder.finish_node()?;
     }
-    builder.start_node(SyntaxKind::OTHER(0))?;
-    builder.finish_node()?;
-    builder.finish_node()?;
-    Ok(builder.finish()?)
+    Ok(())
 }
 
-// A tree whose root holds an empty token of each kind.
-fn a_token_of_each_kind(rt: &HostRuntime) -> Result<SyntaxNode, Fail> {
-    let mut builder = TreeBuilder::new(rt.alloc());
-    builder.start_node(SyntaxKind::OTHER(1))?;
+fn add_tokens(builder: &mut TreeBuilder) -> Result<(), Fail> {
     for kind in &KINDS {
         builder.token(*kind, "")?;
     }
-    builder.token(SyntaxKind::OTHER(0), "")?;
+    Ok(())
+}
+
+// An empty node and an empty token of each kind, and of one that is none of them.
+fn add_all(builder: &mut TreeBuilder) -> Result<(), Fail> {
+    builder.start_node(SyntaxKind::OTHER(1))?;
+    add_nodes(builder)?;
+    builder.start_node(SyntaxKind::OTHER(0))?;
     builder.finish_node()?;
+    add_tokens(builder)?;
+    builder.token(SyntaxKind::OTHER(0), "")?;
+    Ok(builder.finish_node()?)
+}
+
+// A tree whose root holds an empty node and an empty token of each kind.
+fn all_kinds(rt: &HostRuntime) -> Result<SyntaxNode, Fail> {
+    let mut builder = TreeBuilder::new(rt.alloc());
+    add_all(&mut builder)?;
     Ok(builder.finish()?)
 }
 
@@ -39,288 +46,367 @@ fn is_listed(kind: SyntaxKind, names: &str) -> bool {
     }
 }
 
-// An `N` is cast from the nodes of these kinds, and from no other.
-fn cast_from<N: AstNode + Drop>(root: &SyntaxNode, names: &'static str) -> Result<(), Fail> {
-    if !names
+// Each of the names is one of a kind.
+fn are_kinds(names: &str) -> bool {
+    names
         .split(' ')
         .all(|name| SyntaxKind::from_name(name).is_some())
-    {
-        return Err(Fail::from("a name of no kind"));
+}
+
+// A view of the node where its kind is among the names, and none where it is not.
+fn is_view_by_name<N: AstNode + Drop>(view: Option<N>, node: &SyntaxNode, is_named: bool) -> bool {
+    match view {
+        Some(it) => is_named && *it.syntax() == *node,
+        None => !is_named,
     }
+}
+
+fn is_cast_by_name<N: AstNode + Drop>(node: &SyntaxNode, names: &str) -> bool {
+    let is_named = is_listed(node.kind(), names);
+    match node.clone() {
+        Ok(copy) => {
+            N::can_cast(node.kind()) == is_named && is_view_by_name(N::cast(copy), node, is_named)
+        }
+        Err(_) => false,
+    }
+}
+
+fn is_cast_from<N: AstNode + Drop>(root: &SyntaxNode, names: &str) -> bool {
     for node in root.children() {
-        let kind = node.kind();
-        if N::can_cast(kind) != is_listed(kind, names) {
-            return Err(Fail::from(names));
-        }
-        match N::cast(node.clone()?) {
-            Some(it) => {
-                if !is_listed(kind, names) || *it.syntax() != node {
-                    return Err(Fail::from(names));
-                }
-            }
-            None => {
-                if is_listed(kind, names) {
-                    return Err(Fail::from(names));
-                }
-            }
+        if !is_cast_by_name::<N>(&node, names) {
+            return false;
         }
     }
-    Ok(())
+    are_kinds(names)
 }
 
 // The same of tokens.
-fn cast_from_token<T: AstToken + Drop>(root: &SyntaxNode, names: &'static str) -> Result<(), Fail> {
-    for element in root.children_with_tokens() {
-        let token = element.into_token().ok_or("no token")?;
-        let kind = token.kind();
-        if T::can_cast(kind) != is_listed(kind, names) {
-            return Err(Fail::from(names));
+fn is_token_by_name<T: AstToken + Drop>(
+    view: Option<T>,
+    token: &SyntaxToken,
+    is_named: bool,
+) -> bool {
+    match view {
+        Some(it) => is_named && *it.syntax() == *token,
+        None => !is_named,
+    }
+}
+
+fn is_token_cast_by_name<T: AstToken + Drop>(token: &SyntaxToken, names: &str) -> bool {
+    let is_named = is_listed(token.kind(), names);
+    match token.clone() {
+        Ok(copy) => {
+            T::can_cast(token.kind()) == is_named
+                && is_token_by_name(T::cast(copy), token, is_named)
         }
-        match T::cast(token.clone()?) {
-            Some(it) => {
-                if !is_listed(kind, names) || *it.syntax() != token {
-                    return Err(Fail::from(names));
-                }
-            }
-            None => {
-                if is_listed(kind, names) {
-                    return Err(Fail::from(names));
-                }
-            }
+        Err(_) => false,
+    }
+}
+
+fn is_cast_from_tokens<T: AstToken + Drop>(root: &SyntaxNode, names: &str) -> bool {
+    for token in root
+        .children_with_tokens()
+        .filter_map(SyntaxElement::into_token)
+    {
+        if !is_token_cast_by_name::<T>(&token, names) {
+            return false;
         }
     }
-    Ok(())
+    are_kinds(names)
 }
 
-// A quarter of the aliases.
-#[test]
-fn aliases_of_the_first_quarter(rt: HostRuntime) -> Result<(), Fail> {
-    let root = a_node_of_each_kind(&rt)?;
-    cast_from::<ast::ArrayExpr>(&root, "ARRAY_EXPR")?;
-    cast_from::<ast::AsmExpr>(&root, "ASM_EXPR")?;
-    cast_from::<ast::AwaitExpr>(&root, "AWAIT_EXPR")?;
-    cast_from::<ast::BecomeExpr>(&root, "BECOME_EXPR")?;
-    cast_from::<ast::BinExpr>(&root, "BIN_EXPR")?;
-    cast_from::<ast::BlockExpr>(&root, "BLOCK_EXPR")?;
-    cast_from::<ast::BreakExpr>(&root, "BREAK_EXPR")?;
-    cast_from::<ast::CallExpr>(&root, "CALL_EXPR")?;
-    cast_from::<ast::CastExpr>(&root, "CAST_EXPR")?;
-    cast_from::<ast::CfgPredExpr>(&root, "CFG_PRED_EXPR")?;
-    cast_from::<ast::ClosureExpr>(&root, "CLOSURE_EXPR")?;
-    cast_from::<ast::ContinueExpr>(&root, "CONTINUE_EXPR")?;
-    cast_from::<ast::FieldExpr>(&root, "FIELD_EXPR")?;
-    cast_from::<ast::ForExpr>(&root, "FOR_EXPR")?;
-    cast_from::<ast::FormatArgsExpr>(&root, "FORMAT_ARGS_EXPR")?;
-    cast_from::<ast::IfExpr>(&root, "IF_EXPR")?;
-    cast_from::<ast::IncludeBytesExpr>(&root, "INCLUDE_BYTES_EXPR")?;
-    cast_from::<ast::IndexExpr>(&root, "INDEX_EXPR")?;
-    cast_from::<ast::LetExpr>(&root, "LET_EXPR")?;
-    cast_from::<ast::Literal>(&root, "LITERAL")?;
-    cast_from::<ast::LoopExpr>(&root, "LOOP_EXPR")?;
-    cast_from::<ast::MacroExpr>(&root, "MACRO_EXPR")?;
-    cast_from::<ast::MatchExpr>(&root, "MATCH_EXPR")?;
-    cast_from::<ast::MethodCallExpr>(&root, "METHOD_CALL_EXPR")?;
-    cast_from::<ast::OffsetOfExpr>(&root, "OFFSET_OF_EXPR")?;
-    cast_from::<ast::ParenExpr>(&root, "PAREN_EXPR")?;
-    cast_from::<ast::PathExpr>(&root, "PATH_EXPR")?;
-    cast_from::<ast::PrefixExpr>(&root, "PREFIX_EXPR")?;
-    cast_from::<ast::RangeExpr>(&root, "RANGE_EXPR")?;
-    cast_from::<ast::RecordExpr>(&root, "RECORD_EXPR")?;
-    cast_from::<ast::RefExpr>(&root, "REF_EXPR")?;
-    cast_from::<ast::ReturnExpr>(&root, "RETURN_EXPR")?;
-    cast_from::<ast::TryExpr>(&root, "TRY_EXPR")?;
-    cast_from::<ast::TupleExpr>(&root, "TUPLE_EXPR")?;
-    cast_from::<ast::UnderscoreExpr>(&root, "UNDERSCORE_EXPR")?;
-    cast_from::<ast::WhileExpr>(&root, "WHILE_EXPR")?;
-    cast_from::<ast::YeetExpr>(&root, "YEET_EXPR")?;
-    Ok(())
+// What types are cast from, asked of all children of a root; `wrong` names the kinds of a type that answers otherwise.
+#[derive(Drop)]
+struct Casts<'r> {
+    root: &'r SyntaxNode,
+    wrong: Option<&'static str>,
 }
 
-// A quarter of the aliases.
-#[test]
-fn aliases_of_the_second_quarter(rt: HostRuntime) -> Result<(), Fail> {
-    let root = a_node_of_each_kind(&rt)?;
-    cast_from::<ast::YieldExpr>(&root, "YIELD_EXPR")?;
-    cast_from::<ast::ArrayType>(&root, "ARRAY_TYPE")?;
-    cast_from::<ast::DynTraitType>(&root, "DYN_TRAIT_TYPE")?;
-    cast_from::<ast::FnPtrType>(&root, "FN_PTR_TYPE")?;
-    cast_from::<ast::ForType>(&root, "FOR_TYPE")?;
-    cast_from::<ast::ImplTraitType>(&root, "IMPL_TRAIT_TYPE")?;
-    cast_from::<ast::InferType>(&root, "INFER_TYPE")?;
-    cast_from::<ast::MacroType>(&root, "MACRO_TYPE")?;
-    cast_from::<ast::NeverType>(&root, "NEVER_TYPE")?;
-    cast_from::<ast::ParenType>(&root, "PAREN_TYPE")?;
-    cast_from::<ast::PathType>(&root, "PATH_TYPE")?;
-    cast_from::<ast::PtrType>(&root, "PTR_TYPE")?;
-    cast_from::<ast::RefType>(&root, "REF_TYPE")?;
-    cast_from::<ast::SliceType>(&root, "SLICE_TYPE")?;
-    cast_from::<ast::TupleType>(&root, "TUPLE_TYPE")?;
-    cast_from::<ast::BoxPat>(&root, "BOX_PAT")?;
-    cast_from::<ast::ConstBlockPat>(&root, "CONST_BLOCK_PAT")?;
-    cast_from::<ast::IdentPat>(&root, "IDENT_PAT")?;
-    cast_from::<ast::LiteralPat>(&root, "LITERAL_PAT")?;
-    cast_from::<ast::MacroPat>(&root, "MACRO_PAT")?;
-    cast_from::<ast::OrPat>(&root, "OR_PAT")?;
-    cast_from::<ast::ParenPat>(&root, "PAREN_PAT")?;
-    cast_from::<ast::PathPat>(&root, "PATH_PAT")?;
-    cast_from::<ast::RangePat>(&root, "RANGE_PAT")?;
-    cast_from::<ast::RecordPat>(&root, "RECORD_PAT")?;
-    cast_from::<ast::RefPat>(&root, "REF_PAT")?;
-    cast_from::<ast::RestPat>(&root, "REST_PAT")?;
-    cast_from::<ast::SlicePat>(&root, "SLICE_PAT")?;
-    cast_from::<ast::TuplePat>(&root, "TUPLE_PAT")?;
-    cast_from::<ast::TupleStructPat>(&root, "TUPLE_STRUCT_PAT")?;
-    cast_from::<ast::WildcardPat>(&root, "WILDCARD_PAT")?;
-    cast_from::<ast::Const>(&root, "CONST")?;
-    cast_from::<ast::Enum>(&root, "ENUM")?;
-    cast_from::<ast::ExternBlock>(&root, "EXTERN_BLOCK")?;
-    cast_from::<ast::ExternCrate>(&root, "EXTERN_CRATE")?;
-    cast_from::<ast::Fn>(&root, "FN")?;
-    cast_from::<ast::Impl>(&root, "IMPL")?;
-    Ok(())
+impl<'r> Casts<'r> {
+    fn below(root: &'r SyntaxNode) -> Casts<'r> {
+        Casts { root, wrong: None }
+    }
+
+    // An `N` is cast from the nodes of these kinds, and from no other.
+    fn view<N: AstNode + Drop>(&mut self, names: &'static str) {
+        if !is_cast_from::<N>(self.root, names) {
+            self.wrong = Some(names);
+        }
+    }
+
+    // A `T` is cast from the tokens of these kinds, and from no other.
+    fn token<T: AstToken + Drop>(&mut self, names: &'static str) {
+        if !is_cast_from_tokens::<T>(self.root, names) {
+            self.wrong = Some(names);
+        }
+    }
+
+    fn all_hold(&self) -> Result<(), Fail> {
+        match self.wrong {
+            Some(names) => Err(Fail::from(names)),
+            None => Ok(()),
+        }
+    }
 }
 
-// A quarter of the aliases.
 #[test]
-fn aliases_of_the_third_quarter(rt: HostRuntime) -> Result<(), Fail> {
-    let root = a_node_of_each_kind(&rt)?;
-    cast_from::<ast::MacroCall>(&root, "MACRO_CALL")?;
-    cast_from::<ast::MacroDef>(&root, "MACRO_DEF")?;
-    cast_from::<ast::MacroRules>(&root, "MACRO_RULES")?;
-    cast_from::<ast::Module>(&root, "MODULE")?;
-    cast_from::<ast::Static>(&root, "STATIC")?;
-    cast_from::<ast::Struct>(&root, "STRUCT")?;
-    cast_from::<ast::Trait>(&root, "TRAIT")?;
-    cast_from::<ast::TypeAlias>(&root, "TYPE_ALIAS")?;
-    cast_from::<ast::Union>(&root, "UNION")?;
-    cast_from::<ast::Use>(&root, "USE")?;
-    cast_from::<ast::CfgAttrMeta>(&root, "CFG_ATTR_META")?;
-    cast_from::<ast::CfgMeta>(&root, "CFG_META")?;
-    cast_from::<ast::KeyValueMeta>(&root, "KEY_VALUE_META")?;
-    cast_from::<ast::PathMeta>(&root, "PATH_META")?;
-    cast_from::<ast::TokenTreeMeta>(&root, "TOKEN_TREE_META")?;
-    cast_from::<ast::UnsafeMeta>(&root, "UNSAFE_META")?;
-    cast_from::<ast::LifetimeParam>(&root, "LIFETIME_PARAM")?;
-    cast_from::<ast::TypeParam>(&root, "TYPE_PARAM")?;
-    cast_from::<ast::ConstParam>(&root, "CONST_PARAM")?;
-    cast_from::<ast::TypeArg>(&root, "TYPE_ARG")?;
-    cast_from::<ast::AssocTypeArg>(&root, "ASSOC_TYPE_ARG")?;
-    cast_from::<ast::LifetimeArg>(&root, "LIFETIME_ARG")?;
-    cast_from::<ast::ConstArg>(&root, "CONST_ARG")?;
-    cast_from::<ast::ExprStmt>(&root, "EXPR_STMT")?;
-    cast_from::<ast::LetStmt>(&root, "LET_STMT")?;
-    cast_from::<ast::SourceFile>(&root, "SOURCE_FILE")?;
-    cast_from::<ast::Name>(&root, "NAME")?;
-    cast_from::<ast::NameRef>(&root, "NAME_REF")?;
-    cast_from::<ast::Lifetime>(&root, "LIFETIME")?;
-    cast_from::<ast::Path>(&root, "PATH")?;
-    cast_from::<ast::PathSegment>(&root, "PATH_SEGMENT")?;
-    cast_from::<ast::TypeAnchor>(&root, "TYPE_ANCHOR")?;
-    cast_from::<ast::ArgList>(&root, "ARG_LIST")?;
-    cast_from::<ast::ParamList>(&root, "PARAM_LIST")?;
-    cast_from::<ast::Param>(&root, "PARAM")?;
-    cast_from::<ast::SelfParam>(&root, "SELF_PARAM")?;
-    cast_from::<ast::RetType>(&root, "RET_TYPE")?;
-    Ok(())
+fn expressions_from_a_to_i(rt: HostRuntime) -> Result<(), Fail> {
+    let root = all_kinds(&rt)?;
+    let mut casts = Casts::below(&root);
+    casts.view::<ast::ArrayExpr>("ARRAY_EXPR");
+    casts.view::<ast::AsmExpr>("ASM_EXPR");
+    casts.view::<ast::AwaitExpr>("AWAIT_EXPR");
+    casts.view::<ast::BecomeExpr>("BECOME_EXPR");
+    casts.view::<ast::BinExpr>("BIN_EXPR");
+    casts.view::<ast::BlockExpr>("BLOCK_EXPR");
+    casts.view::<ast::BreakExpr>("BREAK_EXPR");
+    casts.view::<ast::CallExpr>("CALL_EXPR");
+    casts.view::<ast::CastExpr>("CAST_EXPR");
+    casts.view::<ast::CfgPredExpr>("CFG_PRED_EXPR");
+    casts.view::<ast::ClosureExpr>("CLOSURE_EXPR");
+    casts.view::<ast::ContinueExpr>("CONTINUE_EXPR");
+    casts.view::<ast::FieldExpr>("FIELD_EXPR");
+    casts.view::<ast::ForExpr>("FOR_EXPR");
+    casts.view::<ast::FormatArgsExpr>("FORMAT_ARGS_EXPR");
+    casts.view::<ast::IfExpr>("IF_EXPR");
+    casts.view::<ast::IncludeBytesExpr>("INCLUDE_BYTES_EXPR");
+    casts.view::<ast::IndexExpr>("INDEX_EXPR");
+    casts.all_hold()
 }
 
-// A quarter of the aliases.
 #[test]
-fn aliases_of_the_fourth_quarter(rt: HostRuntime) -> Result<(), Fail> {
-    let root = a_node_of_each_kind(&rt)?;
-    cast_from::<ast::StmtList>(&root, "STMT_LIST")?;
-    cast_from::<ast::Label>(&root, "LABEL")?;
-    cast_from::<ast::TryBlockModifier>(&root, "TRY_BLOCK_MODIFIER")?;
-    cast_from::<ast::LetElse>(&root, "LET_ELSE")?;
-    cast_from::<ast::MatchArmList>(&root, "MATCH_ARM_LIST")?;
-    cast_from::<ast::MatchArm>(&root, "MATCH_ARM")?;
-    cast_from::<ast::MatchGuard>(&root, "MATCH_GUARD")?;
-    cast_from::<ast::RecordExprField>(&root, "RECORD_EXPR_FIELD")?;
-    cast_from::<ast::RecordPatField>(&root, "RECORD_PAT_FIELD")?;
-    cast_from::<ast::FormatArgsArg>(&root, "FORMAT_ARGS_ARG")?;
-    cast_from::<ast::Abi>(&root, "ABI")?;
-    cast_from::<ast::Attr>(&root, "ATTR")?;
-    cast_from::<ast::DocComment>(&root, "DOC_COMMENT")?;
-    cast_from::<ast::CfgAtom>(&root, "CFG_ATOM")?;
-    cast_from::<ast::UseTree>(&root, "USE_TREE")?;
-    cast_from::<ast::UseTreeList>(&root, "USE_TREE_LIST")?;
-    cast_from::<ast::RecordFieldList>(&root, "RECORD_FIELD_LIST")?;
-    cast_from::<ast::RecordField>(&root, "RECORD_FIELD")?;
-    cast_from::<ast::TupleFieldList>(&root, "TUPLE_FIELD_LIST")?;
-    cast_from::<ast::TupleField>(&root, "TUPLE_FIELD")?;
-    cast_from::<ast::Variant>(&root, "VARIANT")?;
-    cast_from::<ast::ItemList>(&root, "ITEM_LIST")?;
-    cast_from::<ast::AssocItemList>(&root, "ASSOC_ITEM_LIST")?;
-    cast_from::<ast::ExternItemList>(&root, "EXTERN_ITEM_LIST")?;
-    cast_from::<ast::TypeBound>(&root, "TYPE_BOUND")?;
-    cast_from::<ast::TypeBoundList>(&root, "TYPE_BOUND_LIST")?;
-    cast_from::<ast::UseBoundGenericArgs>(&root, "USE_BOUND_GENERIC_ARGS")?;
-    cast_from::<ast::ForBinder>(&root, "FOR_BINDER")?;
-    cast_from::<ast::GenericParamList>(&root, "GENERIC_PARAM_LIST")?;
-    cast_from::<ast::GenericArgList>(&root, "GENERIC_ARG_LIST")?;
-    cast_from::<ast::WhereClause>(&root, "WHERE_CLAUSE")?;
-    cast_from::<ast::WherePred>(&root, "WHERE_PRED")?;
-    cast_from::<ast::Visibility>(&root, "VISIBILITY")?;
-    cast_from::<ast::VisibilityInner>(&root, "VISIBILITY_INNER")?;
-    cast_from::<ast::TokenTree>(&root, "TOKEN_TREE")?;
-    cast_from::<ast::MacroStmts>(&root, "MACRO_STMTS")?;
-    Ok(())
+fn expressions_from_l_to_y(rt: HostRuntime) -> Result<(), Fail> {
+    let root = all_kinds(&rt)?;
+    let mut casts = Casts::below(&root);
+    casts.view::<ast::LetExpr>("LET_EXPR");
+    casts.view::<ast::Literal>("LITERAL");
+    casts.view::<ast::LoopExpr>("LOOP_EXPR");
+    casts.view::<ast::MacroExpr>("MACRO_EXPR");
+    casts.view::<ast::MatchExpr>("MATCH_EXPR");
+    casts.view::<ast::MethodCallExpr>("METHOD_CALL_EXPR");
+    casts.view::<ast::OffsetOfExpr>("OFFSET_OF_EXPR");
+    casts.view::<ast::ParenExpr>("PAREN_EXPR");
+    casts.view::<ast::PathExpr>("PATH_EXPR");
+    casts.view::<ast::PrefixExpr>("PREFIX_EXPR");
+    casts.view::<ast::RangeExpr>("RANGE_EXPR");
+    casts.view::<ast::RecordExpr>("RECORD_EXPR");
+    casts.view::<ast::RefExpr>("REF_EXPR");
+    casts.view::<ast::ReturnExpr>("RETURN_EXPR");
+    casts.view::<ast::TryExpr>("TRY_EXPR");
+    casts.view::<ast::TupleExpr>("TUPLE_EXPR");
+    casts.view::<ast::UnderscoreExpr>("UNDERSCORE_EXPR");
+    casts.view::<ast::WhileExpr>("WHILE_EXPR");
+    casts.view::<ast::YeetExpr>("YEET_EXPR");
+    casts.view::<ast::YieldExpr>("YIELD_EXPR");
+    casts.all_hold()
+}
+
+#[test]
+fn types(rt: HostRuntime) -> Result<(), Fail> {
+    let root = all_kinds(&rt)?;
+    let mut casts = Casts::below(&root);
+    casts.view::<ast::ArrayType>("ARRAY_TYPE");
+    casts.view::<ast::DynTraitType>("DYN_TRAIT_TYPE");
+    casts.view::<ast::FnPtrType>("FN_PTR_TYPE");
+    casts.view::<ast::ForType>("FOR_TYPE");
+    casts.view::<ast::ImplTraitType>("IMPL_TRAIT_TYPE");
+    casts.view::<ast::InferType>("INFER_TYPE");
+    casts.view::<ast::MacroType>("MACRO_TYPE");
+    casts.view::<ast::NeverType>("NEVER_TYPE");
+    casts.view::<ast::ParenType>("PAREN_TYPE");
+    casts.view::<ast::PathType>("PATH_TYPE");
+    casts.view::<ast::PtrType>("PTR_TYPE");
+    casts.view::<ast::RefType>("REF_TYPE");
+    casts.view::<ast::SliceType>("SLICE_TYPE");
+    casts.view::<ast::TupleType>("TUPLE_TYPE");
+    casts.all_hold()
+}
+
+#[test]
+fn patterns(rt: HostRuntime) -> Result<(), Fail> {
+    let root = all_kinds(&rt)?;
+    let mut casts = Casts::below(&root);
+    casts.view::<ast::BoxPat>("BOX_PAT");
+    casts.view::<ast::ConstBlockPat>("CONST_BLOCK_PAT");
+    casts.view::<ast::IdentPat>("IDENT_PAT");
+    casts.view::<ast::LiteralPat>("LITERAL_PAT");
+    casts.view::<ast::MacroPat>("MACRO_PAT");
+    casts.view::<ast::OrPat>("OR_PAT");
+    casts.view::<ast::ParenPat>("PAREN_PAT");
+    casts.view::<ast::PathPat>("PATH_PAT");
+    casts.view::<ast::RangePat>("RANGE_PAT");
+    casts.view::<ast::RecordPat>("RECORD_PAT");
+    casts.view::<ast::RefPat>("REF_PAT");
+    casts.view::<ast::RestPat>("REST_PAT");
+    casts.view::<ast::SlicePat>("SLICE_PAT");
+    casts.view::<ast::TuplePat>("TUPLE_PAT");
+    casts.view::<ast::TupleStructPat>("TUPLE_STRUCT_PAT");
+    casts.view::<ast::WildcardPat>("WILDCARD_PAT");
+    casts.all_hold()
+}
+
+#[test]
+fn items(rt: HostRuntime) -> Result<(), Fail> {
+    let root = all_kinds(&rt)?;
+    let mut casts = Casts::below(&root);
+    casts.view::<ast::Const>("CONST");
+    casts.view::<ast::Enum>("ENUM");
+    casts.view::<ast::ExternBlock>("EXTERN_BLOCK");
+    casts.view::<ast::ExternCrate>("EXTERN_CRATE");
+    casts.view::<ast::Fn>("FN");
+    casts.view::<ast::Impl>("IMPL");
+    casts.view::<ast::MacroCall>("MACRO_CALL");
+    casts.view::<ast::MacroDef>("MACRO_DEF");
+    casts.view::<ast::MacroRules>("MACRO_RULES");
+    casts.view::<ast::Module>("MODULE");
+    casts.view::<ast::Static>("STATIC");
+    casts.view::<ast::Struct>("STRUCT");
+    casts.view::<ast::Trait>("TRAIT");
+    casts.view::<ast::TypeAlias>("TYPE_ALIAS");
+    casts.view::<ast::Union>("UNION");
+    casts.view::<ast::Use>("USE");
+    casts.all_hold()
+}
+
+#[test]
+fn metas_and_generics(rt: HostRuntime) -> Result<(), Fail> {
+    let root = all_kinds(&rt)?;
+    let mut casts = Casts::below(&root);
+    casts.view::<ast::CfgAttrMeta>("CFG_ATTR_META");
+    casts.view::<ast::CfgMeta>("CFG_META");
+    casts.view::<ast::KeyValueMeta>("KEY_VALUE_META");
+    casts.view::<ast::PathMeta>("PATH_META");
+    casts.view::<ast::TokenTreeMeta>("TOKEN_TREE_META");
+    casts.view::<ast::UnsafeMeta>("UNSAFE_META");
+    casts.view::<ast::LifetimeParam>("LIFETIME_PARAM");
+    casts.view::<ast::TypeParam>("TYPE_PARAM");
+    casts.view::<ast::ConstParam>("CONST_PARAM");
+    casts.view::<ast::TypeArg>("TYPE_ARG");
+    casts.view::<ast::AssocTypeArg>("ASSOC_TYPE_ARG");
+    casts.view::<ast::LifetimeArg>("LIFETIME_ARG");
+    casts.view::<ast::ConstArg>("CONST_ARG");
+    casts.all_hold()
+}
+
+#[test]
+fn statements_and_names(rt: HostRuntime) -> Result<(), Fail> {
+    let root = all_kinds(&rt)?;
+    let mut casts = Casts::below(&root);
+    casts.view::<ast::ExprStmt>("EXPR_STMT");
+    casts.view::<ast::LetStmt>("LET_STMT");
+    casts.view::<ast::SourceFile>("SOURCE_FILE");
+    casts.view::<ast::Name>("NAME");
+    casts.view::<ast::NameRef>("NAME_REF");
+    casts.view::<ast::Lifetime>("LIFETIME");
+    casts.view::<ast::Path>("PATH");
+    casts.view::<ast::PathSegment>("PATH_SEGMENT");
+    casts.view::<ast::TypeAnchor>("TYPE_ANCHOR");
+    casts.all_hold()
+}
+
+#[test]
+fn lists_and_parts(rt: HostRuntime) -> Result<(), Fail> {
+    let root = all_kinds(&rt)?;
+    let mut casts = Casts::below(&root);
+    casts.view::<ast::ArgList>("ARG_LIST");
+    casts.view::<ast::ParamList>("PARAM_LIST");
+    casts.view::<ast::Param>("PARAM");
+    casts.view::<ast::SelfParam>("SELF_PARAM");
+    casts.view::<ast::RetType>("RET_TYPE");
+    casts.view::<ast::StmtList>("STMT_LIST");
+    casts.view::<ast::Label>("LABEL");
+    casts.view::<ast::TryBlockModifier>("TRY_BLOCK_MODIFIER");
+    casts.view::<ast::LetElse>("LET_ELSE");
+    casts.view::<ast::MatchArmList>("MATCH_ARM_LIST");
+    casts.view::<ast::MatchArm>("MATCH_ARM");
+    casts.view::<ast::MatchGuard>("MATCH_GUARD");
+    casts.view::<ast::RecordExprField>("RECORD_EXPR_FIELD");
+    casts.view::<ast::RecordPatField>("RECORD_PAT_FIELD");
+    casts.view::<ast::FormatArgsArg>("FORMAT_ARGS_ARG");
+    casts.view::<ast::Abi>("ABI");
+    casts.view::<ast::Attr>("ATTR");
+    casts.view::<ast::DocComment>("DOC_COMMENT");
+    casts.view::<ast::CfgAtom>("CFG_ATOM");
+    casts.all_hold()
+}
+
+#[test]
+fn parts_of_items(rt: HostRuntime) -> Result<(), Fail> {
+    let root = all_kinds(&rt)?;
+    let mut casts = Casts::below(&root);
+    casts.view::<ast::UseTree>("USE_TREE");
+    casts.view::<ast::UseTreeList>("USE_TREE_LIST");
+    casts.view::<ast::RecordFieldList>("RECORD_FIELD_LIST");
+    casts.view::<ast::RecordField>("RECORD_FIELD");
+    casts.view::<ast::TupleFieldList>("TUPLE_FIELD_LIST");
+    casts.view::<ast::TupleField>("TUPLE_FIELD");
+    casts.view::<ast::Variant>("VARIANT");
+    casts.view::<ast::ItemList>("ITEM_LIST");
+    casts.view::<ast::AssocItemList>("ASSOC_ITEM_LIST");
+    casts.view::<ast::ExternItemList>("EXTERN_ITEM_LIST");
+    casts.view::<ast::TypeBound>("TYPE_BOUND");
+    casts.view::<ast::TypeBoundList>("TYPE_BOUND_LIST");
+    casts.view::<ast::UseBoundGenericArgs>("USE_BOUND_GENERIC_ARGS");
+    casts.view::<ast::ForBinder>("FOR_BINDER");
+    casts.view::<ast::GenericParamList>("GENERIC_PARAM_LIST");
+    casts.view::<ast::GenericArgList>("GENERIC_ARG_LIST");
+    casts.view::<ast::WhereClause>("WHERE_CLAUSE");
+    casts.view::<ast::WherePred>("WHERE_PRED");
+    casts.view::<ast::Visibility>("VISIBILITY");
+    casts.view::<ast::VisibilityInner>("VISIBILITY_INNER");
+    casts.view::<ast::TokenTree>("TOKEN_TREE");
+    casts.view::<ast::MacroStmts>("MACRO_STMTS");
+    casts.all_hold()
 }
 
 #[test]
 fn enums(rt: HostRuntime) -> Result<(), Fail> {
-    let root = a_node_of_each_kind(&rt)?;
-    cast_from::<ast::Expr>(
-        &root,
+    let root = all_kinds(&rt)?;
+    let mut casts = Casts::below(&root);
+    casts.view::<ast::Expr>(
         "ARRAY_EXPR ASM_EXPR AWAIT_EXPR BECOME_EXPR BIN_EXPR BLOCK_EXPR BREAK_EXPR \
             CALL_EXPR CAST_EXPR CFG_PRED_EXPR CLOSURE_EXPR CONTINUE_EXPR FIELD_EXPR \
             FOR_EXPR FORMAT_ARGS_EXPR IF_EXPR INCLUDE_BYTES_EXPR INDEX_EXPR LET_EXPR \
             LITERAL LOOP_EXPR MACRO_EXPR MATCH_EXPR METHOD_CALL_EXPR OFFSET_OF_EXPR \
             PAREN_EXPR PATH_EXPR PREFIX_EXPR RANGE_EXPR RECORD_EXPR REF_EXPR RETURN_EXPR \
             TRY_EXPR TUPLE_EXPR UNDERSCORE_EXPR WHILE_EXPR YEET_EXPR YIELD_EXPR",
-    )?;
-    cast_from::<ast::Type>(
-        &root,
+    );
+    casts.view::<ast::Type>(
         "ARRAY_TYPE DYN_TRAIT_TYPE FN_PTR_TYPE FOR_TYPE IMPL_TRAIT_TYPE INFER_TYPE \
             MACRO_TYPE NEVER_TYPE PAREN_TYPE PATH_TYPE PTR_TYPE REF_TYPE SLICE_TYPE \
             TUPLE_TYPE",
-    )?;
-    cast_from::<ast::Pat>(
-        &root,
+    );
+    casts.view::<ast::Pat>(
         "BOX_PAT CONST_BLOCK_PAT IDENT_PAT LITERAL_PAT MACRO_PAT OR_PAT PAREN_PAT \
             PATH_PAT RANGE_PAT RECORD_PAT REF_PAT REST_PAT SLICE_PAT TUPLE_PAT \
             TUPLE_STRUCT_PAT WILDCARD_PAT",
-    )?;
-    cast_from::<ast::Item>(
-        &root,
+    );
+    casts.view::<ast::Item>(
         "ASM_EXPR CONST ENUM EXTERN_BLOCK EXTERN_CRATE FN IMPL MACRO_CALL MACRO_DEF \
             MACRO_RULES MODULE STATIC STRUCT TRAIT TYPE_ALIAS UNION USE",
-    )?;
-    cast_from::<ast::Meta>(
-        &root,
+    );
+    casts.view::<ast::Meta>(
         "CFG_ATTR_META CFG_META KEY_VALUE_META PATH_META TOKEN_TREE_META UNSAFE_META",
-    )?;
-    cast_from::<ast::GenericParam>(&root, "LIFETIME_PARAM TYPE_PARAM CONST_PARAM")?;
-    cast_from::<ast::GenericArg>(&root, "TYPE_ARG ASSOC_TYPE_ARG LIFETIME_ARG CONST_ARG")?;
-    cast_from::<ast::Stmt>(
-        &root,
+    );
+    casts.view::<ast::GenericParam>("LIFETIME_PARAM TYPE_PARAM CONST_PARAM");
+    casts.view::<ast::GenericArg>("TYPE_ARG ASSOC_TYPE_ARG LIFETIME_ARG CONST_ARG");
+    casts.view::<ast::Stmt>(
         "EXPR_STMT LET_STMT ASM_EXPR CONST ENUM EXTERN_BLOCK EXTERN_CRATE FN IMPL \
             MACRO_CALL MACRO_DEF MACRO_RULES MODULE STATIC STRUCT TRAIT TYPE_ALIAS UNION \
             USE",
-    )?;
-    cast_from::<ast::AssocItem>(&root, "CONST FN MACRO_CALL TYPE_ALIAS")?;
-    cast_from::<ast::ExternItem>(&root, "STATIC FN MACRO_CALL TYPE_ALIAS")?;
-    cast_from::<ast::Adt>(&root, "ENUM STRUCT UNION")?;
-    cast_from::<ast::AnyAttr>(&root, "ATTR DOC_COMMENT")?;
-    cast_from::<ast::ElseBranch>(&root, "BLOCK_EXPR IF_EXPR")?;
-    cast_from::<ast::CallableExpr>(&root, "CALL_EXPR METHOD_CALL_EXPR")?;
-    cast_from::<ast::Macro>(&root, "MACRO_RULES MACRO_DEF")?;
-    cast_from::<ast::NameLike>(&root, "NAME_REF NAME LIFETIME")?;
-    cast_from::<ast::NameOrNameRef>(&root, "NAME NAME_REF")?;
-    cast_from::<ast::TypeOrConstParam>(&root, "TYPE_PARAM CONST_PARAM")?;
-    cast_from::<ast::AnyHasGenericParams>(&root, "ENUM FN IMPL STRUCT TRAIT TYPE_ALIAS UNION")?;
-    cast_from::<ast::AnyHasAttrs>(
-        &root,
+    );
+    casts.view::<ast::AssocItem>("CONST FN MACRO_CALL TYPE_ALIAS");
+    casts.view::<ast::ExternItem>("STATIC FN MACRO_CALL TYPE_ALIAS");
+    casts.view::<ast::Adt>("ENUM STRUCT UNION");
+    casts.view::<ast::AnyAttr>("ATTR DOC_COMMENT");
+    casts.view::<ast::ElseBranch>("BLOCK_EXPR IF_EXPR");
+    casts.view::<ast::CallableExpr>("CALL_EXPR METHOD_CALL_EXPR");
+    casts.view::<ast::Macro>("MACRO_RULES MACRO_DEF");
+    casts.view::<ast::NameLike>("NAME_REF NAME LIFETIME");
+    casts.view::<ast::NameOrNameRef>("NAME NAME_REF");
+    casts.view::<ast::TypeOrConstParam>("TYPE_PARAM CONST_PARAM");
+    casts.view::<ast::AnyHasGenericParams>("ENUM FN IMPL STRUCT TRAIT TYPE_ALIAS UNION");
+    casts.view::<ast::AnyHasAttrs>(
         "ARRAY_EXPR ASM_EXPR AWAIT_EXPR BECOME_EXPR BIN_EXPR BLOCK_EXPR BREAK_EXPR \
             CALL_EXPR CAST_EXPR CFG_PRED_EXPR CLOSURE_EXPR CONTINUE_EXPR FIELD_EXPR \
             FOR_EXPR FORMAT_ARGS_EXPR IF_EXPR INCLUDE_BYTES_EXPR INDEX_EXPR LET_EXPR \
@@ -332,33 +418,33 @@ fn enums(rt: HostRuntime) -> Result<(), Fail> {
             CONST_PARAM SOURCE_FILE STMT_LIST LET_STMT MATCH_ARM MATCH_ARM_LIST PARAM \
             SELF_PARAM RECORD_EXPR_FIELD RECORD_FIELD RECORD_PAT_FIELD TUPLE_FIELD \
             VARIANT ITEM_LIST ASSOC_ITEM_LIST EXTERN_ITEM_LIST",
-    )?;
-    cast_from::<Either<ast::Fn, ast::Struct>>(&root, "FN STRUCT")?;
-    cast_from::<Either<ast::Expr, ast::AsmExpr>>(
-        &root,
+    );
+    casts.view::<Either<ast::Fn, ast::Struct>>("FN STRUCT");
+    casts.view::<Either<ast::Expr, ast::AsmExpr>>(
         "ARRAY_EXPR ASM_EXPR AWAIT_EXPR BECOME_EXPR BIN_EXPR BLOCK_EXPR BREAK_EXPR \
             CALL_EXPR CAST_EXPR CFG_PRED_EXPR CLOSURE_EXPR CONTINUE_EXPR FIELD_EXPR \
             FOR_EXPR FORMAT_ARGS_EXPR IF_EXPR INCLUDE_BYTES_EXPR INDEX_EXPR LET_EXPR \
             LITERAL LOOP_EXPR MACRO_EXPR MATCH_EXPR METHOD_CALL_EXPR OFFSET_OF_EXPR \
             PAREN_EXPR PATH_EXPR PREFIX_EXPR RANGE_EXPR RECORD_EXPR REF_EXPR RETURN_EXPR \
             TRY_EXPR TUPLE_EXPR UNDERSCORE_EXPR WHILE_EXPR YEET_EXPR YIELD_EXPR",
-    )?;
-    Ok(())
+    );
+    casts.all_hold()
 }
 
 #[test]
 fn typed_tokens(rt: HostRuntime) -> Result<(), Fail> {
-    let root = a_token_of_each_kind(&rt)?;
-    cast_from_token::<ast::Whitespace>(&root, "WHITESPACE")?;
-    cast_from_token::<ast::Comment>(&root, "COMMENT")?;
-    cast_from_token::<ast::AnyComment>(&root, "COMMENT INNER_DOC_COMMENT OUTER_DOC_COMMENT")?;
-    cast_from_token::<ast::String>(&root, "STRING")?;
-    cast_from_token::<ast::ByteString>(&root, "BYTE_STRING")?;
-    cast_from_token::<ast::CString>(&root, "C_STRING")?;
-    cast_from_token::<ast::IntNumber>(&root, "INT_NUMBER")?;
-    cast_from_token::<ast::FloatNumber>(&root, "FLOAT_NUMBER")?;
-    cast_from_token::<ast::Char>(&root, "CHAR")?;
-    cast_from_token::<ast::Byte>(&root, "BYTE")?;
-    cast_from_token::<ast::AnyString>(&root, "STRING BYTE_STRING C_STRING")?;
-    Ok(())
+    let root = all_kinds(&rt)?;
+    let mut casts = Casts::below(&root);
+    casts.token::<ast::Whitespace>("WHITESPACE");
+    casts.token::<ast::Comment>("COMMENT");
+    casts.token::<ast::AnyComment>("COMMENT INNER_DOC_COMMENT OUTER_DOC_COMMENT");
+    casts.token::<ast::String>("STRING");
+    casts.token::<ast::ByteString>("BYTE_STRING");
+    casts.token::<ast::CString>("C_STRING");
+    casts.token::<ast::IntNumber>("INT_NUMBER");
+    casts.token::<ast::FloatNumber>("FLOAT_NUMBER");
+    casts.token::<ast::Char>("CHAR");
+    casts.token::<ast::Byte>("BYTE");
+    casts.token::<ast::AnyString>("STRING BYTE_STRING C_STRING");
+    casts.all_hold()
 }

@@ -14,6 +14,8 @@ mod matches;
 #[cfg(test)]
 mod pointers;
 #[cfg(test)]
+mod rows;
+#[cfg(test)]
 mod trees;
 #[cfg(test)]
 mod violations;

@@ -1,5 +1,6 @@
 //! Lookups in typed nodes: each shape, each trait that types share on one of its types, and rust-analyzer's tests of where
 //! predicates.
+use crate::rows::all_hold;
 use plain_trees::PlainTree;
 use ra_ap_syntax::ast::{
     self, AstChildren, AstNode, HasArgList, HasAttrs, HasGenericArgs, HasGenericParams,
@@ -8,39 +9,64 @@ use ra_ap_syntax::ast::{
 use ra_ap_syntax::{SyntaxKind, SyntaxNode, SyntaxToken};
 use std::test::Fail;
 
+fn tree(rt: &HostRuntime, words: &'static str) -> Result<SyntaxNode, Fail> {
+    Ok(PlainTree::read(rt.alloc(), words)?.build(rt.alloc())?)
+}
+
 // The root of a tree that is written down, as an `N`.
 fn view<N: AstNode>(rt: &HostRuntime, words: &'static str) -> Result<N, Fail> {
-    let root = PlainTree::read(rt.alloc(), words)?.build(rt.alloc())?;
-    Ok(N::cast(root).ok_or("the root is of another kind")?)
+    Ok(N::cast(tree(rt, words)?).ok_or("the root is of another kind")?)
 }
 
-// The text of a node that is there; `-` where there is none.
-fn text<N: AstNode + Drop>(rt: &HostRuntime, found: Option<N>) -> Result<String, Fail> {
+// The text of a node that is there; `-` where there is none; nothing without memory.
+fn text<N: AstNode + Drop>(rt: &HostRuntime, found: Option<N>) -> Option<String> {
     let mut text = String::new(rt.alloc());
     match found {
-        Some(it) => text.push_str(it.syntax().as_str())?,
-        None => text.push_str("-")?,
+        Some(it) => text.push_str(it.syntax().as_str()).ok()?,
+        None => text.push_str("-").ok()?,
     }
-    Ok(text)
+    Some(text)
 }
 
-fn token_text(rt: &HostRuntime, found: Option<SyntaxToken>) -> Result<String, Fail> {
+fn token_text(rt: &HostRuntime, found: Option<SyntaxToken>) -> Option<String> {
     let mut text = String::new(rt.alloc());
     match found {
-        Some(token) => text.push_str(token.text())?,
-        None => text.push_str("-")?,
+        Some(token) => text.push_str(token.text()).ok()?,
+        None => text.push_str("-").ok()?,
     }
-    Ok(text)
+    Some(text)
+}
+
+// Adds a text and a bar behind it.
+fn add_barred(list: &mut String, text: &str) -> Option<()> {
+    list.push_str(text).ok()?;
+    list.push_str("|").ok()
 }
 
 // The texts of nodes, a bar behind each.
-fn texts<N: AstNode + Drop>(rt: &HostRuntime, found: AstChildren<N>) -> Result<String, Fail> {
+fn texts<N: AstNode + Drop>(rt: &HostRuntime, found: AstChildren<N>) -> Option<String> {
     let mut text = String::new(rt.alloc());
     for it in found {
-        text.push_str(it.syntax().as_str())?;
-        text.push_str("|")?;
+        add_barred(&mut text, it.syntax().as_str())?;
     }
-    Ok(text)
+    Some(text)
+}
+
+// There is a text, and it is this one.
+fn is(found: Option<String>, text: &str) -> bool {
+    match found {
+        Some(found) => found.as_str() == text,
+        None => false,
+    }
+}
+
+fn is_absent<T: Drop>(found: Option<T>) -> bool {
+    found.is_none()
+}
+
+fn all_bounds(rt: &HostRuntime, predicate: &ast::WherePred) -> Option<String> {
+    let list = predicate.type_bound_list()?;
+    texts(rt, list.bounds())
 }
 
 #[test]
@@ -49,13 +75,19 @@ fn where_predicates_of_types(rt: HostRuntime) -> Result<(), Fail> {
         &rt,
         "WHERE_PRED( PATH_TYPE( PATH( PATH_SEGMENT( NAME_REF( IDENT:T ) ) ) ) COLON:: TYPE_BOUND_LIST( TYPE_BOUND( PATH_TYPE( PATH( PATH_SEGMENT( NAME_REF( IDENT:Clone ) ) ) ) ) PLUS:+ TYPE_BOUND( LIFETIME( LIFETIME_IDENT:'static ) ) ) )",
     )?;
-    assert_eq!(rt; text(&rt, predicate.ty())?.as_str(), "T");
-    assert!(rt; predicate.for_binder().is_none());
-    assert!(rt; predicate.lifetime().is_none());
-    assert_eq!(rt; token_text(&rt, predicate.colon_token())?.as_str(), ":");
-    let list = predicate.type_bound_list().ok_or("no bounds")?;
-    assert_eq!(rt; texts(&rt, list.bounds())?.as_str(), "Clone|'static|");
-    Ok(())
+    all_hold(&[
+        ("type", is(text(&rt, predicate.ty()), "T")),
+        ("no binder", is_absent(predicate.for_binder())),
+        ("no lifetime", is_absent(predicate.lifetime())),
+        ("colon", is(token_text(&rt, predicate.colon_token()), ":")),
+        ("bounds", is(all_bounds(&rt, &predicate), "Clone|'static|")),
+    ])
+}
+
+fn first_bound(rt: &HostRuntime, predicate: &ast::WherePred) -> Option<String> {
+    let list = predicate.type_bound_list()?;
+    let bound = list.bounds().next()?;
+    text(rt, bound.lifetime())
 }
 
 #[test]
@@ -64,12 +96,16 @@ fn where_predicates_of_lifetimes(rt: HostRuntime) -> Result<(), Fail> {
         &rt,
         "WHERE_PRED( LIFETIME( LIFETIME_IDENT:'a ) COLON:: TYPE_BOUND_LIST( TYPE_BOUND( LIFETIME( LIFETIME_IDENT:'b ) ) ) )",
     )?;
-    assert_eq!(rt; text(&rt, predicate.lifetime())?.as_str(), "'a");
-    assert!(rt; predicate.ty().is_none());
-    let list = predicate.type_bound_list().ok_or("no bounds")?;
-    let bound = list.bounds().next().ok_or("no bound")?;
-    assert_eq!(rt; text(&rt, bound.lifetime())?.as_str(), "'b");
-    Ok(())
+    all_hold(&[
+        ("lifetime", is(text(&rt, predicate.lifetime()), "'a")),
+        ("no type", is_absent(predicate.ty())),
+        ("bound", is(first_bound(&rt, &predicate), "'b")),
+    ])
+}
+
+fn bound_names(rt: &HostRuntime, predicate: &ast::WherePred) -> Option<String> {
+    let binder = predicate.for_binder()?;
+    text(rt, binder.generic_param_list())
 }
 
 #[test]
@@ -78,10 +114,10 @@ fn where_predicates_with_a_binder(rt: HostRuntime) -> Result<(), Fail> {
         &rt,
         "WHERE_PRED( FOR_BINDER( FOR_KW:for GENERIC_PARAM_LIST( L_ANGLE:< LIFETIME_PARAM( LIFETIME( LIFETIME_IDENT:'a ) ) R_ANGLE:> ) ) PATH_TYPE( PATH( PATH_SEGMENT( NAME_REF( IDENT:F ) ) ) ) COLON:: TYPE_BOUND_LIST( TYPE_BOUND( PATH_TYPE( PATH( PATH_SEGMENT( NAME_REF( IDENT:Fn ) ) ) ) ) ) )",
     )?;
-    let binder = predicate.for_binder().ok_or("no binder")?;
-    assert_eq!(rt; text(&rt, binder.generic_param_list())?.as_str(), "<'a>");
-    assert_eq!(rt; text(&rt, predicate.ty())?.as_str(), "F");
-    Ok(())
+    all_hold(&[
+        ("binder", is(bound_names(&rt, &predicate), "<'a>")),
+        ("type", is(text(&rt, predicate.ty()), "F")),
+    ])
 }
 
 // `f.0(a, b)` in its shape: two expressions below each list, tokens and other nodes between them.
@@ -91,110 +127,150 @@ const CALL: &str =
 #[test]
 fn the_first_child_of_a_kind(rt: HostRuntime) -> Result<(), Fail> {
     let call: ast::MethodCallExpr = view(&rt, CALL)?;
-    assert_eq!(rt; text(&rt, call.receiver())?.as_str(), "1");
-    assert_eq!(rt; text(&rt, call.name_ref())?.as_str(), "m");
+    all_hold(&[
+        ("receiver", is(text(&rt, call.receiver()), "1")),
+        ("name", is(text(&rt, call.name_ref()), "m")),
+    ])
+}
+
+#[test]
+fn the_first_child_of_a_path(rt: HostRuntime) -> Result<(), Fail> {
     let path: ast::Path = view(
         &rt,
         "PATH( PATH( PATH_SEGMENT( NAME_REF( IDENT:a ) ) ) COLON2::: PATH_SEGMENT( NAME_REF( IDENT:b ) ) PATH_SEGMENT( ) )",
     )?;
-    assert_eq!(rt; text(&rt, path.qualifier())?.as_str(), "a");
-    assert_eq!(rt; text(&rt, path.segment())?.as_str(), "b");
-    Ok(())
+    all_hold(&[
+        ("qualifier", is(text(&rt, path.qualifier()), "a")),
+        ("segment", is(text(&rt, path.segment()), "b")),
+    ])
+}
+
+fn argument_texts(rt: &HostRuntime, call: &ast::MethodCallExpr) -> Option<String> {
+    let list = call.arg_list()?;
+    texts(rt, list.args())
+}
+
+fn element_texts(rt: &HostRuntime, slice: &ast::SlicePat) -> Option<String> {
+    texts(rt, slice.pats())
 }
 
 #[test]
 fn all_children_of_a_kind(rt: HostRuntime) -> Result<(), Fail> {
     let call: ast::MethodCallExpr = view(&rt, CALL)?;
-    let list = call.arg_list().ok_or("no arguments")?;
-    assert_eq!(rt; texts(&rt, list.args())?.as_str(), "2|3|");
+    all_hold(&[("arguments", is(argument_texts(&rt, &call), "2|3|"))])
+}
+
+#[test]
+fn no_children_of_a_kind(rt: HostRuntime) -> Result<(), Fail> {
     let empty: ast::SlicePat = view(&rt, "SLICE_PAT( L_BRACK:[ R_BRACK:] )")?;
-    assert_eq!(rt; texts(&rt, empty.pats())?.as_str(), "");
-    Ok(())
+    all_hold(&[("elements", is(element_texts(&rt, &empty), ""))])
+}
+
+fn opening(rt: &HostRuntime, call: &ast::MethodCallExpr) -> Option<String> {
+    let list = call.arg_list()?;
+    token_text(rt, list.l_paren_token())
 }
 
 #[test]
 fn the_first_token_of_a_kind(rt: HostRuntime) -> Result<(), Fail> {
     let call: ast::MethodCallExpr = view(&rt, CALL)?;
-    assert_eq!(rt; token_text(&rt, call.dot_token())?.as_str(), ".");
-    let list = call.arg_list().ok_or("no arguments")?;
-    assert_eq!(rt; token_text(&rt, list.l_paren_token())?.as_str(), "(");
+    all_hold(&[
+        ("dot", is(token_text(&rt, call.dot_token()), ".")),
+        ("parenthesis", is(opening(&rt, &call), "(")),
+    ])
+}
+
+#[test]
+fn the_first_of_two_tokens(rt: HostRuntime) -> Result<(), Fail> {
     let pat: ast::IdentPat = view(
         &rt,
         "IDENT_PAT( MUT_KW:first NAME( REF_KW:ref ) MUT_KW:second )",
     )?;
-    assert_eq!(rt; token_text(&rt, pat.mut_token())?.as_str(), "first");
-    assert!(rt; pat.ref_token().is_none());
+    all_hold(&[
+        ("mut", is(token_text(&rt, pat.mut_token()), "first")),
+        ("no ref", is_absent(pat.ref_token())),
+    ])
+}
+
+#[test]
+fn tokens_of_a_name(rt: HostRuntime) -> Result<(), Fail> {
     let name: ast::NameRef = view(&rt, "NAME_REF( SELF_TYPE_KW:Self )")?;
-    assert_eq!(rt; token_text(&rt, name.self_type_token())?.as_str(), "Self");
-    assert!(rt; name.self_token().is_none());
-    Ok(())
+    all_hold(&[
+        ("Self", is(token_text(&rt, name.self_type_token()), "Self")),
+        ("no self", is_absent(name.self_token())),
+    ])
 }
 
 #[test]
 fn nothing_in_a_node_without_children(rt: HostRuntime) -> Result<(), Fail> {
     let call: ast::MethodCallExpr = view(&rt, "METHOD_CALL_EXPR( )")?;
-    assert!(rt; call.receiver().is_none());
-    assert!(rt; call.dot_token().is_none());
-    assert!(rt; call.arg_list().is_none());
+    all_hold(&[
+        ("receiver", is_absent(call.receiver())),
+        ("dot", is_absent(call.dot_token())),
+        ("arguments", is_absent(call.arg_list())),
+    ])
+}
+
+#[test]
+fn nothing_in_a_list_without_children(rt: HostRuntime) -> Result<(), Fail> {
     let list: ast::ArgList = view(&rt, "ARG_LIST( )")?;
-    assert!(rt; list.args().next().is_none());
-    Ok(())
+    all_hold(&[("arguments", is_absent(list.args().next()))])
 }
 
 // Each trait through its bound.
-fn name<N: HasName>(rt: &HostRuntime, it: &N) -> Result<String, Fail> {
+fn name<N: HasName>(rt: &HostRuntime, it: &N) -> Option<String> {
     text(rt, it.name())
 }
 
-fn visibility<N: HasVisibility>(rt: &HostRuntime, it: &N) -> Result<String, Fail> {
+fn visibility<N: HasVisibility>(rt: &HostRuntime, it: &N) -> Option<String> {
     text(rt, it.visibility())
 }
 
-fn loop_body<N: HasLoopBody>(rt: &HostRuntime, it: &N) -> Result<String, Fail> {
+fn loop_body<N: HasLoopBody>(rt: &HostRuntime, it: &N) -> Option<String> {
     text(rt, it.loop_body())
 }
 
-fn label<N: HasLoopBody>(rt: &HostRuntime, it: &N) -> Result<String, Fail> {
+fn label<N: HasLoopBody>(rt: &HostRuntime, it: &N) -> Option<String> {
     text(rt, it.label())
 }
 
-fn arguments<N: HasArgList>(rt: &HostRuntime, it: &N) -> Result<String, Fail> {
+fn arguments<N: HasArgList>(rt: &HostRuntime, it: &N) -> Option<String> {
     text(rt, it.arg_list())
 }
 
-fn items<N: HasModuleItem>(rt: &HostRuntime, it: &N) -> Result<String, Fail> {
+fn items<N: HasModuleItem>(rt: &HostRuntime, it: &N) -> Option<String> {
     texts(rt, it.items())
 }
 
-fn parameters<N: HasGenericParams>(rt: &HostRuntime, it: &N) -> Result<String, Fail> {
+fn parameters<N: HasGenericParams>(rt: &HostRuntime, it: &N) -> Option<String> {
     text(rt, it.generic_param_list())
 }
 
-fn where_clause<N: HasGenericParams>(rt: &HostRuntime, it: &N) -> Result<String, Fail> {
+fn where_clause<N: HasGenericParams>(rt: &HostRuntime, it: &N) -> Option<String> {
     text(rt, it.where_clause())
 }
 
-fn generic_arguments<N: HasGenericArgs>(rt: &HostRuntime, it: &N) -> Result<String, Fail> {
+fn generic_arguments<N: HasGenericArgs>(rt: &HostRuntime, it: &N) -> Option<String> {
     text(rt, it.generic_arg_list())
 }
 
-fn bounds<N: HasTypeBounds>(rt: &HostRuntime, it: &N) -> Result<String, Fail> {
+fn bounds<N: HasTypeBounds>(rt: &HostRuntime, it: &N) -> Option<String> {
     text(rt, it.type_bound_list())
 }
 
-fn colon<N: HasTypeBounds>(rt: &HostRuntime, it: &N) -> Result<String, Fail> {
+fn colon<N: HasTypeBounds>(rt: &HostRuntime, it: &N) -> Option<String> {
     token_text(rt, it.colon_token())
 }
 
-fn attributes<N: HasAttrs>(rt: &HostRuntime, it: &N) -> Result<String, Fail> {
+fn attributes<N: HasAttrs>(rt: &HostRuntime, it: &N) -> Option<String> {
     texts(rt, it.attrs())
 }
 
-fn doc_comments<N: HasAttrs>(rt: &HostRuntime, it: &N) -> Result<String, Fail> {
+fn doc_comments<N: HasAttrs>(rt: &HostRuntime, it: &N) -> Option<String> {
     texts(rt, it.doc_comments())
 }
 
-fn attributes_with_doc<N: HasAttrs>(rt: &HostRuntime, it: &N) -> Result<String, Fail> {
+fn attributes_with_doc<N: HasAttrs>(rt: &HostRuntime, it: &N) -> Option<String> {
     texts(rt, it.attrs_with_doc())
 }
 
@@ -204,55 +280,90 @@ const TRAIT: &str =
 #[test]
 fn traits_of_an_item(rt: HostRuntime) -> Result<(), Fail> {
     let it: ast::Trait = view(&rt, TRAIT)?;
-    assert_eq!(rt; name(&rt, &it)?.as_str(), "Foo");
-    assert_eq!(rt; visibility(&rt, &it)?.as_str(), "pub");
-    assert_eq!(rt; parameters(&rt, &it)?.as_str(), "<>");
-    assert_eq!(rt; where_clause(&rt, &it)?.as_str(), "where");
-    assert_eq!(rt; bounds(&rt, &it)?.as_str(), "+");
-    assert_eq!(rt; colon(&rt, &it)?.as_str(), ":");
-    assert_eq!(rt; attributes(&rt, &it)?.as_str(), "#a|#b|");
-    assert_eq!(rt; doc_comments(&rt, &it)?.as_str(), "///doc|");
-    assert_eq!(rt; attributes_with_doc(&rt, &it)?.as_str(), "///doc|#a|#b|");
-    assert_eq!(rt; text(&rt, it.assoc_item_list())?.as_str(), "{}");
-    Ok(())
+    all_hold(&[
+        ("name", is(name(&rt, &it), "Foo")),
+        ("visibility", is(visibility(&rt, &it), "pub")),
+        ("parameters", is(parameters(&rt, &it), "<>")),
+        ("where clause", is(where_clause(&rt, &it), "where")),
+        ("bounds", is(bounds(&rt, &it), "+")),
+        ("colon", is(colon(&rt, &it), ":")),
+        ("items", is(text(&rt, it.assoc_item_list()), "{}")),
+    ])
 }
 
 #[test]
-fn traits_of_calls_and_files(rt: HostRuntime) -> Result<(), Fail> {
+fn attributes_of_an_item(rt: HostRuntime) -> Result<(), Fail> {
+    let it: ast::Trait = view(&rt, TRAIT)?;
+    all_hold(&[
+        ("attributes", is(attributes(&rt, &it), "#a|#b|")),
+        ("doc comments", is(doc_comments(&rt, &it), "///doc|")),
+        ("both", is(attributes_with_doc(&rt, &it), "///doc|#a|#b|")),
+    ])
+}
+
+#[test]
+fn traits_of_calls(rt: HostRuntime) -> Result<(), Fail> {
     let call: ast::MethodCallExpr = view(&rt, CALL)?;
-    assert_eq!(rt; arguments(&rt, &call)?.as_str(), "(2,,3)");
-    assert_eq!(rt; generic_arguments(&rt, &call)?.as_str(), "::");
-    assert_eq!(rt; attributes(&rt, &call)?.as_str(), "#|");
+    all_hold(&[
+        ("arguments", is(arguments(&rt, &call), "(2,,3)")),
+        ("generic arguments", is(generic_arguments(&rt, &call), "::")),
+        ("attributes", is(attributes(&rt, &call), "#|")),
+    ])
+}
+
+#[test]
+fn traits_of_files(rt: HostRuntime) -> Result<(), Fail> {
     let file: ast::SourceFile = view(
         &rt,
         "SOURCE_FILE( FN( FN_KW:f ) WHITESPACE:~ ERROR( IDENT:x ) STRUCT( STRUCT_KW:s ) )",
     )?;
-    assert_eq!(rt; items(&rt, &file)?.as_str(), "f|s|");
-    Ok(())
+    all_hold(&[("items", is(items(&rt, &file), "f|s|"))])
 }
 
 #[test]
-fn bodies_of_loops(rt: HostRuntime) -> Result<(), Fail> {
+fn bodies_of_plain_loops(rt: HostRuntime) -> Result<(), Fail> {
     let plain: ast::LoopExpr = view(
         &rt,
         "LOOP_EXPR( LABEL( LIFETIME( LIFETIME_IDENT:'a ) COLON:: ) LOOP_KW:loop BLOCK_EXPR( L_CURLY:1 ) BLOCK_EXPR( L_CURLY:2 ) )",
     )?;
-    assert_eq!(rt; loop_body(&rt, &plain)?.as_str(), "1");
-    assert_eq!(rt; label(&rt, &plain)?.as_str(), "'a:");
+    all_hold(&[
+        ("body", is(loop_body(&rt, &plain), "1")),
+        ("label", is(label(&rt, &plain), "'a:")),
+    ])
+}
+
+#[test]
+fn bodies_of_loops_over_names(rt: HostRuntime) -> Result<(), Fail> {
     let over_a_name: ast::ForExpr = view(
         &rt,
         "FOR_EXPR( FOR_KW:for WILDCARD_PAT( UNDERSCORE:_ ) IN_KW:in PATH_EXPR( IDENT:x ) BLOCK_EXPR( L_CURLY:1 ) )",
     )?;
-    assert_eq!(rt; loop_body(&rt, &over_a_name)?.as_str(), "1");
+    all_hold(&[("body", is(loop_body(&rt, &over_a_name), "1"))])
+}
+
+#[test]
+fn bodies_of_loops_over_blocks(rt: HostRuntime) -> Result<(), Fail> {
     let over_a_block: ast::ForExpr = view(
         &rt,
         "FOR_EXPR( FOR_KW:for WILDCARD_PAT( UNDERSCORE:_ ) IN_KW:in BLOCK_EXPR( L_CURLY:1 ) BLOCK_EXPR( L_CURLY:2 ) )",
     )?;
-    assert_eq!(rt; loop_body(&rt, &over_a_block)?.as_str(), "2");
+    all_hold(&[("body", is(loop_body(&rt, &over_a_block), "2"))])
+}
+
+#[test]
+fn loops_without_bodies(rt: HostRuntime) -> Result<(), Fail> {
     let without_blocks: ast::WhileExpr = view(&rt, "WHILE_EXPR( WHILE_KW:while )")?;
-    assert_eq!(rt; loop_body(&rt, &without_blocks)?.as_str(), "-");
-    assert!(rt; without_blocks.label().is_none());
-    Ok(())
+    all_hold(&[
+        ("body", is(loop_body(&rt, &without_blocks), "-")),
+        ("no label", is_absent(without_blocks.label())),
+    ])
+}
+
+fn last_expression(rt: &HostRuntime, call: &ast::ArgList) -> Option<String> {
+    text(
+        rt,
+        ras_node::support::last_child::<ast::Expr>(call.syntax()),
+    )
 }
 
 #[test]
@@ -261,9 +372,11 @@ fn the_last_child_of_a_type(rt: HostRuntime) -> Result<(), Fail> {
         &rt,
         "ARG_LIST( L_PAREN:( LITERAL( INT_NUMBER:1 ) COMMA:, LITERAL( INT_NUMBER:2 ) COMMA:, LITERAL( INT_NUMBER:3 ) NAME( IDENT:a ) R_PAREN:) )",
     )?;
-    let last = ras_node::support::last_child::<ast::Expr>(call.syntax());
-    assert_eq!(rt; text(&rt, last)?.as_str(), "3");
-    let none = ras_node::support::last_child::<ast::Type>(call.syntax());
-    assert!(rt; none.is_none());
-    Ok(())
+    all_hold(&[
+        ("last expression", is(last_expression(&rt, &call), "3")),
+        (
+            "no type",
+            is_absent(ras_node::support::last_child::<ast::Type>(call.syntax())),
+        ),
+    ])
 }

@@ -1,4 +1,5 @@
 //! Characters, bytes and strings.
+use crate::rows::all_hold;
 use literal_escape::{EscapeError, Mode};
 use ras_literal::{
     ValueError, byte_value, bytes_value, char_value, offset_down, quote_offsets, range_up,
@@ -9,95 +10,165 @@ use std::borrow::{CowSlice, CowStr};
 use std::test::Fail;
 use text_size::{TextRange, TextSize};
 
+const CHARACTERS: [(&str, Result<char, EscapeError>); 7] = [
+    ("'a'", Ok('a')),
+    ("'\\n", Ok('\n')),
+    ("'\u{e9}'", Ok('\u{e9}')),
+    ("'ab'", Err(EscapeError::MoreThanOneChar)),
+    ("'", Err(EscapeError::ZeroChars)),
+    ("a'", Err(EscapeError::ZeroChars)),
+    ("", Err(EscapeError::ZeroChars)),
+];
+
+const BYTES: [(&str, Result<u8, EscapeError>); 4] = [
+    ("b'a'", Ok(97)),
+    ("b'\\xff'", Ok(255)),
+    ("'a'", Err(EscapeError::ZeroChars)),
+    ("b'\u{e9}'", Err(EscapeError::NonAsciiCharInByte)),
+];
+
 #[test]
-fn characters_and_bytes(rt: HostRuntime) -> Result<(), Fail> {
-    assert_eq!(rt; char_value("'a'"), Ok('a'));
-    assert_eq!(rt; char_value("'\\n"), Ok('\n'));
-    assert_eq!(rt; char_value("'\u{e9}'"), Ok('\u{e9}'));
-    assert_eq!(rt; char_value("'ab'"), Err(EscapeError::MoreThanOneChar));
-    assert_eq!(rt; char_value("'"), Err(EscapeError::ZeroChars));
-    assert_eq!(rt; char_value("a'"), Err(EscapeError::ZeroChars));
-    assert_eq!(rt; char_value(""), Err(EscapeError::ZeroChars));
-    assert_eq!(rt; byte_value("b'a'"), Ok(97));
-    assert_eq!(rt; byte_value("b'\\xff'"), Ok(255));
-    assert_eq!(rt; byte_value("'a'"), Err(EscapeError::ZeroChars));
-    assert_eq!(rt;
-        byte_value("b'\u{e9}'"),
-        Err(EscapeError::NonAsciiCharInByte)
-    );
+fn characters(rt: HostRuntime) -> Result<(), Fail> {
+    for (text, value) in CHARACTERS {
+        assert!(rt; char_value(text) == value, "in {text}");
+    }
     Ok(())
 }
+
+#[test]
+fn bytes(rt: HostRuntime) -> Result<(), Fail> {
+    for (text, value) in BYTES {
+        assert!(rt; byte_value(text) == value, "in {text}");
+    }
+    Ok(())
+}
+
+const CONTENTS: [(&str, Option<&str>); 5] = [
+    ("\"ab\"", Some("ab")),
+    ("r#\"a\"b\"#", Some("a\"b")),
+    ("\"\"", Some("")),
+    ("\"", None),
+    ("a", None),
+];
 
 #[test]
 fn contents(rt: HostRuntime) -> Result<(), Fail> {
-    assert_eq!(rt; string_content("\"ab\""), Some("ab"));
-    assert_eq!(rt; string_content("r#\"a\"b\"#"), Some("a\"b"));
-    assert_eq!(rt; string_content("\"\""), Some(""));
-    assert_eq!(rt; string_content("\""), None);
-    assert_eq!(rt; string_content("a"), None);
+    for (text, content) in CONTENTS {
+        assert!(rt; string_content(text) == content, "in {text}");
+    }
     Ok(())
 }
 
-// The text of a value, behind `=` where it is borrowed and `+` where it is not; else the refusal.
-fn shown(alloc: Global, text: &str) -> Result<String, Fail> {
-    Ok(match string_value(alloc, text) {
-        Ok(CowStr::Borrowed(value)) => format!(in alloc; "={value}")?,
-        Ok(CowStr::Owned(value)) => format!(in alloc; "+{value}")?,
-        Err(refusal) => format!(in alloc; "{refusal:?}")?,
+// The text of a value, behind `=` where it is borrowed and `+` where it is not.
+fn shown_value(alloc: Global, value: &CowStr<'_, Global>) -> Result<String, Fail> {
+    Ok(match value {
+        CowStr::Borrowed(text) => format!(in alloc; "={text}")?,
+        CowStr::Owned(text) => format!(in alloc; "+{text}")?,
     })
+}
+
+// The value of a string; else the refusal.
+fn shown(alloc: Global, text: &str) -> Result<String, Fail> {
+    match string_value(alloc, text) {
+        Ok(value) => shown_value(alloc, &value),
+        Err(refusal) => Ok(format!(in alloc; "{refusal:?}")?),
+    }
+}
+
+const STRINGS: [(&str, &str); 13] = [
+    ("\"ab\"", "=ab"),
+    ("\"\"", "="),
+    ("\"a\\tb\"", "+a\tb"),
+    (
+        "\"C:\\\\Windows\\\\System32\\\\\"",
+        "+C:\\Windows\\System32\\",
+    ),
+    ("\"abc\\\n\"", "+abc"),
+    ("\"a\\\n  \nb\"", "+ab"),
+    ("r\"a\\tb\"", "=a\\tb"),
+    ("r#\"a\"b\"#", "=a\"b"),
+    ("\"\\q\\x\"", "Escape(TooShortHexEscape)"),
+    ("\"a\rb\"", "Escape(BareCarriageReturn)"),
+    ("\"", "Escape(LoneSlash)"),
+    ("", "Escape(LoneSlash)"),
+    ("\"\u{e9}\\u{1F600}\"", "+\u{e9}\u{1F600}"),
+];
+
+fn is_shown(alloc: Global, row: &(&'static str, &'static str)) -> Result<bool, Fail> {
+    Ok(shown(alloc, row.0)?.as_str() == row.1)
 }
 
 #[test]
 fn values_of_strings(rt: HostRuntime) -> Result<(), Fail> {
-    let rows = [
-        ("\"ab\"", "=ab"),
-        ("\"\"", "="),
-        ("\"a\\tb\"", "+a\tb"),
-        (
-            "\"C:\\\\Windows\\\\System32\\\\\"",
-            "+C:\\Windows\\System32\\",
-        ),
-        ("\"abc\\\n\"", "+abc"),
-        ("\"a\\\n  \nb\"", "+ab"),
-        ("r\"a\\tb\"", "=a\\tb"),
-        ("r#\"a\"b\"#", "=a\"b"),
-        ("\"\\q\\x\"", "Escape(TooShortHexEscape)"),
-        ("\"a\rb\"", "Escape(BareCarriageReturn)"),
-        ("\"", "Escape(LoneSlash)"),
-        ("", "Escape(LoneSlash)"),
-        ("\"\u{e9}\\u{1F600}\"", "+\u{e9}\u{1F600}"),
-    ];
-    for (text, expected) in rows {
-        assert_eq!(rt; shown(rt.alloc(), text)?.as_str(), expected, "in {text}");
+    for row in &STRINGS {
+        assert!(rt; is_shown(rt.alloc(), row)?, "in {}", row.0);
     }
     Ok(())
+}
+
+// The value is borrowed from its literal.
+fn is_borrowed(value: Result<CowSlice<'_, u8, Global>, ValueError>, bytes: &[u8]) -> bool {
+    match value {
+        Ok(CowSlice::Borrowed(found)) => found == bytes,
+        _ => false,
+    }
+}
+
+// The value took memory.
+fn is_owned(value: Result<CowSlice<'_, u8, Global>, ValueError>, bytes: &[u8]) -> bool {
+    match value {
+        Ok(CowSlice::Owned(found)) => found.as_slice() == bytes,
+        _ => false,
+    }
+}
+
+fn is_refused(value: Result<CowSlice<'_, u8, Global>, ValueError>, fault: EscapeError) -> bool {
+    value.err() == Some(ValueError::Escape(fault))
+}
+
+// The value of a byte string.
+fn in_bytes(alloc: Global, text: &str) -> Result<CowSlice<'_, u8, Global>, ValueError> {
+    bytes_value(alloc, Mode::ByteStr, "br", text)
+}
+
+// The value of a C string.
+fn in_c(alloc: Global, text: &str) -> Result<CowSlice<'_, u8, Global>, ValueError> {
+    bytes_value(alloc, Mode::CStr, "cr", text)
 }
 
 #[test]
 fn values_of_byte_strings(rt: HostRuntime) -> Result<(), Fail> {
     let alloc = rt.alloc();
-    let borrowed = bytes_value(alloc, Mode::ByteStr, "br", "b\"ab\"");
-    assert!(rt; matches!(borrowed, Ok(CowSlice::Borrowed(b"ab"))));
-    let raw = bytes_value(alloc, Mode::ByteStr, "br", "br\"\\n\"");
-    assert!(rt; matches!(raw, Ok(CowSlice::Borrowed(b"\\n"))));
-    match bytes_value(alloc, Mode::ByteStr, "br", "b\"\\xffa\\\\\"") {
-        Ok(CowSlice::Owned(bytes)) => assert_eq!(rt; bytes.as_slice(), [255, 97, 92].as_slice()),
-        _ => assert!(rt; false),
-    }
-    match bytes_value(alloc, Mode::CStr, "cr", "c\"\u{e9}\\xff\"") {
-        Ok(CowSlice::Owned(bytes)) => assert_eq!(rt; bytes.as_slice(), [195, 169, 255].as_slice()),
-        _ => assert!(rt; false),
-    }
-    let nul = bytes_value(alloc, Mode::CStr, "cr", "c\"\\0\"");
-    assert!(rt; matches!(nul, Err(ValueError::Escape(EscapeError::NulInCStr))));
-    let unicode = bytes_value(alloc, Mode::ByteStr, "br", "b\"\\u{61}\"");
-    assert!(rt;
-        matches!(
-            unicode,
-            Err(ValueError::Escape(EscapeError::UnicodeEscapeInByte))
-        )
-    );
-    Ok(())
+    all_hold(&[
+        ("plain", is_borrowed(in_bytes(alloc, "b\"ab\""), b"ab")),
+        ("raw", is_borrowed(in_bytes(alloc, "br\"\\n\""), b"\\n")),
+        (
+            "escaped",
+            is_owned(in_bytes(alloc, "b\"\\xffa\\\\\""), &[255, 97, 92]),
+        ),
+        (
+            "unicode",
+            is_refused(
+                in_bytes(alloc, "b\"\\u{61}\""),
+                EscapeError::UnicodeEscapeInByte,
+            ),
+        ),
+    ])
+}
+
+#[test]
+fn values_of_c_strings(rt: HostRuntime) -> Result<(), Fail> {
+    let alloc = rt.alloc();
+    all_hold(&[
+        (
+            "escaped",
+            is_owned(in_c(alloc, "c\"\u{e9}\\xff\""), &[195, 169, 255]),
+        ),
+        (
+            "nul",
+            is_refused(in_c(alloc, "c\"\\0\""), EscapeError::NulInCStr),
+        ),
+    ])
 }
 
 #[test]
@@ -125,28 +196,30 @@ fn quotes_of_strings(rt: HostRuntime) -> Result<(), Fail> {
     Ok(())
 }
 
+fn contents_at_5() -> TextRange {
+    TextRange::new(TextSize::new(5), TextSize::new(7))
+}
+
 #[test]
-fn places_in_contents(rt: HostRuntime) -> Result<(), Fail> {
-    let contents = TextRange::new(TextSize::new(5), TextSize::new(7));
+fn ranges_up_from_contents(rt: HostRuntime) -> Result<(), Fail> {
+    let contents = contents_at_5();
     let whole = TextRange::up_to(TextSize::new(2));
-    assert_eq!(rt; range_up(contents, whole), Some(contents));
     let end = TextRange::empty(TextSize::new(2));
-    assert_eq!(rt;
-        range_up(contents, end),
-        Some(TextRange::empty(TextSize::new(7)))
-    );
-    assert_eq!(rt;
-        range_up(contents, TextRange::up_to(TextSize::new(3))),
-        None
-    );
-    assert_eq!(rt; offset_down(contents, TextSize::new(4)), None);
-    assert_eq!(rt;
-        offset_down(contents, TextSize::new(5)),
-        Some(TextSize::new(0))
-    );
-    assert_eq!(rt;
-        offset_down(contents, TextSize::new(9)),
-        Some(TextSize::new(4))
-    );
+    let longer = TextRange::up_to(TextSize::new(3));
+    let end_above = TextRange::empty(TextSize::new(7));
+    assert!(rt; range_up(contents, whole) == Some(contents));
+    assert!(rt; range_up(contents, end) == Some(end_above));
+    assert!(rt; range_up(contents, longer).is_none());
+    Ok(())
+}
+
+const OFFSETS: [(u32, Option<u32>); 3] = [(4, None), (5, Some(0)), (9, Some(4))];
+
+#[test]
+fn offsets_down_into_contents(rt: HostRuntime) -> Result<(), Fail> {
+    for (above, below) in OFFSETS {
+        let found = offset_down(contents_at_5(), TextSize::new(above));
+        assert!(rt; found == below.map(TextSize::new), "at {above}");
+    }
     Ok(())
 }
