@@ -72,16 +72,16 @@ fn opened_meta(sheet: &mut Sheet, node: &SyntaxNode) -> Result<(), AllocError> {
 }
 
 fn words_of_meta(sheet: &mut Sheet, it: &Meta) -> Result<(), AllocError> {
-    sheet.asked("Meta.as_simple_atom", it.as_simple_atom(sheet.alloc()))?;
-    sheet.asked("Meta.simple_name", it.simple_name(sheet.alloc()))?;
-    match it.as_simple_call(sheet.alloc()) {
-        Ok(Some((name, tree))) => {
-            sheet.string("Meta.as_simple_call.0", Some(name))?;
-            sheet.node("Meta.as_simple_call.1", Some(tree))
-        }
-        Ok(None) => sheet.word("Meta.as_simple_call.0", "-"),
-        Err(_) => sheet.refused("Meta.as_simple_call.0"),
-    }
+    let alloc = sheet.alloc();
+    sheet.asked("Meta.as_simple_atom", it.as_simple_atom(alloc))?;
+    sheet.asked("Meta.simple_name", it.simple_name(alloc))?;
+    let answer = it.as_simple_call(alloc);
+    simple_call(
+        sheet,
+        "Meta.as_simple_call.0",
+        "Meta.as_simple_call.1",
+        answer,
+    )
 }
 
 fn meta_words(sheet: &mut Sheet, node: &SyntaxNode) -> Result<(), AllocError> {
