@@ -41,23 +41,10 @@ fn sum(rt: &HostRuntime) -> Result<SyntaxNode, Fail> {
 
 // The dump of a tree.
 fn ensure_dump(rt: &HostRuntime, node: &SyntaxNode, dump: &'static str) -> Result<(), Fail> {
-    if node.dump(rt.alloc())?.as_str() == dump {
-        Ok(())
-    } else {
-        Err(Fail::from(dump))
-    }
+    ensure(node.dump(rt.alloc())?.as_str() == dump, dump)
 }
 
-// The text of a tree.
-fn ensure_text(node: &SyntaxNode, text: &'static str) -> Result<(), Fail> {
-    if node.as_str() == text {
-        Ok(())
-    } else {
-        Err(Fail::from(text))
-    }
-}
-
-// The second node is a tree with this dump, which stands in place of the first.
+// The tree with another one, written as words, in place of a node: it has this dump.
 fn replace(
     rt: &HostRuntime,
     node: &SyntaxNode,
@@ -89,14 +76,6 @@ fn ident_of(root: &SyntaxNode) -> Result<SyntaxToken, Fail> {
     first_token(&first_node(&first_node(root)?)?)
 }
 
-fn ensure_ident(token: &SyntaxToken) -> Result<(), Fail> {
-    if token.text() == "name" {
-        Ok(())
-    } else {
-        Err(Fail::from("the token that was there"))
-    }
-}
-
 #[test]
 fn a_token_is_replaced(rt: HostRuntime) -> Result<(), Fail> {
     let root = built(&rt, PARAM)?;
@@ -107,8 +86,8 @@ fn a_token_is_replaced(rt: HostRuntime) -> Result<(), Fail> {
         &new,
         "PARAM@0..2\n  IDENT_PAT@0..2\n    NAME@0..2\n      IDENT@0..2 \"ab\"\n",
     )?;
-    ensure_text(&root, "name")?;
-    ensure_ident(&ident)
+    ensure(root.as_str() == "name", "the text that was there")?;
+    ensure(ident.text() == "name", "the token that was there")
 }
 
 // The parents of all that is below a tree's root, in preorder.
@@ -136,7 +115,7 @@ fn the_first_child_is_replaced(rt: HostRuntime) -> Result<(), Fail> {
         PARAM,
         "BIN_EXPR@0..8\n  PARAM@0..4\n    IDENT_PAT@0..4\n      NAME@0..4\n        IDENT@0..4 \"name\"\n  WHITESPACE@4..5 \" \"\n  PLUS@5..6 \"+\"\n  WHITESPACE@6..7 \" \"\n  LITERAL@7..8\n    INT_NUMBER@7..8 \"1\"\n",
     )?;
-    ensure_text(&new, "name + 1")?;
+    ensure(new.as_str() == "name + 1", "the text with a node replaced")?;
     ensure_parents(&rt, &new)
 }
 
@@ -209,7 +188,8 @@ fn a_subtree_is_cloned(rt: HostRuntime) -> Result<(), Fail> {
 #[test]
 fn a_subtree_behind_a_longer_token_is_cloned(rt: HostRuntime) -> Result<(), Fail> {
     let one = first_node(&sum(&rt)?)?;
-    let Some(NodeOrToken::Token(sign)) = one.next_sibling_or_token() else {
+    let wide = one.replace_with(rt.alloc(), &built(&rt, PARAM)?)?;
+    let Some(NodeOrToken::Token(sign)) = first_node(&wide)?.next_sibling_or_token() else {
         return Err(Fail::from("no white space"));
     };
     let stretched = sign.replace_with(rt.alloc(), SyntaxKind::COMMENT, "/**/")?;
@@ -255,7 +235,7 @@ fn ensure_text_is_printed(rt: &HostRuntime, root: &SyntaxNode) -> Result<(), Fai
 #[test]
 fn texts_answer(rt: HostRuntime) -> Result<(), Fail> {
     let root = sum(&rt)?;
-    ensure_text(&root, "1 + 1")?;
+    ensure(root.as_str() == "1 + 1", "as_str")?;
     ensure_child_texts(&root)?;
     let found = [char_at(&root, 2), char_at(&root, 5), char_at(&root, 6)];
     assert!(rt; found == [Some('+'), None, None]);
