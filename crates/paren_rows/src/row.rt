@@ -77,19 +77,26 @@ fn marked(root: &SyntaxNode, number: Option<usize>) -> Result<SyntaxNode, Stoppe
     }
 }
 
+fn expr_asks(own: &SyntaxNode, parent: &SyntaxNode) -> Option<bool> {
+    Some(ast::cast_ref::<ast::Expr>(own)?.needs_parens_in(parent))
+}
+
+fn expr_asks_in(own: &SyntaxNode, parent: &SyntaxNode, place: &SyntaxNode) -> Option<bool> {
+    Some(ast::cast_ref::<ast::Expr>(own)?.needs_parens_in_place_of(parent, place))
+}
+
+fn type_asks(own: &SyntaxNode, parent: &SyntaxNode) -> Option<bool> {
+    Some(ast::cast_ref::<ast::Type>(own)?.needs_parens_in(parent))
+}
+
 /// Whether the marked node needs parentheses.
 pub fn answer(alloc: Global, words: &str) -> Result<bool, Stopped> {
     let (root, marks) = read(alloc, words)?;
     let own = marked(&root, marks.own)?;
     let parent = marked(&root, marks.parent)?;
-    if let Some(expr) = ast::cast_ref::<ast::Expr>(&own) {
-        return match marks.place {
-            None => Ok(expr.needs_parens_in(&parent)),
-            place => Ok(expr.needs_parens_in_place_of(&parent, &marked(&root, place)?)),
-        };
-    }
-    match ast::cast_ref::<ast::Type>(&own) {
-        Some(ty) => Ok(ty.needs_parens_in(&parent)),
-        None => Err(Stopped::NoNode),
-    }
+    let asks = match marks.place {
+        None => expr_asks(&own, &parent),
+        place => expr_asks_in(&own, &parent, &marked(&root, place)?),
+    };
+    asks.or(type_asks(&own, &parent)).ok_or(Stopped::NoNode)
 }

@@ -16,74 +16,85 @@ fn shown(alloc: Global, kind: SyntaxKind, text: &str) -> Result<String, Fail> {
     })
 }
 
+const STRINGS: [(&str, &str); 10] = [
+    ("\"ab\"", "=ab"),
+    ("\"\\x61bcde\"", "+abcde"),
+    ("\"\\foobar\"", "Escape(InvalidEscape)"),
+    ("\"\\\n    \"", "+"),
+    ("\"abc\\\n\"", "+abc"),
+    ("\"a\\\n  \nb\"", "+ab"),
+    (
+        "\"C:\\\\Windows\\\\System32\\\\\"",
+        "+C:\\Windows\\System32\\",
+    ),
+    ("\"\u{e9}\"", "=\u{e9}"),
+    ("r\"a\\n\"", "=a\\n"),
+    ("\"", "Escape(LoneSlash)"),
+];
+
+fn has_value(
+    alloc: Global,
+    kind: SyntaxKind,
+    row: &(&'static str, &'static str),
+) -> Result<bool, Fail> {
+    Ok(shown(alloc, kind, row.0)?.as_str() == row.1)
+}
+
 #[test]
 fn strings(rt: HostRuntime) -> Result<(), Fail> {
-    let rows = [
-        ("\"ab\"", "=ab"),
-        ("\"\\x61bcde\"", "+abcde"),
-        ("\"\\foobar\"", "Escape(InvalidEscape)"),
-        ("\"\\\n    \"", "+"),
-        ("\"abc\\\n\"", "+abc"),
-        ("\"a\\\n  \nb\"", "+ab"),
-        (
-            "\"C:\\\\Windows\\\\System32\\\\\"",
-            "+C:\\Windows\\System32\\",
-        ),
-        ("\"\u{e9}\"", "=\u{e9}"),
-        ("r\"a\\n\"", "=a\\n"),
-        ("\"", "Escape(LoneSlash)"),
-    ];
-    for (text, expected) in rows {
-        assert_eq!(rt;
-            shown(rt.alloc(), SyntaxKind::STRING, text)?.as_str(),
-            expected,
-            "in {text}"
+    for row in &STRINGS {
+        assert!(rt;
+            has_value(rt.alloc(), SyntaxKind::STRING, row)?,
+            "in {}",
+            row.0
         );
     }
     Ok(())
 }
+
+const BYTE_STRINGS: [(&str, &str); 8] = [
+    ("b\"ab\"", "=ab"),
+    ("b\"\\xff\"", "Escape(NonAsciiCharInByte)"),
+    ("b\"\\xc3\\xa9\"", "+\u{e9}"),
+    ("b\"\\\n    \"", "+"),
+    (
+        "b\"C:\\\\Windows\\\\System32\\\\\"",
+        "+C:\\Windows\\System32\\",
+    ),
+    ("b\"\u{e9}\"", "Escape(NonAsciiCharInByte)"),
+    ("br\"\u{e9}\\xff\"", "=\u{e9}\\xff"),
+    ("b\"", "Escape(LoneSlash)"),
+];
 
 #[test]
 fn byte_strings(rt: HostRuntime) -> Result<(), Fail> {
-    let rows = [
-        ("b\"ab\"", "=ab"),
-        ("b\"\\xff\"", "Escape(NonAsciiCharInByte)"),
-        ("b\"\\xc3\\xa9\"", "+\u{e9}"),
-        ("b\"\\\n    \"", "+"),
-        (
-            "b\"C:\\\\Windows\\\\System32\\\\\"",
-            "+C:\\Windows\\System32\\",
-        ),
-        ("b\"\u{e9}\"", "Escape(NonAsciiCharInByte)"),
-        ("br\"\u{e9}\\xff\"", "=\u{e9}\\xff"),
-        ("b\"", "Escape(LoneSlash)"),
-    ];
-    for (text, expected) in rows {
-        assert_eq!(rt;
-            shown(rt.alloc(), SyntaxKind::BYTE_STRING, text)?.as_str(),
-            expected,
-            "in {text}"
+    for row in &BYTE_STRINGS {
+        assert!(rt;
+            has_value(rt.alloc(), SyntaxKind::BYTE_STRING, row)?,
+            "in {}",
+            row.0
         );
     }
     Ok(())
 }
 
+const C_STRINGS: [(&str, &str); 7] = [
+    ("c\"ab\"", "=ab"),
+    ("c\"\u{e9}\"", "=\u{e9}"),
+    ("c\"\u{e9}\\xff\"", "Escape(NonAsciiCharInByte)"),
+    ("c\"\\xc3\\xa9\"", "+\u{e9}"),
+    ("c\"\\\n    \"", "+"),
+    ("c\"\\0\"", "Escape(NulInCStr)"),
+    ("cr\"\\0\"", "=\\0"),
+];
+
 #[test]
 fn c_strings(rt: HostRuntime) -> Result<(), Fail> {
-    let rows = [
-        ("c\"ab\"", "=ab"),
-        ("c\"\u{e9}\"", "=\u{e9}"),
-        ("c\"\u{e9}\\xff\"", "Escape(NonAsciiCharInByte)"),
-        ("c\"\\xc3\\xa9\"", "+\u{e9}"),
-        ("c\"\\\n    \"", "+"),
-        ("c\"\\0\"", "Escape(NulInCStr)"),
-        ("cr\"\\0\"", "=\\0"),
-    ];
-    for (text, expected) in rows {
-        assert_eq!(rt;
-            shown(rt.alloc(), SyntaxKind::C_STRING, text)?.as_str(),
-            expected,
-            "in {text}"
+    for row in &C_STRINGS {
+        assert!(rt;
+            has_value(rt.alloc(), SyntaxKind::C_STRING, row)?,
+            "in {}",
+            row.0
         );
     }
     Ok(())
@@ -117,34 +128,47 @@ fn bytes_of_c_strings(rt: HostRuntime) -> Result<(), Fail> {
     Ok(())
 }
 
+const CHARACTERS: [(&str, Result<char, EscapeError>); 5] = [
+    ("'a'", Ok('a')),
+    ("'\\n", Ok('\n')),
+    ("'ab'", Err(EscapeError::MoreThanOneChar)),
+    ("'", Err(EscapeError::ZeroChars)),
+    ("a", Err(EscapeError::ZeroChars)),
+];
+
+fn is_character(
+    alloc: Global,
+    row: &(&'static str, Result<char, EscapeError>),
+) -> Result<bool, Fail> {
+    let it: ast::Char = typed(alloc, SyntaxKind::CHAR, row.0)?;
+    Ok(it.value() == row.1)
+}
+
 #[test]
 fn characters(rt: HostRuntime) -> Result<(), Fail> {
-    let rows = [
-        ("'a'", Ok('a')),
-        ("'\\n", Ok('\n')),
-        ("'ab'", Err(EscapeError::MoreThanOneChar)),
-        ("'", Err(EscapeError::ZeroChars)),
-        ("a", Err(EscapeError::ZeroChars)),
-    ];
-    for (text, expected) in rows {
-        let it: ast::Char = typed(rt.alloc(), SyntaxKind::CHAR, text)?;
-        assert_eq!(rt; it.value(), expected, "in {text}");
+    for row in &CHARACTERS {
+        assert!(rt; is_character(rt.alloc(), row)?, "in {}", row.0);
     }
     Ok(())
 }
 
+const BYTES: [(&str, Result<u8, EscapeError>); 5] = [
+    ("b'a'", Ok(97)),
+    ("b'\\xff'", Ok(255)),
+    ("b'ab'", Err(EscapeError::MoreThanOneChar)),
+    ("b'", Err(EscapeError::ZeroChars)),
+    ("'a'", Err(EscapeError::ZeroChars)),
+];
+
+fn is_byte(alloc: Global, row: &(&'static str, Result<u8, EscapeError>)) -> Result<bool, Fail> {
+    let it: ast::Byte = typed(alloc, SyntaxKind::BYTE, row.0)?;
+    Ok(it.value() == row.1)
+}
+
 #[test]
 fn bytes(rt: HostRuntime) -> Result<(), Fail> {
-    let rows = [
-        ("b'a'", Ok(97)),
-        ("b'\\xff'", Ok(255)),
-        ("b'ab'", Err(EscapeError::MoreThanOneChar)),
-        ("b'", Err(EscapeError::ZeroChars)),
-        ("'a'", Err(EscapeError::ZeroChars)),
-    ];
-    for (text, expected) in rows {
-        let it: ast::Byte = typed(rt.alloc(), SyntaxKind::BYTE, text)?;
-        assert_eq!(rt; it.value(), expected, "in {text}");
+    for row in &BYTES {
+        assert!(rt; is_byte(rt.alloc(), row)?, "in {}", row.0);
     }
     Ok(())
 }
