@@ -5,7 +5,7 @@ use crate::stopped::Stopped;
 use crate::words::words_of;
 use crate::written::Written;
 use ra_ap_syntax::ast::prec::reads_back;
-use ra_ap_syntax::{AstNode, Edition, SyntaxNode, ast};
+use ra_ap_syntax::{AstNode, Edition, Parse, SyntaxNode, ast};
 use std::alloc::Global;
 use tiny_front::Tiny;
 
@@ -26,21 +26,57 @@ fn answer(node: &SyntaxNode) -> Option<bool> {
     ast::cast_ref::<ast::Expr>(node).and_then(|expr| reads_back(&expr))
 }
 
+fn has_errors(alloc: Global, parse: &Parse<ast::Expr>) -> Result<bool, Stopped> {
+    Ok(!parse.errors(alloc)?.is_empty())
+}
+
+fn has_words(alloc: Global, node: &SyntaxNode, words: &str) -> Result<bool, Stopped> {
+    Ok(words_of(alloc, node)?.as_str() == words)
+}
+
+// What comes of a text whose built tree reads back: it has to be read as these words, without errors and in a body too.
+fn read_back(
+    alloc: Global,
+    text: &str,
+    parse: &Parse<ast::Expr>,
+    words: &str,
+) -> Result<Verdict, Stopped> {
+    let is_read = has_words(alloc, &parse.syntax_node(), words)?
+        && !has_errors(alloc, parse)?
+        && stands_in_a_body(alloc, text, words)?;
+    Ok(if is_read {
+        Verdict::ReadsBack
+    } else {
+        Verdict::Wrong
+    })
+}
+
+// What comes of a text whose built tree doesn't read back: it has errors, or is read as other words, whose tree does.
+fn read_otherwise(
+    alloc: Global,
+    parse: &Parse<ast::Expr>,
+    words: &str,
+) -> Result<Verdict, Stopped> {
+    if has_errors(alloc, parse)? {
+        return Ok(Verdict::Refused);
+    }
+    let root = parse.syntax_node();
+    let is_other = !has_words(alloc, &root, words)? && answer(&root) == Some(true);
+    Ok(if is_other {
+        Verdict::Other
+    } else {
+        Verdict::Wrong
+    })
+}
+
 /// Reads a term that is written down, and compares.
 pub fn verdict_of(alloc: Global, written: &Written) -> Result<Verdict, Stopped> {
     let text = written.text.as_str();
     let words = words_of(alloc, &written.tree)?;
     let parse = ast::Expr::parse(alloc, text, &Tiny, Edition::CURRENT)?;
-    let has_errors = !parse.errors(alloc)?.is_empty();
-    let root = parse.syntax_node();
-    let is_same = words_of(alloc, &root)? == words;
-    let verdict = match answer(&written.tree) {
-        Some(true) if is_same && !has_errors && stands_in_a_body(alloc, text, words.as_str())? => {
-            Verdict::ReadsBack
-        }
-        Some(false) if has_errors => Verdict::Refused,
-        Some(false) if !is_same && answer(&root) == Some(true) => Verdict::Other,
-        _ => Verdict::Wrong,
-    };
-    Ok(verdict)
+    match answer(&written.tree) {
+        Some(true) => read_back(alloc, text, &parse, words.as_str()),
+        Some(false) => read_otherwise(alloc, &parse, words.as_str()),
+        None => Ok(Verdict::Wrong),
+    }
 }

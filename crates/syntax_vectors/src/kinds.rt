@@ -2,8 +2,8 @@
 use lossless_tree::{KINDS, Language, RustLanguage, SyntaxKind, T};
 use std::test::Fail;
 
-// The name of each kind that `T!` names.
-fn name_in_t(kind: SyntaxKind) -> Option<&'static str> {
+// The name of each kind of punctuation that `T!` names.
+fn punctuation(kind: SyntaxKind) -> Option<&'static str> {
     match kind {
         T![;] => Some("SEMICOLON"),
         T![,] => Some("COMMA"),
@@ -57,6 +57,13 @@ fn name_in_t(kind: SyntaxKind) -> Option<&'static str> {
         T![>>] => Some("SHR"),
         T![<<=] => Some("SHLEQ"),
         T![>>=] => Some("SHREQ"),
+        _ => None,
+    }
+}
+
+// The name of each keyword that `T!` names.
+fn keyword(kind: SyntaxKind) -> Option<&'static str> {
+    match kind {
         T![as] => Some("AS_KW"),
         T![async] => Some("ASYNC_KW"),
         T![auto] => Some("AUTO_KW"),
@@ -116,7 +123,7 @@ fn name_in_t(kind: SyntaxKind) -> Option<&'static str> {
 fn t_names_punctuation_and_keywords(rt: HostRuntime) {
     let mut named = 0u32;
     for kind in &KINDS {
-        if let Some(name) = name_in_t(*kind) {
+        if let Some(name) = punctuation(*kind).or(keyword(*kind)) {
             assert_eq!(rt; kind.name(), Some(name));
             named = named.wrapping_add(1);
         }
@@ -190,22 +197,27 @@ fn written<L: Language>(kind: SyntaxKind) -> u32 {
     L::kind_to_raw(kind)
 }
 
+// Numbers at their edges, and the kind of each.
+const NUMBERS: [(u32, Option<SyntaxKind>); 9] = [
+    (0, Some(SyntaxKind::WHITESPACE)),
+    (116, Some(SyntaxKind::YIELD_KW)),
+    (117, Some(SyntaxKind::ARRAY_EXPR)),
+    (263, Some(SyntaxKind::MACRO_STMTS)),
+    (264, None),
+    (65_535, None),
+    (65_536, Some(SyntaxKind::OTHER(0))),
+    (131_071, Some(SyntaxKind::OTHER(65_535))),
+    (131_072, None),
+];
+
 #[test]
 fn numbers_at_their_edges(rt: HostRuntime) {
-    assert_eq!(rt; read::<RustLanguage>(0), Some(SyntaxKind::WHITESPACE));
-    assert_eq!(rt; read::<RustLanguage>(116), Some(SyntaxKind::YIELD_KW));
-    assert_eq!(rt; read::<RustLanguage>(117), Some(SyntaxKind::ARRAY_EXPR));
-    assert_eq!(rt; read::<RustLanguage>(263), Some(SyntaxKind::MACRO_STMTS));
-    assert_eq!(rt; read::<RustLanguage>(264), None);
-    assert_eq!(rt; read::<RustLanguage>(65_535), None);
-    assert_eq!(rt; read::<RustLanguage>(65_536), Some(SyntaxKind::OTHER(0)));
-    assert_eq!(rt;
-        read::<RustLanguage>(131_071),
-        Some(SyntaxKind::OTHER(65_535))
-    );
-    assert_eq!(rt; read::<RustLanguage>(131_072), None);
-    assert_eq!(rt; written::<RustLanguage>(SyntaxKind::MACRO_STMTS), 263);
-    assert_eq!(rt; written::<RustLanguage>(SyntaxKind::OTHER(65_535)), 131_071);
+    for row in &NUMBERS {
+        assert_eq!(rt; read::<RustLanguage>(row.0), row.1);
+        if let Some(kind) = row.1 {
+            assert_eq!(rt; written::<RustLanguage>(kind), row.0);
+        }
+    }
 }
 
 #[test]

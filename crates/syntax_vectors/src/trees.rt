@@ -1,4 +1,5 @@
 //! Trees made by the builder: what its calls and those of a cursor answer.
+use crate::ensure::ensure_text;
 use lossless_tree::{
     FinishError, NodeOrToken, ReplaceError, SyntaxElement, SyntaxKind, SyntaxNode, TreeBuilder,
     WalkEvent,
@@ -30,20 +31,17 @@ fn a_tree_keeps_its_text(rt: HostRuntime) -> Result<(), Fail> {
     Ok(())
 }
 
+fn dumps_as(rt: &HostRuntime, element: SyntaxElement, want: &str) -> Result<(), Fail> {
+    ensure_text(rt.alloc(), element.dump(rt.alloc())?.as_str(), want)
+}
+
 #[test]
 fn elements_dump_as_what_they_are(rt: HostRuntime) -> Result<(), Fail> {
     let root = sample(&rt)?;
-    let of_node = root.dump(rt.alloc())?;
     let token = root.first_token().ok_or("no first token")?;
-    let of_token = token.dump(rt.alloc())?;
-    assert_eq!(rt; of_token.as_str(), "IDENT@0..1 \"a\"\n");
-    let element: SyntaxElement = NodeOrToken::Node(root);
-    let found = element.dump(rt.alloc())?;
-    assert_eq!(rt; found.as_str(), of_node.as_str());
-    let element: SyntaxElement = NodeOrToken::Token(token);
-    let found = element.dump(rt.alloc())?;
-    assert_eq!(rt; found.as_str(), of_token.as_str());
-    Ok(())
+    dumps_as(&rt, NodeOrToken::Token(token), "IDENT@0..1 \"a\"\n")?;
+    let of_node = root.dump(rt.alloc())?;
+    dumps_as(&rt, NodeOrToken::Node(root), of_node.as_str())
 }
 
 #[test]
@@ -80,56 +78,61 @@ fn a_walk_enters_and_leaves(rt: HostRuntime) -> Result<(), Fail> {
         show(&mut seen, event)?;
     }
     assert_eq!(rt; seen.as_str(), "([a]()[\u{e9}])");
-    let mut count: usize = 0;
-    for _element in root.descendants_with_tokens() {
-        count = count.saturating_add(1);
-    }
-    assert_eq!(rt; count, 4);
+    assert_eq!(rt; count_elements(&root), 4);
     Ok(())
 }
 
 #[test]
-fn cursors_step(rt: HostRuntime) -> Result<(), Fail> {
+fn a_root_stands_alone(rt: HostRuntime) -> Result<(), Fail> {
     let root = sample(&rt)?;
     assert!(rt; root.parent().is_none());
     assert!(rt; root.next_sibling_or_token().is_none());
-    let Some(NodeOrToken::Token(first)) = root.first_child_or_token() else {
-        return Err(Fail::from("no first child"));
-    };
-    assert_eq!(rt; first.kind(), SyntaxKind::IDENT);
-    let copy = first.clone()?;
-    assert_eq!(rt; copy.text(), "a");
-    let text = copy.dump(rt.alloc())?;
-    assert_eq!(rt; text.as_str(), "IDENT@0..1 \"a\"\n");
     Ok(())
 }
 
 #[test]
-fn elements_step_and_ancestors_go_up(rt: HostRuntime) -> Result<(), Fail> {
-    let root = sample(&rt)?;
-    let Some(first) = root.first_child_or_token() else {
-        return Err(Fail::from("no first child"));
-    };
+fn a_copy_of_a_token_is_the_token(rt: HostRuntime) -> Result<(), Fail> {
+    let first = sample(&rt)?.first_token().ok_or("no first token")?;
+    let copy = first.clone()?;
+    assert!(rt; copy == first);
+    assert_eq!(rt; copy.kind(), SyntaxKind::IDENT);
+    assert_eq!(rt; copy.text(), "a");
+    dumps_as(&rt, NodeOrToken::Token(copy), "IDENT@0..1 \"a\"\n")
+}
+
+#[test]
+fn elements_are_nodes_or_tokens(rt: HostRuntime) -> Result<(), Fail> {
+    let first = sample(&rt)?.first_child_or_token().ok_or("no first child")?;
     assert_eq!(rt; first.kind(), SyntaxKind::IDENT);
     assert!(rt; first.as_node().is_none());
     assert!(rt; first.as_token().is_some());
-    let Some(second) = first.next_sibling_or_token() else {
-        return Err(Fail::from("no second child"));
-    };
+    Ok(())
+}
+
+// The element behind the first child.
+fn second(root: &SyntaxNode) -> Option<SyntaxElement> {
+    root.first_child_or_token()?.next_sibling_or_token()
+}
+
+fn parent_kind(element: &SyntaxElement) -> Option<SyntaxKind> {
+    Some(element.parent()?.kind())
+}
+
+#[test]
+fn elements_step(rt: HostRuntime) -> Result<(), Fail> {
+    let second = second(&sample(&rt)?).ok_or("no second child")?;
     assert_eq!(rt; second.text_range().start().raw(), 1);
-    let Some(up) = second.parent() else {
-        return Err(Fail::from("no parent"));
-    };
-    assert_eq!(rt; up.kind(), SyntaxKind::SOURCE_FILE);
-    let Some(name) = second.into_node() else {
-        return Err(Fail::from("no node"));
-    };
-    let mut ancestors = name.ancestors();
+    assert_eq!(rt; parent_kind(&second), Some(SyntaxKind::SOURCE_FILE));
+    Ok(())
+}
+
+#[test]
+fn ancestors_go_up(rt: HostRuntime) -> Result<(), Fail> {
+    let second = second(&sample(&rt)?).ok_or("no second child")?;
+    let name = second.into_node().ok_or("no node")?;
     let mut kinds = String::new(rt.alloc());
-    for _step in 0..4 {
-        if let Some(above) = ancestors.next() {
-            write!(kinds, "{} ", above.kind())?;
-        }
+    for above in name.ancestors() {
+        write!(kinds, "{} ", above.kind())?;
     }
     assert_eq!(rt; kinds.as_str(), "NAME SOURCE_FILE ");
     Ok(())
@@ -196,59 +199,75 @@ fn refused_replacements_print(rt: HostRuntime) -> Result<(), Fail> {
     Ok(())
 }
 
-// Many nodes, one in the other.
-#[test]
-fn deep_trees_need_no_stack(rt: HostRuntime) -> Result<(), Fail> {
+fn nested(rt: &HostRuntime, depth: usize) -> Result<SyntaxNode, Fail> {
     let mut builder = TreeBuilder::new(rt.alloc());
-    for _depth in 0..100_000 {
+    for _ in 0..depth {
         builder.start_node(SyntaxKind::NAME)?;
     }
-    for _depth in 0..100_000 {
+    for _ in 0..depth {
         builder.finish_node()?;
     }
-    let root = builder.finish()?;
-    let mut events: usize = 0;
+    Ok(builder.finish()?)
+}
+
+fn count_events(root: &SyntaxNode) -> usize {
+    let mut count: usize = 0;
     for _event in root.preorder_with_tokens() {
-        events = events.saturating_add(1);
+        count = count.saturating_add(1);
     }
-    assert_eq!(rt; events, 200_000);
+    count
+}
+
+fn count_elements(root: &SyntaxNode) -> usize {
     let mut count: usize = 0;
     for _element in root.descendants_with_tokens() {
         count = count.saturating_add(1);
     }
-    assert_eq!(rt; count, 100_000);
+    count
+}
+
+// Many nodes, one in the other.
+#[test]
+fn deep_trees_need_no_stack(rt: HostRuntime) -> Result<(), Fail> {
+    let root = nested(&rt, 100_000)?;
+    assert_eq!(rt; count_events(&root), 200_000);
+    assert_eq!(rt; count_elements(&root), 100_000);
     Ok(())
 }
 
-// Each step of a walk takes constant time, among many siblings too.
-#[test]
-fn wide_trees_take_linear_time(rt: HostRuntime) -> Result<(), Fail> {
+fn siblings(rt: &HostRuntime, count: usize) -> Result<SyntaxNode, Fail> {
     let mut builder = TreeBuilder::new(rt.alloc());
     builder.start_node(SyntaxKind::SOURCE_FILE)?;
-    for _child in 0..100_000 {
+    for _ in 0..count {
         builder.start_node(SyntaxKind::NAME)?;
         builder.token(SyntaxKind::IDENT, "a")?;
         builder.finish_node()?;
     }
     builder.finish_node()?;
-    let root = builder.finish()?;
-    let mut events: usize = 0;
-    for _event in root.preorder_with_tokens() {
-        events = events.saturating_add(1);
-    }
-    assert_eq!(rt; events, 400_002);
+    Ok(builder.finish()?)
+}
+
+// The children, counted by steps from one to the next.
+fn count_children(root: &SyntaxNode) -> usize {
     let mut next = root.first_child_or_token();
     let mut children: usize = 0;
     for _turn in 0..100_001 {
-        let Some(NodeOrToken::Node(child)) = next else {
+        let Some(child) = next else {
             break;
         };
         children = children.saturating_add(1);
         next = child.next_sibling_or_token();
     }
-    assert_eq!(rt; children, 100_000);
-    let text = root.dump(rt.alloc())?;
+    children
+}
+
+// Each step of a walk takes constant time, among many siblings too.
+#[test]
+fn wide_trees_take_linear_time(rt: HostRuntime) -> Result<(), Fail> {
+    let root = siblings(&rt, 100_000)?;
+    assert_eq!(rt; count_events(&root), 400_002);
+    assert_eq!(rt; count_children(&root), 100_000);
     assert_eq!(rt; root.as_str().len(), 100_000);
-    assert!(rt; text.len() > 1_000_000);
+    assert!(rt; root.dump(rt.alloc())?.len() > 1_000_000);
     Ok(())
 }

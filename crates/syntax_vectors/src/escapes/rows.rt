@@ -1,9 +1,11 @@
 // Rows of the tables, with the values that they give.
 mod tests {
+    use crate::ensure::{ensure, ensure_text};
     use crate::escapes::calls::{
         byte_str_rows, byte_unit, c_str_rows, char_unit, shown, shown_unit, str_rows,
     };
     use literal_escape::{EscapeError, unescape_str};
+    use std::alloc::Global;
     use std::test::Fail;
 
     // Contents of strings.
@@ -308,40 +310,62 @@ mod tests {
         ),
     ];
 
+    fn string_is(alloc: Global, row: &(&'static str, &'static str)) -> Result<(), Fail> {
+        let rows = str_rows(alloc, row.0)?;
+        ensure_text(alloc, shown(alloc, &rows)?.as_str(), row.1)
+    }
+
     #[test]
     fn strings(rt: HostRuntime) -> Result<(), Fail> {
-        for (content, want) in STRINGS {
-            let rows = str_rows(rt.alloc(), content)?;
-            assert_eq!(rt; shown(rt.alloc(), &rows)?.as_str(), want, "at {content:?}");
+        for row in &STRINGS {
+            string_is(rt.alloc(), row)?;
         }
         Ok(())
+    }
+
+    fn byte_string_is(alloc: Global, row: &(&'static str, &'static str)) -> Result<(), Fail> {
+        let rows = byte_str_rows(alloc, row.0)?;
+        ensure_text(alloc, shown(alloc, &rows)?.as_str(), row.1)
     }
 
     #[test]
     fn byte_strings(rt: HostRuntime) -> Result<(), Fail> {
-        for (content, want) in BYTE_STRINGS {
-            let rows = byte_str_rows(rt.alloc(), content)?;
-            assert_eq!(rt; shown(rt.alloc(), &rows)?.as_str(), want, "at {content:?}");
+        for row in &BYTE_STRINGS {
+            byte_string_is(rt.alloc(), row)?;
         }
         Ok(())
+    }
+
+    fn c_string_is(alloc: Global, row: &(&'static str, &'static str)) -> Result<(), Fail> {
+        let rows = c_str_rows(alloc, row.0)?;
+        ensure_text(alloc, shown(alloc, &rows)?.as_str(), row.1)
     }
 
     #[test]
     fn c_strings(rt: HostRuntime) -> Result<(), Fail> {
-        for (content, want) in C_STRINGS {
-            let rows = c_str_rows(rt.alloc(), content)?;
-            assert_eq!(rt; shown(rt.alloc(), &rows)?.as_str(), want, "at {content:?}");
+        for row in &C_STRINGS {
+            c_string_is(rt.alloc(), row)?;
         }
         Ok(())
     }
 
+    type Single = (&'static str, &'static str, &'static str);
+
+    fn character_is(alloc: Global, row: &Single) -> Result<(), Fail> {
+        let answer = shown_unit(alloc, char_unit(row.0))?;
+        ensure_text(alloc, answer.as_str(), row.1)
+    }
+
+    fn byte_is(alloc: Global, row: &Single) -> Result<(), Fail> {
+        let answer = shown_unit(alloc, byte_unit(row.0))?;
+        ensure_text(alloc, answer.as_str(), row.2)
+    }
+
     #[test]
     fn characters_and_bytes(rt: HostRuntime) -> Result<(), Fail> {
-        for (content, character, byte) in SINGLES {
-            let answer = shown_unit(rt.alloc(), char_unit(content))?;
-            assert_eq!(rt; answer.as_str(), character, "at {content:?}");
-            let answer = shown_unit(rt.alloc(), byte_unit(content))?;
-            assert_eq!(rt; answer.as_str(), byte, "at {content:?}");
+        for row in &SINGLES {
+            character_is(rt.alloc(), row)?;
+            byte_is(rt.alloc(), row)?;
         }
         Ok(())
     }
@@ -354,12 +378,16 @@ mod tests {
         assert_eq!(rt; units, 4);
     }
 
+    fn message_is(alloc: Global, row: &(EscapeError, &'static str, bool)) -> Result<(), Fail> {
+        let message = format!(in alloc; "{}", row.0)?;
+        ensure_text(alloc, message.as_str(), row.1)?;
+        ensure(row.0.is_fatal() == row.2, row.1)
+    }
+
     #[test]
     fn messages(rt: HostRuntime) -> Result<(), Fail> {
-        for (fault, want, fatal) in MESSAGES {
-            let message = format!(in rt.alloc(); "{fault}")?;
-            assert_eq!(rt; message.as_str(), want);
-            assert_eq!(rt; fault.is_fatal(), fatal, "at {fault:?}");
+        for row in &MESSAGES {
+            message_is(rt.alloc(), row)?;
         }
         Ok(())
     }
