@@ -28,7 +28,7 @@ fn may_go_from(inside: &SyntaxNode, parent: &SyntaxNode, pair: &SyntaxNode) -> b
     !is_foreign(form_of(inside.kind())) && !needs_parens_in_place_of(inside, parent, pair)
 }
 
-/// Whether the node is a pair whose inside needs no parentheses in its place.
+/// Whether the node is a pair whose inside needs no parentheses in its place, where both stand in an operator tree.
 pub fn is_needless(node: &SyntaxNode) -> bool
     ensures { result ≡ is_needless node.now }
 {
@@ -63,7 +63,8 @@ fn needless_below(alloc: Global, root: &SyntaxNode) -> Result<Vec<SyntaxNode>, A
 
 /// Whether the node is a reading of its own tokens; `None` where it shows no term.
 ///
-/// It is one exactly where no operand below it needs parentheses in its own parent, if the tree may stand before what follows it.
+/// It is one exactly where no operand below it needs parentheses in its own parent, unless it ends in a cast's name and `<` or `<<`
+/// follows.
 pub fn reads_back(node: &SyntaxNode) -> Option<bool>
     ensures reads { ReadsBack result (shown (focus node.now)) }
     ensures tied { IfSome result (λ b. (t : Term) → meaning (focus node.now) ≡ IsTerm t → MayStandBefore (leaves_behind node.now.tree node.now.place) t

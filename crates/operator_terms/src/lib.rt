@@ -4,7 +4,7 @@
 //! The definitions stand in `specs/`, in the order of `specs/Lib.antt`: terms and their tokens, the layered grammar that
 //! reads tokens, places and what they demand, pairs put in and taken out, the test by binding powers. What is proved of
 //! them are the laws in [`laws`], each the contract of a function with an empty body. No code runs here: what ties trees
-//! and their calls to these terms is to stand above. `docs/OPERATORS.md` tells it in plain words.
+//! and their calls to these terms stands above. `docs/OPERATORS.md` tells it in plain words.
 #![tactic(auto)]
 
 pub mod laws;

@@ -217,8 +217,8 @@ fn asks(own: &SyntaxNode, parent: &SyntaxNode, place: &SyntaxNode) -> bool
 ///
 /// At an operand below the root of an operator tree, asked with the operand's own parent node (for an argument that is the list
 /// of arguments), it answers false exactly where the expression fits there, before the tokens that stand behind the operand in the
-/// whole tree. Of a pair's inside in place of the pair, where the tree reads back, this is: exactly where the tokens without the
-/// pair read as the term without it; and then no other term reads them.
+/// whole tree. Of a pair's inside in place of the pair, where the tree reads back and neither `<` nor `<<` follows it, this is:
+/// exactly where the tokens without the pair read as the term without it; and then no other term reads them.
 pub fn needs_parens_in_place_of(own: &SyntaxNode, parent: &SyntaxNode, place: &SyntaxNode) -> bool
     ensures asks { result ≡ asks own.now parent.now place.now }
     ensures fits { (r : Cursor) (t s : Term) (i : ℕ) (q : List ℕ) (held : Part) → meaning (focus r) ≡ IsTerm t → operand t (i ∷ q) ≡ Some held

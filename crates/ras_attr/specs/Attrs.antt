@@ -35,7 +35,7 @@ attrs_with_inner attrs owner holder = attrs_of attrs false owner ++ option_map_o
 abbrev pub node_child : SyntaxKind → Cursor → Option Cursor
 node_child k c = find (is_of_kind k) (filter at_node (children_of c))
 
--- a block that stands in a block or is a statement
+-- a block whose parent is a block expression or an expression statement
 abbrev pub may_carry_attributes : Cursor → Bool
 may_carry_attributes c = option_map_or (λ p. is_of_kind (Node kind.BLOCK_EXPR) p || is_of_kind (Node kind.EXPR_STMT) p) (parent_of c) false
 

@@ -26,7 +26,7 @@ fn node_child(parent: &SyntaxNode, kind: SyntaxKind) -> Option<SyntaxNode>
     None
 }
 
-/// Whether a block stands in a block or is a statement, so that attributes may stand in it.
+/// Whether a block's parent is a block expression or an expression statement, so that attributes may stand in it.
 pub fn may_carry_attributes(block: &SyntaxNode) -> bool
     ensures { result ≡ may_carry_attributes block.now }
 {

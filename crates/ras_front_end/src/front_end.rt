@@ -8,7 +8,10 @@ use crate::output::Output;
 use std::alloc::{AllocError, Global};
 use syntax_kind::SyntaxKind;
 
-/// A lexer and a parser. Each answer but want of memory is a function of the arguments.
+/// A lexer and a parser. Each answer but out of memory is a function of the arguments.
+///
+/// Who implements it proves the law `kept`: of a text of at most 4,294,967,295 bytes a reading's steps build one tree over the
+/// whole text, with a root of the entry's kind, and its errors lie in the text; and the like of a piece.
 pub trait FrontEnd {
     // The answers, as functions of the arguments.
     ghost answers: { Self → Front };
@@ -41,7 +44,8 @@ pub trait FrontEnd {
     ) -> Result<Option<(SyntaxKind, Option<String>)>, AllocError>
         ensures { IfOk result (λ token. option_map single_of token ≡ (answers self.now).single edition text.now) };
 
-    /// How a node of this kind may be read by itself; `None` where it may not.
+    /// How a node of this kind may be read by itself; `None` where it may not. `first_child` is the kind of its first child, node
+    /// or token, and `parent` that of its parent.
     fn reparser(
         &self,
         kind: SyntaxKind,
@@ -50,8 +54,8 @@ pub trait FrontEnd {
     ) -> Option<Reparser>
         ensures { result ≡ (answers self.now).chosen kind first_child parent };
 
-    /// The reading of a piece. For a text that is longer than 4,294,967,295 bytes or whose braces do not balance it may
-    /// be anything.
+    /// The reading of a piece by a reparser that [`FrontEnd::reparser`] answers: a text that begins with `{`, ends with `}` and
+    /// whose braces balance between. For any other, or one longer than 4,294,967,295 bytes, it may be anything.
     fn parse_piece(
         &self,
         alloc: Global,
@@ -61,11 +65,11 @@ pub trait FrontEnd {
     ) -> Result<Output, AllocError>
         ensures { IfOk result (λ output. reading_of output ≡ (answers self.now).piece reparser edition text.now) };
 
-    /// The kind of the keyword that the text is.
+    /// The kind of the keyword that the text is; `None` where it is none in the edition.
     fn keyword(&self, text: &str, edition: Edition) -> Option<SyntaxKind>
         ensures { result ≡ (answers self.now).word edition text.now };
 
-    /// Whether a kind is that of a keyword that is none but by `r#`.
+    /// Whether a kind is that of a strict keyword: a word that is an identifier only behind `r#`.
     fn is_strict_keyword(&self, kind: SyntaxKind, edition: Edition) -> bool
         ensures { result ≡ (answers self.now).is_strict edition kind };
 

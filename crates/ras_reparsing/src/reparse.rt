@@ -21,10 +21,10 @@ use ras_front_end::{Edition, Entry, FrontEnd, ParseError, Reparser, SyntaxError}
 use ras_parsing::{Parse, build_output, read};
 use std::alloc::{AllocError, Global};
 
-/// The parse after an edit of its text, where one token or one block is read anew, and the range that was replaced.
-/// `None` where the whole text must be read anew. The old parse stays as it was.
+/// The parse after an edit of its text, where one token or one block is read anew, and the range in the old text that was
+/// replaced. `None` where the whole text must be read anew. The old parse stays as it was.
 ///
-/// `TooLong` where the new text is longer than 4,294,967,295 bytes; that is looked at first.
+/// `delete` lies in the text, on character boundaries. `TooLong` exactly where the new text is longer than 4,294,967,295 bytes; that is looked at first.
 pub fn incremental_reparse<F: FrontEnd>(
     alloc: Global,
     old: &Parse,
@@ -46,10 +46,10 @@ pub fn incremental_reparse<F: FrontEnd>(
     Ok(reread(alloc, old, front, delete, insert, edition)?)
 }
 
-/// The parse after an edit of its text: one token or one block is read anew where that can be, else all. The old
+/// The parse after an edit of its text: one token or one block is read anew where that can be, else all, as a file. The old
 /// parse stays as it was.
 ///
-/// `TooLong` where the new text is longer than 4,294,967,295 bytes; that is looked at first.
+/// `delete` lies in the text, on character boundaries. `TooLong` exactly where the new text is longer than 4,294,967,295 bytes; that is looked at first.
 pub fn reparse_text<F: FrontEnd>(
     alloc: Global,
     old: &Parse,

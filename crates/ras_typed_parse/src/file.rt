@@ -38,7 +38,7 @@ fn push_errors(out: &mut String, errors: &[SyntaxError]) -> Result<(), AllocErro
 }
 
 impl<T: FileView> Parse<T> {
-    /// The dump of the tree, and then a line `error a..b: message` for each of [`Parse::errors`].
+    /// The dump of the tree, and then a line for each of [`Parse::errors`], with the word `error`, its range and its message.
     pub fn debug_dump(&self, alloc: Global) -> Result<String, AllocError>
         ensures { IfOk result (λ dump. string_bytes dump ≡ debug_dump_of self.now) }
     {

@@ -61,10 +61,12 @@ impl<T> Parse<T> {
         self.parsed.syntax_node()
     }
 
-    /// All errors: the stored ones, those of the parser and then those of the lexer, and behind them the violations of the
-    /// tree, in preorder of their nodes.
+    /// All errors: the stored ones in their order, and behind them the violations of the tree, in preorder of their nodes. Of a
+    /// text that was read whole the stored ones are those of the parser and then those of the lexer; after an edit those that
+    /// stay come first.
     ///
-    /// It walks the tree: time linear in it. The parse stays as it was, also where memory runs out.
+    /// It copies the stored errors and walks the tree: the time is that of `violations`. The parse stays as it was, also where
+    /// memory runs out.
     pub fn errors(&self, alloc: Global) -> Result<Vec<SyntaxError>, AllocError>
         ensures { IfOk result (λ errors. errors.items ≡ all_errors self.now) }
     {

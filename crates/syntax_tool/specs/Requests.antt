@@ -18,7 +18,7 @@ use Rattle.syntax_tool.specs.Lines.{IsCut}
 abbrev pub is_digit : ℕ → Bool
 is_digit b = nat_le 48 b && nat_le b 57
 
--- the number that digits go on to, behind those of n; 2^32, past every text, stands for what is greater
+-- the number that digits go on to, behind those of n; 2^32, at which no range may end, stands for what is greater
 abbrev pub value_from : ℕ → List ℕ → ℕ
 value_from n [] = n
 value_from n (b ∷ bs) = value_from (min (10 * n + (b - 48)) (2 ^ 32)) bs
@@ -49,13 +49,14 @@ IsReread old edit None new = IsIncremental tiny_front Edition2024 old edit None 
 abbrev pub AnswersEdit : Parsed → Edit → Result (List ℕ) Refusal → Type 0
 AnswersEdit old edit r =
     ((2 ^ 32 ≤ length (edited (text old.tree) edit)) × (r ≡ Err TooLong))
-    ⊎ ((range : Option Bounds) × (new : Parsed) × IsReread old edit range new × (r ≡ Ok (told range ++ debug_dump_of new)))
+    ⊎ ((length (edited (text old.tree) edit) < 2 ^ 32)
+    × (range : Option Bounds) × (new : Parsed) × IsReread old edit range new × (r ≡ Ok (told range ++ debug_dump_of new)))
 
--- the answer to an edit of a text, which is read first
+-- the answer to an edit of a text, which is read first where it is not too long
 abbrev pub AnswersParsed : List ℕ → Edit → Result (List ℕ) Refusal → Type 0
 AnswersParsed s edit r =
     ((2 ^ 32 ≤ length s) × (r ≡ Err TooLong))
-    ⊎ ((old : Parsed) × IsParseOf s (tiny_front.parsed SourceFile Edition2024 s) old × AnswersEdit old edit r)
+    ⊎ ((length s < 2 ^ 32) × (old : Parsed) × IsParseOf s (tiny_front.parsed SourceFile Edition2024 s) old × AnswersEdit old edit r)
 
 -- that the range lies in the text is looked at first
 abbrev pub AnswersRange : List ℕ → ℕ → ℕ → List ℕ → Result (List ℕ) Refusal → Type 0

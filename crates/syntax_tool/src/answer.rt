@@ -13,9 +13,10 @@ use std::str::from_utf8;
 
 /// The output of a command to an input, as [`run`](crate::run) writes it, or why there is none: bytes in, text out.
 ///
-/// The input is refused as `NotUtf8` before its lines or its text are looked at; `BadLine`, `BadKind`, `BadRange`, `OtherRoot`,
-/// `TooLong` and those of the builder come as each command states them, and `Read` never. `Memory` is answered only where memory
-/// was refused, and says nothing of the input.
+/// The input is refused as `NotUtf8` before its lines or its text are looked at. Then `events` may answer `BadLine` or `BadKind` for
+/// the first such line, or what the builder refuses; `dump` `TooLong`; `parens` `TooLong`, then `OtherRoot`; `reparse` `BadLine`,
+/// then `BadRange`, then `TooLong`, of the old text or the new one. `Read` and `ErrorPastText` never come. `Memory` is answered only
+/// where memory was refused, and says nothing of the input.
 pub fn answer_to(alloc: Global, command: Command, input: &[u8]) -> Result<String, Refusal>
     ensures { MatchResult result (λ text. AnswersInput command input.now (Ok (string_bytes text))) (λ e. (e ≡ Refusal.Memory) ⊎ AnswersInput command input.now (Err e)) }
 {

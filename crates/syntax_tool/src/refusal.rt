@@ -11,11 +11,12 @@ pub enum Refusal {
     Read,
     /// The input is not UTF-8. This is looked at first.
     NotUtf8,
-    /// A line has none of the forms of an event.
+    /// A line has none of the forms of an event; of `reparse`: the first line is not two numbers, or the second has a backslash
+    /// that begins no escape.
     BadLine,
     /// A line has a form, and the kind that it names is none.
     BadKind,
-    /// A range ends before it starts, or does not lie in the text on character boundaries.
+    /// A range ends before it starts, does not lie in the text on character boundaries, or ends at 2^32 or later.
     BadRange,
     /// The root of the tree of an expression's text is no expression.
     OtherRoot,
@@ -31,9 +32,9 @@ pub enum Refusal {
     ManyRoots,
     /// The one top element is a token.
     TokenRoot,
-    /// An error's position is past the text.
+    /// An error's position is past the text. Events hold no errors, so no command answers it.
     ErrorPastText,
-    /// Want of memory.
+    /// Out of memory.
     Memory,
 }
 

@@ -1,5 +1,5 @@
 //! The command `reparse`: an edit and a text to the dump of the tree after the edit.
-ghost use Rattle.std.specs.Prelude.{◌≡◌, ◌↔◌, ◌⊎◌, ◌++◌, ◌≤◌, ◌^◌, length, Ok, Err, IfOk, IfErr, IfSome, IsSome, MatchResult, string_bytes};
+ghost use Rattle.std.specs.Prelude.{◌≡◌, ◌↔◌, ◌⊎◌, ◌++◌, ◌<◌, ◌≤◌, ◌^◌, length, Ok, Err, IfOk, IfErr, IfSome, IsSome, MatchResult, OnOk, string_bytes};
 ghost use Rattle.std.specs.List.{list_all};
 ghost use Rattle.tree_model.specs.Tree.{text};
 ghost use Rattle.ras_front_end.specs.declared.parse_error.ParseError.TheVariants.{TooLong};
@@ -92,6 +92,7 @@ fn edit_parse(
 ) -> Result<(Option<TextRange>, Parse<SourceFile>), ParseError>
     requires { IsEditOf (text old.now.tree) (record { delete = delete; insert = insert.now }) }
     ensures read { IfOk result (λ p. IsReread old.now (record { delete = delete; insert = insert.now }) p.0 p.1) }
+    ensures accepted { OnOk result (length (edited (text old.now.tree) (record { delete = delete; insert = insert.now })) < 2 ^ 32) }
     ensures refused { IfErr result (λ e. (e ≡ TooLong) ↔ (2 ^ 32 ≤ length (edited (text old.now.tree) (record { delete = delete; insert = insert.now })))) }
 {
     match old.incremental_reparse(alloc, &Tiny, delete, insert, Edition::CURRENT)? {

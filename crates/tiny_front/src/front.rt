@@ -16,9 +16,10 @@ use syntax_kind::SyntaxKind;
 use tiny_lexer::{Complaint, Lexed, is_strict_keyword, keyword, lex};
 use token_layout::{Span, Token, lay_out};
 
-/// A front end for a small part of Rust: functions without parameters, `let` bindings, statements, and expressions of
-/// literals, names, operators, calls, fields, indexes, ranges, casts and blocks. Whatever a text is, its reading keeps the
-/// law of [`FrontEnd`]. It takes time linear in the text, and no recursion.
+/// A front end for a small part of Rust: functions without parameters, whose bodies are the only blocks; `let` bindings,
+/// statements; and expressions of literals, names, operators, references, parentheses, calls, method calls, fields, indexes, `?`,
+/// `.await`, ranges and casts. Whatever a text is, its reading keeps the law of [`FrontEnd`]. It takes time linear in the text,
+/// and no recursion.
 #[derive(Clone, Copy, Debug, Drop)]
 pub struct Tiny;
 

@@ -14,7 +14,7 @@ fn has_await(edition: Edition) -> bool
     }
 }
 
-/// The kind of the keyword that the text is. `await` is one from 2018 on.
+/// The kind of the keyword that the text is; `None` where it is none. `await` is one from 2018 on.
 pub fn keyword(text: &str, edition: Edition) -> Option<SyntaxKind>
     ensures { result ≡ keyword_of edition text.now }
 {
@@ -45,7 +45,7 @@ pub fn keyword(text: &str, edition: Edition) -> Option<SyntaxKind>
     }
 }
 
-/// Whether a kind is that of a keyword. All are strict.
+/// Whether a kind is that of one of the keywords of [`keyword`] in the edition. All are strict.
 pub fn is_strict_keyword(kind: SyntaxKind, edition: Edition) -> bool
     ensures { result ≡ is_strict_of edition kind }
 {

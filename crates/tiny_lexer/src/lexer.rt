@@ -150,7 +150,10 @@ fn read(alloc: Global, text: &str, edition: Edition) -> Result<Lexer, AllocError
     Ok(lexer)
 }
 
-/// The tokens of a text.
+/// The tokens of a text, and what is wrong with some of them.
+///
+/// The tokens cut every text of at most 4,294,967,295 bytes: each byte is in one of them, in order. Block comments don't nest. It
+/// takes time linear in the text.
 pub fn lex(alloc: Global, text: &str, edition: Edition) -> Result<Lexed, AllocError>
     ensures tokens { IfOk result (λ l. l.tokens.items ≡ tokens_of edition text.now) }
     ensures complaints { IfOk result (λ l. l.complaints.items ≡ complaints_of edition text.now) }

@@ -132,7 +132,8 @@ fn steps(
 ///
 /// The spans stand in the order in which their nodes end: inner ones before outer ones, and earlier before later ones.
 /// Where they are in another order, cross, or reach past the tokens, the steps still build one tree over all tokens, though
-/// perhaps not the one that was meant. It takes time and memory linear in the tokens and spans.
+/// perhaps not the one that was meant. A node over no token stays empty, and stands before a node that begins there, also where
+/// that ends later. It takes time and memory linear in the tokens and spans.
 pub fn lay_out(
     alloc: Global,
     root: SyntaxKind,

@@ -25,7 +25,7 @@ pub enum RangeOp {
     Inclusive,
 }
 
-/// An operator on booleans that may leave its second operand out.
+/// An operator on booleans that may not evaluate its second operand.
 #[derive(Clone, Copy, Debug, PartialEq, Eq, Hash)]
 pub enum LogicOp {
     /// `&&`

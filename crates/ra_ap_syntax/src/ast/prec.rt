@@ -43,7 +43,9 @@ impl ast::Expr {
         operator_precedence::node::is_ret_like_with_no_value(self.syntax())
     }
 
-    /// Whether the expression needs parentheses below a parent of its, or an ancestor; false where the node is neither.
+    /// Whether the expression needs parentheses below `parent`: its parent, a node further up, or the expression itself; false for
+    /// any other node. Outside operator trees upstream's rules decide: on what a block follows, on jumps without a value, records,
+    /// chains of `let`, statements and `let` with `else`.
     ///
     /// At an operand below the root of an operator tree, asked with the operand's own parent node (for an argument that is the list
     /// of arguments), it answers false exactly where the operand fits, before the tokens that stand behind it in the whole tree;
@@ -61,10 +63,12 @@ impl ast::Expr {
         paren_rules::rules::needs_parens_in(self.syntax(), parent)
     }
 
-    /// Whether the expression would need parentheses in place of what stands at `place`, below that one's parent, or an ancestor.
+    /// Whether the expression would need parentheses in place of what stands at `place`, below `parent`: the parent of that, a node
+    /// further up, or the place itself; false for any other node.
     ///
-    /// Of a pair's inside in place of the pair, below the root of an operator tree that reads back, it answers false exactly where
-    /// the tokens without the pair read as the term without it; and then no other term reads them.
+    /// Of a pair's inside in place of the pair, below the root of an operator tree that reads back and that neither `<` nor `<<`
+    /// follows, it answers false exactly where the tokens without the pair read as the term without it; and then no other term reads
+    /// them.
     pub fn needs_parens_in_place_of(&self, parent: &SyntaxNode, place: &SyntaxNode) -> bool
         ensures asks { result ≡ asks (expr_node self.now) parent.now place.now }
         ensures fits { (r : Cursor) (t s : Term) (i : ℕ) (q : List ℕ) (held : Part) → meaning (focus r) ≡ IsTerm t → operand t (i ∷ q) ≡ Some held
@@ -91,8 +95,8 @@ impl ast::Type {
 
 /// Whether the expression is a reading of its own tokens; `None` where it shows no term.
 ///
-/// It is one exactly where no operand below it needs parentheses in its own parent, if the tree may stand before what follows it.
-/// It takes no memory, and time linear in the expression.
+/// It is one exactly where no operand below it needs parentheses in its own parent, unless it ends in a cast's name and `<` or `<<`
+/// follows. It takes no memory, and time linear in the expression.
 pub fn reads_back(expr: &ast::Expr) -> Option<bool>
     ensures reads { ReadsBack result (shown (focus (expr_node expr.now))) }
     ensures tied { IfSome result (λ b. (t : Term) → meaning (focus (expr_node expr.now)) ≡ IsTerm t

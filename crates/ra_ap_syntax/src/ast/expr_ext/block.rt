@@ -62,9 +62,9 @@ impl ast::BlockExpr {
         Some(BlockModifier::Label(self.label()?))
     }
 
-    /// Whether it is no part of what it stands in, as the body of a function is one: it has no parent; or it is the first
-    /// expression of a `for` or an `if`, or these have none; or its parent is no `let` with `else`, function, `while`, `loop` or
-    /// constant pattern.
+    /// Whether it is no part of what it stands in, as the body of a function is one: it has no parent; or its parent is a `for` or
+    /// an `if`, and it is the first expression there, or there is none; or its parent is neither of these, and no `let` with
+    /// `else`, function, `while`, `loop` or constant pattern.
     pub fn is_standalone(&self) -> bool
         ensures { result ≡ is_standalone ⟦<ast::Expr as AstNode>⟧.casts self.now.syntax }
     {
@@ -74,7 +74,8 @@ impl ast::BlockExpr {
         }
     }
 
-    /// Whether it stands in a block or is a statement, so that attributes may stand in it.
+    /// Whether its parent is a block expression or an expression statement, so that attributes may stand in it. The last
+    /// expression of a block has its list of statements as parent.
     pub fn may_carry_attributes(&self) -> bool
         ensures { result ≡ may_carry_attributes self.now.syntax }
     {
