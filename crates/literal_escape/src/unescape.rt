@@ -13,8 +13,9 @@ use std::ops::Range;
 
 /// The unit of a literal with this content that is one unit, as a character or a byte.
 ///
-/// Its fault comes before [`EscapeError::MoreThanOneChar`], which says that something follows a good one. An empty content
-/// is [`EscapeError::ZeroChars`].
+/// Its fault comes before [`EscapeError::MoreThanOneChar`], which says that something follows a good one. A content without a
+/// unit is [`EscapeError::ZeroChars`]: an empty one, and in a string's mode one that is a continuation alone. A warning counts as
+/// the first unit.
 pub fn unescape_unit(content: &str, mode: Mode) -> Result<MixedUnit, EscapeError>
     ensures byte { is_bytes mode ≡ true → IfOk result (λ unit. number_of unit < 256) }
     ensures single { OfReports mode (chars content.now) (λ reports. result ≡ single reports) }

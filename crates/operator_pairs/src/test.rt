@@ -1,9 +1,9 @@
-//! The tests, at the operands of an operator tree.
+//! The test, at the operands of an operator tree.
 ghost use Rattle.std.specs.Prelude.{◌≡◌, ◌↔◌, ◌∷◌, List, ℕ, Some, true, false};
 ghost use Rattle.tree_model.specs.Cursor.{Cursor, focus, parent_of};
 ghost use Rattle.operator_terms.specs.Term.{Term, Paren, tokens};
-ghost use Rattle.operator_terms.specs.Reading.{begins_with_angle, Reads};
-ghost use Rattle.operator_terms.specs.Places.{Demand, Part, some_part, operand, Fits, FitsPlace};
+ghost use Rattle.operator_terms.specs.Reading.{Reads};
+ghost use Rattle.operator_terms.specs.Places.{Demand, Part, some_part, operand, FitsPlace};
 ghost use Rattle.operator_terms.specs.Pairs.{without};
 ghost use Rattle.operator_trees.specs.Leaves.{leaves_behind};
 ghost use Rattle.operator_trees.specs.Shown.{meaning, IsTerm};
@@ -19,7 +19,7 @@ fn is_asked(own: &SyntaxNode, parent: &SyntaxNode, place: &SyntaxNode) -> bool
     operator_places::test::needs_parens_in_place_of(own, parent, place)
 }
 
-/// Whether an expression needs parentheses in place of what stands at `place`, whose parent is `parent`, or an ancestor.
+/// Whether an expression of an operator tree needs parentheses in place of what stands at `place`, whose parent is `parent`.
 ///
 /// At an operand below the root of an operator tree, asked with the operand's own parent node (for an argument that is the list
 /// of arguments), it answers false exactly where the expression fits there, before the tokens that stand behind the operand in the
@@ -37,21 +37,4 @@ pub fn needs_parens_in_place_of(own: &SyntaxNode, parent: &SyntaxNode, place: &S
         × (result ≡ false → (u : Term) → Reads 0 (tokens (without (i ∷ q) t)) u → u ≡ without (i ∷ q) t) }
 {
     is_asked(own, parent, place)
-}
-
-/// The same in its own place.
-///
-/// At an operand below the root of an operator tree, asked with the operand's own parent node, it answers false exactly where the
-/// operand fits, before the tokens that stand behind it in the whole tree. Where neither `<` nor `<<` follows the operator tree,
-/// this is `Fits`, of the term alone.
-pub fn needs_parens_in(own: &SyntaxNode, parent: &SyntaxNode) -> bool
-    ensures asks { parent_of own.now ≡ Some parent.now → is_foreign (form_at own.now) ≡ false → result ≡ asks own.now parent.now own.now }
-    ensures fits { (r : Cursor) (t : Term) (i : ℕ) (q : List ℕ) (held : Part) → meaning (focus r) ≡ IsTerm t → operand t (i ∷ q) ≡ Some held
-        → own.now ≡ operand_cursor r t (i ∷ q) → parent_of own.now ≡ Some parent.now
-        → result ≡ false ↔ FitsPlace held.demand (angle_behind r t (i ∷ q)) held.term }
-    ensures alone { (r : Cursor) (t : Term) (i : ℕ) (q : List ℕ) (held : Part) → meaning (focus r) ≡ IsTerm t → operand t (i ∷ q) ≡ Some held
-        → own.now ≡ operand_cursor r t (i ∷ q) → parent_of own.now ≡ Some parent.now → begins_with_angle (leaves_behind r.tree r.place) ≡ false
-        → result ≡ false ↔ Fits t (i ∷ q) }
-{
-    needs_parens_in_place_of(own, parent, own)
 }

@@ -1,4 +1,4 @@
-//! Whether an expression needs parentheses, in its parent and in place of another.
+//! Whether an expression needs parentheses in place of another.
 ghost use Rattle.std.specs.Prelude.{◌≡◌, ◌↔◌, ◌++◌, ◌∷◌, [], List, ℕ, Some, true, false};
 ghost use Rattle.tree_model.specs.Cursor.{Cursor, focus, at_place, parent_of};
 ghost use Rattle.lossless_tree.specs.declared.cursor.element.NodeOrToken.TheVariants as element;
@@ -37,7 +37,7 @@ fn is_before_angle(node: &SyntaxNode) -> bool
     }
 }
 
-/// Whether an expression needs parentheses in place of what stands at `place`, whose parent is `parent`, or an ancestor.
+/// Whether an expression of an operator tree needs parentheses in place of what stands at `place`, whose parent is `parent`.
 ///
 /// At a part of a node that shows a term, asked with the part's own parent, the answer for what shows a term is the test over
 /// terms. Below a list of arguments none is needed.
@@ -55,18 +55,4 @@ pub fn needs_parens_in_place_of(own: &SyntaxNode, parent: &SyntaxNode, place: &S
 {
     let angle = is_before_angle(place);
     needs_parens_before(own, parent, place, angle)
-}
-
-/// The same in its own place.
-///
-/// At an operand of an operator tree, at any depth, asked with its own parent, it answers false exactly where the operand fits,
-/// before the tokens that stand behind it in the tree.
-pub fn needs_parens_in(own: &SyntaxNode, parent: &SyntaxNode) -> bool
-    ensures fits { (t : Term) (q : List ℕ) (i : ℕ) (r : Cursor) (holder held : Part) → meaning (focus r) ≡ IsTerm t
-        → operand t q ≡ Some holder → part holder.term i ≡ Some held → is_direct holder.term i ≡ true
-        → parent.now ≡ at_place r (r.place ++ operand_place q (focus r) t) → own.now ≡ kid_place parent.now (part_kid holder.term i)
-        → result ≡ false ↔ FitsPlace held.demand (begins_with_angle (tokens_behind (q ++ i ∷ []) t ++ leaves_behind r.tree r.place)) held.term }
-    ensures arguments { is_arguments (form_at parent.now) ≡ true → result ≡ false }
-{
-    needs_parens_in_place_of(own, parent, own)
 }

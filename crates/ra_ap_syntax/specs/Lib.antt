@@ -7,6 +7,7 @@ pub use Rattle.tree_model.specs.Events
 pub use Rattle.tree_model.specs.Cursor
 pub use Rattle.tree_model.specs.CursorLaws
 pub use Rattle.tree_model.specs.Neighbours
+pub use Rattle.tree_model.specs.NearestToken
 pub use Rattle.tree_model.specs.Covering
 pub use Rattle.tree_model.specs.TokenSearch
 pub use Rattle.tree_model.specs.Pointer

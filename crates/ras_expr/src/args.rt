@@ -60,8 +60,9 @@ fn given<N: AstNode>(after: bool, element: SyntaxElement) -> Option<Option<N>>
     }
 }
 
-/// The arguments of a call, in order, where one may be missing: those that can be viewed as an `N`, and `None` for each other
-/// node and each gap between two commas. A clause sees those that are left.
+/// The arguments of a call, in order, where one may be missing: those that can be viewed as an `N`, `None` for each other node,
+/// and `None` for a comma with no argument before it, since the last comma or the start. An `ERROR` that begins with a comma
+/// counts as one. A clause sees those that are left.
 #[derive(Drop)]
 pub struct ArgsMaybeEmpty<N: AstNode> {
     left: SyntaxElementChildren,

@@ -22,7 +22,7 @@ is_any_comment (Token token.INNER_DOC_COMMENT) = true
 is_any_comment (Token token.OUTER_DOC_COMMENT) = true
 is_any_comment _ = false
 
--- kinds of no enum
+-- kinds that have attributes of their own
 abbrev pub has_own_attrs : SyntaxKind → Bool
 has_own_attrs (Node node.SOURCE_FILE) = true
 has_own_attrs (Node node.STMT_LIST) = true

@@ -39,7 +39,7 @@ pub trait AstNode: Sized {
     fn syntax(&self) -> &SyntaxNode
         ensures { result.now ≡ node self.now };
 
-    /// The same view of the root of a new tree that equals this node's subtree, with a text of its own.
+    /// The view, as `cast` gives it, of the root of a new tree that equals this node's subtree, with a text of its own.
     ///
     /// It takes time and memory linear in the subtree.
     final fn clone_subtree(&self, alloc: Global) -> Result<Self, AllocError>

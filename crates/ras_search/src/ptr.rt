@@ -102,7 +102,7 @@ impl<N: AstNode> AstPtr<N> {
         AstPtr::of(self.raw)
     }
 
-    /// The same node viewed as the right of two.
+    /// The same node viewed as one of two; where the left can view it too, as that.
     pub fn wrap_right<L>(self) -> AstPtr<Either<L, N>>
     where
         Either<L, N>: AstNode,

@@ -143,8 +143,8 @@ pub fn add_violations_at(found: &mut Vec<Violation>, node: &SyntaxNode) -> Resul
 /// The violations of a tree, in preorder of its nodes; those of one node by its rules, those of one rule in the order of the
 /// text.
 ///
-/// It takes time linear in the tree and its literals, but for a `crate` or a `let`, which each look at the nodes around, and
-/// memory for the list alone.
+/// It takes time linear in the tree and its literals, but for the segments of a path, a `let`, and a visibility in an
+/// implementation, which each look at the nodes around, and memory for the list alone.
 pub fn violations(alloc: Global, root: &SyntaxNode) -> Result<Vec<Violation>, AllocError>
     ensures { IfOk result (λ found. found.items ≡ violations_of root.now) }
 {

@@ -23,7 +23,8 @@ pub type AttrsWithDoc = ras_attr::AttrsWithDoc<AnyAttr>;
 /// The attributes among these, in order.
 pub type AttrsIter = ras_attr::AttrsIter<AnyAttr, ast::Attr>;
 
-/// The token trees and tokens in a token tree, without its delimiters, white space and comments, in order.
+/// The token trees and tokens in a token tree, in order: without its first child, whatever that is, closing delimiters, white
+/// space and comments.
 pub type TokenTreeChildren = ras_meta::TokenTreeChildren<ast::TokenTree>;
 
 /// All token trees and tokens among the children of a token tree, in order.

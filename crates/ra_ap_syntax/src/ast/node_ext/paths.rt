@@ -18,7 +18,8 @@ pub type Segments = ras_path::Segments<ast::Path, ast::PathSegment>;
 pub type Qualifiers = ras_path::Qualifiers<ast::Path>;
 
 impl ast::Path {
-    /// The segments, from that of the deepest qualifier outwards to this path's own. A path without a segment ends them.
+    /// The segments, from that of the deepest qualifier outwards, through the paths around that lie in this one's range: to its own.
+    /// A path without a segment ends them.
     pub fn segments(&self) -> Segments
         ensures { AreSegments ⟦<ast::Path as AstNode>⟧.casts ⟦<ast::PathSegment as AstNode>⟧.casts self.now.syntax result }
     {

@@ -22,7 +22,7 @@ use ras_literal::QuoteOffsets;
 use std::ops::Range;
 
 /// A string literal: its content lies between the first and the last `"` of its text. Ranges and offsets are those of the
-/// whole tree. No call takes memory; each takes time in the token's text.
+/// whole tree where a call doesn't say another start. No call takes memory; each takes time in the token's text.
 pub trait IsString: AstToken {
     /// The prefix of raw strings of the kind.
     ghost prefix: { Self → List ℕ };
