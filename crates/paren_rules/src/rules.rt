@@ -1,5 +1,5 @@
 //! The rules by which an expression needs parentheses.
-ghost use Rattle.std.specs.Prelude.{◌≡◌, ◌↔◌, ◌∷◌, List, ℕ, Some, true, false, is_some};
+ghost use Rattle.std.specs.Prelude.{◌≡◌, ◌↔◌, ◌∷◌, ◌&&◌, List, ℕ, Some, true, false, is_some};
 ghost use Rattle.std.specs.List.{find};
 ghost use Rattle.tree_model.specs.Cursor.{Cursor, focus, parent_of};
 ghost use Rattle.operator_terms.specs.Term.{Term, Paren, tokens};
@@ -11,6 +11,12 @@ ghost use Rattle.operator_trees.specs.Leaves.{leaves_behind};
 ghost use Rattle.operator_trees.specs.Shown.{meaning, IsTerm};
 ghost use Rattle.operator_pairs.specs.Pairs.{operand_cursor, angle_behind, MayGoBefore};
 ghost use Rattle.operator_precedence.specs.declared.level.ExprPrecedence.{ExprPrecedence};
+ghost use Rattle.operator_precedence.specs.Levels.{precedence_of, is_valueless};
+ghost use Rattle.operator_walks.specs.Above.{is_followed_by_block};
+ghost use Rattle.operator_walks.specs.CastName.{ends_in_cast_name};
+ghost use Rattle.operator_walks.specs.Inside.{has_let};
+ghost use Rattle.operator_walks.specs.Parts.{is_and};
+ghost use Rattle.paren_rules.specs.Order.{powers_of};
 ghost use Rattle.ras_node.specs.Nodes.{kind_at, typed_child};
 ghost use Rattle.ras_node.specs.Searches.{first_token};
 ghost use Rattle.ras_node.specs.PartSets.{is_binary_operator};
@@ -121,29 +127,53 @@ fn binds_less(own: &SyntaxNode, parent: &SyntaxNode, place: &SyntaxNode) -> bool
     )
 }
 
+// A block follows the parent, and would be taken by what it stands behind.
+fn is_before_block(own: &SyntaxNode, parent: &SyntaxNode) -> bool
+    ensures { result ≡ (is_followed_by_block parent.now && is_cut_by_block own.now) }
+{
+    is_followed_by_block(parent) && is_cut_by_block(own)
+}
+
+// A jump without a value, below a postfix.
+fn is_jump_before_postfix(own: &SyntaxNode, parent: &SyntaxNode) -> bool
+    ensures { result ≡ (is_valueless own.now && like_postfix (powers_of parent.now)) }
+{
+    is_ret_like_with_no_value(own) && is_like_postfix(powers_of(parent))
+}
+
+fn is_jump_before_logic(own: &SyntaxNode, parent: &SyntaxNode, place: &SyntaxNode) -> bool
+    ensures { result ≡ (is_jump (precedence_of own.now) && is_before_logic (kind_next parent.now place.now)) }
+{
+    is_jump(precedence_of(own)) && is_before_logic(parent, place)
+}
+
+fn is_cut_by_angle(own: &SyntaxNode, parent: &SyntaxNode, place: &SyntaxNode) -> bool
+    ensures { result ≡ (is_before_angle (kind_next parent.now place.now) && ends_in_cast_name own.now) }
+{
+    is_before_angle(parent, place) && ends_in_cast_name(own)
+}
+
+// A `let` in a chain of `&&`.
+fn is_let_in_chain(own: &SyntaxNode, parent: &SyntaxNode) -> bool
+    ensures { result ≡ (is_and parent.now && has_let own.now) }
+{
+    is_and(parent) && has_let(own)
+}
+
 // The rules where the parent is an expression: the first that applies decides.
 fn asks_in_expr(own: &SyntaxNode, parent: &SyntaxNode, place: &SyntaxNode) -> bool
     ensures { result ≡ asks_in_expr own.now parent.now place.now }
 {
-    if is_called_field(own, parent) {
+    if is_called_field(own, parent) || is_before_block(own, parent) {
         return true;
     }
-    if is_followed_by_block(parent) && is_cut_by_block(own) {
-        return true;
-    }
-    if is_ret_like_with_no_value(own) && is_like_postfix(powers_of(parent)) {
+    if is_jump_before_postfix(own, parent) {
         return false;
     }
-    if is_jump(precedence_of(own)) && is_before_logic(parent, place) {
+    if is_jump_before_logic(own, parent, place) || is_cut_by_angle(own, parent, place) {
         return true;
     }
-    if is_before_angle(parent, place) && ends_in_cast_name(own) {
-        return true;
-    }
-    if is_and(parent) && has_let(own) {
-        return false;
-    }
-    binds_less(own, parent, place)
+    !is_let_in_chain(own, parent) && binds_less(own, parent, place)
 }
 
 /// The kind of the `else` of a `let`.
