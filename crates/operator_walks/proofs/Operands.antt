@@ -105,7 +105,7 @@ loop_told w test each BehindDots (cons (node k c) r) = loop_told w test each Beh
 
 -- ---- the same among cursors
 
-abbrev child : Cursor → ℕ → Cursor
+abbrev pub child : Cursor → ℕ → Cursor
 child d i = at_place d (d.place ++ i ∷ [])
 
 -- n children of a node, from number k on
@@ -158,13 +158,13 @@ dots_step test x l = by (is_token_in is_range_operator x)
     by true = refl
     by false = refl
 
-abbrev Children : Cursor → ℕ → Forest → Type 0
+abbrev pub Children : Cursor → ℕ → Forest → Type 0
 Children d k f = (j : ℕ) → focus (child d (k + j)) ≡ child_at f j
 
-first_child : (d : Cursor) (k : ℕ) (u : Tree) (r : Forest) → Children d k (cons u r) → focus (child d k) ≡ u
+pub first_child : (d : Cursor) (k : ℕ) (u : Tree) (r : Forest) → Children d k (cons u r) → focus (child d k) ≡ u
 first_child d k u r same = let first : k ≡ k + 0 = omega arith in ap (λ i. focus (child d i)) first ∙ same 0
 
-more_children : (d : Cursor) (k : ℕ) (u : Tree) (r : Forest) → Children d k (cons u r) → Children d (suc k) r
+pub more_children : (d : Cursor) (k : ℕ) (u : Tree) (r : Forest) → Children d k (cons u r) → Children d (suc k) r
 more_children d k u r same j = let later : suc k + j ≡ k + suc j = omega arith in ap (λ i. focus (child d i)) later ∙ same (suc j)
 
 found_among : (test : Tree → Bool) (m : Meant) (d : Cursor) (k : ℕ) (f : Forest) → Children d k f → passes (λ c. test (focus c)) (meant_in m (children_from d k (child_count f))) ≡ meant_holds test m f
@@ -192,7 +192,7 @@ found_among test BehindDots d k (cons u r) same =
     ∙ ap (λ b. if is_dots u then b else passes (λ c. test (focus c)) (meant_in BehindDots (children_from d (suc k) (child_count r)))) (found_among test First d (suc k) r (more_children d k u r same))
     ∙ ap (λ b. if is_dots u then meant_holds test First r else b) (found_among test BehindDots d (suc k) r (more_children d k u r same))
 
-children_are : (d : Cursor) → Children d 0 (forest_of_children (focus d))
+pub children_are : (d : Cursor) → Children d 0 (forest_of_children (focus d))
 children_are d j = let here : 0 + j ≡ j = omega arith in ap (λ i. focus (child d i)) here ∙ subtree-append d.tree d.place (j ∷ [])
 
 meant_told : (test : Tree → Bool) (m : Meant) (d : Cursor) → passes (λ c. test (focus c)) (meant_child m d) ≡ meant_holds test m (forest_of_children (focus d))

@@ -1,13 +1,13 @@
 //! What stands in an expression outside delimiters: a record, and a `let` in a condition.
 ghost use Rattle.std.specs.Prelude.{◌≡◌};
 ghost use Rattle.std.specs.List.{filter, list_any};
-ghost use Rattle.tree_model.specs.Cursor.{ancestors_of, descendants_of, at_node, parent_of};
+ghost use Rattle.tree_model.specs.Cursor.{descendants_of, at_node, parent_of};
 ghost use Rattle.ras_node.specs.Nodes.{kind_at};
-ghost use Rattle.operator_walks.specs.Inside.{is_side, is_base, is_operand, opens, is_step, is_sought, lacks_side, leads_up, is_open, holds, has_exterior_record, has_let};
+ghost use Rattle.operator_walks.specs.Inside.{is_side, is_base, is_operand, opens, is_step, is_sought, lacks_side, holds, has_exterior_record, has_let};
 
 use crate::along::{Meant, Toward, reaches};
 use crate::parts::{first_expr, is_and, is_it, second_expr};
-use lossless_tree::{SyntaxKind, SyntaxNode};
+use lossless_tree::{SyntaxKind, SyntaxNode, WalkEvent};
 
 /// What is looked for: a record that no delimiters surround, or a `let` in a chain of `&&`.
 #[derive(Clone, Copy)]
@@ -78,35 +78,31 @@ fn is_sought(sought: Sought, node: &SyntaxNode) -> bool
     }
 }
 
-// Up from a node to the top, each is such an operand of the next.
-fn leads_up(sought: Sought, node: &SyntaxNode, top: &SyntaxNode) -> bool
-    ensures { result ≡ leads_up sought top.now (ancestors_of node.now) }
-{
-    let mut above = node.ancestors();
-    while let Some(here) = above.next() {
-        if here == *top {
-            return true;
-        }
-        if !is_step(sought, &here) {
-            return false;
-        }
-    }
-    false
-}
-
-fn is_open(sought: Sought, node: &SyntaxNode, top: &SyntaxNode) -> bool
-    ensures { result ≡ is_open sought top.now node.now }
-{
-    is_sought(sought, node) && leads_up(sought, node, top)
-}
-
+// The walk comes to a node only where each above it, up to the top, is such an operand of the next: what stands below another is
+// passed over, up to where that is left.
 fn holds(sought: Sought, top: &SyntaxNode) -> bool
     ensures { result ≡ holds sought top.now (filter at_node (descendants_of top.now)) }
 {
-    let mut nodes = top.descendants();
-    while let Some(node) = nodes.next() {
-        if is_open(sought, &node, top) {
-            return true;
+    let mut events = top.preorder();
+    let mut past: Option<SyntaxNode> = None;
+    while let Some(event) = events.next() {
+        match event {
+            WalkEvent::Enter(node) => {
+                if past.is_none() {
+                    if node != *top && !is_step(sought, &node) {
+                        past = Some(node);
+                    } else if is_sought(sought, &node) {
+                        return true;
+                    }
+                }
+            }
+            WalkEvent::Leave(node) => {
+                if let Some(over) = &past {
+                    if node == *over {
+                        past = None;
+                    }
+                }
+            }
         }
     }
     false
@@ -115,7 +111,8 @@ fn holds(sought: Sought, top: &SyntaxNode) -> bool
 /// Whether a record stands in the expression that no delimiters surround: the expression is one, or a side of its binary operator
 /// has one, or its base, receiver or operand has, of an index, `.await`, a field, a method call, a cast or a prefix.
 ///
-/// It reads the whole of the expression, and takes time linear in it and in how deep its records stand.
+/// It walks the expression once. At each node that it comes to it also reads the parent's children, up to the second expression,
+/// so it takes time linear in the expression where few nodes stand before a parent's second expression.
 pub fn has_exterior_record(node: &SyntaxNode) -> bool
     ensures { result ≡ has_exterior_record node.now }
 {
@@ -124,7 +121,8 @@ pub fn has_exterior_record(node: &SyntaxNode) -> bool
 
 /// Whether the expression is a `let`, or an `&&` that lacks a side or one of whose sides is such an expression.
 ///
-/// It reads the whole of the expression, and takes time linear in it and in how deep its `let`s stand.
+/// It walks the expression once. At each node that it comes to it also reads the parent's children, up to the second expression,
+/// so it takes time linear in the expression where few nodes stand before a parent's second expression.
 pub fn has_let(node: &SyntaxNode) -> bool
     ensures { result ≡ has_let node.now }
 {
