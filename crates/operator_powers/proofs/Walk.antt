@@ -22,7 +22,7 @@ abbrev pub flat : {A : Type 0} → (A → List Token) → List A → List Token
 flat g [] = []
 flat g (x ∷ xs) = g x ++ flat g xs
 
-flat-append : {A : Type 0} (g : A → List Token) (xs ys : List A) → flat g (xs ++ ys) ≡ flat g xs ++ flat g ys
+pub flat-append : {A : Type 0} (g : A → List Token) (xs ys : List A) → flat g (xs ++ ys) ≡ flat g xs ++ flat g ys
 flat-append g [] ys = refl
 flat-append g (x ∷ xs) ys = ap (λ ts. g x ++ ts) (flat-append g xs ys) ∙ sym (append_assoc (g x) (flat g xs) (flat g ys))
 

@@ -11,7 +11,7 @@ ghost use Rattle.operator_trees.specs.Leaves.{leaves_of};
 ghost use Rattle.operator_trees.specs.Before.{part_kid, is_direct};
 ghost use Rattle.operator_powers.specs.Rules.{asks_at, form_at, is_foreign, is_term_form, kid_place, is_arguments, operators_ask};
 
-use crate::edge::edge_of;
+use crate::ending::ends_in_cast;
 use crate::node::{form_powers, is_call_form, is_field_form, operator_start};
 use crate::powers::{by_power, stands_before};
 use lossless_tree::SyntaxNode;
@@ -105,14 +105,14 @@ pub fn is_arguments(form: Form) -> bool
     matches!(form, Form::Arguments)
 }
 
-// It ends in a cast's name, and `<` or `<<` follows. Its tokens are read only where one of these follows.
+// It ends in a cast's name, and `<` or `<<` follows. Its last tokens are read only where one of these follows.
 fn is_cut_off(own: &SyntaxNode, angle: bool) -> bool
     ensures { result ≡ (ends_in_cast (leaves_of (focus own.now)) && angle) }
 {
     if !angle {
         return false;
     }
-    edge_of(own).ends
+    ends_in_cast(own)
 }
 
 fn operators_ask(own: &SyntaxNode, parent: &SyntaxNode, place: &SyntaxNode, angle: bool) -> bool
