@@ -23,7 +23,8 @@ find_first : {X : Type 0} (test : X → Bool) (xs : List X) → find test xs ≡
 find_first test [] = refl
 find_first test (x ∷ xs) = by (test x) (find_first test xs)
   where
-    by : (b : Bool) → find test xs ≡ head_of (filter test xs) → cond b (Some x) (find test xs) ≡ head_of (cond b (x ∷ filter test xs) (filter test xs))
+    by : (b : Bool) → find test xs ≡ head_of (filter test xs)
+        → cond b (Some x) (find test xs) ≡ head_of (cond b (x ∷ filter test xs) (filter test xs))
     by true e = refl
     by false e = e
 
@@ -63,7 +64,8 @@ same_tree c =
 outside : TokensStandTogether → (c : Cursor) → IsPlace c.tree c.place → List Cursor
 outside law c is = reverse (law c is).0
 
-before_one : (law : TokensStandTogether) (c y : Cursor) (before after : List Cursor) (is : IsPlace c.tree c.place) → tokens_of c ≡ reverse before ++ y ∷ after → tokens_beyond Prev y ≡ before ++ outside law c is
+before_one : (law : TokensStandTogether) (c y : Cursor) (before after : List Cursor) (is : IsPlace c.tree c.place)
+    → tokens_of c ≡ reverse before ++ y ∷ after → tokens_beyond Prev y ≡ before ++ outside law c is
 unfolding outside
 before_one law c y before after is e =
     let front = (law c is).0 in
@@ -95,7 +97,8 @@ head_nil [] out e = refl
 head_nil (x ∷ before) out e = absurd (let bad : (x ∷ (before ++ out)) ≡ [] = e in cc)
 
 -- before the first there is none
-pub before_first_one : TokensStandTogether → (c y : Cursor) (before after : List Cursor) → IsPlace c.tree c.place → tokens_of c ≡ reverse before ++ y ∷ after → Some y ≡ find at_token (descendants_of c)
+pub before_first_one : TokensStandTogether → (c y : Cursor) (before after : List Cursor) → IsPlace c.tree c.place
+    → tokens_of c ≡ reverse before ++ y ∷ after → Some y ≡ find at_token (descendants_of c)
     → None ≡ head_of before
 before_first_one law c y before after is e first = by (tokens_of c) refl
   where
@@ -107,7 +110,8 @@ before_first_one law c y before after is e first = by (tokens_of c) refl
         none_before before (outside law c is) (sym (before_one law c y [] rest is (some ∙ ap (λ z. z ∷ rest) same)) ∙ before_one law c y before after is e)
 
 -- before another, the one right before it among all tokens
-pub before_other_one : TokensStandTogether → (c y : Cursor) (found : Option Cursor) (before after : List Cursor) → IsPlace c.tree c.place → tokens_of c ≡ reverse before ++ y ∷ after
+pub before_other_one : TokensStandTogether → (c y : Cursor) (found : Option Cursor) (before after : List Cursor)
+    → IsPlace c.tree c.place → tokens_of c ≡ reverse before ++ y ∷ after
     → (Some y ≡ find at_token (descendants_of c) → ⊥) → IsRightBefore (all_tokens y) y found → found ≡ head_of before
 before_other_one law c y None before after is e other h =
     head_nil before (outside law c is) (sym (before_one law c y before after is e) ∙ tokens_before y [] h.0 h.1)
@@ -120,7 +124,8 @@ before_other_one law c y (Some x) (z ∷ before) after is e other h =
     ap (λ w. Some w) same
 
 -- a node with a token has a first one
-pub none_first : (c y : Cursor) (before after : List Cursor) → tokens_of c ≡ reverse before ++ y ∷ after → None ≡ find at_token (descendants_of c) → None ≡ head_of before
+pub none_first : (c y : Cursor) (before after : List Cursor) → tokens_of c ≡ reverse before ++ y ∷ after
+    → None ≡ find at_token (descendants_of c) → None ≡ head_of before
 none_first c y before after e none = absurd (by (reverse before) (none ∙ first_in c ∙ ap head_of e))
   where
     by : (l : List Cursor) → None ≡ head_of (l ++ y ∷ after) → ⊥
@@ -132,7 +137,8 @@ abbrev pub to_read : Option Cursor → ℕ
 to_read None = 0
 to_read (Some y) = suc (length (tokens_beyond Prev y))
 
-pub fewer_to_read : TokensStandTogether → (c y : Cursor) (before after : List Cursor) → IsPlace c.tree c.place → tokens_of c ≡ reverse before ++ y ∷ after → to_read (head_of before) < suc (length (tokens_beyond Prev y))
+pub fewer_to_read : TokensStandTogether → (c y : Cursor) (before after : List Cursor) → IsPlace c.tree c.place
+    → tokens_of c ≡ reverse before ++ y ∷ after → to_read (head_of before) < suc (length (tokens_beyond Prev y))
 fewer_to_read law c y [] after is e = omega arith
 fewer_to_read law c y (z ∷ before) after is e =
     let here = ap length (before_one law c y (z ∷ before) after is e) in
@@ -187,7 +193,8 @@ no_name_last (s ∷ ts) t h = skip (is_as s.kind) ts ∙ no_name_last ts t h
     skip true (r ∷ []) = refl
     skip true (r ∷ q ∷ ts) = refl
 
-said : (named : Bool) (ts us : List Token) (t : Token) → Seen named us → (named || not (is_name t.kind)) ≡ true → ends_in_cast (ts ++ t ∷ us) ≡ (named && is_as t.kind)
+said : (named : Bool) (ts us : List Token) (t : Token) → Seen named us → (named || not (is_name t.kind)) ≡ true
+    → ends_in_cast (ts ++ t ∷ us) ≡ (named && is_as t.kind)
 said false ts us t h stops = ap (λ l. ends_in_cast (ts ++ t ∷ l)) h ∙ no_name_last ts t (turn (is_name t.kind) stops)
   where
     turn : (b : Bool) → not b ≡ true → b ≡ false
@@ -214,7 +221,8 @@ kept_leaves (c ∷ cs) = out (at_token c) ∙ by (focus c) (kept_leaves cs)
     out true = refl
     out false = refl
 
-    by : (t : Tree) → seen_of (filter at_token cs) ≡ seen_of cs → cond (is_token t) (leaf_here t ++ seen_of (filter at_token cs)) (seen_of (filter at_token cs)) ≡ leaf_here t ++ seen_of cs
+    by : (t : Tree) → seen_of (filter at_token cs) ≡ seen_of cs
+        → cond (is_token t) (leaf_here t ++ seen_of (filter at_token cs)) (seen_of (filter at_token cs)) ≡ leaf_here t ++ seen_of cs
     by (token k x) rest = ap (λ l. leaf_here (token k x) ++ l) rest
     by (node k d) rest = rest
 
@@ -273,7 +281,8 @@ standing c y next named is u = by u.before refl
         }
 
 -- it is trivia
-pub past_trivia : (c y : Cursor) (next : Option Cursor) (named : Bool) (s : Standing c y named) → is_trivia (kind_of (focus y)) ≡ true → next ≡ head_of s.before → Unread c next named
+pub past_trivia : (c y : Cursor) (next : Option Cursor) (named : Bool) (s : Standing c y named) → is_trivia (kind_of (focus y)) ≡ true
+    → next ≡ head_of s.before → Unread c next named
 past_trivia c y next named s is nearest = record {
   before = s.before;
   after = y ∷ s.after;
@@ -301,7 +310,8 @@ past_name c y next false s is goes nearest = record {
     turn false e = sym e
 
 -- it decides
-pub decided : (c y : Cursor) (named : Bool) (s : Standing c y named) → is_trivia (kind_of (focus y)) ≡ false → (named || not (is_name (kind_of (focus y)))) ≡ true
+pub decided : (c y : Cursor) (named : Bool) (s : Standing c y named) → is_trivia (kind_of (focus y)) ≡ false
+    → (named || not (is_name (kind_of (focus y)))) ≡ true
     → (named && is_as (kind_of (focus y))) ≡ ends_in_cast (leaves_of (focus c))
 decided c y named s is stops =
     sym (ap ends_in_cast (leaves_seen c ∙ ap seen_of s.parts ∙ flat-append (λ d. leaf_here (focus d)) (reverse s.before) (y ∷ s.after)
@@ -309,7 +319,8 @@ decided c y named s is stops =
     ∙ said named (seen_of (reverse s.before)) (seen_of s.after) (as_token (focus y)) s.seen stops)
 
 -- none is left
-pub none_left : (c : Cursor) (next : Option Cursor) (named : Bool) → next ≡ None → Unread c next named → false ≡ ends_in_cast (leaves_of (focus c))
+pub none_left : (c : Cursor) (next : Option Cursor) (named : Bool) → next ≡ None → Unread c next named
+    → false ≡ ends_in_cast (leaves_of (focus c))
 none_left c next named is u = by u.before refl
   where
     by : (l : List Cursor) → u.before ≡ l → false ≡ ends_in_cast (leaves_of (focus c))

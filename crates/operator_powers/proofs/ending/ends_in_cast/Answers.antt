@@ -15,7 +15,8 @@ loop-next-init c = record { first = c.first_token-first.ensures; unread = unread
 pub returns-then-decides : goal.returns-then-decides
 returns-then-decides c =
     let s = standing c.args.node.now c.in-Some.token c.loop-next.next c.loop-next.named c.in-Some.is c.loop-next.invariant.unread in
-    let trivia : is_trivia (kind_of (focus c.in-Some.token)) ≡ false = sym (ap is_trivia c.kind-kind.ensures) ∙ sym c.is_trivia.ensures ∙ c.if-not-is_trivia.true in
+    let trivia : is_trivia (kind_of (focus c.in-Some.token)) ≡ false = sym (ap is_trivia c.kind-kind.ensures) ∙ sym c.is_trivia.ensures
+    ∙ c.if-not-is_trivia.true in
     let stops : (c.loop-next.named || not (is_name (kind_of (focus c.in-Some.token)))) ≡ true =
     sym (ap (λ k. c.loop-next.named || not (is_name k)) c.kind-kind.ensures) ∙ sym c.decides.ensures ∙ c.if-decides.true in
     let said = decided c.args.node.now c.in-Some.token c.loop-next.named s trivia stops in
