@@ -50,7 +50,7 @@ impl ast::Expr {
     /// At an operand below the root of an operator tree, asked with the operand's own parent node (for an argument that is the list
     /// of arguments), it answers false exactly where the operand fits, before the tokens that stand behind it in the whole tree;
     /// where neither `<` nor `<<` follows the operator tree, this is `Fits`, of the term alone. Below an expression that a block
-    /// follows, and below an `&&`, it may read the whole of the expression.
+    /// follows, and below an `&&`, it may walk the whole of the expression, once: how deep a record or a `let` stands does not matter.
     pub fn needs_parens_in(&self, parent: &SyntaxNode) -> bool
         ensures asks { result ≡ asks (expr_node self.now) parent.now (expr_node self.now) }
         ensures fits { (r : Cursor) (t : Term) (i : ℕ) (q : List ℕ) (held : Part) → meaning (focus r) ≡ IsTerm t → operand t (i ∷ q) ≡ Some held
