@@ -65,15 +65,6 @@ pub fn is_term_form(form: Form) -> bool
     )
 }
 
-// What shows no term is asked for no pair here: the rules outside operator trees are not part of this test.
-fn rules_outside_operator_trees(
-    _own: &SyntaxNode,
-    _parent: &SyntaxNode,
-    _place: &SyntaxNode,
-) -> bool {
-    false
-}
-
 // The parent itself is the place's parent, or lies above it.
 fn is_above(parent: &SyntaxNode, place: &SyntaxNode) -> bool
     ensures { parent_of place.now ≡ Some parent.now → result ≡ true }
@@ -121,7 +112,8 @@ fn operators_ask(own: &SyntaxNode, parent: &SyntaxNode, place: &SyntaxNode, angl
     is_cut_off(own, angle) || asks_at(own, parent, place)
 }
 
-// What is left below an expression or a list of arguments.
+// What is left below an expression or a list of arguments. What shows no term is asked for no pair here: the rules outside operator
+// trees are no part of this test.
 fn needs_parens_below(
     own: &SyntaxNode,
     parent: &SyntaxNode,
@@ -135,13 +127,13 @@ fn needs_parens_below(
         return false;
     }
     if is_foreign(form_of(own.kind())) {
-        return rules_outside_operator_trees(own, parent, place);
+        return false;
     }
     operators_ask(own, parent, place, angle)
 }
 
-/// Whether an expression needs parentheses in place of what stands at `place`, whose parent is `parent`, or an ancestor. The
-/// flag says whether `<` or `<<` follows behind the parent's child there.
+/// Whether an expression of an operator tree needs parentheses in place of what stands at `place`, whose parent is `parent`. The flag
+/// says whether `<` or `<<` follows behind the parent's child there.
 pub fn needs_parens_before(
     own: &SyntaxNode,
     parent: &SyntaxNode,
