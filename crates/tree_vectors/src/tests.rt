@@ -64,18 +64,35 @@ fn tokens_at_an_offset_are_mapped(rt: HostRuntime) -> Result<(), Fail> {
     Ok(())
 }
 
+fn put(builder: &mut TreeBuilder, tokens: &[(SyntaxKind, &str)]) -> Result<(), Fail> {
+    for (kind, text) in tokens {
+        builder.token(*kind, text)?;
+    }
+    Ok(())
+}
+
 // ` a /**/ b// `: two names with blanks and comments around, the second inside a node.
 fn spaced_tree(alloc: Global) -> Result<SyntaxNode, Fail> {
     let mut builder = TreeBuilder::new(alloc);
     builder.start_node(SyntaxKind::PATH)?;
-    builder.token(SyntaxKind::WHITESPACE, " ")?;
-    builder.token(SyntaxKind::IDENT, "a")?;
-    builder.token(SyntaxKind::WHITESPACE, " ")?;
-    builder.token(SyntaxKind::COMMENT, "/**/")?;
+    put(
+        &mut builder,
+        &[
+            (SyntaxKind::WHITESPACE, " "),
+            (SyntaxKind::IDENT, "a"),
+            (SyntaxKind::WHITESPACE, " "),
+            (SyntaxKind::COMMENT, "/**/"),
+        ],
+    )?;
     builder.start_node(SyntaxKind::NAME_REF)?;
-    builder.token(SyntaxKind::WHITESPACE, " ")?;
-    builder.token(SyntaxKind::IDENT, "b")?;
-    builder.token(SyntaxKind::COMMENT, "// ")?;
+    put(
+        &mut builder,
+        &[
+            (SyntaxKind::WHITESPACE, " "),
+            (SyntaxKind::IDENT, "b"),
+            (SyntaxKind::COMMENT, "// "),
+        ],
+    )?;
     builder.finish_node()?;
     builder.finish_node()?;
     Ok(builder.finish()?)
@@ -88,26 +105,39 @@ fn has_text(token: Option<SyntaxToken>, text: &str) -> bool {
     }
 }
 
+fn is_it(found: Option<SyntaxToken>, token: &SyntaxToken) -> bool {
+    match found {
+        Some(found) => found == *token,
+        None => false,
+    }
+}
+
+// Each is the other's nearest token, and beyond them there is none.
+fn are_the_only_two(a: &SyntaxToken, b: &SyntaxToken) -> bool {
+    is_it(a.next_token_no_trivia(), b)
+        && is_it(b.prev_token_no_trivia(), a)
+        && a.prev_token_no_trivia().is_none()
+        && b.next_token_no_trivia().is_none()
+}
+
 #[test]
 fn the_nearest_token_passes_blanks_and_comments(rt: HostRuntime) -> Result<(), Fail> {
     let root = spaced_tree(rt.alloc())?;
-    let first = root
-        .first_token()
-        .ok_or_else(|| Fail::from("no first token"))?;
     let last = last_token(&root)?;
-    assert!(rt; has_text(first.next_token_no_trivia(), "a"));
-    assert!(rt; first.prev_token_no_trivia().is_none());
     assert!(rt; has_text(last.prev_token_no_trivia(), "b"));
     assert!(rt; last.next_token_no_trivia().is_none());
-    let a = first
-        .next_token_no_trivia()
-        .ok_or_else(|| Fail::from("no token behind"))?;
-    let b = last
-        .prev_token_no_trivia()
-        .ok_or_else(|| Fail::from("no token before"))?;
-    assert!(rt; a.next_token_no_trivia() == Some(b.clone()?));
-    assert!(rt; b.prev_token_no_trivia() == Some(a.clone()?));
-    assert!(rt; a.prev_token_no_trivia().is_none());
-    assert!(rt; b.next_token_no_trivia().is_none());
+    let first = root.first_token().ok_or("no first token")?;
+    assert!(rt; has_text(first.next_token_no_trivia(), "a"));
+    assert!(rt; first.prev_token_no_trivia().is_none());
+    Ok(())
+}
+
+#[test]
+fn two_names_are_each_others_nearest_tokens(rt: HostRuntime) -> Result<(), Fail> {
+    let root = spaced_tree(rt.alloc())?;
+    let b = last_token(&root)?.prev_token_no_trivia();
+    let b = b.ok_or("no token before")?;
+    let a = b.prev_token_no_trivia().ok_or("no token before that")?;
+    assert!(rt; are_the_only_two(&a, &b));
     Ok(())
 }
