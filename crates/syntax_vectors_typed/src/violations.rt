@@ -1,19 +1,8 @@
-//! What is wrong with trees: each rule on a tree that breaks it, on those that nearly do, and deeper in a tree.
-mod deep;
-mod exprs;
-mod items;
-mod literals;
-mod paths;
-mod types;
-
+//! Faults of strings over several lines; all else that is wrong with trees stands in `tests/answer_cases`, whose trees are a line each.
 use crate::trees::build;
 use ras_validation::violations;
 use std::alloc::Global;
-use std::process::Abort;
 use std::test::Fail;
-
-// A tree by its words, and the lines of its violations.
-type Row = (&'static str, &'static str);
 
 // The violations of a tree, a line each.
 fn lines(alloc: Global, words: &str) -> Result<String, Fail> {
@@ -28,10 +17,20 @@ fn lines(alloc: Global, words: &str) -> Result<String, Fail> {
     Ok(lines)
 }
 
-// Each tree has the violations of its row.
-fn check(rt: &impl Abort, alloc: Global, rows: &[Row]) -> Result<(), Fail> {
-    for (words, expected) in rows {
-        let found = lines(alloc, words)?;
+// A tree by its words, and the lines of its violations.
+const ROWS: [(&str, &str); 3] = [
+    (
+        "LITERAL( STRING:\"a\r\" )",
+        "2..2 Character must be escaped: `\r`\n",
+    ),
+    ("LITERAL( STRING:\"a\\\n~\nb\" )", ""),
+    ("LITERAL( STRING:\"\\\n\u{a0}\" )", ""),
+];
+
+#[test]
+fn strings_over_lines(rt: HostRuntime) -> Result<(), Fail> {
+    for (words, expected) in &ROWS {
+        let found = lines(rt.alloc(), words)?;
         assert_eq!(rt; found.as_str(), *expected, "in {words}");
     }
     Ok(())
