@@ -73,6 +73,7 @@ pub use Rattle.operator_trees.specs.Leaves
 pub use Rattle.operator_reads.specs.Reads
 pub use Rattle.operator_pairs.specs.Pairs
 pub use Rattle.operator_walks.specs.Along
+pub use Rattle.operator_walks.specs.CastName
 pub use Rattle.operator_precedence.specs.Levels
 pub use Rattle.paren_rules.specs.Rules
 pub mod AdtCases

@@ -3,6 +3,14 @@ ghost use Rattle.std.specs.Prelude.{◌≡◌, true};
 
 use crate::ast::{self, AstNode, AstToken};
 use lossless_tree::SyntaxKind;
+pub use operator_pairs::laws::{
+    it_reads_where_none_is_asked, needless_pairs_are_found, needless_pairs_may_go,
+    one_term_of_the_tokens, operands_are_asked, precedences_ask_enough,
+};
+pub use paren_rules::laws::{
+    operator_trees_are_asked_by_operators, operator_trees_end_in_casts_by_two_tokens,
+    operator_trees_have_their_precedence,
+};
 pub use ras_search::laws::common_ancestor_is_deepest;
 
 /// The views of nodes that no enum has are of the kinds that they are named for.

@@ -5,23 +5,23 @@ use Rattle.syntax_kind.specs.declared.syntax_kind.SyntaxKind.TheVariants as kind
 use Rattle.syntax_kind.specs.declared.syntax_kind.token_kind.TokenKind.TheVariants as token
 use Rattle.lossless_tree.specs.declared.cursor.element.NodeOrToken.{NodeOrToken}
 use Rattle.lossless_tree.specs.declared.cursor.element.NodeOrToken.TheVariants.{Node, Token}
-use Rattle.lossless_tree.specs.Element.{element_of}
-use Rattle.tree_model.specs.Cursor.{Cursor, children_of, first_child_of}
+use Rattle.std.specs.List.{find}
+use Rattle.tree_model.specs.Cursor.{Cursor, at_token, descendants_of}
 use Rattle.syntax_kind.specs.declared.syntax_kind.SyntaxKind.{SyntaxKind}
 use Rattle.ras_node.specs.Nodes.{kind_at}
 use Rattle.ras_node.specs.Lookups.{if_of}
 
-abbrev pub is_comma_token : NodeOrToken Cursor Cursor → Bool
-is_comma_token (Node c) = false
-is_comma_token (Token c) = is_same_kind (kind_at c) (kinds.Token token.COMMA)
+abbrev pub is_comma_token : Option Cursor → Bool
+is_comma_token None = false
+is_comma_token (Some c) = is_same_kind (kind_at c) (kinds.Token token.COMMA)
 
-abbrev pub begins_with_comma : Option Cursor → Bool
-begins_with_comma None = false
-begins_with_comma (Some c) = is_comma_token (element_of c)
+-- the first token in the node, at any depth, is a comma
+abbrev pub begins_with_comma : Cursor → Bool
+begins_with_comma c = is_comma_token (find at_token (descendants_of c))
 
--- a comma, or an `ERROR` node that begins with one
+-- a comma, or an `ERROR` node that begins with one (upstream: `into_comma`)
 abbrev pub is_comma : NodeOrToken Cursor Cursor → Bool
-is_comma (Node c) = is_same_kind (kind_at c) (kinds.Token token.ERROR) && begins_with_comma (first_child_of c)
+is_comma (Node c) = is_same_kind (kind_at c) (kinds.Token token.ERROR) && begins_with_comma c
 is_comma (Token c) = is_same_kind (kind_at c) (kinds.Token token.COMMA)
 
 -- what an element gives that is no comma: of a node the argument, if it is of the kinds, and of a token nothing

@@ -1,28 +1,20 @@
 //! The arguments of a call.
 ghost use Rattle.std.specs.Prelude.{◌≡◌, false, map, option_map};
 ghost use Rattle.std.specs.Iterator.{YieldsFirstBy, item_count};
-ghost use Rattle.tree_model.specs.Cursor.{children_of, first_child_of};
+ghost use Rattle.tree_model.specs.Cursor.{children_of};
 ghost use Rattle.lossless_tree.specs.Element.{element_of};
-ghost use Rattle.ras_expr.specs.Args.{is_comma_token, begins_with_comma, is_comma, given, is_after, arguments};
+ghost use Rattle.ras_expr.specs.Args.{begins_with_comma, is_comma, given, is_after, arguments};
 
 use lossless_tree::{NodeOrToken, SyntaxElement, SyntaxElementChildren, SyntaxKind, SyntaxNode};
 use ras_node::{AstNode, support};
 use std::marker::{Model, PhantomData};
 
-fn is_comma_token(element: &SyntaxElement) -> bool
-    ensures { result ≡ is_comma_token element.now }
-{
-    match element {
-        NodeOrToken::Node(_) => false,
-        NodeOrToken::Token(token) => token.kind() == SyntaxKind::COMMA,
-    }
-}
-
+// The first token in it, at any depth, is a comma.
 fn begins_with_comma(node: &SyntaxNode) -> bool
-    ensures { result ≡ begins_with_comma (first_child_of node.now) }
+    ensures { result ≡ begins_with_comma node.now }
 {
-    match node.first_child_or_token() {
-        Some(first) => is_comma_token(&first),
+    match node.first_token() {
+        Some(first) => first.kind() == SyntaxKind::COMMA,
         None => false,
     }
 }
@@ -61,8 +53,8 @@ fn given<N: AstNode>(after: bool, element: SyntaxElement) -> Option<Option<N>>
 }
 
 /// The arguments of a call, in order, where one may be missing: those that can be viewed as an `N`, `None` for each other node,
-/// and `None` for a comma with no argument before it, since the last comma or the start. An `ERROR` that begins with a comma
-/// counts as one. A clause sees those that are left.
+/// and `None` for a comma with no argument before it, since the last comma or the start. An `ERROR` whose first token is a
+/// comma counts as one. A clause sees those that are left.
 #[derive(Drop)]
 pub struct ArgsMaybeEmpty<N: AstNode> {
     left: SyntaxElementChildren,

@@ -127,7 +127,7 @@ pub fn skip_whitespace_token(token: SyntaxToken, direction: Direction) -> Option
 }
 
 /// The nearest sibling in a direction, node or token, that is no trivia: no token of white space or a comment; `None`
-/// where there is none. It passes over the trivia between.
+/// where there is none. It passes over the trivia between, forwards in constant time each, backwards in the depth there.
 pub fn non_trivia_sibling(element: SyntaxElement, direction: Direction) -> Option<SyntaxElement>
     ensures { result ≡ option_map element_of (find is_no_trivia (siblings_beyond direction (cursor_of element))) }
 {

@@ -32,6 +32,10 @@ HasNo c (b ∷ bs) = (b ≢ c) × HasNo c bs
 abbrev pub IsCut : ℕ → List ℕ → List ℕ → List ℕ → Type 0
 IsCut c text before after = HasNo c before × ((text ≡ before ++ c ∷ after) ⊎ ((text ≡ before) × (after ≡ [])))
 
+-- the first line of a text, which ends in a newline, and what stands behind it
+abbrev pub IsLine : List ℕ → List ℕ → List ℕ → Type 0
+IsLine text line behind = HasNo 10 line × (text ≡ line ++ 10 ∷ behind)
+
 -- one or more bytes without a space
 pub record IsWord (bytes : List ℕ) : Type 0 where
   pub some : 0 < length bytes

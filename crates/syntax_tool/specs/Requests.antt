@@ -13,7 +13,7 @@ use Rattle.tiny_front.specs.Front.{tiny_front}
 use Rattle.syntax_tool.specs.declared.refusal.Refusal.{Refusal}
 use Rattle.syntax_tool.specs.declared.refusal.Refusal.TheVariants.{BadLine, BadRange, TooLong}
 use Rattle.syntax_tool.specs.Escapes.{unescaped}
-use Rattle.syntax_tool.specs.Lines.{IsCut}
+use Rattle.syntax_tool.specs.Lines.{HasNo, IsCut, IsLine}
 
 abbrev pub is_digit : ℕ → Bool
 is_digit b = nat_le 48 b && nat_le b 57
@@ -69,15 +69,23 @@ abbrev pub AnswersRequest : Option ℕ → Option ℕ → Option (List ℕ) → 
 AnswersRequest (Some start) (Some end) (Some insert) s r = AnswersRange s start end insert r
 AnswersRequest _ _ _ s r = r ≡ Err BadLine
 
--- the input: `START END`, a line with what is put in, in which a backslash begins an escape, and the text
-pub record AnswersReparse (input : List ℕ) (r : Result (List ℕ) Refusal) : Type 0 where
-  pub first : List ℕ
-  pub behind : List ℕ
-  pub second : List ℕ
-  pub whole : List ℕ
+-- the text begins with two lines, and this stands behind them
+abbrev pub AreLines : List ℕ → List ℕ → List ℕ → List ℕ → Type 0
+AreLines text first second whole = (behind : List ℕ) × IsLine text first behind × IsLine behind second whole
+
+-- the first line has no newline, or the second has none
+abbrev pub LacksLine : List ℕ → Type 0
+LacksLine text = HasNo 10 text ⊎ ((first behind : List ℕ) × IsLine text first behind × HasNo 10 behind)
+
+-- the answer to a line `START END`, a line with what is put in, in which a backslash begins an escape, and the text
+pub record AnswersLines (first second whole : List ℕ) (r : Result (List ℕ) Refusal) : Type 0 where
   pub start : List ℕ
   pub end : List ℕ
-  pub first_line : IsCut 10 input first behind
-  pub second_line : IsCut 10 behind second whole
   pub numbers : IsCut 32 first start end
   pub answers : AnswersRequest (number_of start) (number_of end) (unescaped second) whole r
+
+-- the answer to an input: both lines, each with its newline, and the text
+abbrev pub AnswersReparse : List ℕ → Result (List ℕ) Refusal → Type 0
+AnswersReparse input r =
+    (LacksLine input × (r ≡ Err BadLine))
+    ⊎ ((first second whole : List ℕ) × AreLines input first second whole × AnswersLines first second whole r)

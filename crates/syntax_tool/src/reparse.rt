@@ -1,11 +1,12 @@
 //! The command `reparse`: an edit and a text to the dump of the tree after the edit.
-ghost use Rattle.std.specs.Prelude.{◌≡◌, ◌↔◌, ◌⊎◌, ◌++◌, ◌<◌, ◌≤◌, ◌^◌, length, Ok, Err, IfOk, IfErr, IfSome, IsSome, MatchResult, OnOk, string_bytes};
+ghost use Rattle.std.specs.Prelude.{◌≡◌, ◌↔◌, ◌⊎◌, ◌++◌, ◌<◌, ◌≤◌, ◌^◌, length, Ok, Err, IfOk, IfErr, IfSome, IfNone, IsSome, MatchResult, OnOk, string_bytes};
 ghost use Rattle.std.specs.List.{list_all};
 ghost use Rattle.tree_model.specs.Tree.{text};
 ghost use Rattle.ras_front_end.specs.declared.parse_error.ParseError.TheVariants.{TooLong};
 ghost use Rattle.ras_reparsing.specs.Edit.{IsEditOf, edited};
 ghost use Rattle.ras_typed_parse.specs.AllErrors.{debug_dump_of};
-ghost use Rattle.syntax_tool.specs.Requests.{is_digit, value_from, number_of, told, IsRange, IsReread, AnswersEdit, AnswersRange, AnswersReparse};
+ghost use Rattle.syntax_tool.specs.Requests.{is_digit, value_from, number_of, told, IsRange, IsReread, AnswersEdit, AnswersRange, AnswersLines, AnswersReparse};
+ghost use Rattle.syntax_tool.specs.Lines.{HasNo, IsLine};
 
 use crate::escapes::unescape;
 use crate::lines::cut;
@@ -140,14 +141,20 @@ fn range_answer(
     edit_answer(alloc, &old, delete, insert)
 }
 
-// The answer to a request: its lines, and then the text.
-pub(crate) fn reparse_answer(alloc: Global, input: &str) -> Result<String, Refusal>
-    ensures { MatchResult result
-        (λ out. AnswersReparse input.now (Ok (string_bytes out)))
-        (λ e. (e ≡ Refusal.Memory) ⊎ AnswersReparse input.now (Err e)) }
+// The first line without its newline, and what stands behind it; nothing where there is no newline.
+fn first_line(text: &str) -> Option<(&str, &str)>
+    ensures is { IfSome result (λ p. IsLine text.now p.0.now p.1.now) }
+    ensures none { IfNone result (HasNo 10 text.now) }
 {
-    let (first, behind) = cut(input, '\n');
-    let (second, whole) = cut(behind, '\n');
+    text.split_once('\n')
+}
+
+// The answer to the two lines of a request and the text behind them.
+fn lines_answer(alloc: Global, first: &str, second: &str, whole: &str) -> Result<String, Refusal>
+    ensures { MatchResult result
+        (λ out. AnswersLines first.now second.now whole.now (Ok (string_bytes out)))
+        (λ e. (e ≡ Refusal.Memory) ⊎ AnswersLines first.now second.now whole.now (Err e)) }
+{
     let (start, end) = cut(first, ' ');
     let mut insert = String::new(alloc);
     unescape(&mut insert, second)?;
@@ -156,4 +163,15 @@ pub(crate) fn reparse_answer(alloc: Global, input: &str) -> Result<String, Refus
         _ => return Err(Refusal::BadLine),
     };
     range_answer(alloc, whole, start, end, insert.as_str())
+}
+
+// The answer to a request: its lines, and then the text.
+pub(crate) fn reparse_answer(alloc: Global, input: &str) -> Result<String, Refusal>
+    ensures { MatchResult result
+        (λ out. AnswersReparse input.now (Ok (string_bytes out)))
+        (λ e. (e ≡ Refusal.Memory) ⊎ AnswersReparse input.now (Err e)) }
+{
+    let (first, behind) = first_line(input).ok_or(Refusal::BadLine)?;
+    let (second, whole) = first_line(behind).ok_or(Refusal::BadLine)?;
+    lines_answer(alloc, first, second, whole)
 }

@@ -44,4 +44,6 @@ fn ranges_move(rt: HostRuntime) {
     assert_eq!(rt; later.checked_sub(TextSize::new(2)), Some(range));
     assert_eq!(rt; range.checked_sub(TextSize::new(4)), None);
     assert_eq!(rt; range.checked_add(TextSize::new(u32::MAX - 13)), None);
+    let longest = TextRange::up_to(TextSize::new(u32::MAX));
+    assert_eq!(rt; longest.checked_add(TextSize::new(1)), None);
 }

@@ -1,4 +1,5 @@
-//! Tests of the typed layer: what no contract below says, and each call at least once.
+//! Tests of the typed layer: casts, searches, pointers, literals, and lookups by each of their shapes. What every call of every view
+//! answers is asked by `view_answers`.
 #![tactic(auto)]
 
 #[cfg(test)]
@@ -13,6 +14,8 @@ mod lookups;
 mod matches;
 #[cfg(test)]
 mod pointers;
+#[cfg(test)]
+mod precedences;
 #[cfg(test)]
 mod rows;
 #[cfg(test)]

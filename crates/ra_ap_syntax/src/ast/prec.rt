@@ -109,6 +109,7 @@ pub fn reads_back(expr: &ast::Expr) -> Option<bool>
 /// unless the expression reads back. That several may go at once is not said.
 ///
 /// Where neither `<` nor `<<` follows the expression, they are those without which its tokens read as the term without the pair.
+/// It takes time linear in the expression, and memory for the answer.
 pub fn needless_parens(
     alloc: Global,
     expr: &ast::Expr,

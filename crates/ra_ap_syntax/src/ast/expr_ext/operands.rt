@@ -1,7 +1,9 @@
 //! Operators and their operands.
-ghost use Rattle.std.specs.Prelude.{◌≡◌, option_map, is_some, not};
+ghost use Rattle.std.specs.Prelude.{◌≡◌, Bool, option_map, is_some, not};
 ghost use Rattle.std.specs.Option.{option_and_then};
 ghost use Rattle.ras_node.specs.Lookups.{IsFirstChild, IsViewOf, second_typed_child};
+ghost use Rattle.syntax_kind.specs.declared.syntax_kind.SyntaxKind.{SyntaxKind};
+ghost use Rattle.tree_model.specs.Cursor.{Cursor};
 ghost use Rattle.ras_node.specs.Nodes.{kind_at, typed_child};
 ghost use Rattle.ra_ap_syntax.specs.OperatorTexts.{unary_op, range_op, binary_op};
 ghost use Rattle.ra_ap_syntax.specs.ExprParts.{first_child_token, binary_operator, range_operator, range_start_of, range_end_of, bound_before};
@@ -78,48 +80,54 @@ impl ast::BinExpr {
 /// A range, of expressions or of patterns.
 pub trait RangeItem {
     /// What stands at its ends.
-    type Bound;
+    type Bound: AstNode;
+
+    /// The node of the range.
+    ghost range: { Self → Cursor };
+
+    /// The end before the operator, by the kinds that ends are of: each kind of range has a rule of its own.
+    ghost start_by: { (SyntaxKind → Bool) → Cursor → Option Cursor };
 
     /// The end before the operator, if there is one.
-    fn start(&self) -> Option<Self::Bound>;
+    fn start(&self) -> Option<Self::Bound>
+        ensures { option_map Self.Bound.node result ≡ start_by Self.Bound.casts (range self.now) };
 
-    /// The end behind the operator, if there is one.
-    fn end(&self) -> Option<Self::Bound>;
+    /// The first end behind the operator; `None` where there is none, or no operator.
+    fn end(&self) -> Option<Self::Bound>
+        ensures { option_map Self.Bound.node result ≡ range_end_of Self.Bound.casts (range self.now) };
 
-    /// What the operator is.
-    fn op_kind(&self) -> Option<RangeOp>;
+    /// What the operator is; `None` where there is none.
+    fn op_kind(&self) -> Option<RangeOp>
+        ensures { result ≡ option_and_then (λ t. range_op (kind_at t)) (range_operator (range self.now)) };
 
     /// The first `..` or `..=`.
-    fn op_token(&self) -> Option<SyntaxToken>;
+    fn op_token(&self) -> Option<SyntaxToken>
+        ensures { result ≡ range_operator (range self.now) };
 }
 
 impl RangeItem for ast::RangeExpr {
     type Bound = ast::Expr;
 
+    ghost range = { λ it. it.syntax };
+
+    ghost start_by = { range_start_of };
+
     /// The first expression before the operator; `None` where there is no operator.
-    fn start(&self) -> Option<ast::Expr>
-        ensures { IsViewOf ⟦<ast::Expr as AstNode>⟧ (range_start_of ⟦<ast::Expr as AstNode>⟧.casts self.now.syntax) result }
-    {
+    fn start(&self) -> Option<ast::Expr> {
         let _operator = self.op_token()?;
         support::first_before::<ast::Expr, RangeOperators>(self.syntax.children_with_tokens())
     }
 
     /// The first expression behind the operator; `None` where there is no operator.
-    fn end(&self) -> Option<ast::Expr>
-        ensures { IsViewOf ⟦<ast::Expr as AstNode>⟧ (range_end_of ⟦<ast::Expr as AstNode>⟧.casts self.now.syntax) result }
-    {
+    fn end(&self) -> Option<ast::Expr> {
         support::first(ras_node::behind::<RangeOperators>(self.syntax.children_with_tokens()))
     }
 
-    fn op_kind(&self) -> Option<RangeOp>
-        ensures { result ≡ option_and_then (λ t. range_op (kind_at t)) (range_operator self.now.syntax) }
-    {
+    fn op_kind(&self) -> Option<RangeOp> {
         range_op(self.op_token()?.kind())
     }
 
-    fn op_token(&self) -> Option<SyntaxToken>
-        ensures { result ≡ range_operator self.now.syntax }
-    {
+    fn op_token(&self) -> Option<SyntaxToken> {
         ras_node::first_token::<RangeOperators>(self.syntax.children_with_tokens())
     }
 }
@@ -127,29 +135,25 @@ impl RangeItem for ast::RangeExpr {
 impl RangeItem for ast::RangePat {
     type Bound = ast::Pat;
 
+    ghost range = { λ it. it.syntax };
+
+    ghost start_by = { bound_before };
+
     /// The first pattern before the operator; without operator the first pattern.
-    fn start(&self) -> Option<ast::Pat>
-        ensures { IsViewOf ⟦<ast::Pat as AstNode>⟧ (bound_before ⟦<ast::Pat as AstNode>⟧.casts self.now.syntax) result }
-    {
+    fn start(&self) -> Option<ast::Pat> {
         support::first_before::<ast::Pat, RangeOperators>(self.syntax.children_with_tokens())
     }
 
     /// The first pattern behind the operator; `None` where there is no operator.
-    fn end(&self) -> Option<ast::Pat>
-        ensures { IsViewOf ⟦<ast::Pat as AstNode>⟧ (range_end_of ⟦<ast::Pat as AstNode>⟧.casts self.now.syntax) result }
-    {
+    fn end(&self) -> Option<ast::Pat> {
         support::first(ras_node::behind::<RangeOperators>(self.syntax.children_with_tokens()))
     }
 
-    fn op_kind(&self) -> Option<RangeOp>
-        ensures { result ≡ option_and_then (λ t. range_op (kind_at t)) (range_operator self.now.syntax) }
-    {
+    fn op_kind(&self) -> Option<RangeOp> {
         range_op(self.op_token()?.kind())
     }
 
-    fn op_token(&self) -> Option<SyntaxToken>
-        ensures { result ≡ range_operator self.now.syntax }
-    {
+    fn op_token(&self) -> Option<SyntaxToken> {
         ras_node::first_token::<RangeOperators>(self.syntax.children_with_tokens())
     }
 }
