@@ -1,5 +1,5 @@
-//! Tests of the typed layer: casts, searches, pointers, literals, and lookups by each of their shapes. What every call of every view
-//! answers is asked by `view_answers`.
+//! Tests of the typed layer: casts, searches, pointers, literals, typed tokens, lookups by each of their shapes, and the README's
+//! tour. What every call of every view answers is asked by `view_answers`.
 #![tactic(auto)]
 
 #[cfg(test)]
@@ -18,6 +18,10 @@ mod pointers;
 mod precedences;
 #[cfg(test)]
 mod rows;
+#[cfg(test)]
+mod tokens;
+#[cfg(test)]
+mod tour;
 #[cfg(test)]
 mod trees;
 #[cfg(test)]

@@ -1,5 +1,5 @@
 //! The units that a callback is called on.
-use crate::tokens::typed;
+use super::typed;
 use ra_ap_syntax::SyntaxKind;
 use ra_ap_syntax::ast::{AnyString, IsString};
 use ra_ap_syntax::unescape::EscapeError;

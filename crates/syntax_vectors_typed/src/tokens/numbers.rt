@@ -1,5 +1,5 @@
 //! Integers and floating point numbers.
-use crate::tokens::typed;
+use super::typed;
 use ra_ap_syntax::SyntaxKind;
 use ra_ap_syntax::ast::{FloatNumber, IntNumber};
 use ras_literal::{IntError, Radix};

@@ -1,5 +1,5 @@
 //! Comments and white space.
-use crate::tokens::typed;
+use super::typed;
 use ra_ap_syntax::SyntaxKind;
 use ra_ap_syntax::ast::{AnyComment, Comment, DocComment, Whitespace};
 use ras_literal::{AttrKind, CommentShape};

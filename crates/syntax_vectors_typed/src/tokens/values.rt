@@ -1,5 +1,5 @@
 //! The values of strings, characters and bytes.
-use crate::tokens::typed;
+use super::typed;
 use ra_ap_syntax::unescape::EscapeError;
 use ra_ap_syntax::{SyntaxKind, ast};
 use std::alloc::Global;

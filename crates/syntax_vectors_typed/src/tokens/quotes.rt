@@ -1,5 +1,5 @@
 //! The quotes and the content of strings, in the offsets of the tree.
-use crate::tokens::{range, typed};
+use super::{range, typed};
 use ra_ap_syntax::ast::{AnyString, IsString};
 use ra_ap_syntax::{SyntaxKind, TextSize};
 use std::alloc::Global;

@@ -1,4 +1,10 @@
-// Tokens of trees.
+//! Typed tokens: each method on texts where it answers, and on those where it may not.
+mod comments;
+mod numbers;
+mod quotes;
+mod units;
+mod values;
+
 use ra_ap_syntax::ast::AstToken;
 use ra_ap_syntax::{SyntaxKind, SyntaxToken, TextRange, TextSize, TreeBuilder};
 use std::alloc::Global;
@@ -15,14 +21,14 @@ fn behind_spaces(alloc: Global, kind: SyntaxKind, text: &str) -> Result<SyntaxTo
     Ok(root.last_token().ok_or("no token")?)
 }
 
-/// The same as a `T`.
-pub fn typed<T: AstToken>(alloc: Global, kind: SyntaxKind, text: &str) -> Result<T, Fail> {
+// The same as a `T`.
+fn typed<T: AstToken>(alloc: Global, kind: SyntaxKind, text: &str) -> Result<T, Fail> {
     let token = behind_spaces(alloc, kind, text)?;
     Ok(T::cast(token).ok_or("the token is of another kind")?)
 }
 
-/// The range between two offsets.
-pub fn range(start: u32, len: u32) -> TextRange {
+// The range that begins at an offset, and is so long.
+fn range(start: u32, len: u32) -> TextRange {
     let start = TextSize::new(start);
     match TextRange::up_to(TextSize::new(len)).checked_add(start) {
         Some(range) => range,

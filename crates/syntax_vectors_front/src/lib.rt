@@ -1,5 +1,0 @@
-//! The README's tour, as tests.
-#![tactic(auto)]
-
-#[cfg(test)]
-mod tour;
