@@ -1,8 +1,8 @@
 -- Where a byte is, and where a text is cut at the first one.
 use Rattle.std.proofs.Common.{◌≡◌, ◌≢◌, ℕ, zero, suc, ◌<◌, inl, inr, List, [], ◌∷◌, ◌++◌, length, get_or, refl, sym, ap, subst, ◌∙◌, arith}
-use Rattle.std.specs.Prelude.{codes, Bool, true, false, not, IsTrue, ◌↔◌, ◌==◌}
+use Rattle.std.specs.Prelude.{codes, Bool, true, false, not, IsTrue, ◌↔◌, ◌==◌, Option, Some, None, IfSome, IfNone, MatchOption}
 use Rattle.std.proofs.lemmas.Bool.Decides.{nat_tests}
-use Rattle.syntax_tool.specs.Lines.{HasNo, IsCut, IsWord}
+use Rattle.syntax_tool.specs.Lines.{HasNo, IsCut, IsLine, IsWord}
 
 pub has_no_by_index : (c : ℕ) (xs : List ℕ) → ((i : ℕ) → i < length xs → get_or xs i 0 ≢ c) → HasNo c xs
 has_no_by_index c [] h = tt
@@ -58,3 +58,17 @@ some_bytes text r h e = grind (arith, nat_tests)
 
 pub no_bytes : (text : List ℕ) (r : Bool) → r ≡ true → r ≡ (length text == 0) → length text ≡ 0
 no_bytes text r h e = grind (arith, nat_tests)
+
+-- the first line and what stands behind it, by the first newline
+pub line_is : {A : Type 0} (bs : List ℕ) (before behind : A → List ℕ) (r : Option A)
+    → MatchOption r ((i : ℕ) → i < length bs → get_or bs i 0 ≢ 10) (λ x. (bs ≡ before x ++ 10 ∷ behind x) × ((i : ℕ) → i < length (before x) → get_or (before x) i 0 ≢ 10))
+    → IfSome r (λ x. IsLine bs (before x) (behind x))
+line_is bs before behind None h = tt
+line_is bs before behind (Some x) h = (has_no_by_index 10 (before x) h.1, h.0)
+
+-- without one there is none
+pub no_line_is : {A : Type 0} (bs : List ℕ) (before behind : A → List ℕ) (r : Option A)
+    → MatchOption r ((i : ℕ) → i < length bs → get_or bs i 0 ≢ 10) (λ x. (bs ≡ before x ++ 10 ∷ behind x) × ((i : ℕ) → i < length (before x) → get_or (before x) i 0 ≢ 10))
+    → IfNone r (HasNo 10 bs)
+no_line_is bs before behind None h = has_no_by_index 10 bs h
+no_line_is bs before behind (Some x) h = tt

@@ -1,5 +1,5 @@
 //! Operators and their operands.
-ghost use Rattle.std.specs.Prelude.{◌≡◌, Bool, option_map, is_some, not};
+ghost use Rattle.std.specs.Prelude.{◌≡◌, Bool, Option, option_map, is_some, not};
 ghost use Rattle.std.specs.Option.{option_and_then};
 ghost use Rattle.ras_node.specs.Lookups.{IsFirstChild, IsViewOf, second_typed_child};
 ghost use Rattle.syntax_kind.specs.declared.syntax_kind.SyntaxKind.{SyntaxKind};
