@@ -1,14 +1,14 @@
 //! What an attribute says, where `cfg_attr` and `unsafe` stand around it.
-ghost use Rattle.std.specs.Prelude.{◌≡◌, drop, map, option_map, is_some, string_bytes, IfOk};
+ghost use Rattle.std.specs.Prelude.{◌≡◌, ◌++◌, ◌∷◌, [], OnOk, map, option_map, is_some, string_bytes, IfOk};
 ghost use Rattle.std.specs.Option.{option_and_then};
-ghost use Rattle.std.specs.List.{find};
+ghost use Rattle.std.specs.List.{find, filter};
 ghost use Rattle.syntax_kind.specs.declared.syntax_kind.SyntaxKind.TheVariants.{Node};
 ghost use Rattle.syntax_kind.specs.declared.syntax_kind.node_kind.NodeKind.TheVariants.{CFG_META};
-ghost use Rattle.tree_model.specs.Cursor.{ancestors_of, descendants_of, at_token};
-ghost use Rattle.ras_node.specs.Nodes.{is_of_kind, typed_child};
-ghost use Rattle.ras_meta.specs.Metas.{is_cfg_attr, reaches, is_opened, opened, is_unsafe, IsInnermost, own_path, IsMetaPath, path_word, IsMetaName};
+ghost use Rattle.tree_model.specs.Cursor.{descendants_of, at_token};
+ghost use Rattle.ras_node.specs.Nodes.{is_of_kind, has_kind_in, typed_child};
+ghost use Rattle.ras_meta.specs.Metas.{is_cfg_attr, opened, is_unsafe, IsInnermost, own_path, IsMetaPath, path_word, IsMetaName};
 
-use lossless_tree::{Ancestors, SyntaxKind, SyntaxNode, SyntaxToken};
+use lossless_tree::{SyntaxKind, SyntaxNode, SyntaxToken, WalkEvent};
 use ras_node::{AstNode, support};
 use std::alloc::{AllocError, Global};
 
@@ -18,51 +18,42 @@ fn is_cfg_attr(node: &SyntaxNode) -> bool
     node.kind() == SyntaxKind::CFG_ATTR_META
 }
 
-// Whether, going up, all up to `top`, itself included, are `cfg_attr`s.
-fn reaches(top: &SyntaxNode, above: Ancestors) -> bool
-    ensures { result ≡ reaches top.now above }
+// Adds the view of a node, where it has one.
+fn add_view<M: AstNode + Drop>(views: &mut Vec<M>, node: SyntaxNode) -> Result<(), AllocError>
+    ensures { OnOk result (map M.node views.new.items ≡ map M.node views.old.items ++ filter (has_kind_in M.casts) (node ∷ [])) }
 {
-    let mut above = above;
-    while let Some(ancestor) = above.next() {
-        if !is_cfg_attr(&ancestor) {
-            return false;
-        }
-        if ancestor == *top {
-            return true;
-        }
+    if let Some(view) = M::cast(node) {
+        views.push(view)?;
     }
-    false
-}
-
-// Whether a node is a meta to which `top` opens.
-fn is_opened<M: AstNode>(top: &SyntaxNode, node: &SyntaxNode) -> bool
-    ensures { result ≡ is_opened M.casts top.now node.now }
-{
-    if !M::can_cast(node.kind()) || is_cfg_attr(node) {
-        return false;
-    }
-    if node == top {
-        return true;
-    }
-    let mut above = node.ancestors();
-    let _itself = above.next();
-    reaches(top, above)
+    Ok(())
 }
 
 /// The meta itself, or, of a `cfg_attr`, the metas in it, in order, where each that is a `cfg_attr` again gives way to those
 /// in it.
 ///
-/// It takes memory for the answer alone. It takes time in the nodes of the meta, and for each meta in
-/// it in the number of `cfg_attr`s around that.
+/// It takes memory for the answer alone, and time linear in the nodes and tokens of the meta.
 pub fn skip_cfg_attrs<M: AstNode + Drop>(alloc: Global, meta: M) -> Result<Vec<M>, AllocError>
     ensures { IfOk result (λ metas. map M.node metas.items ≡ opened M.casts (M.node meta)) }
 {
+    // The walk comes to a node only where all above it, up to the meta, are `cfg_attr`s: what stands below another node is
+    // passed over, up to where that is left.
     let mut metas = Vec::new(alloc);
-    let mut left = meta.syntax().descendants();
-    while let Some(node) = left.next() {
-        if is_opened::<M>(meta.syntax(), &node) {
-            if let Some(found) = M::cast(node) {
-                metas.push(found)?;
+    let mut events = meta.syntax().preorder();
+    let mut past: Option<SyntaxNode> = None;
+    while let Some(event) = events.next() {
+        match event {
+            WalkEvent::Enter(node) => {
+                if past.is_none() && !is_cfg_attr(&node) {
+                    past = Some(support::share(&node));
+                    add_view(&mut metas, node)?;
+                }
+            }
+            WalkEvent::Leave(node) => {
+                if let Some(over) = &past {
+                    if node == *over {
+                        past = None;
+                    }
+                }
             }
         }
     }

@@ -69,12 +69,9 @@ fn add_attributes_in(found: &mut Vec<Violation>, list: &SyntaxNode) -> Result<()
     Ok(())
 }
 
-/// Adds the inner attributes of a `BLOCK_EXPR` that may have none where it stands. Where memory is refused some of them may be
-/// missing.
-pub fn add_block_attributes(
-    found: &mut Vec<Violation>,
-    block: &SyntaxNode,
-) -> Result<(), AllocError>
+// Adds the inner attributes of a `BLOCK_EXPR` that may have none where it stands. Where memory is refused some of them may be
+// missing.
+fn add_block_attributes(found: &mut Vec<Violation>, block: &SyntaxNode) -> Result<(), AllocError>
     ensures { OnOk result (found.new.items ≡ found.old.items ++ block_attributes block.now) }
 {
     match bare_statements(block) {
@@ -105,9 +102,9 @@ fn add_at_segment(found: &mut Vec<Violation>, node: &SyntaxNode) -> Result<(), A
     add(found, ViolationMessage::CrateInPath, crate_in_path(node))
 }
 
-/// Adds the violations at one node, by its kind: those below it are none of them. Where memory is refused some of them may be
-/// missing.
-pub fn add_violations_at(found: &mut Vec<Violation>, node: &SyntaxNode) -> Result<(), AllocError>
+// Adds the violations at one node, by its kind: those below it are none of them. Where memory is refused some of them may be
+// missing.
+fn add_violations_at(found: &mut Vec<Violation>, node: &SyntaxNode) -> Result<(), AllocError>
     ensures { OnOk result (found.new.items ≡ found.old.items ++ violations_at node.now) }
 {
     use ViolationMessage as Message;

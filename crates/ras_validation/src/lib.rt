@@ -7,11 +7,11 @@ pub mod collect;
 pub mod exprs;
 pub mod items;
 mod kinds;
-pub mod literals;
+mod literals;
 mod lookups;
 pub mod paths;
 pub mod types;
 mod violation;
 
-pub use collect::{add_block_attributes, add_violations_at, violations};
+pub use collect::violations;
 pub use violation::{Violation, ViolationMessage};

@@ -119,10 +119,10 @@ fn add_token_faults(found: &mut Vec<Violation>, token: &SyntaxToken) -> Result<(
     add_content_faults(found, form.mode, start, content)
 }
 
-/// Adds the faults of the token of a `LITERAL`: of a string, byte string or C string that is not raw each unit that has a
-/// fatal fault, in order; of a character or a byte the first thing that is wrong with it. Where memory is refused some of them
-/// may be missing.
-pub fn add_literal_faults(
+// Adds the faults of the token of a `LITERAL`: of a string, byte string or C string that is not raw each unit that has a
+// fatal fault, in order; of a character or a byte the first thing that is wrong with it. Where memory is refused some of them
+// may be missing.
+pub(crate) fn add_literal_faults(
     found: &mut Vec<Violation>,
     literal: &SyntaxNode,
 ) -> Result<(), AllocError>

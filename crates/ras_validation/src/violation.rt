@@ -20,7 +20,8 @@ pub enum ViolationMessage {
     NumericName,
     /// A visibility names a path of one identifier without `in`: the visibility's range.
     VisibilityPath,
-    /// An item of the implementation of a trait has a visibility: the visibility's range.
+    /// A function, a constant or a type alias of the implementation of a trait has a visibility, and the implementation has no
+    /// attribute: the visibility's range.
     VisibilityInTrait,
     /// A range by `..=` has no end: the range of the whole expression.
     RangeWithoutEnd,
@@ -28,9 +29,10 @@ pub enum ViolationMessage {
     SelfInPath,
     /// `crate` does not begin its path, or the path stands under a prefix of a `use`: the keyword's range.
     CrateInPath,
-    /// A type with two bounds stands behind a `&`, a `*` or a `->`: the type's range.
+    /// A `dyn` or `impl` type with two bounds or more is that to which a reference or a raw pointer leads, or that which a function
+    /// pointer returns, and the token before its keyword is none of `(`, `<` and `=`: the range of the `dyn` or `impl` type.
     AmbiguousPlus,
-    /// A `dyn` or `impl` has bounds, but no type among them: the type's range.
+    /// A `dyn` or `impl` has a list of bounds, and none of these has a type: the range of the `dyn` or `impl` type.
     NoTrait,
     /// A `macro_rules!` has a visibility: the visibility's range.
     MacroRulesVisibility,
@@ -83,7 +85,9 @@ impl fmt::Display for ViolationMessage {
 /// A broken rule, and the range of the piece of the text that breaks it.
 #[derive(Clone, Copy, Debug, PartialEq, Eq)]
 pub struct Violation {
+    /// Which rule is broken, of a literal also how.
     pub message: ViolationMessage,
+    /// The piece that breaks it: which one, `ViolationMessage` says of each rule.
     pub range: TextRange,
 }
 

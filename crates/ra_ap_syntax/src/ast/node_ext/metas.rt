@@ -100,7 +100,7 @@ impl Meta {
     /// Itself; or, of a `cfg_attr`, the metas in it whatever its predicate, in order, of which each that is a `cfg_attr` again
     /// gives way to those in it.
     ///
-    /// It takes memory for the answer.
+    /// It takes memory for the answer, and time linear in the nodes and tokens below it.
     pub fn skip_cfg_attrs(self, alloc: Global) -> Result<Vec<Meta>, AllocError>
         ensures { IfOk result (λ metas. map meta_node metas.items ≡ opened ⟦<ast::Meta as AstNode>⟧.casts (meta_node self)) }
     {
@@ -167,7 +167,7 @@ impl ast::Attr {
 
     /// Its meta, or, of a `cfg_attr`, the metas in it, as `Meta::skip_cfg_attrs` has them; none without a meta.
     ///
-    /// It takes memory for the answer.
+    /// It takes memory for the answer, and time linear in the nodes and tokens of the meta.
     pub fn skip_cfg_attrs(&self, alloc: Global) -> Result<Vec<Meta>, AllocError>
         ensures { IfOk result (λ metas. map meta_node metas.items ≡ option_map_or (opened ⟦<ast::Meta as AstNode>⟧.casts) (typed_child ⟦<ast::Meta as AstNode>⟧.casts self.now.syntax) []) }
     {
