@@ -1,7 +1,7 @@
 //! What `preorder_with_tokens` has to do at the least: a plain Rust loop over rows of 16 bytes and a column of parents, as
 //! `lossless_tree` keeps them, that enters and leaves each row. It makes no cursors and hands nothing out. Asked for `counted`, it
 //! hands out a cursor at each step that is counted up and down again, where a full count stays full, as owners of a tree are in
-//! `shared_pointer`. It goes over the same trees as `tree_bench` and prints the same lines for that one operation.
+//! `shared_pointer`. It goes over the same trees as `benches trees` and prints the same lines for that one operation.
 
 use std::cell::Cell;
 use std::hint::black_box;

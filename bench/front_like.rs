@@ -1,4 +1,4 @@
-//! The opponent of `front_bench`: a lexer and a parser of the language of `tiny_front`, in plain Rust and std alone, as they
+//! The opponent of `benches fronts`: a lexer and a parser of the language of `tiny_front`, in plain Rust and std alone, as they
 //! would be written by hand. The parser goes down by recursion, and builds a tree of the kind that `rowan` keeps: green nodes
 //! and tokens that are shared by `Rc`. An edit reads one token or one block anew, by the same conditions, or all; a new tree
 //! shares what did not change. With `dump` it prints the tree of its input as `run dump` does, so that the two can be compared;

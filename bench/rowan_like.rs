@@ -1,6 +1,6 @@
-//! The opponent of `tree_bench`: a syntax tree of the kind that `rowan` keeps, in plain Rust and std alone. Green nodes and
+//! The opponent of `benches trees`: a syntax tree of the kind that `rowan` keeps, in plain Rust and std alone. Green nodes and
 //! tokens are shared by `Rc`, one block each, and a node has the offset of each of its children; a cursor is an `Rc` of its
-//! own with its parent, its index there and its offset. It runs the same operations over the same trees as `tree_bench` and
+//! own with its parent, its index there and its offset. It runs the same operations over the same trees as `benches trees` and
 //! prints the same lines.
 
 use std::hint::black_box;

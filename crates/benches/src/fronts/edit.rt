@@ -1,10 +1,10 @@
 //! Edits of a text: one token, one block, or all read anew.
 
-use crate::parse::print;
+use super::parse::print;
+use super::text::Input;
 use crate::stopped::Stopped;
-use crate::text::Input;
+use crate::timing::time_once;
 use ra_ap_syntax::{Edition, Parse, SourceFile, TextRange, TextSize};
-use std::time::Instant;
 use tiny_front::Tiny;
 
 const NOW: Edition = Edition::CURRENT;
@@ -25,12 +25,12 @@ fn edit(
         return Err(Stopped::Edit);
     }
     let delete = TextRange::new(TextSize::new(from), TextSize::new(to));
-    let begun = Instant::now(rt)?;
-    let new = old.reparse(rt.alloc(), &Tiny, delete, insert, NOW)?;
-    let ended = Instant::now(rt)?;
-    drop(new);
+    let nanoseconds = time_once(
+        rt,
+        || Ok(old.reparse(rt.alloc(), &Tiny, delete, insert, NOW)?),
+    )?;
     let piece = old.incremental_reparse(rt.alloc(), &Tiny, delete, insert, NOW)?;
-    Ok((ended.duration_since(begun).as_nanos(), piece.is_some()))
+    Ok((nanoseconds, piece.is_some()))
 }
 
 fn time_edit(
@@ -58,11 +58,7 @@ fn time_copy(rt: &HostRuntime, input: Input, old: &File, runs: u32) -> Result<()
     let root = old.syntax_node();
     let mut least = u128::MAX;
     for _run in 0..runs {
-        let begun = Instant::now(rt)?;
-        let copy = root.clone_subtree(rt.alloc())?;
-        let ended = Instant::now(rt)?;
-        drop(copy);
-        least = least.min(ended.duration_since(begun).as_nanos());
+        least = least.min(time_once(rt, || Ok(root.clone_subtree(rt.alloc())?))?);
     }
     print(rt, "copy", input, root.as_str(), least)
 }

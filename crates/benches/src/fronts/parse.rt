@@ -1,9 +1,9 @@
 //! Reading a text.
 
+use super::text::Input;
 use crate::stopped::Stopped;
-use crate::text::Input;
+use crate::timing::time_once;
 use ra_ap_syntax::{Edition, Entry, FrontEnd, SourceFile};
-use std::time::Instant;
 use tiny_front::Tiny;
 
 const NOW: Edition = Edition::CURRENT;
@@ -21,47 +21,30 @@ pub fn print(
 }
 
 fn lex(rt: &HostRuntime, text: &str) -> Result<u128, Stopped> {
-    let start = Instant::now(rt)?;
-    let kinds = Tiny.lex(rt.alloc(), text, NOW)?;
-    let end = Instant::now(rt)?;
-    drop(kinds);
-    Ok(end.duration_since(start).as_nanos())
+    time_once(rt, || Ok(Tiny.lex(rt.alloc(), text, NOW)?))
 }
 
 // Lexing, the parser's moves, and the steps of the tree.
 fn steps(rt: &HostRuntime, text: &str) -> Result<u128, Stopped> {
-    let start = Instant::now(rt)?;
-    let output = Tiny.parse(rt.alloc(), Entry::SourceFile, text, NOW)?;
-    let end = Instant::now(rt)?;
-    drop(output);
-    Ok(end.duration_since(start).as_nanos())
+    time_once(
+        rt,
+        || Ok(Tiny.parse(rt.alloc(), Entry::SourceFile, text, NOW)?),
+    )
 }
 
 // The steps, and the tree that they build.
 fn parse(rt: &HostRuntime, text: &str) -> Result<u128, Stopped> {
-    let start = Instant::now(rt)?;
-    let file = SourceFile::parse(rt.alloc(), text, &Tiny, NOW)?;
-    let end = Instant::now(rt)?;
-    drop(file);
-    Ok(end.duration_since(start).as_nanos())
+    time_once(rt, || Ok(SourceFile::parse(rt.alloc(), text, &Tiny, NOW)?))
 }
 
 fn errors(rt: &HostRuntime, text: &str) -> Result<u128, Stopped> {
     let file = SourceFile::parse(rt.alloc(), text, &Tiny, NOW)?;
-    let start = Instant::now(rt)?;
-    let errors = file.errors(rt.alloc())?;
-    let end = Instant::now(rt)?;
-    drop(errors);
-    Ok(end.duration_since(start).as_nanos())
+    time_once(rt, || Ok(file.errors(rt.alloc())?))
 }
 
 fn dump(rt: &HostRuntime, text: &str) -> Result<u128, Stopped> {
     let file = SourceFile::parse(rt.alloc(), text, &Tiny, NOW)?;
-    let start = Instant::now(rt)?;
-    let lines = file.syntax_node().dump(rt.alloc())?;
-    let end = Instant::now(rt)?;
-    drop(lines);
-    Ok(end.duration_since(start).as_nanos())
+    time_once(rt, || Ok(file.syntax_node().dump(rt.alloc())?))
 }
 
 /// Times lexing, parsing, errors and the dump of a text.

@@ -1,8 +1,9 @@
 //! Runs an operation a few times and prints the least time.
 
-use crate::operation::{Operation, Seen, deepest};
-use crate::shape::Shape;
+use super::operation::{Operation, Seen, deepest};
+use super::shape::Shape;
 use crate::stopped::Stopped;
+use crate::timing::least_time;
 use lossless_tree::SyntaxNode;
 use std::time::Instant;
 
@@ -62,13 +63,7 @@ fn time_operation(
     deepest: &SyntaxNode,
     runs: u32,
 ) -> Result<(), Stopped> {
-    let mut seen = operation.run(root, deepest)?;
-    let mut least = u128::MAX;
-    for _run in 0..runs {
-        let start = Instant::now(rt)?;
-        seen = operation.run(root, deepest)?;
-        let end = Instant::now(rt)?;
-        least = least.min(end.duration_since(start).as_nanos());
-    }
+    let first = operation.run(root, deepest)?;
+    let (least, seen) = least_time(rt, runs, first, || operation.run(root, deepest))?;
     print(rt, operation.name(), shape, seen, least)
 }

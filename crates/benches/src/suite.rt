@@ -1,0 +1,42 @@
+//! What is measured, by the program's first argument.
+
+use crate::fronts::time_fronts;
+use crate::literals::time_literals;
+use crate::operators::time_operators;
+use crate::stopped::Stopped;
+use crate::trees::time_trees;
+
+#[derive(Clone, Copy)]
+pub enum Suite {
+    /// The calls on trees.
+    Trees,
+    /// Lexing, parses and edits of the small language.
+    Fronts,
+    /// The calls on parentheses.
+    Operators,
+    /// The values of string literals.
+    Literals,
+}
+
+impl Suite {
+    /// The suite of a name; `None` where there is none of that name.
+    pub fn from_name(name: &str) -> Option<Suite> {
+        match name {
+            "trees" => Some(Suite::Trees),
+            "fronts" => Some(Suite::Fronts),
+            "operators" => Some(Suite::Operators),
+            "literals" => Some(Suite::Literals),
+            _ => None,
+        }
+    }
+
+    /// Measures, and prints what was measured.
+    pub fn time(self, rt: &HostRuntime) -> Result<(), Stopped> {
+        match self {
+            Suite::Trees => time_trees(rt),
+            Suite::Fronts => time_fronts(rt),
+            Suite::Operators => time_operators(rt),
+            Suite::Literals => time_literals(rt),
+        }
+    }
+}
