@@ -264,9 +264,9 @@ fn token_path<F: FrontEnd>(
     }
     token_is_placed(&token);
     let range = token.text_range();
-    let text = edited_text(alloc, token.text(), range.start(), delete, insert)?;
+    let mut text = edited_text(alloc, token.text(), range.start(), delete, insert)?;
     let next = root.text().char_at(range.end());
-    match one_token(alloc, front, kind, text.as_str(), next, edition)? {
+    match one_token(alloc, front, kind, &mut text, next, edition)? {
         Some(error) => Ok(Some(NewToken { token, text, error })),
         None => Ok(None),
     }
@@ -310,21 +310,22 @@ fn loses_newline(root: &SyntaxNode, delete: TextRange) -> bool
 }
 
 // Whether a text is one token of a kind, and no word that is a keyword elsewhere, and none with the next character: the
-// lexer's error, if it has one.
+// lexer's error, if it has one. The text is longer for a while, and where memory is refused it may stay so.
 fn one_token<F: FrontEnd>(
     alloc: Global,
     front: &F,
     kind: SyntaxKind,
-    text: &str,
+    text: &mut String,
     next: Option<char>,
     edition: Edition,
 ) -> Result<Option<Option<String>>, AllocError>
-    ensures { IfOk result (λ o. MatchOption o (NoOneToken (F.answers front.now) edition kind text.now next) (λ e. IsOneToken (F.answers front.now) edition kind text.now next (option_map string_bytes e))) }
+    ensures answer { IfOk result (λ o. MatchOption o (NoOneToken (F.answers front.now) edition kind (string_bytes text.old) next) (λ e. IsOneToken (F.answers front.now) edition kind (string_bytes text.old) next (option_map string_bytes e))) }
+    ensures text { OnOk result (string_bytes text.new ≡ string_bytes text.old) }
 {
-    match front.single_token(alloc, text, edition)? {
+    match front.single_token(alloc, text.as_str(), edition)? {
         Some((found, error)) => {
             if !is_same_kind(found, kind)
-                || (is_same_kind(kind, SyntaxKind::IDENT) && is_contextual_word(text))
+                || (is_same_kind(kind, SyntaxKind::IDENT) && is_contextual_word(text.as_str()))
             {
                 return Ok(None);
             }
@@ -351,23 +352,23 @@ fn is_contextual_word(text: &str) -> bool
     *text == *"auto" || *text == *"default" || *text == *"union"
 }
 
-// Whether a text and the character behind it are one token.
+// Whether a text and the character behind it are one token. The character is added to the text and taken off again; where memory
+// is refused it may stay.
 fn is_token_with<F: FrontEnd>(
     alloc: Global,
     front: &F,
-    text: &str,
+    text: &mut String,
     next: char,
     edition: Edition,
 ) -> Result<bool, AllocError>
-    ensures { IfOk result (λ b. IsFalse b ↔ ((F.answers front.now).single edition (text.now ++ encode_utf8 next) ≡ None)) }
+    ensures answer { IfOk result (λ b. IsFalse b ↔ ((F.answers front.now).single edition (string_bytes text.old ++ encode_utf8 next) ≡ None)) }
+    ensures text { OnOk result (string_bytes text.new ≡ string_bytes text.old) }
 {
-    let mut longer = String::from_str(alloc, text)?;
-    longer.push(next)?;
-    Ok(
-        front
-            .single_token(alloc, longer.as_str(), edition)?
-            .is_some(),
-    )
+    let length = text.len();
+    text.push(next)?;
+    let is_token = front.single_token(alloc, text.as_str(), edition)?.is_some();
+    text.truncate(length);
+    Ok(is_token)
 }
 
 // The nearest node around an edit that may be read by itself, with its new text, where the braces in that balance.
