@@ -2,19 +2,20 @@
 ghost use Rattle.std.specs.Prelude.{◌≡◌, ◌↔◌, ◌∷◌, List, ℕ, Some, true, false};
 ghost use Rattle.tree_model.specs.Cursor.{Cursor, focus, parent_of};
 ghost use Rattle.operator_terms.specs.Term.{Term, Paren, tokens};
-ghost use Rattle.operator_terms.specs.Reading.{Reads};
+ghost use Rattle.operator_terms.specs.Reading.{Reads, begins_with_angle};
 ghost use Rattle.operator_terms.specs.Places.{Demand, Part, some_part, operand, FitsPlace};
 ghost use Rattle.operator_terms.specs.Pairs.{without};
 ghost use Rattle.operator_trees.specs.Leaves.{leaves_behind};
 ghost use Rattle.operator_trees.specs.Shown.{meaning, IsTerm};
-ghost use Rattle.operator_powers.specs.Rules.{form_at, is_foreign};
+ghost use Rattle.operator_powers.specs.Rules.{form_at, is_foreign, asks_below};
 ghost use Rattle.operator_pairs.specs.Pairs.{operand_cursor, angle_behind, asks, MayGoBefore};
 
 use lossless_tree::SyntaxNode;
 
-// What is asked at the place's own parent.
+// The test of `operator_places`, and what it asks at the place's own parent.
 fn is_asked(own: &SyntaxNode, parent: &SyntaxNode, place: &SyntaxNode) -> bool
-    ensures { parent_of place.now ≡ Some parent.now → is_foreign (form_at own.now) ≡ false → result ≡ asks own.now parent.now place.now }
+    ensures everywhere { result ≡ asks_below own.now parent.now place.now (begins_with_angle (leaves_behind place.now.tree place.now.place)) }
+    ensures asks { parent_of place.now ≡ Some parent.now → is_foreign (form_at own.now) ≡ false → result ≡ asks own.now parent.now place.now }
 {
     operator_places::test::needs_parens_in_place_of(own, parent, place)
 }
@@ -25,7 +26,11 @@ fn is_asked(own: &SyntaxNode, parent: &SyntaxNode, place: &SyntaxNode) -> bool
 /// of arguments), it answers false exactly where the expression fits there, before the tokens that stand behind the operand in the
 /// whole tree. Of a pair's inside in place of the pair, where the tree reads back and neither `<` nor `<<` follows it, this is:
 /// exactly where the tokens without the pair read as the term without it; and then no other term reads them.
+///
+/// It is false where `parent` is not the place's own parent, where it is a list of arguments, and of what has no form of an operator
+/// tree.
 pub fn needs_parens_in_place_of(own: &SyntaxNode, parent: &SyntaxNode, place: &SyntaxNode) -> bool
+    ensures everywhere { result ≡ asks_below own.now parent.now place.now (begins_with_angle (leaves_behind place.now.tree place.now.place)) }
     ensures asks { parent_of place.now ≡ Some parent.now → is_foreign (form_at own.now) ≡ false → result ≡ asks own.now parent.now place.now }
     ensures fits { (r : Cursor) (t s : Term) (i : ℕ) (q : List ℕ) (held : Part) → meaning (focus r) ≡ IsTerm t → operand t (i ∷ q) ≡ Some held
         → place.now ≡ operand_cursor r t (i ∷ q) → parent_of place.now ≡ Some parent.now → meaning (focus own.now) ≡ IsTerm s

@@ -10,7 +10,7 @@ ghost use Rattle.operator_terms.specs.Reading.{begins_with_angle};
 ghost use Rattle.operator_trees.specs.Leaves.{leaves_behind};
 ghost use Rattle.operator_trees.specs.Shown.{meaning, IsTerm};
 ghost use Rattle.operator_trees.specs.Before.{part_kid, is_direct};
-ghost use Rattle.operator_powers.specs.Rules.{form_at, kid_place, is_arguments, is_foreign, operators_ask};
+ghost use Rattle.operator_powers.specs.Rules.{form_at, kid_place, is_arguments, is_foreign, operators_ask, asks_below};
 
 use crate::behind::kind_behind;
 use lossless_tree::{NodeOrToken, SyntaxElement, SyntaxNode};
@@ -40,8 +40,10 @@ fn is_before_angle(node: &SyntaxNode) -> bool
 /// Whether an expression of an operator tree needs parentheses in place of what stands at `place`, whose parent is `parent`.
 ///
 /// At a part of a node that shows a term, asked with the part's own parent, the answer for what shows a term is the test over
-/// terms. Below a list of arguments none is needed.
+/// terms. It is false where `parent` is not the place's own parent, where it is a list of arguments, and of what has no form of an
+/// operator tree.
 pub fn needs_parens_in_place_of(own: &SyntaxNode, parent: &SyntaxNode, place: &SyntaxNode) -> bool
+    ensures everywhere { result ≡ asks_below own.now parent.now place.now (begins_with_angle (leaves_behind place.now.tree place.now.place)) }
     ensures direct { (s t : Term) (i : ℕ) (p : Part) → meaning (focus own.now) ≡ IsTerm s → meaning (focus parent.now) ≡ IsTerm t
         → part t i ≡ Some p → is_direct t i ≡ true → place.now ≡ kid_place parent.now (part_kid t i)
         → result ≡ needs_pair_at t i (begins_with_angle (leaves_behind place.now.tree place.now.place)) s }

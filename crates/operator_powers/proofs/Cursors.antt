@@ -1,5 +1,5 @@
 -- The same of cursors.
-use Rattle.std.proofs.Common.{◌≡◌, ◌<◌, ◌+◌, ◌++◌, ℕ, zero, suc, [], ◌∷◌, Bool, true, false, ◌&&◌, ◌||◌, cond, length, get_or, Some, nat_lt, refl, sym, ap, ◌∙◌, arith}
+use Rattle.std.proofs.Common.{◌≡◌, ◌<◌, ◌+◌, ◌++◌, ℕ, zero, suc, [], ◌∷◌, Bool, true, false, not, ◌&&◌, ◌||◌, cond, length, get_or, Some, nat_lt, refl, sym, ap, ◌∙◌, arith}
 use Rattle.syntax_kind.specs.Kinds.{is_trivia}
 use Rattle.tree_model.specs.Tree.{Tree, node, token, Forest, nil, cons, text, forest_text}
 use Rattle.operator_terms.specs.Operators.{Dereference, Not, Negate}
@@ -22,7 +22,8 @@ use Rattle.operator_terms.specs.Term.{tokens}
 use Rattle.operator_terms.specs.Places.{ends_in_cast}
 use Rattle.operator_terms.specs.Powers.{needs_pair_at}
 use Rattle.operator_trees.proofs.Tokens.{tokens-shown}
-use Rattle.operator_powers.specs.Rules.{asks_at, form_at, is_foreign, is_arguments, kid_place, operators_ask}
+use Rattle.operator_powers.specs.Rules.{asks_at, form_at, is_foreign, is_arguments, kid_place, operators_ask, is_own_parent, asks_under}
+use Rattle.tree_model.specs.EqualityLaws.{cursor_equivalence}
 use Rattle.operator_powers.proofs.Asks.{asks_right}
 use Rattle.tree_model.specs.Tree.{place_above, parent_place}
 use Rattle.std.specs.Prelude.{option_map}
@@ -171,3 +172,14 @@ operators_asked own parent place angle s t i p self shows is direct at =
 
 pub place_parent : (parent place : Cursor) (j : ℕ) → place ≡ kid_place parent j → parent_of place ≡ Some parent
 place_parent parent place j at = ap parent_of at ∙ child_parent parent (kid_at (forest_of_children (focus parent)) j).number
+
+-- the place's own parent is that
+pub own_parent : (parent place : Cursor) → parent_of place ≡ Some parent → is_own_parent parent (parent_of place) ≡ true
+own_parent parent place e = ap (is_own_parent parent) e ∙ cursor_equivalence.refl parent
+
+-- What is an expression of an operator tree is asked by the operators.
+pub asked_under : (own parent place : Cursor) (angle : Bool) → is_foreign (form_at own) ≡ false → is_arguments (form_at parent) ≡ false
+    → asks_under own parent place angle ≡ operators_ask own parent place angle
+asked_under own parent place angle form list =
+    ap (λ b. not b && (not (is_foreign (form_at own)) && operators_ask own parent place angle)) list
+    ∙ ap (λ b. not b && operators_ask own parent place angle) form

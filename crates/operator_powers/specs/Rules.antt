@@ -4,7 +4,8 @@ use Rattle.syntax_kind.specs.declared.syntax_kind.SyntaxKind.{SyntaxKind}
 use Rattle.syntax_kind.specs.declared.syntax_kind.SyntaxKind.TheVariants.{Token as OfToken}
 use Rattle.syntax_kind.specs.declared.syntax_kind.token_kind.TokenKind.TheVariants as tok
 use Rattle.tree_model.specs.Tree.{Tree, node, token, Forest, nil, cons, text, kind_of, forest_of_children, is_token}
-use Rattle.tree_model.specs.Cursor.{Cursor, focus, at_place, range_start, range_end}
+use Rattle.tree_model.specs.Cursor.{Cursor, focus, at_place, range_start, range_end, parent_of}
+use Rattle.tree_model.specs.Equality.{is_same_cursor}
 use Rattle.operator_terms.specs.Powers.{Powers, pow, operator_powers, is_excused, binds_less}
 use Rattle.operator_terms.specs.Places.{ends_in_cast}
 use Rattle.operator_trees.specs.Leaves.{leaves_of}
@@ -159,3 +160,17 @@ kid_place c j = at_place c (c.place ++ (kid_at (forest_of_children (focus c)) j)
 -- the rule on a cast before `<`, and the rules on a called field and on powers
 abbrev pub operators_ask : Cursor → Cursor → Cursor → (angle : Bool) → Bool
 operators_ask own parent place angle = (ends_in_cast (leaves_of (focus own)) && angle) || asks_at own parent place
+
+-- a node's parent, if it has one, is this node
+abbrev pub is_own_parent : Cursor → Option Cursor → Bool
+is_own_parent parent None = false
+is_own_parent parent (Some above) = is_same_cursor above parent
+
+-- Whether `own` is asked for a pair below a parent: never in a list of arguments, never where it has no form of an operator tree,
+-- and else as the rules above say.
+abbrev pub asks_under : (own parent place : Cursor) → (angle : Bool) → Bool
+asks_under own parent place angle = not (is_arguments (form_at parent)) && (not (is_foreign (form_at own)) && operators_ask own parent place angle)
+
+-- Whether `own` is asked for a pair in place of what stands at `place`: only by the place's own parent.
+abbrev pub asks_below : (own parent place : Cursor) → (angle : Bool) → Bool
+asks_below own parent place angle = is_own_parent parent (parent_of place) && asks_under own parent place angle

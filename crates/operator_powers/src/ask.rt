@@ -9,7 +9,7 @@ ghost use Rattle.operator_trees.specs.Forms.{form_of};
 ghost use Rattle.operator_trees.specs.Shown.{meaning, IsTerm, IsArguments};
 ghost use Rattle.operator_trees.specs.Leaves.{leaves_of};
 ghost use Rattle.operator_trees.specs.Before.{part_kid, is_direct};
-ghost use Rattle.operator_powers.specs.Rules.{asks_at, form_at, is_foreign, is_term_form, kid_place, is_arguments, operators_ask};
+ghost use Rattle.operator_powers.specs.Rules.{asks_at, form_at, is_foreign, is_term_form, kid_place, is_arguments, operators_ask, is_own_parent, asks_under, asks_below};
 
 use crate::ending::ends_in_cast;
 use crate::node::{form_powers, is_call_form, is_field_form, operator_start};
@@ -65,23 +65,9 @@ pub fn is_term_form(form: Form) -> bool
     )
 }
 
-// The parent itself is the place's parent, or lies above it.
-fn is_above(parent: &SyntaxNode, place: &SyntaxNode) -> bool
-    ensures { parent_of place.now ≡ Some parent.now → result ≡ true }
-{
-    if is_parent(parent, place) {
-        return true;
-    }
-    for above in place.ancestors() {
-        if above == *parent {
-            return true;
-        }
-    }
-    false
-}
-
-fn is_parent(parent: &SyntaxNode, place: &SyntaxNode) -> bool
-    ensures { parent_of place.now ≡ Some parent.now → result ≡ true }
+// The parent is the place's own.
+fn is_own_parent(parent: &SyntaxNode, place: &SyntaxNode) -> bool
+    ensures { result ≡ is_own_parent parent.now (parent_of place.now) }
 {
     match place.parent() {
         Some(above) => above == *parent,
@@ -112,16 +98,15 @@ fn operators_ask(own: &SyntaxNode, parent: &SyntaxNode, place: &SyntaxNode, angl
     is_cut_off(own, angle) || asks_at(own, parent, place)
 }
 
-// What is left below an expression or a list of arguments. What shows no term is asked for no pair here: the rules outside operator
-// trees are no part of this test.
+// What the place's own parent asks. What has no form of an operator tree is asked for no pair here: the rules outside operator trees
+// are no part of this test.
 fn needs_parens_below(
     own: &SyntaxNode,
     parent: &SyntaxNode,
     place: &SyntaxNode,
     angle: bool,
 ) -> bool
-    ensures operators { is_foreign (form_at own.now) ≡ false → is_arguments (form_at parent.now) ≡ false → result ≡ operators_ask own.now parent.now place.now angle }
-    ensures arguments { is_arguments (form_at parent.now) ≡ true → result ≡ false }
+    ensures { result ≡ asks_under own.now parent.now place.now angle }
 {
     if is_arguments(form_of(parent.kind())) {
         return false;
@@ -134,12 +119,16 @@ fn needs_parens_below(
 
 /// Whether an expression of an operator tree needs parentheses in place of what stands at `place`, whose parent is `parent`. The flag
 /// says whether `<` or `<<` follows behind the parent's child there.
+///
+/// It is false where `parent` is not the place's own parent, where it is a list of arguments, and of what has no form of an operator
+/// tree.
 pub fn needs_parens_before(
     own: &SyntaxNode,
     parent: &SyntaxNode,
     place: &SyntaxNode,
     angle: bool,
 ) -> bool
+    ensures everywhere { result ≡ asks_below own.now parent.now place.now angle }
     ensures direct { (s t : Term) (i : ℕ) (p : Part) → meaning (focus own.now) ≡ IsTerm s → meaning (focus parent.now) ≡ IsTerm t
         → part t i ≡ Some p → is_direct t i ≡ true → place.now ≡ kid_place parent.now (part_kid t i)
         → result ≡ needs_pair_at t i angle s }
@@ -147,8 +136,5 @@ pub fn needs_parens_before(
     ensures operators { parent_of place.now ≡ Some parent.now → is_foreign (form_at own.now) ≡ false → is_arguments (form_at parent.now) ≡ false
         → result ≡ operators_ask own.now parent.now place.now angle }
 {
-    if !is_above(parent, place) {
-        return false;
-    }
-    needs_parens_below(own, parent, place, angle)
+    is_own_parent(parent, place) && needs_parens_below(own, parent, place, angle)
 }

@@ -1,10 +1,10 @@
 //! Casts and angles among the tokens of a node.
 ghost use Rattle.std.specs.Prelude.{◌≡◌};
-ghost use Rattle.tree_model.specs.Cursor.{focus};
+ghost use Rattle.tree_model.specs.Cursor.{focus, descendants_of};
 ghost use Rattle.operator_terms.specs.Places.{ends_in_cast};
 ghost use Rattle.operator_terms.specs.Reading.{no_cast_before_angle, is_as, is_name, is_angle};
 ghost use Rattle.operator_trees.specs.Leaves.{leaves_of};
-ghost use Rattle.operator_powers.specs.Edges.{leaf_kind, pass, step, passed};
+ghost use Rattle.operator_powers.specs.Edges.{leaf_kind, pass, step, passed, start};
 
 use lossless_tree::{NodeOrToken, SyntaxElement, SyntaxNode};
 use syntax_kind::SyntaxKind;
@@ -73,6 +73,7 @@ fn pass(edge: Edge, element: &SyntaxElement) -> Edge
 
 /// What is seen of the tokens of a node.
 pub fn edge_of(node: &SyntaxNode) -> Edge
+    ensures seen { result ≡ passed start (descendants_of node.now) }
     ensures ends { result.ends ≡ ends_in_cast (leaves_of (focus node.now)) }
     ensures clear { result.clear ≡ no_cast_before_angle (leaves_of (focus node.now)) }
 {

@@ -9,6 +9,9 @@ loop-element-preserved-in-Some c = (tt, tt, ap (λ e. passed e c.next.new.self) 
 pub loop-element-preserved : goal.loop-element-preserved
 loop-element-preserved c = (tt, tt, ap (λ e. passed e c.next.new.self) c.pass-edge.ensures ∙ sym (pass_step c.loop-element.edge c.loop-element.element-iterator c.next.new.self c.in-Some.element c.in-Some.ensures.steps) ∙ c.loop-element.invariant.2)
 
+pub returns-clause-seen : goal.returns-clause-seen
+returns-clause-seen c = sym (pass_end c.loop-element.edge c.loop-element.element-iterator c.in-None.ensures.steps.0) ∙ c.loop-element.invariant.2
+
 pub returns-clause-ends : goal.returns-clause-ends
 returns-clause-ends c = edge_ends c.args.node.now c.loop-element.edge (sym (pass_end c.loop-element.edge c.loop-element.element-iterator c.in-None.ensures.steps.0) ∙ c.loop-element.invariant.2)
 
