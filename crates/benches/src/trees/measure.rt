@@ -19,7 +19,7 @@ fn print(
     Ok(())
 }
 
-// How long it takes to build a tree from events, and to drop it.
+/// How long it takes to build a tree from events, and to drop it.
 pub fn time_building(rt: &HostRuntime, shape: Shape, runs: u32) -> Result<(), Stopped> {
     let root = shape.build(rt.alloc())?;
     let seen = Operation::PreorderWithTokens.run(&root, &root)?;
@@ -40,7 +40,7 @@ pub fn time_building(rt: &HostRuntime, shape: Shape, runs: u32) -> Result<(), St
     print(rt, "drop", shape, Seen { count, sum: 0 }, dropping)
 }
 
-// How long each operation takes over the tree.
+/// How long each operation takes over the tree.
 pub fn time_operations(
     rt: &HostRuntime,
     operations: &[Operation],

@@ -43,6 +43,7 @@ impl Seen {
 }
 
 impl Operation {
+    /// Its name in the table.
     pub fn name(self) -> &'static str {
         match self {
             Operation::PreorderWithTokens => "preorder_with_tokens",
@@ -59,7 +60,7 @@ impl Operation {
         }
     }
 
-    // Runs the operation over the tree; `deepest` is its deepest node.
+    /// Runs the operation over the tree; `deepest` is its deepest node.
     pub fn run(self, root: &SyntaxNode, deepest: &SyntaxNode) -> Result<Seen, Stopped> {
         match self {
             Operation::PreorderWithTokens => Ok(preorder_with_tokens(root)),
@@ -77,7 +78,7 @@ impl Operation {
     }
 }
 
-// The node that is reached from the root by first child nodes alone.
+/// The node that is reached from the root by first child nodes alone.
 pub fn deepest(root: &SyntaxNode) -> Result<SyntaxNode, Stopped> {
     let mut here = root.clone()?;
     for _step in 0..STEPS {

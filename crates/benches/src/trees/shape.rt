@@ -26,6 +26,7 @@ impl fmt::Display for Shape {
 }
 
 impl Shape {
+    /// The tree of this shape.
     pub fn build(self, alloc: Global) -> Result<SyntaxNode, Stopped> {
         let mut builder = TreeBuilder::new(alloc);
         match self {
