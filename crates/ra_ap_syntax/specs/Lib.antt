@@ -33,11 +33,14 @@ pub use Rattle.ras_node.specs.Sets
 pub use Rattle.ras_node.specs.PartSets
 pub use Rattle.ras_search.specs.Algo
 pub use Rattle.ras_expr.specs.Args
+pub use Rattle.ras_expr.specs.ExprParts
+pub use Rattle.ras_expr.specs.Modifiers
 pub use Rattle.ras_path.specs.Path
 pub use Rattle.ras_attr.specs.Attrs
 pub use Rattle.ras_meta.specs.Metas
 pub use Rattle.ras_meta.specs.TokenTrees
 pub use Rattle.ras_item.specs.Bounds
+pub use Rattle.ras_item.specs.NodeParts
 pub use Rattle.ras_item.specs.Slices
 pub use Rattle.ras_literal.specs.Answered
 pub use Rattle.ras_literal.specs.Comments
@@ -47,6 +50,11 @@ pub use Rattle.ras_literal.specs.Numbers
 pub use Rattle.ras_literal.specs.Quotes
 pub use Rattle.ras_literal.specs.Texts
 pub use Rattle.ras_literal.specs.Units
+pub use Rattle.ras_operator.specs.OperatorTexts
+pub use Rattle.ras_token.specs.AnyStringCases
+pub use Rattle.ras_token.specs.AnyStringValues
+pub use Rattle.ras_token.specs.CommentKinds
+pub use Rattle.ras_token.specs.LiteralShapes
 pub use Rattle.literal_escape.specs.Pieces
 pub use Rattle.literal_escape.specs.Reading as EscapeReading
 pub use Rattle.literal_escape.specs.Literal as EscapeLiteral
@@ -79,11 +87,8 @@ pub use Rattle.paren_rules.specs.Rules
 pub mod AdtCases
 pub mod AnyAttrCases
 pub mod AnyHasAttrsCases
-pub mod AnyStringCases
-pub mod AnyStringValues
 pub mod AssocItemCases
 pub mod CallableExprCases
-pub mod CommentKinds
 pub mod ElseBranchCases
 pub mod ExprCases
 pub mod ExternItemCases
@@ -98,9 +103,6 @@ pub mod PatCases
 pub mod StmtCases
 pub mod TypeCases
 pub mod TypeOrConstParamCases
-pub mod ExprParts
 pub mod ExprShapes
-pub mod OperatorTexts
-pub mod NodeParts
 pub mod NodeShapes
 pub mod AttrParts

@@ -5,14 +5,12 @@ mod node_ext;
 pub mod operators;
 pub mod prec;
 mod raw;
-mod token_ext;
 mod traits;
 mod typed;
 mod views;
 
 pub use expr_ext::{
-    ArgsMaybeEmpty, ArrayExprKind, BlockModifier, CallableExpr, ElseBranch, FieldKind, LiteralKind,
-    RangeItem,
+    ArgsMaybeEmpty, ArrayExprKind, BlockModifier, CallableExpr, ElseBranch, FieldKind, RangeItem,
 };
 pub use views::adt::Adt;
 pub use views::any_attr::AnyAttr;
@@ -63,20 +61,20 @@ pub use ras_literal::{
 };
 pub(crate) use ras_node::support;
 pub use ras_node::{AstChildren, AstNode, AstToken, cast_ref};
-pub use token_ext::{AnyComment, AnyString, IsString};
+pub use ras_token::tokens::{
+    Byte, ByteString, CString, Char, Comment, FloatNumber, IntNumber, String, Whitespace,
+};
+pub use ras_token::{AnyComment, AnyString, IsString, LiteralKind, TypedToken};
 pub use traits::{
     HasArgList, HasAttrs, HasGenericArgs, HasGenericParams, HasLoopBody, HasModuleItem, HasName,
     HasTypeBounds, HasVisibility, attrs_including_inner, attrs_with_doc_including_inner,
 };
-pub use typed::{Typed, TypedToken};
+pub use typed::Typed;
 pub use views::pat::{
     BoxPat, ConstBlockPat, IdentPat, LiteralPat, MacroPat, OrPat, ParenPat, Pat, PathPat, RangePat,
     RecordPat, RefPat, RestPat, SlicePat, TuplePat, TupleStructPat, WildcardPat,
 };
 pub use views::stmt::{ExprStmt, LetStmt, Stmt};
-pub use views::tokens::{
-    Byte, ByteString, CString, Char, Comment, FloatNumber, IntNumber, String, Whitespace,
-};
 pub use views::ty::{
     ArrayType, DynTraitType, FnPtrType, ForType, ImplTraitType, InferType, MacroType, NeverType,
     ParenType, PathType, PtrType, RefType, SliceType, TupleType, Type,

@@ -1,7 +1,7 @@
 //! Laws of the definitions that contracts cite. The functions do nothing: the contract is the law.
 ghost use Rattle.std.specs.Prelude.{◌≡◌, true};
 
-use crate::ast::{self, AstNode, AstToken};
+use crate::ast::{self, AstNode};
 use lossless_tree::SyntaxKind;
 pub use operator_pairs::laws::{
     it_reads_where_none_is_asked, needless_pairs_are_found, needless_pairs_may_go,
@@ -12,6 +12,7 @@ pub use paren_rules::laws::{
     operator_trees_have_their_precedence,
 };
 pub use ras_search::laws::common_ancestor_is_deepest;
+pub use ras_token::laws::names_of_tokens;
 
 /// The views of nodes that no enum has are of the kinds that they are named for.
 pub fn names_of_nodes()
@@ -63,17 +64,4 @@ pub fn names_of_nodes()
     ensures visibility_inner { ⟦<ast::VisibilityInner as AstNode>⟧.casts SyntaxKind.VISIBILITY_INNER ≡ true }
     ensures token_tree { ⟦<ast::TokenTree as AstNode>⟧.casts SyntaxKind.TOKEN_TREE ≡ true }
     ensures macro_stmts { ⟦<ast::MacroStmts as AstNode>⟧.casts SyntaxKind.MACRO_STMTS ≡ true }
-{}
-
-/// The views of tokens are of the kinds that they are named for.
-pub fn names_of_tokens()
-    ensures whitespace { ⟦<ast::Whitespace as AstToken>⟧.casts SyntaxKind.WHITESPACE ≡ true }
-    ensures comment { ⟦<ast::Comment as AstToken>⟧.casts SyntaxKind.COMMENT ≡ true }
-    ensures string { ⟦<ast::String as AstToken>⟧.casts SyntaxKind.STRING ≡ true }
-    ensures byte_string { ⟦<ast::ByteString as AstToken>⟧.casts SyntaxKind.BYTE_STRING ≡ true }
-    ensures c_string { ⟦<ast::CString as AstToken>⟧.casts SyntaxKind.C_STRING ≡ true }
-    ensures int_number { ⟦<ast::IntNumber as AstToken>⟧.casts SyntaxKind.INT_NUMBER ≡ true }
-    ensures float_number { ⟦<ast::FloatNumber as AstToken>⟧.casts SyntaxKind.FLOAT_NUMBER ≡ true }
-    ensures char { ⟦<ast::Char as AstToken>⟧.casts SyntaxKind.CHAR ≡ true }
-    ensures byte { ⟦<ast::Byte as AstToken>⟧.casts SyntaxKind.BYTE ≡ true }
 {}

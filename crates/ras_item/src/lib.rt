@@ -2,7 +2,9 @@
 #![tactic(auto)]
 
 mod bounds;
+mod impls;
 mod slices;
 
 pub use bounds::LifetimeBounds;
+pub use impls::{self_type_of, trait_of};
 pub use slices::{SliceComponents, slice_components};

@@ -20,7 +20,6 @@ pub use args::ArgsMaybeEmpty;
 pub use array::ArrayExprKind;
 pub use block::BlockModifier;
 pub use field::FieldKind;
-pub use literal::LiteralKind;
 use lossless_tree::{SyntaxKind, SyntaxNode};
 pub use operands::RangeItem;
 use ras_node::sets::{CallableExprs, ElseBranches, KindSet};

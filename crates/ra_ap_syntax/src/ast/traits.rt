@@ -35,14 +35,7 @@ pub trait HasLoopBody: AstNode {
     final fn loop_body(&self) -> Option<ast::BlockExpr>
         ensures { IsViewOf ⟦<ast::BlockExpr as AstNode>⟧ (loop_body ⟦<ast::BlockExpr as AstNode>⟧.casts (Self.node self.now)) result }
     {
-        let node = self.syntax();
-        if node.kind() == SyntaxKind::LOOP_EXPR {
-            return support::child(node);
-        }
-        match support::second_child(node) {
-            Some(body) => Some(body),
-            None => support::child(node),
-        }
+        ras_expr::loop_body(self.syntax())
     }
 
     /// The first child that is a label, if there is one.

@@ -15,5 +15,4 @@ pub mod nodes;
 pub mod pat;
 mod shared_traits;
 pub mod stmt;
-pub mod tokens;
 pub mod ty;

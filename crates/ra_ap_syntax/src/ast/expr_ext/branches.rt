@@ -1,24 +1,12 @@
 //! Conditions, branches and arms.
-ghost use Rattle.std.specs.Prelude.{◌≡◌, option_map};
+ghost use Rattle.std.specs.Prelude.{◌≡◌};
 ghost use Rattle.ras_node.specs.Lookups.{IsViewOf, grandparent_of, view_in};
 ghost use Rattle.ras_node.specs.Nodes.{kind_at};
 ghost use Rattle.ra_ap_syntax.specs.ExprCases.{expr_node};
-ghost use Rattle.ra_ap_syntax.specs.ExprParts.{unless_lone_block, second_as, third_as};
+ghost use Rattle.ras_expr.specs.ExprParts.{unless_lone_block, second_as, third_as};
 ghost use Rattle.operator_walks.specs.Along.{is_block_like};
 
 use crate::ast::{self, AstNode, ElseBranch, support};
-use lossless_tree::{SyntaxKind, SyntaxNode};
-
-// The first child that can be viewed as an `N`; where it is a block, only if there is another one.
-fn unless_lone_block<N: AstNode + Drop>(parent: &SyntaxNode) -> Option<N>
-    ensures { option_map N.node result ≡ unless_lone_block N.casts parent.now }
-{
-    let first = support::child::<N>(parent)?;
-    if first.syntax().kind() == SyntaxKind::BLOCK_EXPR {
-        let _second = support::second_child::<N>(parent)?;
-    }
-    Some(first)
-}
 
 impl ast::Expr {
     /// Whether it ends in a block, as an `if`, a loop, a block or a `match` does: as a statement it needs no `;`.
@@ -34,21 +22,21 @@ impl ast::IfExpr {
     pub fn condition(&self) -> Option<ast::Expr>
         ensures { IsViewOf ⟦<ast::Expr as AstNode>⟧ (unless_lone_block ⟦<ast::Expr as AstNode>⟧.casts self.now.syntax) result }
     {
-        unless_lone_block(&self.syntax)
+        ras_expr::unless_lone_block(&self.syntax)
     }
 
     /// The second expression, if it is a block.
     pub fn then_branch(&self) -> Option<ast::BlockExpr>
         ensures { IsViewOf ⟦<ast::BlockExpr as AstNode>⟧ (second_as ⟦<ast::Expr as AstNode>⟧.casts ⟦<ast::BlockExpr as AstNode>⟧.casts self.now.syntax) result }
     {
-        support::recast(support::second_child::<ast::Expr>(&self.syntax))
+        ras_expr::second_as::<ast::Expr, ast::BlockExpr>(&self.syntax)
     }
 
     /// The third expression, if it is a block or an `if`.
     pub fn else_branch(&self) -> Option<ElseBranch>
         ensures { IsViewOf ⟦<ElseBranch as AstNode>⟧ (third_as ⟦<ast::Expr as AstNode>⟧.casts ⟦<ElseBranch as AstNode>⟧.casts self.now.syntax) result }
     {
-        support::recast(support::third_child::<ast::Expr>(&self.syntax))
+        ras_expr::third_as::<ast::Expr, ElseBranch>(&self.syntax)
     }
 }
 
@@ -57,7 +45,7 @@ impl ast::WhileExpr {
     pub fn condition(&self) -> Option<ast::Expr>
         ensures { IsViewOf ⟦<ast::Expr as AstNode>⟧ (unless_lone_block ⟦<ast::Expr as AstNode>⟧.casts self.now.syntax) result }
     {
-        unless_lone_block(&self.syntax)
+        ras_expr::unless_lone_block(&self.syntax)
     }
 }
 
@@ -66,7 +54,7 @@ impl ast::ForExpr {
     pub fn iterable(&self) -> Option<ast::Expr>
         ensures { IsViewOf ⟦<ast::Expr as AstNode>⟧ (unless_lone_block ⟦<ast::Expr as AstNode>⟧.casts self.now.syntax) result }
     {
-        unless_lone_block(&self.syntax)
+        ras_expr::unless_lone_block(&self.syntax)
     }
 }
 

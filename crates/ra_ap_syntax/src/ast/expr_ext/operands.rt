@@ -5,21 +5,20 @@ ghost use Rattle.ras_node.specs.Lookups.{IsFirstChild, IsViewOf, second_typed_ch
 ghost use Rattle.syntax_kind.specs.declared.syntax_kind.SyntaxKind.{SyntaxKind};
 ghost use Rattle.tree_model.specs.Cursor.{Cursor};
 ghost use Rattle.ras_node.specs.Nodes.{kind_at, typed_child};
-ghost use Rattle.ra_ap_syntax.specs.OperatorTexts.{unary_op, range_op, binary_op};
-ghost use Rattle.ra_ap_syntax.specs.ExprParts.{first_child_token, binary_operator, range_operator, range_start_of, range_end_of, bound_before};
+ghost use Rattle.ras_operator.specs.OperatorTexts.{unary_op, range_op, binary_op};
+ghost use Rattle.ras_expr.specs.ExprParts.{first_child_token, binary_operator, range_operator, range_start_of, range_end_of, bound_before};
 ghost use Rattle.ra_ap_syntax.specs.ExprCases.{expr_node};
 
-use crate::ast::operators::{BinaryOp, RangeOp, UnaryOp, binary_op, range_op, unary_op};
-use crate::ast::{self, AstNode, support};
+use crate::ast::{self, AstNode, BinaryOp, RangeOp, UnaryOp, support};
 use lossless_tree::{SyntaxNode, SyntaxToken};
-use ras_node::sets::{BinaryOperators, RangeOperators};
+use ras_operator::{binary_op, range_op, unary_op};
 
 impl ast::PrefixExpr {
     /// The first child, if it is a token: the operator.
     pub fn op_token(&self) -> Option<SyntaxToken>
         ensures { result ≡ first_child_token self.now.syntax }
     {
-        self.syntax.first_child_or_token()?.into_token()
+        ras_expr::first_child_token(&self.syntax)
     }
 
     /// What that token is; `None` where it is no prefix operator.
@@ -51,7 +50,7 @@ impl ast::BinExpr {
     pub fn op_token(&self) -> Option<SyntaxToken>
         ensures { result ≡ binary_operator self.now.syntax }
     {
-        ras_node::first_token::<BinaryOperators>(self.syntax.children_with_tokens())
+        ras_expr::binary_operator(&self.syntax)
     }
 
     /// The first expression, if there is one.
@@ -114,13 +113,12 @@ impl RangeItem for ast::RangeExpr {
 
     /// The first expression before the operator; `None` where there is no operator.
     fn start(&self) -> Option<ast::Expr> {
-        let _operator = self.op_token()?;
-        support::first_before::<ast::Expr, RangeOperators>(self.syntax.children_with_tokens())
+        ras_expr::range_start(&self.syntax)
     }
 
     /// The first expression behind the operator; `None` where there is no operator.
     fn end(&self) -> Option<ast::Expr> {
-        support::first(ras_node::behind::<RangeOperators>(self.syntax.children_with_tokens()))
+        ras_expr::range_end(&self.syntax)
     }
 
     fn op_kind(&self) -> Option<RangeOp> {
@@ -128,7 +126,7 @@ impl RangeItem for ast::RangeExpr {
     }
 
     fn op_token(&self) -> Option<SyntaxToken> {
-        ras_node::first_token::<RangeOperators>(self.syntax.children_with_tokens())
+        ras_expr::range_operator(&self.syntax)
     }
 }
 
@@ -141,12 +139,12 @@ impl RangeItem for ast::RangePat {
 
     /// The first pattern before the operator; without operator the first pattern.
     fn start(&self) -> Option<ast::Pat> {
-        support::first_before::<ast::Pat, RangeOperators>(self.syntax.children_with_tokens())
+        ras_expr::start_or_first(&self.syntax)
     }
 
     /// The first pattern behind the operator; `None` where there is no operator.
     fn end(&self) -> Option<ast::Pat> {
-        support::first(ras_node::behind::<RangeOperators>(self.syntax.children_with_tokens()))
+        ras_expr::range_end(&self.syntax)
     }
 
     fn op_kind(&self) -> Option<RangeOp> {
@@ -154,7 +152,7 @@ impl RangeItem for ast::RangePat {
     }
 
     fn op_token(&self) -> Option<SyntaxToken> {
-        ras_node::first_token::<RangeOperators>(self.syntax.children_with_tokens())
+        ras_expr::range_operator(&self.syntax)
     }
 }
 

@@ -7,8 +7,8 @@ ghost use Rattle.lossless_tree.specs.Trees.{child_text};
 ghost use Rattle.ras_attr.specs.Attrs.{is_inner};
 ghost use Rattle.ras_meta.specs.TokenTrees.{trees_and_tokens};
 ghost use Rattle.ras_node.specs.Lookups.{IsViewOf, view_in};
-ghost use Rattle.ra_ap_syntax.specs.NodeParts.{left_delimiter, right_delimiter, is_opening, is_closing};
-ghost use Rattle.ra_ap_syntax.specs.NodeParts.{has_token, if_in};
+ghost use Rattle.ras_item.specs.NodeParts.{left_delimiter, right_delimiter, is_opening, is_closing};
+ghost use Rattle.ras_item.specs.NodeParts.{has_token, if_in};
 ghost use Rattle.ra_ap_syntax.specs.NodeShapes.{atom_shape, atom_key};
 ghost use Rattle.ra_ap_syntax.specs.AnyAttrCases.{any_attr_node};
 ghost use Rattle.ra_ap_syntax.specs.AttrParts.{kind_by, doc_shape, doc_text, doc_token};
@@ -50,6 +50,9 @@ impl ast::Attr {
 }
 
 impl ast::DocComment {
+    /// How many bytes the opening marker of a documentation comment has.
+    pub const PREFIX_LEN: usize = 3;
+
     /// Inner where it has an inner comment token, else outer.
     pub fn kind(&self) -> AttrKind
         ensures { result ≡ kind_by (has_token SyntaxKind.INNER_DOC_COMMENT self.now.syntax) }
@@ -59,7 +62,7 @@ impl ast::DocComment {
 
     /// The first token, at any depth, if it is a comment.
     pub fn token(&self) -> Option<AnyComment>
-        ensures { option_map (λ it. it.syntax) result ≡ doc_token self.now.syntax }
+        ensures { option_map ⟦<AnyComment as AstToken>⟧.token result ≡ doc_token self.now.syntax }
     {
         AnyComment::cast(self.syntax.first_token()?)
     }

@@ -5,10 +5,10 @@ ghost use Rattle.ras_node.specs.Lookups.{IsViewOf, IsFirstChild, grandparent_of,
 ghost use Rattle.ras_node.specs.Nodes.{typed_child, token_child};
 ghost use Rattle.ra_ap_syntax.specs.ItemCases.{item_node};
 ghost use Rattle.ra_ap_syntax.specs.TypeOrConstParamCases.{type_or_const_param_node};
-ghost use Rattle.ra_ap_syntax.specs.NodeParts.{trait_of, self_type_of, impl_around, impl_trait, macro_args, macro_body, generic_params_of, if_kind};
+ghost use Rattle.ras_item.specs.NodeParts.{trait_of, self_type_of, impl_around, impl_trait, macro_args, macro_body, generic_params_of, if_kind};
 ghost use Rattle.ra_ap_syntax.specs.NodeShapes.{struct_shape, struct_kind, self_param_kind, visibility_shape, inner_visibility, visibility_kind, seen_by_words, seen_in_path, in_path};
 
-use crate::ast::{self, AnyHasGenericParams, AstNode, TypedToken, support};
+use crate::ast::{self, AnyHasGenericParams, AstNode, AstToken, support};
 use lossless_tree::{SyntaxKind, SyntaxNode};
 
 impl ast::MacroDef {
@@ -32,46 +32,19 @@ impl ast::MacroDef {
     }
 }
 
-// The first child that can be viewed as an `N`, if it starts before the `for`.
-fn before_for<N: AstNode + Drop>(parent: &SyntaxNode) -> Option<N>
-    ensures { option_map N.node result ≡ trait_of N.casts parent.now }
-{
-    let for_token = support::token(parent, SyntaxKind::FOR_KW)?;
-    let first = support::children::<N>(parent).next()?;
-    if first.syntax().text_range().start() < for_token.text_range().start() {
-        Some(first)
-    } else {
-        None
-    }
-}
-
-// The second of these children where the first is the one before the `for`, else the first.
-fn behind_for<N: AstNode + Drop>(parent: &SyntaxNode) -> Option<N>
-    ensures { option_map N.node result ≡ self_type_of N.casts parent.now }
-{
-    let mut all = support::children::<N>(parent);
-    let first = all.next()?;
-    if let Some(for_token) = support::token(parent, SyntaxKind::FOR_KW) {
-        if first.syntax().text_range().start() < for_token.text_range().start() {
-            return all.next();
-        }
-    }
-    Some(first)
-}
-
 impl ast::Impl {
     /// The trait: the first type, if it starts before the `for`; `None` where there is no `for`.
     pub fn trait_(&self) -> Option<ast::Type>
         ensures { IsViewOf ⟦<ast::Type as AstNode>⟧ (trait_of ⟦<ast::Type as AstNode>⟧.casts self.now.syntax) result }
     {
-        before_for(&self.syntax)
+        ras_item::trait_of(&self.syntax)
     }
 
     /// The type that it is for: the one after the trait, or the first type where there is no trait.
     pub fn self_ty(&self) -> Option<ast::Type>
         ensures { IsViewOf ⟦<ast::Type as AstNode>⟧ (self_type_of ⟦<ast::Type as AstNode>⟧.casts self.now.syntax) result }
     {
-        behind_for(&self.syntax)
+        ras_item::self_type_of(&self.syntax)
     }
 
     /// The nearest impl above a name, if its trait starts where the name does.
@@ -180,13 +153,9 @@ impl ast::Module {
 impl ast::Abi {
     /// The first token that is a string: the name of the calling convention.
     pub fn abi_string(&self) -> Option<ast::String>
-        ensures { option_map (λ it. it.syntax) result ≡ option_and_then (if_kind SyntaxKind.STRING) (token_child SyntaxKind.STRING self.now.syntax) }
+        ensures { option_map ⟦<ast::String as AstToken>⟧.token result ≡ option_and_then (if_kind SyntaxKind.STRING) (token_child SyntaxKind.STRING self.now.syntax) }
     {
-        let syntax = support::token(&self.syntax, SyntaxKind::STRING)?;
-        match syntax.kind() {
-            SyntaxKind::STRING => Some(TypedToken { syntax }),
-            _ => None,
-        }
+        ast::String::cast(support::token(&self.syntax, SyntaxKind::STRING)?)
     }
 }
 

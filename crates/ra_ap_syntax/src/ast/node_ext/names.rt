@@ -5,7 +5,7 @@ ghost use Rattle.lossless_tree.specs.Trees.{child_text};
 ghost use Rattle.ras_literal.specs.Fields.{IsTupleField};
 ghost use Rattle.ra_ap_syntax.specs.NameLikeCases.{name_like_node, used_name, lifetime_in};
 ghost use Rattle.ra_ap_syntax.specs.NameOrNameRefCases.{name_or_name_ref_node};
-ghost use Rattle.ra_ap_syntax.specs.NodeParts.{first_token_kind};
+ghost use Rattle.ras_item.specs.NodeParts.{first_token_kind};
 
 use crate::ast::{self, AstNode, NameLike, NameOrNameRef};
 use lossless_tree::SyntaxKind;

@@ -3,10 +3,10 @@ ghost use Rattle.std.specs.Prelude.{◌≡◌, option_map, drop};
 ghost use Rattle.tree_model.specs.Cursor.{parent_of, ancestors_of};
 ghost use Rattle.ras_path.specs.Path.{AreSegments, IsFirstQualifier, IsQualifierEnd, IsFirstSegment, qualifiers_of, top_from};
 ghost use Rattle.ras_node.specs.Lookups.{IsViewOf, view_in};
-ghost use Rattle.ra_ap_syntax.specs.NodeParts.{single_segment, single_name, name_token, qualifying_trait};
+ghost use Rattle.ras_item.specs.NodeParts.{single_segment, single_name, name_token, qualifying_trait};
 ghost use Rattle.ra_ap_syntax.specs.NodeShapes.{segment_shape, segment_kind, name_by_kind, anchored};
 ghost use Rattle.ras_node.specs.Nodes.{kind_at};
-ghost use Rattle.ra_ap_syntax.specs.NodeParts.{first_token_kind};
+ghost use Rattle.ras_item.specs.NodeParts.{first_token_kind};
 
 use crate::ast::{self, AstNode, support};
 use lossless_tree::{SyntaxKind, SyntaxNode, SyntaxToken};

@@ -7,7 +7,7 @@ ghost use Rattle.ras_node.specs.Lookups.{IsViewOf, view_in, grandparent_of};
 ghost use Rattle.ras_node.specs.Nodes.{typed_child, typed_children, has_kind_in, kind_at};
 ghost use Rattle.ras_item.specs.Slices.{is_rest, before_rest, behind_rest};
 ghost use Rattle.ra_ap_syntax.specs.PatCases.{pat_node};
-ghost use Rattle.ra_ap_syntax.specs.NodeParts.{leading_pipe, bound_name, bound_in_box, pat_field_name, if_its_part_is, is_simple_ident, if_kind};
+ghost use Rattle.ras_item.specs.NodeParts.{leading_pipe, bound_name, bound_in_box, pat_field_name, if_its_part_is, is_simple_ident, if_kind};
 
 use crate::ast::{self, AstNode, HasName, NameOrNameRef, support};
 use lossless_tree::{SyntaxKind, SyntaxNode, SyntaxToken};

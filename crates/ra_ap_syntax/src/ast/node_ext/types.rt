@@ -4,7 +4,7 @@ ghost use Rattle.ras_node.specs.Lookups.{IsViewOf};
 ghost use Rattle.ras_node.specs.Nodes.{typed_child, typed_children, kind_at};
 ghost use Rattle.ras_item.specs.Bounds.{lifetime_bounds};
 ghost use Rattle.ra_ap_syntax.specs.TypeCases.{ty_node};
-ghost use Rattle.ra_ap_syntax.specs.NodeParts.{generic_args_of};
+ghost use Rattle.ras_item.specs.NodeParts.{generic_args_of};
 ghost use Rattle.ra_ap_syntax.specs.NodeShapes.{bound_shape, bound_kind, bound_of_for, bound_without_path};
 
 use crate::ast::{self, AstChildren, AstNode, HasGenericArgs, HasTypeBounds, support};

@@ -10,7 +10,7 @@ ghost use Rattle.ras_node.specs.Searches.{tokens_among};
 ghost use Rattle.ras_path.specs.Path.{top_tree_from};
 ghost use Rattle.ras_node.specs.Lookups.{IsViewOf, view_in};
 ghost use Rattle.ras_node.specs.Nodes.{typed_child};
-ghost use Rattle.ra_ap_syntax.specs.NodeParts.{is_glob, is_simple_path, has_token};
+ghost use Rattle.ras_item.specs.NodeParts.{is_glob, is_simple_path, has_token};
 
 use crate::ast::{self, AstNode, support};
 use lossless_tree::SyntaxKind;

@@ -1,0 +1,4 @@
+pub mod AnyStringCases
+pub mod AnyStringValues
+pub mod CommentKinds
+pub mod LiteralShapes
