@@ -4,7 +4,6 @@ mod expr_ext;
 mod node_ext;
 pub mod operators;
 pub mod prec;
-mod raw;
 mod traits;
 mod typed;
 mod views;
@@ -56,6 +55,7 @@ pub use node_ext::{
     TypeBoundKind, TypeOrConstParam, TypeOrConstParams, VisibilityKind,
 };
 pub use operators::{ArithOp, BinaryOp, CmpOp, LogicOp, Ordering, RangeOp, UnaryOp};
+pub(crate) use ras_kinds::raw;
 pub use ras_literal::{
     AttrKind, CommentKind, CommentShape, IntError, QuoteOffsets, Radix, ValueError,
 };

@@ -3,7 +3,6 @@
 
 pub mod laws;
 mod literal_kind;
-mod raw;
 mod token_ext;
 pub mod tokens;
 mod typed;

@@ -12,6 +12,7 @@ ghost use Rattle.ra_ap_syntax.specs.Algo.{ancestors_at};
 use ra_ap_syntax::ast::{self, HasName};
 use ra_ap_syntax::{AstNode, SyntaxNode, SyntaxToken, TextSize, algo};
 
+pub mod shapes;
 #[cfg(test)]
 mod tests;
 

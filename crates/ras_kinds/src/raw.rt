@@ -1,5 +1,5 @@
-//! The raw numbers of the kinds of nodes, as `SyntaxKind::to_raw` gives them.
-use lossless_tree::NodeKind;
+//! The numbers, by their kinds' names.
+use syntax_kind::{NodeKind, TokenKind};
 
 // The number of the first kind of node: those of the kinds of tokens come before it.
 const FIRST_NODE: u32 = 117;
@@ -297,3 +297,21 @@ pub const VISIBILITY_INNER: u32 = FIRST_NODE + NodeKind::VISIBILITY_INNER as u32
 pub const TOKEN_TREE: u32 = FIRST_NODE + NodeKind::TOKEN_TREE as u32;
 
 pub const MACRO_STMTS: u32 = FIRST_NODE + NodeKind::MACRO_STMTS as u32;
+
+pub const WHITESPACE: u32 = TokenKind::WHITESPACE as u32;
+
+pub const COMMENT: u32 = TokenKind::COMMENT as u32;
+
+pub const STRING: u32 = TokenKind::STRING as u32;
+
+pub const BYTE_STRING: u32 = TokenKind::BYTE_STRING as u32;
+
+pub const C_STRING: u32 = TokenKind::C_STRING as u32;
+
+pub const INT_NUMBER: u32 = TokenKind::INT_NUMBER as u32;
+
+pub const FLOAT_NUMBER: u32 = TokenKind::FLOAT_NUMBER as u32;
+
+pub const CHAR: u32 = TokenKind::CHAR as u32;
+
+pub const BYTE: u32 = TokenKind::BYTE as u32;
