@@ -11,12 +11,18 @@
 //! - `walk TEXT`: its items, their names, and what is in and around the last expression of each body.
 //! - `built WORDS`: the errors of a tree that is built; `KIND(` enters, `)` leaves, `KIND:text` is a token, `!5` an error at 5.
 //! - `name WORD`: whether it is an identifier, and a raw one.
+//! - `parens WANTED ROW`: whether a marked node of a tree needs parentheses, and whether that is as wanted.
+//! - `terms N`: every operator term of at most N forms, read by `tiny`; how many came out how.
+//!
+//! A line that begins with `#` is passed over.
 #![tactic(auto)]
 
 mod built;
 mod edits;
 mod every_edit;
 mod every_offset;
+mod every_term;
+mod parens;
 mod parses;
 mod request;
 mod stopped;
@@ -26,6 +32,8 @@ use built::show_built;
 use edits::show_edit;
 use every_edit::show_every_edit;
 use every_offset::show_every_offset;
+use every_term::show_every_term;
+use parens::show_parens;
 use parses::{show_expr, show_file};
 use ra_ap_syntax::utils::{is_identifier, is_raw_identifier};
 use ra_ap_syntax::{Edition, FrontEnd};
@@ -85,6 +93,8 @@ fn show(alloc: Global, out: &mut String, request: &str, rest: &str) -> Result<()
         "name" => return show_name(out, rest),
         "walk" => return show_walk(alloc, out, rest),
         "built" => return show_built(alloc, out, rest),
+        "parens" => return show_parens(alloc, out, rest),
+        "terms" => return show_every_term(alloc, out, rest),
         "bytes" => return show_run(alloc, out, rest, b"\xff"),
         _ => {}
     }
@@ -109,7 +119,7 @@ fn answer(rt: &HostRuntime) -> Result<(), Stopped> {
     let input = io::read_to_string(rt.alloc(), rt.reader())?;
     let mut out = String::new(rt.alloc());
     for line in input.as_str().lines() {
-        if !line.is_empty() {
+        if !line.is_empty() && !line.starts_with('#') {
             show_line(rt.alloc(), &mut out, line)?;
         }
     }

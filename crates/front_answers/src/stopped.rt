@@ -1,7 +1,7 @@
 //! Why a request has no answer.
 
 use ra_ap_syntax::{FinishError, ParseError};
-use std::alloc::AllocError;
+use std::alloc::{AllocError, AllocFailed};
 use std::io;
 use thiserror::Error;
 
@@ -17,4 +17,12 @@ pub enum Stopped {
     Io(#[from] io::Error),
     #[error("a line is no request")]
     NoRequest,
+    #[error("a node is not marked, or can't be asked")]
+    NoNode,
+}
+
+impl<T: Drop> From<AllocFailed<T>> for Stopped {
+    fn from(_failed: AllocFailed<T>) -> Stopped {
+        Stopped::Memory(AllocError)
+    }
 }

@@ -1,9 +1,16 @@
-//! What a row's tree answers.
+//! Rows on parentheses.
+//!
+//! A row is a tree as words, parted by a space: `KIND(` enters a node, `)` leaves it, `KIND:text` is a token, and a short word
+//! stands for some of these. The node that is asked is marked by `>` before its word, the parent by `^`, and the node in whose
+//! place it would stand by `@`, where that is another.
 
-use crate::short::written_out;
+mod short;
+
 use crate::stopped::Stopped;
 use ra_ap_syntax::{AstNode, SyntaxKind, SyntaxNode, TreeBuilder, ast};
+use short::written_out;
 use std::alloc::Global;
+use std::fmt::Write;
 
 // The numbers, among the nodes in preorder, of those that are marked.
 #[derive(Clone, Copy, Default)]
@@ -34,7 +41,7 @@ impl Marks {
 }
 
 fn kind_of(name: &str) -> Result<SyntaxKind, Stopped> {
-    SyntaxKind::from_name(name).ok_or(Stopped::NoKind)
+    SyntaxKind::from_name(name).ok_or(Stopped::NoRequest)
 }
 
 // Appends an event, and says whether it enters a node.
@@ -89,8 +96,8 @@ fn type_asks(own: &SyntaxNode, parent: &SyntaxNode) -> Option<bool> {
     Some(ast::cast_ref::<ast::Type>(own)?.needs_parens_in(parent))
 }
 
-/// Whether the marked node needs parentheses.
-pub fn answer(alloc: Global, words: &str) -> Result<bool, Stopped> {
+// Whether the marked node needs parentheses.
+fn answer(alloc: Global, words: &str) -> Result<bool, Stopped> {
     let (root, marks) = read(alloc, words)?;
     let own = marked(&root, marks.own)?;
     let parent = marked(&root, marks.parent)?;
@@ -99,4 +106,16 @@ pub fn answer(alloc: Global, words: &str) -> Result<bool, Stopped> {
         place => expr_asks_in(&own, &parent, &marked(&root, place)?),
     };
     asks.or(type_asks(&own, &parent)).ok_or(Stopped::NoNode)
+}
+
+/// Whether the marked node needs parentheses, beside what is wanted: `true` or `false`, and then the row.
+pub fn show_parens(alloc: Global, out: &mut String, row: &str) -> Result<(), Stopped> {
+    let (wanted, words) = row.split_once(' ').unwrap_or((row, ""));
+    let asks = answer(alloc, words)?;
+    let said = if wanted == if asks { "true" } else { "false" } {
+        "as wanted"
+    } else {
+        "not as wanted"
+    };
+    Ok(writeln!(out, "{asks}, {said}")?)
 }

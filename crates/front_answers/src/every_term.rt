@@ -1,23 +1,20 @@
-//! Every operator term of at most three forms over the name `a` is written down with spaces and read by `Tiny`. Where the
+//! Every operator term of at most so many forms over the name `a`, written down with spaces and read by `Tiny`. Where the
 //! built tree reads back, the tree that is read has to be the built one, also in a body: behind `let`, as a statement and as
 //! the tail. Else the text has to be refused, or read as another tree that reads back. What comes out otherwise is printed.
-#![tactic(auto)]
 
 mod body;
-mod stopped;
 mod terms;
 mod verdict;
 mod words;
 mod written;
 
-use std::process::ExitCode;
-use stopped::Stopped;
+use crate::request::number;
+use crate::stopped::Stopped;
+use std::alloc::Global;
+use std::fmt::Write;
 use terms::Terms;
 use verdict::{Verdict, verdict_of};
 use written::write_term;
-
-// How many forms a term has at the most.
-const FORMS: usize = 3;
 
 // How many terms came out how.
 #[derive(Clone, Copy, Default)]
@@ -29,42 +26,35 @@ struct Counts {
     others: u32,
 }
 
-fn count(rt: &HostRuntime, terms: &Terms, forms: usize) -> Result<Counts, Stopped> {
+fn count(alloc: Global, out: &mut String, terms: &Terms, forms: usize) -> Result<Counts, Stopped> {
     let mut counts = Counts::default();
     for term in terms.of(forms) {
-        let written = write_term(rt.alloc(), terms, *term)?;
+        let written = write_term(alloc, terms, *term)?;
         counts.terms = counts.terms.saturating_add(1);
         if written.text.contains(" as ") {
             counts.casts = counts.casts.saturating_add(1);
         }
-        match verdict_of(rt.alloc(), &written)? {
+        match verdict_of(alloc, &written)? {
             Verdict::ReadsBack => counts.read_back = counts.read_back.saturating_add(1),
             Verdict::Refused => counts.refused = counts.refused.saturating_add(1),
             Verdict::Other => counts.others = counts.others.saturating_add(1),
-            Verdict::Wrong => println!(rt; "wrong: {}", written.text)?,
+            Verdict::Wrong => writeln!(out, "wrong: {}", written.text)?,
         }
     }
     Ok(counts)
 }
 
-fn run(rt: &HostRuntime) -> Result<(), Stopped> {
-    let terms = Terms::up_to(rt.alloc(), FORMS)?;
-    for forms in 0..=FORMS {
-        let counts = count(rt, &terms, forms)?;
-        println!(rt;
+/// How many terms of each number of forms up to this one came out how, a line each.
+pub fn show_every_term(alloc: Global, out: &mut String, most: &str) -> Result<(), Stopped> {
+    let most = number(most)? as usize;
+    let terms = Terms::up_to(alloc, most)?;
+    for forms in 0..=most {
+        let counts = count(alloc, out, &terms, forms)?;
+        writeln!(
+            out,
             "{forms} forms: {} terms, {} with a cast; {} read back, {} refused, {} read as another",
             counts.terms, counts.casts, counts.read_back, counts.refused, counts.others
         )?;
     }
     Ok(())
-}
-
-fn main(rt: HostRuntime) -> ExitCode {
-    match run(&rt) {
-        Ok(()) => ExitCode::SUCCESS,
-        Err(stopped) => {
-            let _said = eprintln!(rt; "every_term: {stopped}");
-            ExitCode::FAILURE
-        }
-    }
 }

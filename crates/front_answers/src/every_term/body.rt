@@ -1,7 +1,7 @@
 //! A text in the places of a body.
 
+use crate::every_term::words::words_of;
 use crate::stopped::Stopped;
-use crate::words::words_of;
 use ra_ap_syntax::{Edition, SourceFile, SyntaxKind};
 use std::alloc::Global;
 use tiny_front::Tiny;

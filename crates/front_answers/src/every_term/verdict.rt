@@ -1,9 +1,9 @@
 //! What comes of reading a term.
 
-use crate::body::stands_in_a_body;
+use crate::every_term::body::stands_in_a_body;
+use crate::every_term::words::words_of;
+use crate::every_term::written::Written;
 use crate::stopped::Stopped;
-use crate::words::words_of;
-use crate::written::Written;
 use ra_ap_syntax::ast::prec::reads_back;
 use ra_ap_syntax::{AstNode, Edition, Parse, SyntaxNode, ast};
 use std::alloc::Global;

@@ -1,7 +1,7 @@
 //! A term as a tree and as a text.
 
+use crate::every_term::terms::{Term, Terms};
 use crate::stopped::Stopped;
-use crate::terms::{Term, Terms};
 use ra_ap_syntax::{SyntaxKind, SyntaxNode, TreeBuilder};
 use std::alloc::Global;
 
@@ -23,7 +23,7 @@ struct Rest {
 }
 
 fn kind_of(name: &str) -> Result<SyntaxKind, Stopped> {
-    SyntaxKind::from_name(name).ok_or(Stopped::NoKind)
+    SyntaxKind::from_name(name).ok_or(Stopped::NoRequest)
 }
 
 // Appends an event, and a token to the text.
