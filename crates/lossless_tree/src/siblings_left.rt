@@ -50,7 +50,7 @@ impl<'t> SiblingsLeft<'t> {
         }
     }
 
-    /// The same once more.
+    /// A copy.
     pub fn all(&self) -> SiblingsLeft<'t>
         ensures { result ≡ self.now }
     {
@@ -98,8 +98,8 @@ impl<'t> SiblingsLeft<'t> {
         }
     }
 
-    /// Where the first one starts in the whole text, in bytes; where nothing is left, where the last one ended, and where
-    /// there never was one, where what they would stand below starts.
+    /// Offset of the first sibling left, in bytes; if none is left, the end of the last; if there were none, the start of the
+    /// parent.
     pub fn start(&self) -> TextSize
         ensures { result ≡ self.now.start }
     {

@@ -156,7 +156,7 @@ fn turn_at(toward: Toward, meant: Meant, left: &SiblingsLeft<'_>) -> Turn
     }
 }
 
-/// Whether the expression that is meant among the trees is what the walk looks for, or begins or ends with such a one.
+/// Follows first (or last) operands, starting in `trees`; true if it reaches what `toward` looks for.
 ///
 /// It takes time linear in the children of the nodes that it goes through.
 pub fn reaches(toward: Toward, meant: Meant, trees: &SiblingsLeft<'_>) -> bool

@@ -263,7 +263,7 @@ pub fn needs_parens_in_place_of(own: &SyntaxNode, parent: &SyntaxNode, place: &S
     asks(own, parent, place)
 }
 
-/// The same in its own place.
+/// [`needs_parens_in_place_of`] with `place = own`.
 ///
 /// At an operand below the root of an operator tree, asked with the operand's own parent node, it answers false exactly where the
 /// operand fits, before the tokens that stand behind it in the whole tree. Where neither `<` nor `<<` follows the operator tree,

@@ -34,6 +34,6 @@ impl Edition {
 pub struct Reparser {
     /// The kind of the node, which is also that of the node read anew.
     pub kind: SyntaxKind,
-    /// A number of the front end's own, by which it knows the rule to read by. Nothing else looks at it.
+    /// Opaque to everyone but the front end: which grammar rule re-parses the node.
     pub number: u32,
 }

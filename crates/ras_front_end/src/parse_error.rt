@@ -2,7 +2,7 @@
 
 use std::alloc::AllocError;
 
-/// Why a text is not read. What is wrong with a text is no reason: its tree then has errors.
+/// Why parsing failed. Syntax errors are not a failure; they are kept in the `Parse`.
 #[derive(Clone, Copy, Debug, PartialEq, Eq, Hash, thiserror::Error)]
 pub enum ParseError {
     /// The text is longer than 4,294,967,295 bytes. This is looked at first.

@@ -27,7 +27,7 @@ impl<P: AstNode> Model for Qualifiers<P> {
 }
 
 impl<P: AstNode> Qualifiers<P> {
-    /// Those of a path.
+    /// The qualifiers of a path.
     pub fn new(path: &P) -> Qualifiers<P>
         ensures { result ≡ qualifiers_of P.casts (P.node path.now) }
     {

@@ -16,7 +16,7 @@ use std::alloc::{AllocError, Global};
 use std::fmt::Write;
 use text_size::TextRange;
 
-/// A view of a whole file. `SourceFile` is the one that there is.
+/// Marks the root type whose parses can be dumped and re-parsed. Only `SourceFile` implements it.
 pub trait FileView: AstNode {}
 
 // `error a..b: message` for each error.

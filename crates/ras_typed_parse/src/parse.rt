@@ -16,7 +16,7 @@ use ras_node::AstNode;
 use std::alloc::{AllocError, Global};
 use std::marker::{Model, PhantomData};
 
-/// A tree and its errors, as a text was read: the root is meant to be a `T`.
+/// The result of parsing: a tree, whose root should be a `T`, and its errors.
 ///
 /// There is a tree whatever the text is. Cloning a parse takes no memory and always succeeds. A clause sees the tree and
 /// the stored errors.

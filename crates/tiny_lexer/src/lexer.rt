@@ -47,7 +47,7 @@ fn size(word: &str) -> TextSize
     }
 }
 
-/// The position that many bytes later, as far as 32 bits reach.
+/// `start + len`, saturating.
 pub fn later(start: TextSize, len: TextSize) -> TextSize
     ensures value { result ≡ later_of start len }
     ensures ordered { start ≤ result }

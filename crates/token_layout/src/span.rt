@@ -12,8 +12,8 @@ pub struct Token {
     pub len: TextSize,
 }
 
-/// A node over some tokens that follow one another. It may be over none: then it stays empty, before the token `first`.
-/// A node that begins there stands behind it, and is never around it.
+/// A node over the tokens `first..end`. If that is empty, it is an empty node before token `first`: a sibling, never a child, of
+/// nodes that start there.
 #[derive(Clone, Copy, Debug, PartialEq, Eq)]
 pub struct Span {
     /// Its kind.

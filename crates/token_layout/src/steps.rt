@@ -23,7 +23,7 @@ fn turn(steps: &mut Vec<Step>)
     steps.reverse();
 }
 
-/// The steps of a root round those of which the last stands first. It takes time linear in their number, and their memory.
+/// Reverses `steps`, which were made back to front, and wraps them in a `root` node. It takes time linear in their number.
 pub fn rooted(root: SyntaxKind, mut steps: Vec<Step>) -> Result<Vec<Step>, AllocError>
     ensures { IfOk result (λ v. front_steps v.items ≡ begins root ∷ (reverse (front_steps steps.items) ++ ends ∷ [])) }
 {

@@ -3,7 +3,7 @@
 //! A name's hash picks a shift, and hash and shift together pick a slot. The shifts are chosen so
 //! that no two names share a slot; the check computes this for all 264 names.
 
-/// What the quotient of a hash is moved by, for each remainder of it by 128.
+/// Displacement to add to `hash / 128`, by `hash % 128`.
 pub(super) static SHIFTS: [u8; 128] = [
     3, 5, 0, 5, 15, 6, 16, 3, 0, 28, 7, 0, 2, 184, 63, 74, 11, 6, 8, 0, 0, 3, 38, 7, 3, 5, 0, 7,
     16, 1, 45, 0, 0, 13, 23, 1, 4, 35, 5, 0, 0, 1, 2, 17, 0, 0, 2, 6, 1, 0, 0, 203, 10, 144, 32,
