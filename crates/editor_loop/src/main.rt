@@ -26,7 +26,7 @@ fn edit(alloc: Global, old: &File, edit: Edit) -> Result<Option<(File, TextRange
     if let Some(piece) = old.incremental_reparse(alloc, &Tiny, delete, insert, NOW)? {
         return Ok(Some(piece));
     }
-    let whole = old.reparse(alloc, &Tiny, delete, insert, NOW)?;
+    let whole = old.full_reparse(alloc, &Tiny, delete, insert, NOW)?;
     let range = whole.syntax_node().text_range();
     Ok(Some((whole, range)))
 }

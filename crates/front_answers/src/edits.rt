@@ -48,7 +48,7 @@ pub fn edited<F: FrontEnd>(
     let insert = change.insert;
     let found = old.incremental_reparse(alloc, front, delete, insert, Edition::CURRENT);
     if let Ok(None) = &found {
-        return read_whole(old.reparse(alloc, front, delete, insert, Edition::CURRENT));
+        return read_whole(old.full_reparse(alloc, front, delete, insert, Edition::CURRENT));
     }
     with_piece(found)
 }

@@ -94,6 +94,17 @@ impl TreeBuilder {
         self.text.as_str().len()
     }
 
+    /// The refusal that [`TreeBuilder::finish`] would answer now, other than `Memory`; `None` where the events build a tree.
+    /// It takes no memory, and time linear in the number of events.
+    pub fn refusal(&self) -> Option<FinishError>
+        ensures { result ≡ first_refusal self.now }
+    {
+        if self.text.as_str().len() > u32::MAX as usize {
+            return Some(FinishError::TooLong);
+        }
+        first_refusal(self.steps.as_slice())
+    }
+
     /// The root of the tree that the events build, in time linear in the number of events.
     ///
     /// Else the first refusal that holds of all the events, in the order of [`FinishError`]; the builder is then gone.

@@ -87,7 +87,7 @@ impl SyntaxTreeBuilder {
 
     /// The parse. Else the first refusal that holds, in the order of [`FinishError`]: those of the events, then
     /// `ErrorPastText` where an error's position is past the text (the text's end is not), then `Memory`. The builder is
-    /// gone then.
+    /// gone then. No refusal but `Memory` takes memory, so each is answered also where there is none.
     pub fn finish(self) -> Result<Parse, FinishError>
         ensures ok { IfOk result (λ p. BuildsNode self.events p.tree × (p.errors ≡ self.faults)) }
         ensures in_text { IfOk result ErrorsLieIn }
@@ -115,22 +115,14 @@ impl SyntaxTreeBuilder {
             tree,
             errors,
         } = self;
-        let past = has_error_past(errors.as_slice(), tree.text_len());
-        match tree.finish() {
-            Ok(root) => {
-                if past {
-                    return Err(FinishError::ErrorPastText);
-                }
-                Ok(Built { root, errors })
-            }
-            Err(FinishError::Memory) => {
-                if past {
-                    return Err(FinishError::ErrorPastText);
-                }
-                Err(FinishError::Memory)
-            }
-            Err(refusal) => Err(refusal),
+        if let Some(refusal) = tree.refusal() {
+            return Err(refusal);
         }
+        if has_error_past(errors.as_slice(), tree.text_len()) {
+            return Err(FinishError::ErrorPastText);
+        }
+        let root = tree.finish()?;
+        Ok(Built { root, errors })
     }
 }
 

@@ -5,4 +5,4 @@ mod balanced;
 mod merge;
 mod reparse;
 
-pub use reparse::{incremental_reparse, reparse_text};
+pub use reparse::{full_reparse, incremental_reparse, reparse_text};

@@ -5,7 +5,8 @@ ghost use Rattle.tree_model.specs.Tree.{text};
 ghost use Rattle.tree_model.specs.Cursor.{IsRoot, first_child_of, parent_of};
 ghost use Rattle.tree_model.specs.Edit.{splice};
 ghost use Rattle.ras_front_end.specs.declared.parse_error.ParseError.TheVariants.{TooLong};
-ghost use Rattle.ras_front_end.specs.Parsed.{ErrorsLieIn};
+ghost use Rattle.ras_front_end.specs.Parsed.{ErrorsLieIn, IsParseOf};
+ghost use Rattle.ras_front_end.specs.declared.edition.Entry.TheVariants.{SourceFile};
 ghost use Rattle.ras_front_end.specs.Fault.{LiesIn};
 ghost use Rattle.ras_reparsing.specs.Edit.{IsEditOf, edited, covered, edited_at};
 ghost use Rattle.ras_reparsing.specs.Reparse.{merged, is_token_kind, IsContextualWord, kind_at, reparser_of, first_reparsable, token_faults, token_piece, with_piece, NoTokenPath, NoBlockPath, IsIncremental, IsReparse};
@@ -67,11 +68,33 @@ pub fn reparse_text<F: FrontEnd>(
 {
     match incremental_reparse(alloc, old, front, delete, insert, edition)? {
         Some((new, _)) => Ok(new),
-        None => {
-            let text = edited_text(alloc, old.root().as_str(), TextSize::new(0), delete, insert)?;
-            read(alloc, front, Entry::SourceFile, text.as_str(), edition)
-        }
+        None => full_reparse(alloc, old, front, delete, insert, edition),
     }
+}
+
+/// The parse after an edit of its text, where all of the new text is read as a file. The old parse stays as it was.
+///
+/// `delete` lies in the text, on character boundaries. `TooLong` exactly where the new text is longer than 4,294,967,295 bytes; that is looked at first.
+pub fn full_reparse<F: FrontEnd>(
+    alloc: Global,
+    old: &Parse,
+    front: &F,
+    delete: TextRange,
+    insert: &str,
+    edition: Edition,
+) -> Result<Parse, ParseError>
+    requires { IsEditOf (text old.now.tree) (record { delete = delete; insert = insert.now }) }
+    ensures answer { IfOk result (IsParseOf (edited (text old.now.tree) (record { delete = delete; insert = insert.now })) ((F.answers front.now).parsed SourceFile edition (edited (text old.now.tree) (record { delete = delete; insert = insert.now })))) }
+    ensures same_text { IfOk result (λ p. text p.tree ≡ edited (text old.now.tree) (record { delete = delete; insert = insert.now })) }
+    ensures in_text { IfOk result ErrorsLieIn }
+    ensures accepted { OnOk result (length (edited (text old.now.tree) (record { delete = delete; insert = insert.now })) < 2 ^ 32) }
+    ensures refused { IfErr result (λ e. (e ≡ TooLong) ↔ (2 ^ 32 ≤ length (edited (text old.now.tree) (record { delete = delete; insert = insert.now })))) }
+{
+    if is_too_long(old.root(), delete, insert) {
+        return Err(ParseError::TooLong);
+    }
+    let text = edited_text(alloc, old.root().as_str(), TextSize::new(0), delete, insert)?;
+    read(alloc, front, Entry::SourceFile, text.as_str(), edition)
 }
 
 // The same as `incremental_reparse`, where the new text is not too long.
@@ -234,7 +257,8 @@ fn edited_text(
 {
     let from = (delete.start().raw() - start.raw()) as usize;
     let to = (delete.end().raw() - start.raw()) as usize;
-    let mut edited = String::new(alloc);
+    let room = from.saturating_add(insert.len()).saturating_add(piece.len() - to);
+    let mut edited = String::with_capacity(alloc, room)?;
     edited.push_str(&piece[..from])?;
     edited.push_str(insert)?;
     edited.push_str(&piece[to..])?;

@@ -84,6 +84,6 @@ impl SyntaxTreeBuilder {
     {
         let SyntaxTreeBuilder { draft } = self;
         let parsed = draft.finish()?;
-        Ok(Parse::of(parsed))
+        Ok(Parse::meant(parsed))
     }
 }

@@ -3,7 +3,8 @@ ghost use Rattle.std.specs.Prelude.{◌≡◌, ◌↔◌, ◌++◌, ◌<◌, ◌
 ghost use Rattle.std.specs.List.{flat_map};
 ghost use Rattle.tree_model.specs.Tree.{text};
 ghost use Rattle.ras_front_end.specs.declared.parse_error.ParseError.TheVariants.{TooLong};
-ghost use Rattle.ras_front_end.specs.Parsed.{ErrorsLieIn};
+ghost use Rattle.ras_front_end.specs.Parsed.{ErrorsLieIn, IsParseOf};
+ghost use Rattle.ras_front_end.specs.declared.edition.Entry.TheVariants.{SourceFile};
 ghost use Rattle.ras_reparsing.specs.Edit.{IsEditOf, edited};
 ghost use Rattle.ras_reparsing.specs.Reparse.{IsIncremental, IsReparse};
 ghost use Rattle.ras_typed_parse.specs.AllErrors.{error_line, debug_dump_of};
@@ -11,7 +12,7 @@ ghost use Rattle.ras_typed_parse.specs.AllErrors.{error_line, debug_dump_of};
 use crate::parse::Parse;
 use ras_front_end::{Edition, FrontEnd, ParseError, SyntaxError};
 use ras_node::AstNode;
-use ras_reparsing::{incremental_reparse, reparse_text};
+use ras_reparsing::{full_reparse, incremental_reparse, reparse_text};
 use std::alloc::{AllocError, Global};
 use std::fmt::Write;
 use text_size::TextRange;
@@ -69,7 +70,31 @@ impl<T: FileView> Parse<T> {
         ensures refused { IfErr result (λ e. (e ≡ TooLong) ↔ (2 ^ 32 ≤ length (edited (text self.now.tree) (record { delete = delete; insert = insert.now })))) }
     {
         let new = reparse_text(alloc, self.parsed(), front, delete, insert, edition)?;
-        Ok(Parse::of(new))
+        Ok(Parse::meant(new))
+    }
+
+    /// The parse after an edit, where all of the new text is read anew: what [`Parse::reparse`] answers where
+    /// [`Parse::incremental_reparse`] answers `None`. The old parse stays as it was.
+    ///
+    /// The range lies in the text, on character boundaries. `TooLong` exactly where the new text is longer than
+    /// 4,294,967,295 bytes; that is looked at first.
+    pub fn full_reparse<F: FrontEnd>(
+        &self,
+        alloc: Global,
+        front: &F,
+        delete: TextRange,
+        insert: &str,
+        edition: Edition,
+    ) -> Result<Parse<T>, ParseError>
+        requires { IsEditOf (text self.now.tree) (record { delete = delete; insert = insert.now }) }
+        ensures answer { IfOk result (IsParseOf (edited (text self.now.tree) (record { delete = delete; insert = insert.now })) ((F.answers front.now).parsed SourceFile edition (edited (text self.now.tree) (record { delete = delete; insert = insert.now })))) }
+        ensures same_text { IfOk result (λ p. text p.tree ≡ edited (text self.now.tree) (record { delete = delete; insert = insert.now })) }
+        ensures in_text { IfOk result ErrorsLieIn }
+        ensures accepted { OnOk result (length (edited (text self.now.tree) (record { delete = delete; insert = insert.now })) < 2 ^ 32) }
+        ensures refused { IfErr result (λ e. (e ≡ TooLong) ↔ (2 ^ 32 ≤ length (edited (text self.now.tree) (record { delete = delete; insert = insert.now })))) }
+    {
+        let new = full_reparse(alloc, self.parsed(), front, delete, insert, edition)?;
+        Ok(Parse::meant(new))
     }
 
     /// The parse after an edit, where one token or one block is read anew, and the range in the old text that was replaced;
@@ -93,7 +118,7 @@ impl<T: FileView> Parse<T> {
         ensures refused { IfErr result (λ e. (e ≡ TooLong) ↔ (2 ^ 32 ≤ length (edited (text self.now.tree) (record { delete = delete; insert = insert.now })))) }
     {
         match incremental_reparse(alloc, self.parsed(), front, delete, insert, edition)? {
-            Some((new, range)) => Ok(Some((Parse::of(new), range))),
+            Some((new, range)) => Ok(Some((Parse::meant(new), range))),
             None => Ok(None),
         }
     }

@@ -37,8 +37,8 @@ impl<T> Model for Parse<T> {
 }
 
 impl<T> Parse<T> {
-    /// The parse as one whose root is meant to be a `T`.
-    pub fn of(parsed: ras_parsing::Parse) -> Parse<T>
+    // The parse as one whose root is meant to be a `T`.
+    pub(crate) fn meant(parsed: ras_parsing::Parse) -> Parse<T>
         ensures { result ≡ parsed }
     {
         Parse {
@@ -79,7 +79,7 @@ impl<T> Parse<T> {
         ensures { result ≡ self }
     {
         let Parse { parsed, view: _ } = self;
-        Parse::of(parsed)
+        Parse::meant(parsed)
     }
 }
 
@@ -117,6 +117,13 @@ impl<T: AstNode> Parse<T> {
 }
 
 impl Parse<SyntaxNode> {
+    /// A parse as one whose root may be any node.
+    pub fn of(parsed: ras_parsing::Parse) -> Parse<SyntaxNode>
+        ensures { result ≡ parsed }
+    {
+        Parse::meant(parsed)
+    }
+
     /// The same parse, whose root is meant to be an `N`; `None` where it is of another kind, and then the parse is gone.
     pub fn cast<N: AstNode>(self) -> Option<Parse<N>>
         ensures { result ≡ (if N.casts (kind_of self.tree) then Some self else None) }
@@ -125,7 +132,7 @@ impl Parse<SyntaxNode> {
             return None;
         }
         let Parse { parsed, view: _ } = self;
-        Some(Parse::of(parsed))
+        Some(Parse::meant(parsed))
     }
 }
 
@@ -138,7 +145,7 @@ impl<T> Clone for Parse<T> {
 
     fn clone(&self) -> Result<Parse<T>, AllocError> {
         let parsed = self.parsed.clone()?;
-        Ok(Parse::of(parsed))
+        Ok(Parse::meant(parsed))
     }
 }
 
@@ -179,5 +186,5 @@ pub fn read_as<T, F: FrontEnd>(
     ensures refused { IfErr result (λ e. (e ≡ TooLong) ↔ (2 ^ 32 ≤ length text.now)) }
 {
     let parsed = ras_parsing::read(alloc, front, entry, text, edition)?;
-    Ok(Parse::of(parsed))
+    Ok(Parse::meant(parsed))
 }

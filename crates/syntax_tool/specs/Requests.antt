@@ -18,22 +18,21 @@ use Rattle.syntax_tool.specs.Lines.{HasNo, IsCut, IsLine}
 abbrev pub is_digit : ℕ → Bool
 is_digit b = nat_le 48 b && nat_le b 57
 
--- the number that digits go on to, behind those of n; 2^32, at which no range may end, stands for what is greater
+-- the number that digits go on to, behind those of n; 2^64 - 1, which is longer than any text, stands for what is greater
 abbrev pub value_from : ℕ → List ℕ → ℕ
 value_from n [] = n
-value_from n (b ∷ bs) = value_from (min (10 * n + (b - 48)) (2 ^ 32)) bs
+value_from n (b ∷ bs) = value_from (min (10 * n + (b - 48)) (2 ^ 64 - 1)) bs
 
 -- the number that one or more decimal digits write
 abbrev pub number_of : List ℕ → Option ℕ
 number_of bs = if (length bs == 0) || not (list_all is_digit bs) then None else Some (value_from 0 bs)
 
--- the range lies in the text, on character boundaries, and can be told by 32 bits
+-- the range lies in the text, on character boundaries
 pub record IsRange (s : List ℕ) (start end : ℕ) : Type 0 where
   pub forwards : start ≤ end
   pub within : end ≤ length s
   pub start_boundary : IsCharBoundary s start
   pub end_boundary : IsCharBoundary s end
-  pub short : end < 2 ^ 32
 
 -- the first line of an answer
 abbrev pub told : Option Bounds → List ℕ

@@ -16,8 +16,8 @@ use std::alloc::{AllocError, Global};
 use std::fmt::Write;
 use tiny_front::Tiny;
 
-// What stands for every number that is too great.
-const TOO_GREAT: usize = 1 << 32;
+// What stands for every number that is too great: no text is so long.
+const TOO_GREAT: u128 = u64::MAX as u128;
 
 fn is_digit(byte: u8) -> bool
     ensures { result ≡ is_digit byte }
@@ -45,25 +45,21 @@ fn number(text: &str) -> Option<usize>
 fn value(digits: &[u8]) -> usize
     ensures { result ≡ value_from 0 digits.now }
 {
-    let mut value: usize = 0;
+    let mut value: u128 = 0;
     for digit in digits {
-        value = (10 * value + (*digit as usize).saturating_sub(48)).min(TOO_GREAT);
+        value = (10 * value + (*digit as u128).saturating_sub(48)).min(TOO_GREAT);
     }
-    value
+    value as usize
 }
 
-// The range, where it lies in the text, on character boundaries.
-fn range_in(text: &str, start: usize, end: usize) -> Option<TextRange>
-    ensures exact { IsSome result ↔ IsRange text.now start end }
-    ensures is { IfSome result (λ r. r ≡ record { start = start; end = end }) }
+// The range lies in the text, on character boundaries.
+fn is_range(text: &str, start: usize, end: usize) -> bool
+    ensures { IsTrue result ↔ IsRange text.now start end }
 {
-    if start > end || end > text.len() || end > u32::MAX as usize {
-        return None;
-    }
-    if !text.is_char_boundary(start) || !text.is_char_boundary(end) {
-        return None;
-    }
-    Some(TextRange::new(TextSize::new(start as u32), TextSize::new(end as u32)))
+    start <= end
+        && end <= text.len()
+        && text.is_char_boundary(start)
+        && text.is_char_boundary(end)
 }
 
 // The first line, and the dump.
@@ -99,7 +95,7 @@ fn edit_parse(
     match old.incremental_reparse(alloc, &Tiny, delete, insert, Edition::CURRENT)? {
         Some((new, range)) => Ok((Some(range), new)),
         None => {
-            let new = old.reparse(alloc, &Tiny, delete, insert, Edition::CURRENT)?;
+            let new = old.full_reparse(alloc, &Tiny, delete, insert, Edition::CURRENT)?;
             Ok((None, new))
         }
     }
@@ -133,11 +129,11 @@ fn range_answer(
         (λ out. AnswersRange text.now start end insert.now (Ok (string_bytes out)))
         (λ e. (e ≡ Refusal.Memory) ⊎ AnswersRange text.now start end insert.now (Err e)) }
 {
-    let delete = match range_in(text, start, end) {
-        Some(delete) => delete,
-        None => return Err(Refusal::BadRange),
-    };
+    if !is_range(text, start, end) {
+        return Err(Refusal::BadRange);
+    }
     let old = SourceFile::parse(alloc, text, &Tiny, Edition::CURRENT)?;
+    let delete = TextRange::new(TextSize::new(start as u32), TextSize::new(end as u32));
     edit_answer(alloc, &old, delete, insert)
 }
 
