@@ -4,5 +4,4 @@ pub mod LineLemmas
 pub mod ReadLemmas
 pub mod OutputLemmas
 pub mod DraftLemmas
-pub mod Rereadings
 pub mod Asked
