@@ -257,7 +257,9 @@ fn edited_text(
 {
     let from = (delete.start().raw() - start.raw()) as usize;
     let to = (delete.end().raw() - start.raw()) as usize;
-    let room = from.saturating_add(insert.len()).saturating_add(piece.len() - to);
+    let room = from
+        .saturating_add(insert.len())
+        .saturating_add(piece.len() - to);
     let mut edited = String::with_capacity(alloc, room)?;
     edited.push_str(&piece[..from])?;
     edited.push_str(insert)?;

@@ -56,10 +56,7 @@ fn value(digits: &[u8]) -> usize
 fn is_range(text: &str, start: usize, end: usize) -> bool
     ensures { IsTrue result ↔ IsRange text.now start end }
 {
-    start <= end
-        && end <= text.len()
-        && text.is_char_boundary(start)
-        && text.is_char_boundary(end)
+    start <= end && end <= text.len() && text.is_char_boundary(start) && text.is_char_boundary(end)
 }
 
 // The first line, and the dump.
