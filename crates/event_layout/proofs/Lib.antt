@@ -1,0 +1,5 @@
+pub mod Moves
+pub mod Cutting
+pub mod Keeping
+pub mod Laying
+pub mod Kept

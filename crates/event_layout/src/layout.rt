@@ -1,0 +1,484 @@
+//! The walk over the events.
+ghost use Rattle.std.specs.Prelude.{position, nat_eq, ◌≡◌, ◌-◌, ◌≤◌, ◌<◌, ◌^◌, ◌++◌, ◌∷◌, [], OnOk, IfOk, All, length, slice_get, option_map};
+ghost use Rattle.ras_front_end.specs.Reading.{front_step, front_steps};
+ghost use Rattle.token_layout.specs.Laid.{IsCut, Laid};
+ghost use Rattle.event_layout.specs.Layout.{laying_of, given_of, kind_of_part, len_of_part, cut_at, is_node_of, is_node_at, added, leaf_of, pass_of, pass_all_of, pass_trivia_of, join_of, joined_len, piece_of, enter_of, exit_of, exit_all_of, begin_of, begin_at_of, fault_of, obey_of, advance_of, finish_of, root_of, outermost_of, moves, moves_of, start_of, laid_with, laid_of};
+
+use crate::starts::{Starts, find_starts};
+use crate::trivia::{behind, first, later, lead, outside, part};
+use grammar_machine::{Event, Part};
+use ras_front_end::Step;
+use std::alloc::{AllocError, Global};
+use syntax_kind::SyntaxKind;
+use text_size::TextSize;
+use token_layout::Token;
+
+/// A parser's error.
+#[derive(Clone, Copy, Debug, PartialEq, Eq)]
+pub struct Fault {
+    /// The number of its message.
+    pub message: u16,
+    /// Where it stands in the text, in bytes.
+    pub position: TextSize,
+    /// How many of the lexer's tokens stand behind it. White space and comments before the next token may be among them.
+    pub left: usize,
+}
+
+/// A tree, as steps, and the parser's errors.
+#[derive(Drop)]
+pub struct LaidOut {
+    /// The steps of one node over the whole text.
+    pub steps: Vec<Step>,
+    /// The errors, in order.
+    pub faults: Vec<Fault>,
+}
+
+// What stays the same.
+#[derive(Drop)]
+struct Plan<'a> {
+    bytes: &'a [u8],
+    events: &'a [Event],
+    attaching: &'a [SyntaxKind],
+    // the event of the root's node
+    root: usize,
+    starts: Starts,
+}
+
+#[derive(Drop)]
+struct Layout<'a> {
+    // the number of the next event
+    next: usize,
+    // the node that is entered before it; as in `Starts`
+    entering: u32,
+    // the tokens that are left, and how many bytes of the first of them are in the tree
+    rest: &'a [Token],
+    cut: TextSize,
+    // how many bytes are in the tree
+    position: TextSize,
+    // how many nodes are open in the root
+    depth: usize,
+    steps: Vec<Step>,
+    faults: Vec<Fault>,
+}
+
+fn event_at(events: &[Event], i: usize) -> Option<Event>
+    ensures { result ≡ slice_get events.now i }
+{
+    events.get(i).copied()
+}
+
+fn less(len: TextSize, cut: TextSize) -> TextSize
+    ensures { result ≡ len - cut }
+{
+    TextSize::new(len.raw().saturating_sub(cut.raw()))
+}
+
+fn kind_of(part: Part) -> SyntaxKind
+    ensures { result ≡ kind_of_part part }
+{
+    match part {
+        Part::Whole => SyntaxKind::INT_NUMBER,
+        Part::Dot => SyntaxKind::DOT,
+        Part::Fraction => SyntaxKind::INT_NUMBER,
+    }
+}
+
+fn dot_in(text: &[u8]) -> Option<usize>
+    ensures { result ≡ position (λ b. nat_eq b 46) text.now }
+{
+    text.iter().position(|byte| *byte == b'.')
+}
+
+// How many bytes a part has of a number that has so many before its dot.
+fn len_of(part: Part, dot: usize) -> TextSize
+    ensures { result ≡ len_of_part part dot }
+{
+    let dot = TextSize::new(u32::try_from(dot).unwrap_or(u32::MAX));
+    match part {
+        Part::Whole => dot,
+        Part::Dot => later(dot, TextSize::new(1)),
+        Part::Fraction => TextSize::new(0),
+    }
+}
+
+fn is_node(event: Event) -> bool
+    ensures { result ≡ is_node_of event }
+{
+    matches!(event, Event::Node { .. })
+}
+
+// The bytes of a token whose first part has so many, and which goes on with these.
+#[tactic(auto, unfolding(crate::specs::Layout::joined_len))]
+fn joined_len(first: TextSize, tokens: &[Token]) -> TextSize
+    ensures { result ≡ joined_len first tokens.now }
+{
+    let mut len = first;
+    for token in tokens {
+        len = later(len, token.len);
+    }
+    len
+}
+
+fn is_node_at(events: &[Event], i: usize) -> bool
+    ensures { result ≡ is_node_at (slice_get events.now i) }
+{
+    match event_at(events, i) {
+        None => false,
+        Some(event) => is_node(event),
+    }
+}
+
+impl<'a> Layout<'a> {
+    fn new(
+        alloc: Global,
+        root: SyntaxKind,
+        plan: &Plan,
+        tokens: &'a [Token],
+    ) -> Result<Layout<'a>, AllocError>
+        ensures { IfOk result (λ l. laying_of l ≡ start_of root (given_of plan.now) tokens.now) }
+    {
+        let room = tokens
+            .len()
+            .saturating_add(plan.events.len())
+            .saturating_add(2);
+        let mut steps = Vec::with_capacity(alloc, room)?;
+        steps.push(Step::Enter(root))?;
+        Ok(Layout {
+            next: 0,
+            entering: plan.starts.last_at(0),
+            rest: tokens,
+            cut: TextSize::new(0),
+            position: TextSize::new(0),
+            depth: 0,
+            steps,
+            faults: Vec::new(alloc),
+        })
+    }
+
+    #[tactic(auto, using(token_layout::proofs::Push::front_steps_push))]
+    fn add(&mut self, step: Step) -> Result<(), AllocError>
+        ensures { OnOk result (laying_of self.new ≡ added (front_step step) (laying_of self.old)) }
+    {
+        self.steps.push(step)?;
+        Ok(())
+    }
+
+    fn leaf(&mut self, kind: SyntaxKind, len: TextSize) -> Result<(), AllocError>
+        ensures { OnOk result (laying_of self.new ≡ leaf_of kind len (laying_of self.old)) }
+    {
+        self.add(Step::Token(kind, len))?;
+        self.position = later(self.position, len);
+        Ok(())
+    }
+
+    // One token of the lexer's.
+    fn pass(&mut self) -> Result<(), AllocError>
+        ensures { OnOk result (laying_of self.new ≡ pass_of (laying_of self.old)) }
+    {
+        match self.rest {
+            [] => Ok(()),
+            [token, rest @ ..] => {
+                let len = less(token.len, self.cut);
+                let kind = token.kind;
+                self.rest = rest;
+                self.cut = TextSize::new(0);
+                self.leaf(kind, len)
+            }
+        }
+    }
+
+    #[tactic(auto, using(crate::proofs::Moves::pass_all_none, crate::proofs::Moves::pass_all_more))]
+    fn pass_all(&mut self, count: usize) -> Result<(), AllocError>
+        ensures { OnOk result (laying_of self.new ≡ pass_all_of count (laying_of self.old)) }
+    {
+        for _i in 0..count {
+            self.pass()?;
+        }
+        Ok(())
+    }
+
+    fn pass_trivia(&mut self) -> Result<(), AllocError>
+        ensures { OnOk result (laying_of self.new ≡ pass_trivia_of (laying_of self.old)) }
+    {
+        let count = lead(self.rest);
+        self.pass_all(count)
+    }
+
+    // A token that is made of so many more than the first.
+    fn join(&mut self, kind: SyntaxKind, more: u8) -> Result<(), AllocError>
+        ensures { OnOk result (laying_of self.new ≡ join_of kind more (laying_of self.old)) }
+    {
+        match self.rest {
+            [] => Ok(()),
+            [token, rest @ ..] => {
+                let more = more as usize;
+                let len = joined_len(less(token.len, self.cut), first(rest, more));
+                self.rest = behind(rest, more);
+                self.cut = TextSize::new(0);
+                self.leaf(kind, len)
+            }
+        }
+    }
+
+    // The rest of the token.
+    fn last_piece(&mut self, part: Part) -> Result<(), AllocError>
+        ensures { OnOk result (laying_of self.new ≡ join_of (kind_of_part part) 0 (laying_of self.old)) }
+    {
+        self.join(kind_of(part), 0)
+    }
+
+    fn cut_at(&mut self, piece: Part, dot: Option<usize>) -> Result<(), AllocError>
+        ensures { OnOk result (laying_of self.new ≡ cut_at piece dot (laying_of self.old)) }
+    {
+        match dot {
+            None => Ok(()),
+            Some(dot) => {
+                let len = len_of(piece, dot);
+                self.cut = later(self.cut, len);
+                self.leaf(kind_of(piece), len)
+            }
+        }
+    }
+
+    // The digits before the dot, or the dot.
+    fn piece(&mut self, bytes: &[u8], piece: Part) -> Result<(), AllocError>
+        ensures { OnOk result (laying_of self.new ≡ piece_of bytes.now piece (laying_of self.old)) }
+    {
+        match self.rest {
+            [] => Ok(()),
+            [token, ..] => {
+                let text = part(bytes, self.position, less(token.len, self.cut));
+                self.cut_at(piece, dot_in(text))
+            }
+        }
+    }
+
+    fn enter(&mut self, kind: SyntaxKind) -> Result<(), AllocError>
+        ensures { OnOk result (laying_of self.new ≡ enter_of kind (laying_of self.old)) }
+    {
+        if self.depth < usize::MAX {
+            self.depth += 1;
+            self.add(Step::Enter(kind))
+        } else {
+            Ok(())
+        }
+    }
+
+    fn exit(&mut self) -> Result<(), AllocError>
+        ensures { OnOk result (laying_of self.new ≡ exit_of (laying_of self.old)) }
+    {
+        if self.depth > 0 {
+            self.depth -= 1;
+            self.add(Step::Exit)
+        } else {
+            Ok(())
+        }
+    }
+
+    #[tactic(auto, using(crate::proofs::Moves::exit_all_none, crate::proofs::Moves::exit_all_more))]
+    fn exit_all(&mut self, count: usize) -> Result<(), AllocError>
+        ensures { OnOk result (laying_of self.new ≡ exit_all_of count (laying_of self.old)) }
+    {
+        for _i in 0..count {
+            self.exit()?;
+        }
+        Ok(())
+    }
+
+    fn begin(&mut self, plan: &Plan, kind: SyntaxKind) -> Result<(), AllocError>
+        ensures { OnOk result (laying_of self.new ≡ begin_of (given_of plan.now) kind (laying_of self.old)) }
+    {
+        let count = lead(self.rest);
+        let outside = outside(
+            plan.bytes,
+            plan.attaching,
+            kind,
+            self.position,
+            self.rest,
+            count,
+        );
+        self.pass_all(outside)?;
+        self.enter(kind)?;
+        self.pass_all(count.saturating_sub(outside))
+    }
+
+    fn begin_at(&mut self, plan: &Plan, event: Option<Event>) -> Result<(), AllocError>
+        ensures { OnOk result (laying_of self.new ≡ begin_at_of (given_of plan.now) event (laying_of self.old)) }
+    {
+        match event {
+            Some(Event::Node { kind, from: _ }) => self.begin(plan, kind),
+            _ => Ok(()),
+        }
+    }
+
+    fn fault(&mut self, message: u16) -> Result<(), AllocError>
+        ensures { OnOk result (laying_of self.new ≡ fault_of message (laying_of self.old)) }
+    {
+        self.faults.push(Fault {
+            message,
+            position: self.position,
+            left: self.rest.len(),
+        })?;
+        Ok(())
+    }
+
+    fn obey(&mut self, plan: &Plan, event: Event, number: usize) -> Result<(), AllocError>
+        ensures { OnOk result (laying_of self.new ≡ obey_of (given_of plan.now) event number (laying_of self.old)) }
+    {
+        match event {
+            Event::Token { kind, signs } => {
+                self.pass_trivia()?;
+                self.join(kind, signs.saturating_sub(1))
+            }
+            Event::Piece { part, last } => {
+                self.pass_trivia()?;
+                if last {
+                    self.last_piece(part)
+                } else {
+                    self.piece(plan.bytes, part)
+                }
+            }
+            Event::Node { kind: _, from: _ } => if number == plan.root {
+                Ok(())
+            } else {
+                self.exit()
+            },
+            Event::Error { message } => self.fault(message),
+        }
+    }
+
+    #[tactic(auto, unfolding(crate::specs::Layout::advance_of))]
+    fn advance(&mut self, plan: &Plan) -> Result<(), AllocError>
+        ensures { OnOk result (laying_of self.new ≡ advance_of (given_of plan.now) (laying_of self.old)) }
+    {
+        if self.entering > 0 {
+            let number = self.entering as usize - 1;
+            self.entering = plan.starts.before(number);
+            self.begin_at(plan, event_at(plan.events, number))
+        } else {
+            let number = self.next;
+            self.next = number.saturating_add(1);
+            self.entering = plan.starts.last_at(self.next);
+            match event_at(plan.events, number) {
+                None => Ok(()),
+                Some(event) => self.obey(plan, event, number),
+            }
+        }
+    }
+
+    // What is left behind the last event.
+    fn finish(&mut self) -> Result<(), AllocError>
+        ensures { OnOk result (laying_of self.new ≡ finish_of (laying_of self.old)) }
+    {
+        let count = self.rest.len();
+        self.pass_all(count)?;
+        let open = self.depth;
+        self.exit_all(open)?;
+        self.add(Step::Exit)
+    }
+}
+
+#[tactic(auto, using(crate::proofs::Moves::moves_none, crate::proofs::Moves::moves_more))]
+fn walked<'a>(
+    alloc: Global,
+    root: SyntaxKind,
+    plan: &Plan,
+    tokens: &'a [Token],
+) -> Result<Layout<'a>, AllocError>
+    ensures { IfOk result (λ l. laying_of l ≡ moves (moves_of (length plan.now.events.now)) (given_of plan.now) (start_of root (given_of plan.now) tokens.now)) }
+{
+    let mut layout = Layout::new(alloc, root, plan, tokens)?;
+    let moves = plan.events.len().saturating_mul(2);
+    for _i in 0..moves {
+        layout.advance(plan)?;
+    }
+    Ok(layout)
+}
+
+fn walk<'a>(
+    alloc: Global,
+    root: SyntaxKind,
+    plan: &Plan,
+    tokens: &'a [Token],
+) -> Result<Layout<'a>, AllocError>
+    ensures { IfOk result (λ l. laying_of l ≡ laid_with root (given_of plan.now) tokens.now) }
+{
+    let mut layout = walked(alloc, root, plan, tokens)?;
+    layout.finish()?;
+    Ok(layout)
+}
+
+// The number of the event of the last node: of the outermost, where a parser ends with it.
+fn root_of(events: &[Event]) -> usize
+    ensures { result ≡ root_of events.now }
+{
+    let mut left = events.len();
+    while left > 0 {
+        if is_node_at(events, left - 1) {
+            return left - 1;
+        }
+        left -= 1;
+    }
+    events.len()
+}
+
+/// The kind of the node that ends last: the outermost, of a parser that makes one node of all.
+pub fn outermost(events: &[Event]) -> Option<SyntaxKind>
+    ensures { result ≡ outermost_of events.now }
+{
+    match event_at(events, root_of(events)) {
+        Some(Event::Node { kind, from: _ }) => Some(kind),
+        _ => None,
+    }
+}
+
+fn lay(
+    alloc: Global,
+    root: SyntaxKind,
+    attaching: &[SyntaxKind],
+    bytes: &[u8],
+    tokens: &[Token],
+    events: &[Event],
+) -> Result<LaidOut, AllocError>
+    ensures steps { IfOk result (λ l. front_steps l.steps.items ≡ (laid_of root attaching.now bytes.now tokens.now events.now).steps) }
+    ensures faults { IfOk result (λ l. l.faults.items ≡ (laid_of root attaching.now bytes.now tokens.now events.now).faults) }
+{
+    let last = root_of(events);
+    let plan = Plan {
+        bytes,
+        events,
+        attaching,
+        root: last,
+        starts: find_starts(alloc, last, events)?,
+    };
+    let layout = walk(alloc, root, &plan, tokens)?;
+    Ok(LaidOut {
+        steps: layout.steps,
+        faults: layout.faults,
+    })
+}
+
+/// The steps of one node of the kind `root` over all tokens, and in it of the nodes of the events.
+///
+/// The node that ends last is the root, whatever its kind; `root` stands in its place. White space and comments go out as late as
+/// they can: before the next token, or before a node that is entered, into the node around it. Into a node of one of the kinds
+/// `attaching` go the comments before it, from the last blank line on, and what white space follows them.
+///
+/// Where nodes don't nest, where there are more tokens than the events take, or fewer, the steps still build one tree over the whole
+/// text. It takes time and memory linear in the tokens and events, if `attaching` has few kinds.
+pub fn lay_out(
+    alloc: Global,
+    root: SyntaxKind,
+    attaching: &[SyntaxKind],
+    text: &str,
+    tokens: &[Token],
+    events: &[Event],
+) -> Result<LaidOut, AllocError>
+    ensures steps { IfOk result (λ l. front_steps l.steps.items ≡ (laid_of root attaching.now text.now tokens.now events.now).steps) }
+    ensures faults { IfOk result (λ l. l.faults.items ≡ (laid_of root attaching.now text.now tokens.now events.now).faults) }
+    ensures one_tree { IfOk result (λ l. length text.now < 2 ^ 32 → IsCut tokens.now text.now → Laid root text.now (front_steps l.steps.items)) }
+    ensures in_text { IfOk result (λ l. length text.now < 2 ^ 32 → IsCut tokens.now text.now → All (λ f. f.position ≤ length text.now) l.faults.items) }
+{
+    let laid = lay(alloc, root, attaching, text.as_bytes(), tokens, events)?;
+    Ok(laid)
+}

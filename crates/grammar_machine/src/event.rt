@@ -1,0 +1,27 @@
+//! What the machine makes of the tokens: a flat list of events, from which a tree can be laid out in one pass.
+
+use syntax_kind::SyntaxKind;
+
+/// A part of a number with a dot, as the `1.2` of `pair.1.2`.
+#[derive(Clone, Copy, Debug, PartialEq, Eq)]
+pub enum Part {
+    /// The digits before the dot.
+    Whole,
+    /// The dot.
+    Dot,
+    /// What follows the dot.
+    Fraction,
+}
+
+/// What the machine made, in order.
+#[derive(Clone, Copy, Debug, PartialEq, Eq)]
+pub enum Event {
+    /// A token of this kind, joined from the next `signs` tokens that are no trivia (1 to 3).
+    Token { kind: SyntaxKind, signs: u8 },
+    /// A part of the next token that is no trivia: a number with a dot. `last`: the token is done with it.
+    Piece { part: Part, last: bool },
+    /// A node over all events from number `from` on (saturates at `u32::MAX`).
+    Node { kind: SyntaxKind, from: u32 },
+    /// The parser's error of this number, before the next token.
+    Error { message: u16 },
+}

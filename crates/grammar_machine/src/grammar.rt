@@ -1,0 +1,219 @@
+//! What a grammar is made of, and how the machine sees the tokens.
+//!
+//! Kinds of tokens are small numbers here, so that a set of them is a row of 256 bits: 0 is no kind, and 1 is the kind of
+//! what stands behind the last token.
+
+use crate::event::Part;
+use syntax_kind::SyntaxKind;
+
+/// How the machine sees a token that is no trivia: the small numbers of kinds, 0 where a view has none.
+///
+/// Punctuation comes as single signs. What two or three of them make together, where nothing stands between, is in the
+/// views `two` and `three` of the first.
+#[derive(Clone, Copy, Debug, PartialEq, Eq)]
+pub struct Sight {
+    /// The token's own kind.
+    pub one: u8,
+    /// The kind of what this token and the next make together.
+    pub two: u8,
+    /// The kind of what this token and the next two make together.
+    pub three: u8,
+    /// A finer kind: the contextual keyword that an identifier spells, or the shape of a number with a dot.
+    pub word: u8,
+}
+
+/// One of the four ways to see a token.
+#[derive(Clone, Copy, Debug, PartialEq, Eq)]
+pub enum View {
+    /// By its own kind.
+    One,
+    /// Together with the next token.
+    Two,
+    /// Together with the next two tokens.
+    Three,
+    /// By its finer kind.
+    Word,
+}
+
+/// What a rule may ask beside the kind of a single token.
+#[derive(Clone, Copy, Debug, PartialEq, Eq)]
+pub enum Test {
+    /// Whether the token so many tokens ahead has this kind in that view.
+    Sees { view: View, ahead: u8, kind: u8 },
+    /// Whether the token so many tokens ahead is in the set by its finer kind.
+    WordIn { ahead: u8, set: u8 },
+    /// Whether the token that was taken last has this kind.
+    After { kind: u8 },
+    /// Whether one of these flags is set.
+    Flag { mask: u8 },
+    /// Whether this was the last answer.
+    Answered { answer: u8 },
+}
+
+/// The level that a called rule gets: how tightly an operator has to bind to belong to it.
+#[derive(Clone, Copy, Debug, PartialEq, Eq)]
+pub enum Level {
+    /// This one.
+    Own { level: u8 },
+    /// The caller's.
+    Same,
+    /// The one that the last operator gives its right operand.
+    Operand,
+}
+
+/// One operation. A target is the number of an operation, and so is a rule: that of its first one.
+///
+/// Where nothing else is said the machine goes on with the next operation.
+#[derive(Clone, Copy, Debug, PartialEq, Eq)]
+pub enum Op {
+    /// Goes to the target if the token so many tokens ahead has this kind.
+    IfKind {
+        ahead: u8,
+        kind: u8,
+        target: u16,
+    },
+    /// Goes to the target if the token so many tokens ahead has another kind.
+    UnlessKind {
+        ahead: u8,
+        kind: u8,
+        target: u16,
+    },
+    /// Goes to the target if the token so many tokens ahead is in the set.
+    IfIn {
+        ahead: u8,
+        set: u8,
+        target: u16,
+    },
+    /// Goes to the target if the token so many tokens ahead is not in the set.
+    UnlessIn {
+        ahead: u8,
+        set: u8,
+        target: u16,
+    },
+    /// Goes to the target if the test holds.
+    If {
+        test: Test,
+        target: u16,
+    },
+    /// Goes to the target if the test does not hold.
+    Unless {
+        test: Test,
+        target: u16,
+    },
+    /// Goes to the target that stands at the number of the next token's kind in the row of targets that begins there.
+    Switch {
+        row: u16,
+    },
+    /// Goes to the target.
+    Jump {
+        target: u16,
+    },
+    /// Takes the next token, if there is one.
+    Take,
+    /// Takes the next token by its kind in the view, and with it those that it is seen together with.
+    TakeAs {
+        view: View,
+    },
+    /// Takes the longest operator that begins at the next token.
+    TakeOperator,
+    /// Takes the next token if it has this kind, else makes the error of this number.
+    Expect {
+        kind: u8,
+        message: u16,
+    },
+    /// Takes a part of the next token, which is done with if it is the last part.
+    Piece {
+        part: Part,
+        last: bool,
+    },
+    /// Begins a node: marks where it starts.
+    Open,
+    /// Forgets the last mark.
+    Drop,
+    /// Makes a node of all since the last mark, and keeps the mark.
+    Wrap {
+        kind: SyntaxKind,
+    },
+    /// Makes a node of all since the last mark, and forgets the mark.
+    Close {
+        kind: SyntaxKind,
+    },
+    /// Takes the next token, if there is one, and makes a node of it alone.
+    Leaf {
+        kind: SyntaxKind,
+    },
+    /// Has the node that ended just now start at the last mark, if that is earlier.
+    Extend,
+    /// Makes the error of this number.
+    Error {
+        message: u16,
+    },
+    /// Calls a rule, at level 0 and with no flags.
+    Call {
+        target: u16,
+    },
+    /// Calls a rule as `Call` does, and marks a node's start.
+    Enter {
+        target: u16,
+    },
+    /// Calls a rule with a level, with those of the flags that are kept, and with further ones.
+    CallWith {
+        target: u16,
+        level: Level,
+        keep: u8,
+        add: u8,
+    },
+    /// Goes over to a rule, called as by `CallWith`, which then returns to this rule's caller.
+    Become {
+        target: u16,
+        level: Level,
+        keep: u8,
+        add: u8,
+    },
+    /// Returns behind the last call, with the level and the flags from before it. With no call to return from the machine stops.
+    Return,
+    /// Forgets the last mark, and returns.
+    Leave,
+    /// Answers, and returns.
+    Reply {
+        answer: u8,
+    },
+    /// Answers, which a test may ask until the next answer.
+    Answer {
+        answer: u8,
+    },
+    /// Keeps these flags, and sets further ones.
+    Flags {
+        keep: u8,
+        add: u8,
+    },
+    /// Goes to the target unless an operator of at least the rule's level begins at the next token. If one does, the level of
+    /// its right operand is noted.
+    Operator {
+        target: u16,
+    },
+}
+
+/// How tightly an operator binds.
+#[derive(Clone, Copy, Debug, PartialEq, Eq)]
+pub struct Power {
+    /// Its level. At 0 it is no operator, and it only hides the shorter one that it begins with, as `=>` hides `=`.
+    pub level: u8,
+    /// The level of its right operand.
+    pub right: u8,
+}
+
+/// A grammar as data.
+#[derive(Clone, Copy, Debug)]
+pub struct Grammar<'a> {
+    /// The operations.
+    pub ops: &'a [Op],
+    /// The sets of kinds, four words of 64 bits each. The bit of kind k of set s is bit k % 64 of word 4 s + k / 64.
+    pub sets: &'a [u64],
+    /// The rows of targets for `Switch`, one behind the other.
+    pub rows: &'a [u16],
+    /// How the operators bind, by the number of the kind.
+    pub powers: &'a [Option<Power>],
+    /// The kinds, by their numbers.
+    pub kinds: &'a [SyntaxKind],
+}

@@ -1,0 +1,16 @@
+//! A parser that is data: a machine without recursion that runs a grammar's operations over the tokens of a text.
+//!
+//! A [`Grammar`] is a table of operations, [`Op`], compiled from the rules of a grammar, with tables of sets, operators and kinds
+//! beside it. The machine sees each token as a [`Sight`], and makes a list of [`Event`]s. A node's event comes when the node ends,
+//! and names the event where it began, so a node may be put around what was made before it was known.
+//!
+//! [`run`] ends on every grammar and every input, in time and memory linear in the tokens.
+#![tactic(auto)]
+
+mod event;
+mod grammar;
+mod machine;
+
+pub use event::{Event, Part};
+pub use grammar::{Grammar, Level, Op, Power, Sight, Test, View};
+pub use machine::run;

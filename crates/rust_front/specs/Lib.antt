@@ -1,0 +1,5 @@
+pub mod Pieces
+pub mod Roots
+pub mod Messages
+pub mod Front
+pub mod Laws

@@ -1,0 +1,24 @@
+-- The rule and the root of a text.
+use Rattle.std.specs.Prelude.{if◌then◌else◌, Option, Some, None}
+use Rattle.syntax_kind.specs.declared.syntax_kind.SyntaxKind.{SyntaxKind}
+use Rattle.syntax_kind.specs.declared.syntax_kind.SyntaxKind.TheVariants.{Token, Node}
+use Rattle.syntax_kind.specs.declared.syntax_kind.token_kind.TokenKind.TheVariants as token
+use Rattle.syntax_kind.specs.declared.syntax_kind.node_kind.NodeKind.TheVariants as node
+use Rattle.ras_front_end.specs.declared.edition.Entry.{Entry}
+use Rattle.ras_front_end.specs.declared.edition.Entry.TheVariants.{SourceFile, Expr}
+use Rattle.ras_node.specs.Sets.{is_expr}
+use Rattle.rust_grammar.specs.declared.tables.rules.Rule.{Rule}
+use Rattle.rust_grammar.specs.declared.tables.rules.Rule.TheVariants as rule
+
+abbrev pub entry_rule_of : Entry → Rule
+entry_rule_of SourceFile = rule.SourceFile
+entry_rule_of Expr = rule.WholeExpr
+
+abbrev pub expr_or_error_of : Option SyntaxKind → SyntaxKind
+expr_or_error_of None = Token token.ERROR
+expr_or_error_of (Some k) = if is_expr k then k else Token token.ERROR
+
+-- the root of an expression is its outermost node, where that is an expression
+abbrev pub root_kind_of : Entry → Option SyntaxKind → SyntaxKind
+root_kind_of SourceFile top = Node node.SOURCE_FILE
+root_kind_of Expr top = expr_or_error_of top

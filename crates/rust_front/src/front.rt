@@ -1,0 +1,219 @@
+//! The front end.
+ghost use Rattle.std.specs.Prelude.{◌≡◌, ◌<◌, ◌^◌, nat_lt, IfOk, option_map, length};
+ghost use Rattle.ras_front_end.specs.Reading.{reading_of, single_of};
+ghost use Rattle.token_layout.specs.Laid.{IsCut};
+ghost use Rattle.rust_lexer.specs.Lexing.{tokens_of, errors_of};
+ghost use Rattle.rust_grammar.specs.Seeing.{sights_of};
+ghost use Rattle.rust_front.specs.Front.{kinds_of, made_with, reading_with, nothing_read, whole_of, whole_piece_of, parsed_of, piece_of, single_of_text};
+
+use crate::message::{lexer_errors, lexer_message};
+use crate::piece::{reparser_of, rule_by};
+use crate::report::reported;
+use crate::root::{attaching, root_kind, rule_of_entry};
+use event_layout::{lay_out, outermost};
+use grammar_machine::{Event, run};
+use ras_front_end::{Edition, Entry, FrontEnd, Output, Reparser};
+use rust_grammar::{Rule, grammar, rule_of, sights};
+use rust_lexer::{Lexed, is_strict_keyword, keyword, lex, single_token};
+use std::alloc::{AllocError, Global};
+use syntax_kind::SyntaxKind;
+use token_layout::Token;
+
+/// The front end for Rust, of the editions 2015 to 2024.
+///
+/// Its trees, its messages and their positions are those of rust-analyzer's parser. Whatever a text is, its reading keeps the law of
+/// [`FrontEnd`]. It takes time and memory linear in the text, and no recursion.
+#[derive(Clone, Copy, Debug, Drop)]
+pub struct Rust;
+
+fn kinds(alloc: Global, tokens: &[Token]) -> Result<Vec<SyntaxKind>, AllocError>
+    ensures { IfOk result (λ v. v.items ≡ kinds_of tokens.now) }
+{
+    let mut kinds = Vec::new(alloc);
+    for token in tokens {
+        kinds.push(token.kind)?;
+    }
+    Ok(kinds)
+}
+
+// What the grammar makes of the tokens.
+fn events(
+    alloc: Global,
+    rule: Rule,
+    text: &str,
+    tokens: &[Token],
+    edition: Edition,
+) -> Result<Vec<Event>, AllocError>
+    ensures { IsCut tokens.now text.now → IfOk result (λ v. v.items ≡ made_with rule (sights_of edition text.now tokens.now)) }
+{
+    let sights = sights(alloc, text, tokens, edition)?;
+    run(alloc, &grammar(), rule_of(rule), &sights)
+}
+
+#[tactic(auto, unfolding(crate::specs::Front::reading_with))]
+fn assemble(
+    alloc: Global,
+    root: SyntaxKind,
+    text: &str,
+    lexed: &Lexed,
+    events: &[Event],
+) -> Result<Output, AllocError>
+    ensures { IfOk result (λ o. reading_of o ≡ reading_with root text.now lexed.now.tokens.items lexed.now.errors.items events.now) }
+{
+    let laid = lay_out(alloc, root, attaching(), text, &lexed.tokens, events)?;
+    let steps = reported(alloc, &lexed.tokens, laid.steps, &laid.faults)?;
+    let errors = lexer_errors(alloc, text, &lexed.errors)?;
+    Ok(Output { steps, errors })
+}
+
+fn is_short(text: &str) -> bool
+    ensures { result ≡ nat_lt (length text.now) (2 ^ 32) }
+{
+    text.len() < 1 << 32
+}
+
+// A text that is too long is not read.
+fn nothing(alloc: Global) -> Output
+    ensures { reading_of result ≡ nothing_read }
+{
+    Output {
+        steps: Vec::new(alloc),
+        errors: Vec::new(alloc),
+    }
+}
+
+fn whole(alloc: Global, entry: Entry, text: &str, edition: Edition) -> Result<Output, AllocError>
+    ensures { length text.now < 2 ^ 32 → IfOk result (λ o. reading_of o ≡ whole_of entry edition text.now) }
+{
+    let lexed = lex(alloc, text, edition)?;
+    let events = events(alloc, rule_of_entry(entry), text, &lexed.tokens, edition)?;
+    let root = root_kind(entry, outermost(&events));
+    let output = assemble(alloc, root, text, &lexed, &events)?;
+    Ok(output)
+}
+
+#[tactic(auto, unfolding(crate::specs::Front::parsed_of))]
+fn parse(alloc: Global, entry: Entry, text: &str, edition: Edition) -> Result<Output, AllocError>
+    ensures { IfOk result (λ o. reading_of o ≡ parsed_of entry edition text.now) }
+{
+    if is_short(text) {
+        whole(alloc, entry, text, edition)
+    } else {
+        Ok(nothing(alloc))
+    }
+}
+
+fn whole_piece(
+    alloc: Global,
+    reparser: Reparser,
+    text: &str,
+    edition: Edition,
+) -> Result<Output, AllocError>
+    ensures { length text.now < 2 ^ 32 → IfOk result (λ o. reading_of o ≡ whole_piece_of reparser edition text.now) }
+{
+    let lexed = lex(alloc, text, edition)?;
+    let events = events(
+        alloc,
+        rule_by(reparser.number),
+        text,
+        &lexed.tokens,
+        edition,
+    )?;
+    let output = assemble(alloc, reparser.kind, text, &lexed, &events)?;
+    Ok(output)
+}
+
+#[tactic(auto, unfolding(crate::specs::Front::piece_of))]
+fn piece(
+    alloc: Global,
+    reparser: Reparser,
+    text: &str,
+    edition: Edition,
+) -> Result<Output, AllocError>
+    ensures { IfOk result (λ o. reading_of o ≡ piece_of reparser edition text.now) }
+{
+    if is_short(text) {
+        whole_piece(alloc, reparser, text, edition)
+    } else {
+        Ok(nothing(alloc))
+    }
+}
+
+fn single(
+    alloc: Global,
+    text: &str,
+    edition: Edition,
+) -> Result<Option<(SyntaxKind, Option<String>)>, AllocError>
+    ensures { IfOk result (λ t. option_map single_of t ≡ single_of_text edition text.now) }
+{
+    match single_token(text, edition) {
+        None => Ok(None),
+        Some((kind, None)) => Ok(Some((kind, None))),
+        Some((kind, Some(problem))) => Ok(Some((kind, Some(lexer_message(alloc, problem, text)?)))),
+    }
+}
+
+impl FrontEnd for Rust {
+    ghost use Rattle.rust_front.specs.Front.{rust_front};
+    ghost use Rattle.rust_front.specs.Laws.{rust_kept};
+
+    ghost answers = { λ _. rust_front };
+
+    ghost kept = { λ _. rust_kept };
+
+    fn lex(
+        &self,
+        alloc: Global,
+        text: &str,
+        edition: Edition,
+    ) -> Result<Vec<SyntaxKind>, AllocError> {
+        let lexed = lex(alloc, text, edition)?;
+        kinds(alloc, &lexed.tokens)
+    }
+
+    fn parse(
+        &self,
+        alloc: Global,
+        entry: Entry,
+        text: &str,
+        edition: Edition,
+    ) -> Result<Output, AllocError> {
+        parse(alloc, entry, text, edition)
+    }
+
+    fn single_token(
+        &self,
+        alloc: Global,
+        text: &str,
+        edition: Edition,
+    ) -> Result<Option<(SyntaxKind, Option<String>)>, AllocError> {
+        single(alloc, text, edition)
+    }
+
+    fn reparser(
+        &self,
+        kind: SyntaxKind,
+        first_child: Option<SyntaxKind>,
+        parent: Option<SyntaxKind>,
+    ) -> Option<Reparser> {
+        reparser_of(kind, first_child, parent)
+    }
+
+    fn parse_piece(
+        &self,
+        alloc: Global,
+        reparser: Reparser,
+        text: &str,
+        edition: Edition,
+    ) -> Result<Output, AllocError> {
+        piece(alloc, reparser, text, edition)
+    }
+
+    fn keyword(&self, text: &str, edition: Edition) -> Option<SyntaxKind> {
+        keyword(text, edition)
+    }
+
+    fn is_strict_keyword(&self, kind: SyntaxKind, edition: Edition) -> bool {
+        is_strict_keyword(kind, edition)
+    }
+}

@@ -1,0 +1,4 @@
+pub mod Messages
+pub mod Rules
+pub mod Seeing
+pub mod Tables

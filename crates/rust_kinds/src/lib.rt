@@ -1,0 +1,22 @@
+//! The kinds of Rust's tokens and nodes for which `SyntaxKind` has no constant, as kinds `SyntaxKind::OTHER(n)` with fixed numbers.
+#![tactic(auto)]
+
+ghost use Rattle.std.specs.Prelude.{◌≡◌, [], MatchOption};
+ghost use Rattle.rust_kinds.specs.Names.{rust_name};
+
+pub mod kinds;
+mod names;
+
+use names::other_name;
+use syntax_kind::SyntaxKind;
+
+/// The name of a kind: the kind's own, and that of this crate's table for a kind `OTHER(n)` that has a constant in [`kinds`];
+/// `None` for another `OTHER(n)`.
+pub fn name_of(kind: SyntaxKind) -> Option<&'static str>
+    ensures { MatchOption result (rust_name kind ≡ []) (λ s. rust_name kind ≡ s.now) }
+{
+    match kind {
+        SyntaxKind::OTHER(number) => other_name(number),
+        _ => kind.name(),
+    }
+}

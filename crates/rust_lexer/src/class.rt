@@ -1,0 +1,231 @@
+//! Classes of bytes and characters, and the longest front of a text that is of one.
+ghost use Rattle.std.specs.Prelude.{◌≡◌, slice_get, drop};
+ghost use Rattle.bstr.specs.Utf8.{decoded};
+ghost use Rattle.rust_lexer.specs.Classes.{is_letter_of, is_digit_of, is_hex_digit_of, is_in_of, is_space_of, is_name_start_of, is_name_continue_of, is_emoji_of, is_wide_of, skip_of, begins_of, begins_digit_of, begins_beyond_of, begins_wide_of, skip_wide_of};
+
+use bstr::decode_utf8;
+use unicode_ident::{is_xid_continue, is_xid_start};
+
+/// A class of bytes.
+#[derive(Clone, Copy)]
+pub enum Class {
+    /// White space in ASCII.
+    Space,
+    /// Space and tab.
+    Blank,
+    /// What goes on in a name: letters, digits and `_`, of ASCII.
+    Name,
+    /// Decimal digits and `_`.
+    Decimal,
+    /// Hexadecimal digits and `_`.
+    Hexadecimal,
+    /// `_`
+    Underscore,
+    /// `#`
+    Hash,
+    /// `-`
+    Dash,
+    /// All but a backslash.
+    InString,
+    /// ASCII but for a backslash and a NUL.
+    InBytes,
+    /// All but a newline.
+    InLine,
+    /// All but a `(`.
+    NoParen,
+}
+
+/// A class of characters.
+#[derive(Clone, Copy)]
+pub enum Wide {
+    /// White space.
+    Space,
+    /// What goes on in a name.
+    Name,
+    /// What goes on in a name with an emoji.
+    Emoji,
+}
+
+/// Whether it is a letter of ASCII.
+#[inline]
+pub fn is_letter(byte: u8) -> bool
+    ensures { result ≡ is_letter_of byte }
+{
+    (b'a' <= byte && byte <= b'z') || (b'A' <= byte && byte <= b'Z')
+}
+
+/// Whether it is a decimal digit.
+#[inline]
+pub fn is_digit(byte: u8) -> bool
+    ensures { result ≡ is_digit_of byte }
+{
+    b'0' <= byte && byte <= b'9'
+}
+
+#[inline]
+fn is_hex_digit(byte: u8) -> bool
+    ensures { result ≡ is_hex_digit_of byte }
+{
+    is_digit(byte) || (b'a' <= byte && byte <= b'f') || (b'A' <= byte && byte <= b'F')
+}
+
+/// Whether the byte is in the class.
+#[inline]
+pub fn is_in(class: Class, byte: u8) -> bool
+    ensures { result ≡ is_in_of class byte }
+{
+    match class {
+        Class::Space => byte == b' ' || (9 <= byte && byte <= 13),
+        Class::Blank => byte == b' ' || byte == b'\t',
+        Class::Name => is_letter(byte) || is_digit(byte) || byte == b'_',
+        Class::Decimal => is_digit(byte) || byte == b'_',
+        Class::Hexadecimal => is_hex_digit(byte) || byte == b'_',
+        Class::Underscore => byte == b'_',
+        Class::Hash => byte == b'#',
+        Class::Dash => byte == b'-',
+        Class::InString => byte != b'\\',
+        Class::InBytes => byte != b'\\' && byte != 0 && byte < 128,
+        Class::InLine => byte != b'\n',
+        Class::NoParen => byte != b'(',
+    }
+}
+
+// White space: the characters with the property Pattern_White_Space.
+fn is_space(c: char) -> bool
+    ensures { result ≡ is_space_of c }
+{
+    c == ' '
+        || ('\t' <= c && c <= '\r')
+        || c == '\u{85}'
+        || c == '\u{200e}'
+        || c == '\u{200f}'
+        || c == '\u{2028}'
+        || c == '\u{2029}'
+}
+
+/// Whether a name may begin with the character.
+pub fn is_name_start(c: char) -> bool
+    ensures { result ≡ is_name_start_of c }
+{
+    c == '_' || is_xid_start(c)
+}
+
+fn is_name_continue(c: char) -> bool
+    ensures { result ≡ is_name_continue_of c }
+{
+    is_xid_continue(c)
+}
+
+/// An emoji that is no ASCII.
+pub fn is_emoji(c: char) -> bool
+    ensures { result ≡ is_emoji_of c }
+{
+    '\u{80}' <= c && ucd_emoji::is_emoji(c)
+}
+
+fn is_wide(class: Wide, c: char) -> bool
+    ensures { result ≡ is_wide_of class c }
+{
+    match class {
+        Wide::Space => is_space(c),
+        Wide::Name => is_name_continue(c),
+        Wide::Emoji => is_name_continue(c) || is_emoji(c) || c == '\u{200d}',
+    }
+}
+
+/// The first byte.
+#[inline]
+pub fn first_byte(bytes: &[u8]) -> Option<u8>
+    ensures { result ≡ slice_get bytes.now 0 }
+{
+    bytes.first().copied()
+}
+
+/// What follows so many bytes.
+#[inline]
+pub fn after(bytes: &[u8], count: usize) -> &[u8]
+    ensures { result.now ≡ drop count bytes.now }
+{
+    match bytes.get(count..) {
+        Some(rest) => rest,
+        None => &[],
+    }
+}
+
+/// What follows the longest front of bytes in the class.
+#[inline]
+pub fn skip(class: Class, bytes: &[u8]) -> &[u8]
+    ensures { result.now ≡ skip_of class bytes.now }
+{
+    let mut rest = bytes;
+    while let Some((first, tail)) = rest.split_first() {
+        if !is_in(class, *first) {
+            return rest;
+        }
+        rest = tail;
+    }
+    rest
+}
+
+/// What follows the first character of UTF-8.
+pub fn after_char(bytes: &[u8]) -> &[u8]
+    ensures { result.now ≡ drop (decoded bytes.now).size bytes.now }
+{
+    after(bytes, decode_utf8(bytes).1)
+}
+
+/// Whether the first character is in the class.
+pub fn begins_wide(class: Wide, bytes: &[u8]) -> bool
+    ensures { result ≡ begins_wide_of class bytes.now }
+{
+    match decode_utf8(bytes).0 {
+        Some(first) => is_wide(class, first),
+        None => false,
+    }
+}
+
+/// What follows the longest front of characters in the class.
+pub fn skip_wide(class: Wide, bytes: &[u8]) -> &[u8]
+    ensures { result.now ≡ skip_wide_of class bytes.now }
+{
+    let mut rest = bytes;
+    for turn in 0..bytes.len() {
+        if !begins_wide(class, rest) {
+            return rest;
+        }
+        rest = after_char(rest);
+    }
+    rest
+}
+
+/// Whether the first byte is this one.
+#[inline]
+pub fn begins(byte: u8, bytes: &[u8]) -> bool
+    ensures { result ≡ begins_of byte bytes.now }
+{
+    match first_byte(bytes) {
+        Some(first) => first == byte,
+        None => false,
+    }
+}
+
+/// Whether the first byte is none of ASCII.
+#[inline]
+pub fn begins_beyond(bytes: &[u8]) -> bool
+    ensures { result ≡ begins_beyond_of bytes.now }
+{
+    match first_byte(bytes) {
+        Some(first) => 128 <= first,
+        None => false,
+    }
+}
+
+/// Whether a decimal digit is first.
+pub fn begins_digit(bytes: &[u8]) -> bool
+    ensures { result ≡ begins_digit_of bytes.now }
+{
+    match first_byte(bytes) {
+        Some(first) => is_digit(first),
+        None => false,
+    }
+}

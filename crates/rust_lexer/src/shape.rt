@@ -1,0 +1,57 @@
+//! What a token is.
+ghost use Rattle.std.specs.Prelude.{◌≡◌};
+ghost use Rattle.rust_lexer.specs.Shapes.{plain_of, with_of};
+
+use crate::problem::Problem;
+use literal_escape::Mode;
+use syntax_kind::SyntaxKind;
+
+/// What may be wrong with a token.
+#[derive(Clone, Copy)]
+pub enum Fault {
+    /// Nothing.
+    No,
+    /// This.
+    Is(Problem),
+    /// It is a prefix that no literal has.
+    Prefix,
+    /// What is wrong with the content of a literal of this mode. The content follows so many bytes, and so many of the text
+    /// follow it.
+    Content(Mode, usize, usize),
+}
+
+/// The token at the front of a text.
+#[derive(Clone, Copy)]
+pub struct Shape {
+    /// Its kind.
+    pub kind: SyntaxKind,
+    /// How many bytes of the text follow it.
+    pub left: usize,
+    /// What may be wrong with it.
+    pub fault: Fault,
+}
+
+impl Shape {
+    /// A token with which nothing is wrong.
+    #[inline]
+    pub fn plain(kind: SyntaxKind, left: usize) -> Shape
+        ensures { result ≡ plain_of kind left }
+    {
+        Shape {
+            kind,
+            left,
+            fault: Fault::No,
+        }
+    }
+
+    /// A token with which this is wrong.
+    pub fn with(kind: SyntaxKind, left: usize, problem: Problem) -> Shape
+        ensures { result ≡ with_of kind left problem }
+    {
+        Shape {
+            kind,
+            left,
+            fault: Fault::Is(problem),
+        }
+    }
+}

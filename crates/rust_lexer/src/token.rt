@@ -1,0 +1,206 @@
+//! The token at the front of a text.
+ghost use Rattle.std.specs.Prelude.{◌≡◌};
+ghost use Rattle.rust_lexer.specs.Tokens.{space_of, sign_of, slash_of, is_reserved_of, pound_of, opens_raw_of, letter_r_of, letter_b_of, letter_c_of, beyond_of, letter_of, mark_of, other_of, token_of};
+
+use crate::class::{
+    Class, Wide, after, after_char, begins, begins_beyond, begins_wide, first_byte, is_digit,
+    is_in, is_letter, skip, skip_wide,
+};
+use crate::comment::{block_comment, line_comment};
+use crate::name::{begins_emoji, begins_name, emoji_name, name, skip_name};
+use crate::number::number;
+use crate::problem::Problem;
+use crate::punctuation::sign_kind;
+use crate::quote::{character, character_or_lifetime, string};
+use crate::raw_string::raw_string;
+use crate::shape::Shape;
+use literal_escape::Mode;
+use ras_front_end::Edition;
+use syntax_kind::SyntaxKind;
+
+#[inline]
+fn space(bytes: &[u8]) -> Shape
+    ensures { result ≡ space_of bytes.now }
+{
+    let rest = skip(Class::Space, bytes);
+    if begins_beyond(rest) {
+        Shape::plain(SyntaxKind::WHITESPACE, skip_wide(Wide::Space, rest).len())
+    } else {
+        Shape::plain(SyntaxKind::WHITESPACE, rest.len())
+    }
+}
+
+// The token of a sign, or of no token.
+fn sign(first: u8, rest: &[u8]) -> Shape
+    ensures { result ≡ sign_of first rest.now }
+{
+    Shape::plain(sign_kind(first), rest.len())
+}
+
+fn slash(rest: &[u8]) -> Shape
+    ensures { result ≡ slash_of rest.now }
+{
+    if begins(b'/', rest) {
+        line_comment(after(rest, 1))
+    } else if begins(b'*', rest) {
+        block_comment(after(rest, 1))
+    } else {
+        sign(b'/', rest)
+    }
+}
+
+fn opens_raw(rest: &[u8]) -> bool
+    ensures { result ≡ opens_raw_of rest.now }
+{
+    begins(b'"', rest) || begins(b'#', rest)
+}
+
+// Whether `#` and what follows it is reserved for strings with a guard.
+fn is_reserved(rest: &[u8], edition: Edition) -> bool
+    ensures { result ≡ is_reserved_of edition rest.now }
+{
+    match edition {
+        Edition::Edition2024 => opens_raw(rest),
+        _ => false,
+    }
+}
+
+fn pound(rest: &[u8], edition: Edition) -> Shape
+    ensures { result ≡ pound_of edition rest.now }
+{
+    if is_reserved(rest, edition) {
+        Shape::with(
+            SyntaxKind::ERROR,
+            after(rest, 1).len(),
+            Problem::ReservedGuard,
+        )
+    } else {
+        sign(b'#', rest)
+    }
+}
+
+// What begins with `r`; `rest` follows it.
+fn letter_r(text: &str, rest: &[u8], edition: Edition) -> Shape
+    ensures { result ≡ letter_r_of edition text.now rest.now }
+{
+    if begins(b'#', rest) && begins_name(after(rest, 1)) {
+        Shape::plain(SyntaxKind::IDENT, skip_name(after(rest, 1)).len())
+    } else if opens_raw(rest) {
+        raw_string(SyntaxKind::STRING, rest)
+    } else {
+        name(text, edition)
+    }
+}
+
+// What begins with `b`; `rest` follows it.
+fn letter_b(text: &str, rest: &[u8], edition: Edition) -> Shape
+    ensures { result ≡ letter_b_of edition text.now rest.now }
+{
+    if begins(b'r', rest) && opens_raw(after(rest, 1)) {
+        raw_string(SyntaxKind::BYTE_STRING, after(rest, 1))
+    } else if begins(b'"', rest) {
+        string(Mode::ByteStr, after(rest, 1))
+    } else if begins(b'\'', rest) {
+        character(Mode::Byte, after(rest, 1))
+    } else {
+        name(text, edition)
+    }
+}
+
+// What begins with `c`; `rest` follows it.
+fn letter_c(text: &str, rest: &[u8], edition: Edition) -> Shape
+    ensures { result ≡ letter_c_of edition text.now rest.now }
+{
+    if begins(b'r', rest) && opens_raw(after(rest, 1)) {
+        raw_string(SyntaxKind::C_STRING, after(rest, 1))
+    } else if begins(b'"', rest) {
+        string(Mode::CStr, after(rest, 1))
+    } else {
+        name(text, edition)
+    }
+}
+
+// What begins with a letter or `_`.
+#[inline]
+fn letter(first: u8, text: &str, rest: &[u8], edition: Edition) -> Shape
+    ensures { result ≡ letter_of edition first text.now rest.now }
+{
+    if first == b'r' {
+        letter_r(text, rest, edition)
+    } else if first == b'b' {
+        letter_b(text, rest, edition)
+    } else if first == b'c' {
+        letter_c(text, rest, edition)
+    } else {
+        name(text, edition)
+    }
+}
+
+// What begins with a character that is none of ASCII.
+fn beyond(text: &str, edition: Edition) -> Shape
+    ensures { result ≡ beyond_of edition text.now }
+{
+    let bytes = text.as_bytes();
+    if begins_wide(Wide::Space, bytes) {
+        space(bytes)
+    } else if begins_name(bytes) {
+        name(text, edition)
+    } else if begins_emoji(bytes) {
+        emoji_name(after_char(bytes))
+    } else {
+        Shape::plain(SyntaxKind::ERROR, after_char(bytes).len())
+    }
+}
+
+// What begins with a mark that is no letter.
+#[inline]
+fn mark(first: u8, rest: &[u8], edition: Edition) -> Shape
+    ensures { result ≡ mark_of edition first rest.now }
+{
+    if first == b'/' {
+        slash(rest)
+    } else if first == b'"' {
+        string(Mode::Str, rest)
+    } else if first == b'\'' {
+        character_or_lifetime(rest)
+    } else if first == b'#' {
+        pound(rest, edition)
+    } else {
+        sign(first, rest)
+    }
+}
+
+// What begins with no letter and no white space of ASCII.
+#[inline]
+fn other(first: u8, text: &str, rest: &[u8], edition: Edition) -> Shape
+    ensures { result ≡ other_of edition first text.now rest.now }
+{
+    if is_digit(first) {
+        number(first, rest)
+    } else if 128 <= first {
+        beyond(text, edition)
+    } else {
+        mark(first, rest, edition)
+    }
+}
+
+/// The token at the front of the text. Of an empty text it is anything.
+#[tactic(auto, unfolding(crate::specs::Tokens::token_of))]
+#[inline]
+pub fn token(text: &str, edition: Edition) -> Shape
+    ensures { result ≡ token_of edition text.now }
+{
+    let bytes = text.as_bytes();
+    match first_byte(bytes) {
+        None => Shape::plain(SyntaxKind::ERROR, 0),
+        Some(first) => {
+            if is_in(Class::Space, first) {
+                space(bytes)
+            } else if is_letter(first) || first == b'_' {
+                letter(first, text, after(bytes, 1), edition)
+            } else {
+                other(first, text, after(bytes, 1), edition)
+            }
+        }
+    }
+}

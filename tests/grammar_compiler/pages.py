@@ -1,0 +1,210 @@
+"""The files that a grammar's tables are."""
+import json
+import os
+import re
+
+from .checks import bits
+from .language import ONE, Answered, Flag, GrammarError, Seen
+
+VIEWS = ["View::One", "View::Two", "View::Three", "View::Word"]
+# How many kinds of tokens syntax_kind names, which come first.
+TOKEN_KINDS = 117
+# The kinds that the sights ask for by name.
+NUMBERED = [
+    ("IDENT", "an identifier"),
+    ("FLOAT_NUMBER", "a number with a dot or an exponent"),
+    ("FLOAT_PAIR", "a number with digits behind its dot"),
+    ("FLOAT_DOT", "a number that ends with its dot"),
+]
+# So many messages make a function of their own.
+MESSAGES_A_PART = 25
+
+
+def named_kind(name, library, others):
+    if name in library:
+        return f"SyntaxKind::{name}"
+    if name in others:
+        return f"kinds::{name}"
+    raise GrammarError(f"{name} is no kind of syntax_kind and none of rust_kinds")
+
+
+def op_text(op, table, kind_text):
+    """An operation as the tables write it."""
+    test = op.fields.get("test")
+    if isinstance(test, Seen) and test.view == ONE and test.ahead >= 0:
+        if len(test.kinds) == 1:
+            return f"Op::{op.name}Kind {{ ahead: {test.ahead}, kind: {min(test.kinds)}, target: {op.target} }}"
+        return f"Op::{op.name}In {{ ahead: {test.ahead}, set: {table.set_number[test.kinds]}, target: {op.target} }}"
+    if test is not None:
+        if isinstance(test, Flag):
+            what = f"Test::Flag {{ mask: {test.mask} }}"
+        elif isinstance(test, Answered):
+            what = f"Test::Answered {{ answer: {test.answer} }}"
+        elif test.ahead < 0:
+            what = f"Test::After {{ kind: {min(test.kinds)} }}"
+        elif len(test.kinds) == 1:
+            what = f"Test::Sees {{ view: {VIEWS[test.view]}, ahead: {test.ahead}, kind: {min(test.kinds)} }}"
+        else:
+            what = f"Test::WordIn {{ ahead: {test.ahead}, set: {table.set_number[test.kinds]} }}"
+        return f"Op::{op.name} {{ test: {what}, target: {op.target} }}"
+    if op.name in ("CallWith", "Become"):
+        levels = {"same": "Level::Same", "operand": "Level::Operand"}
+        level = levels.get(op.level) or f"Level::Own {{ level: {op.level} }}"
+        return f"Op::{op.name} {{ target: {op.target}, level: {level}, keep: {op.keep}, add: {op.add} }}"
+    fields = []
+    for name in ("row", "target", "view", "part", "last", "kind", "message", "answer", "keep", "add"):
+        if name in op.fields and not (op.name in ("Call", "Enter") and name in ("keep", "add")):
+            value = op.fields[name]
+            if name == "kind" and isinstance(value, str):
+                value = kind_text(value)
+            elif name == "view":
+                value = VIEWS[value]
+            elif name == "part":
+                value = f"Part::{value}"
+            fields.append(f"{name}: {str(value).lower() if isinstance(value, bool) else value}")
+    return f"Op::{op.name} {{ {', '.join(fields)} }}" if fields else f"Op::{op.name}"
+
+
+def in_lines(items, width):
+    """Items of a list behind commas, as many a line as fit."""
+    lines, line = [], "   "
+    for item in items:
+        if len(line) + len(item) + 2 > width:
+            lines.append(line)
+            line = "   "
+        line += f" {item},"
+    return "\n".join(lines + [line])
+
+
+def page(doc, uses, items, ghosts=()):
+    """A file of Rattle, with what it imports and its items."""
+    ghost = "".join(f"ghost use {use};\n" for use in ghosts)
+    text = "".join(f"use {use};\n" for use in uses)
+    return f"//! {doc} Written by tests/grammar from rust.grammar.\n{ghost}" + (f"\n{text}" if text else "") + "\n" + "\n\n".join(items) + "\n"
+
+
+def codes(text):
+    """A text's bytes as a definition writes them; a line's end is 10."""
+    return " ++ (10 ∷ []) ++ ".join(f'codes "{line}"' for line in text.split("\n"))
+
+
+def static(doc, name, kind, items, width=120):
+    return f"/// {doc}\n#[rattlefmt::skip]\npub(crate) static {name}: [{kind}; {len(items)}] = [\n{in_lines(items, width)}\n];"
+
+
+def camel(name):
+    return "".join(part.capitalize() for part in name.split("_"))
+
+
+def arm(number, text):
+    """An arm as rt fmt lays it out."""
+    line = f"        {number} => {text},\n"
+    return line if len(line) <= 101 else f"        {number} =>\n            {text},\n"
+
+
+def message_pages(messages):
+    """The messages as a function and as its definition, in parts, since a proof about a long choice is dear."""
+    parts = [list(enumerate(messages))[at : at + MESSAGES_A_PART] for at in range(0, len(messages), MESSAGES_A_PART)]
+    code, definitions = [], []
+    for which, part in enumerate(parts):
+        arms = "".join(arm(number, json.dumps(text)) for number, text in part)
+        code.append(f"fn part_{which}(number: u16) -> &'static str\n    ensures {{ result.now ≡ part_{which}_of number }}\n{{\n    match number {{\n{arms}        _ => \"\",\n    }}\n}}")
+        choices = "".join(f"    if n == {number} then {codes(text)} else (\n" for number, text in part)
+        definitions.append(f"abbrev pub part_{which}_of : ℕ → List ℕ\npart_{which}_of n =\n{choices}    []" + ")" * len(part))
+    names = ", ".join(f"part_{which}_of" for which in range(len(parts)))
+    limits = [part[-1][0] + 1 for part in parts[:-1]]
+    choice = "".join(f"if number < {limit} {{\n        part_{which}(number)\n    }} else " for which, limit in enumerate(limits))
+    last = len(parts) - 1
+    body = f"    {choice}{{\n        part_{last}(number)\n    }}" if limits else f"    part_{last}(number)"
+    doc = "/// The message of an error by its number; empty where no error has it. `%` in it stands for the name of the next token's kind."
+    code.append(f"{doc}\npub fn message(number: u16) -> &'static str\n    ensures {{ result.now ≡ message_of number }}\n{{\n{body}\n}}")
+    choices = "".join(f"    if nat_lt n {limit} then part_{which}_of n else (\n" for which, limit in enumerate(limits))
+    definitions.append(f"-- the message of an error by its number; no text where no error has it\nabbrev pub message_of : ℕ → List ℕ\nmessage_of n =\n{choices}    part_{last}_of n" + ")" * len(limits))
+    ghosts = ["Rattle.std.specs.Prelude.{◌≡◌}", f"Rattle.rust_grammar.specs.Messages.{{{names}, message_of}}"]
+    head = (
+        "-- The parser's messages. Written by tests/grammar from rust.grammar.\n"
+        "use Rattle.std.specs.Prelude.{ℕ, ◌==◌, nat_lt, if◌then◌else◌, List, [], ◌∷◌, ◌++◌, codes}\n\n"
+    )
+    return page("The parser's messages.", [], code, ghosts), head + "\n\n".join(definitions) + "\n"
+
+
+def pages(grammar, table, top):
+    """The files that the tables of a grammar make, by their paths in the crate."""
+    kinds = os.path.join(top, "crates", "syntax_kind", "src", "syntax_kind", "all.rt")
+    other_kinds = os.path.join(top, "crates", "rust_kinds", "src", "kinds.rt")
+    library = re.findall(r"^    SyntaxKind::(\w+),$", open(kinds, encoding="utf-8").read(), re.M)
+    others = dict(re.findall(r"^pub const (\w+): SyntaxKind = SyntaxKind::OTHER\((\d+)\);$", open(other_kinds, encoding="utf-8").read(), re.M))
+    by_kind = {}
+    for text, kind in grammar.joint.items():
+        by_kind[tuple(grammar.texts[sign] for sign in text)] = kind
+    first, last = min(grammar.texts[s] for s in "".join(grammar.joint)), max(grammar.texts[s] for s in "".join(grammar.joint))
+
+    def text_of(name):
+        return named_kind(name, library, others)
+
+    made = {}
+    ops = [op_text(op, table, text_of) for op in table.ops]
+    uses = ["grammar_machine::{Level, Op, Part, Test, View}", "rust_kinds::kinds", "syntax_kind::SyntaxKind"]
+    made["src/tables/op_table.rt"] = page("The operations.", uses, [static("The operations of all rules.", "OPS", "Op", ops, 240)])
+    words = [bits(kind for kind in kinds if kind // 64 == word) >> 64 * word for kinds in table.sets for word in range(4)]
+    made["src/tables/set_table.rt"] = page("The sets of kinds.", [], [static("Four words of 64 bits for each set.", "SETS", "u64", [f"0x{word:x}" for word in words])])
+    made["src/tables/row_table.rt"] = page("The rows of targets.", [], [static(f"A target for each of the {grammar.width} kinds of single tokens, row behind row.", "ROWS", "u16", list(map(str, table.rows)), 240)])
+    powers = [grammar.powers.get(kind) for kind in range(len(grammar.kinds))]
+    powers = [f"Some(Power {{ level: {p[0]}, right: {p[1]} }})" if p else "None" for p in powers]
+    made["src/tables/power_table.rt"] = page("How operators bind.", ["grammar_machine::Power"], [static("The powers of operators, by the numbers of kinds.", "POWERS", "Option<Power>", powers)])
+    names = [text_of({"NONE": "ERROR", "EOF": "ERROR", "FLOAT_PAIR": "FLOAT_NUMBER", "FLOAT_DOT": "FLOAT_NUMBER"}.get(name, name)) for name in grammar.kinds]
+    singles, words = set(grammar.kinds[: grammar.width]), {grammar.kinds[kind] for kind in grammar.by_word.values()}
+
+    def by_token(names):
+        return [str(grammar.kinds.index(name)) if name in names else "0" for name in library[:TOKEN_KINDS]]
+
+    def by_other(names):
+        numbers = {int(number): grammar.kinds.index(name) for name, number in others.items() if name in names}
+        return [str(numbers.get(n, 0)) for n in range(max(numbers, default=0) + 1)]
+
+    joints = []
+    for left in range(len(grammar.kinds)):
+        signs = next((signs for signs, kind in by_kind.items() if kind == left), (left,))
+        joints += [str(by_kind.get(signs + (right,), 0)) for right in range(first, last + 1)]
+    made["src/tables/kind_table.rt"] = page(
+        "The kinds of tokens and their numbers.",
+        ["rust_kinds::kinds", "syntax_kind::SyntaxKind"],
+        [
+            static("The kinds, by their numbers. A finer kind of a number with a dot is that of the number.", "KINDS", "SyntaxKind", names),
+            static("The numbers of the lexer's kinds, by `to_raw`; 0 for what the lexer does not make, and for trivia.", "TOKENS", "u8", by_token(singles)),
+            static("The same of the kinds `OTHER(n)`, by n.", "OTHERS", "u8", by_other(singles)),
+            static("The numbers of the kinds of contextual keywords, by `to_raw`, else 0.", "WORD_TOKENS", "u8", by_token(words)),
+            static("The same of the kinds `OTHER(n)`, by n.", "WORD_OTHERS", "u8", by_other(words)),
+        ]
+        + [f"/// The number of {what}.\npub(crate) const {name}: u8 = {grammar.kinds.index(name)};" for name, what in NUMBERED if name in grammar.kinds],
+    )
+    made["src/tables/joint_table.rt"] = page(
+        "What punctuation makes together.",
+        [],
+        [
+            f"/// The number of the first sign that a joint token may have behind its first.\npub(crate) const FIRST_SIGN: u8 = {first};",
+            f"/// How many signs there are from that one on.\npub(crate) const SIGNS: usize = {last - first + 1};",
+            static("The kind that a token makes with a sign behind it, or 0: a row of signs for each kind.", "JOINTS", "u8", joints),
+        ],
+    )
+    made["src/tables/messages.rt"], made["specs/Messages.antt"] = message_pages(grammar.messages)
+    entries = "".join(f"    /// The rule `{name}`.\n    {camel(name)},\n" for name in grammar.entries)
+    starts = "".join(f"        Rule::{camel(name)} => {table.start_of[name]},\n" for name in grammar.entries)
+    made["src/tables/rules.rt"] = page(
+        "The rules that a text can be read by.",
+        [],
+        [
+            f"/// A rule that a text can be read by. The grammar's text says what each one reads.\n#[derive(Clone, Copy, Debug, PartialEq, Eq)]\npub enum Rule {{\n{entries}}}",
+            f"/// The number of the rule's first operation.\npub fn rule_of(rule: Rule) -> usize\n    ensures {{ result ≡ first_op rule }}\n{{\n    match rule {{\n{starts}    }}\n}}",
+        ],
+        ["Rattle.std.specs.Prelude.{◌≡◌}", "Rattle.rust_grammar.specs.Rules.{first_op}"],
+    )
+    made["specs/Rules.antt"] = (
+        "-- Where the rules begin. Written by tests/grammar from rust.grammar.\n"
+        "use Rattle.std.specs.Prelude.{ℕ}\n"
+        "use Rattle.rust_grammar.specs.declared.tables.rules.Rule.{Rule}\n"
+        "use Rattle.rust_grammar.specs.declared.tables.rules.Rule.TheVariants as rule\n\n"
+        "-- the number of a rule's first operation\nabbrev pub first_op : Rule → ℕ\n"
+        + "".join(f"first_op rule.{camel(name)} = {table.start_of[name]}\n" for name in grammar.entries)
+    )
+    return made
