@@ -5,25 +5,51 @@ use ra_ap_syntax::{
     AstNode, AstPtr, Edition, SourceFile, SyntaxKind, SyntaxNode, TextRange, TextSize, TreeBuilder,
     algo, match_ast,
 };
-use std::alloc::Global;
+use rust_front::Rust;
+use std::alloc::{AllocError, Global};
 use std::test::Fail;
-use tiny_front::Tiny;
 
 #[test]
 fn a_text_has_errors(rt: HostRuntime) -> Result<(), Fail> {
     let alloc = rt.alloc();
-    let parse = SourceFile::parse(alloc, "fn f() { 1 + }", &Tiny, Edition::CURRENT)?;
+    let parse = SourceFile::parse(alloc, "fn f() { 1 + }", &Rust, Edition::CURRENT)?;
     for error in &parse.errors(alloc)? {
         let line = format!(in alloc; "{}: {error}", error.range())?;
-        assert_eq!(rt; line.as_str(), "13..13: expected an expression");
+        assert_eq!(rt; line.as_str(), "12..12: expected expression");
     }
+    Ok(())
+}
+
+/// The names of the functions of a file.
+fn functions(alloc: Global, file: &SourceFile) -> Result<Vec<String>, AllocError> {
+    let mut names = Vec::new(alloc);
+    for item in file.items() {
+        if let ast::Item::Fn(function) = item {
+            if let Some(name) = function.name() {
+                names.push(format!(in alloc; "{}", name.syntax().as_str())?)?;
+            }
+        }
+    }
+    Ok(names)
+}
+
+#[test]
+fn functions_have_names(rt: HostRuntime) -> Result<(), Fail> {
+    let alloc = rt.alloc();
+    let text = "use a::b;\n\n/// One.\nfn one<T>(t: T) -> T { t }\nfn two(\nstruct S;\n";
+    let parse = SourceFile::parse(alloc, text, &Rust, Edition::CURRENT)?;
+    let file = parse.tree().ok_or("no file")?;
+    let names = functions(alloc, &file)?;
+    assert_eq!(rt; names.len(), 2);
+    assert_eq!(rt; names[0].as_str(), "one");
+    assert_eq!(rt; names[1].as_str(), "two");
     Ok(())
 }
 
 #[test]
 fn a_text_has_items(rt: HostRuntime) -> Result<(), Fail> {
     let alloc = rt.alloc();
-    let parse = SourceFile::parse(alloc, "fn f() { 1 + }", &Tiny, Edition::CURRENT)?;
+    let parse = SourceFile::parse(alloc, "fn f() { 1 + }", &Rust, Edition::CURRENT)?;
     let file = parse.tree().ok_or("no file")?;
     for item in file.items() {
         assert_eq!(rt; item.syntax().as_str(), "fn f() { 1 + }");
@@ -43,7 +69,7 @@ fn name_of(node: &SyntaxNode) -> Option<ast::Name> {
 
 #[test]
 fn a_node_has_a_name(rt: HostRuntime) -> Result<(), Fail> {
-    let parse = SourceFile::parse(rt.alloc(), "fn foo() {}", &Tiny, Edition::CURRENT)?;
+    let parse = SourceFile::parse(rt.alloc(), "fn foo() {}", &Rust, Edition::CURRENT)?;
     let function = parse.syntax_node().first_child().ok_or("no function")?;
     let name = name_of(&function).ok_or("no name")?;
     assert_eq!(rt; name.text().ok_or("no text")?, "foo");
@@ -57,7 +83,7 @@ fn sum_at(root: &SyntaxNode, offset: TextSize) -> Result<ast::BinExpr, Fail> {
 
 #[test]
 fn a_place_leads_to_a_view(rt: HostRuntime) -> Result<(), Fail> {
-    let parse = SourceFile::parse(rt.alloc(), "fn foo() { 1 + 2 }", &Tiny, Edition::CURRENT)?;
+    let parse = SourceFile::parse(rt.alloc(), "fn foo() { 1 + 2 }", &Rust, Edition::CURRENT)?;
     let sum = sum_at(&parse.syntax_node(), TextSize::new(13))?;
     assert!(rt; sum.op_kind() == Some(BinaryOp::ArithOp(ArithOp::Add)));
     let right = sum.rhs().ok_or("no right side")?;
@@ -67,7 +93,7 @@ fn a_place_leads_to_a_view(rt: HostRuntime) -> Result<(), Fail> {
 
 #[test]
 fn a_pointer_finds_its_view(rt: HostRuntime) -> Result<(), Fail> {
-    let parse = SourceFile::parse(rt.alloc(), "fn foo() { 1 + 2 }", &Tiny, Edition::CURRENT)?;
+    let parse = SourceFile::parse(rt.alloc(), "fn foo() { 1 + 2 }", &Rust, Edition::CURRENT)?;
     let root = parse.syntax_node();
     let sum = sum_at(&root, TextSize::new(13))?;
     let pointer = AstPtr::new(&sum);
@@ -78,9 +104,9 @@ fn a_pointer_finds_its_view(rt: HostRuntime) -> Result<(), Fail> {
 #[test]
 fn an_edit_reads_a_token_anew(rt: HostRuntime) -> Result<(), Fail> {
     let alloc = rt.alloc();
-    let parse = SourceFile::parse(alloc, "fn foo() {}", &Tiny, Edition::CURRENT)?;
+    let parse = SourceFile::parse(alloc, "fn foo() {}", &Rust, Edition::CURRENT)?;
     let name = TextRange::new(TextSize::new(3), TextSize::new(6));
-    let edited = parse.incremental_reparse(alloc, &Tiny, name, "bar", Edition::CURRENT)?;
+    let edited = parse.incremental_reparse(alloc, &Rust, name, "bar", Edition::CURRENT)?;
     let (new, read_anew) = edited.ok_or("all was read anew")?;
     assert!(rt; read_anew == name);
     assert_eq!(rt; new.syntax_node().as_str(), "fn bar() {}");
