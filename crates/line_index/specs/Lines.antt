@@ -70,3 +70,15 @@ pub record IsWide (e : WideEncoding) (s : List ℕ) (at : LineCol) (w : WideLine
 -- no character of the text is at this line and column, nor its end
 abbrev pub NoChar : List ℕ → LineCol → Type 0
 NoChar s at = (o : ℕ) → IsOffset s at o → IsCharBoundary s o → ⊥
+
+-- no character of the text has this wide line and column, nor its end
+abbrev pub NoWide : WideEncoding → List ℕ → WideLineCol → Type 0
+NoWide e s w = (at : LineCol) → IsWide e s at w → ⊥
+
+-- the first k bytes of the text are characters with n units
+abbrev pub IsFront : WideEncoding → List ℕ → ℕ → ℕ → Type 0
+IsFront e s n k = IsCharBoundary s k × (wide_length e (take k s) ≡ n)
+
+-- no first characters of the text have n units
+abbrev pub NoFront : WideEncoding → List ℕ → ℕ → Type 0
+NoFront e s n = (k : ℕ) → IsFront e s n k → ⊥

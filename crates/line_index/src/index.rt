@@ -1,7 +1,7 @@
 //! Where the lines of a text start.
 ghost use Rattle.std.specs.Prelude.{◌≡◌, ◌<◌, ◌≤◌, ◌^◌, length, take, IfOk, MatchOption};
 ghost use Rattle.std.specs.Option.{SomeIff};
-ghost use Rattle.line_index.specs.Lines.{line_col_at, line_feeds, IsOffset, NoOffset, IsLine, IsLineStart, IsWide, NoChar};
+ghost use Rattle.line_index.specs.Lines.{line_col_at, line_feeds, IsOffset, NoOffset, IsLine, IsLineStart, IsWide, NoChar, NoWide};
 
 use crate::line_col::{LineCol, WideEncoding, WideLineCol};
 use std::alloc::{AllocError, Global};
@@ -106,7 +106,8 @@ impl<'a> LineIndex<'a> {
         Some(TextRange::new(TextSize::new(start), TextSize::new(end)))
     }
 
-    /// The same place with its column in units of an encoding; `None` where `offset` answers it, and inside a character.
+    /// The same place with its column in units of an encoding; `None` where `offset` answers `None`, and inside a
+    /// character.
     ///
     /// Takes time linear in the column.
     pub fn to_wide(&self, encoding: WideEncoding, at: LineCol) -> Option<WideLineCol>
@@ -122,6 +123,21 @@ impl<'a> LineIndex<'a> {
             line: at.line,
             col: encoding.len_of(before),
         })
+    }
+
+    /// The same place with its column in bytes; `None` where the text has no such line, or no character of the line starts at such a
+    /// column. The end of the text counts as the start of a character.
+    ///
+    /// Inverse to `to_wide`. Takes time linear in the column.
+    pub fn to_utf8(&self, encoding: WideEncoding, at: WideLineCol) -> Option<LineCol>
+        ensures { MatchOption result (NoWide encoding self.now at) (λ place. IsWide encoding self.now place at) }
+    {
+        let start = self.start(at.line as usize)? as usize;
+        let rest = &self.text[start..];
+        let col = encoding.bytes_of(at.col, rest)?;
+        let place = LineCol { line: at.line, col };
+        self.offset(place)?;
+        Some(place)
     }
 
     // The length of the text.

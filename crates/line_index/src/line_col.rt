@@ -1,6 +1,6 @@
 //! A place in a text by its line and its column.
-ghost use Rattle.std.specs.Prelude.{◌≡◌, ◌<◌, ◌^◌, length};
-ghost use Rattle.line_index.specs.Lines.{units, wide_length};
+ghost use Rattle.std.specs.Prelude.{◌≡◌, ◌<◌, ◌^◌, length, MatchOption};
+ghost use Rattle.line_index.specs.Lines.{units, wide_length, IsFront, NoFront};
 
 /// A line and a column, both counted from 0. The column is in bytes from the start of the line.
 ///
@@ -43,6 +43,26 @@ impl WideEncoding {
             len += self.units(c);
         }
         len
+    }
+
+    // How many bytes the first characters of a text take that have so many units; `None` where no first characters have.
+    pub(crate) fn bytes_of(self, units: u32, text: &str) -> Option<u32>
+        requires { length text.now < 2 ^ 32 }
+        ensures { MatchOption result (NoFront self text.now units) (IsFront self text.now units) }
+    {
+        let mut left = units;
+        let mut bytes = 0;
+        for c in text.chars() {
+            if left == 0 {
+                return Some(bytes);
+            }
+            left = left.checked_sub(self.units(c))?;
+            bytes += c.len_utf8() as u32;
+        }
+        if left > 0 {
+            return None;
+        }
+        Some(bytes)
     }
 }
 
