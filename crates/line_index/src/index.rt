@@ -1,0 +1,167 @@
+//! Where the lines of a text start.
+ghost use Rattle.std.specs.Prelude.{◌≡◌, ◌<◌, ◌≤◌, ◌^◌, length, take, IfOk, MatchOption};
+ghost use Rattle.std.specs.Option.{SomeIff};
+ghost use Rattle.line_index.specs.Lines.{line_col_at, line_feeds, IsOffset, NoOffset, IsLine, IsLineStart, IsWide, NoChar, NoWide};
+
+use crate::line_col::{LineCol, WideEncoding, WideLineCol};
+use std::alloc::{AllocError, Global};
+use std::marker::Model;
+use text_size::{TextRange, TextSize};
+
+/// The starts of a text's lines, for the line and the column of an offset and back. A clause sees the bytes of the text.
+///
+/// A line ends behind its line feed (`\n`), or at the end of the text. So a text has one line more than it has line feeds.
+/// It has the name, and calls, of the type in the crate `line-index`, and borrows the text.
+#[derive(Drop)]
+pub struct LineIndex<'a> {
+    text: &'a str,
+    // The start of each line, in order: 0, and the offset behind each line feed.
+    starts: Vec<u32>,
+}
+
+impl<'a> Model for LineIndex<'a> {
+    ghost use Rattle.std.specs.Prelude.{◌<◌, ◌^◌, ℕ, List, length};
+    ghost use Rattle.std.specs.Coded.{coded_list, coded_ℕ};
+    ghost use Rattle.std.specs.Str.{IsUtf8};
+    ghost use Rattle.line_index.specs.Lines.{HasStarts};
+
+    ghost Value = { List ℕ };
+
+    ghost coded = { coded_list coded_ℕ };
+
+    ghost view = { λ a. a.text.now };
+
+    ghost invariant = { λ a. HasStarts a.text.now a.starts.items × (length a.text.now < 2 ^ 32) × IsUtf8 a.text.now };
+}
+
+impl<'a> LineIndex<'a> {
+    /// Finds the lines of a text of less than 4 GiB, as `TextSize::of` tells, in time linear in its length.
+    ///
+    /// # Errors
+    ///
+    /// `AllocError` where memory runs out.
+    pub fn new(alloc: Global, text: &'a str) -> Result<LineIndex<'a>, AllocError>
+        requires { length text.now < 2 ^ 32 }
+        ensures { IfOk result (λ index. index ≡ text.now) }
+    {
+        let bytes = text.as_bytes();
+        let mut starts = Vec::new(alloc);
+        starts.push(0)?;
+        for (i, byte) in bytes.iter().enumerate() {
+            if *byte == b'\n' {
+                starts.push(i as u32 + 1)?;
+            }
+        }
+        Ok(LineIndex { text, starts })
+    }
+
+    /// The line and the column of an offset; `None` where it is past the end of the text.
+    ///
+    /// The line is the number of line feeds before the offset. In the text `"a\nbc"` offset 1 is line 0 and column 1, offset 2 is
+    /// line 1 and column 0, and offset 4, the text's end, is line 1 and column 2. Takes time logarithmic in the number of lines.
+    pub fn line_col(&self, offset: TextSize) -> Option<LineCol>
+        ensures { SomeIff result (offset ≤ length self.now) (line_col_at self.now offset) }
+    {
+        let offset = offset.raw();
+        if self.len() < offset {
+            return None;
+        }
+        let line = self.line_at(offset);
+        Some(LineCol {
+            line: line as u32,
+            col: offset - self.starts[line],
+        })
+    }
+
+    /// The offset with this line and column; `None` where the text has no such line, or the line no such column.
+    ///
+    /// A line feed is the last byte of its line, so the offset behind it has another line. The text's end is an offset of the last
+    /// line. Inverse to `line_col`.
+    pub fn offset(&self, at: LineCol) -> Option<TextSize>
+        ensures { MatchOption result (NoOffset self.now at) (IsOffset self.now at) }
+    {
+        let len = self.len();
+        let line = at.line as usize;
+        let offset = self.start(line)?.checked_add(at.col)?;
+        let last = match self.start(line + 1) {
+            Some(next) => next - 1,
+            None => len,
+        };
+        if last < offset {
+            return None;
+        }
+        Some(TextSize::new(offset))
+    }
+
+    /// The range of a line with its line feed; `None` where the text has no such line.
+    pub fn line(&self, line: u32) -> Option<TextRange>
+        ensures { MatchOption result (line_feeds self.now < line) (IsLine self.now line) }
+    {
+        let line = line as usize;
+        let start = self.start(line)?;
+        let end = match self.start(line + 1) {
+            Some(next) => next,
+            None => self.len(),
+        };
+        Some(TextRange::new(TextSize::new(start), TextSize::new(end)))
+    }
+
+    /// The same place with its column in units of an encoding; `None` where `offset` answers `None`, and inside a
+    /// character.
+    ///
+    /// Takes time linear in the column.
+    pub fn to_wide(&self, encoding: WideEncoding, at: LineCol) -> Option<WideLineCol>
+        ensures { MatchOption result (NoChar self.now at) (IsWide encoding self.now at) }
+    {
+        let start = self.start(at.line as usize)? as usize;
+        let end = self.offset(at)?.raw() as usize;
+        if !self.text.is_char_boundary(end) {
+            return None;
+        }
+        let before = &self.text[start..end];
+        Some(WideLineCol {
+            line: at.line,
+            col: encoding.len_of(before),
+        })
+    }
+
+    /// The same place with its column in bytes; `None` where the text has no such line, or no character of the line starts at such a
+    /// column. The end of the text counts as the start of a character.
+    ///
+    /// Inverse to `to_wide`. Takes time linear in the column.
+    pub fn to_utf8(&self, encoding: WideEncoding, at: WideLineCol) -> Option<LineCol>
+        ensures { MatchOption result (NoWide encoding self.now at) (λ place. IsWide encoding self.now place at) }
+    {
+        let start = self.start(at.line as usize)? as usize;
+        let rest = &self.text[start..];
+        let col = encoding.bytes_of(at.col, rest)?;
+        let place = LineCol { line: at.line, col };
+        self.offset(place)?;
+        Some(place)
+    }
+
+    // The length of the text.
+    fn len(&self) -> u32
+        ensures { result ≡ length self.now }
+    {
+        self.text.len() as u32
+    }
+
+    // The line of an offset in the text.
+    fn line_at(&self, offset: u32) -> usize
+        requires { offset ≤ length self.now }
+        ensures { result ≡ line_feeds (take offset self.now) }
+    {
+        match self.starts.binary_search(&offset) {
+            Ok(line) => line,
+            Err(next) => next - 1,
+        }
+    }
+
+    // Where a line starts; `None` where the text has no such line.
+    fn start(&self, line: usize) -> Option<u32>
+        ensures { MatchOption result (line_feeds self.now < line) (IsLineStart self.now line) }
+    {
+        self.starts.get(line).copied()
+    }
+}

@@ -1,0 +1,9 @@
+//! Lines and columns of a text, from byte offsets and back.
+#![tactic(auto)]
+
+mod index;
+pub mod laws;
+mod line_col;
+
+pub use index::LineIndex;
+pub use line_col::{LineCol, WideEncoding, WideLineCol};
