@@ -27,11 +27,7 @@ fn push_errors(out: &mut String, errors: &[SyntaxError]) -> Result<(), AllocErro
     Ok(())
 }
 
-fn dumped(
-    alloc: Global,
-    parse: &Parse<SyntaxNode>,
-    validates: bool,
-) -> Result<String, AllocError> {
+fn dumped(alloc: Global, parse: &Parse<SyntaxNode>, validates: bool) -> Result<String, AllocError> {
     let dump = parse.parsed().root().dump(alloc)?;
     let mut out = with_names(alloc, dump.as_str())?;
     if validates {

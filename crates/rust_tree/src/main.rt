@@ -69,9 +69,7 @@ fn run(rt: &HostRuntime, words: &[String]) -> anyhow::Result<ExitCode> {
         Ok(matches) => matches,
         Err(error) => {
             error.print(rt)?;
-            return Ok(ExitCode::from(
-                u8::try_from(error.exit_code()).unwrap_or(2),
-            ));
+            return Ok(ExitCode::from(u8::try_from(error.exit_code()).unwrap_or(2)));
         }
     };
     match matches.subcommand_matches("tree") {
