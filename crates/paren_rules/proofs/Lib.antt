@@ -5,3 +5,4 @@ pub mod LastToken
 pub mod CastEdge
 pub mod Agree
 pub mod Precedences
+pub mod Headline

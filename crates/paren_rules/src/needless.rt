@@ -1,14 +1,19 @@
 //! The pairs of parentheses that may go, as views of the caller's type.
-ghost use Rattle.std.specs.Prelude.{◌≡◌, IfOk, map, option_map, true, if◌then◌else◌, Some, None};
+ghost use Rattle.std.specs.Prelude.{◌≡◌, ◌↔◌, ℕ, List, IfOk, IfSome, map, option_map, true, if◌then◌else◌, Some, None};
 ghost use Rattle.std.specs.List.{filter};
 ghost use Rattle.syntax_kind.specs.declared.syntax_kind.SyntaxKind.{SyntaxKind};
 ghost use Rattle.tree_model.specs.Cursor.{focus};
+ghost use Rattle.operator_terms.specs.Term.{Term};
+ghost use Rattle.operator_terms.specs.Places.{Fits, MayStandBefore};
 ghost use Rattle.operator_trees.specs.Forms.{form_of};
-ghost use Rattle.operator_trees.specs.Shown.{shown};
-ghost use Rattle.operator_pairs.specs.Pairs.{is_paren, is_needless, nodes_below, NeedlessOf};
+ghost use Rattle.operator_trees.specs.Leaves.{leaves_behind};
+ghost use Rattle.operator_trees.specs.Shown.{shown, meaning, IsTerm};
+ghost use Rattle.operator_reads.specs.Reads.{ReadsBack};
+ghost use Rattle.operator_pairs.specs.Pairs.{is_paren, is_needless, nodes_below};
+ghost use Rattle.paren_rules.specs.Headline.{NeedlessOf, NoOperandNeedsAny};
 
 use lossless_tree::SyntaxNode;
-use operator_pairs::needless::{is_needless, reads_back};
+use operator_pairs::needless::is_needless;
 use ras_node::AstNode;
 use std::alloc::{AllocError, Global};
 
@@ -40,6 +45,19 @@ fn needless_below<N: AstNode + Drop>(alloc: Global, root: &SyntaxNode) -> Result
         }
     }
     Ok(found)
+}
+
+/// Whether the node is a reading of its own tokens; `None` where it shows no term.
+///
+/// It is one exactly where every operand fits its place; and, unless it ends in a cast's name and `<` or `<<` follows, exactly
+/// where no operand below it needs parentheses in its own parent, as [`needs_parens_in`](crate::rules::needs_parens_in) answers it.
+pub fn reads_back(node: &SyntaxNode) -> Option<bool>
+    ensures reads { ReadsBack result (shown (focus node.now)) }
+    ensures fits { IfSome result (λ b. (t : Term) → meaning (focus node.now) ≡ IsTerm t → b ≡ true ↔ ((q : List ℕ) → Fits t q)) }
+    ensures tied { IfSome result (λ b. (t : Term) → meaning (focus node.now) ≡ IsTerm t → MayStandBefore (leaves_behind node.now.tree node.now.place) t
+        → b ≡ true ↔ NoOperandNeedsAny node.now t) }
+{
+    operator_reads::reads::reads_back(node)
 }
 
 /// The pairs below the root whose inside needs no parentheses in their place, in preorder, as views that every pair can be viewed

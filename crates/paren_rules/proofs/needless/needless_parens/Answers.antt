@@ -2,7 +2,7 @@ use Rattle.std.proofs.Common.{Some, subst, map}
 use Rattle.tree_model.specs.Cursor.{focus}
 use Rattle.operator_trees.specs.Shown.{shown}
 use Rattle.operator_reads.specs.Reads.{ReadsBack}
-use Rattle.operator_pairs.proofs.Found.{reading_pairs, unread_none, unshown_none}
+use Rattle.paren_rules.proofs.Headline.{reading_pairs, unread_none, unshown_none}
 use Rattle.paren_rules.proofs.needless.needless_parens.Goals as goal
 
 pub returns-in_ok-found-in-Some-true : goal.returns-in_ok-found-in-Some-true
