@@ -1,11 +1,11 @@
 -- The operator theorem over trees, with the whole test of parentheses.
-use Rattle.std.proofs.Common.{◌≡◌, ◌↔◌, ◌++◌, ℕ, List, [], ◌∷◌, Bool, true, false, map, Option, Some, None, IfSome, refl, sym, ap, subst, ◌∙◌}
+use Rattle.std.proofs.Common.{◌≡◌, ◌↔◌, ◌++◌, ℕ, List, [], ◌∷◌, Bool, true, false, Option, Some, None, IfSome, refl, sym, ap, subst, ◌∙◌}
 use Rattle.std.specs.List.{filter}
 use Rattle.syntax_kind.specs.declared.syntax_kind.token_kind.TokenKind.TheVariants as token
 use Rattle.tree_model.specs.Cursor.{Cursor, focus, parent_of}
 use Rattle.operator_terms.specs.Token.{Token, fixed}
 use Rattle.operator_terms.specs.Term.{Term, Paren, tokens, is_field}
-use Rattle.operator_terms.specs.Reading.{Reads, begins_with_angle}
+use Rattle.operator_terms.specs.Reading.{Reads}
 use Rattle.operator_terms.specs.Places.{Demand, AtLeast, Callee, Part, some_part, part, operand, tokens_behind, ends_in_cast, FitsPlace, Fits, MayStandBefore}
 use Rattle.operator_terms.specs.Pairs.{without}
 use Rattle.operator_terms.specs.Precedence.{precedence, needs_parentheses_in}
@@ -21,10 +21,9 @@ use Rattle.operator_trees.proofs.Tokens.{tokens-shown}
 use Rattle.operator_reads.specs.Reads.{ReadsBack, IsAnswer}
 use Rattle.operator_pairs.specs.Pairs as pairs
 use Rattle.operator_pairs.specs.Pairs.{operand_cursor, angle_behind, inside_fits, is_needless, may_go, nodes_below, part_fits, AskedNowhere, MayGoBefore}
-use Rattle.operator_pairs.specs.Listed.{below}
 use Rattle.operator_pairs.proofs.Asked.{AskedAt, asked_at, asked_below, operand_shown}
 use Rattle.operator_pairs.proofs.Found.{needless_listed}
-use Rattle.operator_pairs.proofs.Ties.{asked_nowhere, only_reading, pair_asked, precedences_ask}
+use Rattle.operator_pairs.proofs.Ties.{asked_nowhere, only_reading, precedences_ask}
 use Rattle.operator_precedence.specs.Levels.{as_precedence, precedence_of}
 use Rattle.paren_rules.specs.Headline.{IsOneReadingOf, NeedsNone, NoOperandNeedsAny, InsideNeedsNone, ReadsWithout, HasPair, AreNeedless, NeedlessOf}
 use Rattle.paren_rules.specs.Rules.{asks}

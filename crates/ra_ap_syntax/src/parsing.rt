@@ -14,7 +14,8 @@ use std::alloc::Global;
 impl FileView for SourceFile {}
 
 impl SourceFile {
-    /// The parse of a file's text. Whatever the text is, there is a tree of all of it, and its root is a `SOURCE_FILE`.
+    /// The parse of a file's text: the tree that the front end's steps for it build, and the steps' errors and then the lexer's.
+    /// Whatever the text is, there is a tree of all of it, and its root is a `SOURCE_FILE`.
     ///
     /// `TooLong` exactly where the text is longer than 4,294,967,295 bytes; that is looked at first. It takes the front end's
     /// time, and then time linear in the text.
@@ -35,8 +36,8 @@ impl SourceFile {
 }
 
 impl Expr {
-    /// The parse of an expression's text. Whatever the text is, there is a tree of all of it; its root is an expression, or
-    /// `ERROR`, of which `tree` is `None`.
+    /// The parse of an expression's text: the tree that the front end's steps for it build, and the steps' errors and then the
+    /// lexer's. Whatever the text is, there is a tree of all of it; its root is an expression, or `ERROR`, of which `tree` is `None`.
     ///
     /// `TooLong` exactly where the text is longer than 4,294,967,295 bytes; that is looked at first. It takes the front end's
     /// time, and then time linear in the text.

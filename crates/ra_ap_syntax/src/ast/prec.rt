@@ -9,8 +9,9 @@ ghost use Rattle.operator_terms.specs.Places.{Demand, Part, some_part, operand, 
 ghost use Rattle.operator_trees.specs.Leaves.{leaves_behind};
 ghost use Rattle.operator_trees.specs.Shown.{shown, meaning, IsTerm};
 ghost use Rattle.operator_reads.specs.Reads.{ReadsBack};
-ghost use Rattle.operator_pairs.specs.Pairs.{NeedlessOf, AskedNowhere, operand_cursor, angle_behind, MayGoBefore};
+ghost use Rattle.operator_pairs.specs.Pairs.{operand_cursor, angle_behind, MayGoBefore};
 ghost use Rattle.operator_precedence.specs.Levels.{precedence_of, is_valueless, is_dyn_or_impl, is_pointing};
+ghost use Rattle.paren_rules.specs.Headline.{NeedlessOf, NoOperandNeedsAny};
 ghost use Rattle.paren_rules.specs.Rules.{asks};
 ghost use Rattle.ra_ap_syntax.specs.ExprCases.{expr_node};
 ghost use Rattle.ra_ap_syntax.specs.TypeCases.{ty_node};
@@ -95,14 +96,16 @@ impl ast::Type {
 
 /// Whether the expression is a reading of its own tokens; `None` where it shows no term.
 ///
-/// It is one exactly where no operand below it needs parentheses in its own parent, unless it ends in a cast's name and `<` or `<<`
-/// follows. It takes no memory, and time linear in the expression.
+/// It is one exactly where every operand fits its place; and, unless it ends in a cast's name and `<` or `<<` follows, exactly
+/// where no operand below it needs parentheses in its own parent, as [`ast::Expr::needs_parens_in`] answers it. It takes no memory,
+/// and time linear in the expression.
 pub fn reads_back(expr: &ast::Expr) -> Option<bool>
     ensures reads { ReadsBack result (shown (focus (expr_node expr.now))) }
+    ensures fits { IfSome result (λ b. (t : Term) → meaning (focus (expr_node expr.now)) ≡ IsTerm t → b ≡ true ↔ ((q : List ℕ) → Fits t q)) }
     ensures tied { IfSome result (λ b. (t : Term) → meaning (focus (expr_node expr.now)) ≡ IsTerm t
-        → MayStandBefore (leaves_behind (expr_node expr.now).tree (expr_node expr.now).place) t → b ≡ true ↔ AskedNowhere (expr_node expr.now) t) }
+        → MayStandBefore (leaves_behind (expr_node expr.now).tree (expr_node expr.now).place) t → b ≡ true ↔ NoOperandNeedsAny (expr_node expr.now) t) }
 {
-    operator_pairs::needless::reads_back(expr.syntax())
+    paren_rules::needless::reads_back(expr.syntax())
 }
 
 /// The pairs of parentheses below the expression that may go, in preorder: those whose inside needs none in their place. `None`
