@@ -1,6 +1,8 @@
 //! Copies and edits of trees, values, and the accessors that take memory.
 use crate::asking::{First, Stopped, say};
-use crate::samples::{ATTRIBUTE, ESCAPED, Event, NUMBER, SLICE, SUM, built};
+use crate::samples::{
+    ATTRIBUTE, ESCAPED, ESCAPED_BYTES, ESCAPED_C, Event, FLOAT, NUMBER, SLICE, SUM, built,
+};
 use ra_ap_syntax::ast::ValueError;
 use ra_ap_syntax::ast::prec::needless_parens;
 use ra_ap_syntax::{AstNode, AstToken, Edition, SyntaxKind, SyntaxNode, SyntaxToken, ast};
@@ -75,6 +77,52 @@ fn value(rt: &HostRuntime, escaped: &ast::String) -> Result<(), Stopped> {
     say(rt, "value", first, stands, same)
 }
 
+// Whether a byte string's value is this.
+fn is_value_of_bytes(
+    alloc: Global,
+    string: &ast::ByteString,
+    wanted: &[u8],
+) -> Result<bool, ValueError> {
+    let value = string.value(alloc)?;
+    Ok(*value.as_slice() == *wanted)
+}
+
+fn value_of_bytes(rt: &HostRuntime, escaped: &ast::ByteString) -> Result<(), Stopped> {
+    let (same, first) = crate::asked!(
+        "value of a byte string",
+        is_value_of_bytes(rt.alloc(), escaped, b"abcde")
+    );
+    let stands = escaped.text() == "b\"\\x61bcde\"";
+    say(rt, "value of a byte string", first, stands, same)
+}
+
+// Whether a C string's value is this.
+fn is_value_of_c(alloc: Global, string: &ast::CString, wanted: &[u8]) -> Result<bool, ValueError> {
+    let value = string.value(alloc)?;
+    Ok(*value.as_slice() == *wanted)
+}
+
+fn value_of_c(rt: &HostRuntime, escaped: &ast::CString) -> Result<(), Stopped> {
+    let (same, first) = crate::asked!(
+        "value of a C string",
+        is_value_of_c(rt.alloc(), escaped, b"abcde")
+    );
+    let stands = escaped.text() == "c\"\\x61bcde\"";
+    say(rt, "value of a C string", first, stands, same)
+}
+
+fn value_string_of_float(rt: &HostRuntime, number: &ast::FloatNumber) -> Result<(), Stopped> {
+    let (digits, first) = crate::asked!("value_string of a float", number.value_string(rt.alloc()));
+    let stands = number.text() == "1_0.5f32";
+    say(
+        rt,
+        "value_string of a float",
+        first,
+        stands,
+        digits.as_str(),
+    )
+}
+
 fn value_string(rt: &HostRuntime, number: &ast::IntNumber) -> Result<(), Stopped> {
     let (digits, first) = crate::asked!("value_string", number.value_string(rt.alloc()));
     let stands = number.text() == "1_000u8";
@@ -84,6 +132,18 @@ fn value_string(rt: &HostRuntime, number: &ast::IntNumber) -> Result<(), Stopped
 fn values(rt: &HostRuntime) -> Result<(), Stopped> {
     match ast::String::cast(token(&sample(rt.alloc(), &ESCAPED)?)?) {
         Some(escaped) => value(rt, &escaped)?,
+        None => return Err(Stopped::Other("cast")),
+    }
+    match ast::ByteString::cast(token(&sample(rt.alloc(), &ESCAPED_BYTES)?)?) {
+        Some(escaped) => value_of_bytes(rt, &escaped)?,
+        None => return Err(Stopped::Other("cast")),
+    }
+    match ast::CString::cast(token(&sample(rt.alloc(), &ESCAPED_C)?)?) {
+        Some(escaped) => value_of_c(rt, &escaped)?,
+        None => return Err(Stopped::Other("cast")),
+    }
+    match ast::FloatNumber::cast(token(&sample(rt.alloc(), &FLOAT)?)?) {
+        Some(number) => value_string_of_float(rt, &number)?,
         None => return Err(Stopped::Other("cast")),
     }
     match ast::IntNumber::cast(token(&sample(rt.alloc(), &NUMBER)?)?) {

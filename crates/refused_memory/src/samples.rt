@@ -32,6 +32,23 @@ pub const SUM: [Event; 11] = [
 /// `"\x61bcde"`
 pub const ESCAPED: [Event; 3] = [Enter(K::LITERAL), Token(K::STRING, "\"\\x61bcde\""), Exit];
 
+/// `b"\x61bcde"`
+pub const ESCAPED_BYTES: [Event; 3] = [
+    Enter(K::LITERAL),
+    Token(K::BYTE_STRING, "b\"\\x61bcde\""),
+    Exit,
+];
+
+/// `c"\x61bcde"`
+pub const ESCAPED_C: [Event; 3] = [
+    Enter(K::LITERAL),
+    Token(K::C_STRING, "c\"\\x61bcde\""),
+    Exit,
+];
+
+/// `1_0.5f32`
+pub const FLOAT: [Event; 3] = [Enter(K::LITERAL), Token(K::FLOAT_NUMBER, "1_0.5f32"), Exit];
+
 /// `1_000u8`
 pub const NUMBER: [Event; 3] = [Enter(K::LITERAL), Token(K::INT_NUMBER, "1_000u8"), Exit];
 
