@@ -69,13 +69,21 @@ impl<T: Drop, A: Allocator> Shared<T, A> {
 }
 
 impl<T: Drop, A: Allocator> Drop for Shared<T, A> {
+    #[inline(always)]
     fn drop(self) {
         if let Some((value, block)) = self.remove_owner() {
-            let alloc = block.free();
-            drop(value);
-            drop(alloc);
+            free_last(value, block);
         }
     }
+}
+
+// The last owner gives the value and its block back.
+#[cold]
+#[inline(never)]
+fn free_last<T: Drop, A: Allocator>(value: T, block: Vacant<Block<T, A>, A>) {
+    let alloc = block.free();
+    drop(value);
+    drop(alloc);
 }
 
 impl<T: Drop, A: Allocator> Clone for Shared<T, A> {

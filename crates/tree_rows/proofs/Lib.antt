@@ -26,3 +26,5 @@ pub mod TableLemmas
 pub mod WalkLemmas
 pub mod WalkSteps
 pub mod Neighbours
+pub mod KeptLemmas
+pub mod Restarted

@@ -19,21 +19,3 @@ end_set ps rows n e p q is h is_p is_q =
     let read : unpacked p ≡ get_or rows n no_row = ap unpacked is_p ∙ sym (get_or-map unpacked ps n p no_row there) ∙ ap (λ l. get_or l n no_row) is in
     let with_end : Row → Row = λ r. record r { end = e } in
     map-set unpacked ps n q ∙ cong₂ (λ l r. set l n r) is (is_q ∙ ap with_end read)
-
-no_packed : PackedRow
-no_packed = record { kind = OTHER 0; start = 0; behind = 0 }
-
-start_read : (ps : List PackedRow) (i : ℕ) (d : PackedRow) (e : Row) → i < length ps → (get_or (map unpacked ps) i e).start ≡ (get_or ps i d).start
-start_read ps i d e h = ap (λ r. r.start) (get_or-map unpacked ps i d e h)
-
-pub packed_partitioned : (ps : List PackedRow) (o : ℕ) → IsPartitionedBy (λ r. nat_lt r.start o) (map unpacked ps) → IsPartitionedBy (λ p. nat_lt p.start o) ps
-packed_partitioned ps o w i j d le lt e =
-    ap (λ s. nat_lt s o) (sym (start_read ps i d (unpacked d) (omega arith)))
-    ∙ w i j (unpacked d) le (omega (arith, length-map ps unpacked)) (ap (λ s. nat_lt s o) (start_read ps j d (unpacked d) lt) ∙ e)
-
-pub unpacked_point : (ps : List PackedRow) (o i : ℕ) → i ≤ length ps → IsPartitionPoint (λ p. nat_lt p.start o ≡ true) (λ p. nat_lt p.start o ≡ false) ps i
-    → IsPartitionPoint (λ r. nat_lt r.start o ≡ true) (λ r. nat_lt r.start o ≡ false) (map unpacked ps) i
-unpacked_point ps o i le w = (
-  (λ k d a b. ap (λ s. nat_lt s o) (start_read ps k no_packed d (omega arith)) ∙ w.0 k no_packed a b),
-  (λ k d a b. ap (λ s. nat_lt s o) (start_read ps k no_packed d (omega (arith, length-map ps unpacked))) ∙ w.1 k no_packed a (omega (arith, length-map ps unpacked))),
-)

@@ -55,40 +55,6 @@ first_starts whole n m h is_m lt = in_tree (tree_at whole n) (at_row whole n h) 
         let is_row : m < size whole = omega (arith, At-fits a', some_row u, forest_size-cons whole nil) in
         omega (arith, At-ordered a' (at_row whole m is_row) (omega arith), At-ordered (at_row whole m is_row) a' (omega arith))
 
--- the rows from `from` on, before `to`
-abbrev pub part : Tree → ℕ → ℕ → List Row
-part whole from to = take (to - from) (drop from (rows_of (cons whole nil) 0 0))
-
-length-part : (whole : Tree) (from to : ℕ) → from ≤ to → to ≤ size whole → length (part whole from to) ≡ to - from
-length-part whole from to h fits = omega (arith, length-take (to - from) (drop from (rows_of (cons whole nil) 0 0)), length-drop from (rows_of (cons whole nil) 0 0), length-rows_of (cons whole nil) 0 0, forest_size-cons whole nil)
-
-row_in_part : (whole : Tree) (from to k : ℕ) (d : Row) → from ≤ to → to ≤ size whole → k < to - from → (get_or (part whole from to) k d).start ≡ start_at whole (from + k)
-row_in_part whole from to k d h fits lt =
-    let e : from + k < size whole = omega arith in
-    ap (λ r. r.start) (get_or-take (to - from) (drop from (rows_of (cons whole nil) 0 0)) k d lt ∙ get_or-drop from (rows_of (cons whole nil) 0 0) k d ∙ get_or_default (rows_of (cons whole nil) 0 0) (from + k) d no_row (omega (arith, length-rows_of (cons whole nil) 0 0, forest_size-cons whole nil)))
-    ∙ row_start whole (from + k) e
-
-pub part_is_partitioned : (whole : Tree) (from to offset : ℕ) → from ≤ to → to ≤ size whole → IsPartitionedBy (λ r. nat_lt r.start offset) (part whole from to)
-part_is_partitioned whole from to offset h fits i j d le lt e =
-    let lt' : j < to - from = omega (arith, lt, length-part whole from to h fits) in
-    let is_i = row_in_part whole from to i d h fits (omega arith) in
-    let is_j = row_in_part whole from to j d h fits lt' in
-    earlier_passes _ _ offset (omega (arith, is_i, is_j, starts_rise whole (from + i) (from + j) (omega arith) (omega arith))) e
-
-pub splits_at : (whole : Tree) (from to offset i : ℕ) → from ≤ to → to ≤ size whole → i ≤ length (part whole from to) → IsPartitionPoint (λ r. nat_lt r.start offset ≡ true) (λ r. nat_lt r.start offset ≡ false) (part whole from to) i → SplitsAt whole from to offset (from + i)
-splits_at whole from to offset i h fits le w =
-    let len = length-part whole from to h fits in
-    record {
-      begun = omega arith;
-      within = omega (arith, len, le);
-      before = λ k a b. let e : from + (k - from) ≡ k = omega arith in
-          let is = row_in_part whole from to (k - from) no_row h fits (omega (arith, len, le)) in
-          omega (arith, is, ap (start_at whole) e, passes _ offset (w.0 (k - from) no_row (omega arith) (omega arith)));
-      behind = λ k a b. let e : from + (k - from) ≡ k = omega arith in
-          let is = row_in_part whole from to (k - from) no_row h fits (omega arith) in
-          omega (arith, is, ap (start_at whole) e, fails _ offset (w.1 (k - from) no_row (omega arith) (omega (arith, len))));
-    }
-
 -- ---- guesses
 
 -- row k, in the stretch, starts before the offset, so do those before it
@@ -135,10 +101,11 @@ kept_between whole s offset j k low order high fits lt le =
       behind = starts_behind whole s offset k (omega (arith, low, order)) high fits le;
     }
 
-pub split_near : (whole : Tree) (s t : Stretch) (offset i : ℕ) → IsNarrowed whole s offset t → SplitsAt whole t.low t.high offset i → SplitsAt whole s.low s.high offset i
-split_near whole s t offset i a w = record {
-  begun = omega (arith, a.begun, w.begun);
-  within = omega (arith, a.within, w.within);
-  before = λ k from lt. elim (below_or_after k t.low) [ inl early ↦ a.before k from early | inr late ↦ w.before k (omega (arith, late.1)) lt ];
-  behind = λ k from lt. elim (below_or_after k t.high) [ inl early ↦ w.behind k from early | inr late ↦ a.behind k (omega (arith, late.1)) lt ];
+-- where nothing is left of the stretch
+pub split_there : (whole : Tree) (s t : Stretch) (offset : ℕ) → IsNarrowed whole s offset t → t.high ≤ t.low → SplitsAt whole s.low s.high offset t.low
+split_there whole s t offset a h = record {
+  begun = a.begun;
+  within = omega (arith, a.ordered, a.within);
+  before = a.before;
+  behind = λ k from lt. a.behind k (omega (arith, from, h)) lt;
 }

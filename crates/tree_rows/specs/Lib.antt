@@ -8,3 +8,4 @@ pub mod Run
 pub mod RowEquality
 pub mod RowEqualityLaws
 pub mod PackedRow
+pub mod StartsMoved

@@ -33,15 +33,3 @@ row_code =
 abbrev pub columns_code : Coded Columns
 columns_code =
     code_by (List Row × List ℕ) (coded× (coded_list row_code) (coded_list coded_ℕ)) (λ c. (c.rows, c.parents)) (λ p. record { rows = p.0; parents = p.1 }) (λ _. refl)
-
--- the same row, kept so
-abbrev pub is_same_packed : PackedRow → PackedRow → Bool
-is_same_packed a b = is_same_row (unpacked a) (unpacked b)
-
--- the test is an equivalence, since that of the rows is
-pub packed_equivalence : IsEquivalence is_same_packed
-packed_equivalence = record {
-  refl = λ a. row_equivalence.refl (unpacked a);
-  symm = λ a b. row_equivalence.symm (unpacked a) (unpacked b);
-  congr = λ a b c. row_equivalence.congr (unpacked a) (unpacked b) (unpacked c);
-}

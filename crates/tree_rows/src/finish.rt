@@ -9,6 +9,7 @@ ghost use Rattle.tree_rows.specs.Rows.{columns_of};
 ghost use Rattle.tree_rows.specs.Run.{text_len, row_count};
 
 use crate::builder_event::BuilderEvent;
+use crate::kept::Kept;
 use crate::rows::{Row, Rows};
 use std::alloc::{AllocError, Global};
 use tree_model::FinishError;
@@ -76,7 +77,7 @@ fn row_count(steps: &[BuilderEvent]) -> usize
 }
 
 /// The rows of the steps of a forest, and their parents.
-pub fn build_rows(alloc: Global, steps: &[BuilderEvent]) -> Result<Rows, AllocError>
+pub fn build_rows(alloc: Global, steps: &[BuilderEvent]) -> Result<Kept, AllocError>
     requires { text_len steps.now < 2 ^ 32 }
     ensures { IfOk result (λ rows. (f : Forest) → steps.now ≡ map step_of (events_of f) → rows ≡ columns_of f) }
 {
@@ -118,5 +119,6 @@ pub fn build_rows(alloc: Global, steps: &[BuilderEvent]) -> Result<Rows, AllocEr
             }
         }
     }
-    Ok(rows)
+    let kept = Kept::new(alloc, rows)?;
+    Ok(kept)
 }

@@ -5,11 +5,12 @@
 
 mod builder_event;
 mod finish;
+mod kept;
 pub mod laws;
 mod rows;
 mod table;
 
 pub use builder_event::BuilderEvent;
 pub use finish::{build_rows, first_refusal};
-pub use rows::Rows;
+pub use kept::Kept;
 pub use table::{Table, WalkStep};

@@ -1,6 +1,6 @@
 //! Rows, in 16 bytes each, and their parents beside them, in 8.
-ghost use Rattle.std.specs.Prelude.{◌≡◌, ◌<◌, ◌≤◌, ◌-◌, ◌^◌, length, get_or, take, drop, nat_lt, true, false, IfOk, OnOk, OnErr};
-ghost use Rattle.std.specs.List.Sorted.{IsPartitionedBy, IsPartitionPoint};
+ghost use Rattle.std.specs.Cmp.Lexicographic.{pointwise};
+ghost use Rattle.std.specs.Prelude.{◌≡◌, ◌==◌, ◌<◌, ◌^◌, length, get_or, IfOk, OnOk, OnErr};
 ghost use Rattle.std.proofs.Math.ListN.{set};
 ghost use Rattle.tree_rows.specs.Rows.{no_row, no_rows, one_row, joined};
 ghost use Rattle.tree_rows.specs.PackedRow.{unpacked};
@@ -162,20 +162,11 @@ impl Rows {
         self.packed[n].set_end(end);
     }
 
-    /// How many of the rows `from..to`, whose starts don't fall, start before `offset`. It goes by halves.
-    pub fn count_before(&self, from: usize, to: usize, offset: usize) -> usize
-        requires ordered { from ≤ to }
-        requires in_range { to ≤ length self.now.rows }
-        requires rising { IsPartitionedBy (λ r. nat_lt r.start offset) (take (to - from) (drop from self.now.rows)) }
-        ensures bound { result ≤ length (take (to - from) (drop from self.now.rows)) }
-        ensures point { IsPartitionPoint (λ r. nat_lt r.start offset ≡ true) (λ r. nat_lt r.start offset ≡ false) (take (to - from) (drop from self.now.rows)) result }
+    /// Whether the numbers of the parents are the same.
+    pub(crate) fn has_same_parents(&self, other: &Rows) -> bool
+        ensures { result ≡ pointwise ◌==◌ self.now.parents other.now.parents }
     {
-        let rows = self.packed.as_slice();
-        rows[from..to].partition_point(
-            |row: &PackedRow| -> bool
-                ensures { result ≡ nat_lt row.now.start offset }
-            { (row.start as usize) < offset },
-        )
+        self.parents.as_slice() == other.parents.as_slice()
     }
 }
 
@@ -193,33 +184,5 @@ impl PartialEq for Row {
             && self.is_token == other.is_token
             && self.start == other.start
             && self.end == other.end
-    }
-}
-
-impl PartialEq for PackedRow {
-    ghost use Rattle.tree_rows.specs.PackedRow.{is_same_packed, packed_equivalence};
-    ghost use Rattle.std.specs.Cmp.{partial_equiv_from_equiv};
-
-    ghost eq = { is_same_packed };
-
-    ghost laws = { partial_equiv_from_equiv packed_equivalence };
-
-    fn eq(&self, other: &PackedRow) -> bool {
-        self.row() == other.row()
-    }
-}
-
-impl PartialEq for Rows {
-    ghost use Rattle.tree_rows.specs.RowEquality.{are_same_columns};
-    ghost use Rattle.tree_rows.specs.RowEqualityLaws.{columns_equivalence};
-    ghost use Rattle.std.specs.Cmp.{partial_equiv_from_equiv};
-
-    ghost eq = { are_same_columns };
-
-    ghost laws = { partial_equiv_from_equiv columns_equivalence };
-
-    fn eq(&self, other: &Rows) -> bool {
-        self.packed.as_slice() == other.packed.as_slice()
-            && self.parents.as_slice() == other.parents.as_slice()
     }
 }

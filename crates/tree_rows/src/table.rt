@@ -10,7 +10,8 @@ mod search;
 mod steps;
 mod walk;
 
-use crate::rows::{Row, Rows};
+use crate::kept::Kept;
+use crate::rows::Row;
 use std::marker::Model;
 use syntax_kind::SyntaxKind;
 use text_size::{TextRange, TextSize};
@@ -20,7 +21,7 @@ pub use walk::WalkStep;
 #[derive(Drop)]
 pub struct Table {
     text: String,
-    rows: Rows,
+    rows: Kept,
 }
 
 impl Model for Table {
@@ -41,7 +42,7 @@ impl Model for Table {
 
 impl Table {
     /// The table of a text and of rows that represent a tree of it.
-    pub fn from_parts(text: String, rows: Rows) -> Self
+    pub fn from_parts(text: String, rows: Kept) -> Self
         requires { Represents rows (string_bytes text) (tree_of_rows rows (string_bytes text)) }
         ensures { result ≡ tree_of_rows rows (string_bytes text) }
     {

@@ -10,6 +10,8 @@ ghost use Rattle.tree_model.specs.Placed.{IsPlaced};
 ghost use Rattle.tree_rows.specs.MovedRows.{moved_number, moved_row, moved, MoveFits, rows_between, moved_subtree, moved_before, moved_behind};
 
 use super::Table;
+use super::search::same_kind;
+use crate::kept::Kept;
 use crate::rows::{Row, Rows};
 use std::alloc::{AllocError, Global};
 use syntax_kind::SyntaxKind;
@@ -116,7 +118,8 @@ impl Table {
         let text = String::from_str(alloc, self.text_at(n))?;
         let mut rows = Rows::with_capacity(alloc, self.size_at(n))?;
         self.push_node(&mut rows, n, 0, 0, 0)?;
-        Ok(Table::from_parts(text, rows))
+        let kept = Kept::new(alloc, rows)?;
+        Ok(Table::from_parts(text, kept))
     }
 
     // The whole text with `new` in place of that of row `n`.
@@ -189,23 +192,33 @@ impl Table {
         n: usize,
         kind: SyntaxKind,
         new: &str,
-    ) -> Result<Rows, AllocError>
+    ) -> Result<Kept, AllocError>
         requires is_row { n < size self.now }
+        requires is_token { IsToken (tree_at self.now n) }
         requires fits { length (splice (text self.now) (start_at self.now n) (end_at self.now n) new.now) < 2 ^ 32 }
         ensures { IfOk result (λ rows. rows ≡ columns_of (cons (replace self.now (place_at self.now n) (token kind new.now)) nil)) }
     {
         // Opens the table's invariant for the proof.
         let _count = self.rows.len();
+        let from = self.end_at(n);
+        let start = self.start_at(n);
+        let to = start as usize + new.len();
+        if same_kind(self.kind_at(n), kind) {
+            if let Some(rows) = self.rows.restarted(n, from, to) {
+                return Ok(rows);
+            }
+        }
         let mut rows = self.rows_before(alloc, n, 1)?;
         let token = Row {
             kind,
             is_token: true,
-            start: self.start_at(n),
+            start,
             end: n + 1,
         };
         rows.push(token, self.parent(n))?;
         self.push_behind(&mut rows, n, 1, new.len())?;
-        Ok(rows)
+        let kept = Kept::new(alloc, rows)?;
+        Ok(kept)
     }
 
     // The rows of the tree with the node at row `other` of `piece` in place of the subtree at row `n`.
@@ -215,7 +228,7 @@ impl Table {
         n: usize,
         piece: &Table,
         other: usize,
-    ) -> Result<Rows, AllocError>
+    ) -> Result<Kept, AllocError>
         requires is_row { n < size self.now }
         requires is_other { other < size piece.now }
         requires is_node { IsNode (tree_at piece.now other) }
@@ -231,7 +244,8 @@ impl Table {
         let mut rows = self.rows_before(alloc, n, count)?;
         piece.push_node(&mut rows, other, n, start, self.parent(n))?;
         self.push_behind(&mut rows, n, count, bytes)?;
-        Ok(rows)
+        let kept = Kept::new(alloc, rows)?;
+        Ok(kept)
     }
 
     /// The table of the tree with a token in place of the token at row `n`.

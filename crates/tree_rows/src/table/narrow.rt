@@ -36,6 +36,27 @@ impl Table {
         near
     }
 
+    // What the row in the middle says.
+    pub(super) fn halved(&self, whole: Stretch, offset: usize) -> Stretch
+        requires some { whole.low < whole.high }
+        requires in_range { whole.high ≤ size self.now }
+        ensures narrowed { IsNarrowed self.now whole offset result }
+        ensures shorter { result.high - result.low < whole.high - whole.low }
+    {
+        let middle = whole.low + (whole.high - whole.low) / 2;
+        if (self.start_at(middle) as usize) < offset {
+            Stretch {
+                low: middle + 1,
+                high: whole.high,
+            }
+        } else {
+            Stretch {
+                low: whole.low,
+                high: middle,
+            }
+        }
+    }
+
     // What two rows say, so far before the guess and behind it, or the nearest that the stretch has.
     fn narrower(&self, whole: Stretch, guess: usize, offset: usize, reach: usize) -> Stretch
         requires some { whole.low < whole.high }

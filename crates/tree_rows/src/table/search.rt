@@ -22,14 +22,17 @@ impl Table {
         requires in_range { to ≤ size self.now }
         ensures { SplitsAt self.now from to offset result }
     {
-        let near = self.narrowed(
+        let mut near = self.narrowed(
             Stretch {
                 low: from,
                 high: to,
             },
             offset,
         );
-        near.low + self.rows.count_before(near.low, near.high, offset)
+        while near.low < near.high {
+            near = self.halved(near, offset);
+        }
+        near.low
     }
 
     /// The tokens in the subtree at row `n` that have a text and touch the offset: one that starts before it, and one
@@ -147,7 +150,7 @@ impl Table {
 }
 
 // Kinds are the same where their numbers are.
-fn same_kind(kind: SyntaxKind, other: SyntaxKind) -> bool
+pub(super) fn same_kind(kind: SyntaxKind, other: SyntaxKind) -> bool
     ensures { IsTrue result ↔ (kind ≡ other) }
 {
     kind.to_raw() == other.to_raw()

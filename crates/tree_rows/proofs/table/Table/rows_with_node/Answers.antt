@@ -1,4 +1,4 @@
-use Rattle.std.proofs.Common.{◌-◌, arith}
+use Rattle.std.proofs.Common.{◌-◌, ◌∙◌, arith}
 use Rattle.tree_model.specs.Tree.{text}
 use Rattle.tree_model.specs.Rows.{tree_at}
 use Rattle.tree_rows.proofs.TableLemmas.{shown, rows_len}
@@ -29,6 +29,7 @@ push_behind-requires-clause-rows_fit c = c.in_ok-rows.ensures.fits
 
 pub returns : goal.returns
 returns c =
-    node_replaced c.args.self.now c.args.n c.requires.is_row c.args.piece.now c.args.other c.in_ok-rows.rows c.push_node.new.rows c.push_behind.new.rows c.start_at-start.result c.size_at-count.result (c.end_at.result - c.start_at.result) c.parent.result
+    c.in_ok-kept.ensures
+    ∙ node_replaced c.args.self.now c.args.n c.requires.is_row c.args.piece.now c.args.other c.in_ok-rows.rows c.push_node.new.rows c.push_behind.new.rows c.start_at-start.result c.size_at-count.result (c.end_at.result - c.start_at.result) c.parent.result
     c.requires.is_other c.requires.is_node c.start_at-start.ensures c.size_at-count.ensures (omega (arith, c.end_at.ensures.value, c.start_at.ensures)) c.parent.ensures
     c.in_ok-rows.ensures.rows c.in_ok-push_node.ensures c.in_ok-push_behind.ensures

@@ -7,7 +7,7 @@ use Rattle.tree_rows.proofs.TableLemmas.{shown, rows_len, table_of, tree_of_rows
 use Rattle.tree_model.proofs.EditLemmas.{within_rows}
 use Rattle.tree_rows.proofs.EditLemmas.{subtree_shown, text_fits}
 use Rattle.tree_rows.proofs.table.Table.subtree.Goals as goal
-use Rattle.tree_rows.proofs.table.Table.subtree.Goals.{In_ok-push_node}
+use Rattle.tree_rows.proofs.table.Table.subtree.Goals.{In_ok-kept}
 
 pub push_node-requires-clause-rows_fit : goal.push_node-requires-clause-rows_fit
 push_node-requires-clause-rows_fit c =
@@ -17,12 +17,12 @@ push_node-requires-clause-rows_fit c =
 pub push_node-requires-clause-bytes_fit : goal.push_node-requires-clause-bytes_fit
 push_node-requires-clause-bytes_fit c = omega (arith, text_fits _ _ c.args.self.now c.args.n (shown _ _ _ c.self.view_is c.self.invariant) c.requires.is_row)
 
-shows : (c : In_ok-push_node) → Represents c.push_node.new.rows (string_bytes c.in_ok-text.text) (tree_at c.args.self.now c.args.n)
-shows c = subtree_shown c.args.self.now c.args.n _ c.push_node.new.rows _ (string_bytes c.in_ok-text.text) c.requires.is_row c.requires.is_node (shown _ _ _ c.self.view_is c.self.invariant)
-    (c.in_ok-push_node.ensures ∙ ap (λ k. joined k (moved_subtree c.args.self.now c.args.n 0 0 0)) c.in_ok-rows.ensures.empty) (c.in_ok-text.ensures.ok ∙ c.text_at.ensures)
+shows : (c : In_ok-kept) → Represents c.in_ok-kept.kept (string_bytes c.in_ok-text.text) (tree_at c.args.self.now c.args.n)
+shows c = subtree_shown c.args.self.now c.args.n _ c.in_ok-kept.kept _ (string_bytes c.in_ok-text.text) c.requires.is_row c.requires.is_node (shown _ _ _ c.self.view_is c.self.invariant)
+    (c.in_ok-kept.ensures ∙ c.in_ok-push_node.ensures ∙ ap (λ k. joined k (moved_subtree c.args.self.now c.args.n 0 0 0)) c.in_ok-rows.ensures.empty) (c.in_ok-text.ensures.ok ∙ c.text_at.ensures)
 
 pub from_parts-requires : goal.from_parts-requires
-from_parts-requires c = table_of (tree_at c.args.self.now c.args.n) _ _ (shows (goal.at.from_parts-requires c).In_ok-push_node)
+from_parts-requires c = table_of (tree_at c.args.self.now c.args.n) _ _ (shows (goal.at.from_parts-requires c).In_ok-kept)
 
 pub returns : goal.returns
-returns c = let w = shows (goal.at.returns c).In_ok-push_node in c.from_parts.ensures ∙ tree_of_rows-rows_of (tree_at c.args.self.now c.args.n) c.push_node.new.rows _ w.rows_are w.text_is
+returns c = let w = shows (goal.at.returns c).In_ok-kept in c.from_parts.ensures ∙ tree_of_rows-rows_of (tree_at c.args.self.now c.args.n) c.in_ok-kept.kept _ w.rows_are w.text_is

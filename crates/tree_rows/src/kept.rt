@@ -1,0 +1,147 @@
+//! Rows that trees share: those behind one of them may start elsewhere than they are kept.
+ghost use Rattle.std.specs.Prelude.{◌≡◌, ◌<◌, ◌≤◌, ◌^◌, length, get_or, IfOk, IfSome};
+ghost use Rattle.std.specs.Cmp.Lexicographic.{pointwise};
+ghost use Rattle.tree_rows.specs.Rows.{no_row};
+ghost use Rattle.tree_rows.specs.StartsMoved.{starts_moved, StartsFit};
+ghost use Rattle.tree_rows.specs.RowEquality.{is_same_row};
+
+use crate::rows::{Row, Rows};
+use shared_pointer::Shared;
+use std::alloc::{AllocError, Global};
+use std::marker::Model;
+
+/// Rows and their parents. A clause sees both columns.
+#[derive(Drop)]
+pub struct Kept {
+    rows: Shared<Rows>,
+    /// The rows behind this one start elsewhere.
+    at: usize,
+    /// From this byte on they are kept,
+    from: usize,
+    /// and from that byte on they stand.
+    to: usize,
+}
+
+impl Model for Kept {
+    ghost use Rattle.tree_rows.specs.Rows.{Columns};
+    ghost use Rattle.tree_rows.specs.PackedRow.{columns_code};
+    ghost use Rattle.tree_rows.specs.StartsMoved.{starts_moved, StartsFit};
+
+    ghost Value = { Columns };
+
+    ghost coded = { columns_code };
+
+    ghost view = { λ a. starts_moved a.at a.from a.to a.rows.value };
+
+    ghost invariant = { λ a. StartsFit a.at a.from a.to a.rows.value };
+}
+
+impl Kept {
+    /// These rows, as they are.
+    pub fn new(alloc: Global, rows: Rows) -> Result<Kept, AllocError>
+        ensures { IfOk result (λ kept. kept ≡ rows) }
+    {
+        // For the proof: no row has a number as large as the one that is kept.
+        let _count = rows.len();
+        let rows = Shared::new(alloc, rows)?;
+        Ok(Kept {
+            rows,
+            at: usize::MAX,
+            from: 0,
+            to: 0,
+        })
+    }
+
+    /// How many rows there are.
+    pub fn len(&self) -> usize
+        ensures value { result ≡ length self.now.rows }
+        ensures small { result < 2 ^ 63 }
+    {
+        self.rows.as_ref().len()
+    }
+
+    /// Row `n`.
+    pub(crate) fn get(&self, n: usize) -> Row
+        requires { n < length self.now.rows }
+        ensures value { result ≡ get_or self.now.rows n no_row }
+        ensures fits { result.end < 2 ^ 63 }
+    {
+        let row = self.rows.as_ref().get(n);
+        if n <= self.at {
+            return row;
+        }
+        let start = (row.start as usize).saturating_sub(self.from) + self.to;
+        Row {
+            kind: row.kind,
+            is_token: row.is_token,
+            start: start as u32,
+            end: row.end,
+        }
+    }
+
+    /// The number that stands beside row `n`.
+    pub(crate) fn parent(&self, n: usize) -> usize
+        requires { n < length self.now.rows }
+        ensures { result ≡ get_or self.now.parents n 0 }
+    {
+        self.rows.as_ref().parent(n)
+    }
+
+    /// The same rows, where those behind row `n`, which start at `from` or behind it, start so much later as `to` is behind that.
+    /// They are shared. `None` where others start elsewhere already.
+    pub(crate) fn restarted(&self, n: usize, from: usize, to: usize) -> Option<Kept>
+        requires is_row { n < length self.now.rows }
+        requires fits { StartsFit n from to self.now }
+        ensures { IfSome result (λ kept. kept ≡ starts_moved n from to self.now) }
+    {
+        // For the proof: no row has a number as large as the one that is kept.
+        let _count = self.len();
+        if self.at == usize::MAX {
+            return Some(Kept {
+                rows: self.rows.share(),
+                at: n,
+                from,
+                to,
+            });
+        }
+        if self.at == n && self.to == from {
+            return Some(Kept {
+                rows: self.rows.share(),
+                at: n,
+                from: self.from,
+                to,
+            });
+        }
+        None
+    }
+
+    fn has_same_rows(&self, other: &Kept) -> bool
+        ensures { result ≡ pointwise is_same_row self.now.rows other.now.rows }
+    {
+        let count = self.len();
+        if other.len() != count {
+            return false;
+        }
+        for n in 0..count {
+            if self.get(n) == other.get(n) {
+            } else {
+                return false;
+            }
+        }
+        true
+    }
+}
+
+impl PartialEq for Kept {
+    ghost use Rattle.tree_rows.specs.RowEquality.{are_same_columns};
+    ghost use Rattle.tree_rows.specs.RowEqualityLaws.{columns_equivalence};
+    ghost use Rattle.std.specs.Cmp.{partial_equiv_from_equiv};
+
+    ghost eq = { are_same_columns };
+
+    ghost laws = { partial_equiv_from_equiv columns_equivalence };
+
+    fn eq(&self, other: &Kept) -> bool {
+        self.has_same_rows(other) && self.rows.as_ref().has_same_parents(other.rows.as_ref())
+    }
+}
