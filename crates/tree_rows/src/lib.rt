@@ -8,6 +8,7 @@ mod finish;
 mod kept;
 pub mod laws;
 mod rows;
+mod shift;
 mod table;
 
 pub use builder_event::BuilderEvent;
