@@ -1,5 +1,5 @@
 -- A token with another text: the rows stay, and those behind it start elsewhere.
-use Rattle.std.proofs.Common.{◌≡◌, inl, inr, ℕ, suc, ◌+◌, ◌-◌, ◌<◌, ◌≤◌, List, ◌∷◌, ◌++◌, [], length, map, take, drop, true, false, refl, sym, ap, ◌∙◌, arith}
+use Rattle.std.proofs.Common.{◌≡◌, inl, inr, ℕ, suc, ◌+◌, ◌-◌, ◌<◌, List, ◌∷◌, ◌++◌, [], length, map, take, drop, true, refl, sym, ap, ◌∙◌, arith}
 use Rattle.std.proofs.lemmas.List.{length-drop, take_all, take-append-drop}
 use Rattle.syntax_kind.specs.declared.syntax_kind.SyntaxKind.{SyntaxKind}
 use Rattle.tree_rows.specs.declared.rows.Row.{Row}
@@ -19,9 +19,9 @@ use Rattle.tree_rows.proofs.EditLemmas.{token_pushed}
 
 same_number : (e b d x : ℕ) → moved_number (shift_from e e b d) x ≡ x
 same_number e b d x = elim (below_or_after x e) [
-    | inl less ↦ moved-below (shift_from e e b d) x less
-    | inr more ↦ moved-above (shift_from e e b d) x (omega (arith, more.1)) ∙ omega (arith, more.1)
-  ]
+  | inl less ↦ moved-below (shift_from e e b d) x less
+  | inr more ↦ moved-above (shift_from e e b d) x (omega (arith, more.1)) ∙ omega (arith, more.1)
+]
 
 same_all : {X : Type 0} (f : X → X) → ((x : X) → f x ≡ x) → (xs : List X) → map f xs ≡ xs
 same_all f h [] = refl

@@ -123,8 +123,7 @@ impl Kept {
             return false;
         }
         for n in 0..count {
-            if self.get(n) == other.get(n) {
-            } else {
+            if self.get(n) == other.get(n) {} else {
                 return false;
             }
         }

@@ -10,7 +10,7 @@ pub mod laws;
 mod rows;
 mod table;
 
-pub use builder_event::BuilderEvent;
+pub use builder_event::{BuilderEvent, TreeStep};
 pub use finish::{build_rows, first_refusal};
 pub use kept::Kept;
 pub use table::{Table, WalkStep};
