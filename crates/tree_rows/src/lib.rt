@@ -11,7 +11,7 @@ mod rows;
 mod shift;
 mod table;
 
-pub use builder_event::BuilderEvent;
+pub use builder_event::{BuilderEvent, TreeStep};
 pub use finish::{build_rows, first_refusal};
 pub use kept::Kept;
 pub use table::{Table, WalkStep};
