@@ -28,3 +28,4 @@ pub mod WalkSteps
 pub mod Neighbours
 pub mod KeptLemmas
 pub mod Restarted
+pub mod FlatLemmas

@@ -13,4 +13,4 @@ mod table;
 pub use builder_event::BuilderEvent;
 pub use finish::{build_rows, first_refusal};
 pub use kept::Kept;
-pub use table::{Table, WalkStep};
+pub use table::{FlatRow, Table, WalkStep};
