@@ -75,13 +75,13 @@ cut_out rows xs ys zs a b is is_a is_b =
     ∙ ap (take (b - a)) (drop-append_seam xs (ys ++ zs)) ∙ ap (λ k. take k (ys ++ zs)) count ∙ take-append_seam ys zs
 
 -- the rows of a subtree among those of the tree
-record Segment (whole : Tree) (n : ℕ) (h : n < size whole) : Type 0 where
-  before : List Hung
-  behind : List Hung
-  is : hung_of (cons whole nil) 0 0 0 ≡ before ++ (hung_of (cons (tree_at whole n) nil) n (start_at whole n) (up_at whole n h) ++ behind)
-  count : length before ≡ n
+pub record Segment (whole : Tree) (n : ℕ) (h : n < size whole) : Type 0 where
+  pub before : List Hung
+  pub behind : List Hung
+  pub is : hung_of (cons whole nil) 0 0 0 ≡ before ++ (hung_of (cons (tree_at whole n) nil) n (start_at whole n) (up_at whole n h) ++ behind)
+  pub count : length before ≡ n
 
-segment : (whole : Tree) (n : ℕ) (h : n < size whole) → Segment whole n h
+pub segment : (whole : Tree) (n : ℕ) (h : n < size whole) → Segment whole n h
 segment whole n h =
     let t = tree_at whole n in
     let w = replaced (at_row whole n h) t 0 0 0 ((0 + n) + size t) ((0 + n) + size t) ((0 + start_at whole n) + length (text t)) ((0 + start_at whole n) + length (text t)) (omega arith) refl refl refl refl in

@@ -29,3 +29,4 @@ pub mod Neighbours
 pub mod KeptLemmas
 pub mod Restarted
 mod InPlace
+pub mod FlatLemmas

@@ -14,4 +14,4 @@ mod table;
 pub use builder_event::{BuilderEvent, TreeStep};
 pub use finish::{build_rows, first_refusal};
 pub use kept::Kept;
-pub use table::{Table, WalkStep};
+pub use table::{FlatRow, Table, WalkStep};
