@@ -10,7 +10,7 @@ use Rattle.tree_model.specs.Tree.{Tree, node, token, Forest, nil, cons, size, fo
 use Rattle.tree_model.specs.Rows.{tree_at, start_at}
 use Rattle.tree_rows.specs.Rows.{row_at, parent_at, no_row, row_of}
 use Rattle.tree_rows.specs.Flat.{flat_kind, flat_forest, flat_rows, flat_row_at}
-use Rattle.tree_rows.specs.declared.table.edit.Shift.{Shift}
+use Rattle.tree_rows.specs.declared.shift.Shift.{Shift}
 use Rattle.tree_rows.specs.MovedRows.{shift_from, moved_number}
 use Rattle.tree_rows.proofs.Hung.{Hung, hung, hung_of}
 use Rattle.tree_rows.proofs.At.{length-hung_of, hung-At}
