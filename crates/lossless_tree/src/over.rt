@@ -13,7 +13,11 @@ use tree_rows::{Table, TreeStep};
 /// It is the tree that a [`TreeBuilder`](crate::TreeBuilder) makes of the same events, in one pass over the steps as they stand:
 /// no list of events is made, the text is copied once, and no refusal is looked for, since the caller knows that the steps build
 /// one tree. It takes time linear in the steps and the text.
-pub fn tree_over<S: TreeStep>(alloc: Global, text: &str, steps: &[S]) -> Result<SyntaxNode, AllocError>
+pub fn tree_over<S: TreeStep>(
+    alloc: Global,
+    text: &str,
+    steps: &[S],
+) -> Result<SyntaxNode, AllocError>
     requires short { length text.now < 2 ^ 32 }
     requires one_tree { IsOneTree (filter_map S.step_event steps.now) text.now }
     ensures { IfOk result (λ root. BuildsNode (events_from (filter_map S.step_event steps.now) text.now) root.tree × IsRoot root) }
