@@ -2,9 +2,8 @@ use Rattle.std.proofs.Common.{◌≡◌, ◌∙◌, sym, subst, filter_map, []}
 use Rattle.std.proofs.lemmas.List.{nil_from_length}
 use Rattle.std.specs.Vec.Iter.{into_iter_items}
 use Rattle.tree_rows.specs.Builder.{IsOneTree}
-use Rattle.ras_front_end.specs.Reading.{reading_of}
 use Rattle.ras_front_end.specs.TreeEvent.{tree_event}
-use Rattle.ras_parsing.proofs.BuildLemmas.{IsFinished, finished, one_tree}
+use Rattle.ras_parsing.proofs.BuildLemmas.{finished, one_tree}
 use Rattle.ras_parsing.proofs.build.build_output.Goals as goal
 
 pub tree_over-requires-clause-one_tree : goal.tree_over-requires-clause-one_tree
