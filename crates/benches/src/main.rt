@@ -8,6 +8,7 @@ mod stopped;
 mod suite;
 mod timing;
 mod trees;
+mod walks;
 
 use std::env;
 use std::process::ExitCode;
@@ -24,7 +25,7 @@ fn run(rt: &HostRuntime) -> Result<(), Stopped> {
     match wanted(rt) {
         Some(suite) => suite.time(rt),
         None => {
-            println!(rt; "usage: benches trees | fronts | operators | literals")?;
+            println!(rt; "usage: benches trees | fronts | operators | walks | literals")?;
             Ok(())
         }
     }

@@ -5,6 +5,7 @@ use crate::literals::time_literals;
 use crate::operators::time_operators;
 use crate::stopped::Stopped;
 use crate::trees::time_trees;
+use crate::walks::time_walks;
 
 #[derive(Clone, Copy)]
 pub enum Suite {
@@ -14,6 +15,8 @@ pub enum Suite {
     Fronts,
     /// The calls on parentheses.
     Operators,
+    /// The test for parentheses, where it walks far.
+    Walks,
     /// The values of string literals.
     Literals,
 }
@@ -25,6 +28,7 @@ impl Suite {
             "trees" => Some(Suite::Trees),
             "fronts" => Some(Suite::Fronts),
             "operators" => Some(Suite::Operators),
+            "walks" => Some(Suite::Walks),
             "literals" => Some(Suite::Literals),
             _ => None,
         }
@@ -36,6 +40,7 @@ impl Suite {
             Suite::Trees => time_trees(rt),
             Suite::Fronts => time_fronts(rt),
             Suite::Operators => time_operators(rt),
+            Suite::Walks => time_walks(rt),
             Suite::Literals => time_literals(rt),
         }
     }
