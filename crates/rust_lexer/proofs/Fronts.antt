@@ -22,10 +22,10 @@ pub longest : (c : Class) (s : List ℕ) → FollowsLongest (is_in_of c) s (skip
 longest c [] = record { front = []; parts = refl; all_pass = All-nil (λ b. is_in_of c b ≡ true); next_fails = refl }
 longest c (x ∷ s) = skip_on (is_in_of c x) c x s refl (longest c s)
 
-is_same : (b n : ℕ) → (b == n) ≡ true → b ≡ n
+pub is_same : (b n : ℕ) → (b == n) ≡ true → b ≡ n
 is_same b n h = grind (arith, nat_tests)
 
-is_other : (b n : ℕ) → (b == n) ≡ false → b ≢ n
+pub is_other : (b n : ℕ) → (b == n) ≡ false → b ≢ n
 is_other b n h = grind (arith, nat_tests)
 
 pub closed_run : (s : List ℕ) → run_of Closed s ≡ (Closed, s)
@@ -69,7 +69,7 @@ both_read (b ∷ s) =
 pub strings_read : (s : List ℕ) → (run_of Text s).0 ≡ Closed → StringRead s (run_of Text s).1
 strings_read s = (both_read s).0
 
-other_is : (b n : ℕ) → b ≢ n → (b == n) ≡ false
+pub other_is : (b n : ℕ) → b ≢ n → (b == n) ≡ false
 other_is b n h = grind (arith, nat_tests)
 
 plain_step : (b : ℕ) (s : List ℕ) → (b == 34) ≡ false → (b == 92) ≡ false → run_of Text (b ∷ s) ≡ run_of Text s

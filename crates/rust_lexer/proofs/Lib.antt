@@ -5,3 +5,7 @@ pub mod Steps
 pub mod Kept
 pub mod Fronts
 pub mod RawFronts
+pub mod CommentFronts
+pub mod NumberFronts
+pub mod NameFronts
+pub mod QuoteFronts

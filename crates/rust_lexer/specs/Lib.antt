@@ -17,3 +17,7 @@ pub mod Laws
 pub mod Single
 pub mod Messages
 pub mod Fronts
+pub mod CommentLaws
+pub mod NumberLaws
+pub mod NameLaws
+pub mod QuoteLaws

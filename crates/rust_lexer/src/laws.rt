@@ -1,5 +1,9 @@
 //! Laws of how tokens are read. The functions do nothing: the contract is the law.
 ghost use Rattle.rust_lexer.specs.Fronts.{LongestFronts, StringsAreRead, ContentsAreRead, RawStringsAreRead};
+ghost use Rattle.rust_lexer.specs.CommentLaws.{BlockCommentsAreRead};
+ghost use Rattle.rust_lexer.specs.NameLaws.{LongestCharacters, NamesAreRead};
+ghost use Rattle.rust_lexer.specs.NumberLaws.{NumbersAreRead};
+ghost use Rattle.rust_lexer.specs.QuoteLaws.{CharactersAreRead, CharacterContentsAreRead};
 
 /// White space, names, digits and the rest of a line are the longest front of the text whose bytes are of their class.
 pub fn longest_fronts()
@@ -15,4 +19,26 @@ pub fn strings()
 /// A raw string ends with a quote and as many `#` as it begins with.
 pub fn raw_strings()
     ensures { RawStringsAreRead }
+{}
+
+/// A block comment, whose text is shorter than 2^32 bytes, ends with the `*/` that closes it; comments nest.
+pub fn block_comments()
+    ensures { BlockCommentsAreRead }
+{}
+
+/// A number is digits in one of four bases, a fraction, an exponent and a suffix; neither a digit nor `_` is left behind its digits.
+pub fn numbers()
+    ensures { NumbersAreRead }
+{}
+
+/// A name goes on with letters, digits and `_`, and past ASCII with the characters of XID_Continue; the longest such front is read.
+pub fn names()
+    ensures characters { LongestCharacters }
+    ensures read { NamesAreRead }
+{}
+
+/// A character ends with the first quote that no backslash stands before; none is sought behind a slash or in another line.
+pub fn characters()
+    ensures read { CharactersAreRead }
+    ensures contents { CharacterContentsAreRead }
 {}
