@@ -7,6 +7,8 @@ mod algo;
 #[cfg(test)]
 mod casts;
 #[cfg(test)]
+mod elsewhere;
+#[cfg(test)]
 mod literals;
 #[cfg(test)]
 mod lookups;
