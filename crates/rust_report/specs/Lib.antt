@@ -1,0 +1,5 @@
+pub mod Spots
+pub mod Outlines
+pub mod Pairs
+pub mod Steps
+pub mod Patterns
