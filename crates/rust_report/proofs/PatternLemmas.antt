@@ -1,5 +1,5 @@
 -- What a step behind `//` finds.
-use Rattle.std.proofs.Common.{◌≡◌, Bool, true, false, ◌&&◌, ◌||◌, List, [], ◌∷◌, Some, refl, sym, ap, ◌∙◌}
+use Rattle.std.proofs.Common.{◌≡◌, Bool, true, false, ◌&&◌, ◌||◌, List, [], ◌∷◌, length, Some, refl, sym, ap, ◌∙◌}
 use Rattle.std.specs.List.{list_any}
 use Rattle.syntax_kind.specs.declared.syntax_kind.SyntaxKind.{SyntaxKind}
 use Rattle.tree_model.specs.Cursor.{Cursor, parent_of, ancestors_of}
@@ -40,6 +40,6 @@ missed steps s r k parent left e a w last same l =
     ∙ ap (λ b. b && (is_last r || among s.link (passes r) (Some parent))) (sym a)
     ∙ ap (λ l. fits l k (Some parent)) (sym e)
 
-pub is_not_last : (r : List Step) (b : Bool) → (r ≡ [] → b ≡ true) → b ≡ false → is_last r ≡ false
-is_not_last [] b yes f = sym (yes refl) ∙ f
-is_not_last (s ∷ r) b yes f = refl
+pub not_last : (r : List Step) → (length r ≡ 0 → ⊥) → is_last r ≡ false
+not_last [] h = absurd (h refl)
+not_last (s ∷ r) h = refl

@@ -1,5 +1,5 @@
 -- Two lists of events that begin alike.
-use Rattle.std.proofs.Common.{◌≡◌, ◌↔◌, ℕ, nat_eq, Bool, true, false, List, [], ◌∷◌, ◌++◌, map, length, Option, Some, None, IsTrue, refl, sym, ap, ◌∙◌, subst}
+use Rattle.std.proofs.Common.{◌≡◌, ◌↔◌, ℕ, nat_eq, Bool, true, false, List, [], ◌∷◌, ◌++◌, map, length, Option, Some, None, IsTrue, eq-eqb, refl, sym, ap, ◌∙◌, subst}
 use Rattle.syntax_kind.specs.declared.syntax_kind.SyntaxKind.{SyntaxKind}
 use Rattle.syntax_kind.specs.Kinds.{kind_raw, is_same_kind}
 use Rattle.syntax_kind.specs.KindLaws.{is_same_kind-equal}
@@ -92,7 +92,13 @@ same_first olds news a b olds' news' e f h = (let t : Some (step a) ≡ Some (st
 pub not_ended : (olds news : List Event) (a : Event) (olds' : List Event) → olds ≡ a ∷ olds' → news ≡ [] → first_step olds ≡ first_step news → ⊥
 not_ended olds news a olds' e f h = (let t : Some (step a) ≡ None = sym (ap first_step e) ∙ h ∙ ap first_step f in cc)
 
+pub none_left : (olds news : List Event) (b : Event) (news' : List Event) → olds ≡ [] → news ≡ b ∷ news' → first_step olds ≡ first_step news → ⊥
+none_left olds news b news' e f h = (let t : None ≡ Some (step b) = sym (ap first_step e) ∙ h ∙ ap first_step f in cc)
+
 -- ---- what a node and a token show
+
+some_same : (s t : List ℕ) → Some s ≡ Some t → s ≡ t
+some_same s t e = cc
 
 raws : (k j : SyntaxKind) (m n : ℕ) (p q : SyntaxKind) → p ≡ k → q ≡ j → m ≡ kind_raw p → n ≡ kind_raw q → nat_eq m n ≡ is_same_kind k j
 raws k j m n p q e f g h = ap (λ x. nat_eq x n) (g ∙ ap kind_raw e) ∙ ap (λ x. nat_eq (kind_raw k) x) (h ∙ ap kind_raw f)
@@ -105,7 +111,7 @@ node_same x y a b m n p q ex ey e f g h = (
 )
 
 pub token_same : (x y : Element) (a b : Cursor) (m n : ℕ) (p q : SyntaxKind) (s t : List ℕ) (r : Bool)
-    → x ≡ Token a → y ≡ Token b → p ≡ kind_at a → q ≡ kind_at b → m ≡ kind_raw p → n ≡ kind_raw q → nat_eq m n ≡ true
+    → x ≡ Token a → y ≡ Token b → p ≡ kind_at a → q ≡ kind_at b → m ≡ kind_raw p → n ≡ kind_raw q → m ≡ n
     → s ≡ text (focus a) → t ≡ text (focus b) → IsTrue r ↔ (s ≡ t) → IsTrue r ↔ (shown x ≡ shown y)
 token_same x y a b m n p q s t r ex ey e f g h same es et texts =
     let kinds : kind_at a ≡ kind_at b = (is_same_kind-equal (kind_at a) (kind_at b)).0 (sym (raws (kind_at a) (kind_at b) m n p q e f g h) ∙ same) in (
@@ -115,8 +121,6 @@ token_same x y a b m n p q s t r ex ey e f g h same es et texts =
           ∙ ap (λ u. (kind_at b, Some u)) (sym es ∙ texts.0 yes ∙ et)
           ∙ sym (ap shown ey),
       λ z.
-          let whole : (kind_at a, Some (text (focus a))) ≡ (kind_at b, Some (text (focus b))) = sym (ap shown ex) ∙ z ∙ ap shown ey in
-          let inner : Some (text (focus a)) ≡ Some (text (focus b)) = ap (λ w. w.1) whole in
           let plain : text (focus a) ≡ text (focus b) = cc in
           texts.1 (es ∙ plain ∙ sym et),
     )
