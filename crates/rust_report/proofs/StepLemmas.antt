@@ -114,13 +114,14 @@ pub token_same : (x y : Element) (a b : Cursor) (m n : ℕ) (p q : SyntaxKind) (
     → x ≡ Token a → y ≡ Token b → p ≡ kind_at a → q ≡ kind_at b → m ≡ kind_raw p → n ≡ kind_raw q → m ≡ n
     → s ≡ text (focus a) → t ≡ text (focus b) → IsTrue r ↔ (s ≡ t) → IsTrue r ↔ (shown x ≡ shown y)
 token_same x y a b m n p q s t r ex ey e f g h same es et texts =
-    let kinds : kind_at a ≡ kind_at b = (is_same_kind-equal (kind_at a) (kind_at b)).0 (sym (raws (kind_at a) (kind_at b) m n p q e f g h) ∙ same) in (
+    let kinds : kind_at a ≡ kind_at b = (is_same_kind-equal (kind_at a) (kind_at b)).0 (sym (raws (kind_at a) (kind_at b) m n p q e f g h) ∙ eq-eqb m n same) in (
       λ yes.
           ap shown ex
           ∙ ap (λ k. (k, Some (text (focus a)))) kinds
           ∙ ap (λ u. (kind_at b, Some u)) (sym es ∙ texts.0 yes ∙ et)
           ∙ sym (ap shown ey),
       λ z.
-          let plain : text (focus a) ≡ text (focus b) = cc in
+          let plain : text (focus a) ≡ text (focus b) =
+          some_same (text (focus a)) (text (focus b)) (ap (λ (w : SyntaxKind × Option (List ℕ)). w.1) (sym (ap shown ex) ∙ z ∙ ap shown ey)) in
           texts.1 (es ∙ plain ∙ sym et),
     )

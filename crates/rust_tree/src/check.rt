@@ -58,10 +58,12 @@ fn write_many<W: Write>(out: &mut W, sign: &str, count: u64) -> io::Result<()> {
 
 // White space as wide as what stands before a column.
 fn write_blanks<W: Write>(out: &mut W, line: &str, column: u64) -> io::Result<()> {
-    for (i, sign) in line.chars().enumerate() {
-        if i as u64 + 1 >= column {
+    let mut at = 1u64;
+    for sign in line.chars() {
+        if at >= column {
             break;
         }
+        at = at.saturating_add(1);
         out.write_all(if sign == '\t' { b"\t" } else { b" " })?;
     }
     Ok(())

@@ -26,7 +26,14 @@ struct Pair<'a> {
 }
 
 // What may stand in place of the two parentheses: nothing, or a blank where the words beside them would grow together.
-static FILLS: [(&str, &str); 4] = [("", ""), (" ", ""), ("", " "), (" ", " ")];
+fn fill(turn: u8) -> (&'static str, &'static str) {
+    match turn {
+        0 => ("", ""),
+        1 => (" ", ""),
+        2 => ("", " "),
+        _ => (" ", " "),
+    }
+}
 
 /// A text without a pair, and its parse.
 #[derive(Drop)]
@@ -69,7 +76,8 @@ pub fn without_pair(
     let Some((first, second)) = parens_of(pair) else {
         return Ok(None);
     };
-    for (front, back) in FILLS {
+    for turn in 0..4 {
+        let (front, back) = fill(turn);
         if let Some(text) = without(alloc, text, first, second, front, back)? {
             let new = parsed(alloc, text.as_str(), reading)?;
             if is_without(alloc, parse, pair, &new)? {
