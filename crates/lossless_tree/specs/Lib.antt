@@ -17,6 +17,8 @@ pub use Rattle.tree_model.specs.Every
 pub use Rattle.tree_model.specs.Placed
 pub use Rattle.tree_model.specs.Equality
 pub use Rattle.tree_model.specs.EqualityLaws
+pub use Rattle.tree_rows.specs.Builder
+pub use Rattle.tree_rows.specs.Flat
 pub mod Element
 pub mod ElementLaws
 pub mod TokenAtOffset

@@ -18,7 +18,10 @@ ghost use Rattle.paren_rules.specs.Headline.{IsOneReadingOf, NoOperandNeedsAny, 
 
 use crate::ast::{self, AstNode};
 use lossless_tree::SyntaxKind;
-pub use operator_pairs::laws::one_term_of_the_tokens;
+pub use operator_pairs::laws::{
+    it_reads_where_none_is_asked, needless_pairs_are_found, needless_pairs_may_go,
+    one_term_of_the_tokens, operands_are_asked,
+};
 pub use paren_rules::laws::{
     operator_trees_are_asked_by_operators, operator_trees_end_in_casts_by_two_tokens,
     operator_trees_have_their_precedence, precedences_ask_enough,

@@ -5,3 +5,4 @@ pub mod Balanced
 pub mod Keeps
 pub mod Front
 pub mod Parsed
+pub mod TreeEvent

@@ -6,6 +6,7 @@ mod front_end;
 mod output;
 mod parse_error;
 mod syntax_error;
+mod tree_step;
 
 pub use edition::{Edition, Entry, Reparser};
 pub use front_end::FrontEnd;

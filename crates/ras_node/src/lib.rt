@@ -3,6 +3,7 @@
 #![tactic(auto)]
 
 pub mod children;
+mod either_token;
 mod either_view;
 pub mod node;
 pub mod search;

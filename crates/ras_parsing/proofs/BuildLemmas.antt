@@ -1,61 +1,70 @@
--- Where a build may cut the text, and what it has at its end.
-use Rattle.std.proofs.Common.{◌≡◌, ℕ, ◌+◌, ◌<◌, ◌≤◌, ◌^◌, List, [], ◌∷◌, ◌++◌, length, drop, refl, sym, ap, ◌∙◌, subst, arith, append-nil, length-drop, Some, None}
-use Rattle.std.specs.Prelude.{IsUtf8, IsCharBoundary, All, ⊤, Result, Ok, Err, IfOk}
-use Rattle.std.proofs.lemmas.Str.{IsCharBoundary-from_drop}
-use Rattle.std.proofs.lemmas.List.{drop-drop}
+-- What a build asks for, and what it has at its end.
+use Rattle.std.proofs.Common.{◌≡◌, ℕ, List, [], ◌∷◌, ◌++◌, length, take, drop, filter_map, refl, sym, ap, ◌∙◌, subst, append-nil}
+use Rattle.std.specs.Prelude.{All, ⊤, Result, Ok, Err, IfOk}
 use Rattle.syntax_kind.specs.declared.syntax_kind.SyntaxKind.{SyntaxKind}
-use Rattle.tree_model.specs.declared.error.FinishError.{FinishError}
-use Rattle.tree_model.specs.declared.error.FinishError.TheVariants.{TooLong, OverClosed, Unclosed, Empty, ManyRoots, TokenRoot, ErrorPastText, Memory}
-use Rattle.tree_model.specs.Tree.{Tree, Forest, nil, cons, kind_of}
 use Rattle.syntax_kind.specs.declared.syntax_kind.SyntaxKind.TheVariants.{OTHER}
+use Rattle.tree_model.specs.Tree.{Tree, Forest, nil, cons, kind_of}
+use Rattle.tree_model.specs.Events.{enter, leaf, exit, BuildsNode}
 use Rattle.tree_model.proofs.Balance.{builds_one}
-use Rattle.tree_model.specs.Events.{Event, BuildsNode, first_refusal, refusal_of}
+use Rattle.tree_rows.specs.Builder.{TextsFit, IsOneTree}
+use Rattle.tree_rows.specs.Builder as builder
 use Rattle.ras_front_end.specs.declared.output.Step.{Step}
-use Rattle.ras_front_end.specs.declared.output.Step.TheVariants.{Token}
+use Rattle.ras_front_end.specs.declared.output.Step.TheVariants.{Enter, Token, Exit, Error}
+use Rattle.ras_front_end.specs.declared.output.Output.{Output}
 use Rattle.ras_front_end.specs.Fault.{Fault, LiesIn}
-use Rattle.ras_front_end.specs.Reading.{FrontStep, Reading, front_steps, events_from, Cuts, step_faults, stored_faults}
+use Rattle.ras_front_end.specs.Reading.{Reading, front_steps, reading_of, events_from, Cuts, step_faults, stored_faults}
+use Rattle.ras_front_end.specs.TreeEvent.{tree_event}
 use Rattle.ras_front_end.specs.Keeps.{Keeps}
 use Rattle.ras_front_end.specs.Parsed.{Parsed, IsParseOf, ErrorsLieIn}
-use Rattle.ras_parsing.specs.Building.{IsBuilding}
-use Rattle.ras_parsing.proofs.TreeTexts.{Cuts-IsUtf8, built_text, no_refusal}
+use Rattle.ras_parsing.proofs.TreeTexts.{built_text}
 
-pub token_end : (input : List ℕ) (rest more : List Step) (step : Step) (k : SyntaxKind) (at n : ℕ) → rest ≡ step ∷ more → step ≡ Token k n → at ≤ length input → Cuts (front_steps rest) (drop at input) → IsCharBoundary input (at + n)
-token_end input rest more step k at n e f w h =
-    let g = subst (λ l. Cuts (front_steps l) (drop at input)) (e ∙ ap (λ s. s ∷ more) f) h in
-    IsCharBoundary-from_drop input (at + n) (omega (arith, g.0, length-drop at input)) (subst IsUtf8 (drop-drop n at input) (Cuts-IsUtf8 (front_steps more) (drop n (drop at input)) g.2))
+-- the steps as events, with lengths in the place of texts, stand for the same events
+events_same : (ss : List Step) (s : List ℕ) → builder.events_from (filter_map tree_event ss) s ≡ events_from (front_steps ss) s
+events_same [] s = refl
+events_same (Enter k ∷ ss) s = ap (λ l. enter k ∷ l) (events_same ss s)
+events_same (Token k n ∷ ss) s = ap (λ l. leaf k (take n s) ∷ l) (events_same ss (drop n s))
+events_same (Exit ∷ ss) s = ap (λ l. exit ∷ l) (events_same ss s)
+events_same (Error m p ∷ ss) s = events_same ss s
+
+texts_fit : (ss : List Step) (s : List ℕ) → Cuts (front_steps ss) s → TextsFit (filter_map tree_event ss) s
+texts_fit [] s h = h
+texts_fit (Enter k ∷ ss) s h = texts_fit ss s h
+texts_fit (Token k n ∷ ss) s h = (h.0, h.1, texts_fit ss (drop n s) h.2)
+texts_fit (Exit ∷ ss) s h = texts_fit ss s h
+texts_fit (Error m p ∷ ss) s h = texts_fit ss s h
+
+-- what a front end keeps of a reading is what a tree of its steps asks for
+pub one_tree : (o : Output) (input : List ℕ) → Keeps (λ root. ⊤) input (reading_of o) → IsOneTree (filter_map tree_event o.steps.items) input
+one_tree o input k = record {
+  tree = k.tree;
+  fits = texts_fit o.steps.items input k.cuts;
+  builds = subst (λ l. BuildsNode l k.tree) (sym (events_same o.steps.items input)) k.builds;
+}
 
 pub record IsFinished (input : List ℕ) (r : Reading) (p : Parsed) : Type 0 where
   pub parsed : IsParseOf input r p
   pub in_text : ErrorsLieIn p
 
-pub finished : (input : List ℕ) (r : Reading) (k : Keeps (λ root. ⊤) input r) (rest : List FrontStep) (at : ℕ) (events : List Event) (faults faults' left : List Fault) (t : Tree)
-    → IsBuilding input r.steps rest at events faults → rest ≡ [] → faults' ++ left ≡ faults ++ r.errors → left ≡ [] → BuildsNode events t → IsFinished input r (record { tree = t; errors = faults' })
-finished input r k rest at events faults faults' left t b e f g h =
-    let es : events ≡ events_from r.steps input = sym (append-nil events) ∙ ap (λ l. events ++ events_from l (drop at input)) (sym e) ∙ b.events_are in
-    let fs : faults ≡ step_faults r.steps = sym (append-nil faults) ∙ ap (λ l. faults ++ step_faults l) (sym e) ∙ b.faults_are in
-    let all : faults' ≡ stored_faults r = sym (append-nil faults') ∙ ap (λ l. faults' ++ l) (sym g) ∙ f ∙ ap (λ l. l ++ r.errors) fs in
-    let builds = subst (λ l. BuildsNode l t) es h in
-    let same = built_text r.steps input t k.cuts builds in
+-- the errors are complete where none is left of the steps, nor of the lexer's
+all_faults : (o : Output) (left : List Step) (more faults all : List Fault) → left ≡ [] → more ≡ []
+    → faults ++ step_faults (front_steps left) ≡ step_faults (front_steps o.steps.items) → all ++ more ≡ faults ++ o.errors.items → all ≡ stored_faults (reading_of o)
+all_faults o left more faults all e f g h =
+    sym (append-nil all) ∙ ap (λ l. all ++ l) (sym f) ∙ h
+    ∙ ap (λ l. l ++ o.errors.items) (sym (append-nil faults) ∙ ap (λ l. faults ++ step_faults (front_steps l)) (sym e) ∙ g)
+
+-- the tree of an output's steps, with all errors
+pub finished : (o : Output) (input : List ℕ) (k : Keeps (λ root. ⊤) input (reading_of o)) (given left : List Step) (more faults all : List Fault) (t : Tree)
+    → given ≡ o.steps.items → BuildsNode (builder.events_from (filter_map tree_event given) input) t
+    → left ≡ [] → more ≡ [] → faults ++ step_faults (front_steps left) ≡ step_faults (front_steps o.steps.items) → all ++ more ≡ faults ++ o.errors.items
+    → IsFinished input (reading_of o) (record { tree = t; errors = all })
+finished o input k given left more faults all t is b e f g h =
+    let builds = subst (λ l. BuildsNode l t) (ap (λ l. builder.events_from (filter_map tree_event l) input) is ∙ events_same o.steps.items input) b in
+    let same = built_text (front_steps o.steps.items) input t k.cuts builds in
+    let complete = all_faults o left more faults all e f g h in
     record {
-      parsed = record { builds = builds; text_is = same; errors_are = all };
-      in_text = subst (λ n. All (LiesIn n) faults') (ap length (sym same)) (subst (λ l. All (LiesIn (length input)) l) (sym all) k.in_text);
+      parsed = record { builds = builds; text_is = same; errors_are = complete };
+      in_text = subst (λ n. All (LiesIn n) all) (ap length (sym same)) (subst (λ l. All (LiesIn (length input)) l) (sym complete) k.in_text);
     }
-
-only_memory : (e : FinishError) → refusal_of e ≡ None → e ≡ Memory
-only_memory TooLong h = (let bad : Some TooLong ≡ None = h in cc)
-only_memory OverClosed h = (let bad : Some OverClosed ≡ None = h in cc)
-only_memory Unclosed h = (let bad : Some Unclosed ≡ None = h in cc)
-only_memory Empty h = (let bad : Some Empty ≡ None = h in cc)
-only_memory ManyRoots h = (let bad : Some ManyRoots ≡ None = h in cc)
-only_memory TokenRoot h = (let bad : Some TokenRoot ≡ None = h in cc)
-only_memory ErrorPastText h = (let bad : Some ErrorPastText ≡ None = h in cc)
-only_memory Memory h = refl
-
-pub not_refused : (input : List ℕ) (r : Reading) (k : Keeps (λ root. ⊤) input r) (rest : List FrontStep) (at : ℕ) (events : List Event) (faults : List Fault) (e : FinishError)
-    → length input < 2 ^ 32 → IsBuilding input r.steps rest at events faults → rest ≡ [] → refusal_of e ≡ first_refusal events → e ≡ Memory
-not_refused input r k rest at events faults x l b e h =
-    let es : events ≡ events_from r.steps input = sym (append-nil events) ∙ ap (λ l. events ++ events_from l (drop at input)) (sym e) ∙ b.events_are in
-    only_memory x (h ∙ ap first_refusal es ∙ no_refusal r.steps input k.tree k.cuts k.builds l)
 
 first_kind : Forest → SyntaxKind
 first_kind nil = OTHER 0

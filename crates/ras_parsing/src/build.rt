@@ -5,7 +5,7 @@ ghost use Rattle.ras_front_end.specs.Parsed.{IsParseOf, ErrorsLieIn};
 ghost use Rattle.ras_front_end.specs.Keeps.{Keeps};
 ghost use Rattle.ras_front_end.specs.Reading.{reading_of};
 
-use lossless_tree::{FinishError, SyntaxNode, TreeBuilder};
+use lossless_tree::{SyntaxNode, tree_over};
 use ras_front_end::{Output, Step, SyntaxError};
 use std::alloc::{AllocError, Global};
 
@@ -39,31 +39,15 @@ pub fn build_output(alloc: Global, text: &str, output: Output) -> Result<Built, 
         steps,
         errors: lexer_errors,
     } = output;
-    let mut builder = TreeBuilder::new(alloc);
+    let root = tree_over(alloc, text, steps.as_slice())?;
     let mut errors = Vec::new(alloc);
-    let mut at: usize = 0;
     for step in steps {
-        match step {
-            Step::Enter(kind) => builder.start_node(kind)?,
-            Step::Token(kind, len) => {
-                let end = at + len.raw() as usize;
-                builder.token(kind, &text[at..end])?;
-                at = end;
-            }
-            Step::Exit => builder.finish_node()?,
-            Step::Error(message, position) => {
-                store(&mut errors, SyntaxError::new_at_offset(message, position))?;
-            }
+        if let Step::Error(message, position) = step {
+            store(&mut errors, SyntaxError::new_at_offset(message, position))?;
         }
     }
     for error in lexer_errors {
         store(&mut errors, error)?;
     }
-    match builder.finish() {
-        Ok(root) => Ok(Built { root, errors }),
-        Err(refusal) => match refusal {
-            FinishError::Memory => Err(AllocError),
-            _ => unreachable!(),
-        },
-    }
+    Ok(Built { root, errors })
 }

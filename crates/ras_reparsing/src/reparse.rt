@@ -22,8 +22,13 @@ use ras_front_end::{Edition, Entry, FrontEnd, ParseError, Reparser, SyntaxError}
 use ras_parsing::{Parse, build_output, read};
 use std::alloc::{AllocError, Global};
 
-/// The parse after an edit of its text, where one token or one block is read anew, and the range in the old text that was
-/// replaced. `None` where the whole text must be read anew. The old parse stays as it was.
+/// The parse after an edit of its text, where one token or one block is parsed again, and the range in the old text that was
+/// replaced. `None` where the whole text has to be. The old parse stays as it was.
+///
+/// One token: the smallest element that covers the deleted range is a token of white space, a comment, a name or a string that
+/// is not raw; its new text is one token of that kind, also before the character that follows; white space and comments lose no
+/// newline; and a name does not become `auto`, `default` or `union`. One block: the nearest node around the edit that has a
+/// reparser, where the braces of its new text balance.
 ///
 /// `delete` lies in the text, on character boundaries. `TooLong` exactly where the new text is longer than 4,294,967,295 bytes; that is looked at first.
 pub fn incremental_reparse<F: FrontEnd>(

@@ -97,8 +97,16 @@ impl<T: FileView> Parse<T> {
         Ok(Parse::meant(new))
     }
 
-    /// The parse after an edit, where one token or one block is read anew, and the range in the old text that was replaced;
-    /// `None` where all must be read anew. The old parse stays as it was.
+    /// The parse after an edit, where one token or one block is parsed again, and the range in the old text that was replaced;
+    /// `None` where the whole text has to be. The old parse stays as it was.
+    ///
+    /// *One token* is parsed again where the smallest element that covers the deleted range is a token of white space, a comment,
+    /// a name, or a string (plain, byte or C); white space and comments must not lose a newline. The token's new text must be
+    /// one token of the same kind to the front end, must not become one with the character behind it, and a name must not
+    /// become `auto`, `default` or `union`.
+    ///
+    /// *One block* is parsed again otherwise, where a node around the edit has a reparser; the nearest one is taken. The braces
+    /// of its new text must balance: it begins with `{`, and the last token is the `}` that closes it.
     ///
     /// The range lies in the text, on character boundaries. `TooLong` exactly where the new text is longer than
     /// 4,294,967,295 bytes; that is looked at first. Beside the piece that is read it takes one copy of the text and the tree.

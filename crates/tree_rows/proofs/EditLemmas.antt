@@ -1,20 +1,22 @@
 -- What the rows and texts of a new table show.
-use Rattle.std.proofs.Common.{◌≡◌, ℕ, suc, ◌+◌, ◌-◌, ◌<◌, ◌≤◌, List, ◌∷◌, ◌++◌, length, map, take, drop, true, false, refl, sym, ap, subst, ◌∙◌, arith, append_assoc, append-nil, length-append, []}
+use Rattle.std.proofs.Common.{◌≡◌, ℕ, suc, ◌+◌, ◌-◌, ◌<◌, ◌≤◌, List, ◌∷◌, ◌++◌, length, map, take, drop, get_or, true, false, refl, sym, ap, subst, ◌∙◌, arith, append_assoc, append-nil, length-append, []}
 use Rattle.std.specs.Prelude.{◌^◌}
+use Rattle.std.proofs.lemmas.List.{length-take, length-drop, get_or-take, get_or-drop, get_or-append_right}
 use Rattle.std.proofs.Math.Seq.{take-append_seam, drop-append_seam}
 use Rattle.syntax_kind.specs.declared.syntax_kind.SyntaxKind.{SyntaxKind}
 use Rattle.tree_rows.specs.declared.rows.Row.{Row}
-use Rattle.tree_rows.specs.declared.table.edit.Shift.{Shift}
+use Rattle.tree_rows.specs.declared.shift.Shift.{Shift}
 use Rattle.tree_model.specs.Tree.{Tree, node, token, nil, cons, text, size, kind_of, IsNode}
 use Rattle.tree_model.specs.Rows.{place_at, tree_at, start_at, end_at, TextsAreUtf8}
-use Rattle.tree_rows.specs.Rows.{Columns, columns_of, row_of, row_at, parent_at, no_rows, one_row, joined, Represents, tree_of_rows}
-use Rattle.tree_rows.specs.MovedRows.{moved, moved_row, moved_number, moved_subtree, MoveFits, rows_between, shift_from, moved_before, moved_behind}
+use Rattle.tree_rows.specs.Rows.{Columns, columns_of, rows_of, parents_of, row_of, row_at, parent_at, no_row, no_rows, one_row, joined, Represents, tree_of_rows}
+use Rattle.tree_rows.specs.MovedRows.{moved, moved_from, moved_row, moved_number, moved_subtree, MoveFits, rows_between, shift_from, moved_before, moved_behind}
 use Rattle.tree_model.specs.Edit.{splice, replace}
 use Rattle.tree_model.proofs.At.{At-fits, cong₂, forest_size-cons}
+use Rattle.tree_rows.proofs.InPlace.{append_changed}
 use Rattle.tree_rows.proofs.Hung.{Hung, hung, hung_of, columns, same_columns, map-hung_of}
 use Rattle.tree_rows.proofs.At.{length-hung_of}
-use Rattle.tree_rows.proofs.Parents.{columns_of-hung}
-use Rattle.tree_rows.proofs.MovedColumns.{joined-none, joined_assoc, moved-joined, three_joined, hung_between, moved_between, rows_between-more, none_between}
+use Rattle.tree_rows.proofs.Parents.{columns_of-hung, get_or-parents_of}
+use Rattle.tree_rows.proofs.MovedColumns.{joined_assoc, three_joined, hung_between, length-all, moved_between}
 use Rattle.tree_model.proofs.TableLemmas.{at_row, up_at}
 use Rattle.tree_rows.proofs.TableLemmas.{cut, columns_shown, row_end_fits, tree_of_rows-rows_of}
 use Rattle.tree_rows.proofs.StepLemmas.{end_of_row, row_start, row_kind, parent_of_row}
@@ -25,23 +27,45 @@ use Rattle.tree_model.proofs.EditLaws.{spliced}
 use Rattle.tree_model.proofs.PlaceLemmas.{within_at}
 use Rattle.tree_model.proofs.EditLemmas.{Cuts, up_of-earlier, within_rows, within_text}
 
--- a turn of the loop that moves rows
-pub one_pushed : (whole : Tree) (by : Shift) (a n : ℕ) (old done next : Columns) (r x : Row) (p up : ℕ) → a ≤ n → n < size whole
-    → done ≡ joined old (moved by (rows_between whole a n)) → next ≡ joined done (one_row x up) → x ≡ moved_row by r → r ≡ row_at whole n
-    → up ≡ moved_number by p → p ≡ parent_at whole n → next ≡ joined old (moved by (rows_between whole a (n + 1)))
-one_pushed whole by a n old done next r x p up h lt is_done is_next is_x is_r is_up is_p =
-    let pre = rows_between whole a n in
-    let pushed = one_row (row_at whole n) (parent_at whole n) in
-    is_next ∙ ap (λ c. joined c (one_row x up)) is_done ∙ joined_assoc old (moved by pre) (one_row x up)
-    ∙ cong₂ (λ y v. joined old (joined (moved by pre) (one_row y v))) (is_x ∙ ap (moved_row by) is_r) (is_up ∙ ap (moved_number by) is_p)
-    ∙ ap (joined old) (sym (moved-joined by pre pushed))
-    ∙ ap (λ c. joined old (moved by c)) (sym (rows_between-more whole a n h lt))
-
-pub none_pushed : (whole : Tree) (by : Shift) (a : ℕ) (old : Columns) → old ≡ joined old (moved by (rows_between whole a a))
-none_pushed whole by a old = sym (joined-none old) ∙ ap (λ c. joined old (moved by c)) (sym (none_between whole a))
-
 pub parent_is_earlier : (whole : Tree) (n : ℕ) → n < size whole → parent_at whole n ≤ n
 parent_is_earlier whole n h = omega (arith, parent_of_row whole n h, up_of-earlier (at_row whole n h) 0 0 (omega arith))
+
+-- rows that were copied and then moved
+pub all_moved : (by : Shift) (old next new copy : Columns) (n : ℕ) → length old.parents ≡ length old.rows → n ≡ length old.rows → next ≡ joined old copy → new ≡ moved_from n by next → new ≡ joined old (moved by copy)
+all_moved by old next new copy n beside is_n is_next is_new =
+    is_new ∙ ap (moved_from n by) is_next
+    ∙ same_columns (moved_from n by (joined old copy)) (joined old (moved by copy))
+    (append_changed (moved_row by) old.rows copy.rows n is_n)
+    (append_changed (moved_number by) old.parents copy.parents n (omega (arith, is_n, beside)))
+
+-- which row of the tree a copied one is
+pub record Copied (whole : Tree) (next : Columns) (first end k from : ℕ) : Type 0 where
+  pub row_is : get_or next.rows k no_row ≡ row_at whole from
+  pub parent_is : get_or next.parents k 0 ≡ parent_at whole from
+  pub later : first ≤ from
+  pub there : from < end
+
+pub copied_at : (whole : Tree) (old next : Columns) (first end n k : ℕ) → first ≤ end → end ≤ size whole → length old.parents ≡ length old.rows → n ≡ length old.rows
+    → next ≡ joined old (rows_between whole first end) → n ≤ k → k < length next.rows → Copied whole next first end k (first + (k - n))
+copied_at whole old next first end n k h fits beside is_n is_next behind lt =
+    let rows = rows_of (cons whole nil) 0 0 in
+    let cut = rows_between whole first end in
+    let count = end - first in
+    let i = k - n in
+    let all = length-all whole in
+    let long : length cut.rows ≡ count = omega (arith, length-take count (drop first rows), length-drop first rows, all, fits) in
+    let in_cut : i < count = omega (arith, lt, ap (λ c. length c.rows) is_next, length-append old.rows cut.rows, long, is_n, behind) in
+    let in_rows : first + i < length rows = omega (arith, in_cut, fits, all) in
+    record {
+      row_is =
+          ap (λ c. get_or c.rows k no_row) is_next ∙ get_or-append_right old.rows cut.rows n k no_row (sym is_n) behind ∙ get_or-take count (drop first rows) i no_row in_cut
+          ∙ get_or-drop first rows i no_row;
+      parent_is =
+          ap (λ c. get_or c.parents k 0) is_next ∙ get_or-append_right old.parents cut.parents n k 0 (omega (arith, is_n, beside)) behind ∙ get_or-take count (drop first (parents_of rows)) i 0 in_cut
+          ∙ get_or-drop first (parents_of rows) i 0 ∙ get_or-parents_of rows (first + i) in_rows;
+      later = omega arith;
+      there = omega (arith, in_cut, h);
+    }
 
 -- what is cut out of a list
 cut_out : (rows xs ys zs : List Hung) (a b : ℕ) → rows ≡ xs ++ (ys ++ zs) → length xs ≡ a → a + length ys ≡ b → take (b - a) (drop a rows) ≡ ys
@@ -51,13 +75,13 @@ cut_out rows xs ys zs a b is is_a is_b =
     ∙ ap (take (b - a)) (drop-append_seam xs (ys ++ zs)) ∙ ap (λ k. take k (ys ++ zs)) count ∙ take-append_seam ys zs
 
 -- the rows of a subtree among those of the tree
-record Segment (whole : Tree) (n : ℕ) (h : n < size whole) : Type 0 where
-  before : List Hung
-  behind : List Hung
-  is : hung_of (cons whole nil) 0 0 0 ≡ before ++ (hung_of (cons (tree_at whole n) nil) n (start_at whole n) (up_at whole n h) ++ behind)
-  count : length before ≡ n
+pub record Segment (whole : Tree) (n : ℕ) (h : n < size whole) : Type 0 where
+  pub before : List Hung
+  pub behind : List Hung
+  pub is : hung_of (cons whole nil) 0 0 0 ≡ before ++ (hung_of (cons (tree_at whole n) nil) n (start_at whole n) (up_at whole n h) ++ behind)
+  pub count : length before ≡ n
 
-segment : (whole : Tree) (n : ℕ) (h : n < size whole) → Segment whole n h
+pub segment : (whole : Tree) (n : ℕ) (h : n < size whole) → Segment whole n h
 segment whole n h =
     let t = tree_at whole n in
     let w = replaced (at_row whole n h) t 0 0 0 ((0 + n) + size t) ((0 + n) + size t) ((0 + start_at whole n) + length (text t)) ((0 + start_at whole n) + length (text t)) (omega arith) refl refl refl refl in
@@ -128,7 +152,6 @@ fits_inside whole n k r to byte h is_r rows_fit bytes_fit later lt =
     let w = At-inside (at_row whole n h) (at_row whole k in_range) later (omega (arith, lt, is_end)) in
     let starts = row_start whole k in_range in
     record {
-      byte_is_later = omega (arith, w.starts, starts, is_start);
       byte_fits = omega (arith, w.starts, w.stops, starts, is_start);
       end_fits = omega (arith, end_of_row whole k in_range, w.ends);
     }
@@ -159,7 +182,6 @@ fits_before whole n k e count h is_e rows_fit short lt =
     let in_range : k < size whole = omega arith in
     let ends = row_end_fits whole k in_range in
     record {
-      byte_is_later = omega arith;
       byte_fits = omega (arith, row_start whole k in_range, within_text whole k in_range);
       end_fits = omega (arith, ends, is_e, within_rows whole n h);
     }
@@ -172,7 +194,6 @@ fits_behind whole n k e count b bytes h is_e rows_fit bytes_fit is_b later in_ra
     let starts = row_start whole k in_range in
     let after = At-later (at_row whole n h) (at_row whole k in_range) (omega (arith, later, is_e)) in
     record {
-      byte_is_later = omega (arith, after, starts, is_b);
       byte_fits = omega (arith, after, starts, is_b, is_d, within_text whole k in_range, within_text whole n h);
       end_fits = omega (arith, ends, is_e, within_rows whole n h);
     }

@@ -1,6 +1,6 @@
 -- What the steps of a builder say once no refusal holds.
 use Rattle.std.proofs.Common.{◌≡◌, ℕ, zero, suc, ◌<◌, ◌≤◌, List, [], ◌∷◌, ◌++◌, length, take, drop, map, refl, sym, ap, subst, ◌∙◌, arith, append_assoc, append-nil}
-use Rattle.std.specs.Prelude.{Option, None, Some, IsUtf8, ◌^◌, nat_lt, if◌then◌else◌}
+use Rattle.std.specs.Prelude.{Option, None, Some, filter_map, IsUtf8, ◌^◌, nat_lt, if◌then◌else◌}
 use Rattle.std.proofs.lemmas.List.{length-take-le, take-append-drop, length-drop}
 use Rattle.tree_model.proofs.At.{cong₂}
 use Rattle.std.proofs.lemmas.Bool.Decides.{nat_tests}
@@ -9,16 +9,16 @@ use Rattle.tree_model.specs.declared.error.FinishError.{FinishError}
 use Rattle.tree_model.specs.declared.error.FinishError.TheVariants.{TooLong, OverClosed, Unclosed, Empty, ManyRoots, TokenRoot}
 use Rattle.tree_rows.specs.declared.builder_event.BuilderEvent.{BuilderEvent}
 use Rattle.tree_rows.specs.declared.builder_event.BuilderEvent.TheVariants.{Enter, Token, Exit}
-use Rattle.tree_model.specs.Tree.{node, token, Forest, nil, cons, text, forest_text}
+use Rattle.tree_model.specs.Tree.{Tree, node, token, Forest, nil, cons, text, forest_text, IsNode}
 use Rattle.tree_model.specs.Events.{Event, enter, leaf, exit, events_of, open_after, forest_of, balance_refusal, root_refusal, first_refusal, refusal_of, BuildsNode, Builds}
 use Rattle.tree_model.specs.Events as events
-use Rattle.tree_rows.specs.Builder.{events_from, TextsFit, step_of}
+use Rattle.tree_rows.specs.Builder.{events_from, TextsFit, step_of, IsOneTree}
 use Rattle.tree_model.specs.Scan.{scan}
 use Rattle.tree_rows.specs.Run as run
 use Rattle.tree_rows.proofs.TableLemmas.{columns_shown, tree_of_rows-rows_of, table_of}
 use Rattle.tree_model.specs.Rows.{TextsAreUtf8}
 use Rattle.tree_rows.specs.Rows.{Columns, columns_of, Represents, tree_of_rows}
-use Rattle.tree_model.proofs.Balance.{builds-events_of, events_of-forest_of, scan-balance_refusal}
+use Rattle.tree_model.proofs.Balance.{builds-events_of, events_of-builds, events_of-forest_of, scan-balance_refusal}
 use Rattle.tree_rows.proofs.ScanLemmas.{scan-texts}
 
 -- ---- the texts of events
@@ -93,13 +93,6 @@ event_text_len (Enter k ∷ es) s h = event_text_len es s h
 event_text_len (Token k n ∷ es) s h = omega (arith, event_text_len es (drop n s) h.2, length-drop n s, length-take-le n s h.0, h.0)
 event_text_len (Exit ∷ es) s h = event_text_len es s h
 
-open_after-texts : (es : List BuilderEvent) (d : ℕ) (s t : List ℕ) → open_after d (events_from es s) ≡ open_after d (events_from es t)
-open_after-texts [] d s t = refl
-open_after-texts (Enter k ∷ es) d s t = open_after-texts es (suc d) s t
-open_after-texts (Token k n ∷ es) d s t = open_after-texts es d (drop n s) (drop n t)
-open_after-texts (Exit ∷ es) zero s t = refl
-open_after-texts (Exit ∷ es) (suc d) s t = open_after-texts es d s t
-
 -- ---- no refusal
 
 record OneNode (es : List Event) : Type 0 where
@@ -122,7 +115,7 @@ balance_none es None is h = (let no : Some OverClosed ≡ None = h in cc)
 balance_none es (Some (suc d)) is h = (let no : Some Unclosed ≡ None = h in cc)
 balance_none es (Some zero) is h = one_node es (Some zero) (forest_of es) is refl h h
 
--- what the steps and the text are when the scan finds nothing
+-- what the steps and the text are where they build one node
 pub record Ready (steps : List BuilderEvent) (s : List ℕ) : Type 0 where
   pub kind : SyntaxKind
   pub children : Forest
@@ -130,27 +123,31 @@ pub record Ready (steps : List BuilderEvent) (s : List ℕ) : Type 0 where
   pub steps_are : steps ≡ map step_of (events_of (cons (node kind children) nil))
   pub text_is : s ≡ text (node kind children)
   pub utf8 : TextsAreUtf8 (cons (node kind children) nil)
-  pub balanced : open_after 0 (events_from steps []) ≡ Some 0
-  pub no_refusal : balance_refusal (open_after 0 (events_from steps s)) (events_from steps s) ≡ None
 
-pub ready : (steps : List BuilderEvent) (s : List ℕ) → TextsFit steps s → scan 0 (Some Empty) (events_from steps []) ≡ None → Ready steps s
+ready_for : (steps : List BuilderEvent) (s : List ℕ) (k : SyntaxKind) (c : Forest) → TextsFit steps s → events_from steps s ≡ events_of (cons (node k c) nil) → Ready steps s
 unfolding event_texts
+ready_for steps s k c h is =
+    let f = cons (node k c) nil in
+    record {
+      kind = k;
+      children = c;
+      events_are = is;
+      steps_are = sym (steps_from steps s h) ∙ ap (map step_of) is;
+      text_is = sym (event_texts-events_from steps s h) ∙ ap event_texts is ∙ event_texts-events_of f ∙ append-nil (forest_text c);
+      utf8 = utf8_of f (subst EventsAreUtf8 is (utf8_from steps s h));
+    }
+
+-- the scan finds nothing
+pub ready : (steps : List BuilderEvent) (s : List ℕ) → TextsFit steps s → scan 0 (Some Empty) (events_from steps []) ≡ None → Ready steps s
 ready steps s h none =
     let es = events_from steps s in
     let clear : balance_refusal (open_after 0 es) es ≡ None = sym (scan-balance_refusal es) ∙ scan-texts steps 0 (Some Empty) s [] ∙ none in
     let w = balance_none es (open_after 0 es) refl clear in
-    let f = cons (node w.kind w.children) nil in
-    let events_are : es ≡ events_of f = sym (events_of-forest_of es w.balanced) ∙ ap events_of w.is in
-    record {
-      kind = w.kind;
-      children = w.children;
-      events_are = events_are;
-      steps_are = sym (steps_from steps s h) ∙ ap (map step_of) events_are;
-      text_is = sym (event_texts-events_from steps s h) ∙ ap event_texts events_are ∙ event_texts-events_of f ∙ append-nil (forest_text w.children);
-      utf8 = utf8_of f (subst EventsAreUtf8 events_are (utf8_from steps s h));
-      balanced = open_after-texts steps 0 [] s ∙ w.balanced;
-      no_refusal = clear;
-    }
+    ready_for steps s w.kind w.children h (sym (events_of-forest_of es w.balanced) ∙ ap events_of w.is)
+
+ready_tree : (steps : List BuilderEvent) (s : List ℕ) (t : Tree) → TextsFit steps s → Builds (events_from steps s) (cons t nil) → IsNode t → Ready steps s
+ready_tree steps s (node k c) h b n = ready_for steps s k c h (sym (events_of-builds b))
+ready_tree steps s (token k t) h b n = absurd n
 
 below_limit : (n : ℕ) (r : Option FinishError) → n < 2 ^ 32 → (if nat_lt n (2 ^ 32) then r else Some TooLong) ≡ r
 below_limit n r h = grind (arith, nat_tests)
@@ -197,3 +194,17 @@ module _ (steps : List BuilderEvent) (s : List ℕ) (w : Ready steps s) (kept : 
 
   pub node_built : BuildsNode (events_from steps s) (tree_of_rows kept s)
   node_built = subst (BuildsNode (events_from steps s)) (sym tree_built) (subst (λ es. Builds es (cons (node w.kind w.children) nil)) (sym w.events_are) (builds-events_of (cons (node w.kind w.children) nil)), tt)
+
+-- rows that are those of the steps' forest, over a copy of the text, represent the tree that the steps build
+pub built_over : (steps : List BuilderEvent) (s copy : List ℕ) (kept : Columns) → IsOneTree steps s → copy ≡ s → length s < 2 ^ 32
+    → ((f : Forest) → steps ≡ map step_of (events_of f) → kept ≡ columns_of f)
+    → Represents kept copy (tree_of_rows kept copy) × BuildsNode (events_from steps s) (tree_of_rows kept copy)
+built_over steps s copy kept h same short are =
+    let w = ready_tree steps s h.tree h.fits h.builds.0 h.builds.1 in
+    let is = are (cons (node w.kind w.children) nil) w.steps_are in
+    rw same (table_built steps s w kept is short, node_built steps s w kept is)
+
+-- a builder's own events are all events
+pub all_events : (steps : List BuilderEvent) → filter_map Some steps ≡ steps
+all_events [] = refl
+all_events (e ∷ es) = ap (λ l. e ∷ l) (all_events es)

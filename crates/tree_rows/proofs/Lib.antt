@@ -28,3 +28,5 @@ pub mod WalkSteps
 pub mod Neighbours
 pub mod KeptLemmas
 pub mod Restarted
+mod InPlace
+pub mod FlatLemmas

@@ -1,7 +1,7 @@
 -- Rows and their parents, joined, cut out and moved: what is done to both columns is done to the rows as they hang.
 use Rattle.std.proofs.Common.{◌≡◌, ℕ, ◌+◌, ◌-◌, ◌<◌, ◌≤◌, List, [], ◌∷◌, ◌++◌, length, map, get_or, take, drop, refl, sym, ap, ◌∙◌, arith, append_assoc, append-nil}
 use Rattle.std.proofs.lemmas.List.{map-append, take-map, drop-map, take_more, get_or-drop, length-drop}
-use Rattle.tree_rows.specs.declared.table.edit.Shift.{Shift}
+use Rattle.tree_rows.specs.declared.shift.Shift.{Shift}
 use Rattle.tree_model.specs.Tree.{Tree, nil, cons, size}
 use Rattle.tree_rows.specs.Rows.{Columns, rows_of, row_at, parent_at, parents_of, no_row, no_rows, one_row, joined}
 use Rattle.tree_rows.specs.MovedRows.{moved_row, moved_number, moved, rows_between}

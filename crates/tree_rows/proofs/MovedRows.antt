@@ -5,7 +5,7 @@ use Rattle.std.proofs.Common.{Bool, true, false}
 use Rattle.std.proofs.lemmas.Bool.Decides.{nat_tests}
 use Rattle.std.proofs.lemmas.List.{map-append}
 use Rattle.syntax_kind.specs.declared.syntax_kind.SyntaxKind.{SyntaxKind}
-use Rattle.tree_rows.specs.declared.table.edit.Shift.{Shift}
+use Rattle.tree_rows.specs.declared.shift.Shift.{Shift}
 use Rattle.tree_model.specs.Tree.{Tree, node, token, Forest, nil, cons, text, size, forest_text, forest_size, Place, child_at}
 use Rattle.tree_model.specs.Rows.{TextsAreUtf8}
 use Rattle.tree_model.specs.Edit.{set_child, replace}

@@ -1,5 +1,5 @@
 -- A token with another text: the rows stay, and those behind it start elsewhere.
-use Rattle.std.proofs.Common.{◌≡◌, inl, inr, ℕ, suc, ◌+◌, ◌-◌, ◌<◌, ◌≤◌, List, ◌∷◌, ◌++◌, [], length, map, take, drop, true, false, refl, sym, ap, ◌∙◌, arith}
+use Rattle.std.proofs.Common.{◌≡◌, ℕ, suc, ◌+◌, ◌-◌, ◌<◌, List, ◌++◌, length, map, take, drop, true, refl, sym, ap, ◌∙◌, arith}
 use Rattle.std.proofs.lemmas.List.{length-drop, take_all, take-append-drop}
 use Rattle.syntax_kind.specs.declared.syntax_kind.SyntaxKind.{SyntaxKind}
 use Rattle.tree_rows.specs.declared.rows.Row.{Row}
@@ -9,27 +9,13 @@ use Rattle.tree_rows.specs.Rows.{Columns, columns_of, rows_of, parents_of, row_o
 use Rattle.tree_rows.specs.MovedRows.{moved, moved_row, moved_number, rows_between, shift_from, moved_before, moved_behind}
 use Rattle.tree_model.specs.Edit.{replace}
 use Rattle.tree_rows.specs.StartsMoved.{row_from, starts_moved}
-use Rattle.tree_model.proofs.At.{below_or_after, cong₂}
+use Rattle.tree_model.proofs.At.{cong₂}
 use Rattle.tree_rows.proofs.Hung.{same_columns}
 use Rattle.tree_rows.proofs.Parents.{length-parents_of}
-use Rattle.tree_rows.proofs.MovedRows.{moved-above, moved-below}
+use Rattle.tree_rows.proofs.KeptLemmas.{same_number, same_all, same_maps}
 use Rattle.tree_rows.proofs.MovedColumns.{rows_between-more, length-all}
 use Rattle.tree_rows.proofs.TableLemmas.{row_at-is}
 use Rattle.tree_rows.proofs.EditLemmas.{token_pushed}
-
-same_number : (e b d x : ℕ) → moved_number (shift_from e e b d) x ≡ x
-same_number e b d x = elim (below_or_after x e) [
-    | inl less ↦ moved-below (shift_from e e b d) x less
-    | inr more ↦ moved-above (shift_from e e b d) x (omega (arith, more.1)) ∙ omega (arith, more.1)
-  ]
-
-same_all : {X : Type 0} (f : X → X) → ((x : X) → f x ≡ x) → (xs : List X) → map f xs ≡ xs
-same_all f h [] = refl
-same_all f h (x ∷ xs) = cong₂ ◌∷◌ (h x) (same_all f h xs)
-
-same_maps : {X Y : Type 0} (f g : X → Y) → ((x : X) → f x ≡ g x) → (xs : List X) → map f xs ≡ map g xs
-same_maps f g h [] = refl
-same_maps f g h (x ∷ xs) = cong₂ ◌∷◌ (h x) (same_maps f g h xs)
 
 -- rows that keep their numbers
 renumbered : (e b d : ℕ) (c : Columns) → moved (shift_from e e b d) c ≡ record { rows = map (row_from b d) c.rows; parents = c.parents }

@@ -1,18 +1,16 @@
 -- How rows come from steps, one after another; the steps of a forest give its rows and their parents.
-use Rattle.std.proofs.Common.{◌≡◌, ℕ, zero, suc, ◌+◌, ◌<◌, ◌≤◌, List, ◌∷◌, ◌++◌, length, get_or, map, refl, sym, ap, ◌∙◌, arith, append_assoc, append-nil, length-append, true, false, drop, []}
-use Rattle.std.specs.Prelude.{cond, nat_lt}
+use Rattle.std.proofs.Common.{◌≡◌, ℕ, suc, ◌+◌, ◌<◌, ◌≤◌, List, ◌∷◌, ◌++◌, length, get_or, map, refl, sym, ap, ◌∙◌, arith, append_assoc, append-nil, length-append, true, false, drop, []}
+use Rattle.std.specs.Prelude.{cond, nat_lt, Option, filter_map}
 use Rattle.std.proofs.Math.ListN.{set, get_or-map, drop_of_length-le}
 use Rattle.std.proofs.Math.Seq.{set-append_seam, get_or-append_seam, map-set_same}
 use Rattle.std.proofs.lemmas.Bool.Decides.{nat_tests}
 use Rattle.std.proofs.lemmas.List.{map-append, map-set, length-map}
-use Rattle.syntax_kind.specs.declared.syntax_kind.SyntaxKind.{SyntaxKind}
 use Rattle.tree_rows.specs.declared.builder_event.BuilderEvent.{BuilderEvent}
 use Rattle.tree_rows.specs.declared.builder_event.BuilderEvent.TheVariants.{Enter, Token, Exit}
 use Rattle.tree_model.specs.Tree.{node, token, Forest, nil, cons, forest_text, forest_size}
 use Rattle.tree_model.specs.Events.{exit, events_of}
 use Rattle.tree_rows.specs.Builder.{step_of}
 use Rattle.tree_rows.specs.Rows.{Columns, no_row, no_rows, one_row, joined, columns_of}
-use Rattle.tree_rows.specs.Run.{row_count}
 use Rattle.tree_model.proofs.At.{cong₂}
 use Rattle.tree_rows.proofs.Hung.{Hung, hung_of, columns, row_in, up_in, columns-append}
 use Rattle.tree_rows.proofs.At.{length-hung_of}
@@ -105,17 +103,12 @@ run-steps_of (cons (node k c) f) es hs up at =
     (append_assoc hs (h e ∷ C) (hung_of f (length (hs ++ h e ∷ C)) b up) ∙ ap (λ m. hs ++ (h e ∷ (C ++ hung_of f m b up))) is_e')
     (omega (arith, length-append (forest_text c) (forest_text f)))
 
--- where the step that comes next is a token, a row is left to make
-pub token_left : (es : List BuilderEvent) (i : ℕ) (d : BuilderEvent) (k : SyntaxKind) (n : ℕ) → i < length es → get_or es i d ≡ Token k n → 1 ≤ row_count (drop i es)
-token_left (Enter x ∷ es) zero d k n h is = omega arith
-token_left (Token x m ∷ es) zero d k n h is = omega arith
-token_left (Exit ∷ es) zero d k n h is = (let no : Exit ≡ Token k n = is in cc)
-token_left (e ∷ es) (suc i) d k n h is = token_left es i d k n (omega arith) is
-token_left [] i d k n h is = absurd (omega arith)
-
 -- all the steps of a forest, from nothing
-pub run_all : (f : Forest) (steps : List BuilderEvent) (kept : Columns) (up at i : ℕ) → steps ≡ steps_of f → length steps ≤ i → run (drop i steps) (state kept up at) ≡ run steps (state no_rows 0 0) → kept ≡ columns_of f
-run_all f steps kept up at i is past same =
-    let ended : drop i steps ≡ [] = drop_of_length-le steps past in
+pub run_all : (f : Forest) (steps rest : List BuilderEvent) (kept : Columns) (up at : ℕ) → steps ≡ steps_of f → rest ≡ [] → run rest (state kept up at) ≡ run steps (state no_rows 0 0) → kept ≡ columns_of f
+run_all f steps rest kept up at is ended same =
     ap (λ s. s.kept) (ap (λ l. run l (state kept up at)) (sym ended) ∙ same ∙ ap (λ l. run l (state no_rows 0 0)) (is ∙ sym (append-nil (steps_of f))) ∙ run-steps_of f [] [] 0 0)
     ∙ sym (columns_of-hung f)
+
+-- no events come of what is left of a list behind its end
+pub none_left : {X : Type 0} (h : X → Option BuilderEvent) (xs : List X) (i : ℕ) → length xs ≤ i → filter_map h (drop i xs) ≡ []
+none_left h xs i past = ap (filter_map h) (drop_of_length-le xs past)

@@ -1,21 +1,15 @@
 -- The starts of rows: they don't decrease with the row number, and a subtree's rows lie within its text.
-use Rattle.std.proofs.Common.{◌≡◌, inl, inr, ℕ, suc, List, ◌+◌, ◌-◌, ◌<◌, ◌≤◌, ◌∷◌, ◌++◌, length, refl, sym, ap, ◌∙◌, arith, get_or, take, drop, true, false, []}
-use Rattle.std.specs.Prelude.{nat_lt}
-use Rattle.std.specs.List.Sorted.{IsPartitionedBy, IsPartitionPoint}
-use Rattle.std.proofs.lemmas.List.{get_or-take, get_or-drop, get_or_default, length-take, length-drop}
-use Rattle.tree_rows.specs.declared.rows.Row.{Row}
-use Rattle.tree_rows.specs.Rows.{rows_of, no_row}
+use Rattle.std.proofs.Common.{◌≡◌, inl, inr, ℕ, suc, ◌+◌, ◌<◌, ◌≤◌, ◌∷◌, ◌++◌, refl, sym, ◌∙◌, arith, []}
 use Rattle.tree_rows.specs.RowSearch.{SplitsAt, IsNarrowed}
 use Rattle.tree_rows.specs.declared.table.narrow.Stretch.{Stretch}
 use Rattle.tree_model.specs.Tree.{Tree, node, token, nil, cons, size}
 use Rattle.tree_model.specs.Rows.{tree_at, start_at, end_at, place_at}
 use Rattle.tree_rows.specs.Rows.{row_at}
 use Rattle.tree_model.proofs.At.{At, here, lift, At-fits, some_row, forest_size-cons, below_or_after}
-use Rattle.tree_rows.proofs.At.{length-rows_of}
 use Rattle.tree_model.proofs.TableLemmas.{at_row}
 use Rattle.tree_rows.proofs.TableLemmas.{next_start_at}
 use Rattle.tree_rows.proofs.StepLemmas.{end_of_row, row_start}
-use Rattle.tree_model.proofs.Starts.{At-nested, At-ordered, earlier_passes, fails, passes, starts_rise}
+use Rattle.tree_model.proofs.Starts.{At-nested, At-ordered, starts_rise}
 
 -- what a row in the subtree of row n has there
 pub record Nested (whole : Tree) (n m : ℕ) : Type 0 where

@@ -2,7 +2,8 @@
 use Rattle.std.specs.Prelude.{◌≡◌, ℕ, ◌≤◌, List, ◌∷◌, length, take, drop, IsUtf8, []}
 use Rattle.tree_rows.specs.declared.builder_event.BuilderEvent.{BuilderEvent}
 use Rattle.tree_rows.specs.declared.builder_event.BuilderEvent.TheVariants.{Enter, Token, Exit}
-use Rattle.tree_model.specs.Events.{Event, enter, leaf, exit}
+use Rattle.tree_model.specs.Tree.{Tree}
+use Rattle.tree_model.specs.Events.{Event, enter, leaf, exit, BuildsNode}
 
 -- the events of the steps, whose texts stand one after another in s
 abbrev pub events_from : List BuilderEvent → List ℕ → List Event
@@ -23,3 +24,9 @@ abbrev pub step_of : Event → BuilderEvent
 step_of (enter k) = Enter k
 step_of (leaf k t) = Token k (length t)
 step_of exit = Exit
+
+-- the steps cut the text, and build one tree over it, whose root is a node
+pub record IsOneTree (steps : List BuilderEvent) (s : List ℕ) : Type 0 where
+  pub tree : Tree
+  pub fits : TextsFit steps s
+  pub builds : BuildsNode (events_from steps s) tree

@@ -9,3 +9,4 @@ pub mod RowEquality
 pub mod RowEqualityLaws
 pub mod PackedRow
 pub mod StartsMoved
+pub mod Flat

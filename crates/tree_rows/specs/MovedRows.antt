@@ -1,10 +1,10 @@
 -- Rows moved to another table. No contract outside this crate names them.
-use Rattle.std.specs.Prelude.{ℕ, ◌+◌, ◌-◌, ◌<◌, ◌≤◌, ◌^◌, ◌∷◌, map, take, drop, nat_lt, if◌then◌else◌}
+use Rattle.std.specs.Prelude.{ℕ, ◌+◌, ◌-◌, ◌<◌, ◌^◌, ◌∷◌, ◌++◌, map, take, drop, nat_lt, if◌then◌else◌}
 use Rattle.tree_rows.specs.declared.rows.Row.{Row}
-use Rattle.tree_rows.specs.declared.table.edit.Shift.{Shift}
+use Rattle.tree_rows.specs.declared.shift.Shift.{Shift}
 use Rattle.tree_model.specs.Tree.{Tree, cons, nil, size}
 use Rattle.tree_model.specs.Rows.{tree_at, start_at, end_at}
-use Rattle.tree_rows.specs.Rows.{Columns, rows_of, parents_of}
+use Rattle.tree_rows.specs.Rows.{Columns, columns_of, rows_of}
 
 -- a row number after the move: the first ones stay
 abbrev pub moved_number : Shift → ℕ → ℕ
@@ -18,18 +18,29 @@ moved_row by r = record { kind = r.kind; is_token = r.is_token; start = (r.start
 abbrev pub moved : Shift → Columns → Columns
 moved by kept = record { rows = map (moved_row by) kept.rows; parents = map (moved_number by) kept.parents }
 
+-- rows of which those from row n on move
+abbrev pub moved_from : ℕ → Shift → Columns → Columns
+moved_from n by kept = record {
+  rows = take n kept.rows ++ map (moved_row by) (drop n kept.rows);
+  parents = take n kept.parents ++ map (moved_number by) (drop n kept.parents);
+}
+
 -- the moved row's numbers fit in their types
 pub record MoveFits (by : Shift) (r : Row) : Type 0 where
-  pub byte_is_later : by.from_byte ≤ r.start
   pub byte_fits : (r.start - by.from_byte) + by.to_byte < 2 ^ 32
   pub end_fits : (r.end - by.from_row) + by.to_row < 2 ^ 63
 
--- rows a to b of a tree, b left out, and their parents
+-- a moved row number fits in its type
+abbrev pub NumberFits : Shift → ℕ → Type 0
+NumberFits by n = (n - by.from_row) + by.to_row < 2 ^ 64
+
+-- rows a to b, b left out, and their parents
+abbrev pub cut_of : ℕ → ℕ → Columns → Columns
+cut_of a b kept = record { rows = take (b - a) (drop a kept.rows); parents = take (b - a) (drop a kept.parents) }
+
+-- rows a to b of a tree
 abbrev pub rows_between : Tree → ℕ → ℕ → Columns
-rows_between tree a b = record {
-  rows = take (b - a) (drop a (rows_of (cons tree nil) 0 0));
-  parents = take (b - a) (drop a (parents_of (rows_of (cons tree nil) 0 0)));
-}
+rows_between tree a b = cut_of a b (columns_of (cons tree nil))
 
 -- rows from n on go to those from m on, bytes from b on to those from d on
 abbrev pub shift_from : ℕ → ℕ → ℕ → ℕ → Shift

@@ -1,13 +1,10 @@
 -- Rows as they are kept, in 16 bytes each, beside their parents: the number behind a token has 2^63 more. No contract outside this crate names them.
 use Rattle.std.specs.Prelude.{ℕ, ◌-◌, ◌^◌, Bool, true, false, List, map, nat_lt, if◌then◌else◌, refl}
 use Rattle.std.specs.Coded.{Coded, code_by, coded_ℕ, coded_bool, coded_list, coded×}
-use Rattle.std.specs.Cmp.{IsEquivalence}
 use Rattle.syntax_kind.specs.declared.syntax_kind.SyntaxKind.{SyntaxKind}
 use Rattle.tree_rows.specs.declared.rows.Row.{Row}
 use Rattle.tree_rows.specs.declared.rows.PackedRow.{PackedRow}
 use Rattle.tree_rows.specs.Rows.{Columns}
-use Rattle.tree_rows.specs.RowEquality.{is_same_row}
-use Rattle.tree_rows.specs.RowEqualityLaws.{row_equivalence}
 use Rattle.tree_model.specs.TreeCode.{kind_code}
 
 -- the row that is kept so

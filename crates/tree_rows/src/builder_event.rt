@@ -1,4 +1,5 @@
 //! What a builder keeps of an event.
+ghost use Rattle.std.specs.Prelude.{◌≡◌, Option};
 
 use syntax_kind::SyntaxKind;
 
@@ -11,4 +12,26 @@ pub enum BuilderEvent {
     Token(SyntaxKind, usize),
     /// The innermost node ends.
     Exit,
+}
+
+/// A step from which a tree is built where it stands: rows are made of a list of such steps, and no list of events is.
+pub trait TreeStep {
+    ghost use Rattle.tree_rows.specs.declared.builder_event.BuilderEvent.{BuilderEvent};
+
+    // The event that the step is; `None` where it is none.
+    ghost step_event: { Self → Option BuilderEvent };
+
+    /// The event that the step is; `None` where it has nothing to do with the tree.
+    fn event(&self) -> Option<BuilderEvent>
+        ensures { result ≡ step_event self.now };
+}
+
+impl TreeStep for BuilderEvent {
+    ghost use Rattle.std.specs.Prelude.{Some};
+
+    ghost step_event = { λ event. Some event };
+
+    fn event(&self) -> Option<BuilderEvent> {
+        Some(*self)
+    }
 }

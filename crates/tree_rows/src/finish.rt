@@ -1,5 +1,5 @@
 //! What `finish` does with the steps.
-ghost use Rattle.std.specs.Prelude.{◌≡◌, ◌<◌, ◌^◌, [], Some, map, length, IfOk};
+ghost use Rattle.std.specs.Prelude.{◌≡◌, ◌<◌, ◌^◌, [], Some, map, filter_map, length, IfOk};
 ghost use Rattle.tree_model.specs.declared.error.FinishError.TheVariants.{Empty};
 ghost use Rattle.tree_model.specs.Tree.{Forest};
 ghost use Rattle.tree_model.specs.Events.{events_of};
@@ -8,7 +8,7 @@ ghost use Rattle.tree_model.specs.Scan.{after_top, scan};
 ghost use Rattle.tree_rows.specs.Rows.{columns_of};
 ghost use Rattle.tree_rows.specs.Run.{text_len, row_count};
 
-use crate::builder_event::BuilderEvent;
+use crate::builder_event::{BuilderEvent, TreeStep};
 use crate::kept::Kept;
 use crate::rows::{Row, Rows};
 use std::alloc::{AllocError, Global};
@@ -64,12 +64,12 @@ pub fn first_refusal(steps: &[BuilderEvent]) -> Option<FinishError>
 }
 
 // How many rows the steps make: one for each but the exits.
-fn row_count(steps: &[BuilderEvent]) -> usize
-    ensures { result ≡ row_count steps.now }
+fn row_count<S: TreeStep>(steps: &[S]) -> usize
+    ensures { result ≡ row_count (filter_map S.step_event steps.now) }
 {
     let mut count: usize = 0;
     for step in steps {
-        if !matches!(step, BuilderEvent::Exit) {
+        if let Some(BuilderEvent::Enter(_) | BuilderEvent::Token(_, _)) = step.event() {
             count += 1;
         }
     }
@@ -77,16 +77,16 @@ fn row_count(steps: &[BuilderEvent]) -> usize
 }
 
 /// The rows of the steps of a forest, and their parents.
-pub fn build_rows(alloc: Global, steps: &[BuilderEvent]) -> Result<Kept, AllocError>
-    requires { text_len steps.now < 2 ^ 32 }
-    ensures { IfOk result (λ rows. (f : Forest) → steps.now ≡ map step_of (events_of f) → rows ≡ columns_of f) }
+pub fn build_rows<S: TreeStep>(alloc: Global, steps: &[S]) -> Result<Kept, AllocError>
+    requires { text_len (filter_map S.step_event steps.now) < 2 ^ 32 }
+    ensures { IfOk result (λ rows. (f : Forest) → filter_map S.step_event steps.now ≡ map step_of (events_of f) → rows ≡ columns_of f) }
 {
     let mut rows = Rows::with_capacity(alloc, row_count(steps))?;
     let mut innermost: usize = 0;
     let mut at: u32 = 0;
     for step in steps {
-        match *step {
-            BuilderEvent::Enter(kind) => {
+        match step.event() {
+            Some(BuilderEvent::Enter(kind)) => {
                 let row = rows.len();
                 let open = Row {
                     kind,
@@ -97,7 +97,7 @@ pub fn build_rows(alloc: Global, steps: &[BuilderEvent]) -> Result<Kept, AllocEr
                 rows.push(open, innermost)?;
                 innermost = row;
             }
-            BuilderEvent::Token(kind, len) => {
+            Some(BuilderEvent::Token(kind, len)) => {
                 let end = rows.len() + 1;
                 let token = Row {
                     kind,
@@ -108,7 +108,7 @@ pub fn build_rows(alloc: Global, steps: &[BuilderEvent]) -> Result<Kept, AllocEr
                 rows.push(token, innermost)?;
                 at += len as u32;
             }
-            BuilderEvent::Exit => {
+            Some(BuilderEvent::Exit) => {
                 // Of steps that close no more than they open, each finds its node.
                 let row = innermost;
                 if row < rows.len() {
@@ -117,6 +117,7 @@ pub fn build_rows(alloc: Global, steps: &[BuilderEvent]) -> Result<Kept, AllocEr
                     rows.set_end(row, end);
                 }
             }
+            None => {}
         }
     }
     let kept = Kept::new(alloc, rows)?;

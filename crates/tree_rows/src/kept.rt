@@ -1,11 +1,13 @@
 //! Rows that trees share: those behind one of them may start elsewhere than they are kept.
-ghost use Rattle.std.specs.Prelude.{◌≡◌, ◌<◌, ◌≤◌, ◌^◌, length, get_or, IfOk, IfSome};
+ghost use Rattle.std.specs.Prelude.{◌≡◌, ◌<◌, ◌≤◌, ◌^◌, length, get_or, IfOk, IfSome, OnOk};
 ghost use Rattle.std.specs.Cmp.Lexicographic.{pointwise};
-ghost use Rattle.tree_rows.specs.Rows.{no_row};
+ghost use Rattle.tree_rows.specs.Rows.{no_row, joined};
+ghost use Rattle.tree_rows.specs.MovedRows.{cut_of};
 ghost use Rattle.tree_rows.specs.StartsMoved.{starts_moved, StartsFit};
 ghost use Rattle.tree_rows.specs.RowEquality.{is_same_row};
 
 use crate::rows::{Row, Rows};
+use crate::shift::Shift;
 use shared_pointer::Shared;
 use std::alloc::{AllocError, Global};
 use std::marker::Model;
@@ -115,6 +117,33 @@ impl Kept {
         None
     }
 
+    /// The rows `first..end` behind these.
+    pub(crate) fn copy_to(
+        &self,
+        rows: &mut Rows,
+        first: usize,
+        end: usize,
+    ) -> Result<(), AllocError>
+        requires ordered { first ≤ end }
+        requires in_range { end ≤ length self.now.rows }
+        ensures { OnOk result (rows.new ≡ joined rows.old (cut_of first end self.now)) }
+    {
+        // For the proof: how many rows there are before.
+        let _count = rows.len();
+        rows.extend_from(self.rows.as_ref(), first, end)?;
+        if self.at < end {
+            let behind = end - usize::max(first, self.at + 1);
+            let by = Shift {
+                from_row: 0,
+                to_row: 0,
+                from_byte: self.from,
+                to_byte: self.to,
+            };
+            rows.move_from(rows.len() - behind, by);
+        }
+        Ok(())
+    }
+
     fn has_same_rows(&self, other: &Kept) -> bool
         ensures { result ≡ pointwise is_same_row self.now.rows other.now.rows }
     {
@@ -123,8 +152,7 @@ impl Kept {
             return false;
         }
         for n in 0..count {
-            if self.get(n) == other.get(n) {
-            } else {
+            if self.get(n) == other.get(n) {} else {
                 return false;
             }
         }

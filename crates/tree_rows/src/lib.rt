@@ -8,9 +8,10 @@ mod finish;
 mod kept;
 pub mod laws;
 mod rows;
+mod shift;
 mod table;
 
-pub use builder_event::BuilderEvent;
+pub use builder_event::{BuilderEvent, TreeStep};
 pub use finish::{build_rows, first_refusal};
 pub use kept::Kept;
-pub use table::{Table, WalkStep};
+pub use table::{FlatRow, Table, WalkStep};

@@ -1,10 +1,12 @@
 //! Rows, in 16 bytes each, and their parents beside them, in 8.
 ghost use Rattle.std.specs.Cmp.Lexicographic.{pointwise};
-ghost use Rattle.std.specs.Prelude.{◌≡◌, ◌==◌, ◌<◌, ◌^◌, length, get_or, IfOk, OnOk, OnErr};
+ghost use Rattle.std.specs.Prelude.{ℕ, ◌≡◌, ◌==◌, ◌<◌, ◌≤◌, ◌^◌, length, get_or, IfOk, OnOk, OnErr};
 ghost use Rattle.std.proofs.Math.ListN.{set};
 ghost use Rattle.tree_rows.specs.Rows.{no_row, no_rows, one_row, joined};
 ghost use Rattle.tree_rows.specs.PackedRow.{unpacked};
+ghost use Rattle.tree_rows.specs.MovedRows.{cut_of, moved_from, MoveFits, NumberFits};
 
+use crate::shift::Shift;
 use std::alloc::{AllocError, Global};
 use std::marker::Model;
 use syntax_kind::SyntaxKind;
@@ -34,7 +36,7 @@ pub struct PackedRow {
 const TOKEN: usize = 9_223_372_036_854_775_808;
 
 impl PackedRow {
-    fn new(row: Row) -> PackedRow
+    pub(crate) fn new(row: Row) -> PackedRow
         requires { row.end < 2 ^ 63 }
         ensures { unpacked result ≡ row }
     {
@@ -50,8 +52,8 @@ impl PackedRow {
         }
     }
 
-    // The row that is kept so.
-    fn row(self) -> Row
+    /// The row that is kept so.
+    pub(crate) fn row(self) -> Row
         ensures value { result ≡ unpacked self }
         ensures fits { result.end < 2 ^ 63 }
     {
@@ -115,6 +117,7 @@ impl Rows {
     /// How many rows there are. A vector never has room for 2^63.
     pub fn len(&self) -> usize
         ensures value { result ≡ length self.now.rows }
+        ensures parents { result ≡ length self.now.parents }
         ensures small { result < 2 ^ 63 }
     {
         self.packed.len()
@@ -160,6 +163,40 @@ impl Rows {
         ensures { self.new ≡ record self.old { rows = set self.old.rows n (record (get_or self.old.rows n no_row) { end = end }) } }
     {
         self.packed[n].set_end(end);
+    }
+
+    /// The rows `first..end` of other ones behind these; where there is no memory for them, all stays as it was.
+    pub(crate) fn extend_from(
+        &mut self,
+        other: &Rows,
+        first: usize,
+        end: usize,
+    ) -> Result<(), AllocError>
+        requires ordered { first ≤ end }
+        requires in_range { end ≤ length other.now.rows }
+        ensures ok { OnOk result (self.new ≡ joined self.old (cut_of first end other.now)) }
+        ensures err { OnErr result (self.new ≡ self.old) }
+    {
+        let count = self.packed.len();
+        self.packed.extend_from_slice(&other.packed[first..end])?;
+        match self.parents.extend_from_slice(&other.parents[first..end]) {
+            Ok(()) => Ok(()),
+            Err(_) => {
+                self.packed.truncate(count);
+                Err(AllocError)
+            }
+        }
+    }
+
+    /// Moves the rows from `n` on.
+    pub(crate) fn move_from(&mut self, n: usize, by: Shift)
+        requires is_row { n ≤ length self.old.rows }
+        requires rows_fit { (k : ℕ) → n ≤ k → k < length self.old.rows → (get_or self.old.rows k no_row).end < 2 ^ 63 → MoveFits by (get_or self.old.rows k no_row) }
+        requires parents_fit { (k : ℕ) → n ≤ k → k < length self.old.rows → get_or self.old.parents k 0 < 2 ^ 64 → NumberFits by (get_or self.old.parents k 0) }
+        ensures { self.new ≡ moved_from n by self.old }
+    {
+        by.rows(&mut self.packed[n..]);
+        by.numbers(&mut self.parents[n..]);
     }
 
     /// Whether the numbers of the parents are the same.

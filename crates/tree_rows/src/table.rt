@@ -5,13 +5,16 @@ ghost use Rattle.tree_model.specs.Rows.{tree_at, start_at, end_at, place_at};
 ghost use Rattle.tree_rows.specs.Rows.{row_at, parent_at, tree_of_rows, Represents};
 
 mod edit;
+mod flat;
 mod narrow;
+mod over;
 mod search;
 mod steps;
 mod walk;
 
 use crate::kept::Kept;
 use crate::rows::Row;
+pub use flat::FlatRow;
 use std::marker::Model;
 use syntax_kind::SyntaxKind;
 use text_size::{TextRange, TextSize};

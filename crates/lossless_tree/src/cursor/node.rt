@@ -13,6 +13,8 @@ ghost use Rattle.tree_model.specs.Placed.{IsPlaced};
 ghost use Rattle.lossless_tree.specs.Element.{element_of};
 ghost use Rattle.lossless_tree.specs.Dump.{dump_of};
 
+mod flat;
+
 use super::ancestors::Ancestors;
 use super::children::{SyntaxElementChildren, SyntaxNodeChildren};
 use super::descendants::{Descendants, DescendantsWithTokens};

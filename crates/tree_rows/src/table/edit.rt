@@ -7,51 +7,16 @@ ghost use Rattle.tree_rows.specs.Rows.{row_at, columns_of, joined};
 ghost use Rattle.tree_model.specs.Cursor.{cursor_at};
 ghost use Rattle.tree_model.specs.Edit.{splice, replace};
 ghost use Rattle.tree_model.specs.Placed.{IsPlaced};
-ghost use Rattle.tree_rows.specs.MovedRows.{moved_number, moved_row, moved, MoveFits, rows_between, moved_subtree, moved_before, moved_behind};
+ghost use Rattle.tree_rows.specs.MovedRows.{moved, MoveFits, rows_between, moved_subtree, moved_before, moved_behind};
 
 use super::Table;
 use super::search::same_kind;
 use crate::kept::Kept;
 use crate::rows::{Row, Rows};
+use crate::shift::Shift;
 use std::alloc::{AllocError, Global};
 use syntax_kind::SyntaxKind;
 use tree_model::ReplaceError;
-
-/// How rows move: the row numbers from `from_row` on become those from `to_row` on, and the bytes from `from_byte` on those from
-/// `to_byte` on. Row numbers before `from_row` stay, as those of the nodes around a piece.
-#[derive(Clone, Copy)]
-pub struct Shift {
-    pub from_row: usize,
-    pub to_row: usize,
-    pub from_byte: usize,
-    pub to_byte: usize,
-}
-
-impl Shift {
-    fn number(self, n: usize) -> usize
-        requires { (n - self.from_row) + self.to_row < 2 ^ 63 }
-        ensures { result ≡ moved_number self n }
-    {
-        if n < self.from_row {
-            n
-        } else {
-            n - self.from_row + self.to_row
-        }
-    }
-
-    fn row(self, row: Row) -> Row
-        requires { MoveFits self row }
-        ensures { result ≡ moved_row self row }
-    {
-        let start = row.start as usize - self.from_byte + self.to_byte;
-        Row {
-            kind: row.kind,
-            is_token: row.is_token,
-            start: start as u32,
-            end: self.number(row.end),
-        }
-    }
-}
 
 impl Table {
     // The rows from `first` up to `end`, moved, behind `rows`.
@@ -67,9 +32,9 @@ impl Table {
         requires fits { (k : ℕ) → first ≤ k → k < end → MoveFits by (row_at self.now k) }
         ensures { OnOk result (rows.new ≡ joined rows.old (moved by (rows_between self.now first end))) }
     {
-        for n in first..end {
-            rows.push(by.row(self.row(n)), by.number(self.parent(n)))?;
-        }
+        let count = rows.len();
+        self.rows.copy_to(rows, first, end)?;
+        rows.move_from(count, by);
         Ok(())
     }
 

@@ -1,4 +1,4 @@
-use Rattle.std.proofs.Common.{◌≡◌, ◌∙◌, sym, ap, subst, arith, [], Some}
+use Rattle.std.proofs.Common.{◌≡◌, ◌∙◌, sym, ap, subst, arith, ◌<◌, ◌^◌, [], Some}
 use Rattle.std.specs.Prelude.{string_bytes}
 use Rattle.tree_model.specs.Events.{BuildsNode, first_refusal}
 use Rattle.tree_rows.specs.Builder.{events_from}
@@ -7,7 +7,7 @@ use Rattle.tree_rows.specs.Rows.{columns_of, tree_of_rows}
 use Rattle.tree_rows.specs.Run.{text_len}
 use Rattle.tree_model.specs.Scan.{scan}
 use Rattle.tree_model.specs.declared.error.FinishError.TheVariants.{Empty}
-use Rattle.tree_rows.proofs.FinishLemmas.{Ready, ready, first_refusal-short, first_refusal-long, refusal_of-scan, table_built, node_built, step_text_len}
+use Rattle.tree_rows.proofs.FinishLemmas.{Ready, ready, first_refusal-short, first_refusal-long, refusal_of-scan, table_built, node_built, step_text_len, all_events}
 use Rattle.lossless_tree.proofs.builder.TreeBuilder.build.Goals as goal
 use Rattle.lossless_tree.proofs.builder.TreeBuilder.build.Goals.{In-None, In-Ok, After-first_refusal}
 
@@ -28,10 +28,12 @@ is_ready : (c : In-None) → Ready c.self.inside.steps.items (string_bytes c.sel
 is_ready c = ready c.self.inside.steps.items (string_bytes c.self.inside.text) c.self.invariant (ap (λ l. scan 0 (Some Empty) (events_from l [])) (sym c.as_slice.ensures.value) ∙ sym c.in-None.ensures)
 
 pub build_rows-requires : goal.build_rows-requires
-build_rows-requires c = omega (arith, ap text_len c.as_slice-in-None.ensures.value, step_text_len c.self.inside.steps.items (string_bytes c.self.inside.text) c.self.invariant, c.if-len.false, c.len.ensures, c.self.inside.text.bytes.ok.0)
+build_rows-requires c =
+    subst (λ l. text_len l < 2 ^ 32) (sym (all_events c.as_slice-in-None.result.now))
+    (omega (arith, ap text_len c.as_slice-in-None.ensures.value, step_text_len c.self.inside.steps.items (string_bytes c.self.inside.text) c.self.invariant, c.if-len.false, c.len.ensures, c.self.inside.text.bytes.ok.0))
 
 rows_are : (c : In-Ok) (w : Ready c.self.inside.steps.items (string_bytes c.self.inside.text)) → c.in-Ok.rows ≡ columns_of (cons (node w.kind w.children) nil)
-rows_are c w = c.in-Ok.ensures (cons (node w.kind w.children) nil) (c.as_slice-in-None.ensures.value ∙ w.steps_are)
+rows_are c w = c.in-Ok.ensures (cons (node w.kind w.children) nil) (all_events c.as_slice-in-None.result.now ∙ c.as_slice-in-None.ensures.value ∙ w.steps_are)
 
 pub from_parts-requires : goal.from_parts-requires
 from_parts-requires c =

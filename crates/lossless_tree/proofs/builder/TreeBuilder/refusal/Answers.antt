@@ -1,4 +1,4 @@
-use Rattle.std.proofs.Common.{◌≡◌, ◌∙◌, sym, ap, arith, length, [], Some}
+use Rattle.std.proofs.Common.{◌∙◌, sym, ap, arith, length, [], Some}
 use Rattle.std.specs.Prelude.{string_bytes}
 use Rattle.tree_model.specs.Events.{first_refusal}
 use Rattle.tree_model.specs.Scan.{scan}

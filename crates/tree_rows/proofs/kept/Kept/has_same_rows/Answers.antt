@@ -1,4 +1,4 @@
-use Rattle.std.proofs.Common.{◌≡◌, inl, inr, List, ℕ, ◌+◌, ◌<◌, true, false, Decides, length, get_or, sym, ap, ◌∙◌, arith}
+use Rattle.std.proofs.Common.{◌≡◌, inl, inr, List, true, false, Decides, get_or, sym, ap, ◌∙◌, arith}
 use Rattle.std.proofs.lemmas.List.{ext_get_or}
 use Rattle.std.specs.Cmp.Lexicographic.{pointwise, pointwise_decides}
 use Rattle.tree_model.specs.EqualityLaws.{same_test}
@@ -24,12 +24,12 @@ returns-else-eq c =
 
 pub loop-n-preserved : goal.loop-n-preserved
 loop-n-preserved c = λ k lt. elim (below_or_after k c.loop-n.n) [
-    | inl less ↦ c.loop-n.invariant k less
-    | inr more ↦
-        let e : k ≡ c.loop-n.n = omega (arith, lt, more.1) in
-        ap (λ i. get_or c.args.self.now.rows i no_row) e ∙ sym c.get.ensures.value ∙ (row_Decides c.get.result c.get-in-loop-n.result).0 (sym c.eq.ensures ∙ c.if-eq.true)
-        ∙ c.get-in-loop-n.ensures.value ∙ ap (λ i. get_or c.args.other.now.rows i no_row) (sym e)
-  ]
+  | inl less ↦ c.loop-n.invariant k less
+  | inr more ↦
+      let e : k ≡ c.loop-n.n = omega (arith, lt, more.1) in
+      ap (λ i. get_or c.args.self.now.rows i no_row) e ∙ sym c.get.ensures.value ∙ (row_Decides c.get.result c.get-in-loop-n.result).0 (sym c.eq.ensures ∙ c.if-eq.true)
+      ∙ c.get-in-loop-n.ensures.value ∙ ap (λ i. get_or c.args.other.now.rows i no_row) (sym e)
+]
 
 pub returns : goal.returns
 returns c =

@@ -1,4 +1,4 @@
-use Rattle.std.proofs.Common.{◌≡◌, ◌<◌, ◌+◌, ◌-◌, ◌∙◌, ap, sym, arith, length, get_or}
+use Rattle.std.proofs.Common.{◌<◌, ◌∙◌, ap, sym, arith, length, get_or}
 use Rattle.tree_rows.specs.Rows.{no_row}
 use Rattle.tree_rows.specs.StartsMoved.{starts_moved}
 use Rattle.tree_rows.proofs.KeptLemmas.{length-moved, moved_moves, moved_twice}

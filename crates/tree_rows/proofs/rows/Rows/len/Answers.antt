@@ -7,3 +7,8 @@ pub returns-clause-value : goal.returns-clause-value
 returns-clause-value c =
     let a = c.self.inside in
     omega (arith, c.len.ensures, length-map a.packed.items unpacked, ap (λ k. length k.rows) c.self.view_is, a.packed.ok.0)
+
+pub returns-clause-parents : goal.returns-clause-parents
+returns-clause-parents c =
+    let a = c.self.inside in
+    omega (arith, c.len.ensures, c.self.invariant, ap (λ k. length k.parents) c.self.view_is, a.packed.ok.0)

@@ -1,35 +1,41 @@
-use Rattle.std.proofs.Common.{◌≡◌, ◌<◌, ◌∙◌, ap, arith}
+use Rattle.std.proofs.Common.{◌≡◌, ◌<◌, ◌≤◌, ◌∙◌, ◌+◌, ◌-◌, ap, sym, subst, length, arith, ℕ}
 use Rattle.tree_model.specs.Tree.{size}
 use Rattle.tree_model.specs.Rows.{tree_at}
 use Rattle.tree_model.proofs.At.{some_row}
 use Rattle.tree_rows.specs.Rows.{joined}
-use Rattle.tree_rows.specs.MovedRows.{moved, rows_between}
+use Rattle.tree_rows.specs.MovedRows.{cut_of, rows_between, MoveFits}
 use Rattle.tree_rows.proofs.StepLemmas.{end_of_row}
-use Rattle.tree_rows.proofs.EditLemmas.{none_pushed, one_pushed, parent_is_earlier}
+use Rattle.tree_rows.proofs.TableLemmas.{shown, rows_len, kept_are}
+use Rattle.tree_rows.proofs.EditLemmas.{all_moved, Copied, copied_at, parent_is_earlier}
 use Rattle.tree_rows.proofs.table.Table.push_moved.Goals as goal
+use Rattle.tree_rows.proofs.table.Table.push_moved.Goals.{In_ok-copy_to}
 
-pub loop-n-init : goal.loop-n-init
-loop-n-init c = none_pushed c.args.self.now c.args.by c.args.first c.args.rows.now
+pub copy_to-requires-clause-in_range : goal.copy_to-requires-clause-in_range
+copy_to-requires-clause-in_range c = omega (arith, c.requires.in_range, rows_len _ _ _ (shown _ _ _ c.self.view_is c.self.invariant))
 
-pub number-requires : goal.number-requires
-number-requires c =
-    let n = c.loop-n.n in
-    let h : n < size c.args.self.now = omega (arith, c.loop-n-test.true, c.requires.in_range) in
-    omega (
-      arith,
-      (c.requires.fits n (omega (arith, c.loop-n.auto.n)) c.loop-n-test.true).end_fits,
-      c.parent.ensures,
-      parent_is_earlier c.args.self.now n h,
-      end_of_row c.args.self.now n h,
-      some_row (tree_at c.args.self.now n),
-    )
+copies : (c : In_ok-copy_to) → c.copy_to.new.rows ≡ joined c.args.rows.now (rows_between c.args.self.now c.args.first c.args.end)
+copies c = c.in_ok-copy_to.ensures ∙ ap (λ k. joined c.args.rows.now (cut_of c.args.first c.args.end k)) (kept_are _ _ _ (shown _ _ _ c.self.view_is c.self.invariant))
 
-pub loop-n-preserved : goal.loop-n-preserved
-loop-n-preserved c =
-    one_pushed c.args.self.now c.args.by c.args.first c.loop-n.n c.args.rows.now c.loop-n.rows c.push.new.self c.row.result c.row-in-loop-n.result c.parent.result c.number.result
-    (omega (arith, c.loop-n.auto.n)) (omega (arith, c.loop-n-test.true, c.requires.in_range)) c.loop-n.invariant c.in_ok-push.ensures.ok c.row-in-loop-n.ensures c.row.ensures.value c.number.ensures c.parent.ensures
+comes_from : (c : In_ok-copy_to) (k : ℕ) → c.len-count.result ≤ k → k < length c.copy_to.new.rows.rows
+    → Copied c.args.self.now c.copy_to.new.rows c.args.first c.args.end k (c.args.first + (k - c.len-count.result))
+comes_from c k behind lt =
+    copied_at c.args.self.now c.args.rows.now c.copy_to.new.rows c.args.first c.args.end c.len-count.result k c.requires.ordered c.requires.in_range
+    (omega (arith, c.len-count.ensures.value, c.len-count.ensures.parents)) c.len-count.ensures.value (copies c) behind lt
+
+pub move_from-requires-clause-rows_fit : goal.move_from-requires-clause-rows_fit
+move_from-requires-clause-rows_fit c = λ k behind lt small.
+    let w = comes_from (goal.at.move_from-requires-clause-rows_fit c).In_ok-copy_to k behind lt in
+    subst (MoveFits c.args.by) (sym w.row_is) (c.requires.fits _ w.later w.there)
+
+pub move_from-requires-clause-parents_fit : goal.move_from-requires-clause-parents_fit
+move_from-requires-clause-parents_fit c = λ k behind lt small.
+    let whole = c.args.self.now in
+    let w = comes_from (goal.at.move_from-requires-clause-parents_fit c).In_ok-copy_to k behind lt in
+    let n = c.args.first + (k - c.len-count.result) in
+    let h : n < size whole = omega (arith, w.there, c.requires.in_range) in
+    omega (arith, w.parent_is, parent_is_earlier whole n h, (c.requires.fits n w.later w.there).end_fits, end_of_row whole n h, some_row (tree_at whole n))
 
 pub returns : goal.returns
 returns c =
-    let done : c.loop-n.n ≡ c.args.end = omega (arith, c.loop-n.auto.n-end, c.loop-n-test.false, c.requires.ordered) in
-    c.loop-n.invariant ∙ ap (λ k. joined c.args.rows.now (moved c.args.by (rows_between c.args.self.now c.args.first k))) done
+    all_moved c.args.by c.args.rows.now c.copy_to.new.rows c.move_from.new.self (rows_between c.args.self.now c.args.first c.args.end) c.len-count.result
+    (omega (arith, c.len-count.ensures.value, c.len-count.ensures.parents)) c.len-count.ensures.value (copies (goal.at.returns c).In_ok-copy_to) c.move_from.ensures

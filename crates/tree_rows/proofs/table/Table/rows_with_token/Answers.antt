@@ -1,4 +1,4 @@
-use Rattle.std.proofs.Common.{◌≡◌, ◌∙◌, ap, sym, length, get_or, ◌≤◌, ◌<◌, ◌+◌, ◌-◌, refl, arith}
+use Rattle.std.proofs.Common.{◌∙◌, ap, sym, length, get_or, ◌≤◌, ◌<◌, ◌+◌, ◌-◌, refl, arith}
 use Rattle.std.specs.Prelude.{◌^◌}
 use Rattle.tree_model.specs.Tree.{size}
 use Rattle.tree_model.specs.Rows.{tree_at}
@@ -46,8 +46,8 @@ restarted-requires-clause-fits c = λ k lt there.
     let later : n + size (tree_at whole n) ≤ k = omega (arith, lt, token_size (tree_at whole n) c.requires.is_token) in
     let d = c.start_at-start.result + length c.args.new.now in
     let fits = fits_behind whole n k (n + size (tree_at whole n)) 1 c.end_at-from.result (length c.args.new.now) c.requires.is_row refl
-        (few (goal.at.restarted-requires-clause-fits c).After-len-count)
-        (omega (arith, c.requires.fits, length-spliced whole n c.args.new.now c.requires.is_row)) c.end_at-from.ensures.value later in_range d (omega (arith, c.start_at-start.ensures)) in
+    (few (goal.at.restarted-requires-clause-fits c).After-len-count)
+    (omega (arith, c.requires.fits, length-spliced whole n c.args.new.now c.requires.is_row)) c.end_at-from.ensures.value later in_range d (omega (arith, c.start_at-start.ensures)) in
     omega (arith, fits.byte_fits, ap (λ l. (get_or l k no_row).start) w.rows_are)
 
 pub returns-in-Some : goal.returns-in-Some

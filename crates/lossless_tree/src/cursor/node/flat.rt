@@ -1,0 +1,24 @@
+//! The rows of a node as plain numbers.
+ghost use Rattle.std.specs.Prelude.{◌≡◌, ◌<◌, ◌≤◌, ◌^◌, ◌++◌, ◌⊎◌, drop, length};
+ghost use Rattle.tree_model.specs.Tree.{size};
+ghost use Rattle.tree_model.specs.Cursor.{focus};
+ghost use Rattle.tree_rows.specs.Flat.{flat_rows};
+
+use super::SyntaxNode;
+use tree_rows::FlatRow;
+
+impl SyntaxNode {
+    /// Writes the rows of this node's subtree, as a tree of its own, to the front of `out`, and answers how many they are: one
+    /// for each node and token, in preorder. Where that is more than `out` has, or 2^32 or more, `out` stays as it was; so a call
+    /// with an empty slice counts.
+    ///
+    /// It takes time linear in the subtree, and no memory.
+    pub fn write_flat_rows(&self, out: &mut [FlatRow]) -> usize
+        ensures count { result ≡ size (focus self.now) }
+        ensures written { size (focus self.now) ≤ length out.old → size (focus self.now) < 2 ^ 32
+            → out.new ≡ flat_rows (focus self.now) ++ drop (size (focus self.now)) out.old }
+        ensures unchanged { (length out.old < size (focus self.now)) ⊎ (2 ^ 32 ≤ size (focus self.now)) → out.new ≡ out.old }
+    {
+        self.table.write_flat_rows(self.row, out)
+    }
+}

@@ -1,0 +1,27 @@
+//! A tree over a text that is there as a whole.
+ghost use Rattle.std.specs.Prelude.{◌<◌, ◌^◌, length, filter_map, IfOk};
+ghost use Rattle.tree_model.specs.Events.{BuildsNode};
+ghost use Rattle.tree_model.specs.Cursor.{IsRoot};
+ghost use Rattle.tree_rows.specs.Builder.{events_from, IsOneTree};
+
+use crate::cursor::node::SyntaxNode;
+use std::alloc::{AllocError, Global};
+use tree_rows::{Table, TreeStep};
+
+/// The root of the tree that steps build over a text: each token takes the bytes that follow those of the tokens before it.
+///
+/// It is the tree that a [`TreeBuilder`](crate::TreeBuilder) makes of the same events, in one pass over the steps as they stand:
+/// no list of events is made, the text is copied once, and no refusal is looked for, since the caller knows that the steps build
+/// one tree. It takes time linear in the steps and the text.
+pub fn tree_over<S: TreeStep>(
+    alloc: Global,
+    text: &str,
+    steps: &[S],
+) -> Result<SyntaxNode, AllocError>
+    requires short { length text.now < 2 ^ 32 }
+    requires one_tree { IsOneTree (filter_map S.step_event steps.now) text.now }
+    ensures { IfOk result (λ root. BuildsNode (events_from (filter_map S.step_event steps.now) text.now) root.tree × IsRoot root) }
+{
+    let table = Table::over(alloc, text, steps)?;
+    SyntaxNode::root(alloc, table)
+}

@@ -1,0 +1,19 @@
+//! The steps of a reading, as those from which a tree is built.
+ghost use Rattle.ras_front_end.specs.TreeEvent.{tree_event};
+
+use crate::output::Step;
+use lossless_tree::{BuilderEvent, TreeStep};
+
+/// A tree is built of the steps as they stand; an error has nothing to do with it.
+impl TreeStep for Step {
+    ghost step_event = { tree_event };
+
+    fn event(&self) -> Option<BuilderEvent> {
+        match self {
+            Step::Enter(kind) => Some(BuilderEvent::Enter(*kind)),
+            Step::Token(kind, len) => Some(BuilderEvent::Token(*kind, len.raw() as usize)),
+            Step::Exit => Some(BuilderEvent::Exit),
+            Step::Error(_, _) => None,
+        }
+    }
+}
