@@ -1,5 +1,5 @@
 -- A wide line and column, counted from 1.
-use Rattle.std.proofs.Common.{◌≡◌, ℕ, ◌+◌, ◌≤◌, List, length, Option, Some, None, MatchOption, IfSome, IsSome, ap, sym, ◌∙◌, subst, refl, arith}
+use Rattle.std.proofs.Common.{◌≡◌, ℕ, ◌+◌, List, Option, Some, None, MatchOption, IfSome, IsSome, ap, sym, ◌∙◌, subst, refl, arith}
 use Rattle.std.specs.Str.{IsCharBoundary}
 use Rattle.line_index.specs.declared.line_col.LineCol.{LineCol}
 use Rattle.line_index.specs.declared.line_col.WideLineCol.{WideLineCol}

@@ -1,5 +1,5 @@
 -- Two lists of events that begin alike.
-use Rattle.std.proofs.Common.{◌≡◌, ◌↔◌, ℕ, nat_eq, Bool, true, false, List, [], ◌∷◌, ◌++◌, map, length, Option, Some, None, IsTrue, eq-eqb, refl, sym, ap, ◌∙◌, subst}
+use Rattle.std.proofs.Common.{◌≡◌, ◌↔◌, ℕ, nat_eq, Bool, List, [], ◌∷◌, ◌++◌, map, Option, Some, None, IsTrue, eq-eqb, refl, sym, ap, ◌∙◌}
 use Rattle.syntax_kind.specs.declared.syntax_kind.SyntaxKind.{SyntaxKind}
 use Rattle.syntax_kind.specs.Kinds.{kind_raw, is_same_kind}
 use Rattle.syntax_kind.specs.KindLaws.{is_same_kind-equal}
@@ -8,7 +8,7 @@ use Rattle.tree_model.specs.Tree.{text}
 use Rattle.tree_model.specs.Cursor.{Cursor, focus}
 use Rattle.ras_node.specs.Nodes.{kind_at}
 use Rattle.rust_report.specs.declared.same.Difference.{Difference}
-use Rattle.rust_report.specs.Steps.{Event, Element, step, shown, element_in, first_element, first_step, IsNext, IsFirstDifference}
+use Rattle.rust_report.specs.Steps.{Event, Element, step, shown, first_element, first_step, IsFirstDifference}
 
 -- the lists are what is left behind fronts that show the same steps
 pub record AreAlike (old new olds news : List Event) : Type 0 where

@@ -82,7 +82,7 @@ impl Job {
                 if *named {
                     writeln!(out, "==> {name} <==")?;
                 }
-                tree::show(alloc, out, text, reading, *showing)
+                tree::show(alloc, out, text, reading, showing)
             }
             Task::Check { style } => {
                 let options = Checking {

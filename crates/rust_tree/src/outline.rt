@@ -13,14 +13,14 @@ use std::io;
 use std::io::Write;
 
 // An item as an object of JSON. Lines and columns count from 1, columns in characters, and are those of the name where there is one;
-// `start` and `end` are the item's offsets in bytes, with its attributes and documentation.
+// `start` and `end` are the item's offsets in bytes, with its attributes and documentation. What has no name has an empty one.
 #[derive(Drop, Serialize)]
 struct Item<'a> {
     path: &'a str,
     line: u64,
     column: u64,
     kind: &'a str,
-    name: Option<&'a str>,
+    name: &'a str,
     depth: usize,
     start: u32,
     end: u32,
@@ -112,7 +112,7 @@ fn write_row<W: Write>(
                 line: at.line,
                 column: at.column,
                 kind,
-                name: if label.is_some() { Some(shown) } else { None },
+                name: shown,
                 depth: row.depth,
                 start: range.start().raw(),
                 end: range.end().raw(),

@@ -57,7 +57,7 @@ struct Counts {
     depth: usize,
 }
 
-fn is_shown(showing: Showing, level: usize, element: &SyntaxElement) -> bool {
+fn is_shown(showing: &Showing, level: usize, element: &SyntaxElement) -> bool {
     level < showing.depth && (showing.trivia || !element.is_trivia())
 }
 
@@ -179,16 +179,17 @@ fn write_node<W: Write>(
     alloc: Global,
     out: &mut W,
     root: &SyntaxNode,
-    showing: Showing,
+    showing: &Showing,
 ) -> io::Result<()> {
+    let drawing = showing.drawing;
     let mut level = 0usize;
     let mut is_first = true;
     for event in root.preorder_with_tokens() {
         match event {
             WalkEvent::Enter(element) => {
                 if is_shown(showing, level, &element) {
-                    write_before(out, showing.drawing, level, is_first)?;
-                    write_element(alloc, out, showing.drawing, level, &element)?;
+                    write_before(out, drawing, level, is_first)?;
+                    write_element(alloc, out, drawing, level, &element)?;
                     is_first = true;
                 }
                 level = level.saturating_add(1);
@@ -196,13 +197,13 @@ fn write_node<W: Write>(
             WalkEvent::Leave(element) => {
                 level = level.saturating_sub(1);
                 if is_shown(showing, level, &element) {
-                    write_behind(out, showing.drawing, &element)?;
+                    write_behind(out, drawing, &element)?;
                     is_first = false;
                 }
             }
         }
     }
-    match showing.drawing {
+    match drawing {
         Drawing::Text => Ok(()),
         _ => writeln!(out),
     }
@@ -212,7 +213,7 @@ fn write_part<W: Write>(
     alloc: Global,
     out: &mut W,
     part: &SyntaxElement,
-    showing: Showing,
+    showing: &Showing,
 ) -> io::Result<()> {
     match part {
         NodeOrToken::Node(node) => write_node(alloc, out, node, showing),
@@ -280,12 +281,12 @@ fn part_of(
     alloc: Global,
     text: &str,
     root: &SyntaxNode,
-    part: Part,
+    part: &Part,
 ) -> Result<SyntaxElement, Failure> {
     let range = match part {
         Part::Whole => None,
-        Part::Range(range) => Some(range),
-        Part::At(at) => offset_of(&lines(alloc, text)?, at).map(TextRange::empty),
+        Part::Range(range) => Some(*range),
+        Part::At(at) => offset_of(&lines(alloc, text)?, *at).map(TextRange::empty),
     };
     Ok(match range {
         None => NodeOrToken::Node(share(root)),
@@ -308,7 +309,7 @@ pub fn show<W: Write>(
     out: &mut W,
     text: &str,
     reading: Reading,
-    showing: Showing,
+    showing: &Showing,
 ) -> Result<u64, Failure> {
     let parse = parsed(alloc, text, reading)?;
     let root = parse.parsed().root();
@@ -325,7 +326,7 @@ pub fn show<W: Write>(
         write_stats(out, text, root, errors.len())?;
         return Ok(0);
     }
-    let part = part_of(alloc, text, root, showing.part)?;
+    let part = part_of(alloc, text, root, &showing.part)?;
     write_part(alloc, out, &part, showing)?;
     if matches!(showing.drawing, Drawing::Text) && matches!(showing.part, Part::Whole) {
         write_errors(out, errors)?;

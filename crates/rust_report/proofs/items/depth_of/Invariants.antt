@@ -1,6 +1,5 @@
-use Rattle.std.proofs.Common.{◌≡◌, ◌+◌, ◌-◌, ◌^◌, ◌≤◌, min, length, drop}
+use Rattle.std.proofs.Common.{◌≡◌, ◌+◌, ◌-◌, ◌^◌, ◌≤◌, min, length}
 use Rattle.std.specs.List.{filter}
-use Rattle.tree_model.specs.Cursor.{ancestors_of}
 use Rattle.ras_node.specs.Nodes.{has_kind_in}
 use Rattle.rust_report.specs.Outlines.{is_listed, depth_of}
 use Rattle.rust_report.proofs.items.depth_of.Given as goal

@@ -1,4 +1,4 @@
-use Rattle.std.proofs.Common.{rules, ◌≡◌, true, false, length, ap, sym, ◌∙◌}
+use Rattle.std.proofs.Common.{rules, ◌≡◌, true, false, ap, sym, ◌∙◌}
 use Rattle.std.specs.List.{list_any}
 use Rattle.rust_report.specs.Patterns.{allows, is_last, fits}
 use Rattle.rust_report.proofs.PatternLemmas.{passes, found, missed, not_last}

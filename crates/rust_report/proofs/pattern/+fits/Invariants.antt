@@ -1,6 +1,6 @@
 use Rattle.std.proofs.Common.{◌≡◌, length}
 use Rattle.std.specs.List.{list_any}
-use Rattle.tree_model.specs.Cursor.{parent_of, ancestors_of}
+use Rattle.tree_model.specs.Cursor.{parent_of}
 use Rattle.ras_node.specs.Nodes.{kind_at}
 use Rattle.rust_report.specs.Patterns.{fits}
 use Rattle.rust_report.proofs.pattern.+fits.Given as goal

@@ -1,4 +1,3 @@
-use Rattle.std.proofs.Common.{refl}
 use Rattle.rust_report.proofs.SpotLemmas.{found, none_wide, some_offset}
 use Rattle.rust_report.proofs.place.offset_of.Goals as goal
 

@@ -1,4 +1,4 @@
-use Rattle.std.proofs.Common.{◌≡◌, true, false, sym, ◌∙◌, None}
+use Rattle.std.proofs.Common.{sym, ◌∙◌, None}
 use Rattle.std.proofs.lemmas.Bool.{false≢true}
 use Rattle.tree_model.specs.Cursor.{walk_of}
 use Rattle.rust_report.specs.Steps.{counted}

@@ -1,6 +1,6 @@
-use Rattle.std.proofs.Common.{◌≡◌, List, ◌++◌, map, length, None}
+use Rattle.std.proofs.Common.{length, None}
 use Rattle.tree_model.specs.Cursor.{walk_of}
-use Rattle.rust_report.specs.Steps.{Event, step, counted}
+use Rattle.rust_report.specs.Steps.{counted}
 use Rattle.rust_report.proofs.StepLemmas.{AreAlike}
 use Rattle.rust_report.proofs.same.first_difference.Given as goal
 
