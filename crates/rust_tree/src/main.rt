@@ -1,66 +1,112 @@
 //! The program `rust_tree`: reads Rust and prints what the library makes of it.
 #![tactic(auto)]
 
-mod dump;
+mod check;
+mod failure;
+mod fix;
+mod inputs;
+mod job;
+mod json;
 mod names;
 mod options;
+mod outline;
+mod parens;
+mod query;
+mod session;
+mod source;
+mod style;
+mod tokens;
+mod tree;
 
 use clap::ArgMatches;
-use dump::{Reading, dump};
-use options::{command, reading};
+use job::{Job, Task};
+use options::{command, showing};
+use rust_report::{PatternError, parse_pattern};
+use session::{Session, UNREAD, USAGE};
+use std::io::{BufWriter, ErrorKind, IsTerminal};
 use std::process::ExitCode;
-use std::{env, fs, io};
+use std::{env, io};
+use style::Style;
 
-// Some file was not read, or its text is too long.
-const UNREAD: u8 = 3;
-
-fn text_of(rt: &HostRuntime, name: &str) -> io::Result<String> {
-    if name == "-" {
-        io::read_to_string(rt.alloc(), rt.reader())
-    } else {
-        fs::read_to_string(rt, name)
-    }
-}
-
-// Prints the tree of a file; whether it was read.
-fn show(rt: &HostRuntime, name: &str, reading: Reading) -> anyhow::Result<bool> {
-    let text = match text_of(rt, name) {
-        Ok(text) => text,
-        Err(error) => {
-            eprintln!(rt; "rust_tree: {name}: {error}")?;
-            return Ok(false);
-        }
-    };
-    match dump(rt.alloc(), text.as_str(), reading) {
-        Ok(dump) => {
-            print!(rt; "{dump}")?;
-            Ok(true)
-        }
-        Err(error) => {
-            eprintln!(rt; "rust_tree: {name}: {error}")?;
-            Ok(false)
+fn style_of(rt: &HostRuntime, matches: &ArgMatches) -> Style {
+    match matches.get_str("color") {
+        Some("always") => Style::Colours,
+        Some("never") => Style::Plain,
+        _ => {
+            if rt.stdout().is_terminal() {
+                Style::Colours
+            } else {
+                Style::Plain
+            }
         }
     }
 }
 
-fn tree(rt: &HostRuntime, matches: &ArgMatches) -> anyhow::Result<ExitCode> {
-    let reading = reading(matches);
-    let Some(names) = matches.get_strs("FILE") else {
-        return Ok(ExitCode::SUCCESS);
-    };
-    let several = matches.get_raw("FILE").is_some_and(|names| names.len() > 1);
-    let mut all_read = true;
-    for name in names {
-        if several {
-            println!(rt; "==> {name} <==")?;
+// What a command is to do; `None` where its words make no sense, which is told then.
+fn task(rt: &HostRuntime, name: &str, matches: &ArgMatches) -> io::Result<Option<Task>> {
+    Ok(Some(match name {
+        "tree" => match showing(matches) {
+            Some(showing) => Task::Tree {
+                named: matches.get_raw("FILE").is_some_and(|names| names.len() > 1),
+                showing,
+            },
+            None => {
+                eprintln!(rt; "rust_tree: a place is LINE:COLUMN, and a range START..END")?;
+                return Ok(None);
+            }
+        },
+        "check" => Task::Check {
+            style: style_of(rt, matches),
+        },
+        "outline" => Task::Outline,
+        "tokens" => Task::Tokens,
+        "query" => {
+            let pattern = matches.get_str("PATTERN").unwrap_or("");
+            match parse_pattern(rt.alloc(), pattern) {
+                Ok(steps) => Task::Query { steps },
+                Err(error) => {
+                    eprintln!(rt; "rust_tree: the pattern `{pattern}`: {error}")?;
+                    return Ok(None);
+                }
+            }
         }
-        all_read = show(rt, name, reading)? && all_read;
-    }
-    Ok(if all_read {
-        ExitCode::SUCCESS
+        _ => {
+            if matches.get_flag("fix") {
+                Task::Fix
+            } else if matches.get_flag("diff") {
+                Task::Diff
+            } else {
+                Task::Parens
+            }
+        }
+    }))
+}
+
+fn run_job(rt: &HostRuntime, job: &Job, matches: &ArgMatches) -> io::Result<Session> {
+    let names = matches.get_strs("FILE").unwrap_or(&[]);
+    if matches.get_flag("quiet") {
+        job.run(rt, &mut io::sink(), names)
     } else {
-        ExitCode::from(UNREAD)
-    })
+        let mut out = BufWriter::new(rt.alloc(), io::writer(rt))?;
+        job.run(rt, &mut out, names)
+    }
+}
+
+// Does what a command says. An output that nobody reads any more ends the run without a word.
+fn run_command(rt: &HostRuntime, name: &str, matches: &ArgMatches) -> anyhow::Result<ExitCode> {
+    let Some(task) = task(rt, name, matches)? else {
+        return Ok(ExitCode::from(USAGE));
+    };
+    let job = Job::of(task, matches);
+    match run_job(rt, &job, matches) {
+        Ok(session) => Ok(session.status()),
+        Err(error) => {
+            if error.kind() != ErrorKind::BrokenPipe {
+                eprintln!(rt; "rust_tree: {error}")?;
+            }
+            Ok(ExitCode::from(UNREAD))
+        }
+    }
 }
 
 // Does what the words of the command line say.
@@ -69,11 +115,11 @@ fn run(rt: &HostRuntime, words: &[String]) -> anyhow::Result<ExitCode> {
         Ok(matches) => matches,
         Err(error) => {
             error.print(rt)?;
-            return Ok(ExitCode::from(u8::try_from(error.exit_code()).unwrap_or(2)));
+            return Ok(ExitCode::from(u8::try_from(error.exit_code()).unwrap_or(USAGE)));
         }
     };
-    match matches.subcommand_matches("tree") {
-        Some(matches) => tree(rt, matches),
+    match matches.subcommand() {
+        Some((name, matches)) => run_command(rt, name, matches),
         None => Ok(ExitCode::SUCCESS),
     }
 }

@@ -42,3 +42,11 @@ pub fn with_names(alloc: Global, dump: &str) -> Result<String, AllocError> {
     }
     Ok(out)
 }
+
+/// The name of a kind, also one of the table of rust_kinds; `OTHER(n)` where it has none.
+pub fn kind_name(alloc: Global, kind: SyntaxKind) -> Result<String, AllocError> {
+    match name_of(kind) {
+        Some(name) => String::from_str(alloc, name),
+        None => format!(in alloc; "{kind}"),
+    }
+}

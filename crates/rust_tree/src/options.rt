@@ -1,7 +1,10 @@
 //! The command line.
 
-use crate::dump::Reading;
-use clap::{Arg, ArgAction, ArgMatches, Command};
+use crate::source::Reading;
+use crate::tree::{Drawing, Part, Showing};
+use clap::{Arg, ArgAction, ArgMatches, Command, value_parser};
+use line_index::WideLineCol;
+use lossless_tree::{TextRange, TextSize};
 use ras_front_end::{Edition, Entry};
 use std::alloc::{AllocError, Global};
 
@@ -9,39 +12,202 @@ static EDITIONS: [&str; 4] = ["2015", "2018", "2021", "2024"];
 
 static ENTRIES: [&str; 2] = ["file", "expr"];
 
-/// The commands and their options.
-pub fn command<'a>(alloc: Global) -> Result<Command<'a>, AllocError> {
-    let edition = Arg::new(alloc, "edition")
+static COLORS: [&str; 3] = ["auto", "always", "never"];
+
+static CHECK_FORMATS: [&str; 3] = ["text", "json", "github"];
+
+static FORMATS: [&str; 2] = ["text", "json"];
+
+static DRAWINGS: [&str; 3] = ["text", "json", "sexp"];
+
+/// The form of a report.
+#[derive(Clone, Copy, Debug)]
+pub enum Form {
+    /// Lines of text.
+    Text,
+    /// An object of JSON a line.
+    Json,
+    /// Lines that a workflow on GitHub shows beside the code.
+    Github,
+}
+
+fn files<'a>(alloc: Global) -> Arg<'a> {
+    Arg::new(alloc, "FILE").required(true).num_args(1..).help(
+        "Files of Rust, and folders, of which all files `.rs` are taken; `-` is standard input",
+    )
+}
+
+fn edition<'a>(alloc: Global) -> Arg<'a> {
+    Arg::new(alloc, "edition")
         .long("edition")
         .value_parser(EDITIONS.as_slice())
         .default_value("2024")
-        .help("The edition whose words are keywords");
-    let entry = Arg::new(alloc, "entry")
+        .help("The edition whose words are keywords")
+}
+
+fn entry<'a>(alloc: Global) -> Arg<'a> {
+    Arg::new(alloc, "entry")
         .long("entry")
         .value_parser(ENTRIES.as_slice())
         .default_value("file")
-        .help("What the text is read as");
-    let plain = Arg::new(alloc, "no-validation")
-        .long("no-validation")
-        .action(ArgAction::SetTrue)
-        .help("Only the errors of the lexer and the parser");
-    let files = Arg::new(alloc, "FILE")
-        .required(true)
-        .num_args(1..)
-        .help("Files of Rust; `-` is standard input");
-    let tree = Command::new(alloc, "tree")
-        .about("Prints the tree of each file, and its errors")
-        .arg(edition)?
-        .arg(entry)?
-        .arg(plain)?
-        .arg(files)?;
-    Command::new(alloc, "rust_tree")
-        .about("Reads Rust without losing a byte")
-        .subcommand_required(true)
-        .subcommand(tree)
+        .help("What the text is read as")
 }
 
-fn edition(name: Option<&str>) -> Edition {
+fn no_validation<'a>(alloc: Global) -> Arg<'a> {
+    Arg::new(alloc, "no-validation")
+        .long("no-validation")
+        .action(ArgAction::SetTrue)
+        .help("Only the errors of the lexer and the parser")
+}
+
+fn quiet<'a>(alloc: Global) -> Arg<'a> {
+    Arg::new(alloc, "quiet")
+        .short('q')
+        .long("quiet")
+        .action(ArgAction::SetTrue)
+        .help("Writes nothing to standard output; the status tells")
+}
+
+fn color<'a>(alloc: Global) -> Arg<'a> {
+    Arg::new(alloc, "color")
+        .long("color")
+        .value_parser(COLORS.as_slice())
+        .default_value("auto")
+        .help("Whether the output has colours; `auto`: where it is a terminal")
+}
+
+fn format<'a>(alloc: Global, formats: &'a [&'a str]) -> Arg<'a> {
+    Arg::new(alloc, "format")
+        .long("format")
+        .value_parser(formats)
+        .default_value("text")
+        .help("The form of the output; json: an object a line")
+}
+
+// With the options that every command has, and the files.
+fn with_common<'a>(alloc: Global, command: Command<'a>) -> Result<Command<'a>, AllocError> {
+    command
+        .arg(edition(alloc))?
+        .arg(color(alloc))?
+        .arg(quiet(alloc))?
+        .arg(files(alloc))
+}
+
+// The options that say what is shown of a tree.
+fn with_parts<'a>(alloc: Global, command: Command<'a>) -> Result<Command<'a>, AllocError> {
+    let at = Arg::new(alloc, "at")
+        .long("at")
+        .value_name("LINE:COLUMN")
+        .help("Only the token at this place, both counted from 1");
+    let range = Arg::new(alloc, "range")
+        .long("range")
+        .value_name("START..END")
+        .help("Only the deepest node or token round this range of bytes");
+    let depth = Arg::new(alloc, "depth")
+        .long("depth")
+        .value_parser(value_parser!(u32))
+        .help("How many levels are shown");
+    let trivia = Arg::new(alloc, "no-trivia")
+        .long("no-trivia")
+        .action(ArgAction::SetTrue)
+        .help("Without white space and comments");
+    let stats = Arg::new(alloc, "stats")
+        .long("stats")
+        .action(ArgAction::SetTrue)
+        .help("Counts of nodes, tokens, levels and errors in place of the tree");
+    command
+        .arg(at)?
+        .arg(range)?
+        .arg(depth)?
+        .arg(trivia)?
+        .arg(stats)
+}
+
+fn tree<'a>(alloc: Global) -> Result<Command<'a>, AllocError> {
+    let command = Command::new(alloc, "tree")
+        .about("Prints the tree of each file, and its errors")
+        .after_help("Example: rust_tree tree --no-trivia --depth 3 src/main.rs")
+        .arg(format(alloc, DRAWINGS.as_slice()))?
+        .arg(entry(alloc))?
+        .arg(no_validation(alloc))?;
+    with_common(alloc, with_parts(alloc, command)?)
+}
+
+fn check<'a>(alloc: Global) -> Result<Command<'a>, AllocError> {
+    let command = Command::new(alloc, "check")
+        .about("Tells what is wrong with each file; the status is 1 where something is")
+        .after_help("Example: rust_tree check --format json src")
+        .arg(format(alloc, CHECK_FORMATS.as_slice()))?
+        .arg(entry(alloc))?
+        .arg(no_validation(alloc))?;
+    with_common(alloc, command)
+}
+
+fn outline<'a>(alloc: Global) -> Result<Command<'a>, AllocError> {
+    let command = Command::new(alloc, "outline")
+        .about("Lists the items of each file, each before those that it holds")
+        .after_help("Example: rust_tree outline src/lib.rs")
+        .arg(format(alloc, FORMATS.as_slice()))?;
+    with_common(alloc, command)
+}
+
+fn parens<'a>(alloc: Global) -> Result<Command<'a>, AllocError> {
+    let diff = Arg::new(alloc, "diff")
+        .long("diff")
+        .action(ArgAction::SetTrue)
+        .help("Prints how each file would change");
+    let fix = Arg::new(alloc, "fix")
+        .long("fix")
+        .action(ArgAction::SetTrue)
+        .help("Writes each file anew without the pairs");
+    let command = Command::new(alloc, "parens")
+        .about(
+            "Names the pairs of parentheses without which a file parses to the same tree; the status is 1 where there is one",
+        )
+        .after_help("Example: rust_tree parens --diff src")
+        .arg(format(alloc, FORMATS.as_slice()))?
+        .arg(diff)?
+        .arg(fix)?;
+    with_common(alloc, command)
+}
+
+fn tokens<'a>(alloc: Global) -> Result<Command<'a>, AllocError> {
+    let command = Command::new(alloc, "tokens")
+        .about("Lists the lexer's tokens of each file, and its errors")
+        .after_help("Example: rust_tree tokens src/main.rs")
+        .arg(format(alloc, FORMATS.as_slice()))?;
+    with_common(alloc, command)
+}
+
+fn query<'a>(alloc: Global) -> Result<Command<'a>, AllocError> {
+    let pattern = Arg::new(alloc, "PATTERN").required(true).help(
+        "Names of kinds; behind `>` a child, behind `//` what stands below; `*` is any kind",
+    );
+    let command = Command::new(alloc, "query")
+        .about(
+            "Finds nodes and tokens by their kinds and places; the status is 1 where there is one",
+        )
+        .after_help("Example: rust_tree query 'FN > NAME' src")
+        .arg(format(alloc, FORMATS.as_slice()))?
+        .arg(pattern)?;
+    with_common(alloc, command)
+}
+
+/// The commands and their options.
+pub fn command<'a>(alloc: Global) -> Result<Command<'a>, AllocError> {
+    Command::new(alloc, "rust_tree")
+        .about("Reads Rust without losing a byte")
+        .version("0.1.0, proved with rattle-kit-13f")
+        .subcommand_required(true)
+        .subcommand(tree(alloc)?)?
+        .subcommand(check(alloc)?)?
+        .subcommand(outline(alloc)?)?
+        .subcommand(parens(alloc)?)?
+        .subcommand(tokens(alloc)?)?
+        .subcommand(query(alloc)?)
+}
+
+fn edition_of(name: Option<&str>) -> Edition {
     match name {
         Some("2015") => Edition::Edition2015,
         Some("2018") => Edition::Edition2018,
@@ -50,18 +216,78 @@ fn edition(name: Option<&str>) -> Edition {
     }
 }
 
-fn entry(name: Option<&str>) -> Entry {
+fn entry_of(name: Option<&str>) -> Entry {
     match name {
         Some("expr") => Entry::Expr,
         _ => Entry::SourceFile,
     }
 }
 
-/// How the command `tree` reads.
+/// How a command reads.
 pub fn reading(matches: &ArgMatches) -> Reading {
     Reading {
-        edition: edition(matches.get_str("edition")),
-        entry: entry(matches.get_str("entry")),
+        edition: edition_of(matches.get_str("edition")),
+        entry: entry_of(matches.get_str("entry")),
         validates: !matches.get_flag("no-validation"),
     }
+}
+
+/// The form of a command's report.
+pub fn form_of(matches: &ArgMatches) -> Form {
+    match matches.get_str("format") {
+        Some("json") => Form::Json,
+        Some("github") => Form::Github,
+        _ => Form::Text,
+    }
+}
+
+// A line and a column, counted from 1 as in `3:14`; counted from 0 then.
+fn place_of(text: &str) -> Option<WideLineCol> {
+    let (line, column) = text.split_once(':')?;
+    let line = line.parse::<u32>().ok()?.checked_sub(1)?;
+    let col = column.parse::<u32>().ok()?.checked_sub(1)?;
+    Some(WideLineCol { line, col })
+}
+
+// A range of bytes, as `3..14`.
+fn range_of(text: &str) -> Option<TextRange> {
+    let (start, end) = text.split_once("..")?;
+    let start = start.parse::<u32>().ok()?;
+    let end = end.parse::<u32>().ok()?;
+    if end < start {
+        return None;
+    }
+    Some(TextRange::new(TextSize::new(start), TextSize::new(end)))
+}
+
+// The part of a tree that is meant; `None` where the words of the command line name none.
+fn part_of(matches: &ArgMatches) -> Option<Part> {
+    if let Some(text) = matches.get_str("at") {
+        return Some(Part::At(place_of(text)?));
+    }
+    match matches.get_str("range") {
+        Some(text) => Some(Part::Range(range_of(text)?)),
+        None => Some(Part::Whole),
+    }
+}
+
+/// What is shown of a tree; `None` where a place or a range is no such thing.
+pub fn showing(matches: &ArgMatches) -> Option<Showing> {
+    let part = part_of(matches)?;
+    let drawing = match matches.get_str("format") {
+        Some("json") => Drawing::Json,
+        Some("sexp") => Drawing::Sexp,
+        _ => Drawing::Text,
+    };
+    let depth = match matches.get_one::<u32>("depth") {
+        Some(depth) => depth as usize,
+        None => usize::MAX,
+    };
+    Some(Showing {
+        drawing,
+        part,
+        trivia: !matches.get_flag("no-trivia"),
+        depth,
+        stats: matches.get_flag("stats"),
+    })
 }

@@ -1,0 +1,41 @@
+-- Pairs of parentheses that may go.
+use Rattle.std.specs.Prelude.{ℕ, ◌≤◌, Bool, true, false, not, ◌&&◌, List, ◌++◌, take, drop, slice_range, Option, Some, None, is_some, option_map}
+use Rattle.std.specs.Option.{option_and_then}
+use Rattle.std.specs.Str.{IsCharBoundary}
+use Rattle.syntax_kind.specs.declared.syntax_kind.TheConstants.SyntaxKind.{PAREN_EXPR, L_PAREN, R_PAREN}
+use Rattle.text_size.specs.TextRange.{Bounds}
+use Rattle.tree_model.specs.Cursor.{Cursor, parent_of, range_of}
+use Rattle.ras_node.specs.Nodes.{is_of_kind, typed_child, token_child}
+use Rattle.ras_node.specs.Sets.{is_expr}
+use Rattle.paren_rules.specs.Rules.{asks}
+
+-- the ranges of `(` and of `)`, where the node has both
+abbrev pub parens_of : Cursor → Option (Bounds × Bounds)
+parens_of c =
+    option_and_then (λ first. option_map (λ second. (range_of first, range_of second)) (token_child R_PAREN c)) (token_child L_PAREN c)
+
+-- the expression needs no parentheses in place of the pair, below the pair's parent
+abbrev pub may_go_from : Option Cursor → Option Cursor → Cursor → Bool
+may_go_from None parent pair = false
+may_go_from (Some inside) None pair = false
+may_go_from (Some inside) (Some parent) pair = not (asks inside parent pair)
+
+abbrev pub inside_may_go : Cursor → Bool
+inside_may_go pair = may_go_from (typed_child is_expr pair) (parent_of pair) pair
+
+-- a pair, with both its parentheses, round an expression that needs none in its place
+abbrev pub may_go : Cursor → Bool
+may_go c = is_of_kind PAREN_EXPR c && (is_some (parens_of c) && inside_may_go c)
+
+-- two ranges of the text that stand apart, in order, and cut no character
+pub record AreApart (s : List ℕ) (first second : Bounds) : Type 0 where
+  pub order : first.end ≤ second.start
+  pub first_start : IsCharBoundary s first.start
+  pub first_end : IsCharBoundary s first.end
+  pub second_start : IsCharBoundary s second.start
+  pub second_end : IsCharBoundary s second.end
+
+-- the text with `front` in place of the first range and `back` in place of the second
+abbrev pub without : List ℕ → (first second : Bounds) → (front back : List ℕ) → List ℕ
+without s first second front back =
+    take first.start s ++ (front ++ (slice_range s first.end second.start ++ (back ++ drop second.end s)))

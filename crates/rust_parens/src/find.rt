@@ -1,0 +1,57 @@
+//! Pairs of parentheses that may go.
+ghost use Rattle.std.specs.Prelude.{◌≡◌, IfOk};
+ghost use Rattle.std.specs.List.{filter};
+ghost use Rattle.tree_model.specs.Cursor.{at_node, descendants_of};
+ghost use Rattle.rust_parens.specs.Pairs.{may_go, inside_may_go, parens_of};
+
+use lossless_tree::{SyntaxKind, SyntaxNode, TextRange};
+use operator_walks::parts::first_expr;
+use paren_rules::rules::needs_parens_in_place_of;
+use ras_node::support;
+use std::alloc::{AllocError, Global};
+
+/// The ranges of the `(` and of the `)` of a pair; `None` where one is missing.
+pub fn parens_of(pair: &SyntaxNode) -> Option<(TextRange, TextRange)>
+    ensures { result ≡ parens_of pair.now }
+{
+    let open = support::token(pair, SyntaxKind::L_PAREN)?;
+    let close = support::token(pair, SyntaxKind::R_PAREN)?;
+    Some((open.text_range(), close.text_range()))
+}
+
+// What the pair holds needs no parentheses in its place.
+fn inside_may_go(pair: &SyntaxNode) -> bool
+    ensures { result ≡ inside_may_go pair.now }
+{
+    match first_expr(pair) {
+        None => false,
+        Some(inside) => match pair.parent() {
+            None => false,
+            Some(parent) => !needs_parens_in_place_of(&inside, &parent, pair),
+        },
+    }
+}
+
+/// Whether a node is a pair of parentheses, both there, round an expression that needs none in its place, as
+/// [`needs_parens_in_place_of`] answers.
+///
+/// The test is one of operators and statements. Where the pair stands in something else, as in the arm of a `match`, the text has to be
+/// read again without it to be sure.
+pub fn may_go(node: &SyntaxNode) -> bool
+    ensures { result ≡ may_go node.now }
+{
+    node.kind() == SyntaxKind::PAREN_EXPR && parens_of(node).is_some() && inside_may_go(node)
+}
+
+/// The pairs of a tree that may go, in preorder. Where two of them stand in one another, not both may.
+pub fn pairs(alloc: Global, root: &SyntaxNode) -> Result<Vec<SyntaxNode>, AllocError>
+    ensures { IfOk result (λ found. found.items ≡ filter may_go (filter at_node (descendants_of root.now))) }
+{
+    let mut found = Vec::new(alloc);
+    for node in root.descendants() {
+        if may_go(&node) {
+            found.push(node)?;
+        }
+    }
+    Ok(found)
+}

@@ -1,0 +1,4 @@
+pub mod SpotLemmas
+pub mod Kept
+pub mod StepLemmas
+pub mod PatternLemmas

@@ -1,0 +1,127 @@
+-- Two lists of events that begin alike.
+use Rattle.std.proofs.Common.{◌≡◌, ◌↔◌, ℕ, nat_eq, Bool, List, [], ◌∷◌, ◌++◌, map, Option, Some, None, IsTrue, eq-eqb, refl, sym, ap, ◌∙◌}
+use Rattle.syntax_kind.specs.declared.syntax_kind.SyntaxKind.{SyntaxKind}
+use Rattle.syntax_kind.specs.Kinds.{kind_raw, is_same_kind}
+use Rattle.syntax_kind.specs.KindLaws.{is_same_kind-equal}
+use Rattle.lossless_tree.specs.declared.cursor.element.NodeOrToken.TheVariants.{Node, Token}
+use Rattle.tree_model.specs.Tree.{text}
+use Rattle.tree_model.specs.Cursor.{Cursor, focus}
+use Rattle.ras_node.specs.Nodes.{kind_at}
+use Rattle.rust_report.specs.declared.same.Difference.{Difference}
+use Rattle.rust_report.specs.Steps.{Event, Element, step, shown, first_element, first_step, IsFirstDifference}
+
+-- the lists are what is left behind fronts that show the same steps
+pub record AreAlike (old new olds news : List Event) : Type 0 where
+  pub front : List Event
+  pub other : List Event
+  pub begins : old ≡ front ++ olds
+  pub begins_so : new ≡ other ++ news
+  pub alike : map step front ≡ map step other
+
+pub start : (old new : List Event) → AreAlike old new old new
+start old new = record { front = []; other = []; begins = refl; begins_so = refl; alike = refl }
+
+append_assoc : {A : Type 0} (l : List A) (x : A) (m : List A) → l ++ (x ∷ m) ≡ (l ++ x ∷ []) ++ m
+append_assoc [] x m = refl
+append_assoc (y ∷ l) x m = ap (λ k. y ∷ k) (append_assoc l x m)
+
+map_append : {A B : Type 0} (f : A → B) (l : List A) (m : List A) → map f (l ++ m) ≡ map f l ++ map f m
+map_append f [] m = refl
+map_append f (x ∷ l) m = ap (λ k. f x ∷ k) (map_append f l m)
+
+-- both go on with the same step
+pub longer : (old new olds news : List Event) (a b : Event) (olds' news' : List Event)
+    → AreAlike old new olds news → olds ≡ a ∷ olds' → news ≡ b ∷ news' → step a ≡ step b → AreAlike old new olds' news'
+longer old new olds news a b olds' news' h e f s = record {
+  front = h.front ++ a ∷ [];
+  other = h.other ++ b ∷ [];
+  begins = h.begins ∙ ap (λ l. h.front ++ l) e ∙ append_assoc h.front a olds';
+  begins_so = h.begins_so ∙ ap (λ l. h.other ++ l) f ∙ append_assoc h.other b news';
+  alike =
+      map_append step h.front (a ∷ [])
+      ∙ ap (λ l. l ++ step a ∷ []) h.alike
+      ∙ ap (λ x. map step h.other ++ x ∷ []) s
+      ∙ sym (map_append step h.other (b ∷ []));
+}
+
+-- they go on differently
+pub differ : (old new olds news : List Event) (d : Difference)
+    → AreAlike old new olds news → (first_step olds ≡ first_step news → ⊥) → d.old ≡ first_element olds → d.new ≡ first_element news → IsFirstDifference old new d
+differ old new olds news d h apart e f = record {
+  front = h.front;
+  behind = olds;
+  other = h.other;
+  rest = news;
+  begins = h.begins;
+  begins_so = h.begins_so;
+  alike = h.alike;
+  differ = apart;
+  old_element = e;
+  new_element = f;
+}
+
+-- both have ended
+pub same : (old new : List Event) → AreAlike old new [] [] → map step old ≡ map step new
+same old new h =
+    ap (map step) h.begins ∙ map_append step h.front [] ∙ ap (λ l. l ++ []) h.alike ∙ sym (map_append step h.other []) ∙ sym (ap (map step) h.begins_so)
+
+behind_front : {A : Type 0} (l m p q : List A) → l ≡ m → l ++ p ≡ m ++ q → p ≡ q
+behind_front [] [] p q e f = f
+behind_front [] (y ∷ m) p q e f = absurd (let bad : [] ≡ y ∷ m = e in cc)
+behind_front (x ∷ l) [] p q e f = absurd (let bad : x ∷ l ≡ [] = e in cc)
+behind_front (x ∷ l) (y ∷ m) p q e f = behind_front l m p q (let t : l ≡ m = cc in t) (let t : l ++ p ≡ m ++ q = cc in t)
+
+steps_first : (l m : List Event) → map step l ≡ map step m → first_step l ≡ first_step m
+steps_first [] [] e = refl
+steps_first [] (y ∷ m) e = absurd (let bad : [] ≡ step y ∷ map step m = e in cc)
+steps_first (x ∷ l) [] e = absurd (let bad : step x ∷ map step l ≡ [] = e in cc)
+steps_first (x ∷ l) (y ∷ m) e = (let t : step x ≡ step y = cc in ap Some t)
+
+-- lists with the same steps go on with the same one
+pub no_difference : (old new olds news : List Event) → AreAlike old new olds news → map step old ≡ map step new → first_step olds ≡ first_step news
+no_difference old new olds news h e =
+    steps_first olds news
+    (behind_front (map step h.front) (map step h.other) (map step olds) (map step news) h.alike
+    (sym (map_append step h.front olds) ∙ sym (ap (map step) h.begins) ∙ e ∙ ap (map step) h.begins_so ∙ map_append step h.other news))
+
+-- so these are the same step
+pub same_first : (olds news : List Event) (a b : Event) (olds' news' : List Event)
+    → olds ≡ a ∷ olds' → news ≡ b ∷ news' → first_step olds ≡ first_step news → step a ≡ step b
+same_first olds news a b olds' news' e f h = (let t : Some (step a) ≡ Some (step b) = sym (ap first_step e) ∙ h ∙ ap first_step f in let s : step a ≡ step b = cc in s)
+
+pub not_ended : (olds news : List Event) (a : Event) (olds' : List Event) → olds ≡ a ∷ olds' → news ≡ [] → first_step olds ≡ first_step news → ⊥
+not_ended olds news a olds' e f h = (let t : Some (step a) ≡ None = sym (ap first_step e) ∙ h ∙ ap first_step f in cc)
+
+pub none_left : (olds news : List Event) (b : Event) (news' : List Event) → olds ≡ [] → news ≡ b ∷ news' → first_step olds ≡ first_step news → ⊥
+none_left olds news b news' e f h = (let t : None ≡ Some (step b) = sym (ap first_step e) ∙ h ∙ ap first_step f in cc)
+
+-- ---- what a node and a token show
+
+some_same : (s t : List ℕ) → Some s ≡ Some t → s ≡ t
+some_same s t e = cc
+
+raws : (k j : SyntaxKind) (m n : ℕ) (p q : SyntaxKind) → p ≡ k → q ≡ j → m ≡ kind_raw p → n ≡ kind_raw q → nat_eq m n ≡ is_same_kind k j
+raws k j m n p q e f g h = ap (λ x. nat_eq x n) (g ∙ ap kind_raw e) ∙ ap (λ x. nat_eq (kind_raw k) x) (h ∙ ap kind_raw f)
+
+pub node_same : (x y : Element) (a b : Cursor) (m n : ℕ) (p q : SyntaxKind)
+    → x ≡ Node a → y ≡ Node b → p ≡ kind_at a → q ≡ kind_at b → m ≡ kind_raw p → n ≡ kind_raw q → IsTrue (nat_eq m n) ↔ (shown x ≡ shown y)
+node_same x y a b m n p q ex ey e f g h = (
+  λ t. ap shown ex ∙ ap (λ k. (k, None)) ((is_same_kind-equal (kind_at a) (kind_at b)).0 (sym (raws (kind_at a) (kind_at b) m n p q e f g h) ∙ t)) ∙ sym (ap shown ey),
+  λ s. raws (kind_at a) (kind_at b) m n p q e f g h ∙ (is_same_kind-equal (kind_at a) (kind_at b)).1 (ap (λ z. z.0) (sym (ap shown ex) ∙ s ∙ ap shown ey)),
+)
+
+pub token_same : (x y : Element) (a b : Cursor) (m n : ℕ) (p q : SyntaxKind) (s t : List ℕ) (r : Bool)
+    → x ≡ Token a → y ≡ Token b → p ≡ kind_at a → q ≡ kind_at b → m ≡ kind_raw p → n ≡ kind_raw q → m ≡ n
+    → s ≡ text (focus a) → t ≡ text (focus b) → IsTrue r ↔ (s ≡ t) → IsTrue r ↔ (shown x ≡ shown y)
+token_same x y a b m n p q s t r ex ey e f g h same es et texts =
+    let kinds : kind_at a ≡ kind_at b = (is_same_kind-equal (kind_at a) (kind_at b)).0 (sym (raws (kind_at a) (kind_at b) m n p q e f g h) ∙ eq-eqb m n same) in (
+      λ yes.
+          ap shown ex
+          ∙ ap (λ k. (k, Some (text (focus a)))) kinds
+          ∙ ap (λ u. (kind_at b, Some u)) (sym es ∙ texts.0 yes ∙ et)
+          ∙ sym (ap shown ey),
+      λ z.
+          let plain : text (focus a) ≡ text (focus b) =
+          some_same (text (focus a)) (text (focus b)) (ap (λ (w : SyntaxKind × Option (List ℕ)). w.1) (sym (ap shown ex) ∙ z ∙ ap shown ey)) in
+          texts.1 (es ∙ plain ∙ sym et),
+    )

@@ -1,0 +1,4 @@
+pub mod Spots
+pub mod Outlines
+pub mod Steps
+pub mod Patterns

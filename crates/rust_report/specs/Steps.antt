@@ -1,0 +1,103 @@
+-- Two trees, read as walks that enter and leave each node and token.
+use Rattle.std.specs.Prelude.{◌≡◌, ℕ, Bool, true, false, not, ◌&&◌, List, [], ◌∷◌, ◌++◌, Option, Some, None, map}
+use Rattle.std.specs.List.{filter}
+use Rattle.syntax_kind.specs.declared.syntax_kind.SyntaxKind.{SyntaxKind}
+use Rattle.syntax_kind.specs.declared.syntax_kind.SyntaxKind.TheVariants.{Token}
+use Rattle.syntax_kind.specs.declared.syntax_kind.token_kind.TokenKind.TheVariants as token
+use Rattle.lossless_tree.specs.declared.cursor.preorder.WalkEvent.{WalkEvent}
+use Rattle.lossless_tree.specs.declared.cursor.preorder.WalkEvent.TheVariants.{Enter, Leave}
+use Rattle.lossless_tree.specs.declared.cursor.element.NodeOrToken.{NodeOrToken}
+use Rattle.lossless_tree.specs.declared.cursor.element.NodeOrToken.TheVariants as element
+use Rattle.lossless_tree.specs.Element.{is_trivia_element}
+use Rattle.lossless_tree.specs.WalkEvent.{walk_event}
+use Rattle.tree_model.specs.Tree.{text}
+use Rattle.tree_model.specs.Cursor.{Cursor, focus, parent_of, walk_of}
+use Rattle.tree_model.specs.Equality.{is_same_cursor}
+use Rattle.ras_node.specs.Nodes.{kind_at}
+use Rattle.rust_report.specs.declared.same.Trivia.{Trivia}
+use Rattle.rust_report.specs.declared.same.Trivia.TheVariants.{Kept, Aside}
+use Rattle.rust_report.specs.declared.same.Difference.{Difference}
+
+abbrev pub Element : Type 0
+Element = NodeOrToken Cursor Cursor
+
+abbrev pub Event : Type 0
+Event = WalkEvent Element
+
+abbrev pub element_in : Event → Element
+element_in (Enter x) = x
+element_in (Leave x) = x
+
+abbrev pub is_paren : SyntaxKind → Bool
+is_paren (Token token.L_PAREN) = true
+is_paren (Token token.R_PAREN) = true
+is_paren _ = false
+
+abbrev pub is_the : Cursor → Option Cursor → Bool
+is_the pair None = false
+is_the pair (Some c) = is_same_cursor c pair
+
+-- the pair itself, or one of its two parentheses
+abbrev pub is_of_pair : Cursor → Element → Bool
+is_of_pair pair (element.Node c) = is_same_cursor c pair
+is_of_pair pair (element.Token c) = is_paren (kind_at c) && is_the pair (parent_of c)
+
+-- white space or a comment, where these are passed over
+abbrev pub is_aside : Trivia → Element → Bool
+is_aside Kept x = false
+is_aside Aside x = is_trivia_element x
+
+abbrev pub is_left_out : Option Cursor → Element → Bool
+is_left_out None x = false
+is_left_out (Some pair) x = is_of_pair pair x
+
+abbrev pub counts_element : Trivia → Option Cursor → Element → Bool
+counts_element trivia pair x = not (is_aside trivia x) && not (is_left_out pair x)
+
+abbrev pub counts : Trivia → Option Cursor → Event → Bool
+counts trivia pair e = counts_element trivia pair (element_in e)
+
+-- the events of a walk that count
+abbrev pub counted : Trivia → Option Cursor → List (Bool × Cursor) → List Event
+counted trivia pair walk = filter (counts trivia pair) (map walk_event walk)
+
+-- the first of some events is this one, and the others are left; none is where there are none
+abbrev pub IsNext : List Event → Option Event → List Event → Type 0
+IsNext old None new = old ≡ []
+IsNext old (Some e) new = old ≡ e ∷ new
+
+-- the kind, and a token's text
+abbrev pub shown : Element → SyntaxKind × Option (List ℕ)
+shown (element.Node c) = (kind_at c, None)
+shown (element.Token c) = (kind_at c, Some (text (focus c)))
+
+-- whether it is entered or left, and what
+abbrev pub step : Event → Bool × (SyntaxKind × Option (List ℕ))
+step (Enter x) = (true, shown x)
+step (Leave x) = (false, shown x)
+
+-- what the walk of a tree shows, without a pair if one is left out
+abbrev pub steps_of : Trivia → Option Cursor → Cursor → List (Bool × (SyntaxKind × Option (List ℕ)))
+steps_of trivia pair c = map step (counted trivia pair (walk_of c))
+
+-- the first of some events at its element, and none where there are none
+abbrev pub first_element : List Event → Option Element
+first_element [] = None
+first_element (e ∷ es) = Some (element_in e)
+
+abbrev pub first_step : List Event → Option (Bool × (SyntaxKind × Option (List ℕ)))
+first_step [] = None
+first_step (e ∷ es) = Some (step e)
+
+-- two lists of events begin alike, and go on differently with these elements
+pub record IsFirstDifference (old new : List Event) (d : Difference) : Type 0 where
+  pub front : List Event
+  pub behind : List Event
+  pub other : List Event
+  pub rest : List Event
+  pub begins : old ≡ front ++ behind
+  pub begins_so : new ≡ other ++ rest
+  pub alike : map step front ≡ map step other
+  pub differ : first_step behind ≡ first_step rest → ⊥
+  pub old_element : d.old ≡ first_element behind
+  pub new_element : d.new ≡ first_element rest

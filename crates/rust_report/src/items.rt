@@ -1,0 +1,100 @@
+//! The items of a tree.
+ghost use Rattle.std.specs.Prelude.{◌≡◌, IfOk, map, length, drop};
+ghost use Rattle.std.specs.List.{filter};
+ghost use Rattle.tree_model.specs.Cursor.{at_node, descendants_of, ancestors_of};
+ghost use Rattle.ras_node.specs.Nodes.{typed_child, has_kind_in};
+ghost use Rattle.rust_report.specs.Outlines.{is_listed, is_name, depth_of, row_of};
+
+use lossless_tree::{SyntaxKind, SyntaxNode};
+use ras_node::KindSet;
+use std::alloc::{AllocError, Global};
+
+/// An item, its name, and how deep it stands.
+#[derive(Drop)]
+pub struct Row {
+    /// The item.
+    pub item: SyntaxNode,
+    /// The node `NAME` of the item; `None` for an `impl`, a `use` and what else has no name of its own.
+    pub name: Option<SyntaxNode>,
+    /// How many items stand around it, as far as a `usize` counts.
+    pub depth: usize,
+}
+
+/// The kinds of names.
+enum Names {}
+
+impl KindSet for Names {
+    ghost kinds = { is_name };
+
+    fn has(kind: SyntaxKind) -> bool {
+        matches!(kind, SyntaxKind::NAME)
+    }
+}
+
+/// Whether nodes of this kind are listed: items, other than calls of macros.
+pub fn is_listed(kind: SyntaxKind) -> bool
+    ensures { result ≡ is_listed kind }
+{
+    matches!(
+        kind,
+        SyntaxKind::CONST
+            | SyntaxKind::ENUM
+            | SyntaxKind::EXTERN_BLOCK
+            | SyntaxKind::EXTERN_CRATE
+            | SyntaxKind::FN
+            | SyntaxKind::IMPL
+            | SyntaxKind::MACRO_DEF
+            | SyntaxKind::MACRO_RULES
+            | SyntaxKind::MODULE
+            | SyntaxKind::STATIC
+            | SyntaxKind::STRUCT
+            | SyntaxKind::TRAIT
+            | SyntaxKind::TYPE_ALIAS
+            | SyntaxKind::UNION
+            | SyntaxKind::USE
+    )
+}
+
+fn name_of(item: &SyntaxNode) -> Option<SyntaxNode>
+    ensures { result ≡ typed_child is_name item.now }
+{
+    ras_node::first_node::<Names>(item.children_with_tokens())
+}
+
+// It counts no further than a `usize` does.
+fn depth_of(item: &SyntaxNode) -> usize
+    ensures { result ≡ depth_of item.now }
+{
+    let mut depth = 0usize;
+    let mut above = item.ancestors();
+    above.next();
+    while let Some(node) = above.next() {
+        if is_listed(node.kind()) {
+            depth = depth.saturating_add(1);
+        }
+    }
+    depth
+}
+
+fn row_of(item: SyntaxNode) -> Row
+    ensures { result ≡ row_of item }
+{
+    let name = name_of(&item);
+    let depth = depth_of(&item);
+    Row { item, name, depth }
+}
+
+/// The items of a tree in the order of the text, each before those that it holds.
+///
+/// It takes time linear in the tree, and for each item linear in its children and its depth in the tree.
+pub fn outline(alloc: Global, root: &SyntaxNode) -> Result<Vec<Row>, AllocError>
+    ensures { IfOk result (λ rows. rows.items ≡ map row_of (filter (has_kind_in is_listed) (filter at_node (descendants_of root.now)))) }
+{
+    let mut rows = Vec::new(alloc);
+    for node in root.descendants() {
+        if is_listed(node.kind()) {
+            rows.push(row_of(node))?;
+        }
+    }
+    Ok(rows)
+}

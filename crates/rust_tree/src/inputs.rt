@@ -1,0 +1,70 @@
+//! The files that a command line names.
+
+use std::alloc::Global;
+use std::path::Path;
+use std::{fs, io};
+
+/// A text with its name.
+#[derive(Drop)]
+pub struct Source {
+    /// Its path; `-` for standard input.
+    pub name: String,
+    /// The text.
+    pub text: String,
+}
+
+/// Reads a file, or standard input for `-`. It fails where the bytes are no UTF-8.
+pub fn text_of(rt: &HostRuntime, name: &str) -> io::Result<String> {
+    if name == "-" {
+        io::read_to_string(rt.alloc(), rt.reader())
+    } else {
+        fs::read_to_string(rt, name)
+    }
+}
+
+fn is_rust(path: Path<'_>) -> bool {
+    path.extension().is_some_and(|extension| extension == "rs")
+}
+
+// Lists a folder: its files of Rust, and the folders in it. Links to folders are not followed.
+fn list(
+    rt: &HostRuntime,
+    folder: &str,
+    files: &mut Vec<String>,
+    folders: &mut Vec<String>,
+) -> io::Result<()> {
+    for entry in fs::read_dir(rt, folder)? {
+        let entry = entry?;
+        let kind = entry.file_type()?;
+        let path = String::from_str(rt.alloc(), entry.path().as_str())?;
+        if kind.is_dir() {
+            folders.push(path)?;
+        } else if is_rust(entry.path()) {
+            files.push(path)?;
+        }
+    }
+    Ok(())
+}
+
+/// The files of Rust below a folder, sorted by their paths. A folder that cannot be read is named on standard error and counted.
+pub fn files_below(rt: &HostRuntime, folder: &str, lost: &mut u64) -> io::Result<Vec<String>> {
+    let mut files = Vec::new(rt.alloc());
+    let mut folders = Vec::new(rt.alloc());
+    folders.push(String::from_str(rt.alloc(), folder)?)?;
+    for _turn in 0..u64::MAX {
+        let Some(next) = folders.pop() else {
+            break;
+        };
+        if let Err(error) = list(rt, next.as_str(), &mut files, &mut folders) {
+            eprintln!(rt; "rust_tree: {next}: {error}")?;
+            *lost = lost.saturating_add(1);
+        }
+    }
+    files.sort()?;
+    Ok(files)
+}
+
+/// Whether a name is that of a folder.
+pub fn is_folder(rt: &HostRuntime, name: &str) -> bool {
+    name != "-" && fs::metadata(rt, name).is_ok_and(|found| found.is_dir())
+}

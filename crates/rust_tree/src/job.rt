@@ -1,0 +1,173 @@
+//! What a command does with each file.
+
+use crate::check::{Checking, check};
+use crate::failure::Failure;
+use crate::inputs::{files_below, is_folder, text_of};
+use crate::options::{Form, form_of, reading};
+use crate::session::Session;
+use crate::source::Reading;
+use crate::style::Style;
+use crate::tree::Showing;
+use crate::{fix, outline, parens, query, tokens, tree};
+use clap::ArgMatches;
+use rust_report::Step;
+use std::io;
+use std::io::Write;
+use std::time::Instant;
+
+/// A command with its options.
+#[derive(Drop)]
+pub enum Task {
+    /// Prints trees; whether each has its file's name before it.
+    Tree { named: bool, showing: Showing },
+    /// Tells what is wrong.
+    Check { style: Style },
+    /// Lists items.
+    Outline,
+    /// Names pairs of parentheses.
+    Parens,
+    /// Prints how the files would change without them.
+    Diff,
+    /// Writes the files anew without them.
+    Fix,
+    /// Lists tokens.
+    Tokens,
+    /// Finds nodes and tokens.
+    Query { steps: Vec<Step> },
+}
+
+/// A task for a list of files.
+#[derive(Drop)]
+pub struct Job {
+    /// What is done.
+    pub task: Task,
+    /// How a text is read.
+    pub reading: Reading,
+    /// The form of the report.
+    pub format: Form,
+}
+
+impl Job {
+    /// The task with the options of a command.
+    pub fn of(task: Task, matches: &ArgMatches) -> Job {
+        Job {
+            task,
+            reading: reading(matches),
+            format: form_of(matches),
+        }
+    }
+
+    // What the totals count.
+    fn counts(&self) -> &'static str {
+        match &self.task {
+            Task::Tree { .. } | Task::Outline => "found",
+            Task::Check { style: _ } | Task::Tokens => "errors",
+            Task::Parens | Task::Diff | Task::Fix => "pairs",
+            Task::Query { steps: _ } => "matches",
+        }
+    }
+
+    // Writes the report on a text; how much was found.
+    fn report<W: Write>(
+        &self,
+        rt: &HostRuntime,
+        out: &mut W,
+        name: &str,
+        text: &str,
+    ) -> Result<u64, Failure> {
+        let alloc = rt.alloc();
+        let (reading, format) = (self.reading, self.format);
+        match &self.task {
+            Task::Tree { named, showing } => {
+                if *named {
+                    writeln!(out, "==> {name} <==")?;
+                }
+                tree::show(alloc, out, text, reading, showing)
+            }
+            Task::Check { style } => {
+                let options = Checking {
+                    reading,
+                    format,
+                    style: *style,
+                };
+                check(alloc, out, name, text, options)
+            }
+            Task::Outline => outline::show(alloc, out, name, text, reading, format),
+            Task::Parens => parens::list(alloc, out, name, text, reading, format),
+            Task::Diff => fix::diff(alloc, out, name, text, reading),
+            Task::Fix => fix::fix(rt, out, name, text, reading),
+            Task::Tokens => tokens::show(alloc, out, name, text, reading.edition, format),
+            Task::Query { steps } => {
+                query::show(alloc, out, name, text, steps.as_slice(), reading, format)
+            }
+        }
+    }
+
+    // The report on a file. An error of the output ends the run; what is wrong with the file is told, and counted.
+    fn file<W: Write>(
+        &self,
+        rt: &HostRuntime,
+        out: &mut W,
+        name: &str,
+        session: &mut Session,
+    ) -> io::Result<()> {
+        let text = match text_of(rt, name) {
+            Ok(text) => text,
+            Err(error) => {
+                session.lost();
+                return eprintln!(rt; "rust_tree: {name}: {error}");
+            }
+        };
+        match self.report(rt, out, name, text.as_str()) {
+            Ok(found) => {
+                session.read(text.len(), found);
+                Ok(())
+            }
+            Err(Failure::Output(error)) => Err(error),
+            Err(Failure::Text(error)) => {
+                out.flush()?;
+                session.lost();
+                eprintln!(rt; "rust_tree: {name}: {error}")
+            }
+        }
+    }
+
+    // The reports on all files of a folder.
+    fn folder<W: Write>(
+        &self,
+        rt: &HostRuntime,
+        out: &mut W,
+        name: &str,
+        session: &mut Session,
+    ) -> io::Result<()> {
+        let mut lost = 0;
+        for file in &files_below(rt, name, &mut lost)? {
+            self.file(rt, out, file.as_str(), session)?;
+        }
+        for _i in 0..lost {
+            session.lost();
+        }
+        Ok(())
+    }
+
+    /// The reports on all files, and the totals.
+    pub fn run<W: Write>(
+        &self,
+        rt: &HostRuntime,
+        out: &mut W,
+        names: &[&str],
+    ) -> io::Result<Session> {
+        let start = Instant::now(rt)?;
+        let mut session = Session::new();
+        for name in names {
+            if is_folder(rt, name) {
+                self.folder(rt, out, name, &mut session)?;
+            } else {
+                self.file(rt, out, name, &mut session)?;
+            }
+        }
+        out.flush()?;
+        session.tell(rt, self.counts(), start)?;
+        Ok(session)
+    }
+}

@@ -1,0 +1,150 @@
+//! The command `outline`: the items of a text.
+
+use crate::failure::Failure;
+use crate::json::write_line;
+use crate::options::Form;
+use crate::source::{Reading, lines, parsed, spot};
+use line_index::LineIndex;
+use lossless_tree::{SyntaxKind, SyntaxNode};
+use rust_report::{Row, outline};
+use serde::Serialize;
+use std::alloc::Global;
+use std::io;
+use std::io::Write;
+
+// An item as an object of JSON. Lines and columns count from 1, columns in characters, and are those of the name where there is one;
+// `start` and `end` are the item's offsets in bytes, with its attributes and documentation. What has no name has an empty one.
+#[derive(Drop, Serialize)]
+struct Item<'a> {
+    path: &'a str,
+    line: u64,
+    column: u64,
+    kind: &'a str,
+    name: &'a str,
+    depth: usize,
+    start: u32,
+    end: u32,
+}
+
+// The words that an item of a kind is written with.
+fn word(kind: SyntaxKind) -> &'static str {
+    match kind {
+        SyntaxKind::CONST => "const",
+        SyntaxKind::ENUM => "enum",
+        SyntaxKind::EXTERN_BLOCK => "extern",
+        SyntaxKind::EXTERN_CRATE => "extern crate",
+        SyntaxKind::FN => "fn",
+        SyntaxKind::IMPL => "impl",
+        SyntaxKind::MACRO_DEF => "macro",
+        SyntaxKind::MACRO_RULES => "macro_rules!",
+        SyntaxKind::MODULE => "mod",
+        SyntaxKind::STATIC => "static",
+        SyntaxKind::STRUCT => "struct",
+        SyntaxKind::TRAIT => "trait",
+        SyntaxKind::TYPE_ALIAS => "type",
+        SyntaxKind::UNION => "union",
+        _ => "use",
+    }
+}
+
+// The node that tells an item from others: its name, or else the first of its children that is no attribute, documentation or
+// visibility: the path of a `use`, the type of an `impl`.
+fn label(row: &Row) -> Option<SyntaxNode> {
+    match &row.name {
+        Some(name) => Some(ras_node::support::share(name)),
+        None => row.item.children().find(|child| {
+            !matches!(
+                child.kind(),
+                SyntaxKind::ATTR
+                    | SyntaxKind::DOC_COMMENT
+                    | SyntaxKind::VISIBILITY
+                    | SyntaxKind::GENERIC_PARAM_LIST
+            )
+        }),
+    }
+}
+
+// The first line of a text.
+fn first_line(text: &str) -> &str {
+    text.lines().next().unwrap_or("")
+}
+
+// The text of an item from its label on: of an `impl`, up to its items.
+fn shown<'a>(row: &'a Row, label: &'a SyntaxNode) -> &'a str {
+    if row.item.kind() != SyntaxKind::IMPL {
+        return first_line(label.as_str());
+    }
+    let start = row.item.text_range().start().raw();
+    let from = label.text_range().start().raw().saturating_sub(start);
+    let text = row.item.as_str().get(from as usize..).unwrap_or("");
+    match text.split_once('{') {
+        Some((head, _)) => first_line(head).trim(),
+        None => first_line(text),
+    }
+}
+
+fn write_row<W: Write>(
+    alloc: Global,
+    out: &mut W,
+    path: &str,
+    lines: &LineIndex<'_>,
+    row: &Row,
+    format: Form,
+) -> io::Result<()> {
+    let label = label(row);
+    let range = row.item.text_range();
+    let start = match &label {
+        Some(label) => label.text_range().start(),
+        None => range.start(),
+    };
+    let at = spot(lines, start);
+    let kind = word(row.item.kind());
+    let shown = match &label {
+        Some(label) => shown(row, label),
+        None => "",
+    };
+    match format {
+        Form::Json => write_line(
+            alloc,
+            out,
+            &Item {
+                path,
+                line: at.line,
+                column: at.column,
+                kind,
+                name: shown,
+                depth: row.depth,
+                start: range.start().raw(),
+                end: range.end().raw(),
+            },
+        ),
+        Form::Text | Form::Github => {
+            write!(out, "{path}:{at}: ")?;
+            for _i in 0..row.depth {
+                out.write_all(b"  ")?;
+            }
+            if shown.is_empty() {
+                writeln!(out, "{kind}")
+            } else {
+                writeln!(out, "{kind} {shown}")
+            }
+        }
+    }
+}
+
+/// Writes the items of a text. Nothing counts as found.
+pub fn show<W: Write>(
+    alloc: Global,
+    out: &mut W,
+    name: &str,
+    text: &str,
+    reading: Reading,
+    format: Form,
+) -> Result<u64, Failure> {
+    let parse = parsed(alloc, text, reading)?;
+    let lines = lines(alloc, text)?;
+    for row in &outline(alloc, parse.parsed().root())? {
+        write_row(alloc, out, name, &lines, row, format)?;
+    }
+    Ok(0)
+}

@@ -1,0 +1,77 @@
+//! The command `query`: nodes and tokens by their kinds and places.
+
+use crate::failure::Failure;
+use crate::json::write_line;
+use crate::names::kind_name;
+use crate::options::Form;
+use crate::source::{Reading, lines, parsed, spot};
+use line_index::LineIndex;
+use lossless_tree::SyntaxElement;
+use rust_report::{Step, query};
+use serde::Serialize;
+use std::alloc::Global;
+use std::io;
+use std::io::Write;
+
+// A node or token as an object of JSON. The line and the column count from 1, the column in characters; `start` and `end` are
+// offsets in bytes.
+#[derive(Drop, Serialize)]
+struct Match<'a> {
+    path: &'a str,
+    line: u64,
+    column: u64,
+    start: u32,
+    end: u32,
+    kind: &'a str,
+    text: &'a str,
+}
+
+fn write_match<W: Write>(
+    alloc: Global,
+    out: &mut W,
+    path: &str,
+    lines: &LineIndex<'_>,
+    element: &SyntaxElement,
+    format: Form,
+) -> io::Result<()> {
+    let range = element.text_range();
+    let at = spot(lines, range.start());
+    match format {
+        Form::Json => {
+            let kind = kind_name(alloc, element.kind())?;
+            let found = Match {
+                path,
+                line: at.line,
+                column: at.column,
+                start: range.start().raw(),
+                end: range.end().raw(),
+                kind: kind.as_str(),
+                text: element.text(),
+            };
+            write_line(alloc, out, &found)
+        }
+        Form::Text | Form::Github => {
+            let shown = element.text().lines().next().unwrap_or("");
+            writeln!(out, "{path}:{at}: {shown}")
+        }
+    }
+}
+
+/// Writes what fits the steps of a pattern; how much that is.
+pub fn show<W: Write>(
+    alloc: Global,
+    out: &mut W,
+    path: &str,
+    text: &str,
+    steps: &[Step],
+    reading: Reading,
+    format: Form,
+) -> Result<u64, Failure> {
+    let parse = parsed(alloc, text, reading)?;
+    let lines = lines(alloc, text)?;
+    let found = query(alloc, parse.parsed().root(), steps)?;
+    for element in &found {
+        write_match(alloc, out, path, &lines, element, format)?;
+    }
+    Ok(found.len() as u64)
+}

@@ -1,0 +1,44 @@
+//! A text that is read, with its tree and its lines.
+
+use line_index::LineIndex;
+use lossless_tree::{SyntaxNode, TextSize};
+use ras_front_end::{Edition, Entry, ParseError};
+use ras_parsing::read;
+use ras_typed_parse::Parse;
+use rust_front::Rust;
+use rust_report::{Spot, spot_at};
+use std::alloc::{AllocError, Global};
+
+/// How a text is read.
+#[derive(Clone, Copy, Debug)]
+pub struct Reading {
+    /// The edition of its words.
+    pub edition: Edition,
+    /// What it is read as.
+    pub entry: Entry,
+    /// Whether the tree is validated too.
+    pub validates: bool,
+}
+
+/// The parse of a text.
+pub fn parsed(
+    alloc: Global,
+    text: &str,
+    reading: Reading,
+) -> Result<Parse<SyntaxNode>, ParseError> {
+    let parsed = read(alloc, &Rust, reading.entry, text, reading.edition)?;
+    Ok(Parse::of(parsed))
+}
+
+/// The lines of a text.
+pub fn lines(alloc: Global, text: &str) -> Result<LineIndex<'_>, ParseError> {
+    if TextSize::of(text).is_none() {
+        return Err(ParseError::TooLong);
+    }
+    Ok(LineIndex::new(alloc, text)?)
+}
+
+/// The line and the column of an offset; those of the text's start where it has none, which no offset of a tree does.
+pub fn spot(lines: &LineIndex<'_>, offset: TextSize) -> Spot {
+    spot_at(lines, offset).unwrap_or(Spot { line: 1, column: 1 })
+}

@@ -1,0 +1,335 @@
+//! The command `tree`: the tree of a text, with its errors. It goes out as it is walked.
+
+use crate::failure::Failure;
+use crate::names::{kind_name, with_names};
+use crate::source::{Reading, lines, parsed};
+use line_index::WideLineCol;
+use lossless_tree::{NodeOrToken, SyntaxElement, SyntaxNode, TextRange, TextSize, WalkEvent};
+use ras_front_end::SyntaxError;
+use ras_node::support::share;
+use rust_report::offset_of;
+use std::alloc::{AllocError, Global};
+use std::io;
+use std::io::Write;
+
+/// The form of a tree.
+#[derive(Clone, Copy, Debug)]
+pub enum Drawing {
+    /// A line for each node and token, indented.
+    Text,
+    /// One object of JSON, nested.
+    Json,
+    /// Nested lists in parentheses.
+    Sexp,
+}
+
+/// Where the part of a tree that is shown stands.
+#[derive(Clone, Copy, Debug)]
+pub enum Part {
+    /// The whole tree.
+    Whole,
+    /// The deepest node or token round a place.
+    At(WideLineCol),
+    /// The deepest node or token round a range of bytes.
+    Range(TextRange),
+}
+
+/// What is shown of a tree, and how.
+#[derive(Clone, Copy, Debug)]
+pub struct Showing {
+    /// The form.
+    pub drawing: Drawing,
+    /// Which part.
+    pub part: Part,
+    /// Whether white space and comments are shown.
+    pub trivia: bool,
+    /// How many levels are shown.
+    pub depth: usize,
+    /// Whether counts are shown in place of the tree.
+    pub stats: bool,
+}
+
+// How many nodes, tokens and levels a tree has.
+#[derive(Clone, Copy)]
+struct Counts {
+    nodes: u64,
+    tokens: u64,
+    depth: usize,
+}
+
+fn is_shown(showing: &Showing, level: usize, element: &SyntaxElement) -> bool {
+    level < showing.depth && (showing.trivia || !element.is_trivia())
+}
+
+fn write_indent<W: Write>(out: &mut W, level: usize) -> io::Result<()> {
+    for _i in 0..level {
+        out.write_all(b"  ")?;
+    }
+    Ok(())
+}
+
+fn write_text<W: Write>(
+    alloc: Global,
+    out: &mut W,
+    level: usize,
+    element: &SyntaxElement,
+) -> io::Result<()> {
+    write_indent(out, level)?;
+    match element {
+        NodeOrToken::Node(node) => {
+            let kind = kind_name(alloc, node.kind())?;
+            writeln!(out, "{kind}@{}", node.text_range())
+        }
+        NodeOrToken::Token(token) => {
+            let line = token.dump(alloc)?;
+            out.write_all(with_names(alloc, line.as_str())?.as_bytes())
+        }
+    }
+}
+
+// A text as a string of JSON.
+fn quoted(alloc: Global, text: &str) -> io::Result<String> {
+    match serde_json::to_string(alloc, &text) {
+        Ok(text) => Ok(text),
+        Err(_) => Err(io::Error::from(io::ErrorKind::OutOfMemory)),
+    }
+}
+
+fn write_json<W: Write>(alloc: Global, out: &mut W, element: &SyntaxElement) -> io::Result<()> {
+    let (kind, range) = (kind_name(alloc, element.kind())?, element.text_range());
+    let (start, end) = (range.start().raw(), range.end().raw());
+    write!(
+        out,
+        "{{\"kind\":\"{kind}\",\"start\":{start},\"end\":{end},"
+    )?;
+    match element {
+        NodeOrToken::Node(_) => write!(out, "\"children\":["),
+        NodeOrToken::Token(token) => {
+            let text = quoted(alloc, token.text())?;
+            write!(out, "\"text\":{text}")
+        }
+    }
+}
+
+fn write_sexp<W: Write>(alloc: Global, out: &mut W, element: &SyntaxElement) -> io::Result<()> {
+    let kind = kind_name(alloc, element.kind())?;
+    match element {
+        NodeOrToken::Node(_) => write!(out, "({kind}"),
+        NodeOrToken::Token(token) => {
+            let text = quoted(alloc, token.text())?;
+            write!(out, "({kind} {text}")
+        }
+    }
+}
+
+// What stands before an element: a line feed and an indentation, or a comma between two.
+fn write_before<W: Write>(
+    out: &mut W,
+    drawing: Drawing,
+    level: usize,
+    is_first: bool,
+) -> io::Result<()> {
+    match drawing {
+        Drawing::Text => Ok(()),
+        Drawing::Json => {
+            if is_first {
+                Ok(())
+            } else {
+                out.write_all(b",")
+            }
+        }
+        Drawing::Sexp => {
+            if level > 0 {
+                out.write_all(b"\n")?;
+            }
+            write_indent(out, level)
+        }
+    }
+}
+
+// What stands behind what an element holds.
+fn write_behind<W: Write>(
+    out: &mut W,
+    drawing: Drawing,
+    element: &SyntaxElement,
+) -> io::Result<()> {
+    match (drawing, element) {
+        (Drawing::Text, _) => Ok(()),
+        (Drawing::Json, NodeOrToken::Node(_)) => out.write_all(b"]}"),
+        (Drawing::Json, NodeOrToken::Token(_)) => out.write_all(b"}"),
+        (Drawing::Sexp, _) => out.write_all(b")"),
+    }
+}
+
+fn write_element<W: Write>(
+    alloc: Global,
+    out: &mut W,
+    drawing: Drawing,
+    level: usize,
+    element: &SyntaxElement,
+) -> io::Result<()> {
+    match drawing {
+        Drawing::Text => write_text(alloc, out, level, element),
+        Drawing::Json => write_json(alloc, out, element),
+        Drawing::Sexp => write_sexp(alloc, out, element),
+    }
+}
+
+fn write_node<W: Write>(
+    alloc: Global,
+    out: &mut W,
+    root: &SyntaxNode,
+    showing: &Showing,
+) -> io::Result<()> {
+    let drawing = showing.drawing;
+    let mut level = 0usize;
+    let mut is_first = true;
+    for event in root.preorder_with_tokens() {
+        match event {
+            WalkEvent::Enter(element) => {
+                if is_shown(showing, level, &element) {
+                    write_before(out, drawing, level, is_first)?;
+                    write_element(alloc, out, drawing, level, &element)?;
+                    is_first = true;
+                }
+                level = level.saturating_add(1);
+            }
+            WalkEvent::Leave(element) => {
+                level = level.saturating_sub(1);
+                if is_shown(showing, level, &element) {
+                    write_behind(out, drawing, &element)?;
+                    is_first = false;
+                }
+            }
+        }
+    }
+    match drawing {
+        Drawing::Text => Ok(()),
+        _ => writeln!(out),
+    }
+}
+
+fn write_part<W: Write>(
+    alloc: Global,
+    out: &mut W,
+    part: &SyntaxElement,
+    showing: &Showing,
+) -> io::Result<()> {
+    match part {
+        NodeOrToken::Node(node) => write_node(alloc, out, node, showing),
+        NodeOrToken::Token(_) => {
+            write_element(alloc, out, showing.drawing, 0, part)?;
+            write_behind(out, showing.drawing, part)?;
+            match showing.drawing {
+                Drawing::Text => Ok(()),
+                _ => writeln!(out),
+            }
+        }
+    }
+}
+
+fn count(root: &SyntaxNode) -> Counts {
+    let mut counts = Counts {
+        nodes: 0,
+        tokens: 0,
+        depth: 0,
+    };
+    let mut level = 0usize;
+    for event in root.preorder_with_tokens() {
+        match event {
+            WalkEvent::Enter(element) => {
+                level = level.saturating_add(1);
+                counts.depth = counts.depth.max(level);
+                match element {
+                    NodeOrToken::Node(_) => counts.nodes = counts.nodes.saturating_add(1),
+                    NodeOrToken::Token(_) => counts.tokens = counts.tokens.saturating_add(1),
+                }
+            }
+            WalkEvent::Leave(_) => level = level.saturating_sub(1),
+        }
+    }
+    counts
+}
+
+fn write_errors<W: Write>(out: &mut W, errors: &[SyntaxError]) -> io::Result<()> {
+    for error in errors {
+        writeln!(out, "error {}: {}", error.range(), error.message())?;
+    }
+    Ok(())
+}
+
+fn write_stats<W: Write>(
+    out: &mut W,
+    text: &str,
+    root: &SyntaxNode,
+    errors: usize,
+) -> io::Result<()> {
+    let Counts {
+        nodes,
+        tokens,
+        depth,
+    } = count(root);
+    let bytes = text.len();
+    writeln!(
+        out,
+        "{bytes} bytes, {nodes} nodes, {tokens} tokens, {depth} levels, {errors} errors"
+    )
+}
+
+// The part of a tree; the whole of it where the text has no such place.
+fn part_of(
+    alloc: Global,
+    text: &str,
+    root: &SyntaxNode,
+    part: &Part,
+) -> Result<SyntaxElement, Failure> {
+    let range = match part {
+        Part::Whole => None,
+        Part::Range(range) => Some(*range),
+        Part::At(at) => offset_of(&lines(alloc, text)?, *at).map(TextRange::empty),
+    };
+    Ok(match range {
+        None => NodeOrToken::Node(share(root)),
+        Some(range) => match root.token_at_offset(range.start()).right_biased() {
+            Some(token) => {
+                if range.is_empty() {
+                    NodeOrToken::Token(token)
+                } else {
+                    root.covering_element(range)
+                }
+            }
+            None => root.covering_element(range),
+        },
+    })
+}
+
+/// Writes the tree of a text, and in the form of text a line for each error. Nothing counts as found.
+pub fn show<W: Write>(
+    alloc: Global,
+    out: &mut W,
+    text: &str,
+    reading: Reading,
+    showing: &Showing,
+) -> Result<u64, Failure> {
+    let parse = parsed(alloc, text, reading)?;
+    let root = parse.parsed().root();
+    let errors = if reading.validates {
+        Some(parse.errors(alloc)?)
+    } else {
+        None
+    };
+    let errors = match &errors {
+        Some(errors) => errors.as_slice(),
+        None => parse.parsed().stored(),
+    };
+    if showing.stats {
+        write_stats(out, text, root, errors.len())?;
+        return Ok(0);
+    }
+    let part = part_of(alloc, text, root, &showing.part)?;
+    write_part(alloc, out, &part, showing)?;
+    if matches!(showing.drawing, Drawing::Text) && matches!(showing.part, Part::Whole) {
+        write_errors(out, errors)?;
+    }
+    Ok(0)
+}
