@@ -1,0 +1,42 @@
+//! A linter: public functions without documentation, `unwrap` calls, and `if` whose condition stands in parentheses.
+//!
+//! usage: cargo run --example linter -- FILE..
+use ras::ast::{self, AstNode, HasAttrs, HasName, HasVisibility};
+use ras::{Edition, SourceFile, SyntaxNode};
+use std::{env, fs, io};
+
+fn undocumented(node: &SyntaxNode) -> Option<String> {
+    let function = ast::Fn::cast(node.clone())?;
+    let name = function.name()?;
+    let is_told = function.visibility().is_none() || function.doc_comments().next().is_some();
+    (!is_told).then(|| format!("{} is public and has no documentation", name.syntax().text()))
+}
+
+fn unwraps(node: &SyntaxNode) -> Option<String> {
+    let call = ast::MethodCallExpr::cast(node.clone())?;
+    let name = call.name_ref()?;
+    (name.syntax().text() == "unwrap").then(|| format!("{} may panic", call.syntax().text()))
+}
+
+fn parenthesized(node: &SyntaxNode) -> Option<String> {
+    let condition = node.children().find_map(ast::ParenExpr::cast)?;
+    let is_if = ast::IfExpr::cast(node.clone()).is_some();
+    is_if.then(|| format!("{} needs no parentheses", condition.syntax().text()))
+}
+
+fn lint(name: &str, text: &str) {
+    let parse = SourceFile::parse(text, Edition::CURRENT);
+    for node in parse.tree().syntax().descendants() {
+        for told in [undocumented(&node), unwraps(&node), parenthesized(&node)].into_iter().flatten() {
+            let start = usize::from(node.text_range().start());
+            println!("{name}:{}: {told}", text[..start].lines().count().max(1));
+        }
+    }
+}
+
+fn main() -> io::Result<()> {
+    for name in env::args().skip(1) {
+        lint(&name, &fs::read_to_string(&name)?);
+    }
+    Ok(())
+}
