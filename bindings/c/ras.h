@@ -84,7 +84,7 @@ typedef struct {
     /* The number of its kind. */
     uint32_t kind;
     /* How many bytes its text has. */
-    uint32_t length;
+    uint32_t bytes;
 } ras_token_row;
 
 /*

@@ -107,7 +107,7 @@ static void tokens_and_parens(void) {
     ras_token_row tokens[64];
     uint32_t count = 0, length = 0, answer = 7;
     owes(ras_c_tokens(BYTES(TEXT), 2024, tokens, 64, &count) == RAS_OK, "a text is cut");
-    for (uint32_t n = 0; n < count; n++) length += tokens[n].length;
+    for (uint32_t n = 0; n < count; n++) length += tokens[n].bytes;
     owes(length == strlen(TEXT), "tokens have all bytes");
     owes(ras_c_tokens(BYTES(TEXT), 2024, tokens, 1, &count) == RAS_NO_ROOM && count > 1, "one token is too little room");
     ras_range pairs[4];

@@ -72,7 +72,7 @@ class TokenRow(ctypes.Structure):
 
     _fields_ = [
         ("kind", ctypes.c_uint32),
-        ("length", ctypes.c_uint32),
+        ("bytes", ctypes.c_uint32),
     ]
 
 

@@ -29,7 +29,7 @@ fn lint(name: &str, text: &str) {
     for node in parse.tree().syntax().descendants() {
         for told in [undocumented(&node), unwraps(&node), parenthesized(&node)].into_iter().flatten() {
             let start = usize::from(node.text_range().start());
-            println!("{name}:{}: {told}", text[..start].lines().count().max(1));
+            println!("{name}:{}: {told}", text[..start].matches('\n').count() + 1);
         }
     }
 }

@@ -82,7 +82,7 @@ pub struct TokenRow {
     /// The number of its kind.
     pub kind: u32,
     /// How many bytes its text has.
-    pub length: u32,
+    pub bytes: u32,
 }
 
 unsafe extern "C" {

@@ -15,13 +15,13 @@ pub struct TokenRow {
     /// The number of its kind.
     pub kind: u32,
     /// How many bytes its text has.
-    pub length: u32,
+    pub bytes: u32,
 }
 
 fn token_row(token: Token) -> TokenRow {
     TokenRow {
         kind: token.kind.to_raw(),
-        length: token.len.raw(),
+        bytes: token.len.raw(),
     }
 }
 
