@@ -1,7 +1,9 @@
 //! A text to rows and errors.
 ghost use Rattle.std.specs.Prelude.{◌≡◌, ◌↔◌, ◌≤◌, ◌<◌, ◌^◌, ◌⊎◌, length, map, IfOk, IfSome, MatchOption, IsUtf8, None, string_bytes};
 ghost use Rattle.ras_front_end.specs.Parsed.{Parsed};
-ghost use Rattle.ras_c.specs.Border.{edition_of};
+ghost use Rattle.tree_model.specs.Tree.{size};
+ghost use Rattle.tree_rows.specs.Flat.{flat_rows};
+ghost use Rattle.ras_c.specs.Border.{edition_of, over};
 ghost use Rattle.ras_c.specs.Read.{error_row, messages_of, told, counted, HasRoom, IsSmall, IsReading, buffers};
 
 use crate::fill::fill;
@@ -82,6 +84,7 @@ fn small(count: usize) -> Option<u32>
 
 fn counts_of(rows: usize, errors: usize, violations: usize, messages: usize) -> Option<Counts>
     ensures some { IfSome result (λ c. c ≡ record { rows = rows; errors = errors; violations = violations; messages = messages }) }
+    ensures fits { IfSome result (λ _. (rows < 2 ^ 32) × (errors < 2 ^ 32) × (messages < 2 ^ 32)) }
     ensures none { result ≡ None → rows < 2 ^ 32 → errors < 2 ^ 32 → violations < 2 ^ 32 → messages < 2 ^ 32 → ⊥ }
 {
     Some(Counts {
@@ -90,6 +93,21 @@ fn counts_of(rows: usize, errors: usize, violations: usize, messages: usize) -> 
         violations: small(violations)?,
         messages: small(messages)?,
     })
+}
+
+// Writes the rows of a parse's tree to the front of `rows`, where there is room, and counts them.
+fn write_rows(parse: &Parse<SyntaxNode>, rows: &mut [FlatRow]) -> usize
+    ensures count { result ≡ size parse.now.tree }
+    ensures written { size parse.now.tree ≤ length rows.old → size parse.now.tree < 2 ^ 32 → rows.new ≡ over (flat_rows parse.now.tree) rows.old }
+    ensures unchanged { (length rows.old < size parse.now.tree) ⊎ (2 ^ 32 ≤ size parse.now.tree) → rows.new ≡ rows.old }
+{
+    parse.parsed().root().write_flat_rows(rows)
+}
+
+fn stored_count(parse: &Parse<SyntaxNode>) -> usize
+    ensures { result ≡ length parse.now.errors }
+{
+    parse.parsed().stored().len()
 }
 
 /// Tells a parse: its rows, its errors and their messages, and how much all of that is.
@@ -110,15 +128,14 @@ pub(crate) fn tell(
     ensures kept { (result ≡ 0 → ⊥) → (result ≡ 4 → ⊥) → buffers rows.new errors.new messages.new counts.new ≡ buffers rows.old errors.old messages.old counts.old }
     ensures which { (result ≡ 0) ⊎ (2 ≤ result) × (result ≤ 4) }
 {
-    let parsed = parse.parsed();
-    let row_count = parsed.root().write_flat_rows(&mut []);
+    let row_count = write_rows(parse, &mut []);
     let Ok(found) = parse.errors(alloc) else {
         return NO_MEMORY;
     };
     let Ok(texts) = joined(alloc, &found) else {
         return NO_MEMORY;
     };
-    let violations = found.len() - parsed.stored().len();
+    let violations = found.len() - stored_count(parse);
     let Some(needed) = counts_of(row_count, found.len(), violations, texts.len()) else {
         return TOO_LONG;
     };
@@ -129,7 +146,7 @@ pub(crate) fn tell(
     if rows.len() < row_count || errors.len() < found.len() || messages.len() < texts.len() {
         return NO_ROOM;
     }
-    parsed.root().write_flat_rows(rows);
+    write_rows(parse, rows);
     fill(&lines, errors);
     fill(texts.as_bytes(), messages);
     OK
