@@ -1,10 +1,17 @@
 //! Parentheses of the expressions of a text.
+ghost use Rattle.std.specs.Prelude.{◌≡◌, ◌≤◌, ◌⊎◌, ◌↔◌, map, IfOk, IfErr, IsUtf8, None};
+ghost use Rattle.std.specs.List.{filter};
+ghost use Rattle.ras_front_end.specs.Parsed.{Parsed};
+ghost use Rattle.operator_pairs.specs.Pairs.{is_needless, nodes_below};
+ghost use Rattle.ras_c.specs.Border.{edition_of, IsHanded, IsCounted};
+ghost use Rattle.ras_c.specs.Read.{IsReading};
+ghost use Rattle.ras_c.specs.Parens.{range_at, needless_of};
 
-use crate::fill::fill;
-use crate::status::{NO_EDITION, NO_MEMORY, NO_PLACE, NO_ROOM, NOT_UTF8, OK, TOO_LONG, edition_of};
-use lossless_tree::{SyntaxElement, SyntaxNode, TextRange, TextSize};
+use crate::fill::hand;
+use crate::status::{NO_EDITION, NO_MEMORY, NO_PLACE, NOT_UTF8, OK, TOO_LONG, edition_of};
+use lossless_tree::{SyntaxNode, TextRange, TextSize};
 use operator_pairs::needless::{is_needless, reads_back};
-use ras_front_end::{Edition, Entry, ParseError};
+use ras_front_end::{Entry, ParseError};
 use ras_parsing::{Parse, read};
 use rust_front::Rust;
 use std::alloc::{AllocError, Global};
@@ -19,7 +26,9 @@ pub struct Range {
     pub end: u32,
 }
 
-fn range_of(node: &SyntaxNode) -> Range {
+fn range_of(node: &SyntaxNode) -> Range
+    ensures { result ≡ range_at node.now }
+{
     let range = node.text_range();
     Range {
         start: range.start().raw(),
@@ -27,7 +36,9 @@ fn range_of(node: &SyntaxNode) -> Range {
     }
 }
 
-fn needless_below(alloc: Global, root: &SyntaxNode) -> Result<Vec<Range>, AllocError> {
+fn needless_below(alloc: Global, root: &SyntaxNode) -> Result<Vec<Range>, AllocError>
+    ensures { IfOk result (λ found. found.items ≡ map range_at (filter is_needless (nodes_below root.now))) }
+{
     let mut found = Vec::new(alloc);
     let mut nodes = root.descendants();
     nodes.next();
@@ -39,7 +50,14 @@ fn needless_below(alloc: Global, root: &SyntaxNode) -> Result<Vec<Range>, AllocE
     Ok(found)
 }
 
-fn parsed(alloc: Global, text: &[u8], edition: u32) -> Result<Parse, u32> {
+// The parse of a text, or the status that says why there is none.
+fn parsed(alloc: Global, text: &[u8], edition: u32) -> Result<Parse, u32>
+    ensures read { IfOk result (λ p. IsReading edition text.now p) }
+    ensures known { IfOk result (λ _. edition_of edition ≡ None → ⊥) }
+    ensures utf8 { IfErr result (λ s. s ≡ 1 → IsUtf8 text.now → ⊥) }
+    ensures edition { IfErr result (λ s. (s ≡ 5) ↔ (edition_of edition ≡ None)) }
+    ensures which { IfErr result (λ s. (s ≡ 1) ⊎ (s ≡ 2) ⊎ (s ≡ 3) ⊎ (s ≡ 5)) }
+{
     let Some(edition) = edition_of(edition) else {
         return Err(NO_EDITION);
     };
@@ -64,23 +82,22 @@ pub extern "C" fn ras_c_parens(
     edition: u32,
     pairs: &mut [Range],
     count: &mut u32,
-) -> u32 {
+) -> u32
+    ensures done { result ≡ 0 → (p : Parsed) × IsReading edition text.now p × IsHanded (needless_of p) pairs.old pairs.new count.new }
+    ensures room { result ≡ 4 → (p : Parsed) × IsReading edition text.now p × IsCounted (needless_of p) pairs.old pairs.new count.new }
+    ensures kept { (result ≡ 0 → ⊥) → (result ≡ 4 → ⊥) → (pairs.new ≡ pairs.old) × (count.new ≡ count.old) }
+    ensures utf8 { result ≡ 1 → IsUtf8 text.now → ⊥ }
+    ensures edition { (result ≡ 5) ↔ (edition_of edition ≡ None) }
+    ensures which { result ≤ 5 }
+{
     let parse = match parsed(alloc, text, edition) {
         Ok(parse) => parse,
         Err(status) => return status,
     };
-    let Ok(found) = needless_below(alloc, parse.root()) else {
-        return NO_MEMORY;
-    };
-    let Ok(needed) = u32::try_from(found.len()) else {
-        return TOO_LONG;
-    };
-    *count = needed;
-    if pairs.len() < found.len() {
-        return NO_ROOM;
+    match needless_below(alloc, parse.root()) {
+        Ok(found) => hand(&found, pairs, count),
+        Err(_) => NO_MEMORY,
     }
-    fill(&found, pairs);
-    OK
 }
 
 // Whether the innermost operator tree at a range reads back.

@@ -1,12 +1,12 @@
 //! A text to rows and errors.
-ghost use Rattle.std.specs.Prelude.{◌≡◌, ◌↔◌, ◌≤◌, ◌<◌, ◌^◌, ◌⊎◌, length, map, IfOk, IfSome, MatchOption, IsUtf8, None, string_bytes};
+ghost use Rattle.std.specs.Prelude.{◌≡◌, ◌↔◌, ◌≤◌, ◌<◌, ◌^◌, ◌⊎◌, length, map, IfOk, IfSome, IsUtf8, None, string_bytes};
 ghost use Rattle.ras_front_end.specs.Parsed.{Parsed};
 ghost use Rattle.tree_model.specs.Tree.{size};
 ghost use Rattle.tree_rows.specs.Flat.{flat_rows};
 ghost use Rattle.ras_c.specs.Border.{edition_of, over};
 ghost use Rattle.ras_c.specs.Read.{error_row, messages_of, told, counted, HasRoom, IsSmall, IsReading, buffers};
 
-use crate::fill::fill;
+use crate::fill::{fill, small};
 use crate::status::{NO_EDITION, NO_MEMORY, NO_ROOM, NOT_UTF8, OK, TOO_LONG, edition_of};
 use lossless_tree::{FlatRow, SyntaxNode};
 use ras_front_end::{Entry, ParseError, SyntaxError};
@@ -74,12 +74,6 @@ fn joined(alloc: Global, errors: &[SyntaxError]) -> Result<String, AllocError>
         messages.push_str(error.message())?;
     }
     Ok(messages)
-}
-
-fn small(count: usize) -> Option<u32>
-    ensures { MatchOption result (2 ^ 32 ≤ count) (λ n. n ≡ count) }
-{
-    u32::try_from(count).ok()
 }
 
 fn counts_of(rows: usize, errors: usize, violations: usize, messages: usize) -> Option<Counts>

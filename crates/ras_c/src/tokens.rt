@@ -1,9 +1,12 @@
 //! A text to its tokens.
-ghost use Rattle.std.specs.Prelude.{◌≡◌, ◌≤◌, ◌<◌, ◌^◌, length, map, IfOk};
+ghost use Rattle.std.specs.Prelude.{◌≡◌, ◌≤◌, ◌↔◌, map, IfOk, IsUtf8, None, Some};
+ghost use Rattle.ras_front_end.specs.declared.edition.Edition.{Edition};
 ghost use Rattle.rust_lexer.specs.Lexing.{tokens_of};
+ghost use Rattle.ras_c.specs.Border.{edition_of, IsHanded, IsCounted};
+ghost use Rattle.ras_c.specs.Tokens.{token_row};
 
-use crate::fill::fill;
-use crate::status::{NO_EDITION, NO_MEMORY, NO_ROOM, NOT_UTF8, OK, TOO_LONG, edition_of};
+use crate::fill::hand;
+use crate::status::{NO_EDITION, NO_MEMORY, NOT_UTF8, TOO_LONG, edition_of};
 use rust_lexer::lex;
 use std::alloc::{AllocError, Global};
 use token_layout::Token;
@@ -18,31 +21,23 @@ pub struct TokenRow {
     pub bytes: u32,
 }
 
-fn token_row(token: Token) -> TokenRow {
+fn token_row(token: Token) -> TokenRow
+    ensures { result ≡ token_row token }
+{
     TokenRow {
         kind: token.kind.to_raw(),
         bytes: token.len.raw(),
     }
 }
 
-fn token_rows(alloc: Global, tokens: &[Token]) -> Result<Vec<TokenRow>, AllocError> {
+fn token_rows(alloc: Global, tokens: &[Token]) -> Result<Vec<TokenRow>, AllocError>
+    ensures { IfOk result (λ v. v.items ≡ map token_row tokens.now) }
+{
     let mut rows = Vec::new(alloc);
     for token in tokens {
         rows.push(token_row(*token))?;
     }
     Ok(rows)
-}
-
-fn give(rows: &[TokenRow], out: &mut [TokenRow], count: &mut u32) -> u32 {
-    let Ok(needed) = u32::try_from(rows.len()) else {
-        return TOO_LONG;
-    };
-    *count = needed;
-    if out.len() < rows.len() {
-        return NO_ROOM;
-    }
-    fill(rows, out);
-    OK
 }
 
 /// Cuts a text, of the edition of a year, into tokens: white space and comments are tokens too, and punctuation is cut into single
@@ -56,7 +51,14 @@ pub extern "C" fn ras_c_tokens(
     edition: u32,
     tokens: &mut [TokenRow],
     count: &mut u32,
-) -> u32 {
+) -> u32
+    ensures done { result ≡ 0 → (e : Edition) × (edition_of edition ≡ Some e) × IsHanded (map token_row (tokens_of e text.now)) tokens.old tokens.new count.new }
+    ensures room { result ≡ 4 → (e : Edition) × (edition_of edition ≡ Some e) × IsCounted (map token_row (tokens_of e text.now)) tokens.old tokens.new count.new }
+    ensures kept { (result ≡ 0 → ⊥) → (result ≡ 4 → ⊥) → (tokens.new ≡ tokens.old) × (count.new ≡ count.old) }
+    ensures utf8 { result ≡ 1 → IsUtf8 text.now → ⊥ }
+    ensures edition { (result ≡ 5) ↔ (edition_of edition ≡ None) }
+    ensures which { result ≤ 5 }
+{
     let Some(edition) = edition_of(edition) else {
         return NO_EDITION;
     };
@@ -70,7 +72,7 @@ pub extern "C" fn ras_c_tokens(
         return NO_MEMORY;
     };
     match token_rows(alloc, &lexed.tokens) {
-        Ok(rows) => give(&rows, tokens, count),
+        Ok(rows) => hand(&rows, tokens, count),
         Err(_) => NO_MEMORY,
     }
 }

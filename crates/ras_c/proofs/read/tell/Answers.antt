@@ -18,8 +18,7 @@ returns-then-rows-row_count-clause-room c = λ _.
     let is_needed : c.in-Some.needed ≡ needed p =
     c.in-Some.ensures.some
     ∙ needed_by p c.write_rows-row_count.result c.len-2.result (c.len.result - c.stored_count.result) c.len-3.result (c.stored_count.result) c.len.result
-    rows (omega (arith, c.len-2.ensures, count)) (omega (arith, c.len.ensures, count)) (c.stored_count.ensures) (omega arith) (omega (arith, c.len-3.ensures, bytes)) in
-    (
+    rows (omega (arith, c.len-2.ensures, count)) (omega (arith, c.len.ensures, count)) (c.stored_count.ensures) (omega arith) (omega (arith, c.len-3.ensures, bytes)) in (
       (λ h. elim c.then-rows-row_count.branch [
         | then-rows-row_count-via-then-rows-row_count w ↦ omega (arith, h.rows_fit, w.if-rows-row_count.true, rows)
         | then-rows-row_count-via-else-rows-row_count+then-errors-len w ↦ omega (arith, h.errors_fit, w.if-errors-len.true, w.len-else-rows-row_count.ensures, count)
@@ -38,16 +37,15 @@ returns-clause-done c = λ _.
     c.in-Some.ensures.some
     ∙ needed_by p c.write_rows-row_count.result c.len-2.result (c.len.result - c.stored_count.result) c.len-3.result (c.stored_count.result) c.len.result
     rows (omega (arith, c.len-2.ensures, count)) (omega (arith, c.len.ensures, count)) (c.stored_count.ensures) (omega arith) (omega (arith, c.len-3.ensures, ap length texts)) in
-    let room : size p.tree ≤ length c.args.rows.now = omega (arith, c.if-rows-row_count.false, rows) in
-    (
+    let room : size p.tree ≤ length c.args.rows.now = omega (arith, c.if-rows-row_count.false, rows) in (
       (let h : HasRoom p _ = record {
         rows_fit = room;
         errors_fit = omega (arith, c.if-errors-len.false, c.len-else-rows-row_count.ensures, count);
         messages_fit = omega (arith, c.if-messages-len.false, c.len-else-errors-len.ensures, ap length texts);
       } in h),
       same_buffers c.write_rows.new.out _ c.fill.new.out _ c.fill-2.new.out _ c.in-Some.needed (needed p)
-      (c.write_rows.ensures.written room (omega (arith, c.in-Some.ensures.fits.0, rows)))
-      (c.fill.ensures ∙ over_by c.deref-3.result.now (map error_row (all_errors p)) c.args.errors.now (c.deref-3.ensures.value ∙ c.in-Ok-error_rows.ensures ∙ ap (map error_row) (c.deref-2.ensures.value ∙ c.in-Ok.ensures)))
-      (c.fill-2.ensures ∙ over_by c.as_bytes.result.now (messages_of (all_errors p)) c.args.messages.now (c.as_bytes.ensures.value ∙ texts))
-      is_needed,
+          (c.write_rows.ensures.written room (omega (arith, c.in-Some.ensures.fits.0, rows)))
+          (c.fill.ensures ∙ over_by c.deref-3.result.now (map error_row (all_errors p)) c.args.errors.now (c.deref-3.ensures.value ∙ c.in-Ok-error_rows.ensures ∙ ap (map error_row) (c.deref-2.ensures.value ∙ c.in-Ok.ensures)))
+          (c.fill-2.ensures ∙ over_by c.as_bytes.result.now (messages_of (all_errors p)) c.args.messages.now (c.as_bytes.ensures.value ∙ texts))
+          is_needed,
     )
