@@ -1,15 +1,17 @@
-//! A linter: public functions without documentation, `unwrap` calls, and `if` whose condition stands in parentheses.
+//! A linter: functions that do nothing, `unwrap` calls, and `if` whose condition stands in parentheses.
+//!
+//! Over rust-analyzer's crate it is the same text with `ra_ap_syntax` in place of `ras` in the two `use` lines.
 //!
 //! usage: cargo run --example linter -- FILE..
-use ras::ast::{self, AstNode, HasAttrs, HasName, HasVisibility};
+use ras::ast::{self, AstNode, HasName};
 use ras::{Edition, SourceFile, SyntaxNode};
 use std::{env, fs, io};
 
-fn undocumented(node: &SyntaxNode) -> Option<String> {
+fn empty(node: &SyntaxNode) -> Option<String> {
     let function = ast::Fn::cast(node.clone())?;
-    let name = function.name()?;
-    let is_told = function.visibility().is_none() || function.doc_comments().next().is_some();
-    (!is_told).then(|| format!("{} is public and has no documentation", name.syntax().text()))
+    let (name, body) = (function.name()?, function.body()?.stmt_list()?);
+    let is_empty = body.statements().next().is_none() && body.tail_expr().is_none();
+    is_empty.then(|| format!("{} does nothing", name.syntax().text()))
 }
 
 fn unwraps(node: &SyntaxNode) -> Option<String> {
@@ -27,7 +29,7 @@ fn parenthesized(node: &SyntaxNode) -> Option<String> {
 fn lint(name: &str, text: &str) {
     let parse = SourceFile::parse(text, Edition::CURRENT);
     for node in parse.tree().syntax().descendants() {
-        for told in [undocumented(&node), unwraps(&node), parenthesized(&node)].into_iter().flatten() {
+        for told in [empty(&node), unwraps(&node), parenthesized(&node)].into_iter().flatten() {
             let start = usize::from(node.text_range().start());
             println!("{name}:{}: {told}", text[..start].matches('\n').count() + 1);
         }
