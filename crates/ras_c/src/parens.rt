@@ -125,7 +125,12 @@ pub extern "C" fn ras_c_reads_back(
     start: u32,
     end: u32,
     answer: &mut u32,
-) -> u32 {
+) -> u32
+    ensures answers { result ≡ 0 → answer.new ≤ 1 }
+    ensures kept { (result ≡ 0 → ⊥) → answer.new ≡ answer.old }
+    ensures utf8 { result ≡ 1 → IsUtf8 text.now → ⊥ }
+    ensures which { (result ≤ 3) ⊎ (5 ≤ result) × (result ≤ 6) }
+{
     if start > end {
         return NO_PLACE;
     }
@@ -136,7 +141,7 @@ pub extern "C" fn ras_c_reads_back(
     let range = TextRange::new(TextSize::new(start), TextSize::new(end));
     match reads_back_at(parse.root(), range) {
         Some(reads) => {
-            *answer = u32::from(reads);
+            *answer = if reads { 1 } else { 0 };
             OK
         }
         None => NO_PLACE,
