@@ -1,0 +1,154 @@
+/* Tests the library: what its calls answer, and each allocation of each call refused in turn.
+ *
+ * It is built with -fsanitize=address,undefined, which ends it at a bad access and at a leak. In place of heap.c it has a heap that
+ * refuses an allocation where it is told to.
+ */
+#include "ras.h"
+#include <stdio.h>
+#include <stdlib.h>
+#include <string.h>
+
+typedef struct {
+    bool is_there;
+    void *at;
+} block;
+
+/* How many allocations are still granted, or none is refused; how many were asked for; how many blocks are held. */
+static long granted = -1, asked, held;
+
+static bool refused(void) {
+    asked++;
+    if (granted > 0) granted--;
+    else if (granted == 0) return true;
+    return false;
+}
+
+block rattle_alloc(size_t size, size_t align) {
+    void *at = refused() ? NULL : malloc(size ? size : align);
+    held += at != NULL;
+    return at ? (block){true, at} : (block){false, (void *)16};
+}
+
+block rattle_realloc(void *old, size_t used, size_t size, size_t align) {
+    (void)used;
+    void *at = refused() ? NULL : realloc(old, size ? size : align);
+    return at ? (block){true, at} : (block){false, (void *)16};
+}
+
+void rattle_dealloc(void *at) {
+    held -= at != NULL;
+    free(at);
+}
+
+static int bad;
+
+static void owes(bool holds, const char *what) {
+    if (!holds) printf("not so: %s\n", what), bad = 1;
+}
+
+static const char TEXT[] = "fn foo() { let x = (a * (b + 1)); \"\\q\"; 1 + }\nfn b(";
+enum { ROWS = 256, ERRORS = 16, MESSAGES = 1024 };
+static ras_flat_row rows[ROWS], filled[ROWS];
+static ras_error_row errors[ERRORS];
+static uint8_t messages[MESSAGES];
+
+#define BYTES(text) (const uint8_t *)(text), strlen(text)
+
+static uint32_t read_with(size_t row_room, size_t error_room, size_t message_room, ras_counts *counts) {
+    return ras_c_read(BYTES(TEXT), 2024, rows, row_room, errors, error_room, messages, message_room, counts);
+}
+
+static void reads(void) {
+    ras_counts counts = {0, 0, 0, 0}, none = {0, 0, 0, 0};
+    owes(read_with(ROWS, ERRORS, MESSAGES, &counts) == RAS_OK, "a text is read");
+    owes(rows[0].behind == counts.rows && rows[0].parent == 0, "the root's subtree is the tree");
+    for (uint32_t n = 1; n < counts.rows; n++) {
+        ras_flat_row parent = rows[rows[n].parent];
+        owes(rows[n].parent < n && rows[n].behind <= parent.behind && rows[n].start >= parent.start, "a row stands in its parent");
+        owes(!(rows[n].kind >> 31) || rows[n].behind == n + 1, "a token has nothing below it");
+    }
+    uint32_t sum = 0;
+    for (uint32_t n = 0; n < counts.errors; n++) sum += errors[n].message;
+    owes(counts.errors > 1 && sum == counts.messages, "messages have the lengths that are told");
+
+    memcpy(filled, rows, sizeof rows);
+    memset(rows, 0xAB, sizeof rows);
+    for (int small = 0; small < 3; small++) {
+        ras_counts needed = none;
+        uint32_t status = read_with(counts.rows - (small == 0), counts.errors - (small == 1), counts.messages - (small == 2), &needed);
+        owes(status == RAS_NO_ROOM, "a small buffer is refused");
+        owes(memcmp(&needed, &counts, sizeof needed) == 0, "what is needed is told");
+        owes(rows[0].kind == 0xABABABABu, "a refused call writes nothing");
+    }
+    owes(read_with(counts.rows, counts.errors, counts.messages, &counts) == RAS_OK, "just enough room is enough");
+    owes(memcmp(rows, filled, counts.rows * sizeof *rows) == 0, "the rows are the same");
+    owes(ras_c_read(NULL, 0, 2024, rows, ROWS, NULL, 0, NULL, 0, &counts) == RAS_OK && counts.rows == 1, "no text has a root");
+    ras_counts kept = counts;
+    owes(ras_c_read(BYTES("\xff"), 2024, NULL, 0, NULL, 0, NULL, 0, &counts) == RAS_NOT_UTF8, "bad UTF-8 is refused");
+    owes(ras_c_read(BYTES("a"), 2016, NULL, 0, NULL, 0, NULL, 0, &counts) == RAS_NO_EDITION, "there is no edition 2016");
+    owes(memcmp(&kept, &counts, sizeof kept) == 0, "a refused text leaves the counts");
+}
+
+static void names(void) {
+    uint8_t name[64];
+    size_t length = ras_c_kind_name(ras_c_kind_of_name(BYTES("FN")), name, sizeof name);
+    owes(length == 2 && memcmp(name, "FN", 2) == 0, "a kind has its name");
+    owes(ras_c_kind_of_name(BYTES("VARIANT_LIST")) >= 65536, "a kind beyond the table has a number");
+    owes(ras_c_kind_of_name(BYTES("NOTHING")) == RAS_NO_KIND, "no kind has this name");
+    owes(ras_c_kind_name(300, name, sizeof name) == 0, "no kind has this number");
+    for (uint32_t kind = 0; kind < 66000; kind++) {
+        length = ras_c_kind_name(kind, name, sizeof name);
+        owes(length <= sizeof name, "each name has at most 64 bytes");
+        owes(length == 0 || ras_c_kind_of_name(name, length) == kind, "names lead back");
+    }
+}
+
+static void tokens_and_parens(void) {
+    ras_token_row tokens[64];
+    uint32_t count = 0, length = 0, answer = 7;
+    owes(ras_c_tokens(BYTES(TEXT), 2024, tokens, 64, &count) == RAS_OK, "a text is cut");
+    for (uint32_t n = 0; n < count; n++) length += tokens[n].bytes;
+    owes(length == strlen(TEXT), "tokens have all bytes");
+    owes(ras_c_tokens(BYTES(TEXT), 2024, tokens, 1, &count) == RAS_NO_ROOM && count > 1, "one token is too little room");
+    ras_range pairs[4];
+    const char *sum = "fn f() { (a * b) + c }";
+    owes(ras_c_parens(BYTES(sum), 2024, pairs, 4, &count) == RAS_OK && count == 1 && pairs[0].start == 9, "a needless pair is found");
+    owes(ras_c_parens(BYTES(sum), 2024, NULL, 0, &count) == RAS_NO_ROOM && count == 1, "no room for a pair");
+    owes(ras_c_reads_back(BYTES(sum), 2024, 9, 20, &answer) == RAS_OK && answer == 1, "a sum reads back");
+    owes(ras_c_reads_back(BYTES(sum), 2024, 0, 2, &answer) == RAS_NO_PLACE, "a word is no expression");
+    owes(ras_c_reads_back(BYTES(sum), 2024, 3, 2, &answer) == RAS_NO_PLACE, "a range does not end before it starts");
+}
+
+/* Each call once, at a heap that may refuse: a call is done, or answers that memory ran out and writes nothing. */
+static void refuses(void) {
+    ras_counts counts = {9, 9, 9, 9};
+    ras_token_row tokens[64];
+    ras_range pairs[4];
+    uint32_t count = 9, answer = 9, status;
+    memset(rows, 0xAB, sizeof rows);
+    status = read_with(ROWS, ERRORS, MESSAGES, &counts);
+    owes(status == RAS_OK || (status == RAS_NO_MEMORY && counts.rows == 9 && rows[0].kind == 0xABABABABu), "read is done or refused");
+    status = ras_c_tokens(BYTES(TEXT), 2024, tokens, 64, &count);
+    owes(status == RAS_OK || (status == RAS_NO_MEMORY && count == 9), "tokens is done or refused");
+    count = 9;
+    status = ras_c_parens(BYTES(TEXT), 2024, pairs, 4, &count);
+    owes(status == RAS_OK || (status == RAS_NO_MEMORY && count == 9), "parens is done or refused");
+    status = ras_c_reads_back(BYTES(TEXT), 2024, 20, 31, &answer);
+    owes(status != RAS_NO_MEMORY ? answer != 9 || status == RAS_NO_PLACE : answer == 9, "reads_back is done or refused");
+}
+
+int main(void) {
+    reads();
+    names();
+    tokens_and_parens();
+    asked = 0;
+    refuses();
+    long all = asked;
+    for (long n = 0; n < all; n++) {
+        granted = n;
+        refuses();
+        owes(held == 0, "no block stays behind");
+    }
+    printf("%ld allocations refused in turn\n", all);
+    return bad;
+}

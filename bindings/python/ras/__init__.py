@@ -1,0 +1,228 @@
+"""Lossless syntax trees for Rust, over a parser of which each function is proved.
+
+>>> import ras
+>>> tree = ras.parse("fn main() { let x = (1 + 2) * 3; }")
+>>> tree.errors
+[]
+>>> [it.text for it in tree.root.descendants() if it.kind == "BIN_EXPR"]
+['(1 + 2) * 3', '1 + 2']
+
+There is a tree whatever the text is, and each byte of the text stands in one token of it. One call reads a text; nodes and tokens are
+made as they are asked for. Offsets and ranges are in bytes of the text's UTF-8.
+"""
+import array
+import ctypes
+import functools
+import os
+
+from . import _raw
+
+__all__ = ["Element", "ParseError", "SyntaxError", "Tree", "kind_name", "kind_of_name", "parse"]
+
+_TOKEN = 1 << 31
+
+
+def _find():
+    named = os.environ.get("RAS_LIBRARY")
+    here = os.path.dirname(os.path.abspath(__file__))
+    places = [named] if named else [os.path.join(here, "libras.so"), os.path.join(here, "..", "..", "..", "crates", "ras_c", "out", "libras.so")]
+    for place in places:
+        if os.path.exists(place):
+            return _raw.declare(ctypes.CDLL(place))
+    raise ImportError(f"no library at {' or '.join(places)}: `pip install .` builds it here, and `./run --lib` at the top of the repository")
+
+
+_library = _find()
+
+
+class ParseError(Exception):
+    """Why a text has no tree: it is too long, or memory ran out."""
+
+
+_WHY = {
+    _raw.TOO_LONG: "the text is too long: it has 4294967296 bytes or more, or its tree as many rows",
+    _raw.NO_MEMORY: "out of memory",
+    _raw.NO_EDITION: "the edition is none of 2015, 2018, 2021 and 2024",
+}
+
+
+def _had_room(status):
+    """Whether a call was done; False where a buffer was too small."""
+    if status in _WHY:
+        raise (ValueError if status == _raw.NO_EDITION else ParseError)(_WHY[status])
+    return status == _raw.OK
+
+
+class SyntaxError(Exception):
+    """What is wrong with a text: `message`, the bytes `start` and `end`, and whether it is a violation of a rule beyond the grammar."""
+
+    def __init__(self, message, start, end, is_violation):
+        super().__init__(message)
+        self.message, self.start, self.end, self.is_violation = message, start, end, is_violation
+
+    def __repr__(self):
+        return f"{self.start}..{self.end}: {self.message}"
+
+
+@functools.lru_cache(maxsize=None)
+def kind_name(number):
+    """The name of the kind with this number, as "FN"; None where no kind has it."""
+    name = ctypes.create_string_buffer(64)
+    length = _library.ras_c_kind_name(number, name, len(name))
+    return name.raw[:length].decode() or None
+
+
+@functools.lru_cache(maxsize=None)
+def kind_of_name(name):
+    """The number of the kind with this name; None where no kind has it."""
+    data = name.encode()
+    number = _library.ras_c_kind_of_name(data, len(data))
+    return None if number == _raw.NO_KIND else number
+
+
+def parse(text, edition=2024):
+    """The tree of a text, a `str` or its UTF-8 as `bytes`, read as a file."""
+    return Tree(text, edition)
+
+
+class Tree:
+    """A text, its lossless tree, and what is wrong with it."""
+
+    def __init__(self, text, edition=2024):
+        self.data = text.encode() if isinstance(text, str) else bytes(text)
+        self.edition = edition
+        counts = _raw.Counts()
+        row_room, error_room, message_room = len(self.data) * 3 // 2 + 64, 16, 1024
+        while True:
+            rows = array.array("I", bytes(16 * row_room))
+            errors = (_raw.ErrorRow * error_room)()
+            messages = ctypes.create_string_buffer(message_room)
+            at = rows.buffer_info()[0]
+            status = _library.ras_c_read(
+                self.data, len(self.data), edition, at, row_room, errors, error_room, messages, message_room, ctypes.byref(counts)
+            )
+            if status == _raw.NOT_UTF8:
+                raise ValueError("the text is not UTF-8")
+            if _had_room(status):
+                break
+            row_room, error_room, message_room = counts.rows, counts.errors, max(counts.messages, 1)
+        # Four numbers a row: the kind, where it starts, the first row behind its subtree, its parent's row.
+        self.rows = memoryview(rows)[: 4 * counts.rows]
+        self.errors, at = [], 0
+        for n in range(counts.errors):
+            row = errors[n]
+            message = messages.raw[at : at + row.message].decode()
+            self.errors.append(SyntaxError(message, row.start, row.end, n >= counts.errors - counts.violations))
+            at += row.message
+
+    def __len__(self):
+        return len(self.rows) // 4
+
+    @property
+    def text(self):
+        """The text."""
+        return self.data.decode()
+
+    @property
+    def root(self):
+        """The root, a SOURCE_FILE."""
+        return Element(self, 0)
+
+    def find(self, kind):
+        """The nodes and tokens of a kind, in preorder. It looks at numbers alone until one is found."""
+        number = kind_of_name(kind)
+        if number is None:
+            raise ValueError(f"no kind has the name {kind}")
+        for n, it in enumerate(self.rows[::4].tolist()):
+            if it % _TOKEN == number:
+                yield Element(self, n)
+
+    def needless_parens(self):
+        """The pairs of parentheses that may go, in preorder: those whose inside needs none in their place."""
+        pairs, count = (_raw.Range * 16)(), ctypes.c_uint32()
+        while not _had_room(_library.ras_c_parens(self.data, len(self.data), self.edition, pairs, len(pairs), ctypes.byref(count))):
+            pairs = (_raw.Range * count.value)()
+        wanted = {(it.start, it.end) for it in pairs[: count.value]}
+        return [it for it in self.find("PAREN_EXPR") if (it.start, it.end) in wanted]
+
+
+class Element:
+    """A node or a token of a tree. Two are equal where they are the same place of the same tree."""
+
+    __slots__ = ("tree", "row")
+
+    def __init__(self, tree, row):
+        self.tree, self.row = tree, row
+
+    def __eq__(self, other):
+        return isinstance(other, Element) and self.tree is other.tree and self.row == other.row
+
+    def __hash__(self):
+        return hash((id(self.tree), self.row))
+
+    def __repr__(self):
+        told = f" {self.text!r}" if self.is_token else ""
+        return f"{self.kind}@{self.start}..{self.end}{told}"
+
+    @property
+    def is_token(self):
+        """Whether it is a token, and no node."""
+        return self.tree.rows[4 * self.row] >= _TOKEN
+
+    @property
+    def kind(self):
+        """The name of its kind, as "FN"."""
+        return kind_name(self.tree.rows[4 * self.row] % _TOKEN)
+
+    @property
+    def start(self):
+        """The byte where its text starts."""
+        return self.tree.rows[4 * self.row + 1]
+
+    @property
+    def end(self):
+        """The byte where its text ends."""
+        behind = self.behind
+        return self.tree.rows[4 * behind + 1] if behind < len(self.tree) else len(self.tree.data)
+
+    @property
+    def behind(self):
+        """The first row behind its subtree."""
+        return self.tree.rows[4 * self.row + 2]
+
+    @property
+    def text(self):
+        """Its text."""
+        return self.tree.data[self.start : self.end].decode()
+
+    @property
+    def parent(self):
+        """The node that it is a child of; None for the root."""
+        return Element(self.tree, self.tree.rows[4 * self.row + 3]) if self.row else None
+
+    def ancestors(self):
+        """Its parent, the parent's parent, and so on up to the root."""
+        above = self.parent
+        while above:
+            yield above
+            above = above.parent
+
+    def children(self):
+        """Its children, nodes and tokens, in order."""
+        row, behind = self.row + 1, self.behind
+        while row < behind:
+            child = Element(self.tree, row)
+            yield child
+            row = child.behind
+
+    def child(self, kind):
+        """The first child of a kind; None where there is none."""
+        return next((it for it in self.children() if it.kind == kind), None)
+
+    def descendants(self):
+        """It and all nodes and tokens below it, in preorder."""
+        return (Element(self.tree, row) for row in range(self.row, self.behind))
+
+    def tokens(self):
+        """Its tokens, in order; of a token itself."""
+        return (it for it in self.descendants() if it.is_token)

@@ -1,0 +1,93 @@
+"""The calls of the library, as `crates/ras_c` declares them. Written by bindings/make."""
+import ctypes
+
+# What no kind has as its number.
+NO_KIND = 4294967295
+
+# Done: each buffer has what was asked for, and the counts say how much.
+OK = 0
+
+# The text is not UTF-8. Nothing was written.
+NOT_UTF8 = 1
+
+# The text has 2^32 bytes or more, or what is to be told of it has 2^32 rows or bytes or more. Nothing was written.
+TOO_LONG = 2
+
+# Memory ran out. Nothing was written.
+NO_MEMORY = 3
+
+# A buffer has too little room. The counts say how much is needed, and nothing else was written.
+NO_ROOM = 4
+
+# The edition is none of 2015, 2018, 2021 and 2024. Nothing was written.
+NO_EDITION = 5
+
+# There is no such place in the text. Nothing was written.
+NO_PLACE = 6
+
+
+class FlatRow(ctypes.Structure):
+    """One node or token, in 16 bytes. Rows are numbered from 0 in preorder."""
+
+    _fields_ = [
+        ("kind", ctypes.c_uint32),
+        ("start", ctypes.c_uint32),
+        ("behind", ctypes.c_uint32),
+        ("parent", ctypes.c_uint32),
+    ]
+
+
+class Range(ctypes.Structure):
+    """A range of the text, in bytes."""
+
+    _fields_ = [
+        ("start", ctypes.c_uint32),
+        ("end", ctypes.c_uint32),
+    ]
+
+
+class ErrorRow(ctypes.Structure):
+    """One error: its range in the text, in bytes, and the length of its message."""
+
+    _fields_ = [
+        ("start", ctypes.c_uint32),
+        ("end", ctypes.c_uint32),
+        ("message", ctypes.c_uint32),
+    ]
+
+
+class Counts(ctypes.Structure):
+    """How much there is to tell of a text."""
+
+    _fields_ = [
+        ("rows", ctypes.c_uint32),
+        ("errors", ctypes.c_uint32),
+        ("violations", ctypes.c_uint32),
+        ("messages", ctypes.c_uint32),
+    ]
+
+
+class TokenRow(ctypes.Structure):
+    """One token."""
+
+    _fields_ = [
+        ("kind", ctypes.c_uint32),
+        ("bytes", ctypes.c_uint32),
+    ]
+
+
+def declare(library):
+    """Says of each function of the library what it takes and answers."""
+    library.ras_c_kind_name.argtypes = [ctypes.c_uint32, ctypes.c_void_p, ctypes.c_size_t]
+    library.ras_c_kind_name.restype = ctypes.c_size_t
+    library.ras_c_kind_of_name.argtypes = [ctypes.c_void_p, ctypes.c_size_t]
+    library.ras_c_kind_of_name.restype = ctypes.c_uint32
+    library.ras_c_parens.argtypes = [ctypes.c_void_p, ctypes.c_size_t, ctypes.c_uint32, ctypes.c_void_p, ctypes.c_size_t, ctypes.c_void_p]
+    library.ras_c_parens.restype = ctypes.c_uint32
+    library.ras_c_reads_back.argtypes = [ctypes.c_void_p, ctypes.c_size_t, ctypes.c_uint32, ctypes.c_uint32, ctypes.c_uint32, ctypes.c_void_p]
+    library.ras_c_reads_back.restype = ctypes.c_uint32
+    library.ras_c_read.argtypes = [ctypes.c_void_p, ctypes.c_size_t, ctypes.c_uint32, ctypes.c_void_p, ctypes.c_size_t, ctypes.c_void_p, ctypes.c_size_t, ctypes.c_void_p, ctypes.c_size_t, ctypes.c_void_p]
+    library.ras_c_read.restype = ctypes.c_uint32
+    library.ras_c_tokens.argtypes = [ctypes.c_void_p, ctypes.c_size_t, ctypes.c_uint32, ctypes.c_void_p, ctypes.c_size_t, ctypes.c_void_p]
+    library.ras_c_tokens.restype = ctypes.c_uint32
+    return library

@@ -1,0 +1,63 @@
+#!/usr/bin/env python3
+"""Tests the module: what trees owe whatever the text is, and what some texts give."""
+import doctest
+import unittest
+
+import ras
+
+TEXTS = [
+    "",
+    "fn main() {}\n",
+    "struct S { a: u8 }\nimpl S { fn f(&self) -> u8 { self.a + 1 } }\n",
+    "fn broken( { let = ; } }} 'a \"",
+    "fn ü() { \"ä\\q\"; 1.5e3; 'x' }",
+]
+
+
+class Trees(unittest.TestCase):
+    def test_each_byte_stands_in_one_token(self):
+        for text in TEXTS:
+            tree = ras.parse(text)
+            self.assertEqual("".join(it.text for it in tree.root.tokens()), text)
+            self.assertEqual(tree.root.kind, "SOURCE_FILE")
+            self.assertEqual(tree.text, text)
+
+    def test_children_have_their_parent(self):
+        for text in TEXTS:
+            tree = ras.parse(text)
+            for node in tree.root.descendants():
+                for child in node.children():
+                    self.assertEqual(child.parent, node)
+                    self.assertTrue(node.start <= child.start <= child.end <= node.end)
+            self.assertIsNone(tree.root.parent)
+            self.assertEqual(sum(1 for _ in tree.root.descendants()), len(tree))
+
+    def test_errors_have_messages(self):
+        tree = ras.parse("fn foo() { 1 + }")
+        self.assertEqual(repr(tree.errors), "[14..14: expected expression]")
+        many = ras.parse('"\\q"; ' * 3000)
+        self.assertGreaterEqual(len(many.errors), 3000)
+        self.assertTrue(all(it.message for it in many.errors))
+
+    def test_needless_pairs_are_found(self):
+        tree = ras.parse("fn f() { (a * b) + c; (a + b) * c; g((x)) }")
+        self.assertEqual([it.text for it in tree.needless_parens()], ["(a * b)", "(x)"])
+
+    def test_kinds_have_names(self):
+        for name in ("FN", "WHITESPACE", "VARIANT_LIST"):
+            self.assertEqual(ras.kind_name(ras.kind_of_name(name)), name)
+        self.assertIsNone(ras.kind_name(300))
+        self.assertIsNone(ras.kind_of_name("NO_SUCH_KIND"))
+
+    def test_what_is_no_text_is_refused(self):
+        self.assertRaises(ValueError, ras.parse, b"\xff")
+        self.assertRaises(ValueError, ras.parse, "", 2016)
+
+
+def load_tests(loader, tests, pattern):
+    tests.addTests(doctest.DocTestSuite(ras))
+    return tests
+
+
+if __name__ == "__main__":
+    unittest.main()

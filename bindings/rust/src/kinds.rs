@@ -1,0 +1,492 @@
+//! The kinds and their numbers. Written by bindings/make.
+use crate::kind::kinds;
+
+kinds! {
+    KNOWN
+    WHITESPACE = 0,
+    COMMENT = 1,
+    INNER_DOC_COMMENT = 2,
+    OUTER_DOC_COMMENT = 3,
+    ERROR = 4,
+    IDENT = 5,
+    LIFETIME_IDENT = 6,
+    INT_NUMBER = 7,
+    FLOAT_NUMBER = 8,
+    CHAR = 9,
+    BYTE = 10,
+    STRING = 11,
+    BYTE_STRING = 12,
+    C_STRING = 13,
+    SEMICOLON = 14,
+    COMMA = 15,
+    L_PAREN = 16,
+    R_PAREN = 17,
+    L_CURLY = 18,
+    R_CURLY = 19,
+    L_BRACK = 20,
+    R_BRACK = 21,
+    L_ANGLE = 22,
+    R_ANGLE = 23,
+    AT = 24,
+    POUND = 25,
+    DOLLAR = 26,
+    TILDE = 27,
+    QUESTION = 28,
+    AMP = 29,
+    PIPE = 30,
+    PLUS = 31,
+    STAR = 32,
+    SLASH = 33,
+    CARET = 34,
+    PERCENT = 35,
+    UNDERSCORE = 36,
+    DOT = 37,
+    DOT2 = 38,
+    DOT3 = 39,
+    DOT2EQ = 40,
+    COLON = 41,
+    COLON2 = 42,
+    EQ = 43,
+    EQ2 = 44,
+    FAT_ARROW = 45,
+    BANG = 46,
+    NEQ = 47,
+    MINUS = 48,
+    THIN_ARROW = 49,
+    LTEQ = 50,
+    GTEQ = 51,
+    PLUSEQ = 52,
+    MINUSEQ = 53,
+    PIPEEQ = 54,
+    AMPEQ = 55,
+    CARETEQ = 56,
+    SLASHEQ = 57,
+    STAREQ = 58,
+    PERCENTEQ = 59,
+    AMP2 = 60,
+    PIPE2 = 61,
+    SHL = 62,
+    SHR = 63,
+    SHLEQ = 64,
+    SHREQ = 65,
+    AS_KW = 66,
+    ASYNC_KW = 67,
+    AUTO_KW = 68,
+    AWAIT_KW = 69,
+    BECOME_KW = 70,
+    BIKESHED_KW = 71,
+    BREAK_KW = 72,
+    BUILTIN_KW = 73,
+    CONST_KW = 74,
+    CONTINUE_KW = 75,
+    CRATE_KW = 76,
+    DEFAULT_KW = 77,
+    DO_KW = 78,
+    DYN_KW = 79,
+    ELSE_KW = 80,
+    ENUM_KW = 81,
+    EXTERN_KW = 82,
+    FALSE_KW = 83,
+    FN_KW = 84,
+    FOR_KW = 85,
+    GEN_KW = 86,
+    IF_KW = 87,
+    IMPL_KW = 88,
+    IN_KW = 89,
+    LET_KW = 90,
+    LOOP_KW = 91,
+    MACRO_KW = 92,
+    MACRO_RULES_KW = 93,
+    MATCH_KW = 94,
+    MOD_KW = 95,
+    MOVE_KW = 96,
+    MUT_KW = 97,
+    PUB_KW = 98,
+    REF_KW = 99,
+    RETURN_KW = 100,
+    SELF_KW = 101,
+    SELF_TYPE_KW = 102,
+    STATIC_KW = 103,
+    STRUCT_KW = 104,
+    SUPER_KW = 105,
+    TRAIT_KW = 106,
+    TRUE_KW = 107,
+    TRY_KW = 108,
+    TYPE_KW = 109,
+    UNION_KW = 110,
+    UNSAFE_KW = 111,
+    USE_KW = 112,
+    WHERE_KW = 113,
+    WHILE_KW = 114,
+    YEET_KW = 115,
+    YIELD_KW = 116,
+    ARRAY_EXPR = 117,
+    ASM_EXPR = 118,
+    AWAIT_EXPR = 119,
+    BECOME_EXPR = 120,
+    BIN_EXPR = 121,
+    BLOCK_EXPR = 122,
+    BREAK_EXPR = 123,
+    CALL_EXPR = 124,
+    CAST_EXPR = 125,
+    CFG_PRED_EXPR = 126,
+    CLOSURE_EXPR = 127,
+    CONTINUE_EXPR = 128,
+    FIELD_EXPR = 129,
+    FOR_EXPR = 130,
+    FORMAT_ARGS_EXPR = 131,
+    IF_EXPR = 132,
+    INCLUDE_BYTES_EXPR = 133,
+    INDEX_EXPR = 134,
+    LET_EXPR = 135,
+    LITERAL = 136,
+    LOOP_EXPR = 137,
+    MACRO_EXPR = 138,
+    MATCH_EXPR = 139,
+    METHOD_CALL_EXPR = 140,
+    OFFSET_OF_EXPR = 141,
+    PAREN_EXPR = 142,
+    PATH_EXPR = 143,
+    PREFIX_EXPR = 144,
+    RANGE_EXPR = 145,
+    RECORD_EXPR = 146,
+    REF_EXPR = 147,
+    RETURN_EXPR = 148,
+    TRY_EXPR = 149,
+    TUPLE_EXPR = 150,
+    UNDERSCORE_EXPR = 151,
+    WHILE_EXPR = 152,
+    YEET_EXPR = 153,
+    YIELD_EXPR = 154,
+    ARRAY_TYPE = 155,
+    DYN_TRAIT_TYPE = 156,
+    FN_PTR_TYPE = 157,
+    FOR_TYPE = 158,
+    IMPL_TRAIT_TYPE = 159,
+    INFER_TYPE = 160,
+    MACRO_TYPE = 161,
+    NEVER_TYPE = 162,
+    PAREN_TYPE = 163,
+    PATH_TYPE = 164,
+    PTR_TYPE = 165,
+    REF_TYPE = 166,
+    SLICE_TYPE = 167,
+    TUPLE_TYPE = 168,
+    BOX_PAT = 169,
+    CONST_BLOCK_PAT = 170,
+    IDENT_PAT = 171,
+    LITERAL_PAT = 172,
+    MACRO_PAT = 173,
+    OR_PAT = 174,
+    PAREN_PAT = 175,
+    PATH_PAT = 176,
+    RANGE_PAT = 177,
+    RECORD_PAT = 178,
+    REF_PAT = 179,
+    REST_PAT = 180,
+    SLICE_PAT = 181,
+    TUPLE_PAT = 182,
+    TUPLE_STRUCT_PAT = 183,
+    WILDCARD_PAT = 184,
+    CONST = 185,
+    ENUM = 186,
+    EXTERN_BLOCK = 187,
+    EXTERN_CRATE = 188,
+    FN = 189,
+    IMPL = 190,
+    MACRO_CALL = 191,
+    MACRO_DEF = 192,
+    MACRO_RULES = 193,
+    MODULE = 194,
+    STATIC = 195,
+    STRUCT = 196,
+    TRAIT = 197,
+    TYPE_ALIAS = 198,
+    UNION = 199,
+    USE = 200,
+    CFG_ATTR_META = 201,
+    CFG_META = 202,
+    KEY_VALUE_META = 203,
+    PATH_META = 204,
+    TOKEN_TREE_META = 205,
+    UNSAFE_META = 206,
+    LIFETIME_PARAM = 207,
+    TYPE_PARAM = 208,
+    CONST_PARAM = 209,
+    TYPE_ARG = 210,
+    ASSOC_TYPE_ARG = 211,
+    LIFETIME_ARG = 212,
+    CONST_ARG = 213,
+    EXPR_STMT = 214,
+    LET_STMT = 215,
+    SOURCE_FILE = 216,
+    NAME = 217,
+    NAME_REF = 218,
+    LIFETIME = 219,
+    PATH = 220,
+    PATH_SEGMENT = 221,
+    TYPE_ANCHOR = 222,
+    ARG_LIST = 223,
+    PARAM_LIST = 224,
+    PARAM = 225,
+    SELF_PARAM = 226,
+    RET_TYPE = 227,
+    STMT_LIST = 228,
+    LABEL = 229,
+    TRY_BLOCK_MODIFIER = 230,
+    LET_ELSE = 231,
+    MATCH_ARM_LIST = 232,
+    MATCH_ARM = 233,
+    MATCH_GUARD = 234,
+    RECORD_EXPR_FIELD = 235,
+    RECORD_PAT_FIELD = 236,
+    FORMAT_ARGS_ARG = 237,
+    ABI = 238,
+    ATTR = 239,
+    DOC_COMMENT = 240,
+    CFG_ATOM = 241,
+    USE_TREE = 242,
+    USE_TREE_LIST = 243,
+    RECORD_FIELD_LIST = 244,
+    RECORD_FIELD = 245,
+    TUPLE_FIELD_LIST = 246,
+    TUPLE_FIELD = 247,
+    VARIANT = 248,
+    ITEM_LIST = 249,
+    ASSOC_ITEM_LIST = 250,
+    EXTERN_ITEM_LIST = 251,
+    TYPE_BOUND = 252,
+    TYPE_BOUND_LIST = 253,
+    USE_BOUND_GENERIC_ARGS = 254,
+    FOR_BINDER = 255,
+    GENERIC_PARAM_LIST = 256,
+    GENERIC_ARG_LIST = 257,
+    WHERE_CLAUSE = 258,
+    WHERE_PRED = 259,
+    VISIBILITY = 260,
+    VISIBILITY_INNER = 261,
+    TOKEN_TREE = 262,
+    MACRO_STMTS = 263,
+}
+
+kinds! {
+    OTHERS
+    /// A front matter at a file's start, with its fences.
+    FRONTMATTER = 65536,
+    /// The line `#!..` at a file's start.
+    SHEBANG = 65537,
+    /// The word `abstract`.
+    ABSTRACT_KW = 65538,
+    /// The word `box`.
+    BOX_KW = 65539,
+    /// The word `final`.
+    FINAL_KW = 65540,
+    /// The word `override`.
+    OVERRIDE_KW = 65541,
+    /// The word `priv`.
+    PRIV_KW = 65542,
+    /// The word `typeof`.
+    TYPEOF_KW = 65543,
+    /// The word `unsized`.
+    UNSIZED_KW = 65544,
+    /// The word `virtual`.
+    VIRTUAL_KW = 65545,
+    /// The word `asm`.
+    ASM_KW = 65546,
+    /// The word `att_syntax`.
+    ATT_SYNTAX_KW = 65547,
+    /// The word `clobber_abi`.
+    CLOBBER_ABI_KW = 65548,
+    /// The word `format_args`.
+    FORMAT_ARGS_KW = 65549,
+    /// The word `global_asm`.
+    GLOBAL_ASM_KW = 65550,
+    /// The word `inlateout`.
+    INLATEOUT_KW = 65551,
+    /// The word `inout`.
+    INOUT_KW = 65552,
+    /// The word `label`.
+    LABEL_KW = 65553,
+    /// The word `lateout`.
+    LATEOUT_KW = 65554,
+    /// The word `may_unwind`.
+    MAY_UNWIND_KW = 65555,
+    /// The word `naked_asm`.
+    NAKED_ASM_KW = 65556,
+    /// The word `nomem`.
+    NOMEM_KW = 65557,
+    /// The word `noreturn`.
+    NORETURN_KW = 65558,
+    /// The word `nostack`.
+    NOSTACK_KW = 65559,
+    /// The word `offset_of`.
+    OFFSET_OF_KW = 65560,
+    /// The word `options`.
+    OPTIONS_KW = 65561,
+    /// The word `out`.
+    OUT_KW = 65562,
+    /// The word `preserves_flags`.
+    PRESERVES_FLAGS_KW = 65563,
+    /// The word `pure`.
+    PURE_KW = 65564,
+    /// The word `raw`.
+    RAW_KW = 65565,
+    /// The word `readonly`.
+    READONLY_KW = 65566,
+    /// The word `safe`.
+    SAFE_KW = 65567,
+    /// The word `sym`.
+    SYM_KW = 65568,
+    /// The word `cfg`.
+    CFG_KW = 65569,
+    /// The word `cfg_attr`.
+    CFG_ATTR_KW = 65570,
+    /// The node `ASM_CLOBBER_ABI`.
+    ASM_CLOBBER_ABI = 65792,
+    /// The node `ASM_CONST`.
+    ASM_CONST = 65793,
+    /// The node `ASM_DIR_SPEC`.
+    ASM_DIR_SPEC = 65794,
+    /// The node `ASM_LABEL`.
+    ASM_LABEL = 65795,
+    /// The node `ASM_OPERAND_EXPR`.
+    ASM_OPERAND_EXPR = 65796,
+    /// The node `ASM_OPERAND_NAMED`.
+    ASM_OPERAND_NAMED = 65797,
+    /// The node `ASM_OPTION`.
+    ASM_OPTION = 65798,
+    /// The node `ASM_OPTIONS`.
+    ASM_OPTIONS = 65799,
+    /// The node `ASM_REG_OPERAND`.
+    ASM_REG_OPERAND = 65800,
+    /// The node `ASM_REG_SPEC`.
+    ASM_REG_SPEC = 65801,
+    /// The node `ASM_SYM`.
+    ASM_SYM = 65802,
+    /// The node `CFG_COMPOSITE`.
+    CFG_COMPOSITE = 65803,
+    /// The node `FORMAT_ARGS_ARG_NAME`.
+    FORMAT_ARGS_ARG_NAME = 65804,
+    /// The node `MACRO_ITEMS`.
+    MACRO_ITEMS = 65805,
+    /// The node `PARENTHESIZED_ARG_LIST`.
+    PARENTHESIZED_ARG_LIST = 65806,
+    /// The node `RECORD_EXPR_FIELD_LIST`.
+    RECORD_EXPR_FIELD_LIST = 65807,
+    /// The node `RECORD_PAT_FIELD_LIST`.
+    RECORD_PAT_FIELD_LIST = 65808,
+    /// The node `RENAME`.
+    RENAME = 65809,
+    /// The node `RETURN_TYPE_SYNTAX`.
+    RETURN_TYPE_SYNTAX = 65810,
+    /// The node `VARIANT_LIST`.
+    VARIANT_LIST = 65811,
+}
+
+/// The kind of a punctuation or a keyword, by its text: `T![+]` is `SyntaxKind::PLUS`, and `T!['(']` is `SyntaxKind::L_PAREN`.
+#[macro_export]
+macro_rules! T {
+    [;] => { $crate::SyntaxKind::SEMICOLON };
+    [,] => { $crate::SyntaxKind::COMMA };
+    ['('] => { $crate::SyntaxKind::L_PAREN };
+    [')'] => { $crate::SyntaxKind::R_PAREN };
+    ['{'] => { $crate::SyntaxKind::L_CURLY };
+    ['}'] => { $crate::SyntaxKind::R_CURLY };
+    ['['] => { $crate::SyntaxKind::L_BRACK };
+    [']'] => { $crate::SyntaxKind::R_BRACK };
+    [<] => { $crate::SyntaxKind::L_ANGLE };
+    [>] => { $crate::SyntaxKind::R_ANGLE };
+    [@] => { $crate::SyntaxKind::AT };
+    [#] => { $crate::SyntaxKind::POUND };
+    ['$'] => { $crate::SyntaxKind::DOLLAR };
+    [~] => { $crate::SyntaxKind::TILDE };
+    [?] => { $crate::SyntaxKind::QUESTION };
+    [&] => { $crate::SyntaxKind::AMP };
+    [|] => { $crate::SyntaxKind::PIPE };
+    [+] => { $crate::SyntaxKind::PLUS };
+    [*] => { $crate::SyntaxKind::STAR };
+    [/] => { $crate::SyntaxKind::SLASH };
+    [^] => { $crate::SyntaxKind::CARET };
+    [%] => { $crate::SyntaxKind::PERCENT };
+    [_] => { $crate::SyntaxKind::UNDERSCORE };
+    [.] => { $crate::SyntaxKind::DOT };
+    [..] => { $crate::SyntaxKind::DOT2 };
+    [...] => { $crate::SyntaxKind::DOT3 };
+    [..=] => { $crate::SyntaxKind::DOT2EQ };
+    [:] => { $crate::SyntaxKind::COLON };
+    [::] => { $crate::SyntaxKind::COLON2 };
+    [=] => { $crate::SyntaxKind::EQ };
+    [==] => { $crate::SyntaxKind::EQ2 };
+    [=>] => { $crate::SyntaxKind::FAT_ARROW };
+    [!] => { $crate::SyntaxKind::BANG };
+    [!=] => { $crate::SyntaxKind::NEQ };
+    [-] => { $crate::SyntaxKind::MINUS };
+    [->] => { $crate::SyntaxKind::THIN_ARROW };
+    [<=] => { $crate::SyntaxKind::LTEQ };
+    [>=] => { $crate::SyntaxKind::GTEQ };
+    [+=] => { $crate::SyntaxKind::PLUSEQ };
+    [-=] => { $crate::SyntaxKind::MINUSEQ };
+    [|=] => { $crate::SyntaxKind::PIPEEQ };
+    [&=] => { $crate::SyntaxKind::AMPEQ };
+    [^=] => { $crate::SyntaxKind::CARETEQ };
+    [/=] => { $crate::SyntaxKind::SLASHEQ };
+    [*=] => { $crate::SyntaxKind::STAREQ };
+    [%=] => { $crate::SyntaxKind::PERCENTEQ };
+    [&&] => { $crate::SyntaxKind::AMP2 };
+    [||] => { $crate::SyntaxKind::PIPE2 };
+    [<<] => { $crate::SyntaxKind::SHL };
+    [>>] => { $crate::SyntaxKind::SHR };
+    [<<=] => { $crate::SyntaxKind::SHLEQ };
+    [>>=] => { $crate::SyntaxKind::SHREQ };
+    [as] => { $crate::SyntaxKind::AS_KW };
+    [async] => { $crate::SyntaxKind::ASYNC_KW };
+    [auto] => { $crate::SyntaxKind::AUTO_KW };
+    [await] => { $crate::SyntaxKind::AWAIT_KW };
+    [become] => { $crate::SyntaxKind::BECOME_KW };
+    [bikeshed] => { $crate::SyntaxKind::BIKESHED_KW };
+    [break] => { $crate::SyntaxKind::BREAK_KW };
+    [builtin] => { $crate::SyntaxKind::BUILTIN_KW };
+    [const] => { $crate::SyntaxKind::CONST_KW };
+    [continue] => { $crate::SyntaxKind::CONTINUE_KW };
+    [crate] => { $crate::SyntaxKind::CRATE_KW };
+    [default] => { $crate::SyntaxKind::DEFAULT_KW };
+    [do] => { $crate::SyntaxKind::DO_KW };
+    [dyn] => { $crate::SyntaxKind::DYN_KW };
+    [else] => { $crate::SyntaxKind::ELSE_KW };
+    [enum] => { $crate::SyntaxKind::ENUM_KW };
+    [extern] => { $crate::SyntaxKind::EXTERN_KW };
+    [false] => { $crate::SyntaxKind::FALSE_KW };
+    [fn] => { $crate::SyntaxKind::FN_KW };
+    [for] => { $crate::SyntaxKind::FOR_KW };
+    [gen] => { $crate::SyntaxKind::GEN_KW };
+    [if] => { $crate::SyntaxKind::IF_KW };
+    [impl] => { $crate::SyntaxKind::IMPL_KW };
+    [in] => { $crate::SyntaxKind::IN_KW };
+    [let] => { $crate::SyntaxKind::LET_KW };
+    [loop] => { $crate::SyntaxKind::LOOP_KW };
+    [macro] => { $crate::SyntaxKind::MACRO_KW };
+    [macro_rules] => { $crate::SyntaxKind::MACRO_RULES_KW };
+    [match] => { $crate::SyntaxKind::MATCH_KW };
+    [mod] => { $crate::SyntaxKind::MOD_KW };
+    [move] => { $crate::SyntaxKind::MOVE_KW };
+    [mut] => { $crate::SyntaxKind::MUT_KW };
+    [pub] => { $crate::SyntaxKind::PUB_KW };
+    [ref] => { $crate::SyntaxKind::REF_KW };
+    [return] => { $crate::SyntaxKind::RETURN_KW };
+    [self] => { $crate::SyntaxKind::SELF_KW };
+    [Self] => { $crate::SyntaxKind::SELF_TYPE_KW };
+    [static] => { $crate::SyntaxKind::STATIC_KW };
+    [struct] => { $crate::SyntaxKind::STRUCT_KW };
+    [super] => { $crate::SyntaxKind::SUPER_KW };
+    [trait] => { $crate::SyntaxKind::TRAIT_KW };
+    [true] => { $crate::SyntaxKind::TRUE_KW };
+    [try] => { $crate::SyntaxKind::TRY_KW };
+    [type] => { $crate::SyntaxKind::TYPE_KW };
+    [union] => { $crate::SyntaxKind::UNION_KW };
+    [unsafe] => { $crate::SyntaxKind::UNSAFE_KW };
+    [use] => { $crate::SyntaxKind::USE_KW };
+    [where] => { $crate::SyntaxKind::WHERE_KW };
+    [while] => { $crate::SyntaxKind::WHILE_KW };
+    [yeet] => { $crate::SyntaxKind::YEET_KW };
+    [yield] => { $crate::SyntaxKind::YIELD_KW };
+}

@@ -1,0 +1,168 @@
+//! Trees of texts: what a tree owes whatever the text is, and dumps that were read.
+use ras::ast::{self, AstNode, HasName};
+use ras::{Direction, Edition, NodeOrToken, SyntaxKind, T, TextRange, TokenAtOffset, Tree};
+
+const TEXTS: [&str; 8] = [
+    "",
+    "fn main() {}\n",
+    "struct S { a: u8, b: [u8; 3] }\nimpl S { fn f(&self) -> u8 { self.a + 1 } }\n",
+    "fn broken( { let = ; } }} 'a \"",
+    "match x { _ if (a) => (b) + c, }",
+    "// a comment\n\n/* and /* another */ */ mod m { use a::{b, c as d}; }",
+    "fn ü() { \"ä\\q\"; 1.5e3; 'x' }",
+    "macro_rules! m { ($($x:expr),*) => { [$($x),*] } }",
+];
+
+fn tree(text: &str) -> Tree {
+    Tree::parse(text, Edition::CURRENT).expect("a short text has a tree")
+}
+
+#[test]
+fn each_byte_stands_in_one_token() {
+    for text in TEXTS {
+        let tree = tree(text);
+        let joined: String = tree.root().tokens().map(|it| it.text()).collect();
+        assert_eq!(joined, text);
+        assert_eq!(tree.root().text(), text);
+        assert_eq!(tree.root().kind(), SyntaxKind::SOURCE_FILE);
+    }
+}
+
+#[test]
+fn steps_lead_there_and_back() {
+    for text in TEXTS {
+        let tree = tree(text);
+        for node in tree.root().descendants() {
+            let children: Vec<_> = node.children_with_tokens().collect();
+            assert_eq!(node.first_child_or_token(), children.first().copied());
+            assert_eq!(node.last_child_or_token(), children.last().copied());
+            for pair in children.windows(2) {
+                assert_eq!(pair[0].next_sibling_or_token(), Some(pair[1]));
+                assert_eq!(pair[1].prev_sibling_or_token(), Some(pair[0]));
+                assert_eq!(pair[0].text_range().end(), pair[1].text_range().start());
+            }
+            for child in &children {
+                assert_eq!(child.parent(), Some(node));
+                assert!(node.text_range().contains_range(child.text_range()));
+            }
+            let below = 1 + children.iter().map(|it| it.as_node().map_or(1, |it| it.descendants_with_tokens().len())).sum::<usize>();
+            assert_eq!(node.descendants_with_tokens().len(), below);
+            assert_eq!(node.ancestors().last(), Some(tree.root()));
+        }
+        assert_eq!(tree.root().parent(), None);
+        assert_eq!(tree.root().next_sibling_or_token(), None);
+    }
+}
+
+#[test]
+fn tokens_follow_one_another() {
+    for text in TEXTS {
+        let tree = tree(text);
+        let tokens: Vec<_> = tree.root().tokens().collect();
+        assert_eq!(tree.root().first_token(), tokens.first().copied());
+        assert_eq!(tree.root().last_token(), tokens.last().copied());
+        for pair in tokens.windows(2) {
+            assert_eq!(pair[0].next_token(), Some(pair[1]));
+            assert_eq!(pair[1].prev_token(), Some(pair[0]));
+        }
+    }
+}
+
+#[test]
+fn offsets_find_the_tokens_that_touch_them() {
+    for text in TEXTS {
+        let tree = tree(text);
+        for offset in 0..=text.len() as u32 + 1 {
+            let touching: Vec<_> = tree
+                .root()
+                .tokens()
+                .filter(|it| !it.text_range().is_empty() && it.text_range().contains_inclusive(offset.into()))
+                .collect();
+            let found: Vec<_> = tree.token_at_offset(offset.into()).collect();
+            let wanted = if offset as usize > text.len() { vec![] } else { touching };
+            assert_eq!(found, wanted, "{text:?} at {offset}");
+        }
+    }
+    let tree = tree("a+b");
+    assert!(matches!(tree.token_at_offset(1.into()), TokenAtOffset::Between(..)));
+}
+
+#[test]
+fn a_dump_is_read() {
+    let tree = tree("fn foo() { 1 + }\n");
+    let wanted = "SOURCE_FILE@0..17\n  FN@0..16\n    FN_KW@0..2 \"fn\"\n    WHITESPACE@2..3 \" \"\n    NAME@3..6\n      IDENT@3..6 \"foo\"\n    PARAM_LIST@6..8\n      L_PAREN@6..7 \"(\"\n      R_PAREN@7..8 \")\"\n    WHITESPACE@8..9 \" \"\n    BLOCK_EXPR@9..16\n      STMT_LIST@9..16\n        L_CURLY@9..10 \"{\"\n        WHITESPACE@10..11 \" \"\n        BIN_EXPR@11..14\n          LITERAL@11..12\n            INT_NUMBER@11..12 \"1\"\n          WHITESPACE@12..13 \" \"\n          PLUS@13..14 \"+\"\n        WHITESPACE@14..15 \" \"\n        R_CURLY@15..16 \"}\"\n  WHITESPACE@16..17 \"\\n\"\n";
+    assert_eq!(format!("{tree:?}"), wanted);
+    let told: Vec<_> = tree.errors().iter().map(|it| format!("{}: {it}", it.range())).collect();
+    assert_eq!(told, ["14..14: expected expression"]);
+    assert!(!tree.errors()[0].is_violation());
+}
+
+#[test]
+fn violations_come_last() {
+    let tree = tree("fn f() { \"\\q\"; 1 + }");
+    let flags: Vec<_> = tree.errors().iter().map(|it| it.is_violation()).collect();
+    assert!(flags.is_sorted(), "{:?}", tree.errors());
+}
+
+#[test]
+fn editions_have_their_words() {
+    let kind = |edition| {
+        let tree = Tree::parse("fn f() { async }", edition).unwrap();
+        tree.root().tokens().find(|it| it.text() == "async").unwrap().kind()
+    };
+    assert_eq!(kind(Edition::Edition2015), SyntaxKind::IDENT);
+    assert_eq!(kind(Edition::Edition2021), T![async]);
+}
+
+#[test]
+fn kinds_have_names() {
+    for kind in [SyntaxKind::FN, SyntaxKind::WHITESPACE, SyntaxKind::VARIANT_LIST, T![=>], T!['(']] {
+        assert_eq!(SyntaxKind::from_name(kind.name().unwrap()), Some(kind));
+    }
+    assert_eq!(SyntaxKind::from_number(300).name(), None);
+    assert_eq!(SyntaxKind::from_name("NO_SUCH_KIND"), None);
+}
+
+#[test]
+fn needless_pairs_are_found() {
+    let tree = tree("fn f() { (a * b) + c; (a + b) * c; g((x)) }");
+    let found: Vec<_> = tree.needless_parens().unwrap().iter().map(|it| it.text()).collect();
+    assert_eq!(found, ["(a * b)", "(x)"]);
+}
+
+#[test]
+fn a_covering_element_is_the_smallest() {
+    let tree = tree("fn f() { a + b }");
+    let at = |start: u32, end: u32| tree.root().covering_element(TextRange::new(start.into(), end.into()));
+    assert_eq!(at(9, 14).kind(), SyntaxKind::BIN_EXPR);
+    assert_eq!(at(9, 10).text(), "a");
+    assert!(matches!(at(9, 10), NodeOrToken::Token(_)));
+}
+
+#[test]
+fn views_have_their_parts() {
+    let tree = tree("impl S { fn f(&self) { g(1, 2) } }");
+    let function = tree.root().descendants().find_map(ast::Fn::cast).unwrap();
+    assert_eq!(function.name().unwrap().to_string(), "f");
+    let body = function.body().and_then(|it| it.stmt_list()).and_then(|it| it.tail_expr());
+    let Some(ast::Expr::CallExpr(call)) = body else { panic!("the body ends in a call") };
+    assert_eq!(ast::HasArgList::arg_list(&call).unwrap().args().count(), 2);
+    let siblings = function.syntax().siblings_with_tokens(Direction::Prev).count();
+    assert_eq!(siblings, 3);
+}
+
+#[test]
+fn trees_go_between_threads() {
+    let tree = tree(TEXTS[2]);
+    let count = std::thread::scope(|scope| scope.spawn(|| tree.root().descendants().count()).join().unwrap());
+    assert_eq!(count, std::thread::spawn(move || tree.root().descendants().count()).join().unwrap());
+}
+
+#[test]
+fn long_texts_have_room() {
+    let text = "fn f() { (((((((((1))))))))) }\n".repeat(2000) + &"\"\\q\"; ".repeat(3000);
+    let tree = tree(&text);
+    assert_eq!(tree.root().text().len(), text.len());
+    assert!(tree.errors().len() >= 3000);
+    assert!(tree.errors().iter().all(|it| !it.message().is_empty()));
+}

@@ -1,0 +1,4 @@
+pub mod Border
+pub mod Read
+pub mod Tokens
+pub mod Parens

@@ -1,0 +1,81 @@
+//! Names of kinds.
+ghost use Rattle.std.specs.Prelude.{◌≡◌, ◌<◌, ◌≤◌, ◌⊎◌, length, true, IfSome};
+ghost use Rattle.syntax_kind.specs.declared.syntax_kind.SyntaxKind.{SyntaxKind};
+ghost use Rattle.syntax_kind.specs.Kinds.{IsKind, kind_raw};
+ghost use Rattle.rust_kinds.specs.Names.{rust_name};
+ghost use Rattle.ras_c.specs.Border.{over};
+
+use crate::fill::fill;
+use rust_kinds::name_of;
+use syntax_kind::SyntaxKind;
+
+/// What no kind has as its number.
+pub const NO_KIND: u32 = 4_294_967_295;
+
+// Behind the largest number n of a kind `OTHER(n)` with a name.
+const OTHERS: u16 = 276;
+
+/// Writes the name of the kind with this number, as `FN`, to the front of `name`, and answers how many bytes it has: 0 where no kind
+/// has the number, or the kind has no name. Where `name` has fewer, it stays as it was. 64 bytes are enough for each.
+#[unsafe(no_mangle)]
+pub extern "C" fn ras_c_kind_name(kind: u32, name: &mut [u8]) -> usize
+    ensures count { (k : SyntaxKind) → IsKind k → kind_raw k ≡ kind → result ≡ length (rust_name k) }
+    ensures written { (k : SyntaxKind) → IsKind k → kind_raw k ≡ kind → length (rust_name k) ≤ length name.old → name.new ≡ over (rust_name k) name.old }
+    ensures kept { length name.old < result → name.new ≡ name.old }
+    ensures unknown { ((k : SyntaxKind) → IsKind k → kind_raw k ≡ kind → ⊥) → (result ≡ 0) × (name.new ≡ name.old) }
+{
+    match SyntaxKind::from_raw(kind) {
+        None => 0,
+        Some(kind) => match name_of(kind) {
+            None => 0,
+            Some(known) => {
+                if known.len() <= name.len() {
+                    fill(known.as_bytes(), name);
+                }
+                known.len()
+            }
+        },
+    }
+}
+
+fn is_named(kind: SyntaxKind, name: &str) -> bool
+    ensures { result ≡ true → rust_name kind ≡ name.now }
+{
+    match name_of(kind) {
+        None => false,
+        Some(known) => known == name,
+    }
+}
+
+fn kind_by_name(name: &str) -> Option<SyntaxKind>
+    ensures kind { IfSome result IsKind }
+    ensures named { IfSome result (λ k. rust_name k ≡ name.now) }
+{
+    match SyntaxKind::from_name(name) {
+        Some(SyntaxKind::OTHER(_)) => None,
+        Some(kind) => Some(kind),
+        None => {
+            for number in 0..OTHERS {
+                let kind = SyntaxKind::OTHER(number);
+                if is_named(kind, name) {
+                    return Some(kind);
+                }
+            }
+            None
+        }
+    }
+}
+
+/// The number of the kind with this name, as `FN`; [`NO_KIND`] where none has it.
+#[unsafe(no_mangle)]
+pub extern "C" fn ras_c_kind_of_name(name: &[u8]) -> u32
+    ensures named { (result ≡ 4294967295) ⊎ ((k : SyntaxKind) × IsKind k × (kind_raw k ≡ result) × (rust_name k ≡ name.now)) }
+{
+    let Ok(name) = str::from_utf8(name) else {
+        return NO_KIND;
+    };
+    match kind_by_name(name) {
+        Some(kind) => kind.to_raw(),
+        None => NO_KIND,
+    }
+}

@@ -1,0 +1,149 @@
+//! Parentheses of the expressions of a text.
+ghost use Rattle.std.specs.Prelude.{◌≡◌, ◌≤◌, ◌⊎◌, ◌↔◌, map, IfOk, IfErr, IsUtf8, None};
+ghost use Rattle.std.specs.List.{filter};
+ghost use Rattle.ras_front_end.specs.Parsed.{Parsed};
+ghost use Rattle.operator_pairs.specs.Pairs.{is_needless, nodes_below};
+ghost use Rattle.ras_c.specs.Border.{edition_of, IsHanded, IsCounted};
+ghost use Rattle.ras_c.specs.Read.{IsReading};
+ghost use Rattle.ras_c.specs.Parens.{range_at, needless_of};
+
+use crate::fill::hand;
+use crate::status::{NO_EDITION, NO_MEMORY, NO_PLACE, NOT_UTF8, OK, TOO_LONG, edition_of};
+use lossless_tree::{SyntaxNode, TextRange, TextSize};
+use operator_pairs::needless::{is_needless, reads_back};
+use ras_front_end::{Entry, ParseError};
+use ras_parsing::{Parse, read};
+use rust_front::Rust;
+use std::alloc::{AllocError, Global};
+
+/// A range of the text, in bytes.
+#[repr(C)]
+#[derive(Clone, Copy)]
+pub struct Range {
+    /// Where it starts.
+    pub start: u32,
+    /// Where it ends.
+    pub end: u32,
+}
+
+fn range_of(node: &SyntaxNode) -> Range
+    ensures { result ≡ range_at node.now }
+{
+    let range = node.text_range();
+    Range {
+        start: range.start().raw(),
+        end: range.end().raw(),
+    }
+}
+
+fn needless_below(alloc: Global, root: &SyntaxNode) -> Result<Vec<Range>, AllocError>
+    ensures { IfOk result (λ found. found.items ≡ map range_at (filter is_needless (nodes_below root.now))) }
+{
+    let mut found = Vec::new(alloc);
+    let mut nodes = root.descendants();
+    nodes.next();
+    for node in nodes {
+        if is_needless(&node) {
+            found.push(range_of(&node))?;
+        }
+    }
+    Ok(found)
+}
+
+// The parse of a text, or the status that says why there is none.
+fn parsed(alloc: Global, text: &[u8], edition: u32) -> Result<Parse, u32>
+    ensures read { IfOk result (λ p. IsReading edition text.now p) }
+    ensures known { IfOk result (λ _. edition_of edition ≡ None → ⊥) }
+    ensures utf8 { IfErr result (λ s. s ≡ 1 → IsUtf8 text.now → ⊥) }
+    ensures edition { IfErr result (λ s. (s ≡ 5) ↔ (edition_of edition ≡ None)) }
+    ensures which { IfErr result (λ s. (s ≡ 1) ⊎ (s ≡ 2) ⊎ (s ≡ 3) ⊎ (s ≡ 5)) }
+{
+    let Some(edition) = edition_of(edition) else {
+        return Err(NO_EDITION);
+    };
+    let Ok(text) = str::from_utf8(text) else {
+        return Err(NOT_UTF8);
+    };
+    match read(alloc, &Rust, Entry::SourceFile, text, edition) {
+        Ok(parse) => Ok(parse),
+        Err(ParseError::TooLong) => Err(TOO_LONG),
+        Err(ParseError::Memory) => Err(NO_MEMORY),
+    }
+}
+
+/// Finds the needless pairs of parentheses of a text, of the edition of a year: the pairs whose inside needs none in their place, in
+/// preorder of the tree. [`OK`], [`NOT_UTF8`], [`TOO_LONG`], [`NO_MEMORY`], [`NO_ROOM`] or [`NO_EDITION`].
+///
+/// A range is that of a `PAREN_EXPR`, with both parentheses. That several pairs may go at once is not said.
+#[unsafe(no_mangle)]
+pub extern "C" fn ras_c_parens(
+    alloc: Global,
+    text: &[u8],
+    edition: u32,
+    pairs: &mut [Range],
+    count: &mut u32,
+) -> u32
+    ensures done { result ≡ 0 → (p : Parsed) × IsReading edition text.now p × IsHanded (needless_of p) pairs.old pairs.new count.new }
+    ensures room { result ≡ 4 → (p : Parsed) × IsReading edition text.now p × IsCounted (needless_of p) pairs.old pairs.new count.new }
+    ensures kept { (result ≡ 0 → ⊥) → (result ≡ 4 → ⊥) → (pairs.new ≡ pairs.old) × (count.new ≡ count.old) }
+    ensures utf8 { result ≡ 1 → IsUtf8 text.now → ⊥ }
+    ensures edition { (result ≡ 5) ↔ (edition_of edition ≡ None) }
+    ensures which { result ≤ 5 }
+{
+    let parse = match parsed(alloc, text, edition) {
+        Ok(parse) => parse,
+        Err(status) => return status,
+    };
+    match needless_below(alloc, parse.root()) {
+        Ok(found) => hand(&found, pairs, count),
+        Err(_) => NO_MEMORY,
+    }
+}
+
+// Whether the innermost operator tree at a range reads back.
+fn reads_back_at(root: &SyntaxNode, range: TextRange) -> Option<bool> {
+    let place = root.covering_element(range);
+    for node in place.ancestors() {
+        if node.text_range() != range {
+            return None;
+        }
+        if let Some(answer) = reads_back(&node) {
+            return Some(answer);
+        }
+    }
+    None
+}
+
+/// Whether the operator tree with exactly this range of a text, of the edition of a year, is the one reading of its tokens: `answer`
+/// is 1 if so and else 0. [`OK`], [`NOT_UTF8`], [`TOO_LONG`], [`NO_MEMORY`], [`NO_EDITION`], or [`NO_PLACE`] where no operator tree
+/// has the range. Of several the innermost is asked.
+#[unsafe(no_mangle)]
+pub extern "C" fn ras_c_reads_back(
+    alloc: Global,
+    text: &[u8],
+    edition: u32,
+    start: u32,
+    end: u32,
+    answer: &mut u32,
+) -> u32
+    ensures answers { result ≡ 0 → answer.new ≤ 1 }
+    ensures kept { (result ≡ 0 → ⊥) → answer.new ≡ answer.old }
+    ensures utf8 { result ≡ 1 → IsUtf8 text.now → ⊥ }
+    ensures which { (result ≤ 3) ⊎ (5 ≤ result) × (result ≤ 6) }
+{
+    if start > end {
+        return NO_PLACE;
+    }
+    let parse = match parsed(alloc, text, edition) {
+        Ok(parse) => parse,
+        Err(status) => return status,
+    };
+    let range = TextRange::new(TextSize::new(start), TextSize::new(end));
+    match reads_back_at(parse.root(), range) {
+        Some(reads) => {
+            *answer = if reads { 1 } else { 0 };
+            OK
+        }
+        None => NO_PLACE,
+    }
+}

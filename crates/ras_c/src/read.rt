@@ -1,0 +1,184 @@
+//! A text to rows and errors.
+ghost use Rattle.std.specs.Prelude.{◌≡◌, ◌↔◌, ◌≤◌, ◌<◌, ◌^◌, ◌⊎◌, length, map, IfOk, IfSome, IsUtf8, None, string_bytes};
+ghost use Rattle.ras_front_end.specs.Parsed.{Parsed};
+ghost use Rattle.tree_model.specs.Tree.{size};
+ghost use Rattle.tree_rows.specs.Flat.{flat_rows};
+ghost use Rattle.ras_c.specs.Border.{edition_of, over};
+ghost use Rattle.ras_c.specs.Read.{error_row, messages_of, told, counted, HasRoom, IsSmall, IsReading, buffers};
+
+use crate::fill::{fill, small};
+use crate::status::{NO_EDITION, NO_MEMORY, NO_ROOM, NOT_UTF8, OK, TOO_LONG, edition_of};
+use lossless_tree::{FlatRow, SyntaxNode};
+use ras_front_end::{Entry, ParseError, SyntaxError};
+use ras_parsing::read;
+use ras_typed_parse::Parse;
+use rust_front::Rust;
+use std::alloc::{AllocError, Global};
+
+/// One error: its range in the text, in bytes, and the length of its message.
+#[repr(C)]
+#[derive(Clone, Copy)]
+pub struct ErrorRow {
+    /// The byte where its range starts.
+    pub start: u32,
+    /// The byte where its range ends.
+    pub end: u32,
+    /// How many bytes its message has; the messages stand one behind the other.
+    pub message: u32,
+}
+
+/// How much there is to tell of a text.
+#[repr(C)]
+#[derive(Clone, Copy)]
+pub struct Counts {
+    /// The nodes and tokens of its tree.
+    pub rows: u32,
+    /// Its errors: those of the parser, then those of the lexer, then the violations of rules beyond the grammar.
+    pub errors: u32,
+    /// How many of the errors, the last ones, are such violations.
+    pub violations: u32,
+    /// The bytes of all messages.
+    pub messages: u32,
+}
+
+// One error as a row. A message has fewer than 2^32 bytes where all together have.
+fn error_row(error: &SyntaxError) -> ErrorRow
+    requires { length error.now.message < 2 ^ 32 }
+    ensures { result ≡ error_row error.now }
+{
+    let range = error.range();
+    let message = error.message().len() as u32;
+    ErrorRow {
+        start: range.start().raw(),
+        end: range.end().raw(),
+        message,
+    }
+}
+
+fn error_rows(alloc: Global, errors: &[SyntaxError]) -> Result<Vec<ErrorRow>, AllocError>
+    requires { length (messages_of errors.now) < 2 ^ 32 }
+    ensures { IfOk result (λ v. v.items ≡ map error_row errors.now) }
+{
+    let mut rows = Vec::new(alloc);
+    for error in errors {
+        rows.push(error_row(error))?;
+    }
+    Ok(rows)
+}
+
+fn joined(alloc: Global, errors: &[SyntaxError]) -> Result<String, AllocError>
+    ensures { IfOk result (λ s. string_bytes s ≡ messages_of errors.now) }
+{
+    let mut messages = String::new(alloc);
+    for error in errors {
+        messages.push_str(error.message())?;
+    }
+    Ok(messages)
+}
+
+fn counts_of(rows: usize, errors: usize, violations: usize, messages: usize) -> Option<Counts>
+    ensures some { IfSome result (λ c. c ≡ record { rows = rows; errors = errors; violations = violations; messages = messages }) }
+    ensures fits { IfSome result (λ _. (rows < 2 ^ 32) × (errors < 2 ^ 32) × (messages < 2 ^ 32)) }
+    ensures none { result ≡ None → rows < 2 ^ 32 → errors < 2 ^ 32 → violations < 2 ^ 32 → messages < 2 ^ 32 → ⊥ }
+{
+    Some(Counts {
+        rows: small(rows)?,
+        errors: small(errors)?,
+        violations: small(violations)?,
+        messages: small(messages)?,
+    })
+}
+
+// Writes the rows of a parse's tree to the front of `rows`, where there is room, and counts them.
+fn write_rows(parse: &Parse<SyntaxNode>, rows: &mut [FlatRow]) -> usize
+    ensures count { result ≡ size parse.now.tree }
+    ensures written { size parse.now.tree ≤ length rows.old → size parse.now.tree < 2 ^ 32 → rows.new ≡ over (flat_rows parse.now.tree) rows.old }
+    ensures unchanged { (length rows.old < size parse.now.tree) ⊎ (2 ^ 32 ≤ size parse.now.tree) → rows.new ≡ rows.old }
+{
+    parse.parsed().root().write_flat_rows(rows)
+}
+
+fn stored_count(parse: &Parse<SyntaxNode>) -> usize
+    ensures { result ≡ length parse.now.errors }
+{
+    parse.parsed().stored().len()
+}
+
+/// Tells a parse: its rows, its errors and their messages, and how much all of that is.
+pub(crate) fn tell(
+    alloc: Global,
+    parse: &Parse<SyntaxNode>,
+    rows: &mut [FlatRow],
+    errors: &mut [ErrorRow],
+    messages: &mut [u8],
+    counts: &mut Counts,
+) -> u32
+    ensures done { result ≡ 0 → HasRoom parse.now (buffers rows.old errors.old messages.old counts.old)
+        × (buffers rows.new errors.new messages.new counts.new ≡ told parse.now (buffers rows.old errors.old messages.old counts.old)) }
+    ensures room { result ≡ 4 → (HasRoom parse.now (buffers rows.old errors.old messages.old counts.old) → ⊥)
+        × (buffers rows.new errors.new messages.new counts.new ≡ counted parse.now (buffers rows.old errors.old messages.old counts.old)) }
+    ensures small { (result ≡ 0) ⊎ (result ≡ 4) → IsSmall parse.now }
+    ensures long { result ≡ 2 → IsSmall parse.now → ⊥ }
+    ensures kept { (result ≡ 0 → ⊥) → (result ≡ 4 → ⊥) → buffers rows.new errors.new messages.new counts.new ≡ buffers rows.old errors.old messages.old counts.old }
+    ensures which { (result ≡ 0) ⊎ (2 ≤ result) × (result ≤ 4) }
+{
+    let row_count = write_rows(parse, &mut []);
+    let Ok(found) = parse.errors(alloc) else {
+        return NO_MEMORY;
+    };
+    let Ok(texts) = joined(alloc, &found) else {
+        return NO_MEMORY;
+    };
+    let violations = found.len() - stored_count(parse);
+    let Some(needed) = counts_of(row_count, found.len(), violations, texts.len()) else {
+        return TOO_LONG;
+    };
+    let Ok(lines) = error_rows(alloc, &found) else {
+        return NO_MEMORY;
+    };
+    *counts = needed;
+    if rows.len() < row_count || errors.len() < found.len() || messages.len() < texts.len() {
+        return NO_ROOM;
+    }
+    write_rows(parse, rows);
+    fill(&lines, errors);
+    fill(texts.as_bytes(), messages);
+    OK
+}
+
+/// Reads a text, of the edition of a year, as a Rust file: its tree as rows in preorder, its errors, and their messages one behind
+/// the other, each at the front of its buffer. [`OK`], [`NOT_UTF8`], [`TOO_LONG`], [`NO_MEMORY`], [`NO_ROOM`] or [`NO_EDITION`].
+///
+/// Whatever the text is, there is a tree. A text of n bytes seldom has more than 2 n rows.
+#[unsafe(no_mangle)]
+pub extern "C" fn ras_c_read(
+    alloc: Global,
+    text: &[u8],
+    edition: u32,
+    rows: &mut [FlatRow],
+    errors: &mut [ErrorRow],
+    messages: &mut [u8],
+    counts: &mut Counts,
+) -> u32
+    ensures done { result ≡ 0 → (p : Parsed) × IsReading edition text.now p × IsSmall p × HasRoom p (buffers rows.old errors.old messages.old counts.old)
+        × (buffers rows.new errors.new messages.new counts.new ≡ told p (buffers rows.old errors.old messages.old counts.old)) }
+    ensures room { result ≡ 4 → (p : Parsed) × IsReading edition text.now p × IsSmall p × (HasRoom p (buffers rows.old errors.old messages.old counts.old) → ⊥)
+        × (buffers rows.new errors.new messages.new counts.new ≡ counted p (buffers rows.old errors.old messages.old counts.old)) }
+    ensures kept { (result ≡ 0 → ⊥) → (result ≡ 4 → ⊥) → buffers rows.new errors.new messages.new counts.new ≡ buffers rows.old errors.old messages.old counts.old }
+    ensures utf8 { result ≡ 1 → IsUtf8 text.now → ⊥ }
+    ensures long { result ≡ 2 → (2 ^ 32 ≤ length text.now) ⊎ ((p : Parsed) × IsReading edition text.now p × (IsSmall p → ⊥)) }
+    ensures edition { (result ≡ 5) ↔ (edition_of edition ≡ None) }
+    ensures which { result ≤ 5 }
+{
+    let Some(edition) = edition_of(edition) else {
+        return NO_EDITION;
+    };
+    let Ok(text) = str::from_utf8(text) else {
+        return NOT_UTF8;
+    };
+    match read(alloc, &Rust, Entry::SourceFile, text, edition) {
+        Ok(parse) => tell(alloc, &Parse::of(parse), rows, errors, messages, counts),
+        Err(ParseError::TooLong) => TOO_LONG,
+        Err(ParseError::Memory) => NO_MEMORY,
+    }
+}
