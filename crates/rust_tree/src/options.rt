@@ -197,7 +197,7 @@ fn query<'a>(alloc: Global) -> Result<Command<'a>, AllocError> {
 pub fn command<'a>(alloc: Global) -> Result<Command<'a>, AllocError> {
     Command::new(alloc, "rust_tree")
         .about("Reads Rust without losing a byte")
-        .version("0.1.0, proved with rattle-kit-13f")
+        .version("0.1.0 (rattle-kit-13f)")
         .subcommand_required(true)
         .subcommand(tree(alloc)?)?
         .subcommand(check(alloc)?)?
