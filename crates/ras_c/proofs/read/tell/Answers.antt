@@ -43,7 +43,7 @@ returns-clause-done c = λ _.
         errors_fit = omega (arith, c.if-errors-len.false, c.len-else-rows-row_count.ensures, count);
         messages_fit = omega (arith, c.if-messages-len.false, c.len-else-errors-len.ensures, ap length texts);
       } in h),
-      same_buffers c.write_rows.new.out _ c.fill.new.out _ c.fill-2.new.out _ c.in-Some.needed (needed p)
+      same_buffers c.write_rows.new.rows _ c.fill.new.out _ c.fill-2.new.out _ c.in-Some.needed (needed p)
           (c.write_rows.ensures.written room (omega (arith, c.in-Some.ensures.fits.0, rows)))
           (c.fill.ensures ∙ over_by c.deref-3.result.now (map error_row (all_errors p)) c.args.errors.now (c.deref-3.ensures.value ∙ c.in-Ok-error_rows.ensures ∙ ap (map error_row) (c.deref-2.ensures.value ∙ c.in-Ok.ensures)))
           (c.fill-2.ensures ∙ over_by c.as_bytes.result.now (messages_of (all_errors p)) c.args.messages.now (c.as_bytes.ensures.value ∙ texts))
