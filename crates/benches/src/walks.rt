@@ -26,7 +26,7 @@ const RUNS: u32 = 5;
 
 fn asked(node: &SyntaxNode) -> Result<bool, Stopped> {
     let parent = node.parent().ok_or(Stopped::NoExpression)?;
-    let expr = ast::Expr::cast(node.clone()).ok_or(Stopped::NoExpression)?;
+    let expr = ast::Expr::cast(node.clone()?).ok_or(Stopped::NoExpression)?;
     Ok(expr.needs_parens_in(&parent))
 }
 
