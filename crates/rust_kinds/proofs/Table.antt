@@ -1,8 +1,9 @@
 -- Each row of the table is found by its name. Written by tests/rust_kinds from kinds.txt.
-use Rattle.std.specs.Prelude.{◌≡◌, ℕ, List, [], codes, Some}
+use Rattle.std.specs.Prelude.{◌≡◌, ℕ, List, [], codes, Some, IsUtf8}
 use Rattle.std.proofs.Common.{refl}
+use Rattle.std.proofs.lemmas.Str.{IsUtf8-nil}
 use Rattle.rust_kinds.specs.Names.{name_in_table, number_in_table}
-use Rattle.rust_kinds.proofs.Rows.{by_number}
+use Rattle.rust_kinds.proofs.Rows.{by_number, plain-IsUtf8}
 
 -- what is true of each row, and of a number that has none, is true of each number
 pub each_number : (P : ℕ → List ℕ → Type 0) →
@@ -179,3 +180,63 @@ number_found = each_number (λ n name. (name ≡ [] → ⊥) → number_in_table
     (λ _. refl)
     (λ _. refl)
     (λ _ some. absurd (some refl))
+
+-- and has a name that is UTF-8
+pub number_IsUtf8 : (n : ℕ) → IsUtf8 (name_in_table n)
+number_IsUtf8 = each_number (λ _ name. IsUtf8 name)
+    (plain-IsUtf8 _ refl)
+    (plain-IsUtf8 _ refl)
+    (plain-IsUtf8 _ refl)
+    (plain-IsUtf8 _ refl)
+    (plain-IsUtf8 _ refl)
+    (plain-IsUtf8 _ refl)
+    (plain-IsUtf8 _ refl)
+    (plain-IsUtf8 _ refl)
+    (plain-IsUtf8 _ refl)
+    (plain-IsUtf8 _ refl)
+    (plain-IsUtf8 _ refl)
+    (plain-IsUtf8 _ refl)
+    (plain-IsUtf8 _ refl)
+    (plain-IsUtf8 _ refl)
+    (plain-IsUtf8 _ refl)
+    (plain-IsUtf8 _ refl)
+    (plain-IsUtf8 _ refl)
+    (plain-IsUtf8 _ refl)
+    (plain-IsUtf8 _ refl)
+    (plain-IsUtf8 _ refl)
+    (plain-IsUtf8 _ refl)
+    (plain-IsUtf8 _ refl)
+    (plain-IsUtf8 _ refl)
+    (plain-IsUtf8 _ refl)
+    (plain-IsUtf8 _ refl)
+    (plain-IsUtf8 _ refl)
+    (plain-IsUtf8 _ refl)
+    (plain-IsUtf8 _ refl)
+    (plain-IsUtf8 _ refl)
+    (plain-IsUtf8 _ refl)
+    (plain-IsUtf8 _ refl)
+    (plain-IsUtf8 _ refl)
+    (plain-IsUtf8 _ refl)
+    (plain-IsUtf8 _ refl)
+    (plain-IsUtf8 _ refl)
+    (plain-IsUtf8 _ refl)
+    (plain-IsUtf8 _ refl)
+    (plain-IsUtf8 _ refl)
+    (plain-IsUtf8 _ refl)
+    (plain-IsUtf8 _ refl)
+    (plain-IsUtf8 _ refl)
+    (plain-IsUtf8 _ refl)
+    (plain-IsUtf8 _ refl)
+    (plain-IsUtf8 _ refl)
+    (plain-IsUtf8 _ refl)
+    (plain-IsUtf8 _ refl)
+    (plain-IsUtf8 _ refl)
+    (plain-IsUtf8 _ refl)
+    (plain-IsUtf8 _ refl)
+    (plain-IsUtf8 _ refl)
+    (plain-IsUtf8 _ refl)
+    (plain-IsUtf8 _ refl)
+    (plain-IsUtf8 _ refl)
+    (plain-IsUtf8 _ refl)
+    (plain-IsUtf8 _ refl)
+    (λ _. IsUtf8-nil)
