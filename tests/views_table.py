@@ -6,6 +6,13 @@ import sys
 TOP = os.path.dirname(os.path.dirname(os.path.abspath(__file__)))
 TABLE = os.path.join("crates", "ra_ap_syntax", "views.txt")
 DERIVES = ["Clone", "PartialEq", "Eq", "Hash", "From"]
+# The enums whose kinds have a law of their own on their names too; of the other enums the definition of their kinds says as much.
+WITH_LAWS = ["AnyAttr", "NameLike", "NameOrNameRef"]
+
+
+def kind_of(name):
+    """The kind that a view is named for: `BIN_EXPR` for `BinExpr`."""
+    return re.sub(r"(?<!^)([A-Z])", r"_\1", name).upper()
 
 
 class Lookup:
@@ -24,7 +31,7 @@ class View:
 
     @property
     def kind(self):
-        return re.sub(r"(?<!^)([A-Z])", r"_\1", self.name).upper()
+        return kind_of(self.name)
 
 
 def kinds_of_tokens():
@@ -106,6 +113,11 @@ class Table:
             lost += [it for it in view.sources if it not in self.enums] + [it for it in [view.name] if not view.doc]
             if lost:
                 sys.exit(f"tests/views: {TABLE}: {view.name}: there is no {lost[0]}, or it has no documentation")
+
+    def with_laws(self):
+        """The kinds that have a law of their own on their names."""
+        within = {of for enum in self.enums.values() if enum.name not in WITH_LAWS for _, of in enum.variants}
+        return [kind for kind in self.kinds.values() if kind.name not in within]
 
     def having(self, trait):
         """The views that have a shared trait, by name."""
