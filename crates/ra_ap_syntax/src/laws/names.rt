@@ -1,4 +1,4 @@
-//! What the views of nodes that no other law names are of. Made by `tests/views` from `views.txt`.
+//! The law on the names of views. Made by `tests/views` from `views.txt`.
 ghost use Rattle.std.specs.Prelude.{◌≡◌, true};
 
 use crate::ast::{self, AstNode};
