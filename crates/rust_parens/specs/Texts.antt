@@ -1,0 +1,79 @@
+-- A text without some pairs of parentheses.
+use Rattle.std.specs.Prelude.{ℕ, ◌-◌, ◌==◌, ◌<=◌, Bool, true, false, not, ◌&&◌, ◌||◌, List, [], ◌∷◌, ◌++◌, length, map, replicate, set, Option, Some, None, slice_get}
+use Rattle.std.specs.List.{filter}
+use Rattle.text_size.specs.TextRange.{Bounds}
+use Rattle.tree_model.specs.Tree.{text}
+use Rattle.tree_model.specs.Cursor.{Cursor, focus, at_token, descendants_of}
+use Rattle.lossless_tree.specs.Element.{element_of}
+use Rattle.rust_report.specs.Steps.{is_left_out}
+use Rattle.rust_parens.specs.Pairs.{parens_of}
+
+-- ---- the marks of pairs
+
+-- the two parentheses, where there are two, are marked at their first bytes
+abbrev pub mark_two : Option (Bounds × Bounds) → List Bool → List Bool
+mark_two None marks = marks
+mark_two (Some two) marks = set (set marks two.0.start true) two.1.start true
+
+-- further pairs are marked
+abbrev pub marked : List Bool → List Cursor → List Bool
+marked marks [] = marks
+marked marks (p ∷ ps) = marked (mark_two (parens_of p) marks) ps
+
+-- the marks of some pairs of a text of n bytes
+abbrev pub marks_of : ℕ → List Cursor → List Bool
+marks_of n pairs = marked (replicate n false) pairs
+
+-- ---- the tokens that are left, with blanks
+
+-- a byte of a word: a letter, a digit, `_`, and each one beyond ASCII
+abbrev pub is_word : ℕ → Bool
+is_word b = (48 <= b && b <= 57) || ((65 <= b && b <= 90) || ((97 <= b && b <= 122) || (b == 95 || 128 <= b)))
+
+-- a byte that a word takes in: one of a word, `"`, `'` or `#`
+abbrev pub is_taken : ℕ → Bool
+is_taken b = is_word b || (b == 34 || (b == 39 || b == 35))
+
+-- two bytes that are one sign, or begin a comment: `..`, `::`, `&&`, `||`, `<<`, `>>`, `->`, `=>`, `<-`, `//`, `/*`, `*/`
+abbrev pub is_sign : ℕ → ℕ → Bool
+is_sign a b =
+    (a == b && (a == 46 || (a == 58 || (a == 38 || (a == 124 || (a == 60 || (a == 62 || a == 47)))))))
+    || ((a == 45 && b == 62) || ((a == 61 && b == 62) || ((a == 60 && b == 45) || ((a == 47 && b == 42) || (a == 42 && b == 47)))))
+
+-- two bytes with `=` behind: `==`, `!=`, `<=`, `>=`, `+=`, `-=`, `*=`, `/=`, `%=`, `^=`, `&=`, `|=`
+abbrev pub takes_equals : ℕ → Bool
+takes_equals a =
+    a == 61 || (a == 33 || (a == 60 || (a == 62 || (a == 43 || (a == 45 || (a == 42 || (a == 47 || (a == 37 || (a == 94 || (a == 38 || a == 124))))))))))
+
+-- what ends with byte a and what begins with byte b would grow together
+abbrev pub grow : ℕ → ℕ → Bool
+grow a b = (is_word a && is_taken b) || (is_sign a b || (b == 61 && takes_equals a))
+
+abbrev pub grow_at : Option ℕ → Option ℕ → Bool
+grow_at None b = false
+grow_at (Some a) None = false
+grow_at (Some a) (Some b) = grow a b
+
+abbrev pub blank : Bool → List ℕ
+blank true = 32 ∷ []
+blank false = []
+
+-- a text behind another, with a blank between where they would grow together
+abbrev pub put : List ℕ → List ℕ → List ℕ
+put s t = s ++ (blank (grow_at (slice_get s (length s - 1)) (slice_get t 0)) ++ t)
+
+abbrev pub put_all : List ℕ → List (List ℕ) → List ℕ
+put_all s [] = s
+put_all s (t ∷ ts) = put_all (put s t) ts
+
+-- a token that the marks do not leave out
+abbrev pub is_kept : List Bool → Cursor → Bool
+is_kept marks c = at_token c && not (is_left_out marks (element_of c))
+
+-- the texts of the tokens that are left
+abbrev pub kept_texts : List Bool → List Cursor → List (List ℕ)
+kept_texts marks cs = map (λ c. text (focus c)) (filter (is_kept marks) cs)
+
+-- the text of a tree without what the marks leave out
+abbrev pub text_without : List Bool → Cursor → List ℕ
+text_without marks c = put_all [] (kept_texts marks (descendants_of c))
