@@ -1,5 +1,5 @@
 -- Pairs that go beside those that were chosen, some at a time.
-use Rattle.std.specs.Prelude.{◌≡◌, ◌≤◌, true, List, ◌++◌, length, take, string_bytes}
+use Rattle.std.specs.Prelude.{◌≡◌, ◌≤◌, Bool, List, ◌++◌, length, take, string_bytes}
 use Rattle.tree_model.specs.Cursor.{Cursor}
 use Rattle.ras_front_end.specs.declared.edition.Entry.{Entry}
 use Rattle.ras_front_end.specs.declared.edition.Edition.{Edition}
@@ -10,8 +10,8 @@ use Rattle.rust_parens.specs.declared.needless.Run.{Run}
 use Rattle.rust_parens.specs.declared.needless.Run.TheVariants.{Go, Stay}
 use Rattle.rust_parens.specs.Needless.{fixed, MayGo, Refused}
 
-abbrev pub going : Cursor → Tried
-going p = record { pair = p; goes = true }
+abbrev pub as_tried : Bool → Cursor → Tried
+as_tried goes p = record { pair = p; goes = goes }
 
 -- some of the pairs that are left go beside the chosen ones, and this is the text without them all; or the first of them stays
 abbrev pub IsRun : Front → Entry → Edition → Parsed → (chosen rest : List Cursor) → Run → Type 0

@@ -1,7 +1,7 @@
 //! The pairs of a text that may go together, and the text without them.
 ghost use Rattle.std.specs.Prelude.{◌≡◌, ◌≤◌, ◌<◌, ◌+◌, ◌↔◌, ◌++◌, map, length, IfOk, OnOk, IsTrue, option_map, string_bytes};
 ghost use Rattle.rust_parens.specs.Needless.{IsMarkedOut, IsAnswer, AreTried, candidates_of, refused_of};
-ghost use Rattle.rust_parens.specs.Runs.{IsRun, going};
+ghost use Rattle.rust_parens.specs.Runs.{IsRun, as_tried};
 
 use crate::find::pairs;
 use crate::text::{marks_of, text_without};
@@ -107,20 +107,23 @@ fn next_run<F: FrontEnd>(
     }
 }
 
-// Notes pairs that go.
-fn note_going(
-    pairs: &mut Vec<SyntaxNode>,
-    tried: &mut Vec<Tried>,
-    run: &[SyntaxNode],
-) -> Result<(), AllocError>
-    ensures pairs { OnOk result (pairs.new.items ≡ pairs.old.items ++ run.now) }
-    ensures tried { OnOk result (tried.new.items ≡ tried.old.items ++ map going run.now) }
+fn push_all(pairs: &mut Vec<SyntaxNode>, run: &[SyntaxNode]) -> Result<(), AllocError>
+    ensures { OnOk result (pairs.new.items ≡ pairs.old.items ++ run.now) }
 {
     for pair in run {
         pairs.push(share(pair))?;
+    }
+    Ok(())
+}
+
+// Notes that pairs were tried, and whether they go.
+fn note(tried: &mut Vec<Tried>, run: &[SyntaxNode], goes: bool) -> Result<(), AllocError>
+    ensures { OnOk result (tried.new.items ≡ tried.old.items ++ map (as_tried goes) run.now) }
+{
+    for pair in run {
         tried.push(Tried {
             pair: share(pair),
-            goes: true,
+            goes,
         })?;
     }
     Ok(())
@@ -151,17 +154,24 @@ pub fn find_needless<F: FrontEnd>(
     let mut step = candidates.len();
     while tried.len() < candidates.len() && refused < LIMIT {
         let rest = &candidates[tried.len()..];
-        match next_run(alloc, front, entry, edition, old, found.as_slice(), rest, step)? {
+        match next_run(
+            alloc,
+            front,
+            entry,
+            edition,
+            old,
+            found.as_slice(),
+            rest,
+            step,
+        )? {
             Run::Go(count, new) => {
-                note_going(&mut found, &mut tried, &rest[..count])?;
+                push_all(&mut found, &rest[..count])?;
+                note(&mut tried, &rest[..count], true)?;
                 text = Some(new);
                 step = count.saturating_mul(2);
             }
             Run::Stay => {
-                tried.push(Tried {
-                    pair: share(&rest[0]),
-                    goes: false,
-                })?;
+                note(&mut tried, &rest[..1], false)?;
                 refused += 1;
                 step = 1;
             }

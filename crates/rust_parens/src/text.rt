@@ -69,7 +69,8 @@ fn is_sign(a: u8, b: u8) -> bool
 {
     (a == b
         && (a == b'.'
-            || (a == b':' || (a == b'&' || (a == b'|' || (a == b'<' || (a == b'>' || a == b'/')))))))
+            || (a == b':'
+                || (a == b'&' || (a == b'|' || (a == b'<' || (a == b'>' || a == b'/')))))))
         || ((a == b'-' && b == b'>')
             || ((a == b'=' && b == b'>')
                 || ((a == b'<' && b == b'-')
@@ -120,11 +121,7 @@ fn put(out: &mut String, token: &str) -> Result<(), AllocError>
 /// The text of a tree without the parentheses that marks leave out, with a blank between two tokens that would grow together.
 ///
 /// It takes time linear in the tree.
-pub fn text_without(
-    alloc: Global,
-    root: &SyntaxNode,
-    marks: &[bool],
-) -> Result<String, AllocError>
+pub fn text_without(alloc: Global, root: &SyntaxNode, marks: &[bool]) -> Result<String, AllocError>
     ensures { IfOk result (λ s. string_bytes s ≡ text_without marks.now root.now) }
 {
     let mut out = String::with_capacity(alloc, root.as_str().len())?;

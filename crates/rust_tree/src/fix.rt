@@ -101,13 +101,7 @@ fn new_beside(rt: &HostRuntime, path: &str) -> io::Result<(File, String)> {
 }
 
 // Writes the text of a new file, and gives it the permissions of the old one and then its name.
-fn write_new(
-    rt: &HostRuntime,
-    mut file: File,
-    new: &str,
-    old: &str,
-    text: &str,
-) -> io::Result<()> {
+fn write_new(rt: &HostRuntime, mut file: File, new: &str, old: &str, text: &str) -> io::Result<()> {
     file.write_all(text.as_bytes())?;
     file.set_permissions(fs::metadata(rt, old)?.permissions())?;
     file.sync_all()?;

@@ -181,9 +181,8 @@ fn role_of_path(path: &SyntaxNode) -> Role {
 fn role_of_use(around: &SyntaxNode) -> Role {
     match around.kind() {
         SyntaxKind::METHOD_CALL_EXPR => Role::Function,
-        SyntaxKind::FIELD_EXPR
-        | SyntaxKind::RECORD_EXPR_FIELD
-        | SyntaxKind::RECORD_PAT_FIELD => Role::Field,
+        SyntaxKind::FIELD_EXPR | SyntaxKind::RECORD_EXPR_FIELD | SyntaxKind::RECORD_PAT_FIELD =>
+            Role::Field,
         SyntaxKind::PATH_SEGMENT => match around.parent() {
             Some(path) => role_of_path(&path),
             None => Role::Plain,

@@ -124,7 +124,10 @@ impl Job {
         let alloc = rt.alloc();
         let found = parens::needless(alloc, text, self.reading)?;
         if found.left > 0 {
-            eprintln!(rt; "rust_tree: {name}: {} further pairs were not tried, since so many stay", found.left)?;
+            eprintln!(rt;
+                "rust_tree: {name}: {} further pairs were not tried, since so many stay",
+                found.left
+            )?;
         }
         let count = found.pairs.len();
         let new = match &found.text {

@@ -100,7 +100,11 @@ tree.addEventListener('click', event => {
 fn write_tokens<W: Write>(out: &mut W, root: &SyntaxNode) -> io::Result<()> {
     for element in root.descendants_with_tokens() {
         if let NodeOrToken::Token(token) = &element {
-            write!(out, "<span data-s=\"{}\">", token.text_range().start().raw())?;
+            write!(
+                out,
+                "<span data-s=\"{}\">",
+                token.text_range().start().raw()
+            )?;
             write_escaped(out, token.text())?;
             out.write_all(b"</span>")?;
         }

@@ -30,13 +30,7 @@ struct Pair<'a> {
 /// The pairs of a text that may go, all of them together.
 pub fn needless(alloc: Global, text: &str, reading: Reading) -> Result<Needless, ParseError> {
     let parse = read(alloc, &Rust, reading.entry, text, reading.edition)?;
-    Ok(find_needless(
-        alloc,
-        &Rust,
-        reading.entry,
-        reading.edition,
-        &parse,
-    )?)
+    Ok(find_needless(alloc, &Rust, reading.entry, reading.edition, &parse)?)
 }
 
 // The first line of a text.

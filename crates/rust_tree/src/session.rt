@@ -16,6 +16,7 @@ const MANY: u64 = 100;
 
 // After so many files each a terminal shows how many there were, and after so many another standard error has a line.
 const SHOWN: u64 = 50;
+
 const NOTED: u64 = 1000;
 
 /// Counts of a run.
