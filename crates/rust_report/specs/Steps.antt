@@ -76,16 +76,16 @@ step (Leave x) = (false, shown x)
 abbrev pub steps_of : Trivia → List Bool → Cursor → List (Bool × (SyntaxKind × Option (List ℕ)))
 steps_of trivia marks c = map step (counted trivia marks (walk_of c))
 
--- the first of some events at its element, and none where there are none
-abbrev pub first_element : List Event → Option Element
-first_element [] = None
-first_element (e ∷ es) = Some (element_in e)
+-- the first of some events, and none where there are none
+abbrev pub first_event : List Event → Option Event
+first_event [] = None
+first_event (e ∷ es) = Some e
 
 abbrev pub first_step : List Event → Option (Bool × (SyntaxKind × Option (List ℕ)))
 first_step [] = None
 first_step (e ∷ es) = Some (step e)
 
--- two lists of events begin alike, and go on differently with these elements
+-- two lists of events begin alike, and go on differently with these events
 pub record IsFirstDifference (old new : List Event) (d : Difference) : Type 0 where
   pub front : List Event
   pub behind : List Event
@@ -95,5 +95,5 @@ pub record IsFirstDifference (old new : List Event) (d : Difference) : Type 0 wh
   pub begins_so : new ≡ other ++ rest
   pub alike : map step front ≡ map step other
   pub differ : first_step behind ≡ first_step rest → ⊥
-  pub old_element : d.old ≡ first_element behind
-  pub new_element : d.new ≡ first_element rest
+  pub old_event : d.old ≡ first_event behind
+  pub new_event : d.new ≡ first_event rest

@@ -1,7 +1,7 @@
 //! Where two trees differ, and whether one is another without some pairs of parentheses.
 ghost use Rattle.std.specs.Prelude.{◌≡◌, ◌↔◌, IsTrue, IsNone, IfSome, []};
 ghost use Rattle.tree_model.specs.Cursor.{walk_of};
-ghost use Rattle.rust_report.specs.Steps.{is_marked, is_left_out, counts_element, counts, shown, step, steps_of, element_in, counted, IsNext, IsFirstDifference};
+ghost use Rattle.rust_report.specs.Steps.{is_marked, is_left_out, counts_element, counts, shown, step, steps_of, counted, IsNext, IsFirstDifference};
 
 use lossless_tree::{
     NodeOrToken, PreorderWithTokens, SyntaxElement, SyntaxKind, SyntaxNode, TextSize, WalkEvent,
@@ -16,13 +16,13 @@ pub enum Trivia {
     Aside,
 }
 
-/// The first elements at which two trees differ; `None` where the walk of a tree has ended.
+/// The first steps at which the walks of two trees differ; `None` where the walk of a tree has ended.
 #[derive(Drop)]
 pub struct Difference {
     /// That of the first tree.
-    pub old: Option<SyntaxElement>,
+    pub old: Option<WalkEvent<SyntaxElement>>,
     /// That of the second tree.
-    pub new: Option<SyntaxElement>,
+    pub new: Option<WalkEvent<SyntaxElement>>,
 }
 
 // The mark of an offset; none where there are fewer marks.
@@ -50,15 +50,6 @@ pub fn is_left_out(marks: &[bool], element: &SyntaxElement) -> bool
             }
             _ => false,
         },
-    }
-}
-
-fn element_in(event: WalkEvent<SyntaxElement>) -> SyntaxElement
-    ensures { result ≡ element_in event }
-{
-    match event {
-        WalkEvent::Enter(element) => element,
-        WalkEvent::Leave(element) => element,
     }
 }
 
@@ -144,7 +135,7 @@ pub fn first_difference(
     while let Some(a) = next_counted(&mut olds, trivia, marks) {
         let Some(b) = next_counted(&mut news, trivia, &[]) else {
             return Some(Difference {
-                old: Some(element_in(a)),
+                old: Some(a),
                 new: None,
             });
         };
@@ -152,14 +143,14 @@ pub fn first_difference(
             continue;
         }
         return Some(Difference {
-            old: Some(element_in(a)),
-            new: Some(element_in(b)),
+            old: Some(a),
+            new: Some(b),
         });
     }
     match next_counted(&mut news, trivia, &[]) {
         Some(b) => Some(Difference {
             old: None,
-            new: Some(element_in(b)),
+            new: Some(b),
         }),
         None => None,
     }

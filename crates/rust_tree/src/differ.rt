@@ -4,7 +4,7 @@ use crate::failure::Failure;
 use crate::names::kind_name;
 use crate::source::{Reading, lines, parsed, spot};
 use line_index::LineIndex;
-use lossless_tree::{NodeOrToken, SyntaxElement, TextSize};
+use lossless_tree::{NodeOrToken, SyntaxElement, TextSize, WalkEvent};
 use rust_report::{Trivia, first_difference};
 use std::alloc::Global;
 use std::io;
@@ -19,24 +19,35 @@ pub struct Side<'a> {
     pub text: &'a str,
 }
 
-// The place of an element, its kind and a token's text; the end of the text where there is no element.
+// What the walk of a tree comes to: a node or a token with its text, or the end of a node; where the walk has ended, the end.
 fn write_side<W: Write>(
     alloc: Global,
     out: &mut W,
     side: Side<'_>,
     lines: &LineIndex<'_>,
-    element: &Option<SyntaxElement>,
+    event: &Option<WalkEvent<SyntaxElement>>,
 ) -> io::Result<()> {
     let Side { name, text } = side;
-    let Some(element) = element else {
-        let end = TextSize::of(text).unwrap_or(TextSize::new(0));
-        return writeln!(out, "{name}:{}: the end", spot(lines, end));
-    };
-    let at = spot(lines, element.text_range().start());
-    let kind = kind_name(alloc, element.kind())?;
-    match element {
-        NodeOrToken::Node(_) => writeln!(out, "{name}:{at}: {kind}"),
-        NodeOrToken::Token(token) => writeln!(out, "{name}:{at}: {kind} {:?}", token.text()),
+    match event {
+        None => {
+            let end = TextSize::of(text).unwrap_or(TextSize::new(0));
+            writeln!(out, "{name}:{}: the end", spot(lines, end))
+        }
+        Some(WalkEvent::Leave(element)) => {
+            let at = spot(lines, element.text_range().end());
+            let kind = kind_name(alloc, element.kind())?;
+            writeln!(out, "{name}:{at}: the end of {kind}")
+        }
+        Some(WalkEvent::Enter(element)) => {
+            let at = spot(lines, element.text_range().start());
+            let kind = kind_name(alloc, element.kind())?;
+            match element {
+                NodeOrToken::Node(_) => writeln!(out, "{name}:{at}: {kind}"),
+                NodeOrToken::Token(token) => {
+                    writeln!(out, "{name}:{at}: {kind} {:?}", token.text())
+                }
+            }
+        }
     }
 }
 

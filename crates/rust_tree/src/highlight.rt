@@ -116,9 +116,13 @@ fn is_word(text: &str) -> bool {
         .is_some_and(|byte| byte.is_ascii_alphabetic() || *byte == b'_')
 }
 
+// A comment, also of documentation: no other token begins so.
+fn is_comment(text: &str) -> bool {
+    text.starts_with("//") || text.starts_with("/*")
+}
+
 fn role_of_token(token: &SyntaxToken) -> Role {
     match token.kind() {
-        SyntaxKind::COMMENT => Role::Comment,
         SyntaxKind::INT_NUMBER | SyntaxKind::FLOAT_NUMBER => Role::Number,
         SyntaxKind::LIFETIME_IDENT => Role::Lifetime,
         SyntaxKind::ERROR => Role::Error,
@@ -126,6 +130,8 @@ fn role_of_token(token: &SyntaxToken) -> Role {
         kind => {
             if is_text(kind) {
                 Role::Text
+            } else if is_comment(token.text()) {
+                Role::Comment
             } else if is_word(token.text()) {
                 Role::Keyword
             } else {
