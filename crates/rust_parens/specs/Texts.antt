@@ -1,6 +1,5 @@
 -- A text without some pairs of parentheses.
-use Rattle.std.specs.Prelude.{ℕ, ◌-◌, ◌==◌, ◌<=◌, Bool, true, false, not, ◌&&◌, ◌||◌, List, [], ◌∷◌, ◌++◌, length, map, replicate, set, Option, Some, None, slice_get}
-use Rattle.std.specs.List.{filter}
+use Rattle.std.specs.Prelude.{ℕ, ◌-◌, ◌==◌, Bool, true, false, ◌&&◌, ◌||◌, if◌then◌else◌, List, [], ◌∷◌, ◌++◌, length, replicate, set, Option, Some, None, slice_get}
 use Rattle.text_size.specs.TextRange.{Bounds}
 use Rattle.tree_model.specs.Tree.{text}
 use Rattle.tree_model.specs.Cursor.{Cursor, focus, at_token, descendants_of}
@@ -58,22 +57,19 @@ abbrev pub blank : Bool → List ℕ
 blank true = 32 ∷ []
 blank false = []
 
--- a text behind another, with a blank between where they would grow together
-abbrev pub put : List ℕ → List ℕ → List ℕ
-put s t = s ++ (blank (grow_at (slice_get s (length s - 1)) (slice_get t 0)) ++ t)
+-- a token behind a text; where something was left out between, a blank keeps them apart if they would grow together
+abbrev pub put : Bool → List ℕ → List ℕ → List ℕ
+put gap s t = s ++ (blank (gap && grow_at (slice_get s (length s - 1)) (slice_get t 0)) ++ t)
 
-abbrev pub put_all : List ℕ → List (List ℕ) → List ℕ
-put_all s [] = s
-put_all s (t ∷ ts) = put_all (put s t) ts
+-- a node or token behind a text: a token that the marks leave out leaves a gap
+abbrev pub with_element : List Bool → List ℕ × Bool → Cursor → List ℕ × Bool
+with_element marks st c =
+    if at_token c then (if is_left_out marks (element_of c) then (st.0, true) else (put st.1 st.0 (text (focus c)), false)) else st
 
--- a token that the marks do not leave out
-abbrev pub is_kept : List Bool → Cursor → Bool
-is_kept marks c = at_token c && not (is_left_out marks (element_of c))
+abbrev pub text_from : List Bool → List ℕ × Bool → List Cursor → List ℕ
+text_from marks st [] = st.0
+text_from marks st (c ∷ cs) = text_from marks (with_element marks st c) cs
 
--- the texts of the tokens that are left
-abbrev pub kept_texts : List Bool → List Cursor → List (List ℕ)
-kept_texts marks cs = map (λ c. text (focus c)) (filter (is_kept marks) cs)
-
--- the text of a tree without what the marks leave out
+-- the text of a tree without the tokens that the marks leave out
 abbrev pub text_without : List Bool → Cursor → List ℕ
-text_without marks c = put_all [] (kept_texts marks (descendants_of c))
+text_without marks c = text_from marks ([], false) (descendants_of c)

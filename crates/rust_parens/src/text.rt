@@ -106,29 +106,34 @@ fn grow_at(a: Option<u8>, b: Option<u8>) -> bool
     }
 }
 
-// Puts a token behind a text, with a blank between where they would grow together.
-fn put(out: &mut String, token: &str) -> Result<(), AllocError>
-    ensures { OnOk result (string_bytes out.new ≡ put (string_bytes out.old) token.now) }
+// Puts a token behind a text; where something was left out between, with a blank if they would grow together.
+fn put(out: &mut String, gap: bool, token: &str) -> Result<(), AllocError>
+    ensures { OnOk result (string_bytes out.new ≡ put gap (string_bytes out.old) token.now) }
 {
     let last = out.as_bytes().last().copied();
     let first = token.as_bytes().first().copied();
-    if grow_at(last, first) {
+    if gap && grow_at(last, first) {
         out.push_str(" ")?;
     }
     out.push_str(token)
 }
 
-/// The text of a tree without the parentheses that marks leave out, with a blank between two tokens that would grow together.
+/// The text of a tree without the parentheses that marks leave out, with a blank in the place of some where the tokens beside them
+/// would grow together.
 ///
 /// It takes time linear in the tree.
 pub fn text_without(alloc: Global, root: &SyntaxNode, marks: &[bool]) -> Result<String, AllocError>
     ensures { IfOk result (λ s. string_bytes s ≡ text_without marks.now root.now) }
 {
     let mut out = String::with_capacity(alloc, root.as_str().len())?;
+    let mut gap = false;
     for element in root.descendants_with_tokens() {
         if let NodeOrToken::Token(token) = &element {
-            if !is_left_out(marks, &element) {
-                put(&mut out, token.text())?;
+            if is_left_out(marks, &element) {
+                gap = true;
+            } else {
+                put(&mut out, gap, token.text())?;
+                gap = false;
             }
         }
     }
