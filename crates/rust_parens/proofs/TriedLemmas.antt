@@ -133,6 +133,10 @@ one_stays front entry edition old pairs tried s rest h left stays = record {
 
 -- ---- how many stay
 
+refused_staying : (rest : List Cursor) → 1 ≤ length rest → refused_of (map (as_tried false) (take 1 rest)) ≡ map (as_tried false) (take 1 rest)
+refused_staying [] h = refl
+refused_staying (p ∷ rest) h = refl
+
 pub as_many : (tried : List Tried) (run : List Cursor) → length (refused_of (tried ++ map (as_tried true) run)) ≡ length (refused_of tried)
 as_many tried run =
     ap length (refused_append tried (map (as_tried true) run))

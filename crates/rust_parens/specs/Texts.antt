@@ -1,5 +1,5 @@
 -- A text without some pairs of parentheses.
-use Rattle.std.specs.Prelude.{ℕ, ◌-◌, ◌==◌, Bool, true, false, ◌&&◌, ◌||◌, if◌then◌else◌, List, [], ◌∷◌, ◌++◌, length, replicate, set, Option, Some, None, slice_get}
+use Rattle.std.specs.Prelude.{ℕ, ◌-◌, ◌==◌, nat_le, Bool, true, false, ◌&&◌, ◌||◌, if◌then◌else◌, List, [], ◌∷◌, ◌++◌, length, replicate, set, Option, Some, None, slice_get}
 use Rattle.text_size.specs.TextRange.{Bounds}
 use Rattle.tree_model.specs.Tree.{text}
 use Rattle.tree_model.specs.Cursor.{Cursor, focus, at_token, descendants_of}
@@ -27,7 +27,7 @@ marks_of n pairs = marked (replicate n false) pairs
 
 -- a byte of a word: a letter, a digit, `_`, and each one beyond ASCII
 abbrev pub is_word : ℕ → Bool
-is_word b = (48 <= b && b <= 57) || ((65 <= b && b <= 90) || ((97 <= b && b <= 122) || (b == 95 || 128 <= b)))
+is_word b = (nat_le 48 b && nat_le b 57) || ((nat_le 65 b && nat_le b 90) || ((nat_le 97 b && nat_le b 122) || (b == 95 || nat_le 128 b)))
 
 -- a byte that a word takes in: one of a word, `"`, `'` or `#`
 abbrev pub is_taken : ℕ → Bool

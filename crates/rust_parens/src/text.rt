@@ -33,6 +33,7 @@ fn mark(marks: &mut [bool], pairs: &[SyntaxNode])
 }
 
 /// The marks of the parentheses of pairs, those of `chosen` and of `more`, in a text of so many bytes.
+#[tactic(auto, using(crate::proofs::MarkLemmas::marked_append))]
 pub(crate) fn marks_of(
     alloc: Global,
     len: usize,
@@ -107,6 +108,7 @@ fn grow_at(a: Option<u8>, b: Option<u8>) -> bool
 }
 
 // Puts a token behind a text; where something was left out between, with a blank if they would grow together.
+#[tactic(auto, using(crate::proofs::MarkLemmas::put_blank, crate::proofs::MarkLemmas::put_plain))]
 fn put(out: &mut String, gap: bool, token: &str) -> Result<(), AllocError>
     ensures { OnOk result (string_bytes out.new ≡ put gap (string_bytes out.old) token.now) }
 {
