@@ -1,8 +1,9 @@
 -- The names of kinds: those of the library, and those of the table. Written by tests/rust_kinds from kinds.txt.
-use Rattle.std.specs.Prelude.{ℕ, ◌==◌, if◌then◌else◌, List, [], codes}
+use Rattle.std.specs.Prelude.{◌≡◌, ℕ, ◌+◌, ◌*◌, ◌%◌, ◌==◌, if◌then◌else◌, List, [], codes, bytes_eq, Option, Some, None, fold, slice_index_or}
 use Rattle.syntax_kind.specs.declared.syntax_kind.SyntaxKind.{SyntaxKind}
 use Rattle.syntax_kind.specs.declared.syntax_kind.SyntaxKind.TheVariants.{OTHER}
 use Rattle.syntax_kind.specs.Kinds.{kind_name}
+use Rattle.rust_kinds.specs.declared.names.TheConstants.{NUMBERS}
 
 -- the name of the kind `OTHER(n)`; no text where it has none
 abbrev pub name_in_table : ℕ → List ℕ
@@ -68,3 +69,22 @@ name_in_table n =
 abbrev pub rust_name : SyntaxKind → List ℕ
 rust_name (OTHER n) = name_in_table n
 rust_name k = kind_name k
+
+-- the kind has a name, and it is this text
+pub record IsNamed (k : SyntaxKind) (text : List ℕ) : Type 0 where
+  pub name : rust_name k ≡ text
+  pub some : text ≡ [] → ⊥
+
+-- the place of a name: a hash, byte by byte
+abbrev pub next_hash : ℕ → ℕ → ℕ
+next_hash hash byte = (hash * 42 + byte) % 65536
+
+abbrev pub place_of : List ℕ → ℕ
+place_of name = fold next_hash 0 name % 225
+
+-- the number n of the kind `OTHER(n)` with this name: what stands at its place, if it has the name
+abbrev pub number_at : List ℕ → ℕ
+number_at name = slice_index_or NUMBERS (place_of name) 0
+
+abbrev pub number_in_table : List ℕ → Option ℕ
+number_in_table name = if bytes_eq (name_in_table (number_at name)) name then Some (number_at name) else None

@@ -1,13 +1,14 @@
 //! The kinds of Rust's tokens and nodes for which `SyntaxKind` has no constant, as kinds `SyntaxKind::OTHER(n)` with fixed numbers.
 #![tactic(auto)]
 
-ghost use Rattle.std.specs.Prelude.{◌≡◌, [], MatchOption};
-ghost use Rattle.rust_kinds.specs.Names.{rust_name};
+ghost use Rattle.std.specs.Prelude.{◌≡◌, ◌↔◌, [], MatchOption, IfSome, Some};
+ghost use Rattle.syntax_kind.specs.Kinds.{IsKind};
+ghost use Rattle.rust_kinds.specs.Names.{rust_name, IsNamed};
 
 pub mod kinds;
 mod names;
 
-use names::other_name;
+use names::{other_name, other_number};
 use syntax_kind::SyntaxKind;
 
 /// The name of a kind: the kind's own, and that of this crate's table for a kind `OTHER(n)` that has a constant in [`kinds`];
@@ -18,5 +19,19 @@ pub fn name_of(kind: SyntaxKind) -> Option<&'static str>
     match kind {
         SyntaxKind::OTHER(number) => other_name(number),
         _ => kind.name(),
+    }
+}
+
+/// The kind with this name, as [`name_of`] gives it; `None` where no kind has it.
+pub fn from_name(name: &str) -> Option<SyntaxKind>
+    ensures exact { (k : SyntaxKind) → IsKind k → (result ≡ Some k) ↔ IsNamed k name.now }
+    ensures kind { IfSome result IsKind }
+{
+    if let Some(number) = other_number(name) {
+        return Some(SyntaxKind::OTHER(number));
+    }
+    match SyntaxKind::from_name(name)? {
+        SyntaxKind::OTHER(_) => None,
+        kind => Some(kind),
     }
 }

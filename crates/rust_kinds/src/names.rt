@@ -1,6 +1,6 @@
 //! The names of the table. Written by tests/rust_kinds from kinds.txt.
 ghost use Rattle.std.specs.Prelude.{◌≡◌, [], MatchOption};
-ghost use Rattle.rust_kinds.specs.Names.{name_in_table};
+ghost use Rattle.rust_kinds.specs.Names.{name_in_table, number_in_table, place_of};
 
 // The name of `OTHER(number)`.
 pub(crate) fn other_name(number: u16) -> Option<&'static str>
@@ -65,3 +65,38 @@ pub(crate) fn other_name(number: u16) -> Option<&'static str>
         _ => None,
     }
 }
+
+// The hash of a name; no two names of the table have one place.
+fn place_of(name: &[u8]) -> usize
+    ensures { result ≡ place_of name.now }
+{
+    let mut hash = 0u32;
+    for byte in name {
+        hash = (hash * 42 + *byte as u32) % 65_536;
+    }
+    (hash % 225) as usize
+}
+
+// The number n of the kind `OTHER(n)` that has this name.
+pub(crate) fn other_number(name: &str) -> Option<u16>
+    ensures { result ≡ number_in_table name.now }
+{
+    let number = NUMBERS[place_of(name.as_bytes())];
+    if other_name(number)? == name {
+        Some(number)
+    } else {
+        None
+    }
+}
+
+// The number of the name that may have the place.
+static NUMBERS: [u16; 225] = [
+    0, 0, 0, 256, 0, 0, 20, 0, 23, 274, 0, 0, 0, 27, 0, 0, 0, 33, 264, 10, 0, 11, 0, 0, 0, 0, 0, 0,
+    0, 0, 32, 14, 5, 8, 0, 0, 0, 0, 0, 0, 0, 0, 0, 0, 0, 0, 0, 0, 265, 31, 0, 270, 260, 0, 0, 0, 0,
+    0, 0, 0, 0, 0, 0, 0, 0, 0, 0, 0, 0, 0, 0, 0, 4, 0, 0, 0, 0, 261, 272, 0, 0, 0, 0, 26, 258, 0,
+    0, 0, 0, 0, 18, 0, 0, 0, 0, 0, 0, 0, 3, 0, 0, 0, 29, 0, 0, 275, 0, 0, 0, 0, 0, 0, 0, 0, 0, 0,
+    0, 0, 0, 0, 0, 273, 0, 0, 17, 0, 0, 9, 0, 0, 0, 24, 0, 0, 0, 0, 0, 0, 0, 0, 0, 0, 0, 0, 0, 0,
+    0, 0, 0, 0, 6, 0, 0, 266, 0, 0, 0, 268, 0, 0, 0, 12, 259, 0, 0, 1, 0, 0, 0, 0, 271, 0, 0, 0,
+    262, 0, 0, 0, 0, 0, 267, 0, 15, 0, 0, 0, 0, 0, 28, 7, 269, 0, 0, 19, 0, 0, 16, 0, 0, 263, 0, 0,
+    0, 0, 0, 0, 0, 22, 0, 25, 0, 0, 0, 0, 2, 257, 0, 0, 13, 0, 30, 34, 0, 21, 0,
+];

@@ -1,0 +1,4 @@
+pub mod Rows
+pub mod Table
+pub mod KindNames
+pub mod Utf8
