@@ -95,6 +95,9 @@ static void names(void) {
     owes(length == 2 && memcmp(name, "FN", 2) == 0, "a kind has its name");
     owes(ras_c_kind_of_name(BYTES("VARIANT_LIST")) >= 65536, "a kind beyond the table has a number");
     owes(ras_c_kind_of_name(BYTES("NOTHING")) == RAS_NO_KIND, "no kind has this name");
+    owes(ras_c_kind_of_name(BYTES("OTHER(3)")) == RAS_NO_KIND, "a number is no name");
+    owes(ras_c_kind_of_name(NULL, 0) == RAS_NO_KIND, "no text is no name");
+    owes(ras_c_kind_of_name(BYTES("\xff")) == RAS_NO_KIND, "bad UTF-8 is no name");
     owes(ras_c_kind_name(300, name, sizeof name) == 0, "no kind has this number");
     for (uint32_t kind = 0; kind < 66000; kind++) {
         length = ras_c_kind_name(kind, name, sizeof name);
@@ -117,6 +120,9 @@ static void tokens_and_parens(void) {
     owes(ras_c_reads_back(BYTES(sum), 2024, 9, 20, &answer) == RAS_OK && answer == 1, "a sum reads back");
     owes(ras_c_reads_back(BYTES(sum), 2024, 0, 2, &answer) == RAS_NO_PLACE, "a word is no expression");
     owes(ras_c_reads_back(BYTES(sum), 2024, 3, 2, &answer) == RAS_NO_PLACE, "a range does not end before it starts");
+    owes(ras_c_reads_back(BYTES(sum), 2024, 9, 21, &answer) == RAS_NO_PLACE, "a range that is no tree's has no answer");
+    owes(ras_c_reads_back(BYTES("\xff"), 2024, 0, 1, &answer) == RAS_NOT_UTF8, "bad UTF-8 does not read back");
+    owes(ras_c_reads_back(BYTES(sum), 2016, 9, 20, &answer) == RAS_NO_EDITION && answer == 1, "a refused text leaves the answer");
 }
 
 /* Each call once, at a heap that may refuse: a call is done, or answers that memory ran out and writes nothing. */

@@ -1,19 +1,19 @@
 //! Finds the proved static library, or has it built, and links it.
 //!
-//! It is `libras_c.a` in the folder that `RAS_C_DIR` names; else in the repository's `crates/ras_c/out`, where `rt lib` puts it.
+//! It is `libras_c.a` in the folder that `RAS_C_DIR` names; else in the repository's `crates/ras_c/out`, where `./run --lib` puts it.
 use std::path::{Path, PathBuf};
 use std::process::Command;
 use std::env;
 
 const ARCHIVE: &str = "libras_c.a";
 
-// Has the toolchain build the library; what to do where that fails.
-fn build(krate: &Path) -> Result<(), String> {
-    let told = "build it with `./run --lib` at the top of the repository, or name the folder that has it by RAS_C_DIR";
-    match Command::new("rt").arg("lib").current_dir(krate).status() {
+// Has the repository prove and build the library; what to do where that fails.
+fn build(repository: &Path) -> Result<(), String> {
+    let told = "run `./run --lib` at the top of the repository, or name the folder that has the library by RAS_C_DIR";
+    match Command::new("./run").arg("--lib").current_dir(repository).status() {
         Ok(status) if status.success() => Ok(()),
-        Ok(status) => Err(format!("`rt lib` in {} ended with {status}; {told}", krate.display())),
-        Err(_) => Err(format!("{ARCHIVE} is not in {}, and the toolchain's command `rt` is not there; {told}", krate.join("out").display())),
+        Ok(status) => Err(format!("`./run --lib`, which needs the toolchain's command `rt` and python3, ended with {status}; {told}")),
+        Err(error) => Err(format!("`./run --lib` did not start ({error}); {told}")),
     }
 }
 
@@ -25,10 +25,9 @@ fn find(repository: &Path) -> Result<PathBuf, String> {
             Err(format!("RAS_C_DIR names {}, which has no {ARCHIVE}", named.display()))
         };
     }
-    let krate = repository.join("crates/ras_c");
-    let folder = krate.join("out");
+    let folder = repository.join("crates/ras_c/out");
     if !folder.join(ARCHIVE).is_file() {
-        build(&krate)?;
+        build(repository)?;
     }
     Ok(folder)
 }
