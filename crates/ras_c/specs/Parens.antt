@@ -33,8 +33,11 @@ spans range c = (range_start c == range.start) && (range_end c == range.end)
 abbrev pub term_at : Cursor → Option Term
 term_at c = shown (focus c)
 
+abbrev pub shows_term : Cursor → Bool
+shows_term c = is_some (term_at c)
+
 abbrev pub is_term_over : Bounds → Cursor → Bool
-is_term_over range c = spans range c && is_some (term_at c)
+is_term_over range c = spans range c && shows_term c
 
 -- the innermost operator tree with exactly this range: one of what covers the range and the nodes above it
 abbrev pub node_over : Cursor → Bounds → Option Cursor

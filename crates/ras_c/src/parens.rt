@@ -6,7 +6,7 @@ ghost use Rattle.operator_pairs.specs.Pairs.{is_needless, nodes_below};
 ghost use Rattle.ras_c.specs.Border.{edition_of, IsHanded, IsCounted};
 ghost use Rattle.ras_c.specs.Read.{IsReading};
 ghost use Rattle.tree_model.specs.Edit.{root_of};
-ghost use Rattle.ras_c.specs.Parens.{range_at, needless_of, is_term_over, node_over, range_from, ReadsBackAt};
+ghost use Rattle.ras_c.specs.Parens.{range_at, needless_of, spans, shows_term, is_term_over, node_over, range_from, ReadsBackAt};
 
 use crate::fill::hand;
 use crate::status::{NO_EDITION, NO_MEMORY, NO_PLACE, NOT_UTF8, OK, TOO_LONG, edition_of};
@@ -104,14 +104,25 @@ pub extern "C" fn ras_c_parens(
     }
 }
 
-// Whether the node is an operator tree with exactly this range.
+// Whether the node has exactly this range.
+fn spans(node: &SyntaxNode, range: TextRange) -> bool
+    ensures { result ≡ spans range node.now }
+{
+    let found = node.text_range();
+    found.start().raw() == range.start().raw() && found.end().raw() == range.end().raw()
+}
+
+// Whether the node is an operator tree.
+fn shows_term(node: &SyntaxNode) -> bool
+    ensures { result ≡ shows_term node.now }
+{
+    reads_back(node).is_some()
+}
+
 fn is_term_over(node: &SyntaxNode, range: TextRange) -> bool
     ensures { result ≡ is_term_over range node.now }
 {
-    let found = node.text_range();
-    found.start().raw() == range.start().raw()
-        && found.end().raw() == range.end().raw()
-        && reads_back(node).is_some()
+    spans(node, range) && shows_term(node)
 }
 
 // The innermost operator tree with exactly this range.
