@@ -1,4 +1,4 @@
--- A call or a method call: the kinds that it is of, and the node behind it.
+-- `CallableExpr`: the node of each variant, and that its kind is one of the enum's. Made by `tests/views` from `views.txt`.
 use Rattle.std.specs.Prelude.{◌≡◌, true}
 use Rattle.std.proofs.Common.{refl}
 use Rattle.syntax_kind.specs.declared.syntax_kind.SyntaxKind.TheVariants.{Node}
@@ -6,8 +6,8 @@ use Rattle.syntax_kind.specs.declared.syntax_kind.node_kind.NodeKind.TheVariants
 use Rattle.tree_model.specs.Cursor.{Cursor}
 use Rattle.ras_node.specs.Nodes.{kind_at}
 use Rattle.ras_node.specs.KindSets.{by_number}
-use Rattle.ra_ap_syntax.specs.declared.ast.expr_ext.CallableExpr.{CallableExpr}
-use Rattle.ra_ap_syntax.specs.declared.ast.expr_ext.CallableExpr.TheVariants.{Call, MethodCall}
+use Rattle.ra_ap_syntax.specs.declared.ast.views.callable_expr.CallableExpr.{CallableExpr}
+use Rattle.ra_ap_syntax.specs.declared.ast.views.callable_expr.CallableExpr.TheVariants.{Call, MethodCall}
 use Rattle.ras_node.specs.Sets.{is_callable_expr}
 
 abbrev pub callable_expr_node : CallableExpr → Cursor

@@ -1,4 +1,4 @@
--- What stands behind an `else`: the kinds that it is of, and the node behind it.
+-- `ElseBranch`: the node of each variant, and that its kind is one of the enum's. Made by `tests/views` from `views.txt`.
 use Rattle.std.specs.Prelude.{◌≡◌, true}
 use Rattle.std.proofs.Common.{refl}
 use Rattle.syntax_kind.specs.declared.syntax_kind.SyntaxKind.TheVariants.{Node}
@@ -6,8 +6,8 @@ use Rattle.syntax_kind.specs.declared.syntax_kind.node_kind.NodeKind.TheVariants
 use Rattle.tree_model.specs.Cursor.{Cursor}
 use Rattle.ras_node.specs.Nodes.{kind_at}
 use Rattle.ras_node.specs.KindSets.{by_number}
-use Rattle.ra_ap_syntax.specs.declared.ast.expr_ext.ElseBranch.{ElseBranch}
-use Rattle.ra_ap_syntax.specs.declared.ast.expr_ext.ElseBranch.TheVariants.{Block, IfExpr}
+use Rattle.ra_ap_syntax.specs.declared.ast.views.else_branch.ElseBranch.{ElseBranch}
+use Rattle.ra_ap_syntax.specs.declared.ast.views.else_branch.ElseBranch.TheVariants.{Block, IfExpr}
 use Rattle.ras_node.specs.Sets.{is_else_branch}
 
 abbrev pub else_branch_node : ElseBranch → Cursor

@@ -99,6 +99,7 @@ pub mod MacroCases
 pub mod MetaCases
 pub mod NameLikeCases
 pub mod NameOrNameRefCases
+pub mod NameParts
 pub mod PatCases
 pub mod StmtCases
 pub mod TypeCases

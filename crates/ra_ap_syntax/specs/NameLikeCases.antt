@@ -1,13 +1,13 @@
--- A name where it is used or defined, or a lifetime: the kinds that it is of, and the node behind it.
-use Rattle.std.specs.Prelude.{◌≡◌, true, Option, Some, None}
+-- `NameLike`: the node of each variant, and that its kind is one of the enum's. Made by `tests/views` from `views.txt`.
+use Rattle.std.specs.Prelude.{◌≡◌, true}
 use Rattle.std.proofs.Common.{refl}
 use Rattle.syntax_kind.specs.declared.syntax_kind.SyntaxKind.TheVariants.{Node}
 use Rattle.syntax_kind.specs.declared.syntax_kind.node_kind.NodeKind.TheVariants as kind
 use Rattle.tree_model.specs.Cursor.{Cursor}
 use Rattle.ras_node.specs.Nodes.{kind_at}
 use Rattle.ras_node.specs.KindSets.{by_number}
-use Rattle.ra_ap_syntax.specs.declared.ast.node_ext.NameLike.{NameLike}
-use Rattle.ra_ap_syntax.specs.declared.ast.node_ext.NameLike.TheVariants.{NameRef, Name, Lifetime}
+use Rattle.ra_ap_syntax.specs.declared.ast.views.name_like.NameLike.{NameLike}
+use Rattle.ra_ap_syntax.specs.declared.ast.views.name_like.NameLike.TheVariants.{NameRef, Name, Lifetime}
 use Rattle.ras_node.specs.Sets.{is_name_like}
 
 abbrev pub name_like_node : NameLike → Cursor
@@ -20,14 +20,3 @@ pub name_like_castable : (it : NameLike) → is_name_like (kind_at (name_like_no
 name_like_castable (NameRef it) = by_number is_name_like _ (Node kind.NAME_REF) it.is refl
 name_like_castable (Name it) = by_number is_name_like _ (Node kind.NAME) it.is refl
 name_like_castable (Lifetime it) = by_number is_name_like _ (Node kind.LIFETIME) it.is refl
-
--- the node of a name that is used, and of a lifetime
-abbrev pub used_name : NameLike → Option Cursor
-used_name (NameRef it) = Some it.syntax
-used_name (Name it) = None
-used_name (Lifetime it) = None
-
-abbrev pub lifetime_in : NameLike → Option Cursor
-lifetime_in (NameRef it) = None
-lifetime_in (Name it) = None
-lifetime_in (Lifetime it) = Some it.syntax

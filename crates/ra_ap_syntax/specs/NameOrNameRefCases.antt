@@ -1,4 +1,4 @@
--- A name where it is defined or used: the kinds that it is of, and the node behind it.
+-- `NameOrNameRef`: the node of each variant, and that its kind is one of the enum's. Made by `tests/views` from `views.txt`.
 use Rattle.std.specs.Prelude.{◌≡◌, true}
 use Rattle.std.proofs.Common.{refl}
 use Rattle.syntax_kind.specs.declared.syntax_kind.SyntaxKind.TheVariants.{Node}
@@ -6,8 +6,8 @@ use Rattle.syntax_kind.specs.declared.syntax_kind.node_kind.NodeKind.TheVariants
 use Rattle.tree_model.specs.Cursor.{Cursor}
 use Rattle.ras_node.specs.Nodes.{kind_at}
 use Rattle.ras_node.specs.KindSets.{by_number}
-use Rattle.ra_ap_syntax.specs.declared.ast.node_ext.NameOrNameRef.{NameOrNameRef}
-use Rattle.ra_ap_syntax.specs.declared.ast.node_ext.NameOrNameRef.TheVariants.{Name, NameRef}
+use Rattle.ra_ap_syntax.specs.declared.ast.views.name_or_name_ref.NameOrNameRef.{NameOrNameRef}
+use Rattle.ra_ap_syntax.specs.declared.ast.views.name_or_name_ref.NameOrNameRef.TheVariants.{Name, NameRef}
 use Rattle.ras_node.specs.Sets.{is_name_or_name_ref}
 
 abbrev pub name_or_name_ref_node : NameOrNameRef → Cursor

@@ -1,4 +1,4 @@
--- A statement: the kinds that it is of, and the node behind it.
+-- `Stmt`: the node of each variant, and that its kind is one of the enum's. Made by `tests/views` from `views.txt`.
 use Rattle.std.specs.Prelude.{◌≡◌, true, ◌||◌}
 use Rattle.std.proofs.Common.{refl, ap}
 use Rattle.syntax_kind.specs.declared.syntax_kind.SyntaxKind.TheVariants.{Node}
@@ -6,10 +6,10 @@ use Rattle.syntax_kind.specs.declared.syntax_kind.node_kind.NodeKind.TheVariants
 use Rattle.tree_model.specs.Cursor.{Cursor}
 use Rattle.ras_node.specs.Nodes.{kind_at}
 use Rattle.ras_node.specs.KindSets.{by_number}
-use Rattle.ras_node.specs.Sets.{is_own_stmt, is_stmt}
-use Rattle.ra_ap_syntax.specs.ItemCases.{item_node, item_castable}
 use Rattle.ra_ap_syntax.specs.declared.ast.views.stmt.Stmt.{Stmt}
 use Rattle.ra_ap_syntax.specs.declared.ast.views.stmt.Stmt.TheVariants.{ExprStmt, Item, LetStmt}
+use Rattle.ras_node.specs.Sets.{is_own_stmt, is_stmt}
+use Rattle.ra_ap_syntax.specs.ItemCases.{item_node, item_castable}
 
 abbrev pub stmt_node : Stmt → Cursor
 stmt_node (ExprStmt it) = it.syntax

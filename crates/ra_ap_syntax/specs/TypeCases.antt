@@ -1,4 +1,4 @@
--- A type: the kinds that it is of, and the node behind it.
+-- `Type`: the node of each variant, and that its kind is one of the enum's. Made by `tests/views` from `views.txt`.
 use Rattle.std.specs.Prelude.{◌≡◌, true}
 use Rattle.std.proofs.Common.{refl}
 use Rattle.syntax_kind.specs.declared.syntax_kind.SyntaxKind.TheVariants.{Node}

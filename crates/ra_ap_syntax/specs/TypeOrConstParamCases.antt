@@ -1,4 +1,4 @@
--- A type parameter or a constant parameter: the kinds that it is of, and the node behind it.
+-- `TypeOrConstParam`: the node of each variant, and that its kind is one of the enum's. Made by `tests/views` from `views.txt`.
 use Rattle.std.specs.Prelude.{◌≡◌, true}
 use Rattle.std.proofs.Common.{refl}
 use Rattle.syntax_kind.specs.declared.syntax_kind.SyntaxKind.TheVariants.{Node}
@@ -6,8 +6,8 @@ use Rattle.syntax_kind.specs.declared.syntax_kind.node_kind.NodeKind.TheVariants
 use Rattle.tree_model.specs.Cursor.{Cursor}
 use Rattle.ras_node.specs.Nodes.{kind_at}
 use Rattle.ras_node.specs.KindSets.{by_number}
-use Rattle.ra_ap_syntax.specs.declared.ast.node_ext.TypeOrConstParam.{TypeOrConstParam}
-use Rattle.ra_ap_syntax.specs.declared.ast.node_ext.TypeOrConstParam.TheVariants.{Ty, Const}
+use Rattle.ra_ap_syntax.specs.declared.ast.views.type_or_const_param.TypeOrConstParam.{TypeOrConstParam}
+use Rattle.ra_ap_syntax.specs.declared.ast.views.type_or_const_param.TypeOrConstParam.TheVariants.{Ty, Const}
 use Rattle.ras_node.specs.Sets.{is_type_or_const_param}
 
 abbrev pub type_or_const_param_node : TypeOrConstParam → Cursor

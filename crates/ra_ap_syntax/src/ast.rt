@@ -1,4 +1,4 @@
-//! Typed views of nodes and tokens, with the names of rust-analyzer's `syntax::ast`.
+//! Typed views of nodes and tokens, with the names of rust-analyzer's `syntax::ast`. Made by `tests/views` from `views.txt`.
 
 mod expr_ext;
 mod node_ext;
@@ -8,52 +8,7 @@ mod traits;
 mod typed;
 mod views;
 
-pub use expr_ext::{
-    ArgsMaybeEmpty, ArrayExprKind, BlockModifier, CallableExpr, ElseBranch, FieldKind, RangeItem,
-};
-pub use views::adt::Adt;
-pub use views::any_attr::AnyAttr;
-pub use views::any_has_attrs::AnyHasAttrs;
-pub use views::any_has_generic_params::AnyHasGenericParams;
-pub use views::assoc_item::AssocItem;
-// Laid out by hand: of so many names the formatter would write one a line.
-#[rattlefmt::skip]
-pub use views::expr::{
-    ArrayExpr, AsmExpr, AwaitExpr, BecomeExpr, BinExpr, BlockExpr, BreakExpr, CallExpr, CastExpr,
-    CfgPredExpr, ClosureExpr, ContinueExpr, Expr, FieldExpr, ForExpr, FormatArgsExpr, IfExpr,
-    IncludeBytesExpr, IndexExpr, LetExpr, Literal, LoopExpr, MacroExpr, MatchExpr, MethodCallExpr,
-    OffsetOfExpr, ParenExpr, PathExpr, PrefixExpr, RangeExpr, RecordExpr, RefExpr, ReturnExpr,
-    TryExpr, TupleExpr, UnderscoreExpr, WhileExpr, YeetExpr, YieldExpr,
-};
-pub use views::extern_item::ExternItem;
-pub use views::generic_arg::{AssocTypeArg, ConstArg, GenericArg, LifetimeArg, TypeArg};
-pub use views::generic_param::{ConstParam, GenericParam, LifetimeParam, TypeParam};
-pub use views::item::{
-    Const, Enum, ExternBlock, ExternCrate, Fn, Impl, Item, MacroCall, MacroDef, MacroRules, Module,
-    Static, Struct, Trait, TypeAlias, Union, Use,
-};
-pub use views::meta::{
-    CfgAttrMeta, CfgMeta, KeyValueMeta, Meta, PathMeta, TokenTreeMeta, UnsafeMeta,
-};
-// Laid out by hand: of so many names the formatter would write one a line.
-#[rattlefmt::skip]
-pub use views::nodes::{
-    Abi, ArgList, AssocItemList, Attr, CfgAtom, DocComment, ExternItemList, ForBinder,
-    FormatArgsArg, GenericArgList, GenericParamList, ItemList, Label, LetElse, Lifetime, MacroStmts,
-    MatchArm, MatchArmList, MatchGuard, Name, NameRef, Param, ParamList, Path, PathSegment,
-    RecordExprField, RecordField, RecordFieldList, RecordPatField, RetType, SelfParam, SourceFile,
-    StmtList, TokenTree, TryBlockModifier, TupleField, TupleFieldList, TypeAnchor, TypeBound,
-    TypeBoundList, UseBoundGenericArgs, UseTree, UseTreeList, Variant, Visibility, VisibilityInner,
-    WhereClause, WherePred,
-};
-// Laid out by hand: of so many names the formatter would write one a line.
-#[rattlefmt::skip]
-pub use node_ext::{
-    AttrsIter, AttrsWithDoc, CfgAtomKey, Commas, LifetimeArgs, LifetimeBounds, LifetimeParams,
-    Macro, NameLike, NameOrNameRef, PathSegmentKind, Qualifiers, Segments, SelfParamKind,
-    SlicePatComponents, Statements, StructKind, TokenTreeChildren, TokenTreesAndTokens,
-    TypeBoundKind, TypeOrConstParam, TypeOrConstParams, VisibilityKind,
-};
+pub use expr_ext::{ArgsMaybeEmpty, ArrayExprKind, BlockModifier, FieldKind, RangeItem};
 pub use operators::{ArithOp, BinaryOp, CmpOp, LogicOp, Ordering, RangeOp, UnaryOp};
 pub(crate) use ras_kinds::raw;
 pub use ras_literal::{
@@ -65,17 +20,59 @@ pub use ras_token::tokens::{
     Byte, ByteString, CString, Char, Comment, FloatNumber, IntNumber, String, Whitespace,
 };
 pub use ras_token::{AnyComment, AnyString, IsString, LiteralKind, TypedToken};
-pub use traits::{
-    HasArgList, HasAttrs, HasGenericArgs, HasGenericParams, HasLoopBody, HasModuleItem, HasName,
-    HasTypeBounds, HasVisibility, attrs_including_inner, attrs_with_doc_including_inner,
-};
+pub use traits::{HasAttrs, HasLoopBody, attrs_including_inner, attrs_with_doc_including_inner};
 pub use typed::Typed;
-pub use views::pat::{
-    BoxPat, ConstBlockPat, IdentPat, LiteralPat, MacroPat, OrPat, ParenPat, Pat, PathPat, RangePat,
-    RecordPat, RefPat, RestPat, SlicePat, TuplePat, TupleStructPat, WildcardPat,
+pub use views::adt::Adt;
+pub use views::any_attr::AnyAttr;
+pub use views::any_has_attrs::AnyHasAttrs;
+pub use views::any_has_generic_params::AnyHasGenericParams;
+pub use views::assoc_item::AssocItem;
+pub use views::callable_expr::CallableExpr;
+pub use views::else_branch::ElseBranch;
+pub use views::expr::Expr;
+pub use views::extern_item::ExternItem;
+pub use views::generic_arg::GenericArg;
+pub use views::generic_param::GenericParam;
+pub use views::item::Item;
+pub use views::macros::Macro;
+pub use views::meta::Meta;
+pub use views::name_like::NameLike;
+pub use views::name_or_name_ref::NameOrNameRef;
+pub use views::pat::Pat;
+pub use views::stmt::Stmt;
+pub use views::traits::{
+    HasArgList, HasGenericArgs, HasGenericParams, HasModuleItem, HasName, HasTypeBounds,
+    HasVisibility,
 };
-pub use views::stmt::{ExprStmt, LetStmt, Stmt};
-pub use views::ty::{
-    ArrayType, DynTraitType, FnPtrType, ForType, ImplTraitType, InferType, MacroType, NeverType,
-    ParenType, PathType, PtrType, RefType, SliceType, TupleType, Type,
+pub use views::ty::Type;
+pub use views::type_or_const_param::TypeOrConstParam;
+// Of so many names the formatter would write one a line.
+#[rattlefmt::skip]
+pub use node_ext::{
+    AttrsIter, AttrsWithDoc, CfgAtomKey, Commas, LifetimeArgs, LifetimeBounds, LifetimeParams,
+    PathSegmentKind, Qualifiers, Segments, SelfParamKind, SlicePatComponents, Statements,
+    StructKind, TokenTreeChildren, TokenTreesAndTokens, TypeBoundKind, TypeOrConstParams,
+    VisibilityKind,
+};
+// Of so many names the formatter would write one a line.
+#[rattlefmt::skip]
+pub use views::kinds::{
+    Abi, ArgList, ArrayExpr, ArrayType, AsmExpr, AssocItemList, AssocTypeArg, Attr, AwaitExpr,
+    BecomeExpr, BinExpr, BlockExpr, BoxPat, BreakExpr, CallExpr, CastExpr, CfgAtom, CfgAttrMeta,
+    CfgMeta, CfgPredExpr, ClosureExpr, Const, ConstArg, ConstBlockPat, ConstParam, ContinueExpr,
+    DocComment, DynTraitType, Enum, ExprStmt, ExternBlock, ExternCrate, ExternItemList, FieldExpr,
+    Fn, FnPtrType, ForBinder, ForExpr, ForType, FormatArgsArg, FormatArgsExpr, GenericArgList,
+    GenericParamList, IdentPat, IfExpr, Impl, ImplTraitType, IncludeBytesExpr, IndexExpr, InferType,
+    ItemList, KeyValueMeta, Label, LetElse, LetExpr, LetStmt, Lifetime, LifetimeArg, LifetimeParam,
+    Literal, LiteralPat, LoopExpr, MacroCall, MacroDef, MacroExpr, MacroPat, MacroRules, MacroStmts,
+    MacroType, MatchArm, MatchArmList, MatchExpr, MatchGuard, MethodCallExpr, Module, Name, NameRef,
+    NeverType, OffsetOfExpr, OrPat, Param, ParamList, ParenExpr, ParenPat, ParenType, Path,
+    PathExpr, PathMeta, PathPat, PathSegment, PathType, PrefixExpr, PtrType, RangeExpr, RangePat,
+    RecordExpr, RecordExprField, RecordField, RecordFieldList, RecordPat, RecordPatField, RefExpr,
+    RefPat, RefType, RestPat, RetType, ReturnExpr, SelfParam, SlicePat, SliceType, SourceFile,
+    Static, StmtList, Struct, TokenTree, TokenTreeMeta, Trait, TryBlockModifier, TryExpr, TupleExpr,
+    TupleField, TupleFieldList, TuplePat, TupleStructPat, TupleType, TypeAlias, TypeAnchor, TypeArg,
+    TypeBound, TypeBoundList, TypeParam, UnderscoreExpr, Union, UnsafeMeta, Use,
+    UseBoundGenericArgs, UseTree, UseTreeList, Variant, Visibility, VisibilityInner, WhereClause,
+    WherePred, WhileExpr, WildcardPat, YeetExpr, YieldExpr,
 };

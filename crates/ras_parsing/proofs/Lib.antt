@@ -1,3 +1,4 @@
 pub mod TreeTexts
 pub mod BuildLemmas
 pub mod PastErrors
+pub mod DraftRefusals

@@ -5,7 +5,7 @@ ghost use Rattle.tree_model.specs.Events.{enter, leaf, exit, BuildsNode, refusal
 ghost use Rattle.tree_model.specs.Cursor.{IsRoot};
 ghost use Rattle.ras_front_end.specs.Fault.{fault_at};
 ghost use Rattle.ras_front_end.specs.Parsed.{ErrorsLieIn};
-ghost use Rattle.ras_parsing.specs.Draft.{is_past, draft_refusal};
+ghost use Rattle.ras_parsing.specs.Draft.{is_past, draft_refusal, IsAcceptedDraft, IsFirstDraftRefusal};
 
 use crate::build::Built;
 use crate::parse::Parse;
@@ -88,11 +88,12 @@ impl SyntaxTreeBuilder {
     /// The parse. Else the first refusal that holds, in the order of [`FinishError`]: those of the events, then
     /// `ErrorPastText` where an error's position is past the text (the text's end is not), then `Memory`. The builder is
     /// gone then. No refusal but `Memory` takes memory, so each is answered also where there is none.
+    #[tactic(auto, using(crate::proofs::DraftRefusals::draft_refusal_is, crate::proofs::DraftRefusals::draft_accepted))]
     pub fn finish(self) -> Result<Parse, FinishError>
         ensures ok { IfOk result (λ p. BuildsNode self.events p.tree × (p.errors ≡ self.faults)) }
         ensures in_text { IfOk result ErrorsLieIn }
-        ensures accepted { OnOk result (draft_refusal self ≡ None) }
-        ensures refused { IfErr result (λ e. refusal_of e ≡ draft_refusal self) }
+        ensures accepted { OnOk result (IsAcceptedDraft self) }
+        ensures refused { IfErr result (IsFirstDraftRefusal self) }
     {
         let alloc = self.alloc;
         let built = self.finish_raw()?;

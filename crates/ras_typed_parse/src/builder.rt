@@ -1,9 +1,9 @@
 //! Events and errors to a parse.
 ghost use Rattle.std.specs.Prelude.{◌≡◌, [], ◌∷◌, ◌++◌, OnOk, OnErr, IfOk, IfErr, None, string_bytes};
-ghost use Rattle.tree_model.specs.Events.{enter, leaf, exit, BuildsNode, refusal_of};
+ghost use Rattle.tree_model.specs.Events.{enter, leaf, exit, BuildsNode};
 ghost use Rattle.ras_front_end.specs.Fault.{fault_at};
 ghost use Rattle.ras_front_end.specs.Parsed.{ErrorsLieIn};
-ghost use Rattle.ras_parsing.specs.Draft.{draft_refusal};
+ghost use Rattle.ras_parsing.specs.Draft.{IsAcceptedDraft, IsFirstDraftRefusal};
 
 use crate::parse::Parse;
 use lossless_tree::{FinishError, SyntaxNode};
@@ -79,8 +79,8 @@ impl SyntaxTreeBuilder {
     pub fn finish(self) -> Result<Parse<SyntaxNode>, FinishError>
         ensures ok { IfOk result (λ p. BuildsNode self.events p.tree × (p.errors ≡ self.faults)) }
         ensures in_text { IfOk result ErrorsLieIn }
-        ensures accepted { OnOk result (draft_refusal self ≡ None) }
-        ensures refused { IfErr result (λ e. refusal_of e ≡ draft_refusal self) }
+        ensures accepted { OnOk result (IsAcceptedDraft self) }
+        ensures refused { IfErr result (IsFirstDraftRefusal self) }
     {
         let SyntaxTreeBuilder { draft } = self;
         let parsed = draft.finish()?;

@@ -1,7 +1,6 @@
 -- Pairs of parentheses that may go.
-use Rattle.std.specs.Prelude.{ℕ, ◌≤◌, Bool, true, false, not, ◌&&◌, List, ◌++◌, take, drop, slice_range, Option, Some, None, is_some, option_map}
+use Rattle.std.specs.Prelude.{Bool, false, not, ◌&&◌, Option, Some, None, is_some, option_map}
 use Rattle.std.specs.Option.{option_and_then}
-use Rattle.std.specs.Str.{IsCharBoundary}
 use Rattle.syntax_kind.specs.declared.syntax_kind.TheConstants.SyntaxKind.{PAREN_EXPR, L_PAREN, R_PAREN}
 use Rattle.text_size.specs.TextRange.{Bounds}
 use Rattle.tree_model.specs.Cursor.{Cursor, parent_of, range_of}
@@ -26,16 +25,3 @@ inside_may_go pair = may_go_from (typed_child is_expr pair) (parent_of pair) pai
 -- a pair, with both its parentheses, round an expression that needs none in its place
 abbrev pub may_go : Cursor → Bool
 may_go c = is_of_kind PAREN_EXPR c && (is_some (parens_of c) && inside_may_go c)
-
--- two ranges of the text that stand apart, in order, and cut no character
-pub record AreApart (s : List ℕ) (first second : Bounds) : Type 0 where
-  pub order : first.end ≤ second.start
-  pub first_start : IsCharBoundary s first.start
-  pub first_end : IsCharBoundary s first.end
-  pub second_start : IsCharBoundary s second.start
-  pub second_end : IsCharBoundary s second.end
-
--- the text with `front` in place of the first range and `back` in place of the second
-abbrev pub without : List ℕ → (first second : Bounds) → (front back : List ℕ) → List ℕ
-without s first second front back =
-    take first.start s ++ (front ++ (slice_range s first.end second.start ++ (back ++ drop second.end s)))

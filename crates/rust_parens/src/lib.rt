@@ -1,8 +1,10 @@
-//! Pairs of parentheses of a tree that may go by the tests of operators and statements, and a text without one.
+//! Pairs of parentheses of a tree that may go: by the tests of operators and statements, and by the parse of the text without them.
 #![tactic(auto)]
 
 mod find;
+mod needless;
 mod text;
 
 pub use find::{may_go, pairs, parens_of};
-pub use text::without;
+pub use needless::{LIMIT, Needless, Tried, find_needless};
+pub use text::text_without;

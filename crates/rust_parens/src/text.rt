@@ -1,41 +1,143 @@
-//! A text without a pair of parentheses.
-ghost use Rattle.std.specs.Prelude.{◌≡◌, ◌↔◌, IsTrue, IfOk, MatchOption, string_bytes};
-ghost use Rattle.rust_parens.specs.Pairs.{AreApart, without};
+//! A text without some pairs of parentheses.
+ghost use Rattle.std.specs.Prelude.{◌≡◌, ◌++◌, IfOk, OnOk, set, true, string_bytes};
+ghost use Rattle.rust_parens.specs.Texts.{mark_two, marked, marks_of, is_word, is_taken, is_sign, takes_equals, grow, grow_at, put, text_without};
 
-use lossless_tree::TextRange;
+use crate::find::parens_of;
+use lossless_tree::{NodeOrToken, SyntaxNode, TextRange};
+use rust_report::is_left_out;
 use std::alloc::{AllocError, Global};
 
-// The two ranges stand apart in the text, in order, and cut no character.
-fn are_apart(text: &str, first: TextRange, second: TextRange) -> bool
-    ensures { IsTrue result ↔ AreApart text.now first second }
+fn mark_at(marks: &mut [bool], offset: usize)
+    ensures { marks.new ≡ set marks.old offset true }
 {
-    first.end().raw() <= second.start().raw()
-        && text.is_char_boundary(first.start().raw() as usize)
-        && text.is_char_boundary(first.end().raw() as usize)
-        && text.is_char_boundary(second.start().raw() as usize)
-        && text.is_char_boundary(second.end().raw() as usize)
+    if offset < marks.len() {
+        marks[offset] = true;
+    }
 }
 
-/// The text with `front` in place of one range and `back` in place of a later one: those of a pair's two parentheses. `None` where the
-/// ranges do not stand apart in the text, or cut a character.
-pub fn without(
-    alloc: Global,
-    text: &str,
-    first: TextRange,
-    second: TextRange,
-    front: &str,
-    back: &str,
-) -> Result<Option<String>, AllocError>
-    ensures { IfOk result (λ o. MatchOption o (¬ AreApart text.now first second) (λ s. string_bytes s ≡ without text.now first second front.now back.now)) }
+fn mark_two(marks: &mut [bool], two: Option<(TextRange, TextRange)>)
+    ensures { marks.new ≡ mark_two two marks.old }
 {
-    if !are_apart(text, first, second) {
-        return Ok(None);
+    if let Some((open, close)) = two {
+        mark_at(marks, open.start().raw() as usize);
+        mark_at(marks, close.start().raw() as usize);
     }
-    let mut out = String::new(alloc);
-    out.push_str(&text[..first.start().raw() as usize])?;
-    out.push_str(front)?;
-    out.push_str(&text[first.end().raw() as usize..second.start().raw() as usize])?;
-    out.push_str(back)?;
-    out.push_str(&text[second.end().raw() as usize..])?;
-    Ok(Some(out))
+}
+
+fn mark(marks: &mut [bool], pairs: &[SyntaxNode])
+    ensures { marks.new ≡ marked marks.old pairs.now }
+{
+    for pair in pairs {
+        mark_two(marks, parens_of(pair));
+    }
+}
+
+/// The marks of the parentheses of pairs, those of `chosen` and of `more`, in a text of so many bytes.
+#[tactic(auto, using(crate::proofs::MarkLemmas::marked_append))]
+pub(crate) fn marks_of(
+    alloc: Global,
+    len: usize,
+    chosen: &[SyntaxNode],
+    more: &[SyntaxNode],
+) -> Result<Vec<bool>, AllocError>
+    ensures { IfOk result (λ marks. marks.items ≡ marks_of len (chosen.now ++ more.now)) }
+{
+    let mut marks = vec![in alloc; false; len]?;
+    mark(marks.as_mut_slice(), chosen);
+    mark(marks.as_mut_slice(), more);
+    Ok(marks)
+}
+
+// A byte of a word: a letter, a digit, `_`, and each one beyond ASCII.
+fn is_word(byte: u8) -> bool
+    ensures { result ≡ is_word byte }
+{
+    (48 <= byte && byte <= 57)
+        || ((65 <= byte && byte <= 90)
+            || ((97 <= byte && byte <= 122) || (byte == b'_' || 128 <= byte)))
+}
+
+// A byte that a word takes in, as `"` behind `b`.
+fn is_taken(byte: u8) -> bool
+    ensures { result ≡ is_taken byte }
+{
+    is_word(byte) || (byte == b'"' || (byte == b'\'' || byte == b'#'))
+}
+
+// Two bytes that are one sign, or begin or end a comment.
+fn is_sign(a: u8, b: u8) -> bool
+    ensures { result ≡ is_sign a b }
+{
+    (a == b
+        && (a == b'.'
+            || (a == b':'
+                || (a == b'&' || (a == b'|' || (a == b'<' || (a == b'>' || a == b'/')))))))
+        || ((a == b'-' && b == b'>')
+            || ((a == b'=' && b == b'>')
+                || ((a == b'<' && b == b'-')
+                    || ((a == b'/' && b == b'*') || (a == b'*' && b == b'/')))))
+}
+
+// A byte that is one sign with `=` behind.
+fn takes_equals(a: u8) -> bool
+    ensures { result ≡ takes_equals a }
+{
+    matches!(
+        a,
+        b'=' | b'!' | b'<' | b'>' | b'+' | b'-' | b'*' | b'/' | b'%' | b'^' | b'&' | b'|'
+    )
+}
+
+// What ends with one byte and what begins with the other would grow together.
+fn grow(a: u8, b: u8) -> bool
+    ensures { result ≡ grow a b }
+{
+    (is_word(a) && is_taken(b)) || (is_sign(a, b) || (b == b'=' && takes_equals(a)))
+}
+
+fn grow_at(a: Option<u8>, b: Option<u8>) -> bool
+    ensures { result ≡ grow_at a b }
+{
+    match a {
+        None => false,
+        Some(a) => match b {
+            None => false,
+            Some(b) => grow(a, b),
+        },
+    }
+}
+
+// Puts a token behind a text; where something was left out between, with a blank if they would grow together.
+#[tactic(auto, using(crate::proofs::MarkLemmas::put_blank, crate::proofs::MarkLemmas::put_plain))]
+fn put(out: &mut String, gap: bool, token: &str) -> Result<(), AllocError>
+    ensures { OnOk result (string_bytes out.new ≡ put gap (string_bytes out.old) token.now) }
+{
+    let last = out.as_bytes().last().copied();
+    let first = token.as_bytes().first().copied();
+    if gap && grow_at(last, first) {
+        out.push_str(" ")?;
+    }
+    out.push_str(token)
+}
+
+/// The text of a tree without the parentheses that marks leave out, with a blank in the place of some where the tokens beside them
+/// would grow together.
+///
+/// It takes time linear in the tree.
+pub fn text_without(alloc: Global, root: &SyntaxNode, marks: &[bool]) -> Result<String, AllocError>
+    ensures { IfOk result (λ s. string_bytes s ≡ text_without marks.now root.now) }
+{
+    let mut out = String::with_capacity(alloc, root.as_str().len())?;
+    let mut gap = false;
+    for element in root.descendants_with_tokens() {
+        if let NodeOrToken::Token(token) = &element {
+            if is_left_out(marks, &element) {
+                gap = true;
+            } else {
+                put(&mut out, gap, token.text())?;
+                gap = false;
+            }
+        }
+    }
+    Ok(out)
 }

@@ -8,7 +8,7 @@ use Rattle.tree_model.specs.Tree.{text}
 use Rattle.tree_model.specs.Cursor.{Cursor, focus}
 use Rattle.ras_node.specs.Nodes.{kind_at}
 use Rattle.rust_report.specs.declared.same.Difference.{Difference}
-use Rattle.rust_report.specs.Steps.{Event, Element, step, shown, first_element, first_step, IsFirstDifference}
+use Rattle.rust_report.specs.Steps.{Event, Element, step, shown, first_event, first_step, IsFirstDifference}
 
 -- the lists are what is left behind fronts that show the same steps
 pub record AreAlike (old new olds news : List Event) : Type 0 where
@@ -46,7 +46,7 @@ longer old new olds news a b olds' news' h e f s = record {
 
 -- they go on differently
 pub differ : (old new olds news : List Event) (d : Difference)
-    → AreAlike old new olds news → (first_step olds ≡ first_step news → ⊥) → d.old ≡ first_element olds → d.new ≡ first_element news → IsFirstDifference old new d
+    → AreAlike old new olds news → (first_step olds ≡ first_step news → ⊥) → d.old ≡ first_event olds → d.new ≡ first_event news → IsFirstDifference old new d
 differ old new olds news d h apart e f = record {
   front = h.front;
   behind = olds;
@@ -56,8 +56,8 @@ differ old new olds news d h apart e f = record {
   begins_so = h.begins_so;
   alike = h.alike;
   differ = apart;
-  old_element = e;
-  new_element = f;
+  old_event = e;
+  new_event = f;
 }
 
 -- both have ended

@@ -1,5 +1,5 @@
 -- Two trees, read as walks that enter and leave each node and token.
-use Rattle.std.specs.Prelude.{◌≡◌, ℕ, Bool, true, false, not, ◌&&◌, List, [], ◌∷◌, ◌++◌, Option, Some, None, map}
+use Rattle.std.specs.Prelude.{◌≡◌, ℕ, Bool, true, false, not, ◌&&◌, List, [], ◌∷◌, ◌++◌, Option, Some, None, map, get_or}
 use Rattle.std.specs.List.{filter}
 use Rattle.syntax_kind.specs.declared.syntax_kind.SyntaxKind.{SyntaxKind}
 use Rattle.syntax_kind.specs.declared.syntax_kind.SyntaxKind.TheVariants.{Token}
@@ -11,9 +11,9 @@ use Rattle.lossless_tree.specs.declared.cursor.element.NodeOrToken.TheVariants a
 use Rattle.lossless_tree.specs.Element.{is_trivia_element}
 use Rattle.lossless_tree.specs.WalkEvent.{walk_event}
 use Rattle.tree_model.specs.Tree.{text}
-use Rattle.tree_model.specs.Cursor.{Cursor, focus, parent_of, walk_of}
-use Rattle.tree_model.specs.Equality.{is_same_cursor}
-use Rattle.ras_node.specs.Nodes.{kind_at}
+use Rattle.syntax_kind.specs.declared.syntax_kind.TheConstants.SyntaxKind.{PAREN_EXPR}
+use Rattle.tree_model.specs.Cursor.{Cursor, focus, range_start, walk_of}
+use Rattle.ras_node.specs.Nodes.{kind_at, is_of_kind}
 use Rattle.rust_report.specs.declared.same.Trivia.{Trivia}
 use Rattle.rust_report.specs.declared.same.Trivia.TheVariants.{Kept, Aside}
 use Rattle.rust_report.specs.declared.same.Difference.{Difference}
@@ -33,33 +33,29 @@ is_paren (Token token.L_PAREN) = true
 is_paren (Token token.R_PAREN) = true
 is_paren _ = false
 
-abbrev pub is_the : Cursor → Option Cursor → Bool
-is_the pair None = false
-is_the pair (Some c) = is_same_cursor c pair
+-- the mark of an offset; none where there are fewer marks
+abbrev pub is_marked : List Bool → ℕ → Bool
+is_marked marks o = get_or marks o false
 
--- the pair itself, or one of its two parentheses
-abbrev pub is_of_pair : Cursor → Element → Bool
-is_of_pair pair (element.Node c) = is_same_cursor c pair
-is_of_pair pair (element.Token c) = is_paren (kind_at c) && is_the pair (parent_of c)
+-- a pair of parentheses that starts at a marked byte, or a parenthesis that does
+abbrev pub is_left_out : List Bool → Element → Bool
+is_left_out marks (element.Node c) = is_of_kind PAREN_EXPR c && is_marked marks (range_start c)
+is_left_out marks (element.Token c) = is_paren (kind_at c) && is_marked marks (range_start c)
 
 -- white space or a comment, where these are passed over
 abbrev pub is_aside : Trivia → Element → Bool
 is_aside Kept x = false
 is_aside Aside x = is_trivia_element x
 
-abbrev pub is_left_out : Option Cursor → Element → Bool
-is_left_out None x = false
-is_left_out (Some pair) x = is_of_pair pair x
+abbrev pub counts_element : Trivia → List Bool → Element → Bool
+counts_element trivia marks x = not (is_aside trivia x) && not (is_left_out marks x)
 
-abbrev pub counts_element : Trivia → Option Cursor → Element → Bool
-counts_element trivia pair x = not (is_aside trivia x) && not (is_left_out pair x)
-
-abbrev pub counts : Trivia → Option Cursor → Event → Bool
-counts trivia pair e = counts_element trivia pair (element_in e)
+abbrev pub counts : Trivia → List Bool → Event → Bool
+counts trivia marks e = counts_element trivia marks (element_in e)
 
 -- the events of a walk that count
-abbrev pub counted : Trivia → Option Cursor → List (Bool × Cursor) → List Event
-counted trivia pair walk = filter (counts trivia pair) (map walk_event walk)
+abbrev pub counted : Trivia → List Bool → List (Bool × Cursor) → List Event
+counted trivia marks walk = filter (counts trivia marks) (map walk_event walk)
 
 -- the first of some events is this one, and the others are left; none is where there are none
 abbrev pub IsNext : List Event → Option Event → List Event → Type 0
@@ -76,20 +72,20 @@ abbrev pub step : Event → Bool × (SyntaxKind × Option (List ℕ))
 step (Enter x) = (true, shown x)
 step (Leave x) = (false, shown x)
 
--- what the walk of a tree shows, without a pair if one is left out
-abbrev pub steps_of : Trivia → Option Cursor → Cursor → List (Bool × (SyntaxKind × Option (List ℕ)))
-steps_of trivia pair c = map step (counted trivia pair (walk_of c))
+-- what the walk of a tree shows, without what the marks leave out
+abbrev pub steps_of : Trivia → List Bool → Cursor → List (Bool × (SyntaxKind × Option (List ℕ)))
+steps_of trivia marks c = map step (counted trivia marks (walk_of c))
 
--- the first of some events at its element, and none where there are none
-abbrev pub first_element : List Event → Option Element
-first_element [] = None
-first_element (e ∷ es) = Some (element_in e)
+-- the first of some events, and none where there are none
+abbrev pub first_event : List Event → Option Event
+first_event [] = None
+first_event (e ∷ es) = Some e
 
 abbrev pub first_step : List Event → Option (Bool × (SyntaxKind × Option (List ℕ)))
 first_step [] = None
 first_step (e ∷ es) = Some (step e)
 
--- two lists of events begin alike, and go on differently with these elements
+-- two lists of events begin alike, and go on differently with these events
 pub record IsFirstDifference (old new : List Event) (d : Difference) : Type 0 where
   pub front : List Event
   pub behind : List Event
@@ -99,5 +95,5 @@ pub record IsFirstDifference (old new : List Event) (d : Difference) : Type 0 wh
   pub begins_so : new ≡ other ++ rest
   pub alike : map step front ≡ map step other
   pub differ : first_step behind ≡ first_step rest → ⊥
-  pub old_element : d.old ≡ first_element behind
-  pub new_element : d.new ≡ first_element rest
+  pub old_event : d.old ≡ first_event behind
+  pub new_event : d.new ≡ first_event rest

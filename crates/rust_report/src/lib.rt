@@ -9,4 +9,4 @@ mod same;
 pub use items::{Row, is_listed, outline};
 pub use pattern::{Link, PatternError, Step, fits, kind_named, parse_pattern, query};
 pub use place::{Spot, offset_of, spot_at};
-pub use same::{Difference, Trivia, first_difference};
+pub use same::{Difference, Trivia, first_difference, is_left_out};

@@ -1,10 +1,10 @@
-//! Where two trees differ, and whether one is another without a pair of parentheses.
-ghost use Rattle.std.specs.Prelude.{◌≡◌, ◌↔◌, IsTrue, IsNone, IfSome, None};
+//! Where two trees differ, and whether one is another without some pairs of parentheses.
+ghost use Rattle.std.specs.Prelude.{◌≡◌, ◌↔◌, IsTrue, IsNone, IfSome, []};
 ghost use Rattle.tree_model.specs.Cursor.{walk_of};
-ghost use Rattle.rust_report.specs.Steps.{is_of_pair, counts_element, counts, shown, step, steps_of, element_in, counted, IsNext, IsFirstDifference};
+ghost use Rattle.rust_report.specs.Steps.{is_marked, is_left_out, counts_element, counts, shown, step, steps_of, counted, IsNext, IsFirstDifference};
 
 use lossless_tree::{
-    NodeOrToken, PreorderWithTokens, SyntaxElement, SyntaxKind, SyntaxNode, WalkEvent,
+    NodeOrToken, PreorderWithTokens, SyntaxElement, SyntaxKind, SyntaxNode, TextSize, WalkEvent,
 };
 
 /// Whether white space and comments count.
@@ -16,58 +16,58 @@ pub enum Trivia {
     Aside,
 }
 
-/// The first elements at which two trees differ; `None` where the walk of a tree has ended.
+/// The first steps at which the walks of two trees differ; `None` where the walk of a tree has ended.
 #[derive(Drop)]
 pub struct Difference {
     /// That of the first tree.
-    pub old: Option<SyntaxElement>,
+    pub old: Option<WalkEvent<SyntaxElement>>,
     /// That of the second tree.
-    pub new: Option<SyntaxElement>,
+    pub new: Option<WalkEvent<SyntaxElement>>,
 }
 
-// The element is the pair, or one of its two parentheses.
-fn is_of_pair(pair: &SyntaxNode, element: &SyntaxElement) -> bool
-    ensures { result ≡ is_of_pair pair.now element.now }
+// The mark of an offset; none where there are fewer marks.
+fn is_marked(marks: &[bool], offset: TextSize) -> bool
+    ensures { result ≡ is_marked marks.now offset }
+{
+    match marks.get(offset.raw() as usize) {
+        Some(mark) => *mark,
+        None => false,
+    }
+}
+
+/// Whether a node or token is left out by marks, one for each byte of the text: a node `PAREN_EXPR` that starts at a marked byte, or
+/// a parenthesis that does.
+pub fn is_left_out(marks: &[bool], element: &SyntaxElement) -> bool
+    ensures { result ≡ is_left_out marks.now element.now }
 {
     match element {
-        NodeOrToken::Node(node) => *node == *pair,
+        NodeOrToken::Node(node) => {
+            node.kind() == SyntaxKind::PAREN_EXPR && is_marked(marks, node.text_range().start())
+        }
         NodeOrToken::Token(token) => match token.kind() {
-            SyntaxKind::L_PAREN | SyntaxKind::R_PAREN => match token.parent() {
-                Some(parent) => parent == *pair,
-                None => false,
-            },
+            SyntaxKind::L_PAREN | SyntaxKind::R_PAREN => {
+                is_marked(marks, token.text_range().start())
+            }
             _ => false,
         },
     }
 }
 
-fn element_in(event: WalkEvent<SyntaxElement>) -> SyntaxElement
-    ensures { result ≡ element_in event }
-{
-    match event {
-        WalkEvent::Enter(element) => element,
-        WalkEvent::Leave(element) => element,
-    }
-}
-
-fn counts_element(trivia: Trivia, left_out: &Option<SyntaxNode>, element: &SyntaxElement) -> bool
-    ensures { result ≡ counts_element trivia left_out.now element.now }
+fn counts_element(trivia: Trivia, marks: &[bool], element: &SyntaxElement) -> bool
+    ensures { result ≡ counts_element trivia marks.now element.now }
 {
     if matches!(trivia, Trivia::Aside) && element.is_trivia() {
         return false;
     }
-    match left_out {
-        Some(pair) => !is_of_pair(pair, element),
-        None => true,
-    }
+    !is_left_out(marks, element)
 }
 
-fn counts(trivia: Trivia, left_out: &Option<SyntaxNode>, event: &WalkEvent<SyntaxElement>) -> bool
-    ensures { result ≡ counts trivia left_out.now event.now }
+fn counts(trivia: Trivia, marks: &[bool], event: &WalkEvent<SyntaxElement>) -> bool
+    ensures { result ≡ counts trivia marks.now event.now }
 {
     match event {
-        WalkEvent::Enter(element) => counts_element(trivia, left_out, element),
-        WalkEvent::Leave(element) => counts_element(trivia, left_out, element),
+        WalkEvent::Enter(element) => counts_element(trivia, marks, element),
+        WalkEvent::Leave(element) => counts_element(trivia, marks, element),
     }
 }
 
@@ -75,12 +75,12 @@ fn counts(trivia: Trivia, left_out: &Option<SyntaxNode>, event: &WalkEvent<Synta
 fn next_counted(
     walk: &mut PreorderWithTokens,
     trivia: Trivia,
-    left_out: &Option<SyntaxNode>,
+    marks: &[bool],
 ) -> Option<WalkEvent<SyntaxElement>>
-    ensures { IsNext (counted trivia left_out.now walk.old) result (counted trivia left_out.now walk.new) }
+    ensures { IsNext (counted trivia marks.now walk.old) result (counted trivia marks.now walk.new) }
 {
     while let Some(event) = walk.next() {
-        if counts(trivia, left_out, &event) {
+        if counts(trivia, marks, &event) {
             return Some(event);
         }
     }
@@ -117,25 +117,25 @@ fn is_same_step(a: &WalkEvent<SyntaxElement>, b: &WalkEvent<SyntaxElement>) -> b
 }
 
 /// The first place where two trees differ, read as walks that enter and leave each node and token; `None` where they are the same, by
-/// kinds and by the texts of tokens. The first tree is read without the pair `left_out`, where there is one, and without its
-/// parentheses.
+/// kinds and by the texts of tokens. The first tree is read without what the marks leave out, as [`is_left_out`] says; with no
+/// marks, as a whole.
 ///
 /// It takes time linear in the two trees up to that place, and no memory.
 pub fn first_difference(
     old: &SyntaxNode,
-    left_out: &Option<SyntaxNode>,
+    marks: &[bool],
     new: &SyntaxNode,
     trivia: Trivia,
 ) -> Option<Difference>
-    ensures same { IsNone result ↔ (steps_of trivia left_out.now old.now ≡ steps_of trivia None new.now) }
-    ensures first { IfSome result (IsFirstDifference (counted trivia left_out.now (walk_of old.now)) (counted trivia None (walk_of new.now))) }
+    ensures same { IsNone result ↔ (steps_of trivia marks.now old.now ≡ steps_of trivia [] new.now) }
+    ensures first { IfSome result (IsFirstDifference (counted trivia marks.now (walk_of old.now)) (counted trivia [] (walk_of new.now))) }
 {
     let mut olds = old.preorder_with_tokens();
     let mut news = new.preorder_with_tokens();
-    while let Some(a) = next_counted(&mut olds, trivia, left_out) {
-        let Some(b) = next_counted(&mut news, trivia, &None) else {
+    while let Some(a) = next_counted(&mut olds, trivia, marks) {
+        let Some(b) = next_counted(&mut news, trivia, &[]) else {
             return Some(Difference {
-                old: Some(element_in(a)),
+                old: Some(a),
                 new: None,
             });
         };
@@ -143,14 +143,14 @@ pub fn first_difference(
             continue;
         }
         return Some(Difference {
-            old: Some(element_in(a)),
-            new: Some(element_in(b)),
+            old: Some(a),
+            new: Some(b),
         });
     }
-    match next_counted(&mut news, trivia, &None) {
+    match next_counted(&mut news, trivia, &[]) {
         Some(b) => Some(Difference {
             old: None,
-            new: Some(element_in(b)),
+            new: Some(b),
         }),
         None => None,
     }

@@ -11,6 +11,8 @@ pub enum Failure {
     Output(io::Error),
     /// The text is not read.
     Text(ParseError),
+    /// The file is not written.
+    File(io::Error),
 }
 
 impl From<io::Error> for Failure {

@@ -1,10 +1,9 @@
-//! Texts without the pairs of parentheses that may go.
+//! Patches, and files that are given another text.
 
 use crate::failure::Failure;
-use crate::parens::fixed_all;
-use crate::source::Reading;
 use std::alloc::{AllocError, Global};
-use std::io::Write;
+use std::fs::File;
+use std::io::{ErrorKind, Write};
 use std::{fs, io};
 
 fn lines_of(alloc: Global, text: &str) -> Result<Vec<&str>, AllocError> {
@@ -72,45 +71,69 @@ fn write_changes<W: Write>(out: &mut W, old: &[&str], new: &[&str]) -> io::Resul
     Ok(())
 }
 
-/// Writes how a text would change without the pairs that may go, as a patch; how many pairs these are.
+/// Writes how a file changes, as a patch.
 pub fn diff<W: Write>(
     alloc: Global,
     out: &mut W,
     name: &str,
-    text: &str,
-    reading: Reading,
-) -> Result<u64, Failure> {
-    match fixed_all(alloc, text, reading)? {
-        None => Ok(0),
-        Some((new, count)) => {
-            writeln!(out, "--- {name}\n+++ {name}")?;
-            let (old, new) = (lines_of(alloc, text)?, lines_of(alloc, new.as_str())?);
-            write_changes(out, old.as_slice(), new.as_slice())?;
-            Ok(count)
-        }
-    }
+    old: &str,
+    new: &str,
+) -> Result<(), Failure> {
+    writeln!(out, "--- {name}\n+++ {name}")?;
+    let (old, new) = (lines_of(alloc, old)?, lines_of(alloc, new)?);
+    Ok(write_changes(out, old.as_slice(), new.as_slice())?)
 }
 
-/// Writes a file anew without the pairs that may go, and tells how many these were; of standard input, writes the text to the output.
-/// Nothing counts as found.
+// A new file beside another; how its name ends, from `.0.new` on, is that of no file yet.
+fn new_beside(rt: &HostRuntime, path: &str) -> io::Result<(File, String)> {
+    for number in 0..100 {
+        let name = format!(in rt.alloc(); "{path}.{number}.new")?;
+        match File::create_new(rt, name.as_str()) {
+            Ok(file) => return Ok((file, name)),
+            Err(error) => {
+                if error.kind() != ErrorKind::AlreadyExists {
+                    return Err(error);
+                }
+            }
+        }
+    }
+    Err(io::Error::from(ErrorKind::AlreadyExists))
+}
+
+// Writes the text of a new file, and gives it the permissions of the old one and then its name.
+fn write_new(rt: &HostRuntime, mut file: File, new: &str, old: &str, text: &str) -> io::Result<()> {
+    file.write_all(text.as_bytes())?;
+    file.set_permissions(fs::metadata(rt, old)?.permissions())?;
+    file.sync_all()?;
+    fs::rename(rt, new, old)
+}
+
+// Puts a text in place of a file's, by a new file beside it, so that at each moment the file has the old text or the new one, whole.
+// Of a link, the file that it leads to is replaced.
+fn replace(rt: &HostRuntime, name: &str, text: &str) -> io::Result<()> {
+    let path = fs::canonicalize(rt, name)?;
+    let (file, new) = new_beside(rt, path.as_str())?;
+    let done = write_new(rt, file, new.as_str(), path.as_str(), text);
+    if done.is_err() {
+        let _gone = fs::remove_file(rt, new.as_str());
+    }
+    done
+}
+
+/// Gives a file another text, and tells how many pairs were removed; of standard input, writes the text to the output.
 pub fn fix<W: Write>(
     rt: &HostRuntime,
     out: &mut W,
     name: &str,
     text: &str,
-    reading: Reading,
-) -> Result<u64, Failure> {
-    let fixed = fixed_all(rt.alloc(), text, reading)?;
+    count: usize,
+) -> Result<(), Failure> {
     if name == "-" {
-        match fixed {
-            Some((new, _)) => out.write_all(new.as_bytes())?,
-            None => out.write_all(text.as_bytes())?,
-        }
-        return Ok(0);
+        return Ok(out.write_all(text.as_bytes())?);
     }
-    if let Some((new, count)) = fixed {
-        fs::write(rt, name, new.as_bytes())?;
-        writeln!(out, "{name}: {count} pairs removed")?;
+    if let Err(error) = replace(rt, name, text) {
+        return Err(Failure::File(error));
     }
-    Ok(0)
+    let pairs = if count == 1 { "pair" } else { "pairs" };
+    Ok(writeln!(out, "{name}: {count} {pairs} removed")?)
 }

@@ -2,13 +2,14 @@
 
 use crate::check::{Checking, check};
 use crate::failure::Failure;
+use crate::highlight::Ink;
 use crate::inputs::{files_below, is_folder, text_of};
 use crate::options::{Form, form_of, reading};
 use crate::session::Session;
 use crate::source::Reading;
 use crate::style::Style;
 use crate::tree::Showing;
-use crate::{fix, outline, parens, query, tokens, tree};
+use crate::{fix, highlight, outline, parens, query, tokens, tree};
 use clap::ArgMatches;
 use rust_report::Step;
 use std::io;
@@ -24,16 +25,25 @@ pub enum Task {
     Check { style: Style },
     /// Lists items.
     Outline,
-    /// Names pairs of parentheses.
-    Parens,
-    /// Prints how the files would change without them.
-    Diff,
-    /// Writes the files anew without them.
-    Fix,
+    /// Finds pairs of parentheses.
+    Parens { then: Then },
     /// Lists tokens.
     Tokens,
     /// Finds nodes and tokens.
     Query { steps: Vec<Step> },
+    /// Marks words by what they are.
+    Highlight { ink: Ink },
+}
+
+/// What is done with pairs of parentheses.
+#[derive(Clone, Copy, Debug)]
+pub enum Then {
+    /// They are named.
+    List,
+    /// How a file would change without them is printed.
+    Diff,
+    /// They are removed from the file.
+    Fix,
 }
 
 /// A task for a list of files.
@@ -60,9 +70,9 @@ impl Job {
     // What the totals count.
     fn counts(&self) -> &'static str {
         match &self.task {
-            Task::Tree { .. } | Task::Outline => "found",
+            Task::Tree { .. } | Task::Outline | Task::Highlight { ink: _ } => "found",
             Task::Check { style: _ } | Task::Tokens => "errors",
-            Task::Parens | Task::Diff | Task::Fix => "pairs",
+            Task::Parens { then: _ } => "pairs",
             Task::Query { steps: _ } => "matches",
         }
     }
@@ -82,7 +92,7 @@ impl Job {
                 if *named {
                     writeln!(out, "==> {name} <==")?;
                 }
-                tree::show(alloc, out, text, reading, showing)
+                tree::show(alloc, out, name, text, reading, showing)
             }
             Task::Check { style } => {
                 let options = Checking {
@@ -93,14 +103,55 @@ impl Job {
                 check(alloc, out, name, text, options)
             }
             Task::Outline => outline::show(alloc, out, name, text, reading, format),
-            Task::Parens => parens::list(alloc, out, name, text, reading, format),
-            Task::Diff => fix::diff(alloc, out, name, text, reading),
-            Task::Fix => fix::fix(rt, out, name, text, reading),
+            Task::Parens { then } => self.parens(rt, out, name, text, *then),
+            Task::Highlight { ink } => highlight::show(alloc, out, name, text, reading, *ink),
             Task::Tokens => tokens::show(alloc, out, name, text, reading.edition, format),
             Task::Query { steps } => {
                 query::show(alloc, out, name, text, steps.as_slice(), reading, format)
             }
         }
+    }
+
+    // What is done with the pairs of a text; how many count as found: none where they were removed.
+    fn parens<W: Write>(
+        &self,
+        rt: &HostRuntime,
+        out: &mut W,
+        name: &str,
+        text: &str,
+        then: Then,
+    ) -> Result<u64, Failure> {
+        let alloc = rt.alloc();
+        let found = parens::needless(alloc, text, self.reading)?;
+        if found.left > 0 {
+            eprintln!(rt;
+                "rust_tree: {name}: {} further pairs were not tried, since so many stay",
+                found.left
+            )?;
+        }
+        let count = found.pairs.len();
+        let new = match &found.text {
+            Some(new) => new.as_str(),
+            None => text,
+        };
+        match then {
+            Then::List => {
+                let pairs = found.pairs.as_slice();
+                parens::list(alloc, out, name, text, pairs, self.format)?;
+            }
+            Then::Diff => {
+                if count > 0 {
+                    fix::diff(alloc, out, name, text, new)?;
+                }
+            }
+            Then::Fix => {
+                if count > 0 || name == "-" {
+                    fix::fix(rt, out, name, new, count)?;
+                }
+                return Ok(0);
+            }
+        }
+        Ok(count as u64)
     }
 
     // The report on a file. An error of the output ends the run; what is wrong with the file is told, and counted.
@@ -121,10 +172,15 @@ impl Job {
         match self.report(rt, out, name, text.as_str()) {
             Ok(found) => {
                 session.read(text.len(), found);
-                Ok(())
+                session.show_progress(rt)
             }
             Err(Failure::Output(error)) => Err(error),
             Err(Failure::Text(error)) => {
+                out.flush()?;
+                session.lost();
+                eprintln!(rt; "rust_tree: {name}: {error}")
+            }
+            Err(Failure::File(error)) => {
                 out.flush()?;
                 session.lost();
                 eprintln!(rt; "rust_tree: {name}: {error}")
@@ -158,7 +214,7 @@ impl Job {
         names: &[&str],
     ) -> io::Result<Session> {
         let start = Instant::now(rt)?;
-        let mut session = Session::new();
+        let mut session = Session::new(rt);
         for name in names {
             if is_folder(rt, name) {
                 self.folder(rt, out, name, &mut session)?;

@@ -2,14 +2,18 @@
 #![tactic(auto)]
 
 mod check;
+mod differ;
 mod failure;
 mod fix;
+mod highlight;
+mod html;
 mod inputs;
 mod job;
 mod json;
 mod names;
 mod options;
 mod outline;
+mod page;
 mod parens;
 mod query;
 mod session;
@@ -19,11 +23,14 @@ mod tokens;
 mod tree;
 
 use clap::ArgMatches;
-use job::{Job, Task};
-use options::{command, showing};
-use rust_report::{PatternError, parse_pattern};
-use session::{Session, UNREAD, USAGE};
-use std::io::{BufWriter, ErrorKind, IsTerminal};
+use differ::Side;
+use failure::Failure;
+use inputs::text_of;
+use job::{Job, Task, Then};
+use options::{command, ink, reading, showing};
+use rust_report::{PatternError, Trivia, parse_pattern};
+use session::{FOUND, Session, UNREAD, USAGE};
+use std::io::{BufWriter, ErrorKind, IsTerminal, Write};
 use std::process::ExitCode;
 use std::{env, io};
 use style::Style;
@@ -58,6 +65,7 @@ fn task(rt: &HostRuntime, name: &str, matches: &ArgMatches) -> io::Result<Option
         "check" => Task::Check {
             style: style_of(rt, matches),
         },
+        "highlight" => Task::Highlight { ink: ink(matches) },
         "outline" => Task::Outline,
         "tokens" => Task::Tokens,
         "query" => {
@@ -71,13 +79,14 @@ fn task(rt: &HostRuntime, name: &str, matches: &ArgMatches) -> io::Result<Option
             }
         }
         _ => {
-            if matches.get_flag("fix") {
-                Task::Fix
+            let then = if matches.get_flag("fix") {
+                Then::Fix
             } else if matches.get_flag("diff") {
-                Task::Diff
+                Then::Diff
             } else {
-                Task::Parens
-            }
+                Then::List
+            };
+            Task::Parens { then }
         }
     }))
 }
@@ -92,14 +101,86 @@ fn run_job(rt: &HostRuntime, job: &Job, matches: &ArgMatches) -> io::Result<Sess
     }
 }
 
-// Does what a command says. An output that nobody reads any more ends the run without a word.
-fn run_command(rt: &HostRuntime, name: &str, matches: &ArgMatches) -> anyhow::Result<ExitCode> {
+// The text of a file; `None` where it is not read, which is told then.
+fn text_or_tell(rt: &HostRuntime, name: &str) -> io::Result<Option<String>> {
+    match text_of(rt, name) {
+        Ok(text) => Ok(Some(text)),
+        Err(error) => {
+            eprintln!(rt; "rust_tree: {name}: {error}")?;
+            Ok(None)
+        }
+    }
+}
+
+fn write_difference<W: Write>(
+    rt: &HostRuntime,
+    out: &mut W,
+    old: Side<'_>,
+    new: Side<'_>,
+    matches: &ArgMatches,
+) -> io::Result<u8> {
+    let trivia = if matches.get_flag("no-trivia") {
+        Trivia::Aside
+    } else {
+        Trivia::Kept
+    };
+    match differ::show(rt.alloc(), out, old, new, reading(matches), trivia) {
+        Ok(true) => {
+            out.flush()?;
+            Ok(FOUND)
+        }
+        Ok(false) => Ok(0),
+        Err(Failure::Output(error)) => Err(error),
+        Err(Failure::File(error)) => Err(error),
+        Err(Failure::Text(error)) => {
+            eprintln!(rt; "rust_tree: {error}")?;
+            Ok(UNREAD)
+        }
+    }
+}
+
+// The command `diff`; the status.
+fn run_diff(rt: &HostRuntime, matches: &ArgMatches) -> io::Result<u8> {
+    let old_name = matches.get_str("A").unwrap_or("-");
+    let new_name = matches.get_str("B").unwrap_or("-");
+    let Some(old_text) = text_or_tell(rt, old_name)? else {
+        return Ok(UNREAD);
+    };
+    let Some(new_text) = text_or_tell(rt, new_name)? else {
+        return Ok(UNREAD);
+    };
+    let old = Side {
+        name: old_name,
+        text: old_text.as_str(),
+    };
+    let new = Side {
+        name: new_name,
+        text: new_text.as_str(),
+    };
+    if matches.get_flag("quiet") {
+        return write_difference(rt, &mut io::sink(), old, new, matches);
+    }
+    let mut out = BufWriter::new(rt.alloc(), io::writer(rt))?;
+    write_difference(rt, &mut out, old, new, matches)
+}
+
+// Does what a command on files says; the status.
+fn run_on_files(rt: &HostRuntime, name: &str, matches: &ArgMatches) -> io::Result<u8> {
     let Some(task) = task(rt, name, matches)? else {
-        return Ok(ExitCode::from(USAGE));
+        return Ok(USAGE);
     };
     let job = Job::of(task, matches);
-    match run_job(rt, &job, matches) {
-        Ok(session) => Ok(session.status()),
+    Ok(run_job(rt, &job, matches)?.status())
+}
+
+// Does what a command says. An output that nobody reads any more ends the run without a word.
+fn run_command(rt: &HostRuntime, name: &str, matches: &ArgMatches) -> anyhow::Result<ExitCode> {
+    let done = match name {
+        "diff" => run_diff(rt, matches),
+        _ => run_on_files(rt, name, matches),
+    };
+    match done {
+        Ok(status) => Ok(ExitCode::from(status)),
         Err(error) => {
             if error.kind() != ErrorKind::BrokenPipe {
                 eprintln!(rt; "rust_tree: {error}")?;

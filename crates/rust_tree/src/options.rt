@@ -1,5 +1,6 @@
 //! The command line.
 
+use crate::highlight::Ink;
 use crate::source::Reading;
 use crate::tree::{Drawing, Part, Showing};
 use clap::{Arg, ArgAction, ArgMatches, Command, value_parser};
@@ -18,7 +19,9 @@ static CHECK_FORMATS: [&str; 3] = ["text", "json", "github"];
 
 static FORMATS: [&str; 2] = ["text", "json"];
 
-static DRAWINGS: [&str; 3] = ["text", "json", "sexp"];
+static DRAWINGS: [&str; 4] = ["text", "json", "sexp", "html"];
+
+static INKS: [&str; 2] = ["html", "ansi"];
 
 /// The form of a report.
 #[derive(Clone, Copy, Debug)]
@@ -91,6 +94,25 @@ fn with_common<'a>(alloc: Global, command: Command<'a>) -> Result<Command<'a>, A
         .arg(color(alloc))?
         .arg(quiet(alloc))?
         .arg(files(alloc))
+}
+
+// With the options that every command on one or two files has, and the files, of which there are as many as names.
+fn with_named<'a>(
+    alloc: Global,
+    command: Command<'a>,
+    names: &[&'a str],
+) -> Result<Command<'a>, AllocError> {
+    let mut command = command
+        .arg(edition(alloc))?
+        .arg(entry(alloc))?
+        .arg(quiet(alloc))?;
+    for name in names {
+        let file = Arg::new(alloc, name)
+            .required(true)
+            .help("A file of Rust; `-` is standard input");
+        command = command.arg(file)?;
+    }
+    Ok(command)
 }
 
 // The options that say what is shown of a tree.
@@ -193,6 +215,31 @@ fn query<'a>(alloc: Global) -> Result<Command<'a>, AllocError> {
     with_common(alloc, command)
 }
 
+fn highlight<'a>(alloc: Global) -> Result<Command<'a>, AllocError> {
+    let format = Arg::new(alloc, "format")
+        .long("format")
+        .value_parser(INKS.as_slice())
+        .default_value("ansi")
+        .help("A page of HTML, or the colours of a terminal");
+    let command = Command::new(alloc, "highlight")
+        .about("Prints a file with its words marked by what they are")
+        .after_help("Example: rust_tree highlight --format html src/main.rs > main.html")
+        .arg(format)?;
+    with_named(alloc, command, &["FILE"])
+}
+
+fn diff<'a>(alloc: Global) -> Result<Command<'a>, AllocError> {
+    let trivia = Arg::new(alloc, "no-trivia")
+        .long("no-trivia")
+        .action(ArgAction::SetTrue)
+        .help("Passes over white space and comments");
+    let command = Command::new(alloc, "diff")
+        .about("Tells where the trees of two files begin to differ; the status is 1 where they do")
+        .after_help("Example: rust_tree diff --no-trivia old.rs new.rs")
+        .arg(trivia)?;
+    with_named(alloc, command, &["A", "B"])
+}
+
 /// The commands and their options.
 pub fn command<'a>(alloc: Global) -> Result<Command<'a>, AllocError> {
     Command::new(alloc, "rust_tree")
@@ -204,7 +251,9 @@ pub fn command<'a>(alloc: Global) -> Result<Command<'a>, AllocError> {
         .subcommand(outline(alloc)?)?
         .subcommand(parens(alloc)?)?
         .subcommand(tokens(alloc)?)?
-        .subcommand(query(alloc)?)
+        .subcommand(query(alloc)?)?
+        .subcommand(highlight(alloc)?)?
+        .subcommand(diff(alloc)?)
 }
 
 fn edition_of(name: Option<&str>) -> Edition {
@@ -229,6 +278,14 @@ pub fn reading(matches: &ArgMatches) -> Reading {
         edition: edition_of(matches.get_str("edition")),
         entry: entry_of(matches.get_str("entry")),
         validates: !matches.get_flag("no-validation"),
+    }
+}
+
+/// The form of a text that is highlighted.
+pub fn ink(matches: &ArgMatches) -> Ink {
+    match matches.get_str("format") {
+        Some("html") => Ink::Html,
+        _ => Ink::Ansi,
     }
 }
 
@@ -277,6 +334,7 @@ pub fn showing(matches: &ArgMatches) -> Option<Showing> {
     let drawing = match matches.get_str("format") {
         Some("json") => Drawing::Json,
         Some("sexp") => Drawing::Sexp,
+        Some("html") => Drawing::Html,
         _ => Drawing::Text,
     };
     let depth = match matches.get_one::<u32>("depth") {

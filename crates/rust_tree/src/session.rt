@@ -1,7 +1,7 @@
 //! What a run has seen, and the status that it ends with.
 
 use std::io;
-use std::process::ExitCode;
+use std::io::IsTerminal;
 use std::time::Instant;
 
 /// Something was found: an error, a difference, a pair of parentheses.
@@ -14,6 +14,11 @@ pub const UNREAD: u8 = 3;
 // From so many files on a run tells its totals.
 const MANY: u64 = 100;
 
+// After so many files each a terminal shows how many there were, and after so many another standard error has a line.
+const SHOWN: u64 = 50;
+
+const NOTED: u64 = 1000;
+
 /// Counts of a run.
 #[derive(Clone, Copy, Debug)]
 pub struct Session {
@@ -23,14 +28,29 @@ pub struct Session {
     pub bytes: u64,
     /// How much was found.
     pub found: u64,
-    /// How many files were not read.
+    /// How many files were not read, or not written.
     pub unread: u64,
+    // Whether standard error is a terminal.
+    is_terminal: bool,
+}
+
+// Writes a number with commas between thousands, to standard error.
+fn write_number(rt: &HostRuntime, number: u64) -> io::Result<()> {
+    let (millions, thousands, ones) = (number / 1_000_000, number / 1000 % 1000, number % 1000);
+    if millions > 0 {
+        eprint!(rt; "{millions},{thousands:03},{ones:03}")
+    } else if thousands > 0 {
+        eprint!(rt; "{thousands},{ones:03}")
+    } else {
+        eprint!(rt; "{ones}")
+    }
 }
 
 impl Session {
     /// Nothing was seen yet.
-    pub fn new() -> Session {
+    pub fn new(rt: &HostRuntime) -> Session {
         Session {
+            is_terminal: rt.stderr().is_terminal(),
             files: 0,
             bytes: 0,
             found: 0,
@@ -51,27 +71,44 @@ impl Session {
     }
 
     /// The status: a file that was not read counts more than what was found.
-    pub fn status(&self) -> ExitCode {
+    pub fn status(&self) -> u8 {
         if self.unread > 0 {
-            ExitCode::from(UNREAD)
+            UNREAD
         } else if self.found > 0 {
-            ExitCode::from(FOUND)
+            FOUND
         } else {
-            ExitCode::SUCCESS
+            0
         }
     }
 
-    /// Writes the totals to standard error, if there were many files.
+    /// Shows how many files there were, each time that so many were read.
+    pub fn show_progress(&self, rt: &HostRuntime) -> io::Result<()> {
+        if self.is_terminal && self.files % SHOWN == 0 {
+            eprint!(rt; "\r")?;
+            write_number(rt, self.files)?;
+            eprint!(rt; " files")
+        } else if !self.is_terminal && self.files % NOTED == 0 {
+            write_number(rt, self.files)?;
+            eprintln!(rt; " files so far")
+        } else {
+            Ok(())
+        }
+    }
+
+    /// Writes the totals to standard error, if there were many files, or several before a terminal.
     pub fn tell(&self, rt: &HostRuntime, what: &str, start: Instant) -> io::Result<()> {
-        if self.files < MANY {
+        if self.files < MANY && !(self.is_terminal && self.files > 1) {
             return Ok(());
         }
         let millis = start.elapsed(rt)?.as_millis();
         let (seconds, hundredths) = (millis / 1000, millis % 1000 / 10);
         let (whole, tenths) = (self.bytes / 1_000_000, self.bytes % 1_000_000 / 100_000);
-        eprintln!(rt;
-            "{} files, {whole}.{tenths} MB, {seconds}.{hundredths:02} s, {} {what}",
-            self.files, self.found
-        )
+        if self.is_terminal {
+            eprint!(rt; "\r")?;
+        }
+        write_number(rt, self.files)?;
+        eprint!(rt; " files, {whole}.{tenths} MB, {seconds}.{hundredths:02} s, ")?;
+        write_number(rt, self.found)?;
+        eprintln!(rt; " {what}")
     }
 }

@@ -2,6 +2,7 @@
 
 use crate::failure::Failure;
 use crate::names::{kind_name, with_names};
+use crate::page;
 use crate::source::{Reading, lines, parsed};
 use line_index::WideLineCol;
 use lossless_tree::{NodeOrToken, SyntaxElement, SyntaxNode, TextRange, TextSize, WalkEvent};
@@ -21,6 +22,8 @@ pub enum Drawing {
     Json,
     /// Nested lists in parentheses.
     Sexp,
+    /// A page of HTML, with the text beside the tree.
+    Html,
 }
 
 /// Where the part of a tree that is shown stands.
@@ -57,7 +60,8 @@ struct Counts {
     depth: usize,
 }
 
-fn is_shown(showing: &Showing, level: usize, element: &SyntaxElement) -> bool {
+/// Whether a node or token so many levels below the top is shown.
+pub fn is_shown(showing: &Showing, level: usize, element: &SyntaxElement) -> bool {
     level < showing.depth && (showing.trivia || !element.is_trivia())
 }
 
@@ -130,7 +134,7 @@ fn write_before<W: Write>(
     is_first: bool,
 ) -> io::Result<()> {
     match drawing {
-        Drawing::Text => Ok(()),
+        Drawing::Text | Drawing::Html => Ok(()),
         Drawing::Json => {
             if is_first {
                 Ok(())
@@ -154,7 +158,7 @@ fn write_behind<W: Write>(
     element: &SyntaxElement,
 ) -> io::Result<()> {
     match (drawing, element) {
-        (Drawing::Text, _) => Ok(()),
+        (Drawing::Text | Drawing::Html, _) => Ok(()),
         (Drawing::Json, NodeOrToken::Node(_)) => out.write_all(b"]}"),
         (Drawing::Json, NodeOrToken::Token(_)) => out.write_all(b"}"),
         (Drawing::Sexp, _) => out.write_all(b")"),
@@ -169,7 +173,7 @@ fn write_element<W: Write>(
     element: &SyntaxElement,
 ) -> io::Result<()> {
     match drawing {
-        Drawing::Text => write_text(alloc, out, level, element),
+        Drawing::Text | Drawing::Html => write_text(alloc, out, level, element),
         Drawing::Json => write_json(alloc, out, element),
         Drawing::Sexp => write_sexp(alloc, out, element),
     }
@@ -303,10 +307,19 @@ fn part_of(
     })
 }
 
+// The node that a page is of: the part, or the node that a token stands in.
+fn node_of(root: &SyntaxNode, part: &SyntaxElement) -> SyntaxNode {
+    match part {
+        NodeOrToken::Node(node) => share(node),
+        NodeOrToken::Token(token) => token.parent().unwrap_or(share(root)),
+    }
+}
+
 /// Writes the tree of a text, and in the form of text a line for each error. Nothing counts as found.
 pub fn show<W: Write>(
     alloc: Global,
     out: &mut W,
+    name: &str,
     text: &str,
     reading: Reading,
     showing: &Showing,
@@ -327,6 +340,10 @@ pub fn show<W: Write>(
         return Ok(0);
     }
     let part = part_of(alloc, text, root, &showing.part)?;
+    if matches!(showing.drawing, Drawing::Html) {
+        page::show(alloc, out, name, &node_of(root, &part), errors, showing)?;
+        return Ok(0);
+    }
     write_part(alloc, out, &part, showing)?;
     if matches!(showing.drawing, Drawing::Text) && matches!(showing.part, Part::Whole) {
         write_errors(out, errors)?;

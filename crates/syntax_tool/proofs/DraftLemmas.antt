@@ -1,28 +1,37 @@
 -- A builder without errors is refused as its events are.
-use Rattle.std.proofs.Common.{◌≡◌, ℕ, List, [], refl, sym, ap, ◌∙◌, subst, Option, None, Some}
-use Rattle.std.specs.Prelude.{Result, Ok, Err, MatchOption}
-use Rattle.std.specs.List.{list_any}
-use Rattle.std.specs.Option.{option_or}
+use Rattle.std.proofs.Common.{◌⊎◌, inl, inr, ◌≡◌, ℕ, ◌<◌, List, [], length, refl, ap, subst, arith}
+use Rattle.std.specs.Prelude.{Any, Result, Ok, Err}
 use Rattle.tree_model.specs.Tree.{Tree}
-use Rattle.tree_model.specs.Events.{Event, BuildsNode, text_len, first_refusal}
+use Rattle.tree_model.specs.Events.{Event, BuildsNode, text_len, Holds, IsFirstRefusal}
 use Rattle.tree_model.specs.declared.error.FinishError.{FinishError}
+use Rattle.tree_model.specs.declared.error.FinishError.TheVariants as finish
 use Rattle.lossless_tree.specs.Dump.{dump_of}
-use Rattle.ras_parsing.specs.Draft.{Draft, is_past, past_refusal, draft_refusal}
+use Rattle.ras_front_end.specs.Fault.{Fault}
+use Rattle.ras_parsing.specs.Draft.{Draft, DraftHolds, IsAcceptedDraft, IsFirstDraftRefusal}
 use Rattle.syntax_tool.specs.declared.refusal.Refusal.{Refusal}
+use Rattle.syntax_tool.specs.declared.refusal.Refusal.TheVariants as refusal
 use Rattle.syntax_tool.specs.Output.{DumpsEvents, refusal_of_finish}
 
-or_none : (o : Option FinishError) → option_or o None ≡ o
-or_none None = refl
-or_none (Some e) = refl
+no_past : (n : ℕ) (fs : List Fault) → fs ≡ [] → Any (λ f. n < f.range.end) fs → ⊥
+no_past n fs h p = (let few : p.0 < length {X = Fault} [] = subst (λ l. p.0 < length l) h p.2 in absurd (omega (arith, few)))
 
-same_refusal : (d : Draft) → d.faults ≡ [] → draft_refusal d ≡ first_refusal d.events
-same_refusal d h = ap (λ fs. option_or (first_refusal d.events) (past_refusal (list_any (is_past (text_len d.events)) fs))) h ∙ or_none (first_refusal d.events)
+of_draft : (d : Draft) (e : FinishError) → d.faults ≡ [] → DraftHolds e d → Holds e d.events
+of_draft d e h (inl w) = w
+of_draft d e h (inr p) = absurd (no_past (text_len d.events) d.faults h p.1)
 
-abbrev by_refusal : List Event → Result (List ℕ) Refusal → Option FinishError → Type 0
-by_refusal es r o = MatchOption o ((t : Tree) × BuildsNode es t × (r ≡ Ok (dump_of (record { tree = t; place = [] })))) (λ e. r ≡ Err (refusal_of_finish e))
+first_of_draft : (d : Draft) (e : FinishError) → d.faults ≡ [] → IsFirstDraftRefusal d e → IsFirstRefusal d.events e
+first_of_draft d e h w = record { holds = of_draft d e h w.holds; first = λ x lt k. w.first x lt (inl k) }
 
-pub dumped : (d : Draft) (t : Tree) (out : List ℕ) (r : Result (List ℕ) Refusal) → d.faults ≡ [] → draft_refusal d ≡ None → BuildsNode d.events t → out ≡ dump_of (record { tree = t; place = [] }) → r ≡ Ok out → DumpsEvents d.events r
-dumped d t out r h none builds is made = subst (by_refusal d.events r) (sym none ∙ same_refusal d h) (t, builds, subst (λ l. r ≡ Ok l) is made)
+pub dumped : (d : Draft) (t : Tree) (out : List ℕ) → d.faults ≡ [] → IsAcceptedDraft d → BuildsNode d.events t → out ≡ dump_of (record { tree = t; place = [] }) → DumpsEvents d.events (Ok out)
+dumped d t out h accepted builds is = inl (accepted.events, (t, builds, ap Ok is))
 
-pub not_dumped : (d : Draft) (e : FinishError) (r : Result (List ℕ) Refusal) → d.faults ≡ [] → draft_refusal d ≡ Some e → r ≡ Err (refusal_of_finish e) → DumpsEvents d.events r
-not_dumped d e r h some made = subst (by_refusal d.events r) (sym some ∙ same_refusal d h) made
+-- want of memory is told apart; any other refusal is that of the events
+pub refused_events : (d : Draft) (e : FinishError) → d.faults ≡ [] → IsFirstDraftRefusal d e → (refusal_of_finish e ≡ refusal.Memory) ⊎ DumpsEvents d.events (Err (refusal_of_finish e))
+refused_events d finish.Memory h w = inl refl
+refused_events d finish.TooLong h w = inr (inr (finish.TooLong, first_of_draft d finish.TooLong h w, (λ no. cc), refl))
+refused_events d finish.OverClosed h w = inr (inr (finish.OverClosed, first_of_draft d finish.OverClosed h w, (λ no. cc), refl))
+refused_events d finish.Unclosed h w = inr (inr (finish.Unclosed, first_of_draft d finish.Unclosed h w, (λ no. cc), refl))
+refused_events d finish.Empty h w = inr (inr (finish.Empty, first_of_draft d finish.Empty h w, (λ no. cc), refl))
+refused_events d finish.ManyRoots h w = inr (inr (finish.ManyRoots, first_of_draft d finish.ManyRoots h w, (λ no. cc), refl))
+refused_events d finish.TokenRoot h w = inr (inr (finish.TokenRoot, first_of_draft d finish.TokenRoot h w, (λ no. cc), refl))
+refused_events d finish.ErrorPastText h w = inr (inr (finish.ErrorPastText, first_of_draft d finish.ErrorPastText h w, (λ no. cc), refl))

@@ -3,7 +3,7 @@ use Rattle.std.specs.Prelude.{◌≡◌, ℕ, ◌<◌, ◌≤◌, ◌^◌, lengt
 use Rattle.std.specs.Str.{bytes_eq}
 use Rattle.std.specs.Io.KnownBytes.{Appends}
 use Rattle.tree_model.specs.Tree.{Tree}
-use Rattle.tree_model.specs.Events.{Event, BuildsNode, first_refusal}
+use Rattle.tree_model.specs.Events.{Event, BuildsNode, IsAccepted, IsFirstRefusal}
 use Rattle.lossless_tree.specs.Dump.{dump_of}
 use Rattle.tree_model.specs.declared.error.FinishError.{FinishError}
 use Rattle.tree_model.specs.declared.error.FinishError.TheVariants as finish
@@ -58,12 +58,11 @@ refusal_of_parse parse.Memory = Memory
 abbrev pub command_of : List ℕ → Option Command
 command_of word = if bytes_eq word (codes "events") then Some Events else (if bytes_eq word (codes "dump") then Some Dump else (if bytes_eq word (codes "parens") then Some Parens else (if bytes_eq word (codes "reparse") then Some Reparse else None)))
 
--- the events build a tree, which is dumped; else the first refusal of `finish` is named
+-- accepted events build a tree, which is dumped; else the first refusal of `finish` that holds is named
 abbrev pub DumpsEvents : List Event → Result (List ℕ) Refusal → Type 0
 DumpsEvents es r =
-    MatchOption (first_refusal es)
-    ((t : Tree) × BuildsNode es t × (r ≡ Ok (dump_of (record { tree = t; place = [] }))))
-    (λ e. r ≡ Err (refusal_of_finish e))
+    (IsAccepted es × ((t : Tree) × BuildsNode es t × (r ≡ Ok (dump_of (record { tree = t; place = [] })))))
+    ⊎ ((e : FinishError) × IsFirstRefusal es e × (¬ (e ≡ finish.Memory)) × (r ≡ Err (refusal_of_finish e)))
 
 abbrev pub AnswersRead : Result (List Event) Refusal → Result (List ℕ) Refusal → Type 0
 AnswersRead (Ok es) r = DumpsEvents es r

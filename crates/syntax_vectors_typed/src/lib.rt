@@ -8,6 +8,7 @@ mod algo;
 mod casts;
 #[cfg(test)]
 mod elsewhere;
+mod functions;
 #[cfg(test)]
 mod literals;
 #[cfg(test)]

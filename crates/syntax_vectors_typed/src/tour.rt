@@ -6,7 +6,7 @@ use ra_ap_syntax::{
     algo, match_ast,
 };
 use rust_front::Rust;
-use std::alloc::{AllocError, Global};
+use std::alloc::Global;
 use std::test::Fail;
 
 #[test]
@@ -17,32 +17,6 @@ fn a_text_has_errors(rt: HostRuntime) -> Result<(), Fail> {
         let line = format!(in alloc; "{}: {error}", error.range())?;
         assert_eq!(rt; line.as_str(), "12..12: expected expression");
     }
-    Ok(())
-}
-
-/// The names of the functions of a file.
-fn functions(alloc: Global, file: &SourceFile) -> Result<Vec<String>, AllocError> {
-    let mut names = Vec::new(alloc);
-    for item in file.items() {
-        if let ast::Item::Fn(function) = item {
-            if let Some(name) = function.name() {
-                names.push(format!(in alloc; "{}", name.syntax().as_str())?)?;
-            }
-        }
-    }
-    Ok(names)
-}
-
-#[test]
-fn functions_have_names(rt: HostRuntime) -> Result<(), Fail> {
-    let alloc = rt.alloc();
-    let text = "use a::b;\n\n/// One.\nfn one<T>(t: T) -> T { t }\nfn two(\nstruct S;\n";
-    let parse = SourceFile::parse(alloc, text, &Rust, Edition::CURRENT)?;
-    let file = parse.tree().ok_or("no file")?;
-    let names = functions(alloc, &file)?;
-    assert_eq!(rt; names.len(), 2);
-    assert_eq!(rt; names[0].as_str(), "one");
-    assert_eq!(rt; names[1].as_str(), "two");
     Ok(())
 }
 

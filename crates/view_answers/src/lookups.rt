@@ -1,7 +1,12 @@
-// Plain lookups.
-mod attrs;
-mod exprs;
-mod items;
+// Plain lookups. Made by `tests/views` from `views.txt`.
+mod attr;
+mod expr;
+mod generic;
+mod item;
+mod pat;
+mod path;
+mod shared;
+mod ty;
 
 use crate::sheet::Sheet;
 use ra_ap_syntax::SyntaxNode;
@@ -9,7 +14,12 @@ use std::alloc::AllocError;
 
 /// Prints what the plain lookups answer of a node.
 pub fn answers(sheet: &mut Sheet, node: &SyntaxNode) -> Result<(), AllocError> {
-    exprs::answers(sheet, node)?;
-    items::answers(sheet, node)?;
-    attrs::answers(sheet, node)
+    attr::answers(sheet, node)?;
+    expr::answers(sheet, node)?;
+    generic::answers(sheet, node)?;
+    item::answers(sheet, node)?;
+    pat::answers(sheet, node)?;
+    path::answers(sheet, node)?;
+    shared::answers(sheet, node)?;
+    ty::answers(sheet, node)
 }

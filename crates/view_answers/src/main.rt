@@ -8,9 +8,9 @@ mod attrs;
 mod exprs;
 mod items;
 mod lookups;
+mod loops;
 mod paths;
 mod rules;
-mod shared;
 mod sheet;
 
 use crate::sheet::Sheet;
@@ -68,7 +68,7 @@ fn answers(sheet: &mut Sheet, root: &SyntaxNode) -> Result<(), AllocError> {
         items::answers(sheet, &node)?;
         paths::answers(sheet, &node)?;
         attrs::answers(sheet, &node)?;
-        shared::answers(sheet, &node)?;
+        loops::answers(sheet, &node)?;
         lookups::answers(sheet, &node)?;
         rules::answers(sheet, &node)?;
     }

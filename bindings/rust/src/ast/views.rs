@@ -1,4 +1,4 @@
-//! The typed views. Written by bindings/make from docs/views.txt.
+//! The typed views. Written by bindings/make from crates/ra_ap_syntax/views.txt.
 use super::macros::*;
 use super::traits::*;
 use super::{AstChildren, AstNode, AstToken, support};

@@ -1,32 +1,12 @@
-//! The lookups that several types share. A call takes time in the children that it passes, and no memory.
+//! The shared traits that have rules beside lookups. A call takes time in the children that it passes, and no memory.
 ghost use Rattle.std.specs.Prelude.{◌≡◌};
 ghost use Rattle.ras_node.specs.Lookups.{IsFirstChild, IsViewOf, loop_body};
 ghost use Rattle.std.specs.List.{filter};
-ghost use Rattle.ras_node.specs.Nodes.{has_kind_in, token_child, typed_children};
+ghost use Rattle.ras_node.specs.Nodes.{has_kind_in, typed_children};
 ghost use Rattle.ras_attr.specs.Attrs.{inner_holder, attrs_with_inner};
 
 use crate::ast::{self, AstChildren, AstNode, AttrsIter, AttrsWithDoc, support};
-use lossless_tree::{SyntaxKind, SyntaxNode, SyntaxToken, T};
-
-/// What has a name.
-pub trait HasName: AstNode {
-    /// The first child that is a name, if there is one.
-    final fn name(&self) -> Option<ast::Name>
-        ensures { IsFirstChild ⟦<ast::Name as AstNode>⟧ (Self.node self.now) result }
-    {
-        support::child(self.syntax())
-    }
-}
-
-/// What may have a visibility.
-pub trait HasVisibility: AstNode {
-    /// The first child that is a visibility, if there is one.
-    final fn visibility(&self) -> Option<ast::Visibility>
-        ensures { IsFirstChild ⟦<ast::Visibility as AstNode>⟧ (Self.node self.now) result }
-    {
-        support::child(self.syntax())
-    }
-}
+use lossless_tree::SyntaxNode;
 
 /// A loop.
 pub trait HasLoopBody: AstNode {
@@ -43,70 +23,6 @@ pub trait HasLoopBody: AstNode {
         ensures { IsFirstChild ⟦<ast::Label as AstNode>⟧ (Self.node self.now) result }
     {
         support::child(self.syntax())
-    }
-}
-
-/// A call.
-pub trait HasArgList: AstNode {
-    /// The first child that is an argument list, if there is one.
-    final fn arg_list(&self) -> Option<ast::ArgList>
-        ensures { IsFirstChild ⟦<ast::ArgList as AstNode>⟧ (Self.node self.now) result }
-    {
-        support::child(self.syntax())
-    }
-}
-
-/// What items stand in.
-pub trait HasModuleItem: AstNode {
-    /// The children that are items, in order.
-    final fn items(&self) -> AstChildren<ast::Item>
-        ensures { result ≡ typed_children ⟦<ast::Item as AstNode>⟧.casts (Self.node self.now) }
-    {
-        support::children(self.syntax())
-    }
-}
-
-/// What may have generic parameters.
-pub trait HasGenericParams: AstNode {
-    /// The first child that is a list of generic parameters, if there is one.
-    final fn generic_param_list(&self) -> Option<ast::GenericParamList>
-        ensures { IsFirstChild ⟦<ast::GenericParamList as AstNode>⟧ (Self.node self.now) result }
-    {
-        support::child(self.syntax())
-    }
-
-    /// The first child that is a where clause, if there is one.
-    final fn where_clause(&self) -> Option<ast::WhereClause>
-        ensures { IsFirstChild ⟦<ast::WhereClause as AstNode>⟧ (Self.node self.now) result }
-    {
-        support::child(self.syntax())
-    }
-}
-
-/// What may have generic arguments.
-pub trait HasGenericArgs: AstNode {
-    /// The first child that is a list of generic arguments, if there is one.
-    final fn generic_arg_list(&self) -> Option<ast::GenericArgList>
-        ensures { IsFirstChild ⟦<ast::GenericArgList as AstNode>⟧ (Self.node self.now) result }
-    {
-        support::child(self.syntax())
-    }
-}
-
-/// What may have type bounds.
-pub trait HasTypeBounds: AstNode {
-    /// The first child that is a list of type bounds, if there is one.
-    final fn type_bound_list(&self) -> Option<ast::TypeBoundList>
-        ensures { IsFirstChild ⟦<ast::TypeBoundList as AstNode>⟧ (Self.node self.now) result }
-    {
-        support::child(self.syntax())
-    }
-
-    /// The first token `:` among the children, if there is one.
-    final fn colon_token(&self) -> Option<SyntaxToken>
-        ensures { result ≡ token_child SyntaxKind.COLON (Self.node self.now) }
-    {
-        support::token(self.syntax(), T![:])
     }
 }
 

@@ -3,7 +3,8 @@ ghost use Rattle.std.specs.Prelude.{◌≡◌, ℕ, List, Some, None, option_map
 ghost use Rattle.tree_model.specs.Cursor.{focus};
 ghost use Rattle.lossless_tree.specs.Trees.{child_text};
 ghost use Rattle.ras_literal.specs.Fields.{IsTupleField};
-ghost use Rattle.ra_ap_syntax.specs.NameLikeCases.{name_like_node, used_name, lifetime_in};
+ghost use Rattle.ra_ap_syntax.specs.NameLikeCases.{name_like_node};
+ghost use Rattle.ra_ap_syntax.specs.NameParts.{used_name, lifetime_in};
 ghost use Rattle.ra_ap_syntax.specs.NameOrNameRefCases.{name_or_name_ref_node};
 ghost use Rattle.ras_item.specs.NodeParts.{first_token_kind};
 

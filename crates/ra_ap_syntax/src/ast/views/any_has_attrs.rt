@@ -1,4 +1,4 @@
-//! The nodes that can have attributes.
+//! A node that can have attributes: of a kind that has `HasAttrs`. Made by `tests/views` from `views.txt`.
 ghost use Rattle.std.specs.Prelude.{◌≡◌, Some, true, ⊤};
 ghost use Rattle.std.specs.Cmp.{partial_equiv_from_equiv, on_equiv};
 ghost use Rattle.tree_model.specs.Tree.{text};
@@ -6,12 +6,9 @@ ghost use Rattle.tree_model.specs.Cursor.{focus};
 ghost use Rattle.tree_model.specs.Equality.{is_same_cursor, cursor_hash};
 ghost use Rattle.tree_model.specs.EqualityLaws.{cursor_equivalence, cursors_alike};
 ghost use Rattle.ras_node.specs.Nodes.{kind_at};
-ghost use Rattle.ra_ap_syntax.specs.ItemCases.{item_node};
-ghost use Rattle.ra_ap_syntax.specs.AssocItemCases.{assoc_item_node};
 ghost use Rattle.ras_node.specs.Sets.{has_attrs};
 
-use crate::ast::support::share;
-use crate::ast::{self, AstNode};
+use crate::ast::AstNode;
 use lossless_tree::{SyntaxKind, SyntaxNode};
 use ras_node::sets::{AttrHolders, KindSet};
 use std::alloc::AllocError;
@@ -90,24 +87,5 @@ impl fmt::Display for AnyHasAttrs {
     fn fmt<W: fmt::Write>(&self, f: &mut fmt::Formatter<W>) -> fmt::Result {
         let text = self.syntax.as_str();
         write!(f, "{text}")
-    }
-}
-
-impl From<ast::Item> for AnyHasAttrs {
-    ghost from_gives = { λ it made. made.syntax ≡ item_node it };
-
-    #[tactic(auto, using(crate::specs::AnyHasAttrsCases::item_has_attrs))]
-    fn from(it: ast::Item) -> AnyHasAttrs {
-        AnyHasAttrs {
-            syntax: share(it.syntax()),
-        }
-    }
-}
-
-impl From<ast::AssocItem> for AnyHasAttrs {
-    ghost from_gives = { λ it made. made.syntax ≡ assoc_item_node it };
-
-    fn from(it: ast::AssocItem) -> AnyHasAttrs {
-        AnyHasAttrs::from(ast::Item::from(it))
     }
 }

@@ -1,4 +1,4 @@
-//! The nodes that can have generic parameters.
+//! A node that can have generic parameters: of a kind that has `HasGenericParams`. Made by `tests/views` from `views.txt`.
 ghost use Rattle.std.specs.Prelude.{◌≡◌, Some, true, ⊤};
 ghost use Rattle.std.specs.Cmp.{partial_equiv_from_equiv, on_equiv};
 ghost use Rattle.tree_model.specs.Tree.{text};

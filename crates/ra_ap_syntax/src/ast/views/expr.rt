@@ -1,4 +1,4 @@
-//! An expression.
+//! An expression. Made by `tests/views` from `views.txt`.
 ghost use Rattle.std.specs.Prelude.{◌≡◌, Some, ⊤};
 ghost use Rattle.std.specs.Cmp.{partial_equiv_from_equiv, on_equiv};
 ghost use Rattle.tree_model.specs.Tree.{text};
@@ -9,126 +9,12 @@ ghost use Rattle.ra_ap_syntax.specs.declared.ast.views.expr.Expr.TheVariants as 
 ghost use Rattle.ras_node.specs.Sets.{is_expr};
 ghost use Rattle.ra_ap_syntax.specs.ExprCases.{expr_node, expr_castable};
 
-use crate::ast::{self, AstNode, Typed, raw, support};
+use crate::ast::{self, AstNode, Typed, support};
 use lossless_tree::{SyntaxKind, SyntaxNode};
 use ras_node::sets::{Exprs, KindSet};
 use std::alloc::AllocError;
 use std::fmt;
 use std::hash::{Hash, Hasher};
-
-/// An array: `[a, b]`, `[a; n]`.
-pub type ArrayExpr = Typed<{ raw::ARRAY_EXPR }>;
-
-/// Inline assembly: `builtin # asm(..)`.
-pub type AsmExpr = Typed<{ raw::ASM_EXPR }>;
-
-/// A future that is awaited: `a.await`.
-pub type AwaitExpr = Typed<{ raw::AWAIT_EXPR }>;
-
-/// A tail call: `become f(a)`.
-pub type BecomeExpr = Typed<{ raw::BECOME_EXPR }>;
-
-/// A binary operator and its operands: `a + b`, `a = b`, `a && b`.
-pub type BinExpr = Typed<{ raw::BIN_EXPR }>;
-
-/// A block: `{ a; b }`, also `unsafe`, `async`, `const`, `try` and labelled ones.
-pub type BlockExpr = Typed<{ raw::BLOCK_EXPR }>;
-
-/// `break`, with a label and a value where it has them.
-pub type BreakExpr = Typed<{ raw::BREAK_EXPR }>;
-
-/// A call: `f(a, b)`.
-pub type CallExpr = Typed<{ raw::CALL_EXPR }>;
-
-/// A cast: `a as T`.
-pub type CastExpr = Typed<{ raw::CAST_EXPR }>;
-
-/// A `cfg!` predicate where an expression stands.
-pub type CfgPredExpr = Typed<{ raw::CFG_PRED_EXPR }>;
-
-/// A closure: `|a| b`, `move || a`.
-pub type ClosureExpr = Typed<{ raw::CLOSURE_EXPR }>;
-
-/// `continue`, with a label where it has one.
-pub type ContinueExpr = Typed<{ raw::CONTINUE_EXPR }>;
-
-/// A field: `a.f`, `a.0`.
-pub type FieldExpr = Typed<{ raw::FIELD_EXPR }>;
-
-/// A `for` loop: `for p in a { .. }`.
-pub type ForExpr = Typed<{ raw::FOR_EXPR }>;
-
-/// Formatted arguments: `builtin # format_args("{}", a)`.
-pub type FormatArgsExpr = Typed<{ raw::FORMAT_ARGS_EXPR }>;
-
-/// `if a { .. } else { .. }`.
-pub type IfExpr = Typed<{ raw::IF_EXPR }>;
-
-/// The bytes of a file: `builtin # include_bytes("f")`.
-pub type IncludeBytesExpr = Typed<{ raw::INCLUDE_BYTES_EXPR }>;
-
-/// An index: `a[i]`.
-pub type IndexExpr = Typed<{ raw::INDEX_EXPR }>;
-
-/// A `let` in a condition: `let p = a`.
-pub type LetExpr = Typed<{ raw::LET_EXPR }>;
-
-/// A literal: a number, a string, a character, a byte, `true` or `false`.
-pub type Literal = Typed<{ raw::LITERAL }>;
-
-/// A `loop { .. }`.
-pub type LoopExpr = Typed<{ raw::LOOP_EXPR }>;
-
-/// A macro call where an expression stands.
-pub type MacroExpr = Typed<{ raw::MACRO_EXPR }>;
-
-/// `match a { .. }`.
-pub type MatchExpr = Typed<{ raw::MATCH_EXPR }>;
-
-/// A method call: `a.f(b)`.
-pub type MethodCallExpr = Typed<{ raw::METHOD_CALL_EXPR }>;
-
-/// The offset of a field: `builtin # offset_of(T, f)`.
-pub type OffsetOfExpr = Typed<{ raw::OFFSET_OF_EXPR }>;
-
-/// An expression in parentheses: `(a)`.
-pub type ParenExpr = Typed<{ raw::PAREN_EXPR }>;
-
-/// A path where an expression stands: `a::b`.
-pub type PathExpr = Typed<{ raw::PATH_EXPR }>;
-
-/// A prefix operator and its operand: `-a`, `!a`, `*a`.
-pub type PrefixExpr = Typed<{ raw::PREFIX_EXPR }>;
-
-/// A range: `a..b`, `a..=b`, `..`.
-pub type RangeExpr = Typed<{ raw::RANGE_EXPR }>;
-
-/// A struct with its fields: `S { f: a, ..b }`.
-pub type RecordExpr = Typed<{ raw::RECORD_EXPR }>;
-
-/// A borrow: `&a`, `&mut a`, `&raw const a`.
-pub type RefExpr = Typed<{ raw::REF_EXPR }>;
-
-/// `return`, with a value where it has one.
-pub type ReturnExpr = Typed<{ raw::RETURN_EXPR }>;
-
-/// The question mark: `a?`.
-pub type TryExpr = Typed<{ raw::TRY_EXPR }>;
-
-/// A tuple: `(a, b)`, `()`.
-pub type TupleExpr = Typed<{ raw::TUPLE_EXPR }>;
-
-/// The `_` that is assigned to.
-pub type UnderscoreExpr = Typed<{ raw::UNDERSCORE_EXPR }>;
-
-/// A `while` loop: `while a { .. }`.
-pub type WhileExpr = Typed<{ raw::WHILE_EXPR }>;
-
-/// `do yeet a`.
-pub type YeetExpr = Typed<{ raw::YEET_EXPR }>;
-
-/// `yield a`.
-pub type YieldExpr = Typed<{ raw::YIELD_EXPR }>;
 
 /// An expression.
 #[derive(Drop)]

@@ -1,4 +1,4 @@
-//! A generic argument.
+//! A generic argument. Made by `tests/views` from `views.txt`.
 ghost use Rattle.std.specs.Prelude.{◌≡◌, Some};
 ghost use Rattle.tree_model.specs.Tree.{text};
 ghost use Rattle.tree_model.specs.Cursor.{focus};
@@ -6,23 +6,11 @@ ghost use Rattle.ra_ap_syntax.specs.declared.ast.views.generic_arg.GenericArg.Th
 ghost use Rattle.ras_node.specs.Sets.{is_generic_arg};
 ghost use Rattle.ra_ap_syntax.specs.GenericArgCases.{generic_arg_node, generic_arg_castable};
 
-use crate::ast::{self, AstNode, Typed, raw};
+use crate::ast::{self, AstNode, Typed};
 use lossless_tree::{SyntaxKind, SyntaxNode};
 use ras_node::sets::{GenericArgs, KindSet};
 use std::fmt;
 use std::hash::Hash;
-
-/// A type argument: the `T` of `A<T>`.
-pub type TypeArg = Typed<{ raw::TYPE_ARG }>;
-
-/// A named argument: `Item = T`, `Item: T`.
-pub type AssocTypeArg = Typed<{ raw::ASSOC_TYPE_ARG }>;
-
-/// A lifetime argument: the `'a` of `A<'a>`.
-pub type LifetimeArg = Typed<{ raw::LIFETIME_ARG }>;
-
-/// A constant argument: the `1` of `A<1>`.
-pub type ConstArg = Typed<{ raw::CONST_ARG }>;
 
 /// A generic argument.
 #[derive(Clone, PartialEq, Eq, Hash, Drop)]

@@ -1,4 +1,4 @@
-//! A generic parameter.
+//! A generic parameter. Made by `tests/views` from `views.txt`.
 ghost use Rattle.std.specs.Prelude.{◌≡◌, Some};
 ghost use Rattle.tree_model.specs.Tree.{text};
 ghost use Rattle.tree_model.specs.Cursor.{focus};
@@ -7,20 +7,11 @@ ghost use Rattle.ras_node.specs.Sets.{is_generic_param};
 ghost use Rattle.ra_ap_syntax.specs.GenericParamCases.{generic_param_node, generic_param_castable};
 ghost use Rattle.ra_ap_syntax.specs.TypeOrConstParamCases.{type_or_const_param_node};
 
-use crate::ast::{self, AstNode, Typed, raw};
+use crate::ast::{self, AstNode, Typed};
 use lossless_tree::{SyntaxKind, SyntaxNode};
 use ras_node::sets::{GenericParams, KindSet};
 use std::fmt;
 use std::hash::Hash;
-
-/// A lifetime parameter: `'a: 'b`.
-pub type LifetimeParam = Typed<{ raw::LIFETIME_PARAM }>;
-
-/// A type parameter: `T: U = V`.
-pub type TypeParam = Typed<{ raw::TYPE_PARAM }>;
-
-/// A constant parameter: `const N: T = a`.
-pub type ConstParam = Typed<{ raw::CONST_PARAM }>;
 
 /// A generic parameter.
 #[derive(Clone, PartialEq, Eq, Hash, Drop)]

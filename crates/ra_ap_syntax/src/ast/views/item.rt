@@ -1,4 +1,4 @@
-//! An item: of a file, a module or a block.
+//! An item: of a file, a module or a block. Made by `tests/views` from `views.txt`.
 ghost use Rattle.std.specs.Prelude.{◌≡◌, Some, ⊤};
 ghost use Rattle.std.specs.Cmp.{partial_equiv_from_equiv, on_equiv};
 ghost use Rattle.tree_model.specs.Tree.{text};
@@ -12,60 +12,12 @@ ghost use Rattle.ra_ap_syntax.specs.AssocItemCases.{assoc_item_node};
 ghost use Rattle.ra_ap_syntax.specs.ExternItemCases.{extern_item_node};
 ghost use Rattle.ra_ap_syntax.specs.AdtCases.{adt_node};
 
-use crate::ast::{self, AstNode, Typed, raw, support};
+use crate::ast::{self, AstNode, Typed, support};
 use lossless_tree::{SyntaxKind, SyntaxNode};
 use ras_node::sets::{Items, KindSet};
 use std::alloc::AllocError;
 use std::fmt;
 use std::hash::{Hash, Hasher};
-
-/// A constant: `const A: T = a;`.
-pub type Const = Typed<{ raw::CONST }>;
-
-/// An enum: `enum E { A, B }`.
-pub type Enum = Typed<{ raw::ENUM }>;
-
-/// `extern "C" { .. }`.
-pub type ExternBlock = Typed<{ raw::EXTERN_BLOCK }>;
-
-/// `extern crate a as b;`.
-pub type ExternCrate = Typed<{ raw::EXTERN_CRATE }>;
-
-/// A function: `fn f(a: T) -> U { .. }`.
-pub type Fn = Typed<{ raw::FN }>;
-
-/// An implementation: `impl T for U { .. }`, `impl U { .. }`.
-pub type Impl = Typed<{ raw::IMPL }>;
-
-/// A macro call: `m!(..)`.
-pub type MacroCall = Typed<{ raw::MACRO_CALL }>;
-
-/// A macro 2.0: `macro m(..) { .. }`.
-pub type MacroDef = Typed<{ raw::MACRO_DEF }>;
-
-/// A macro by example: `macro_rules! m { .. }`.
-pub type MacroRules = Typed<{ raw::MACRO_RULES }>;
-
-/// A module: `mod m { .. }`, `mod m;`.
-pub type Module = Typed<{ raw::MODULE }>;
-
-/// A static: `static A: T = a;`.
-pub type Static = Typed<{ raw::STATIC }>;
-
-/// A struct: `struct S { f: T }`, `struct S(T);`, `struct S;`.
-pub type Struct = Typed<{ raw::STRUCT }>;
-
-/// A trait: `trait T { .. }`.
-pub type Trait = Typed<{ raw::TRAIT }>;
-
-/// A type's other name: `type A = T;`.
-pub type TypeAlias = Typed<{ raw::TYPE_ALIAS }>;
-
-/// A union: `union U { f: T }`.
-pub type Union = Typed<{ raw::UNION }>;
-
-/// An import: `use a::{b, c};`.
-pub type Use = Typed<{ raw::USE }>;
 
 /// An item: of a file, a module or a block.
 #[derive(Drop)]

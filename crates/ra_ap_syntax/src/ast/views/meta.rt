@@ -1,4 +1,4 @@
-//! What an attribute says.
+//! What an attribute says. Made by `tests/views` from `views.txt`.
 ghost use Rattle.std.specs.Prelude.{◌≡◌, Some};
 ghost use Rattle.tree_model.specs.Tree.{text};
 ghost use Rattle.tree_model.specs.Cursor.{focus};
@@ -6,29 +6,11 @@ ghost use Rattle.ra_ap_syntax.specs.declared.ast.views.meta.Meta.TheVariants as 
 ghost use Rattle.ras_node.specs.Sets.{is_meta};
 ghost use Rattle.ra_ap_syntax.specs.MetaCases.{meta_node, meta_castable};
 
-use crate::ast::{self, AstNode, Typed, raw};
+use crate::ast::{self, AstNode, Typed};
 use lossless_tree::{SyntaxKind, SyntaxNode};
 use ras_node::sets::{KindSet, Metas};
 use std::fmt;
 use std::hash::Hash;
-
-/// `cfg_attr(p, m)`.
-pub type CfgAttrMeta = Typed<{ raw::CFG_ATTR_META }>;
-
-/// `cfg(p)`.
-pub type CfgMeta = Typed<{ raw::CFG_META }>;
-
-/// An attribute with a value: `a = b`.
-pub type KeyValueMeta = Typed<{ raw::KEY_VALUE_META }>;
-
-/// An attribute that is a path: `a::b`.
-pub type PathMeta = Typed<{ raw::PATH_META }>;
-
-/// An attribute with arguments: `a(..)`.
-pub type TokenTreeMeta = Typed<{ raw::TOKEN_TREE_META }>;
-
-/// `unsafe(m)`.
-pub type UnsafeMeta = Typed<{ raw::UNSAFE_META }>;
 
 /// What an attribute says.
 #[derive(Clone, PartialEq, Eq, Hash, Drop)]

@@ -1,4 +1,4 @@
-//! A pattern.
+//! A pattern. Made by `tests/views` from `views.txt`.
 ghost use Rattle.std.specs.Prelude.{◌≡◌, Some, ⊤};
 ghost use Rattle.std.specs.Cmp.{partial_equiv_from_equiv, on_equiv};
 ghost use Rattle.tree_model.specs.Tree.{text};
@@ -9,60 +9,12 @@ ghost use Rattle.ra_ap_syntax.specs.declared.ast.views.pat.Pat.TheVariants as pa
 ghost use Rattle.ras_node.specs.Sets.{is_pat};
 ghost use Rattle.ra_ap_syntax.specs.PatCases.{pat_node, pat_castable};
 
-use crate::ast::{self, AstNode, Typed, raw, support};
+use crate::ast::{self, AstNode, Typed, support};
 use lossless_tree::{SyntaxKind, SyntaxNode};
 use ras_node::sets::{KindSet, Pats};
 use std::alloc::AllocError;
 use std::fmt;
 use std::hash::{Hash, Hasher};
-
-/// `box p`.
-pub type BoxPat = Typed<{ raw::BOX_PAT }>;
-
-/// A constant block where a pattern stands: `const { .. }`.
-pub type ConstBlockPat = Typed<{ raw::CONST_BLOCK_PAT }>;
-
-/// A name that is bound: `ref mut x @ p`.
-pub type IdentPat = Typed<{ raw::IDENT_PAT }>;
-
-/// A literal where a pattern stands.
-pub type LiteralPat = Typed<{ raw::LITERAL_PAT }>;
-
-/// A macro call where a pattern stands.
-pub type MacroPat = Typed<{ raw::MACRO_PAT }>;
-
-/// Alternatives: `p | q`.
-pub type OrPat = Typed<{ raw::OR_PAT }>;
-
-/// A pattern in parentheses: `(p)`.
-pub type ParenPat = Typed<{ raw::PAREN_PAT }>;
-
-/// A path where a pattern stands.
-pub type PathPat = Typed<{ raw::PATH_PAT }>;
-
-/// A range of values: `a..=b`.
-pub type RangePat = Typed<{ raw::RANGE_PAT }>;
-
-/// A struct and patterns of its fields: `S { f: p, .. }`.
-pub type RecordPat = Typed<{ raw::RECORD_PAT }>;
-
-/// A pattern behind a reference: `&p`.
-pub type RefPat = Typed<{ raw::REF_PAT }>;
-
-/// The rest: `..`.
-pub type RestPat = Typed<{ raw::REST_PAT }>;
-
-/// A slice and patterns of its elements: `[p, .., q]`.
-pub type SlicePat = Typed<{ raw::SLICE_PAT }>;
-
-/// A tuple and patterns of its fields: `(p, q)`.
-pub type TuplePat = Typed<{ raw::TUPLE_PAT }>;
-
-/// A tuple struct and patterns of its fields: `S(p, q)`.
-pub type TupleStructPat = Typed<{ raw::TUPLE_STRUCT_PAT }>;
-
-/// The pattern that takes all: `_`.
-pub type WildcardPat = Typed<{ raw::WILDCARD_PAT }>;
 
 /// A pattern.
 #[derive(Drop)]

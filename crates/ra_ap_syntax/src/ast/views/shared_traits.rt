@@ -1,4 +1,4 @@
-//! Who has which of the shared traits.
+//! Which views have which of the shared traits. Made by `tests/views` from `views.txt`.
 use crate::ast::{
     self, HasArgList, HasAttrs, HasGenericArgs, HasGenericParams, HasLoopBody, HasModuleItem,
     HasName, HasTypeBounds, HasVisibility,

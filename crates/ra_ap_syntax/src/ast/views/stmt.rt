@@ -1,4 +1,4 @@
-//! A statement.
+//! A statement. Made by `tests/views` from `views.txt`.
 ghost use Rattle.std.specs.Prelude.{◌≡◌, Some};
 ghost use Rattle.tree_model.specs.Tree.{text};
 ghost use Rattle.tree_model.specs.Cursor.{focus};
@@ -6,17 +6,11 @@ ghost use Rattle.ra_ap_syntax.specs.declared.ast.views.stmt.Stmt.TheVariants as 
 ghost use Rattle.ras_node.specs.Sets.{is_stmt};
 ghost use Rattle.ra_ap_syntax.specs.StmtCases.{stmt_node, stmt_castable};
 
-use crate::ast::{self, AstNode, Typed, raw};
+use crate::ast::{self, AstNode, Typed};
 use lossless_tree::{SyntaxKind, SyntaxNode};
 use ras_node::sets::{KindSet, Stmts};
 use std::fmt;
 use std::hash::Hash;
-
-/// An expression that is a statement: `a;`.
-pub type ExprStmt = Typed<{ raw::EXPR_STMT }>;
-
-/// `let p: T = a else { .. };`.
-pub type LetStmt = Typed<{ raw::LET_STMT }>;
 
 /// A statement.
 #[derive(Clone, PartialEq, Eq, Hash, Drop)]

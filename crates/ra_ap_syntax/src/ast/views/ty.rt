@@ -1,4 +1,4 @@
-//! A type.
+//! A type. Made by `tests/views` from `views.txt`.
 ghost use Rattle.std.specs.Prelude.{◌≡◌, Some, ⊤};
 ghost use Rattle.std.specs.Cmp.{partial_equiv_from_equiv, on_equiv};
 ghost use Rattle.tree_model.specs.Tree.{text};
@@ -9,54 +9,12 @@ ghost use Rattle.ra_ap_syntax.specs.declared.ast.views.ty.«Type».TheVariants a
 ghost use Rattle.ras_node.specs.Sets.{is_ty};
 ghost use Rattle.ra_ap_syntax.specs.TypeCases.{ty_node, ty_castable};
 
-use crate::ast::{self, AstNode, Typed, raw, support};
+use crate::ast::{self, AstNode, Typed, support};
 use lossless_tree::{SyntaxKind, SyntaxNode};
 use ras_node::sets::{KindSet, Types};
 use std::alloc::AllocError;
 use std::fmt;
 use std::hash::{Hash, Hasher};
-
-/// An array type: `[T; n]`.
-pub type ArrayType = Typed<{ raw::ARRAY_TYPE }>;
-
-/// A trait object type: `dyn T + U`.
-pub type DynTraitType = Typed<{ raw::DYN_TRAIT_TYPE }>;
-
-/// A function pointer type: `fn(T) -> U`.
-pub type FnPtrType = Typed<{ raw::FN_PTR_TYPE }>;
-
-/// A type with bound lifetimes: `for<'a> fn(&'a T)`.
-pub type ForType = Typed<{ raw::FOR_TYPE }>;
-
-/// `impl T + U`.
-pub type ImplTraitType = Typed<{ raw::IMPL_TRAIT_TYPE }>;
-
-/// The type that is left out: `_`.
-pub type InferType = Typed<{ raw::INFER_TYPE }>;
-
-/// A macro call where a type stands.
-pub type MacroType = Typed<{ raw::MACRO_TYPE }>;
-
-/// The type without values: `!`.
-pub type NeverType = Typed<{ raw::NEVER_TYPE }>;
-
-/// A type in parentheses: `(T)`.
-pub type ParenType = Typed<{ raw::PAREN_TYPE }>;
-
-/// A path where a type stands: `a::T<U>`.
-pub type PathType = Typed<{ raw::PATH_TYPE }>;
-
-/// A raw pointer type: `*const T`, `*mut T`.
-pub type PtrType = Typed<{ raw::PTR_TYPE }>;
-
-/// A reference type: `&'a T`, `&mut T`.
-pub type RefType = Typed<{ raw::REF_TYPE }>;
-
-/// A slice type: `[T]`.
-pub type SliceType = Typed<{ raw::SLICE_TYPE }>;
-
-/// A tuple type: `(T, U)`, `()`.
-pub type TupleType = Typed<{ raw::TUPLE_TYPE }>;
 
 /// A type.
 #[derive(Drop)]

@@ -1,4 +1,4 @@
-use Rattle.std.proofs.Common.{sym, ◌∙◌, None}
+use Rattle.std.proofs.Common.{sym, ◌∙◌, []}
 use Rattle.std.proofs.lemmas.Bool.{false≢true}
 use Rattle.tree_model.specs.Cursor.{walk_of}
 use Rattle.rust_report.specs.Steps.{counted}
@@ -10,8 +10,8 @@ returns-in_default-next_counted-clause-same c = (
   λ t. absurd (false≢true (sym t)),
   λ e.
       absurd
-      (not_ended (counted c.args.trivia c.args.left_out.now c.loop-a.olds) (counted c.args.trivia None c.loop-a.news) c.in-Some.a _ c.in-Some.ensures c.in_default-next_counted.ensures
-      (no_difference (counted c.args.trivia c.args.left_out.now (walk_of c.args.old.now)) (counted c.args.trivia None (walk_of c.args.new.now)) _ _ c.loop-a.invariant e)),
+      (not_ended (counted c.args.trivia c.args.marks.now c.loop-a.olds) (counted c.args.trivia [] c.loop-a.news) c.in-Some.a _ c.in-Some.ensures c.in_default-next_counted.ensures
+      (no_difference (counted c.args.trivia c.args.marks.now (walk_of c.args.old.now)) (counted c.args.trivia [] (walk_of c.args.new.now)) _ _ c.loop-a.invariant e)),
 )
 
 pub loop-a-preserved : goal.loop-a-preserved
@@ -26,8 +26,8 @@ returns-in-Some-clause-same c = (
       (false≢true
       (sym c.if-is_same_step.false
       ∙ c.is_same_step.ensures.1
-      (same_first (counted c.args.trivia c.args.left_out.now c.loop-a.olds) (counted c.args.trivia None c.loop-a.news) c.in-Some.a c.in-Some-next_counted.b _ _ c.in-Some.ensures c.in-Some-next_counted.ensures
-      (no_difference (counted c.args.trivia c.args.left_out.now (walk_of c.args.old.now)) (counted c.args.trivia None (walk_of c.args.new.now)) _ _ c.loop-a.invariant e)))),
+      (same_first (counted c.args.trivia c.args.marks.now c.loop-a.olds) (counted c.args.trivia [] c.loop-a.news) c.in-Some.a c.in-Some-next_counted.b _ _ c.in-Some.ensures c.in-Some-next_counted.ensures
+      (no_difference (counted c.args.trivia c.args.marks.now (walk_of c.args.old.now)) (counted c.args.trivia [] (walk_of c.args.new.now)) _ _ c.loop-a.invariant e)))),
 )
 
 pub returns-in-Some-next_counted-2-clause-same : goal.returns-in-Some-next_counted-2-clause-same
@@ -35,6 +35,6 @@ returns-in-Some-next_counted-2-clause-same c = (
   λ t. absurd (false≢true (sym t)),
   λ e.
       absurd
-      (none_left (counted c.args.trivia c.args.left_out.now c.loop-a.olds) (counted c.args.trivia None c.loop-a.news) c.in-Some-next_counted-2.b _ c.in_default.ensures c.in-Some-next_counted-2.ensures
-      (no_difference (counted c.args.trivia c.args.left_out.now (walk_of c.args.old.now)) (counted c.args.trivia None (walk_of c.args.new.now)) _ _ c.loop-a.invariant e)),
+      (none_left (counted c.args.trivia c.args.marks.now c.loop-a.olds) (counted c.args.trivia [] c.loop-a.news) c.in-Some-next_counted-2.b _ c.in_default.ensures c.in-Some-next_counted-2.ensures
+      (no_difference (counted c.args.trivia c.args.marks.now (walk_of c.args.old.now)) (counted c.args.trivia [] (walk_of c.args.new.now)) _ _ c.loop-a.invariant e)),
 )

@@ -1,4 +1,4 @@
-use Rattle.std.proofs.Common.{length, None}
+use Rattle.std.proofs.Common.{length, []}
 use Rattle.tree_model.specs.Cursor.{walk_of}
 use Rattle.rust_report.specs.Steps.{counted}
 use Rattle.rust_report.proofs.StepLemmas.{AreAlike}
@@ -6,7 +6,7 @@ use Rattle.rust_report.proofs.same.first_difference.Given as goal
 
 abbrev pub invariant-loop-a : goal.invariant-loop-a
 invariant-loop-a l =
-    AreAlike (counted l.trivia l.left_out (walk_of l.fn.old)) (counted l.trivia None (walk_of l.fn.new)) (counted l.trivia l.left_out l.olds) (counted l.trivia None l.news)
+    AreAlike (counted l.trivia l.marks (walk_of l.fn.old)) (counted l.trivia [] (walk_of l.fn.new)) (counted l.trivia l.marks l.olds) (counted l.trivia [] l.news)
 
 abbrev pub decreases-loop-a : goal.decreases-loop-a
-decreases-loop-a l = length (counted l.trivia l.left_out l.olds)
+decreases-loop-a l = length (counted l.trivia l.marks l.olds)

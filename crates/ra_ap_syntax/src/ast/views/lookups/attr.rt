@@ -1,4 +1,4 @@
-//! Lookups in attributes and doc comments.
+//! Lookups in attributes and doc comments. Made by `tests/views` from `views.txt`.
 //! A call takes time in the children that it passes, and no memory. The names are those of rust-analyzer.
 ghost use Rattle.std.specs.Prelude.{◌≡◌};
 ghost use Rattle.ras_node.specs.Lookups.{IsFirstChild};
@@ -31,7 +31,7 @@ impl ast::CfgAtom {
         support::token(&self.syntax, T![false])
     }
 
-    /// The first identifier among the children, if there is one.
+    /// The first identifier token among the children, if there is one.
     pub fn ident_token(&self) -> Option<SyntaxToken>
         ensures { result ≡ token_child SyntaxKind.IDENT self.now.syntax }
     {

@@ -1,4 +1,4 @@
-//! Lookups in expressions, statements and their parts.
+//! Lookups in expressions, statements and their parts. Made by `tests/views` from `views.txt`.
 //! A call takes time in the children that it passes, and no memory. The names are those of rust-analyzer.
 ghost use Rattle.std.specs.Prelude.{◌≡◌};
 ghost use Rattle.ras_node.specs.Lookups.{IsFirstChild};
@@ -81,7 +81,7 @@ impl ast::BlockExpr {
         support::child(&self.syntax)
     }
 
-    /// The first child that is a statement list, if there is one.
+    /// The first child that is a list of statements, if there is one.
     pub fn stmt_list(&self) -> Option<ast::StmtList>
         ensures { IsFirstChild ⟦<ast::StmtList as AstNode>⟧ self.now.syntax result }
     {
@@ -180,7 +180,7 @@ impl ast::ClosureExpr {
         support::child(&self.syntax)
     }
 
-    /// The first child that is a parameter list, if there is one.
+    /// The first child that is a list of parameters, if there is one.
     pub fn param_list(&self) -> Option<ast::ParamList>
         ensures { IsFirstChild ⟦<ast::ParamList as AstNode>⟧ self.now.syntax result }
     {
@@ -354,6 +354,15 @@ impl ast::ParenExpr {
     /// The first child that is an expression, if there is one.
     pub fn expr(&self) -> Option<ast::Expr>
         ensures { IsFirstChild ⟦<ast::Expr as AstNode>⟧ self.now.syntax result }
+    {
+        support::child(&self.syntax)
+    }
+}
+
+impl ast::PathExpr {
+    /// The first child that is a path, if there is one.
+    pub fn path(&self) -> Option<ast::Path>
+        ensures { IsFirstChild ⟦<ast::Path as AstNode>⟧ self.now.syntax result }
     {
         support::child(&self.syntax)
     }

@@ -1,4 +1,4 @@
-//! Lookups in generic parameters and arguments, bounds and where clauses.
+//! Lookups in generic parameters and arguments, bounds and where clauses. Made by `tests/views` from `views.txt`.
 //! A call takes time in the children that it passes, and no memory. The names are those of rust-analyzer.
 ghost use Rattle.std.specs.Prelude.{◌≡◌};
 ghost use Rattle.ras_node.specs.Lookups.{IsFirstChild};
@@ -73,7 +73,7 @@ impl ast::TypeBoundList {
 }
 
 impl ast::WhereClause {
-    /// The children that are predicates, in order.
+    /// The children that are `where` predicates, in order.
     pub fn predicates(&self) -> AstChildren<ast::WherePred>
         ensures { result ≡ typed_children ⟦<ast::WherePred as AstNode>⟧.casts self.now.syntax }
     {

@@ -1,4 +1,4 @@
-//! Lookups in items and their parts.
+//! Lookups in items and their parts. Made by `tests/views` from `views.txt`.
 //! A call takes time in the children that it passes, and no memory. The names are those of rust-analyzer.
 ghost use Rattle.std.specs.Prelude.{◌≡◌};
 ghost use Rattle.ras_node.specs.Lookups.{IsFirstChild};
@@ -33,7 +33,7 @@ impl ast::ExternBlock {
 }
 
 impl ast::Fn {
-    /// The first child that is a block, if there is one.
+    /// The first child that is a block expression, if there is one.
     pub fn body(&self) -> Option<ast::BlockExpr>
         ensures { IsFirstChild ⟦<ast::BlockExpr as AstNode>⟧ self.now.syntax result }
     {

@@ -1,4 +1,4 @@
-//! Lookups in patterns.
+//! Lookups in patterns. Made by `tests/views` from `views.txt`.
 //! A call takes time in the children that it passes, and no memory. The names are those of rust-analyzer.
 ghost use Rattle.std.specs.Prelude.{◌≡◌};
 ghost use Rattle.ras_node.specs.Lookups.{IsFirstChild};

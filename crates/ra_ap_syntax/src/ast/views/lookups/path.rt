@@ -1,4 +1,4 @@
-//! Lookups in paths and names.
+//! Lookups in paths and names. Made by `tests/views` from `views.txt`.
 //! A call takes time in the children that it passes, and no memory. The names are those of rust-analyzer.
 ghost use Rattle.std.specs.Prelude.{◌≡◌};
 ghost use Rattle.ras_node.specs.Lookups.{IsFirstChild};
@@ -8,7 +8,7 @@ use crate::ast::{self, AstNode, support};
 use lossless_tree::{SyntaxKind, SyntaxToken, T};
 
 impl ast::Lifetime {
-    /// The first lifetime token among the children, if there is one.
+    /// The first lifetime identifier token among the children, if there is one.
     pub fn lifetime_ident_token(&self) -> Option<SyntaxToken>
         ensures { result ≡ token_child SyntaxKind.LIFETIME_IDENT self.now.syntax }
     {
@@ -24,7 +24,7 @@ impl ast::NameRef {
         support::token(&self.syntax, T![crate])
     }
 
-    /// The first identifier among the children, if there is one.
+    /// The first identifier token among the children, if there is one.
     pub fn ident_token(&self) -> Option<SyntaxToken>
         ensures { result ≡ token_child SyntaxKind.IDENT self.now.syntax }
     {
@@ -69,15 +69,6 @@ impl ast::Path {
     }
 }
 
-impl ast::PathExpr {
-    /// The first child that is a path, if there is one.
-    pub fn path(&self) -> Option<ast::Path>
-        ensures { IsFirstChild ⟦<ast::Path as AstNode>⟧ self.now.syntax result }
-    {
-        support::child(&self.syntax)
-    }
-}
-
 impl ast::PathSegment {
     /// The first child that is a name reference, if there is one.
     pub fn name_ref(&self) -> Option<ast::NameRef>
@@ -98,14 +89,5 @@ impl ast::PathSegment {
         ensures { result ≡ token_child SyntaxKind.COLON2 self.now.syntax }
     {
         support::token(&self.syntax, T![::])
-    }
-}
-
-impl ast::PathType {
-    /// The first child that is a path, if there is one.
-    pub fn path(&self) -> Option<ast::Path>
-        ensures { IsFirstChild ⟦<ast::Path as AstNode>⟧ self.now.syntax result }
-    {
-        support::child(&self.syntax)
     }
 }

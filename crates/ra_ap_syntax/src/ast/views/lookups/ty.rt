@@ -1,4 +1,4 @@
-//! Lookups in types.
+//! Lookups in types. Made by `tests/views` from `views.txt`.
 //! A call takes time in the children that it passes, and no memory. The names are those of rust-analyzer.
 ghost use Rattle.std.specs.Prelude.{◌≡◌};
 ghost use Rattle.ras_node.specs.Lookups.{IsFirstChild};
@@ -61,6 +61,15 @@ impl ast::ImplTraitType {
         ensures { result ≡ token_child SyntaxKind.IMPL_KW self.now.syntax }
     {
         support::token(&self.syntax, T![impl])
+    }
+}
+
+impl ast::PathType {
+    /// The first child that is a path, if there is one.
+    pub fn path(&self) -> Option<ast::Path>
+        ensures { IsFirstChild ⟦<ast::Path as AstNode>⟧ self.now.syntax result }
+    {
+        support::child(&self.syntax)
     }
 }
 

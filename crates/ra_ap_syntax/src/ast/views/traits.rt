@@ -1,0 +1,92 @@
+//! The lookups that several types share. Made by `tests/views` from `views.txt`.
+//! A call takes time in the children that it passes, and no memory.
+ghost use Rattle.std.specs.Prelude.{◌≡◌};
+ghost use Rattle.ras_node.specs.Lookups.{IsFirstChild};
+ghost use Rattle.ras_node.specs.Nodes.{token_child, typed_children};
+
+use crate::ast::{self, AstChildren, AstNode, support};
+use lossless_tree::{SyntaxKind, SyntaxToken, T};
+
+/// What has a name.
+pub trait HasName: AstNode {
+    /// The first child that is a name, if there is one.
+    final fn name(&self) -> Option<ast::Name>
+        ensures { IsFirstChild ⟦<ast::Name as AstNode>⟧ (Self.node self.now) result }
+    {
+        support::child(self.syntax())
+    }
+}
+
+/// What may have a visibility.
+pub trait HasVisibility: AstNode {
+    /// The first child that is a visibility, if there is one.
+    final fn visibility(&self) -> Option<ast::Visibility>
+        ensures { IsFirstChild ⟦<ast::Visibility as AstNode>⟧ (Self.node self.now) result }
+    {
+        support::child(self.syntax())
+    }
+}
+
+/// A call.
+pub trait HasArgList: AstNode {
+    /// The first child that is a list of arguments, if there is one.
+    final fn arg_list(&self) -> Option<ast::ArgList>
+        ensures { IsFirstChild ⟦<ast::ArgList as AstNode>⟧ (Self.node self.now) result }
+    {
+        support::child(self.syntax())
+    }
+}
+
+/// What items stand in.
+pub trait HasModuleItem: AstNode {
+    /// The children that are items, in order.
+    final fn items(&self) -> AstChildren<ast::Item>
+        ensures { result ≡ typed_children ⟦<ast::Item as AstNode>⟧.casts (Self.node self.now) }
+    {
+        support::children(self.syntax())
+    }
+}
+
+/// What may have generic parameters.
+pub trait HasGenericParams: AstNode {
+    /// The first child that is a list of generic parameters, if there is one.
+    final fn generic_param_list(&self) -> Option<ast::GenericParamList>
+        ensures { IsFirstChild ⟦<ast::GenericParamList as AstNode>⟧ (Self.node self.now) result }
+    {
+        support::child(self.syntax())
+    }
+
+    /// The first child that is a `where` clause, if there is one.
+    final fn where_clause(&self) -> Option<ast::WhereClause>
+        ensures { IsFirstChild ⟦<ast::WhereClause as AstNode>⟧ (Self.node self.now) result }
+    {
+        support::child(self.syntax())
+    }
+}
+
+/// What may have generic arguments.
+pub trait HasGenericArgs: AstNode {
+    /// The first child that is a list of generic arguments, if there is one.
+    final fn generic_arg_list(&self) -> Option<ast::GenericArgList>
+        ensures { IsFirstChild ⟦<ast::GenericArgList as AstNode>⟧ (Self.node self.now) result }
+    {
+        support::child(self.syntax())
+    }
+}
+
+/// What may have type bounds.
+pub trait HasTypeBounds: AstNode {
+    /// The first child that is a list of type bounds, if there is one.
+    final fn type_bound_list(&self) -> Option<ast::TypeBoundList>
+        ensures { IsFirstChild ⟦<ast::TypeBoundList as AstNode>⟧ (Self.node self.now) result }
+    {
+        support::child(self.syntax())
+    }
+
+    /// The first token `:` among the children, if there is one.
+    final fn colon_token(&self) -> Option<SyntaxToken>
+        ensures { result ≡ token_child SyntaxKind.COLON (Self.node self.now) }
+    {
+        support::token(self.syntax(), T![:])
+    }
+}

@@ -1,0 +1,144 @@
+-- Pairs that were tried, and further ones behind them.
+use Rattle.std.proofs.Common.{◌≡◌, ◌≤◌, ◌+◌, ℕ, Bool, true, false, not, cond, List, [], ◌∷◌, ◌++◌, length, map, take, drop, Option, Some, None, refl, sym, ap, subst, ◌∙◌}
+use Rattle.std.specs.List.{filter}
+use Rattle.std.proofs.lemmas.List.{take-append-drop, length-map}
+use Rattle.std.proofs.lemmas.List.Elements.{filter-append}
+use Rattle.std.proofs.Math.Seq.{take-append_seam}
+use Rattle.tree_model.specs.Cursor.{Cursor}
+use Rattle.ras_front_end.specs.declared.edition.Entry.{Entry}
+use Rattle.ras_front_end.specs.declared.edition.Edition.{Edition}
+use Rattle.ras_front_end.specs.Front.{Front}
+use Rattle.ras_front_end.specs.Parsed.{Parsed}
+use Rattle.rust_parens.specs.declared.needless.Tried.{Tried}
+use Rattle.rust_parens.specs.Needless.{fixed, MayGo, Refused, chosen, refused_of, with_pair, AreSorted, candidates_of, IsFixed, AreTried}
+use Rattle.rust_parens.specs.Runs.{as_tried}
+
+abbrev pair_of : Tried → Cursor
+pair_of t = t.pair
+
+append_nil : {A : Type 0} (l : List A) → l ++ [] ≡ l
+append_nil [] = refl
+append_nil (x ∷ l) = ap (λ k. x ∷ k) (append_nil l)
+
+append_three : {A : Type 0} (l m n : List A) → l ++ (m ++ n) ≡ (l ++ m) ++ n
+append_three [] m n = refl
+append_three (x ∷ l) m n = ap (λ k. x ∷ k) (append_three l m n)
+
+map_append : {A B : Type 0} (f : A → B) (l m : List A) → map f (l ++ m) ≡ map f l ++ map f m
+map_append f [] m = refl
+map_append f (x ∷ l) m = ap (λ k. f x ∷ k) (map_append f l m)
+
+pairs_noted : (goes : Bool) (run : List Cursor) → map pair_of (map (as_tried goes) run) ≡ run
+pairs_noted goes [] = refl
+pairs_noted goes (p ∷ run) = ap (λ k. p ∷ k) (pairs_noted goes run)
+
+-- ---- the candidates, in order
+
+in_order : (all : List Cursor) (tried more : List Tried) (back : List Cursor)
+    → map pair_of tried ≡ take (length tried) all → drop (length tried) all ≡ map pair_of more ++ back
+    → map pair_of (tried ++ more) ≡ take (length (tried ++ more)) all
+in_order all tried more back e f =
+    let whole : all ≡ map pair_of (tried ++ more) ++ back =
+    sym (take-append-drop (length tried) all)
+    ∙ ap (λ k. k ++ drop (length tried) all) (sym e)
+    ∙ ap (λ k. map pair_of tried ++ k) f
+    ∙ append_three (map pair_of tried) (map pair_of more) back
+    ∙ ap (λ k. k ++ back) (sym (map_append pair_of tried more)) in
+    sym (take-append_seam (map pair_of (tried ++ more)) back)
+    ∙ ap (λ n. take n (map pair_of (tried ++ more) ++ back)) (length-map (tried ++ more) pair_of)
+    ∙ ap (take (length (tried ++ more))) (sym whole)
+
+behind : (goes : Bool) (n : ℕ) (rest : List Cursor) → rest ≡ map pair_of (map (as_tried goes) (take n rest)) ++ drop n rest
+behind goes n rest = sym (take-append-drop n rest) ∙ ap (λ k. k ++ drop n rest) (sym (pairs_noted goes (take n rest)))
+
+-- ---- those that go
+
+abbrev goes_of : Tried → Bool
+goes_of t = t.goes
+
+chosen_append : (ts us : List Tried) → chosen (ts ++ us) ≡ chosen ts ++ chosen us
+chosen_append ts us = ap (map pair_of) (filter-append goes_of ts us) ∙ map_append pair_of (filter goes_of ts) (filter goes_of us)
+
+chosen_going : (run : List Cursor) → chosen (map (as_tried true) run) ≡ run
+chosen_going [] = refl
+chosen_going (p ∷ run) = ap (λ k. p ∷ k) (chosen_going run)
+
+chosen_staying : (run : List Cursor) → chosen (map (as_tried false) run) ≡ []
+chosen_staying [] = refl
+chosen_staying (p ∷ run) = chosen_staying run
+
+refused_going : (run : List Cursor) → refused_of (map (as_tried true) run) ≡ []
+refused_going [] = refl
+refused_going (p ∷ run) = refused_going run
+
+pub refused_append : (ts us : List Tried) → refused_of (ts ++ us) ≡ refused_of ts ++ refused_of us
+refused_append ts us = filter-append (λ t. not t.goes) ts us
+
+-- ---- each that stays was refused
+
+with_chosen : (b : Bool) (before : List Cursor) (t : Tried) (l : List Tried)
+    → before ++ map pair_of (cond b (t ∷ l) l) ≡ with_pair before b t.pair ++ map pair_of l
+with_chosen true before t l = append_three before (t.pair ∷ []) (map pair_of l)
+with_chosen false before t l = refl
+
+sorted_append : (refused : List Cursor → Type 0) (before : List Cursor) (ts us : List Tried)
+    → AreSorted refused before ts → AreSorted refused (before ++ chosen ts) us → AreSorted refused before (ts ++ us)
+sorted_append refused before [] us h k = subst (λ c. AreSorted refused c us) (append_nil before) k
+sorted_append refused before (t ∷ ts) us h k = (
+  h.0,
+  sorted_append refused (with_pair before t.goes t.pair) ts us h.1 (subst (λ c. AreSorted refused c us) (with_chosen t.goes before t (filter goes_of ts)) k),
+)
+
+sorted_going : (refused : List Cursor → Type 0) (before : List Cursor) (run : List Cursor) → AreSorted refused before (map (as_tried true) run)
+sorted_going refused before [] = tt
+sorted_going refused before (p ∷ run) = (tt, sorted_going refused (before ++ p ∷ []) run)
+
+sorted_staying : (refused : List Cursor → Type 0) (before : List Cursor) (rest : List Cursor)
+    → refused (before ++ take 1 rest) → AreSorted refused before (map (as_tried false) (take 1 rest))
+sorted_staying refused before [] h = tt
+sorted_staying refused before (p ∷ rest) h = (h, tt)
+
+-- ---- more were tried
+
+pub more_go : (front : Front) (entry : Entry) (edition : Edition) (old : Parsed) (pairs : List Cursor) (tried : List Tried) (s : Option (List ℕ)) (rest : List Cursor) (n : ℕ) (new : List ℕ)
+    → AreTried front entry edition old pairs tried s → rest ≡ drop (length tried) (candidates_of old)
+    → new ≡ fixed old (pairs ++ take n rest) → MayGo front entry edition old (pairs ++ take n rest)
+    → AreTried front entry edition old (pairs ++ take n rest) (tried ++ map (as_tried true) (take n rest)) (Some new)
+more_go front entry edition old pairs tried s rest n new h left text go = record {
+  in_order = in_order (candidates_of old) tried (map (as_tried true) (take n rest)) (drop n rest) h.in_order (sym left ∙ behind true n rest);
+  going =
+      ap (λ k. k ++ take n rest) h.going
+      ∙ ap (λ k. chosen tried ++ k) (sym (chosen_going (take n rest)))
+      ∙ sym (chosen_append tried (map (as_tried true) (take n rest)));
+  sorted = sorted_append (Refused front entry edition old) [] tried (map (as_tried true) (take n rest)) h.sorted (sorted_going (Refused front entry edition old) (chosen tried) (take n rest));
+  text = (text, go);
+}
+
+pub one_stays : (front : Front) (entry : Entry) (edition : Edition) (old : Parsed) (pairs : List Cursor) (tried : List Tried) (s : Option (List ℕ)) (rest : List Cursor)
+    → AreTried front entry edition old pairs tried s → rest ≡ drop (length tried) (candidates_of old)
+    → Refused front entry edition old (pairs ++ take 1 rest)
+    → AreTried front entry edition old pairs (tried ++ map (as_tried false) (take 1 rest)) s
+one_stays front entry edition old pairs tried s rest h left stays = record {
+  in_order = in_order (candidates_of old) tried (map (as_tried false) (take 1 rest)) (drop 1 rest) h.in_order (sym left ∙ behind false 1 rest);
+  going =
+      h.going
+      ∙ sym (append_nil (chosen tried))
+      ∙ ap (λ k. chosen tried ++ k) (sym (chosen_staying (take 1 rest)))
+      ∙ sym (chosen_append tried (map (as_tried false) (take 1 rest)));
+  sorted =
+      sorted_append (Refused front entry edition old) [] tried (map (as_tried false) (take 1 rest)) h.sorted
+      (sorted_staying (Refused front entry edition old) (chosen tried) rest (subst (λ k. Refused front entry edition old (k ++ take 1 rest)) h.going stays));
+  text = h.text;
+}
+
+-- ---- how many stay
+
+refused_staying : (rest : List Cursor) → 1 ≤ length rest → refused_of (map (as_tried false) (take 1 rest)) ≡ map (as_tried false) (take 1 rest)
+refused_staying [] h = refl
+refused_staying (p ∷ rest) h = refl
+
+pub as_many : (tried : List Tried) (run : List Cursor) → length (refused_of (tried ++ map (as_tried true) run)) ≡ length (refused_of tried)
+as_many tried run =
+    ap length (refused_append tried (map (as_tried true) run))
+    ∙ ap (λ k. length (refused_of tried ++ k)) (refused_going run)
+    ∙ ap length (append_nil (refused_of tried))

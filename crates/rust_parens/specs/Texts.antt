@@ -1,0 +1,75 @@
+-- A text without some pairs of parentheses.
+use Rattle.std.specs.Prelude.{ℕ, ◌-◌, ◌==◌, nat_le, Bool, true, false, ◌&&◌, ◌||◌, if◌then◌else◌, List, [], ◌∷◌, ◌++◌, length, replicate, set, Option, Some, None, slice_get}
+use Rattle.text_size.specs.TextRange.{Bounds}
+use Rattle.tree_model.specs.Tree.{text}
+use Rattle.tree_model.specs.Cursor.{Cursor, focus, at_token, descendants_of}
+use Rattle.lossless_tree.specs.Element.{element_of}
+use Rattle.rust_report.specs.Steps.{is_left_out}
+use Rattle.rust_parens.specs.Pairs.{parens_of}
+
+-- ---- the marks of pairs
+
+-- the two parentheses, where there are two, are marked at their first bytes
+abbrev pub mark_two : Option (Bounds × Bounds) → List Bool → List Bool
+mark_two None marks = marks
+mark_two (Some two) marks = set (set marks two.0.start true) two.1.start true
+
+-- further pairs are marked
+abbrev pub marked : List Bool → List Cursor → List Bool
+marked marks [] = marks
+marked marks (p ∷ ps) = marked (mark_two (parens_of p) marks) ps
+
+-- the marks of some pairs of a text of n bytes
+abbrev pub marks_of : ℕ → List Cursor → List Bool
+marks_of n pairs = marked (replicate n false) pairs
+
+-- ---- the tokens that are left, with blanks
+
+-- a byte of a word: a letter, a digit, `_`, and each one beyond ASCII
+abbrev pub is_word : ℕ → Bool
+is_word b = (nat_le 48 b && nat_le b 57) || ((nat_le 65 b && nat_le b 90) || ((nat_le 97 b && nat_le b 122) || (b == 95 || nat_le 128 b)))
+
+-- a byte that a word takes in: one of a word, `"`, `'` or `#`
+abbrev pub is_taken : ℕ → Bool
+is_taken b = is_word b || (b == 34 || (b == 39 || b == 35))
+
+-- two bytes that are one sign, or begin a comment: `..`, `::`, `&&`, `||`, `<<`, `>>`, `->`, `=>`, `<-`, `//`, `/*`, `*/`
+abbrev pub is_sign : ℕ → ℕ → Bool
+is_sign a b =
+    (a == b && (a == 46 || (a == 58 || (a == 38 || (a == 124 || (a == 60 || (a == 62 || a == 47)))))))
+    || ((a == 45 && b == 62) || ((a == 61 && b == 62) || ((a == 60 && b == 45) || ((a == 47 && b == 42) || (a == 42 && b == 47)))))
+
+-- two bytes with `=` behind: `==`, `!=`, `<=`, `>=`, `+=`, `-=`, `*=`, `/=`, `%=`, `^=`, `&=`, `|=`
+abbrev pub takes_equals : ℕ → Bool
+takes_equals a =
+    a == 61 || (a == 33 || (a == 60 || (a == 62 || (a == 43 || (a == 45 || (a == 42 || (a == 47 || (a == 37 || (a == 94 || (a == 38 || a == 124))))))))))
+
+-- what ends with byte a and what begins with byte b would grow together
+abbrev pub grow : ℕ → ℕ → Bool
+grow a b = (is_word a && is_taken b) || (is_sign a b || (b == 61 && takes_equals a))
+
+abbrev pub grow_at : Option ℕ → Option ℕ → Bool
+grow_at None b = false
+grow_at (Some a) None = false
+grow_at (Some a) (Some b) = grow a b
+
+abbrev pub blank : Bool → List ℕ
+blank true = 32 ∷ []
+blank false = []
+
+-- a token behind a text; where something was left out between, a blank keeps them apart if they would grow together
+abbrev pub put : Bool → List ℕ → List ℕ → List ℕ
+put gap s t = s ++ (blank (gap && grow_at (slice_get s (length s - 1)) (slice_get t 0)) ++ t)
+
+-- a node or token behind a text: a token that the marks leave out leaves a gap
+abbrev pub with_element : List Bool → List ℕ × Bool → Cursor → List ℕ × Bool
+with_element marks st c =
+    if at_token c then (if is_left_out marks (element_of c) then (st.0, true) else (put st.1 st.0 (text (focus c)), false)) else st
+
+abbrev pub text_from : List Bool → List ℕ × Bool → List Cursor → List ℕ
+text_from marks st [] = st.0
+text_from marks st (c ∷ cs) = text_from marks (with_element marks st c) cs
+
+-- the text of a tree without the tokens that the marks leave out
+abbrev pub text_without : List Bool → Cursor → List ℕ
+text_without marks c = text_from marks ([], false) (descendants_of c)

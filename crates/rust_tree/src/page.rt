@@ -1,0 +1,190 @@
+//! The tree of a text as a page of HTML, which needs nothing else: the text and the tree side by side. A node folds, and what the
+//! pointer is over in one is marked in the other.
+
+use crate::failure::Failure;
+use crate::html::{write_escaped, write_head};
+use crate::names::kind_name;
+use crate::tree::{Showing, is_shown};
+use lossless_tree::{NodeOrToken, SyntaxElement, SyntaxNode, WalkEvent};
+use ras_front_end::SyntaxError;
+use std::alloc::Global;
+use std::io;
+use std::io::Write;
+
+static STYLE: &str = "<style>
+* { box-sizing: border-box }
+body { margin: 0; height: 100vh; display: flex; font: 13px/1.5 ui-monospace, monospace; background: #fff; color: #1f2328 }
+#text, #tree { flex: 1; overflow: auto; margin: 0; padding: 1em; height: 100vh; tab-size: 4 }
+#tree { border-left: 1px solid #d0d7de }
+#tree div { white-space: pre; padding-left: calc(var(--d) * 1.2em); cursor: default }
+#tree div.n::before { content: '\\25be'; display: inline-block; width: 1.2em; color: #6e7781 }
+#tree div.n.folded::before { content: '\\25b8' }
+#tree div.t::before { content: ''; display: inline-block; width: 1.2em }
+#tree .hidden { display: none }
+#tree i { color: #6e7781; font-style: normal }
+#tree b { color: #0a6b2d; font-weight: normal }
+#tree .e { color: #cf222e; white-space: pre-wrap }
+.on { background: #fff3b0 }
+#tree .on { outline: 1px solid #d4a72c }
+@media (prefers-color-scheme: dark) {
+body { background: #0d1117; color: #e6edf3 } #tree { border-color: #30363d } #tree b { color: #7ee787 }
+.on { background: #5a4a00 }
+}
+</style>
+</head>
+<body>
+<pre id=\"text\">
+";
+
+// What the page does: marks, folds, and finds the row of a token by its start.
+static SCRIPT: &str = "</div>
+<script>
+'use strict';
+const text = document.getElementById('text'), tree = document.getElementById('tree');
+const tokens = [...text.children], rows = [...tree.children];
+const starts = tokens.map(t => +t.dataset.s);
+const first = offset => {
+  let low = 0, high = starts.length;
+  while (low < high) { const middle = (low + high) >> 1; if (starts[middle] < offset) low = middle + 1; else high = middle; }
+  return low;
+};
+let marked = [];
+const clear = () => { for (const element of marked) element.classList.remove('on'); marked = []; };
+const mark = element => { element.classList.add('on'); marked.push(element); };
+const over = row => {
+  clear();
+  mark(row);
+  const start = +row.dataset.s, end = +row.dataset.e;
+  let at = first(start);
+  if (start === end && at > 0) at -= 1;
+  const from = at;
+  for (; at < tokens.length && (starts[at] < end || at === from); at += 1) mark(tokens[at]);
+  if (from < tokens.length) tokens[from].scrollIntoView({ block: 'nearest' });
+};
+tree.addEventListener('mouseover', event => {
+  const row = event.target.closest('#tree > div');
+  if (row) over(row);
+});
+const leaves = new Map();
+for (const row of rows) if (row.className === 't') leaves.set(row.dataset.s, row);
+text.addEventListener('mouseover', event => {
+  const token = event.target.closest('span');
+  clear();
+  if (!token) return;
+  mark(token);
+  const row = leaves.get(token.dataset.s);
+  if (!row) return;
+  mark(row);
+  row.scrollIntoView({ block: 'nearest' });
+});
+for (const side of [text, tree]) side.addEventListener('mouseleave', clear);
+tree.addEventListener('click', event => {
+  const row = event.target.closest('#tree > div.n');
+  if (!row) return;
+  row.classList.toggle('folded');
+  let closed = [];
+  const top = +row.dataset.d;
+  for (let next = row.nextElementSibling; next && +next.dataset.d > top; next = next.nextElementSibling) {
+    const depth = +next.dataset.d;
+    closed = closed.filter(other => other < depth);
+    next.classList.toggle('hidden', row.classList.contains('folded') || closed.length > 0);
+    if (next.classList.contains('folded')) closed.push(depth);
+  }
+});
+</script>
+</body>
+</html>
+";
+
+// The text, token by token, each with the offset at which it starts.
+fn write_tokens<W: Write>(out: &mut W, root: &SyntaxNode) -> io::Result<()> {
+    for element in root.descendants_with_tokens() {
+        if let NodeOrToken::Token(token) = &element {
+            write!(
+                out,
+                "<span data-s=\"{}\">",
+                token.text_range().start().raw()
+            )?;
+            write_escaped(out, token.text())?;
+            out.write_all(b"</span>")?;
+        }
+    }
+    out.write_all(b"</pre>\n<div id=\"tree\">\n")
+}
+
+// A row of the tree: a node, or a token with its text.
+fn write_row<W: Write>(
+    alloc: Global,
+    out: &mut W,
+    level: usize,
+    element: &SyntaxElement,
+) -> io::Result<()> {
+    let (kind, range) = (kind_name(alloc, element.kind())?, element.text_range());
+    let (start, end) = (range.start().raw(), range.end().raw());
+    let class = match element {
+        NodeOrToken::Node(_) => "n",
+        NodeOrToken::Token(_) => "t",
+    };
+    write!(
+        out,
+        "<div class=\"{class}\" style=\"--d:{level}\" data-d=\"{level}\" data-s=\"{start}\" data-e=\"{end}\">{kind}<i>@{start}..{end}</i>"
+    )?;
+    if let NodeOrToken::Token(token) = element {
+        let quoted = format!(in alloc; "{:?}", token.text())?;
+        out.write_all(b" <b>")?;
+        write_escaped(out, quoted.as_str())?;
+        out.write_all(b"</b>")?;
+    }
+    out.write_all(b"</div>\n")
+}
+
+fn write_rows<W: Write>(
+    alloc: Global,
+    out: &mut W,
+    root: &SyntaxNode,
+    showing: &Showing,
+) -> io::Result<()> {
+    let mut level = 0usize;
+    for event in root.preorder_with_tokens() {
+        match event {
+            WalkEvent::Enter(element) => {
+                if is_shown(showing, level, &element) {
+                    write_row(alloc, out, level, &element)?;
+                }
+                level = level.saturating_add(1);
+            }
+            WalkEvent::Leave(_) => level = level.saturating_sub(1),
+        }
+    }
+    Ok(())
+}
+
+fn write_errors<W: Write>(out: &mut W, errors: &[SyntaxError]) -> io::Result<()> {
+    for error in errors {
+        let (start, end) = (error.range().start().raw(), error.range().end().raw());
+        write!(
+            out,
+            "<div class=\"e\" style=\"--d:0\" data-d=\"0\" data-s=\"{start}\" data-e=\"{end}\">error {start}..{end}: "
+        )?;
+        write_escaped(out, error.message())?;
+        out.write_all(b"</div>\n")?;
+    }
+    Ok(())
+}
+
+/// Writes the page of a node and the errors of its text.
+pub fn show<W: Write>(
+    alloc: Global,
+    out: &mut W,
+    name: &str,
+    root: &SyntaxNode,
+    errors: &[SyntaxError],
+    showing: &Showing,
+) -> Result<(), Failure> {
+    write_head(out, name)?;
+    out.write_all(STYLE.as_bytes())?;
+    write_tokens(out, root)?;
+    write_rows(alloc, out, root, showing)?;
+    write_errors(out, errors)?;
+    Ok(out.write_all(SCRIPT.as_bytes())?)
+}
