@@ -18,8 +18,8 @@ pub record AreAlike (old new olds news : List Event) : Type 0 where
   pub begins_so : new ≡ other ++ news
   pub alike : map step front ≡ map step other
 
-pub start : (old new : List Event) → AreAlike old new old new
-start old new = record { front = []; other = []; begins = refl; begins_so = refl; alike = refl }
+pub starts : (old new olds news : List Event) → olds ≡ old → news ≡ new → AreAlike old new olds news
+starts old new olds news e f = record { front = []; other = []; begins = sym e; begins_so = sym f; alike = refl }
 
 append_assoc : {A : Type 0} (l : List A) (x : A) (m : List A) → l ++ (x ∷ m) ≡ (l ++ x ∷ []) ++ m
 append_assoc [] x m = refl

@@ -1,9 +1,13 @@
-use Rattle.std.proofs.Common.{sym, ◌∙◌, []}
+use Rattle.std.proofs.Common.{sym, ap, ◌∙◌, []}
 use Rattle.std.proofs.lemmas.Bool.{false≢true}
 use Rattle.tree_model.specs.Cursor.{walk_of}
 use Rattle.rust_report.specs.Steps.{counted}
-use Rattle.rust_report.proofs.StepLemmas.{longer, no_difference, same_first, not_ended, none_left}
+use Rattle.rust_report.proofs.StepLemmas.{starts, longer, no_difference, same_first, not_ended, none_left}
 use Rattle.rust_report.proofs.same.first_difference.Goals as goal
+
+pub loop-a-init : goal.loop-a-init
+loop-a-init c =
+    starts _ _ _ _ (ap (counted c.args.trivia c.args.marks.now) c.preorder_with_tokens-olds.ensures) (ap (counted c.args.trivia []) c.preorder_with_tokens-news.ensures)
 
 pub returns-in_default-next_counted-clause-same : goal.returns-in_default-next_counted-clause-same
 returns-in_default-next_counted-clause-same c = (
