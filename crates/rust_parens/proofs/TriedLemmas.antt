@@ -3,6 +3,7 @@ use Rattle.std.proofs.Common.{◌≡◌, ◌≤◌, ◌+◌, ℕ, Bool, true, fa
 use Rattle.std.specs.List.{filter}
 use Rattle.std.proofs.lemmas.List.{take-append-drop, length-append, length-map}
 use Rattle.std.proofs.lemmas.List.Elements.{filter-append}
+use Rattle.std.specs.Option.{option_or}
 use Rattle.std.proofs.Math.Seq.{take-append_seam}
 use Rattle.tree_model.specs.Cursor.{Cursor}
 use Rattle.ras_front_end.specs.declared.edition.Entry.{Entry}
@@ -142,11 +143,11 @@ by_answer front entry edition old pairs tried s rest n None h left one a =
     (subst (λ k. AreTried front entry edition old pairs (tried ++ map (as_tried false) (take k rest)) s) (sym (one refl))
     (one_stays front entry edition old pairs tried s rest h left (subst (λ k. Refused front entry edition old (pairs ++ take k rest)) (one refl) a)))
 
-some_bytes : (o : Option String) → is_some (option_map string_bytes o) ≡ is_some o
+some_bytes : {Z : Type 0} (o : Option (String Z)) → is_some (option_map string_bytes o) ≡ is_some o
 some_bytes None = refl
 some_bytes (Some s) = refl
 
-or_bytes : (o p : Option String) → option_or (option_map string_bytes o) (option_map string_bytes p) ≡ option_map string_bytes (option_or o p)
+or_bytes : {Z : Type 0} (o p : Option (String Z)) → option_or (option_map string_bytes o) (option_map string_bytes p) ≡ option_map string_bytes (option_or o p)
 or_bytes None p = refl
 or_bytes (Some s) p = refl
 
