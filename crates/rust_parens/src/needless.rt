@@ -108,11 +108,7 @@ fn next_run<F: FrontEnd>(
 }
 
 // Adds the pairs of a run to those that were chosen, where they go.
-fn add_going(
-    chosen: &mut Vec<SyntaxNode>,
-    run: &[SyntaxNode],
-    goes: bool,
-) -> Result<(), AllocError>
+fn add_going(chosen: &mut Vec<SyntaxNode>, run: &[SyntaxNode], goes: bool) -> Result<(), AllocError>
     ensures { OnOk result (chosen.new.items ≡ chosen.old.items ++ going goes run.now) }
 {
     if !goes {
