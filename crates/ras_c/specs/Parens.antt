@@ -1,9 +1,16 @@
--- The needless pairs of parentheses of a text, as ranges.
-use Rattle.std.specs.Prelude.{List, map}
-use Rattle.std.specs.List.{filter}
-use Rattle.tree_model.specs.Cursor.{Cursor, range_start, range_end}
+-- The needless pairs of parentheses of a text, as ranges, and whether the operator tree at a range reads back.
+use Rattle.std.specs.Prelude.{ℕ, Bool, ◌&&◌, ◌==◌, List, map, Option}
+use Rattle.std.specs.List.{filter, find}
+use Rattle.std.specs.Option.{option_and_then, is_some}
+use Rattle.text_size.specs.TextRange.{Bounds}
+use Rattle.tree_model.specs.Cursor.{Cursor, focus, range_start, range_end}
+use Rattle.tree_model.specs.Covering.{covering_of}
 use Rattle.tree_model.specs.Edit.{root_of}
+use Rattle.lossless_tree.specs.Element.{element_of, ancestors_of_element}
 use Rattle.ras_front_end.specs.Parsed.{Parsed}
+use Rattle.operator_terms.specs.Term.{Term}
+use Rattle.operator_trees.specs.Shown.{shown}
+use Rattle.operator_reads.specs.Reads.{ReadsBack}
 use Rattle.operator_pairs.specs.Pairs.{is_needless, nodes_below}
 use Rattle.ras_c.specs.declared.parens.Range.{Range}
 
@@ -14,3 +21,28 @@ range_at c = record { start = range_start c; end = range_end c }
 -- the pairs below the root whose inside needs no parentheses in their place, in preorder
 abbrev pub needless_of : Parsed → List Range
 needless_of p = map range_at (filter is_needless (nodes_below (root_of p.tree)))
+
+abbrev pub range_from : ℕ → ℕ → Bounds
+range_from start end = record { start = start; end = end }
+
+-- the place has exactly this range
+abbrev pub spans : Bounds → Cursor → Bool
+spans range c = (range_start c == range.start) && (range_end c == range.end)
+
+-- the term that stands at a place, if it shows one
+abbrev pub term_at : Cursor → Option Term
+term_at c = shown (focus c)
+
+abbrev pub shows_term : Cursor → Bool
+shows_term c = is_some (term_at c)
+
+abbrev pub is_term_over : Bounds → Cursor → Bool
+is_term_over range c = spans range c && shows_term c
+
+-- the innermost operator tree with exactly this range: one of what covers the range and the nodes above it
+abbrev pub node_over : Cursor → Bounds → Option Cursor
+node_over root range = find (is_term_over range) (ancestors_of_element (element_of (covering_of root range)))
+
+-- what is answered of it, if there is one
+abbrev pub ReadsBackAt : Option Bool → Cursor → Bounds → Type 0
+ReadsBackAt answer root range = ReadsBack answer (option_and_then term_at (node_over root range))

@@ -1,19 +1,16 @@
 //! Names of kinds.
-ghost use Rattle.std.specs.Prelude.{◌≡◌, ◌<◌, ◌≤◌, ◌⊎◌, length, true, IfSome};
+ghost use Rattle.std.specs.Prelude.{◌≡◌, ◌↔◌, ◌<◌, ◌≤◌, ◌⊎◌, length};
 ghost use Rattle.syntax_kind.specs.declared.syntax_kind.SyntaxKind.{SyntaxKind};
 ghost use Rattle.syntax_kind.specs.Kinds.{IsKind, kind_raw};
-ghost use Rattle.rust_kinds.specs.Names.{rust_name};
+ghost use Rattle.rust_kinds.specs.Names.{rust_name, IsNamed};
 ghost use Rattle.ras_c.specs.Border.{over};
 
 use crate::fill::fill;
-use rust_kinds::name_of;
+use rust_kinds::{from_name, name_of};
 use syntax_kind::SyntaxKind;
 
 /// What no kind has as its number.
 pub const NO_KIND: u32 = 4_294_967_295;
-
-// Behind the largest number n of a kind `OTHER(n)` with a name.
-const OTHERS: u16 = 276;
 
 /// Writes the name of the kind with this number, as `FN`, to the front of `name`, and answers how many bytes it has: 0 where no kind
 /// has the number, or the kind has no name. Where `name` has fewer, it stays as it was. 64 bytes are enough for each.
@@ -38,43 +35,16 @@ pub extern "C" fn ras_c_kind_name(kind: u32, name: &mut [u8]) -> usize
     }
 }
 
-fn is_named(kind: SyntaxKind, name: &str) -> bool
-    ensures { result ≡ true → rust_name kind ≡ name.now }
-{
-    match name_of(kind) {
-        None => false,
-        Some(known) => known == name,
-    }
-}
-
-fn kind_by_name(name: &str) -> Option<SyntaxKind>
-    ensures kind { IfSome result IsKind }
-    ensures named { IfSome result (λ k. rust_name k ≡ name.now) }
-{
-    match SyntaxKind::from_name(name) {
-        Some(SyntaxKind::OTHER(_)) => None,
-        Some(kind) => Some(kind),
-        None => {
-            for number in 0..OTHERS {
-                let kind = SyntaxKind::OTHER(number);
-                if is_named(kind, name) {
-                    return Some(kind);
-                }
-            }
-            None
-        }
-    }
-}
-
 /// The number of the kind with this name, as `FN`; [`NO_KIND`] where none has it.
 #[unsafe(no_mangle)]
 pub extern "C" fn ras_c_kind_of_name(name: &[u8]) -> u32
-    ensures named { (result ≡ 4294967295) ⊎ ((k : SyntaxKind) × IsKind k × (kind_raw k ≡ result) × (rust_name k ≡ name.now)) }
+    ensures exact { (k : SyntaxKind) → IsKind k → (result ≡ kind_raw k) ↔ IsNamed k name.now }
+    ensures number { (result ≡ 4294967295) ⊎ ((k : SyntaxKind) × IsKind k × (kind_raw k ≡ result)) }
 {
     let Ok(name) = str::from_utf8(name) else {
         return NO_KIND;
     };
-    match kind_by_name(name) {
+    match from_name(name) {
         Some(kind) => kind.to_raw(),
         None => NO_KIND,
     }

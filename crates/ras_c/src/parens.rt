@@ -1,11 +1,12 @@
 //! Parentheses of the expressions of a text.
-ghost use Rattle.std.specs.Prelude.{◌≡◌, ◌≤◌, ◌⊎◌, ◌↔◌, map, IfOk, IfErr, IsUtf8, None};
+ghost use Rattle.std.specs.Prelude.{◌≡◌, ◌<◌, ◌≤◌, ◌^◌, ◌⊎◌, ◌↔◌, ◌==◌, length, map, IfOk, IfErr, IsUtf8, None, Some};
 ghost use Rattle.std.specs.List.{filter};
 ghost use Rattle.ras_front_end.specs.Parsed.{Parsed};
 ghost use Rattle.operator_pairs.specs.Pairs.{is_needless, nodes_below};
 ghost use Rattle.ras_c.specs.Border.{edition_of, IsHanded, IsCounted};
 ghost use Rattle.ras_c.specs.Read.{IsReading};
-ghost use Rattle.ras_c.specs.Parens.{range_at, needless_of};
+ghost use Rattle.tree_model.specs.Edit.{root_of};
+ghost use Rattle.ras_c.specs.Parens.{range_at, needless_of, spans, shows_term, is_term_over, node_over, range_from, ReadsBackAt};
 
 use crate::fill::hand;
 use crate::status::{NO_EDITION, NO_MEMORY, NO_PLACE, NOT_UTF8, OK, TOO_LONG, edition_of};
@@ -54,7 +55,9 @@ fn needless_below(alloc: Global, root: &SyntaxNode) -> Result<Vec<Range>, AllocE
 fn parsed(alloc: Global, text: &[u8], edition: u32) -> Result<Parse, u32>
     ensures read { IfOk result (λ p. IsReading edition text.now p) }
     ensures known { IfOk result (λ _. edition_of edition ≡ None → ⊥) }
-    ensures utf8 { IfErr result (λ s. s ≡ 1 → IsUtf8 text.now → ⊥) }
+    ensures text { IfOk result (λ _. IsUtf8 text.now × (length text.now < 2 ^ 32)) }
+    ensures utf8 { IfErr result (λ s. (s ≡ 1) ↔ (edition_of edition ≡ None → ⊥) × (IsUtf8 text.now → ⊥)) }
+    ensures long { IfErr result (λ s. s ≡ 2 → 2 ^ 32 ≤ length text.now) }
     ensures edition { IfErr result (λ s. (s ≡ 5) ↔ (edition_of edition ≡ None)) }
     ensures which { IfErr result (λ s. (s ≡ 1) ⊎ (s ≡ 2) ⊎ (s ≡ 3) ⊎ (s ≡ 5)) }
 {
@@ -86,7 +89,8 @@ pub extern "C" fn ras_c_parens(
     ensures done { result ≡ 0 → (p : Parsed) × IsReading edition text.now p × IsHanded (needless_of p) pairs.old pairs.new count.new }
     ensures room { result ≡ 4 → (p : Parsed) × IsReading edition text.now p × IsCounted (needless_of p) pairs.old pairs.new count.new }
     ensures kept { (result ≡ 0 → ⊥) → (result ≡ 4 → ⊥) → (pairs.new ≡ pairs.old) × (count.new ≡ count.old) }
-    ensures utf8 { result ≡ 1 → IsUtf8 text.now → ⊥ }
+    ensures utf8 { (result ≡ 1) ↔ (edition_of edition ≡ None → ⊥) × (IsUtf8 text.now → ⊥) }
+    ensures long { result ≡ 2 → (2 ^ 32 ≤ length text.now) ⊎ ((p : Parsed) × IsReading edition text.now p × (2 ^ 32 ≤ length (needless_of p))) }
     ensures edition { (result ≡ 5) ↔ (edition_of edition ≡ None) }
     ensures which { result ≤ 5 }
 {
@@ -100,18 +104,44 @@ pub extern "C" fn ras_c_parens(
     }
 }
 
-// Whether the innermost operator tree at a range reads back.
-fn reads_back_at(root: &SyntaxNode, range: TextRange) -> Option<bool> {
-    let place = root.covering_element(range);
-    for node in place.ancestors() {
-        if node.text_range() != range {
-            return None;
-        }
-        if let Some(answer) = reads_back(&node) {
-            return Some(answer);
-        }
+// Whether the node has exactly this range.
+fn spans(node: &SyntaxNode, range: TextRange) -> bool
+    ensures { result ≡ spans range node.now }
+{
+    let found = node.text_range();
+    found.start().raw() == range.start().raw() && found.end().raw() == range.end().raw()
+}
+
+// Whether the node is an operator tree.
+fn shows_term(node: &SyntaxNode) -> bool
+    ensures { result ≡ shows_term node.now }
+{
+    reads_back(node).is_some()
+}
+
+fn is_term_over(node: &SyntaxNode, range: TextRange) -> bool
+    ensures { result ≡ is_term_over range node.now }
+{
+    spans(node, range) && shows_term(node)
+}
+
+// The innermost operator tree with exactly this range.
+fn node_over(root: &SyntaxNode, range: TextRange) -> Option<SyntaxNode>
+    ensures { result ≡ node_over root.now range }
+{
+    root.covering_element(range)
+        .ancestors()
+        .find(|node| is_term_over(node, range))
+}
+
+// Whether that one reads back.
+fn reads_back_at(root: &SyntaxNode, range: TextRange) -> Option<bool>
+    ensures { ReadsBackAt result root.now range }
+{
+    match node_over(root, range) {
+        None => None,
+        Some(node) => reads_back(&node),
     }
-    None
 }
 
 /// Whether the operator tree with exactly this range of a text, of the edition of a year, is the one reading of its tokens: `answer`
@@ -126,22 +156,31 @@ pub extern "C" fn ras_c_reads_back(
     end: u32,
     answer: &mut u32,
 ) -> u32
-    ensures answers { result ≡ 0 → answer.new ≤ 1 }
+    ensures answers { result ≡ 0 → (p : Parsed) × IsReading edition text.now p × (start ≤ end)
+        × ReadsBackAt (Some (answer.new == 1)) (root_of p.tree) (range_from start end) × (answer.new ≤ 1) }
+    ensures nowhere { result ≡ 6 → (p : Parsed) × IsReading edition text.now p
+        × ((end < start) ⊎ ReadsBackAt None (root_of p.tree) (range_from start end)) }
     ensures kept { (result ≡ 0 → ⊥) → answer.new ≡ answer.old }
-    ensures utf8 { result ≡ 1 → IsUtf8 text.now → ⊥ }
+    ensures utf8 { (result ≡ 1) ↔ (edition_of edition ≡ None → ⊥) × (IsUtf8 text.now → ⊥) }
+    ensures long { result ≡ 2 → 2 ^ 32 ≤ length text.now }
+    ensures edition { (result ≡ 5) ↔ (edition_of edition ≡ None) }
     ensures which { (result ≤ 3) ⊎ (5 ≤ result) × (result ≤ 6) }
 {
-    if start > end {
-        return NO_PLACE;
-    }
     let parse = match parsed(alloc, text, edition) {
         Ok(parse) => parse,
         Err(status) => return status,
     };
+    if start > end {
+        return NO_PLACE;
+    }
     let range = TextRange::new(TextSize::new(start), TextSize::new(end));
     match reads_back_at(parse.root(), range) {
-        Some(reads) => {
-            *answer = if reads { 1 } else { 0 };
+        Some(true) => {
+            *answer = 1;
+            OK
+        }
+        Some(false) => {
+            *answer = 0;
             OK
         }
         None => NO_PLACE,

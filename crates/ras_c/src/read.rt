@@ -165,7 +165,7 @@ pub extern "C" fn ras_c_read(
     ensures room { result ≡ 4 → (p : Parsed) × IsReading edition text.now p × IsSmall p × (HasRoom p (buffers rows.old errors.old messages.old counts.old) → ⊥)
         × (buffers rows.new errors.new messages.new counts.new ≡ counted p (buffers rows.old errors.old messages.old counts.old)) }
     ensures kept { (result ≡ 0 → ⊥) → (result ≡ 4 → ⊥) → buffers rows.new errors.new messages.new counts.new ≡ buffers rows.old errors.old messages.old counts.old }
-    ensures utf8 { result ≡ 1 → IsUtf8 text.now → ⊥ }
+    ensures utf8 { (result ≡ 1) ↔ (edition_of edition ≡ None → ⊥) × (IsUtf8 text.now → ⊥) }
     ensures long { result ≡ 2 → (2 ^ 32 ≤ length text.now) ⊎ ((p : Parsed) × IsReading edition text.now p × (IsSmall p → ⊥)) }
     ensures edition { (result ≡ 5) ↔ (edition_of edition ≡ None) }
     ensures which { result ≤ 5 }

@@ -1,5 +1,5 @@
 //! A text to its tokens.
-ghost use Rattle.std.specs.Prelude.{◌≡◌, ◌≤◌, ◌↔◌, map, IfOk, IsUtf8, None, Some};
+ghost use Rattle.std.specs.Prelude.{◌≡◌, ◌≤◌, ◌^◌, ◌⊎◌, ◌↔◌, length, map, IfOk, IsUtf8, None, Some};
 ghost use Rattle.ras_front_end.specs.declared.edition.Edition.{Edition};
 ghost use Rattle.rust_lexer.specs.Lexing.{tokens_of};
 ghost use Rattle.ras_c.specs.Border.{edition_of, IsHanded, IsCounted};
@@ -55,7 +55,8 @@ pub extern "C" fn ras_c_tokens(
     ensures done { result ≡ 0 → (e : Edition) × (edition_of edition ≡ Some e) × IsHanded (map token_row (tokens_of e text.now)) tokens.old tokens.new count.new }
     ensures room { result ≡ 4 → (e : Edition) × (edition_of edition ≡ Some e) × IsCounted (map token_row (tokens_of e text.now)) tokens.old tokens.new count.new }
     ensures kept { (result ≡ 0 → ⊥) → (result ≡ 4 → ⊥) → (tokens.new ≡ tokens.old) × (count.new ≡ count.old) }
-    ensures utf8 { result ≡ 1 → IsUtf8 text.now → ⊥ }
+    ensures utf8 { (result ≡ 1) ↔ (edition_of edition ≡ None → ⊥) × (IsUtf8 text.now → ⊥) }
+    ensures long { result ≡ 2 → (2 ^ 32 ≤ length text.now) ⊎ ((e : Edition) × (edition_of edition ≡ Some e) × (2 ^ 32 ≤ length (tokens_of e text.now))) }
     ensures edition { (result ≡ 5) ↔ (edition_of edition ≡ None) }
     ensures which { result ≤ 5 }
 {

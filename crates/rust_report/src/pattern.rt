@@ -1,13 +1,15 @@
 //! Patterns of kinds, and what they find in a tree.
-ghost use Rattle.std.specs.Prelude.{◌≡◌, IsTrue, IfOk, IfSome, map};
+ghost use Rattle.std.specs.Prelude.{◌≡◌, ◌↔◌, IfOk, Some, map};
 ghost use Rattle.std.specs.List.{filter};
 ghost use Rattle.tree_model.specs.Cursor.{descendants_of};
 ghost use Rattle.lossless_tree.specs.Element.{element_of};
-ghost use Rattle.rust_kinds.specs.Names.{rust_name};
+ghost use Rattle.syntax_kind.specs.declared.syntax_kind.SyntaxKind.{SyntaxKind};
+ghost use Rattle.syntax_kind.specs.Kinds.{IsKind};
+ghost use Rattle.rust_kinds.specs.Names.{IsNamed};
 ghost use Rattle.rust_report.specs.Patterns.{allows, fits, fits_at};
 
 use lossless_tree::{SyntaxElement, SyntaxKind, SyntaxNode};
-use rust_kinds::name_of;
+use rust_kinds::from_name;
 use std::alloc::{AllocError, AllocFailed, Global};
 
 /// How what a step of a pattern stands for is related to what stands before it in the pattern.
@@ -42,9 +44,6 @@ pub enum PatternError {
     Memory,
 }
 
-// The first number past those of the table of `rust_kinds`.
-const OTHERS: u16 = 276;
-
 impl From<AllocError> for PatternError {
     fn from(_error: AllocError) -> PatternError {
         PatternError::Memory
@@ -57,35 +56,11 @@ impl<T: Drop> From<AllocFailed<T>> for PatternError {
     }
 }
 
-fn has_name(kind: SyntaxKind, name: &str) -> bool
-    ensures { IsTrue result → rust_name kind ≡ name.now }
-{
-    match name_of(kind) {
-        Some(own) => own == name,
-        None => false,
-    }
-}
-
 /// The kind with this name, also one of the table of `rust_kinds`; `None` where there is none.
 pub fn kind_named(name: &str) -> Option<SyntaxKind>
-    ensures { IfSome result (λ kind. rust_name kind ≡ name.now) }
+    ensures { (k : SyntaxKind) → IsKind k → (result ≡ Some k) ↔ IsNamed k name.now }
 {
-    for number in 0..OTHERS {
-        let kind = SyntaxKind::OTHER(number);
-        if has_name(kind, name) {
-            return Some(kind);
-        }
-    }
-    match SyntaxKind::from_name(name) {
-        Some(kind) => {
-            if has_name(kind, name) {
-                Some(kind)
-            } else {
-                None
-            }
-        }
-        None => None,
-    }
+    from_name(name)
 }
 
 // What a word of a pattern stands for.
