@@ -1,17 +1,21 @@
 -- Pairs that were tried, and further ones behind them.
-use Rattle.std.proofs.Common.{◌≡◌, ◌≤◌, ◌+◌, ℕ, Bool, true, false, not, cond, List, [], ◌∷◌, ◌++◌, length, map, take, drop, Option, Some, None, refl, sym, ap, subst, ◌∙◌}
+use Rattle.std.proofs.Common.{◌≡◌, ◌≤◌, ◌+◌, ◌-◌, ℕ, Bool, true, false, not, cond, List, [], ◌∷◌, ◌++◌, length, map, take, drop, is_some, option_map, arith, min, Global, Option, Some, None, refl, sym, ap, subst, ◌∙◌}
 use Rattle.std.specs.List.{filter}
-use Rattle.std.proofs.lemmas.List.{take-append-drop, length-map}
+use Rattle.std.proofs.lemmas.List.{take-append-drop, length-append, length-map, length-take, length-drop}
 use Rattle.std.proofs.lemmas.List.Elements.{filter-append}
-use Rattle.std.proofs.Math.Seq.{take-append_seam}
+use Rattle.std.specs.Prelude.{String, string_bytes}
+use Rattle.std.specs.Option.{option_or}
+use Rattle.std.proofs.Math.Seq.{take-append_seam, take-length}
+use Rattle.std.proofs.Math.Nat.{min-le_right}
 use Rattle.tree_model.specs.Cursor.{Cursor}
 use Rattle.ras_front_end.specs.declared.edition.Entry.{Entry}
 use Rattle.ras_front_end.specs.declared.edition.Edition.{Edition}
 use Rattle.ras_front_end.specs.Front.{Front}
 use Rattle.ras_front_end.specs.Parsed.{Parsed}
 use Rattle.rust_parens.specs.declared.needless.Tried.{Tried}
-use Rattle.rust_parens.specs.Needless.{fixed, MayGo, Refused, chosen, refused_of, with_pair, AreSorted, candidates_of, IsFixed, AreTried}
-use Rattle.rust_parens.specs.Runs.{as_tried}
+use Rattle.rust_parens.specs.declared.needless.Run.{Run}
+use Rattle.rust_parens.specs.Needless.{fixed, MayGo, Refused, chosen, refused_of, IsAnswer, with_pair, AreSorted, candidates_of, IsFixed, AreTried}
+use Rattle.rust_parens.specs.Runs.{as_tried, going, staying, IsRun}
 
 abbrev pair_of : Tried → Cursor
 pair_of t = t.pair
@@ -51,6 +55,9 @@ in_order all tried more back e f =
 behind : (goes : Bool) (n : ℕ) (rest : List Cursor) → rest ≡ map pair_of (map (as_tried goes) (take n rest)) ++ drop n rest
 behind goes n rest = sym (take-append-drop n rest) ∙ ap (λ k. k ++ drop n rest) (sym (pairs_noted goes (take n rest)))
 
+pub rest_of : (n : ℕ) (all : List Cursor) → take (length all - n) (drop n all) ≡ drop n all
+rest_of n all = ap (λ k. take k (drop n all)) (sym (length-drop n all)) ∙ take-length (drop n all)
+
 -- ---- those that go
 
 abbrev goes_of : Tried → Bool
@@ -71,7 +78,7 @@ refused_going : (run : List Cursor) → refused_of (map (as_tried true) run) ≡
 refused_going [] = refl
 refused_going (p ∷ run) = refused_going run
 
-pub refused_append : (ts us : List Tried) → refused_of (ts ++ us) ≡ refused_of ts ++ refused_of us
+refused_append : (ts us : List Tried) → refused_of (ts ++ us) ≡ refused_of ts ++ refused_of us
 refused_append ts us = filter-append (λ t. not t.goes) ts us
 
 -- ---- each that stays was refused
@@ -100,7 +107,7 @@ sorted_staying refused before (p ∷ rest) h = (h, tt)
 
 -- ---- more were tried
 
-pub more_go : (front : Front) (entry : Entry) (edition : Edition) (old : Parsed) (pairs : List Cursor) (tried : List Tried) (s : Option (List ℕ)) (rest : List Cursor) (n : ℕ) (new : List ℕ)
+more_go : (front : Front) (entry : Entry) (edition : Edition) (old : Parsed) (pairs : List Cursor) (tried : List Tried) (s : Option (List ℕ)) (rest : List Cursor) (n : ℕ) (new : List ℕ)
     → AreTried front entry edition old pairs tried s → rest ≡ drop (length tried) (candidates_of old)
     → new ≡ fixed old (pairs ++ take n rest) → MayGo front entry edition old (pairs ++ take n rest)
     → AreTried front entry edition old (pairs ++ take n rest) (tried ++ map (as_tried true) (take n rest)) (Some new)
@@ -114,7 +121,7 @@ more_go front entry edition old pairs tried s rest n new h left text go = record
   text = (text, go);
 }
 
-pub one_stays : (front : Front) (entry : Entry) (edition : Edition) (old : Parsed) (pairs : List Cursor) (tried : List Tried) (s : Option (List ℕ)) (rest : List Cursor)
+one_stays : (front : Front) (entry : Entry) (edition : Edition) (old : Parsed) (pairs : List Cursor) (tried : List Tried) (s : Option (List ℕ)) (rest : List Cursor)
     → AreTried front entry edition old pairs tried s → rest ≡ drop (length tried) (candidates_of old)
     → Refused front entry edition old (pairs ++ take 1 rest)
     → AreTried front entry edition old pairs (tried ++ map (as_tried false) (take 1 rest)) s
@@ -131,14 +138,83 @@ one_stays front entry edition old pairs tried s rest h left stays = record {
   text = h.text;
 }
 
+by_answer : (front : Front) (entry : Entry) (edition : Edition) (old : Parsed) (pairs : List Cursor) (tried : List Tried) (s : Option (List ℕ)) (rest : List Cursor) (n : ℕ) (o : Option (List ℕ))
+    → AreTried front entry edition old pairs tried s → rest ≡ drop (length tried) (candidates_of old)
+    → (is_some o ≡ false → n ≡ 1) → IsAnswer front entry edition old (pairs ++ take n rest) o
+    → AreTried front entry edition old (pairs ++ going (is_some o) (take n rest)) (tried ++ map (as_tried (is_some o)) (take n rest)) (option_or o s)
+by_answer front entry edition old pairs tried s rest n (Some new) h left one a = more_go front entry edition old pairs tried s rest n new h left a.0 a.1
+by_answer front entry edition old pairs tried s rest n None h left one a =
+    subst (λ l. AreTried front entry edition old l (tried ++ map (as_tried false) (take n rest)) s) (sym (append_nil pairs))
+    (subst (λ k. AreTried front entry edition old pairs (tried ++ map (as_tried false) (take k rest)) s) (sym (one refl))
+    (one_stays front entry edition old pairs tried s rest h left (subst (λ k. Refused front entry edition old (pairs ++ take k rest)) (one refl) a)))
+
+some_bytes : {Z : Type 0} (o : Option (String Z)) → is_some (option_map string_bytes o) ≡ is_some o
+some_bytes None = refl
+some_bytes (Some s) = refl
+
+or_bytes : {Z : Type 0} (o p : Option (String Z)) → option_or (option_map string_bytes o) (option_map string_bytes p) ≡ option_map string_bytes (option_or o p)
+or_bytes None p = refl
+or_bytes (Some s) p = refl
+
+run_tried : (front : Front) (entry : Entry) (edition : Edition) (old : Parsed) (pairs : List Cursor) (tried : List Tried) (s : Option (String Global)) (rest : List Cursor) (run : Run)
+    → AreTried front entry edition old pairs tried (option_map string_bytes s) → rest ≡ drop (length tried) (candidates_of old)
+    → IsRun front entry edition old pairs rest run
+    → AreTried front entry edition old (pairs ++ going (is_some run.text) (take run.count rest)) (tried ++ map (as_tried (is_some run.text)) (take run.count rest)) (option_map string_bytes (option_or run.text s))
+run_tried front entry edition old pairs tried s rest run h left is =
+    let text : Option (List ℕ) = option_map string_bytes run.text in
+    subst (λ b. AreTried front entry edition old (pairs ++ going b (take run.count rest)) (tried ++ map (as_tried b) (take run.count rest)) (option_map string_bytes (option_or run.text s))) (some_bytes run.text)
+    (subst (AreTried front entry edition old (pairs ++ going (is_some text) (take run.count rest)) (tried ++ map (as_tried (is_some text)) (take run.count rest))) (or_bytes run.text s)
+    (by_answer front entry edition old pairs tried (option_map string_bytes s) rest run.count text h left (λ e. is.one (sym (some_bytes run.text) ∙ e)) is.answer))
+
 -- ---- how many stay
 
-refused_staying : (rest : List Cursor) → 1 ≤ length rest → refused_of (map (as_tried false) (take 1 rest)) ≡ map (as_tried false) (take 1 rest)
-refused_staying [] h = refl
-refused_staying (p ∷ rest) h = refl
+staying_one : (rest : List Cursor) → 1 ≤ length rest → length (refused_of (map (as_tried false) (take 1 rest))) ≡ 1
+staying_one [] h = absurd (omega (arith, h))
+staying_one (p ∷ rest) h = refl
 
-pub as_many : (tried : List Tried) (run : List Cursor) → length (refused_of (tried ++ map (as_tried true) run)) ≡ length (refused_of tried)
-as_many tried run =
-    ap length (refused_append tried (map (as_tried true) run))
-    ∙ ap (λ k. length (refused_of tried ++ k)) (refused_going run)
-    ∙ ap length (append_nil (refused_of tried))
+stay_some : (goes : Bool) (rest : List Cursor) (n : ℕ) → 1 ≤ n → n ≤ length rest → (goes ≡ false → n ≡ 1) → length (refused_of (map (as_tried goes) (take n rest))) ≡ staying goes
+stay_some true rest n some within one = ap length (refused_going (take n rest))
+stay_some false rest n some within one =
+    ap (λ k. length (refused_of (map (as_tried false) (take k rest)))) (one refl) ∙ staying_one rest (subst (λ k. k ≤ length rest) (one refl) within)
+
+more_refused : (front : Front) (entry : Entry) (edition : Edition) (old : Parsed) (pairs : List Cursor) (tried : List Tried) (rest : List Cursor) (run : Run) (refused : ℕ)
+    → IsRun front entry edition old pairs rest run → refused ≡ length (refused_of tried)
+    → refused + staying (is_some run.text) ≡ length (refused_of (tried ++ map (as_tried (is_some run.text)) (take run.count rest)))
+more_refused front entry edition old pairs tried rest run refused is e =
+    let more : List Tried = map (as_tried (is_some run.text)) (take run.count rest) in
+    ap (λ n. n + staying (is_some run.text)) e
+    ∙ ap (λ n. length (refused_of tried) + n) (sym (stay_some (is_some run.text) rest run.count is.some is.within is.one))
+    ∙ sym (length-append (refused_of tried) (refused_of more))
+    ∙ ap length (sym (refused_append tried more))
+
+-- ---- a run was noted
+
+pub noted : (front : Front) (entry : Entry) (edition : Edition) (old : Parsed) (found beside : List Cursor) (tried : List Tried) (s : Option (String Global)) (rest : List Cursor) (run : Run) (goes : Bool)
+    (new_found : List Cursor) (new_tried : List Tried) (new_s : Option (String Global))
+    → AreTried front entry edition old found tried (option_map string_bytes s) → rest ≡ drop (length tried) (candidates_of old)
+    → beside ≡ found → IsRun front entry edition old beside rest run
+    → goes ≡ is_some run.text → new_found ≡ found ++ going goes (take run.count rest) → new_tried ≡ tried ++ map (as_tried goes) (take run.count rest) → new_s ≡ option_or run.text s
+    → AreTried front entry edition old new_found new_tried (option_map string_bytes new_s)
+noted front entry edition old found beside tried s rest run goes new_found new_tried new_s h left is_beside is is_goes is_found is_tried is_s =
+    subst (λ k. AreTried front entry edition old k new_tried (option_map string_bytes new_s)) (sym is_found)
+    (subst (λ k. AreTried front entry edition old (found ++ going goes (take run.count rest)) k (option_map string_bytes new_s)) (sym is_tried)
+    (subst (λ k. AreTried front entry edition old (found ++ going goes (take run.count rest)) (tried ++ map (as_tried goes) (take run.count rest)) (option_map string_bytes k)) (sym is_s)
+    (subst (λ k. AreTried front entry edition old (found ++ going k (take run.count rest)) (tried ++ map (as_tried k) (take run.count rest)) (option_map string_bytes (option_or run.text s))) (sym is_goes)
+    (run_tried front entry edition old found tried s rest run h left (subst (λ k. IsRun front entry edition old k rest run) is_beside is)))))
+
+pub tried_within : (front : Front) (entry : Entry) (edition : Edition) (old : Parsed) (found : List Cursor) (tried : List Tried) (s : Option (List ℕ))
+    → AreTried front entry edition old found tried s → length tried ≤ length (candidates_of old)
+tried_within front entry edition old found tried s h =
+    let are : length tried ≡ min (length tried) (length (candidates_of old)) =
+    sym (length-map tried pair_of) ∙ ap length h.in_order ∙ length-take (length tried) (candidates_of old) in
+    subst (λ n. n ≤ length (candidates_of old)) (sym are) (min-le_right (length tried) (length (candidates_of old)))
+
+pub refused_noted : (front : Front) (entry : Entry) (edition : Edition) (old : Parsed) (beside : List Cursor) (tried : List Tried) (rest : List Cursor) (run : Run) (goes : Bool) (new_tried : List Tried) (refused stay : ℕ)
+    → IsRun front entry edition old beside rest run → goes ≡ is_some run.text → new_tried ≡ tried ++ map (as_tried goes) (take run.count rest)
+    → refused ≡ length (refused_of tried) → stay ≡ staying goes
+    → refused + stay ≡ length (refused_of new_tried)
+refused_noted front entry edition old beside tried rest run goes new_tried refused stay is is_goes is_tried is_refused is_stay =
+    ap (λ n. refused + n) (is_stay ∙ ap staying is_goes)
+    ∙ more_refused front entry edition old beside tried rest run refused is is_refused
+    ∙ ap (λ b. length (refused_of (tried ++ map (as_tried b) (take run.count rest)))) (sym is_goes)
+    ∙ ap (λ k. length (refused_of k)) (sym is_tried)

@@ -1,10 +1,11 @@
 -- A text without some pairs of parentheses.
-use Rattle.std.specs.Prelude.{ℕ, ◌-◌, ◌==◌, nat_le, Bool, true, false, ◌&&◌, ◌||◌, if◌then◌else◌, List, [], ◌∷◌, ◌++◌, length, replicate, set, Option, Some, None, slice_get}
+use Rattle.std.specs.Prelude.{ℕ, ◌-◌, ◌==◌, nat_le, Bool, true, false, ◌&&◌, ◌||◌, if◌then◌else◌, List, [], ◌∷◌, ◌++◌, length, map, replicate, set, Option, Some, None, slice_get}
 use Rattle.text_size.specs.TextRange.{Bounds}
 use Rattle.tree_model.specs.Tree.{text}
-use Rattle.tree_model.specs.Cursor.{Cursor, focus, at_token, descendants_of}
+use Rattle.tree_model.specs.Cursor.{Cursor, focus, descendants_of}
+use Rattle.lossless_tree.specs.declared.cursor.element.NodeOrToken.TheVariants as element
 use Rattle.lossless_tree.specs.Element.{element_of}
-use Rattle.rust_report.specs.Steps.{is_left_out}
+use Rattle.rust_report.specs.Steps.{Element, is_left_out}
 use Rattle.rust_parens.specs.Pairs.{parens_of}
 
 -- ---- the marks of pairs
@@ -61,15 +62,15 @@ blank false = []
 abbrev pub put : Bool → List ℕ → List ℕ → List ℕ
 put gap s t = s ++ (blank (gap && grow_at (slice_get s (length s - 1)) (slice_get t 0)) ++ t)
 
--- a node or token behind a text: a token that the marks leave out leaves a gap
-abbrev pub with_element : List Bool → List ℕ × Bool → Cursor → List ℕ × Bool
-with_element marks st c =
-    if at_token c then (if is_left_out marks (element_of c) then (st.0, true) else (put st.1 st.0 (text (focus c)), false)) else st
+-- a node or token behind a text: a node adds nothing, and a token that the marks leave out leaves a gap
+abbrev pub with_element : List Bool → List ℕ × Bool → Element → List ℕ × Bool
+with_element marks st (element.Node c) = st
+with_element marks st (element.Token c) = if is_left_out marks (element.Token c) then (st.0, true) else (put st.1 st.0 (text (focus c)), false)
 
-abbrev pub text_from : List Bool → List ℕ × Bool → List Cursor → List ℕ
+abbrev pub text_from : List Bool → List ℕ × Bool → List Element → List ℕ
 text_from marks st [] = st.0
-text_from marks st (c ∷ cs) = text_from marks (with_element marks st c) cs
+text_from marks st (x ∷ xs) = text_from marks (with_element marks st x) xs
 
 -- the text of a tree without the tokens that the marks leave out
 abbrev pub text_without : List Bool → Cursor → List ℕ
-text_without marks c = text_from marks ([], false) (descendants_of c)
+text_without marks c = text_from marks ([], false) (map element_of (descendants_of c))

@@ -1,7 +1,7 @@
 //! The pairs of a text that may go together, and the text without them.
 ghost use Rattle.std.specs.Prelude.{◌≡◌, ◌≤◌, ◌<◌, ◌+◌, ◌↔◌, ◌++◌, map, length, IfOk, OnOk, IsTrue, option_map, string_bytes};
 ghost use Rattle.rust_parens.specs.Needless.{IsMarkedOut, IsAnswer, AreTried, candidates_of, refused_of};
-ghost use Rattle.rust_parens.specs.Runs.{IsRun, as_tried};
+ghost use Rattle.rust_parens.specs.Runs.{IsRun, as_tried, going, staying};
 
 use crate::find::pairs;
 use crate::text::{marks_of, text_without};
@@ -37,11 +37,12 @@ pub struct Needless {
     pub left: usize,
 }
 
-// Some of the pairs that are left go beside those before; or the first of them stays.
+// Pairs that were tried together beside those that were chosen. They go where there is a text without them all; else it is one pair,
+// and it stays.
 #[derive(Drop)]
-enum Run {
-    Go(usize, String),
-    Stay,
+struct Run {
+    count: usize,
+    text: Option<String>,
 }
 
 // Whether a parse is the old one without what the marks leave out, with as many errors.
@@ -80,7 +81,7 @@ fn without<F: FrontEnd>(
     }
 }
 
-// Some of the pairs that are left go beside those that were chosen, at most `step`; or the first of them stays.
+// Tries the first pairs that are left beside those that were chosen: at most `step` of them, then by halves, down to one.
 fn next_run<F: FrontEnd>(
     alloc: Global,
     front: &F,
@@ -96,22 +97,25 @@ fn next_run<F: FrontEnd>(
 {
     let mut count = step.min(rest.len());
     while count > 1 {
-        if let Some(text) = without(alloc, front, entry, edition, old, chosen, &rest[..count])? {
-            return Ok(Run::Go(count, text));
+        let text = without(alloc, front, entry, edition, old, chosen, &rest[..count])?;
+        if text.is_some() {
+            return Ok(Run { count, text });
         }
         count /= 2;
     }
-    match without(alloc, front, entry, edition, old, chosen, &rest[..1])? {
-        Some(text) => Ok(Run::Go(1, text)),
-        None => Ok(Run::Stay),
-    }
+    let text = without(alloc, front, entry, edition, old, chosen, &rest[..1])?;
+    Ok(Run { count: 1, text })
 }
 
-fn push_all(pairs: &mut Vec<SyntaxNode>, run: &[SyntaxNode]) -> Result<(), AllocError>
-    ensures { OnOk result (pairs.new.items ≡ pairs.old.items ++ run.now) }
+// Adds the pairs of a run to those that were chosen, where they go.
+fn add_going(chosen: &mut Vec<SyntaxNode>, run: &[SyntaxNode], goes: bool) -> Result<(), AllocError>
+    ensures { OnOk result (chosen.new.items ≡ chosen.old.items ++ going goes run.now) }
 {
+    if !goes {
+        return Ok(());
+    }
     for pair in run {
-        pairs.push(share(pair))?;
+        chosen.push(share(pair))?;
     }
     Ok(())
 }
@@ -127,6 +131,13 @@ fn note(tried: &mut Vec<Tried>, run: &[SyntaxNode], goes: bool) -> Result<(), Al
         })?;
     }
     Ok(())
+}
+
+// How many pairs of a run stay.
+fn staying(goes: bool) -> usize
+    ensures { result ≡ staying goes }
+{
+    if goes { 0 } else { 1 }
 }
 
 /// The pairs of parentheses of a text that may go together: those that [`pairs`](crate::pairs) names, one after the other, where the
@@ -154,7 +165,7 @@ pub fn find_needless<F: FrontEnd>(
     let mut step = candidates.len();
     while tried.len() < candidates.len() && refused < LIMIT {
         let rest = &candidates[tried.len()..];
-        match next_run(
+        let run = next_run(
             alloc,
             front,
             entry,
@@ -163,19 +174,14 @@ pub fn find_needless<F: FrontEnd>(
             found.as_slice(),
             rest,
             step,
-        )? {
-            Run::Go(count, new) => {
-                push_all(&mut found, &rest[..count])?;
-                note(&mut tried, &rest[..count], true)?;
-                text = Some(new);
-                step = count.saturating_mul(2);
-            }
-            Run::Stay => {
-                note(&mut tried, &rest[..1], false)?;
-                refused += 1;
-                step = 1;
-            }
-        }
+        )?;
+        let pairs = &rest[..run.count];
+        let goes = run.text.is_some();
+        add_going(&mut found, pairs, goes)?;
+        note(&mut tried, pairs, goes)?;
+        refused += staying(goes);
+        step = if goes { run.count.saturating_mul(2) } else { 1 };
+        text = run.text.or(text);
     }
     Ok(Needless {
         pairs: found,

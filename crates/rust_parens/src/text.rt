@@ -1,9 +1,9 @@
 //! A text without some pairs of parentheses.
 ghost use Rattle.std.specs.Prelude.{◌≡◌, ◌++◌, IfOk, OnOk, set, true, string_bytes};
-ghost use Rattle.rust_parens.specs.Texts.{mark_two, marked, marks_of, is_word, is_taken, is_sign, takes_equals, grow, grow_at, put, text_without};
+ghost use Rattle.rust_parens.specs.Texts.{mark_two, marked, marks_of, is_word, is_taken, is_sign, takes_equals, grow, grow_at, blank, put, with_element, text_without};
 
 use crate::find::parens_of;
-use lossless_tree::{NodeOrToken, SyntaxNode, TextRange};
+use lossless_tree::{NodeOrToken, SyntaxElement, SyntaxNode, TextRange};
 use rust_report::is_left_out;
 use std::alloc::{AllocError, Global};
 
@@ -33,7 +33,7 @@ fn mark(marks: &mut [bool], pairs: &[SyntaxNode])
 }
 
 /// The marks of the parentheses of pairs, those of `chosen` and of `more`, in a text of so many bytes.
-#[tactic(auto, using(crate::proofs::MarkLemmas::marked_append))]
+#[tactic(auto, using(crate::proofs::MarkLemmas::both_marked))]
 pub(crate) fn marks_of(
     alloc: Global,
     len: usize,
@@ -43,8 +43,9 @@ pub(crate) fn marks_of(
     ensures { IfOk result (λ marks. marks.items ≡ marks_of len (chosen.now ++ more.now)) }
 {
     let mut marks = vec![in alloc; false; len]?;
-    mark(marks.as_mut_slice(), chosen);
-    mark(marks.as_mut_slice(), more);
+    let slice = marks.as_mut_slice();
+    mark(slice, chosen);
+    mark(slice, more);
     Ok(marks)
 }
 
@@ -107,37 +108,55 @@ fn grow_at(a: Option<u8>, b: Option<u8>) -> bool
     }
 }
 
+// A blank where it is asked for.
+fn blank(apart: bool) -> &'static str
+    ensures { result.now ≡ blank apart }
+{
+    if apart { " " } else { "" }
+}
+
 // Puts a token behind a text; where something was left out between, with a blank if they would grow together.
-#[tactic(auto, using(crate::proofs::MarkLemmas::put_blank, crate::proofs::MarkLemmas::put_plain))]
+#[tactic(auto, using(crate::proofs::MarkLemmas::put_both))]
 fn put(out: &mut String, gap: bool, token: &str) -> Result<(), AllocError>
     ensures { OnOk result (string_bytes out.new ≡ put gap (string_bytes out.old) token.now) }
 {
     let last = out.as_bytes().last().copied();
     let first = token.as_bytes().first().copied();
-    if gap && grow_at(last, first) {
-        out.push_str(" ")?;
-    }
+    out.push_str(blank(gap && grow_at(last, first)))?;
     out.push_str(token)
+}
+
+// Puts a node or token behind a text: a token that the marks leave out leaves a gap. The answer is whether there is a gap behind it.
+fn push_element(
+    out: &mut String,
+    gap: bool,
+    marks: &[bool],
+    element: &SyntaxElement,
+) -> Result<bool, AllocError>
+    ensures { IfOk result (λ g. (string_bytes out.new, g) ≡ with_element marks.now (string_bytes out.old, gap) element.now) }
+{
+    let NodeOrToken::Token(token) = element else {
+        return Ok(gap);
+    };
+    if is_left_out(marks, element) {
+        return Ok(true);
+    }
+    put(out, gap, token.text())?;
+    Ok(false)
 }
 
 /// The text of a tree without the parentheses that marks leave out, with a blank in the place of some where the tokens beside them
 /// would grow together.
 ///
 /// It takes time linear in the tree.
+#[tactic(auto, using(crate::proofs::MarkLemmas::stepped, crate::proofs::MarkLemmas::ended))]
 pub fn text_without(alloc: Global, root: &SyntaxNode, marks: &[bool]) -> Result<String, AllocError>
     ensures { IfOk result (λ s. string_bytes s ≡ text_without marks.now root.now) }
 {
     let mut out = String::with_capacity(alloc, root.as_str().len())?;
     let mut gap = false;
     for element in root.descendants_with_tokens() {
-        if let NodeOrToken::Token(token) = &element {
-            if is_left_out(marks, &element) {
-                gap = true;
-            } else {
-                put(&mut out, gap, token.text())?;
-                gap = false;
-            }
-        }
+        gap = push_element(&mut out, gap, marks, &element)?;
     }
     Ok(out)
 }
