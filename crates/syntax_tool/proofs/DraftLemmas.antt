@@ -13,7 +13,7 @@ use Rattle.syntax_tool.specs.declared.refusal.Refusal.TheVariants as refusal
 use Rattle.syntax_tool.specs.Output.{DumpsEvents, refusal_of_finish}
 
 no_past : (n : ℕ) (fs : List Fault) → fs ≡ [] → Any (λ f. n < f.range.end) fs → ⊥
-no_past n fs h p = (let few : p.0 < length {X = Fault} [] = subst (λ l. p.0 < length l) h p.2 in absurd (omega (arith, few)))
+no_past n fs h p = (let few : p.0 < 0 = subst (λ (l : List Fault). p.0 < length l) h p.2 in absurd (omega (arith, few)))
 
 of_draft : (d : Draft) (e : FinishError) → d.faults ≡ [] → DraftHolds e d → Holds e d.events
 of_draft d e h (inl w) = w
