@@ -1,0 +1,247 @@
+//! Random edits of a text: what is typed, deleted and pasted.
+use ra_ap_syntax::{Edition, NodeOrToken, Parse, SourceFile, TextRange, TextSize};
+use rand_core::Rng;
+use rand_pcg::Pcg32;
+use rust_front::Rust;
+use std::alloc::Global;
+
+// What a user types, letter by letter and at once.
+const TYPED: [&str; 40] = [
+    "a",
+    "x1",
+    "_",
+    "é",
+    " ",
+    "\n",
+    "\n\n",
+    "(",
+    ")",
+    "{",
+    "}",
+    "[",
+    "]",
+    "<",
+    ">",
+    "\"",
+    "'",
+    "'a",
+    "#",
+    "!",
+    ";",
+    ",",
+    ".",
+    "..",
+    ":",
+    "::",
+    "=",
+    "==",
+    "&",
+    "|",
+    "+",
+    "-",
+    "*",
+    "/",
+    "//",
+    "/*",
+    "*/",
+    "r#\"",
+    "fn f() {}",
+    "let a = 1;",
+];
+
+/// Makes edits and counts what came of them.
+#[derive(Drop)]
+pub struct Edits {
+    chance: Pcg32,
+    tokens: u64,
+    blocks: u64,
+    all: u64,
+    different: u64,
+    other_errors: u64,
+    wrong_texts: u64,
+}
+
+// The bytes that go, and the text that comes.
+#[derive(Drop)]
+struct Edit {
+    start: u32,
+    end: u32,
+    insert: String,
+}
+
+// The nearest character boundary before or at an offset.
+fn boundary(text: &str, offset: usize) -> usize {
+    let mut at = offset.min(text.len());
+    for _step in 0..4 {
+        if text.is_char_boundary(at) {
+            return at;
+        }
+        at = at.saturating_sub(1);
+    }
+    0
+}
+
+fn short(offset: usize) -> u32 {
+    u32::try_from(offset).unwrap_or(u32::MAX)
+}
+
+// What comes in place of what goes, if anything does.
+fn inserted<'a>(kind: usize, typed: &'a str, piece: &'a str) -> &'a str {
+    match kind {
+        0 | 1 => "",
+        2 | 3 => piece,
+        _ => typed,
+    }
+}
+
+fn edited(alloc: Global, text: &str, edit: &Edit) -> anyhow::Result<String> {
+    let mut new = String::new(alloc);
+    new.push_str(text.get(..edit.start as usize).unwrap_or(""))?;
+    new.push_str(edit.insert.as_str())?;
+    new.push_str(text.get(edit.end as usize..).unwrap_or(""))?;
+    Ok(new)
+}
+
+// A number made of the errors of a parse, whatever their order.
+fn errors(alloc: Global, parse: &Parse<SourceFile>) -> anyhow::Result<u64> {
+    let mut all = 0u64;
+    for error in &parse.errors(alloc)? {
+        let mut one = 7u64;
+        for byte in format!(in alloc; "{} {error}", error.range())?.as_bytes() {
+            one = one.wrapping_mul(31).wrapping_add(*byte as u64);
+        }
+        all = all.wrapping_add(one);
+    }
+    Ok(all)
+}
+
+impl Edits {
+    /// Edits by the numbers that follow a seed.
+    pub fn new(seed: u64) -> Edits {
+        Edits {
+            chance: Pcg32::new(seed, 54),
+            tokens: 0,
+            blocks: 0,
+            all: 0,
+            different: 0,
+            other_errors: 0,
+            wrong_texts: 0,
+        }
+    }
+
+    // A number below n; 0 where n is 0.
+    fn below(&mut self, n: usize) -> usize {
+        let word = self.chance.next_u32() as usize;
+        if n == 0 { 0 } else { word % n }
+    }
+
+    // A piece of the text of less than so many bytes, from any place on.
+    fn span(&mut self, text: &str, most: usize) -> (usize, usize) {
+        let start = boundary(text, self.below(text.len().saturating_add(1)));
+        let end = boundary(text, start.saturating_add(self.below(most))).max(start);
+        (start, end)
+    }
+
+    fn typed(&mut self) -> &'static str {
+        match TYPED.get(self.below(40)) {
+            Some(word) => word,
+            None => "a",
+        }
+    }
+
+    // Half of all edits type something, the others delete, paste a piece of the text, or put it in place of another.
+    fn choose(&mut self, alloc: Global, text: &str) -> anyhow::Result<Edit> {
+        let kind = self.below(8);
+        let (start, end) = self.span(text, if kind == 1 { 200 } else { 8 });
+        let (from, to) = self.span(text, 80);
+        let piece = text.get(from..to).unwrap_or("");
+        let insert = inserted(kind, self.typed(), piece);
+        Ok(Edit {
+            start: short(start),
+            end: short(if kind < 4 && kind != 2 { end } else { start }),
+            insert: format!(in alloc; "{insert}")?,
+        })
+    }
+
+    /// Makes so many edits of one file, each of the text as it is.
+    pub fn try_file(
+        &mut self,
+        rt: &HostRuntime,
+        path: &str,
+        text: &str,
+        edition: Edition,
+        count: u64,
+    ) -> anyhow::Result<()> {
+        let parse = SourceFile::parse(rt.alloc(), text, &Rust, edition)?;
+        for _edit in 0..count {
+            let edit = self.choose(rt.alloc(), text)?;
+            if !self.is_kept(rt.alloc(), &parse, text, &edit, edition)? {
+                println!(rt;
+                    "{path} {edition:?} {}..{} {:?}",
+                    edit.start, edit.end, edit.insert
+                )?;
+            }
+        }
+        Ok(())
+    }
+
+    // Whether an edit of one piece gives the tree and the errors of a new parse.
+    fn is_kept(
+        &mut self,
+        alloc: Global,
+        parse: &Parse<SourceFile>,
+        text: &str,
+        edit: &Edit,
+        edition: Edition,
+    ) -> anyhow::Result<bool> {
+        let new_text = edited(alloc, text, edit)?;
+        let root = parse.syntax_node();
+        let old = root.as_str();
+        let (start, end) = (edit.start, edit.end);
+        if start > end
+            || !old.is_char_boundary(start as usize)
+            || !old.is_char_boundary(end as usize)
+        {
+            return Ok(true);
+        }
+        let delete = TextRange::new(TextSize::new(start), TextSize::new(end));
+        let Some((piece, range)) = parse.incremental_reparse(
+            alloc,
+            &Rust,
+            delete,
+            edit.insert.as_str(),
+            edition,
+        )?
+        else {
+            self.all = self.all.saturating_add(1);
+            return Ok(true);
+        };
+        match root.covering_element(range) {
+            NodeOrToken::Token(_) => self.tokens = self.tokens.saturating_add(1),
+            NodeOrToken::Node(_) => self.blocks = self.blocks.saturating_add(1),
+        }
+        if piece.syntax_node().as_str() != new_text.as_str() {
+            self.wrong_texts = self.wrong_texts.saturating_add(1);
+        }
+        let whole = SourceFile::parse(alloc, new_text.as_str(), &Rust, edition)?;
+        let is_same = piece.syntax_node().dump(alloc)? == whole.syntax_node().dump(alloc)?;
+        if !is_same {
+            self.different = self.different.saturating_add(1);
+        }
+        // The errors of a piece stand behind those that are kept, so their order is no matter.
+        let has_errors = errors(alloc, &piece)? == errors(alloc, &whole)?;
+        if is_same && !has_errors {
+            self.other_errors = self.other_errors.saturating_add(1);
+        }
+        Ok(is_same && has_errors)
+    }
+
+    /// Prints the counts.
+    pub fn tell(&self, rt: &HostRuntime) -> anyhow::Result<()> {
+        println!(rt;
+            "edits: {} of a token, {} of a block, {} of all; {} trees differ from those of a new parse, {} have other errors, {} texts are wrong",
+            self.tokens, self.blocks, self.all, self.different, self.other_errors, self.wrong_texts
+        )?;
+        Ok(())
+    }
+}
