@@ -10,7 +10,6 @@ mod views;
 
 pub use expr_ext::{ArgsMaybeEmpty, ArrayExprKind, BlockModifier, FieldKind, RangeItem};
 pub use operators::{ArithOp, BinaryOp, CmpOp, LogicOp, Ordering, RangeOp, UnaryOp};
-pub(crate) use ras_kinds::raw;
 pub use ras_literal::{
     AttrKind, CommentKind, CommentShape, IntError, QuoteOffsets, Radix, ValueError,
 };
@@ -20,6 +19,7 @@ pub use ras_token::tokens::{
     Byte, ByteString, CString, Char, Comment, FloatNumber, IntNumber, String, Whitespace,
 };
 pub use ras_token::{AnyComment, AnyString, IsString, LiteralKind, TypedToken};
+pub(crate) use syntax_kind::raw;
 pub use traits::{HasAttrs, HasLoopBody, attrs_including_inner, attrs_with_doc_including_inner};
 pub use typed::Typed;
 pub use views::adt::Adt;

@@ -1,6 +1,6 @@
 //! The kinds of tokens that have a type, by their names.
 use crate::typed::TypedToken;
-use ras_kinds::raw;
+use syntax_kind::raw;
 
 /// White space.
 pub type Whitespace = TypedToken<{ raw::WHITESPACE }>;

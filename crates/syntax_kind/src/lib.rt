@@ -3,6 +3,7 @@
 
 mod language;
 pub mod laws;
+pub mod raw;
 mod syntax_kind;
 
 pub use language::{Language, RustLanguage};

@@ -1,5 +1,8 @@
-//! The numbers, by their kinds' names.
-use syntax_kind::{NodeKind, TokenKind};
+//! The raw numbers of the kinds of nodes, and of the kinds of tokens that have a view, by their names: those that
+//! [`SyntaxKind::to_raw`](crate::SyntaxKind::to_raw) gives. A view knows its kind by such a number.
+use crate::{NodeKind, TokenKind};
+
+pub mod laws;
 
 // The number of the first kind of node: those of the kinds of tokens come before it.
 const FIRST_NODE: u32 = 117;

@@ -2,8 +2,7 @@
 ghost use Rattle.std.specs.Prelude.{◌≡◌, ℕ};
 ghost use Rattle.syntax_kind.specs.Kinds.{kind_raw};
 
-use crate::raw;
-use syntax_kind::SyntaxKind;
+use crate::{SyntaxKind, raw};
 
 /// What has a number.
 pub trait Numbered {
