@@ -2,7 +2,7 @@
 
 use lossless_tree::FinishError;
 use ra_ap_syntax::ParseError;
-use ras_literal::ValueError;
+use ras_token_ext::ValueError;
 use std::alloc::AllocError;
 use std::io;
 use thiserror::Error;

@@ -20,7 +20,7 @@ use Rattle.operator_trees.specs.declared.form.Form.{Form}
 use Rattle.operator_trees.specs.declared.form.Form.TheVariants as form
 use Rattle.operator_trees.specs.Forms.{form_of}
 use Rattle.operator_trees.specs.Shown.{Meaning, IsSign, IsTerm, IsName, IsSegment, IsPath, IsType, IsArguments, IsNothing, leaf, means, meanings, meaning, is_right, shown, term_of}
-use Rattle.operator_reads.specs.Reads.{ReadsBack}
+use Rattle.operator_reading.specs.Reads.{ReadsBack}
 use Rattle.operator_trees.specs.Shape.{term_form, blank, erase, blank_of}
 use Rattle.operator_trees.specs.Before.{kids, no_kid}
 use Rattle.operator_trees.specs.Leaves.{leaves_behind}

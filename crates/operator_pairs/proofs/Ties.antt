@@ -20,7 +20,7 @@ use Rattle.operator_terms.specs.Precedence.{precedence, needs_parentheses_in}
 use Rattle.operator_trees.proofs.Tokens.{tokens-shown}
 use Rattle.tree_model.specs.Tree.{Tree}
 use Rattle.operator_trees.specs.Shown.{IsTerm, meaning, shown, term_of}
-use Rattle.operator_reads.specs.Reads.{ReadsBack, IsAnswer}
+use Rattle.operator_reading.specs.Reads.{ReadsBack, IsAnswer}
 use Rattle.operator_trees.specs.Leaves.{leaves_behind, leaves_of}
 use Rattle.operator_pairs.specs.Pairs.{operand_cursor, angle_behind, asks, inside_fits, part_fits, may_go, is_pair_term, is_pair_part, reads_without, AskedNowhere, MayGoBefore}
 use Rattle.operator_pairs.proofs.Asked.{AskedAt, asked_at, asked_below, operand_shown, split_last, holder_of}

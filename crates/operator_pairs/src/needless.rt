@@ -6,7 +6,7 @@ ghost use Rattle.operator_terms.specs.Term.{Term};
 ghost use Rattle.operator_terms.specs.Places.{MayStandBefore};
 ghost use Rattle.operator_trees.specs.Leaves.{leaves_behind};
 ghost use Rattle.operator_trees.specs.Shown.{shown, meaning, IsTerm};
-ghost use Rattle.operator_reads.specs.Reads.{ReadsBack};
+ghost use Rattle.operator_reading.specs.Reads.{ReadsBack};
 ghost use Rattle.operator_pairs.specs.Pairs.{is_paren, is_needless, nodes_below, may_go_from, NeedlessOf, AskedNowhere};
 
 use crate::test::needs_parens_in_place_of;
@@ -70,7 +70,7 @@ pub fn reads_back(node: &SyntaxNode) -> Option<bool>
     ensures tied { IfSome result (λ b. (t : Term) → meaning (focus node.now) ≡ IsTerm t → MayStandBefore (leaves_behind node.now.tree node.now.place) t
         → b ≡ true ↔ AskedNowhere node.now t) }
 {
-    operator_reads::reads::reads_back(node)
+    operator_reading::reads::reads_back(node)
 }
 
 /// The pairs below the root whose inside needs no parentheses in their place, in preorder; `None` unless the tree reads back.

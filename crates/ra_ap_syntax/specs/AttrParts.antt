@@ -7,10 +7,10 @@ use Rattle.syntax_kind.specs.declared.syntax_kind.SyntaxKind.TheVariants.{Node}
 use Rattle.syntax_kind.specs.declared.syntax_kind.node_kind.NodeKind.TheVariants as kind
 use Rattle.tree_model.specs.Cursor.{Cursor, focus, at_token, descendants_of}
 use Rattle.lossless_tree.specs.Trees.{child_text}
-use Rattle.ras_literal.specs.declared.comments.AttrKind.{AttrKind}
-use Rattle.ras_literal.specs.declared.comments.AttrKind.TheVariants.{Inner, Outer}
-use Rattle.ras_literal.specs.declared.comments.CommentShape.{CommentShape}
-use Rattle.ras_literal.specs.Comments.{comment_text, shape_of}
+use Rattle.ras_token_ext.specs.declared.comments.AttrKind.{AttrKind}
+use Rattle.ras_token_ext.specs.declared.comments.AttrKind.TheVariants.{Inner, Outer}
+use Rattle.ras_token_ext.specs.declared.comments.CommentShape.{CommentShape}
+use Rattle.ras_token_ext.specs.Comments.{comment_text, shape_of}
 use Rattle.ras_node.specs.Nodes.{is_of_kind, typed_child}
 use Rattle.ras_node.specs.Sets.{is_any_comment}
 use Rattle.ras_item.specs.NodeParts.{if_in, single_name}

@@ -12,7 +12,7 @@ use Rattle.ra_ap_syntax.specs.declared.ast.expr_ext.array.ArrayExprKind.TheVaria
 use Rattle.ra_ap_syntax.specs.declared.ast.expr_ext.field.FieldKind.{FieldKind}
 use Rattle.ra_ap_syntax.specs.declared.ast.expr_ext.field.FieldKind.TheVariants as field
 use Rattle.ra_ap_syntax.specs.ExprCases.{expr_node}
-use Rattle.ras_expr.specs.ExprParts.{index_token}
+use Rattle.ras_expr_ext.specs.ExprParts.{index_token}
 
 -- an array: one value and how often it comes, or a list of values
 pub data ArrayShape : Type 0 where

@@ -31,10 +31,10 @@ pub use Rattle.ras_node.specs.Nodes
 pub use Rattle.ras_node.specs.Searches
 pub use Rattle.ras_node.specs.Sets
 pub use Rattle.ras_node.specs.PartSets
-pub use Rattle.ras_search.specs.Algo
-pub use Rattle.ras_expr.specs.Args
-pub use Rattle.ras_expr.specs.ExprParts
-pub use Rattle.ras_expr.specs.Modifiers
+pub use Rattle.ras_algo.specs.Algo
+pub use Rattle.ras_expr_ext.specs.Args
+pub use Rattle.ras_expr_ext.specs.ExprParts
+pub use Rattle.ras_expr_ext.specs.Modifiers
 pub use Rattle.ras_path.specs.Path
 pub use Rattle.ras_attr.specs.Attrs
 pub use Rattle.ras_meta.specs.Metas
@@ -42,19 +42,19 @@ pub use Rattle.ras_meta.specs.TokenTrees
 pub use Rattle.ras_item.specs.Bounds
 pub use Rattle.ras_item.specs.NodeParts
 pub use Rattle.ras_item.specs.Slices
-pub use Rattle.ras_literal.specs.Answered
-pub use Rattle.ras_literal.specs.Comments
-pub use Rattle.ras_literal.specs.Fields
-pub use Rattle.ras_literal.specs.Literals
-pub use Rattle.ras_literal.specs.Numbers
-pub use Rattle.ras_literal.specs.Quotes
-pub use Rattle.ras_literal.specs.Texts
-pub use Rattle.ras_literal.specs.Units
+pub use Rattle.ras_token_ext.specs.Answered
+pub use Rattle.ras_token_ext.specs.Comments
+pub use Rattle.ras_token_ext.specs.Fields
+pub use Rattle.ras_token_ext.specs.Literals
+pub use Rattle.ras_token_ext.specs.Numbers
+pub use Rattle.ras_token_ext.specs.Quotes
+pub use Rattle.ras_token_ext.specs.Texts
+pub use Rattle.ras_token_ext.specs.Units
 pub use Rattle.ras_operator.specs.OperatorTexts
-pub use Rattle.ras_token.specs.AnyStringCases
-pub use Rattle.ras_token.specs.AnyStringValues
-pub use Rattle.ras_token.specs.CommentKinds
-pub use Rattle.ras_token.specs.LiteralShapes
+pub use Rattle.ras_tokens.specs.AnyStringCases
+pub use Rattle.ras_tokens.specs.AnyStringValues
+pub use Rattle.ras_tokens.specs.CommentKinds
+pub use Rattle.ras_tokens.specs.LiteralShapes
 pub use Rattle.literal_escape.specs.Pieces
 pub use Rattle.literal_escape.specs.Reading as EscapeReading
 pub use Rattle.literal_escape.specs.Literal as EscapeLiteral
@@ -78,12 +78,12 @@ pub use Rattle.operator_terms.specs.Reading as TermReading
 pub use Rattle.operator_terms.specs.Pairs as TermPairs
 pub use Rattle.operator_trees.specs.Shown
 pub use Rattle.operator_trees.specs.Leaves
-pub use Rattle.operator_reads.specs.Reads
+pub use Rattle.operator_reading.specs.Reads
 pub use Rattle.operator_pairs.specs.Pairs
-pub use Rattle.operator_walks.specs.Along
-pub use Rattle.operator_walks.specs.CastName
+pub use Rattle.ras_prec_walks.specs.Along
+pub use Rattle.ras_prec_walks.specs.CastName
 pub use Rattle.operator_precedence.specs.Levels
-pub use Rattle.paren_rules.specs.Rules
+pub use Rattle.ras_prec.specs.Rules
 pub mod AdtCases
 pub mod AnyAttrCases
 pub mod AnyHasAttrsCases

@@ -10,15 +10,15 @@ mod views;
 
 pub use expr_ext::{ArgsMaybeEmpty, ArrayExprKind, BlockModifier, FieldKind, RangeItem};
 pub use operators::{ArithOp, BinaryOp, CmpOp, LogicOp, Ordering, RangeOp, UnaryOp};
-pub use ras_literal::{
+pub use ras_token_ext::{
     AttrKind, CommentKind, CommentShape, IntError, QuoteOffsets, Radix, ValueError,
 };
 pub(crate) use ras_node::support;
 pub use ras_node::{AstChildren, AstNode, AstToken, cast_ref};
-pub use ras_token::tokens::{
+pub use ras_tokens::tokens::{
     Byte, ByteString, CString, Char, Comment, FloatNumber, IntNumber, String, Whitespace,
 };
-pub use ras_token::{AnyComment, AnyString, IsString, LiteralKind, TypedToken};
+pub use ras_tokens::{AnyComment, AnyString, IsString, LiteralKind, TypedToken};
 pub(crate) use syntax_kind::raw;
 pub use traits::{HasAttrs, HasLoopBody, attrs_including_inner, attrs_with_doc_including_inner};
 pub use typed::Typed;

@@ -14,7 +14,7 @@ ghost use Rattle.operator_terms.specs.Pairs.{without};
 ghost use Rattle.operator_trees.specs.Leaves.{leaves_behind, leaves_of};
 ghost use Rattle.operator_trees.specs.Shown.{meaning, IsTerm};
 ghost use Rattle.operator_pairs.specs.Pairs.{MayGoBefore};
-ghost use Rattle.paren_rules.specs.Headline.{IsOneReadingOf, NoOperandNeedsAny, InsideNeedsNone, ReadsWithout};
+ghost use Rattle.ras_prec.specs.Headline.{IsOneReadingOf, NoOperandNeedsAny, InsideNeedsNone, ReadsWithout};
 
 mod names;
 
@@ -23,12 +23,12 @@ pub use operator_pairs::laws::{
     it_reads_where_none_is_asked, needless_pairs_are_found, needless_pairs_may_go,
     one_term_of_the_tokens, operands_are_asked,
 };
-pub use paren_rules::laws::{
+pub use ras_prec::laws::{
     operator_trees_are_asked_by_operators, operator_trees_end_in_casts_by_two_tokens,
     operator_trees_have_their_precedence, precedences_ask_enough,
 };
-pub use ras_search::laws::common_ancestor_is_deepest;
-pub use ras_token::laws::names_of_tokens;
+pub use ras_algo::laws::common_ancestor_is_deepest;
+pub use ras_tokens::laws::names_of_tokens;
 
 /// The operator theorem: what the answers of `needs_parens_in` and `needs_parens_in_place_of` say of an operator tree, the place
 /// `r` in any tree that shows a term `t`, with white space and comments anywhere between.

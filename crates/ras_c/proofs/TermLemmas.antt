@@ -3,7 +3,7 @@ use Rattle.std.specs.Prelude.{◌≡◌, Bool, Option, Some, None}
 use Rattle.std.specs.Option.{is_some}
 use Rattle.std.proofs.Common.{refl}
 use Rattle.operator_terms.specs.Term.{Term}
-use Rattle.operator_reads.specs.Reads.{ReadsBack}
+use Rattle.operator_reading.specs.Reads.{ReadsBack}
 
 pub answered : (answer : Option Bool) (term : Option Term) → ReadsBack answer term → is_some answer ≡ is_some term
 answered None None h = refl

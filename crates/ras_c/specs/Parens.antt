@@ -10,7 +10,7 @@ use Rattle.lossless_tree.specs.Element.{element_of, ancestors_of_element}
 use Rattle.ras_front_end.specs.Parsed.{Parsed}
 use Rattle.operator_terms.specs.Term.{Term}
 use Rattle.operator_trees.specs.Shown.{shown}
-use Rattle.operator_reads.specs.Reads.{ReadsBack}
+use Rattle.operator_reading.specs.Reads.{ReadsBack}
 use Rattle.operator_pairs.specs.Pairs.{is_needless, nodes_below}
 use Rattle.ras_c.specs.declared.parens.Range.{Range}
 

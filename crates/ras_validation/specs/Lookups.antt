@@ -13,7 +13,7 @@ use Rattle.ras_node.specs.Nodes.{is_of_kind, token_child}
 use Rattle.ras_node.specs.Searches.{first_node, first_token, behind, has_other_kind}
 use Rattle.ras_node.specs.Sets.{is_expr, is_ty}
 use Rattle.tree_model.specs.NearestToken.{tokens_beyond}
-use Rattle.ras_search.specs.Algo.{has_no_trivia_kind}
+use Rattle.ras_algo.specs.Algo.{has_no_trivia_kind}
 use Rattle.ras_node.specs.PartSets.{is_range_operator, is_binary_operator, is_before_literal}
 
 -- the first child node of a kind

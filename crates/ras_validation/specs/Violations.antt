@@ -19,7 +19,7 @@ use Rattle.literal_escape.specs.declared.reader.Report.{Report}
 use Rattle.tree_model.specs.Tree.{text}
 use Rattle.tree_model.specs.Cursor.{Cursor, focus, children_of, range_of, range_start, at_node, descendants_of}
 use Rattle.ras_node.specs.Nodes.{kind_at}
-use Rattle.ras_literal.specs.Texts.{part, last_place, is_raw}
+use Rattle.ras_token_ext.specs.Texts.{part, last_place, is_raw}
 use Rattle.ras_validation.specs.declared.violation.Violation.{Violation}
 use Rattle.ras_validation.specs.declared.violation.ViolationMessage.{ViolationMessage}
 use Rattle.ras_validation.specs.declared.violation.ViolationMessage.TheVariants as messages

@@ -11,7 +11,7 @@ use crate::lookups::literal_token;
 use crate::violation::{Violation, ViolationMessage};
 use literal_escape::{EscapeError, MixedUnit, Mode, Units, unescape_unit};
 use lossless_tree::{SyntaxKind, SyntaxNode, SyntaxToken};
-use ras_literal::{cut, is_raw, last_place};
+use ras_token_ext::{cut, is_raw, last_place};
 use std::alloc::AllocError;
 use text_size::{TextRange, TextSize};
 

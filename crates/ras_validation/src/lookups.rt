@@ -8,7 +8,7 @@ ghost use Rattle.ras_validation.specs.Lookups.{node_child, if_kind, type_child, 
 use lossless_tree::{NodeOrToken, SyntaxKind, SyntaxNode, SyntaxToken};
 use ras_node::sets::{BeforeLiteral, BinaryOperators, Exprs, RangeOperators, Types};
 use ras_node::{behind, first_node, first_other, first_token, support};
-use ras_search::algo;
+use ras_algo::algo;
 
 // Whether a node is of a kind.
 fn is_of_kind(node: &SyntaxNode, kind: SyntaxKind) -> bool

@@ -6,7 +6,7 @@ use Rattle.text_size.specs.TextRange.{Bounds}
 use Rattle.tree_model.specs.Cursor.{Cursor, parent_of, range_of}
 use Rattle.ras_node.specs.Nodes.{is_of_kind, typed_child, token_child}
 use Rattle.ras_node.specs.Sets.{is_expr}
-use Rattle.paren_rules.specs.Rules.{asks}
+use Rattle.ras_prec.specs.Rules.{asks}
 
 -- the ranges of `(` and of `)`, where the node has both
 abbrev pub parens_of : Cursor → Option (Bounds × Bounds)

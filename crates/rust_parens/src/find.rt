@@ -5,8 +5,8 @@ ghost use Rattle.tree_model.specs.Cursor.{at_node, descendants_of};
 ghost use Rattle.rust_parens.specs.Pairs.{may_go, inside_may_go, parens_of};
 
 use lossless_tree::{SyntaxKind, SyntaxNode, TextRange};
-use operator_walks::parts::first_expr;
-use paren_rules::rules::needs_parens_in_place_of;
+use ras_prec_walks::parts::first_expr;
+use ras_prec::rules::needs_parens_in_place_of;
 use ras_node::support;
 use std::alloc::{AllocError, Global};
 

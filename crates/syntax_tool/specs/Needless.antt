@@ -9,7 +9,7 @@ use Rattle.ras_front_end.specs.declared.edition.Edition.TheVariants.{Edition2024
 use Rattle.ras_front_end.specs.Parsed.{Parsed, IsParseOf}
 use Rattle.ras_node.specs.Sets.{is_expr}
 use Rattle.operator_trees.specs.Shown.{shown}
-use Rattle.operator_reads.specs.Reads.{ReadsBack}
+use Rattle.operator_reading.specs.Reads.{ReadsBack}
 use Rattle.operator_pairs.specs.Pairs.{NeedlessOf}
 use Rattle.tiny_front.specs.Front.{tiny_front}
 use Rattle.syntax_tool.specs.declared.refusal.Refusal.{Refusal}

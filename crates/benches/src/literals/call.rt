@@ -1,7 +1,7 @@
 //! The calls that are measured.
 use crate::stopped::Stopped;
 use literal_escape::{Mode, unescape_str};
-use ras_literal::{bytes_value, string_content, string_value};
+use ras_token_ext::{bytes_value, string_content, string_value};
 use std::alloc::Global;
 
 #[derive(Clone, Copy)]

@@ -8,11 +8,11 @@ ghost use Rattle.operator_terms.specs.Pairs.{without};
 ghost use Rattle.operator_terms.specs.Places.{Demand, Part, some_part, operand, Fits, FitsPlace, MayStandBefore};
 ghost use Rattle.operator_trees.specs.Leaves.{leaves_behind};
 ghost use Rattle.operator_trees.specs.Shown.{shown, meaning, IsTerm};
-ghost use Rattle.operator_reads.specs.Reads.{ReadsBack};
+ghost use Rattle.operator_reading.specs.Reads.{ReadsBack};
 ghost use Rattle.operator_pairs.specs.Pairs.{operand_cursor, angle_behind, MayGoBefore};
 ghost use Rattle.operator_precedence.specs.Levels.{precedence_of, is_valueless, is_dyn_or_impl, is_pointing};
-ghost use Rattle.paren_rules.specs.Headline.{NeedlessOf, NoOperandNeedsAny};
-ghost use Rattle.paren_rules.specs.Rules.{asks};
+ghost use Rattle.ras_prec.specs.Headline.{NeedlessOf, NoOperandNeedsAny};
+ghost use Rattle.ras_prec.specs.Rules.{asks};
 ghost use Rattle.ra_ap_syntax.specs.ExprCases.{expr_node};
 ghost use Rattle.ra_ap_syntax.specs.TypeCases.{ty_node};
 
@@ -61,7 +61,7 @@ impl ast::Expr {
             → expr_node self.now ≡ operand_cursor r t (i ∷ q) → parent_of (expr_node self.now) ≡ Some parent.now
             → begins_with_angle (leaves_behind r.tree r.place) ≡ false → result ≡ false ↔ Fits t (i ∷ q) }
     {
-        paren_rules::rules::needs_parens_in(self.syntax(), parent)
+        ras_prec::rules::needs_parens_in(self.syntax(), parent)
     }
 
     /// Whether the expression would need parentheses in place of what stands at `place`, below `parent`: the parent of that, a node
@@ -81,7 +81,7 @@ impl ast::Expr {
             → (result ≡ false ↔ Reads 0 (tokens (without (i ∷ q) t)) (without (i ∷ q) t))
             × (result ≡ false → (u : Term) → Reads 0 (tokens (without (i ∷ q) t)) u → u ≡ without (i ∷ q) t) }
     {
-        paren_rules::rules::needs_parens_in_place_of(self.syntax(), parent, place)
+        ras_prec::rules::needs_parens_in_place_of(self.syntax(), parent, place)
     }
 }
 
@@ -105,7 +105,7 @@ pub fn reads_back(expr: &ast::Expr) -> Option<bool>
     ensures tied { IfSome result (λ b. (t : Term) → meaning (focus (expr_node expr.now)) ≡ IsTerm t
         → MayStandBefore (leaves_behind (expr_node expr.now).tree (expr_node expr.now).place) t → b ≡ true ↔ NoOperandNeedsAny (expr_node expr.now) t) }
 {
-    paren_rules::needless::reads_back(expr.syntax())
+    ras_prec::needless::reads_back(expr.syntax())
 }
 
 /// The pairs of parentheses below the expression that may go, in preorder: those whose inside needs none in their place. `None`
@@ -119,5 +119,5 @@ pub fn needless_parens(
 ) -> Result<Option<Vec<ast::ParenExpr>>, AllocError>
     ensures { IfOk result (λ answer. NeedlessOf (expr_node expr.now) (option_map (λ found. map (λ pair. pair.syntax) found.items) answer) (shown (focus (expr_node expr.now)))) }
 {
-    paren_rules::needless::needless_parens::<ast::ParenExpr>(alloc, expr.syntax())
+    ras_prec::needless::needless_parens::<ast::ParenExpr>(alloc, expr.syntax())
 }

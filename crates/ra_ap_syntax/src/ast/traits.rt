@@ -15,7 +15,7 @@ pub trait HasLoopBody: AstNode {
     final fn loop_body(&self) -> Option<ast::BlockExpr>
         ensures { IsViewOf ⟦<ast::BlockExpr as AstNode>⟧ (loop_body ⟦<ast::BlockExpr as AstNode>⟧.casts (Self.node self.now)) result }
     {
-        ras_expr::loop_body(self.syntax())
+        ras_expr_ext::loop_body(self.syntax())
     }
 
     /// The first child that is a label, if there is one.

@@ -1,7 +1,7 @@
 use Rattle.std.proofs.Common.{Some, subst}
 use Rattle.tree_model.specs.Cursor.{focus}
 use Rattle.operator_trees.specs.Shown.{shown}
-use Rattle.operator_reads.specs.Reads.{ReadsBack}
+use Rattle.operator_reading.specs.Reads.{ReadsBack}
 use Rattle.operator_pairs.proofs.Found.{reading_pairs, unread_none, unshown_none}
 use Rattle.operator_pairs.proofs.needless.needless_parens.Goals as goal
 

@@ -1,4 +1,4 @@
-use Rattle.paren_rules.proofs.Headline.{one_reading_where_none, pair_goes_where_none, pair_tokens}
+use Rattle.ras_prec.proofs.Headline.{one_reading_where_none, pair_goes_where_none, pair_tokens}
 use Rattle.ra_ap_syntax.proofs.laws.the_operator_theorem.Goals as goal
 
 pub returns-clause-readings : goal.returns-clause-readings

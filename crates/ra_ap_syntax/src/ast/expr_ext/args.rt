@@ -2,12 +2,12 @@
 ghost use Rattle.std.specs.Prelude.{◌≡◌, map, false};
 ghost use Rattle.tree_model.specs.Cursor.{children_of};
 ghost use Rattle.lossless_tree.specs.Element.{element_of};
-ghost use Rattle.ras_expr.specs.Args.{arguments};
+ghost use Rattle.ras_expr_ext.specs.Args.{arguments};
 
 use crate::ast::{self, AstNode};
 
 /// The arguments of a call, in order, with `None` where one is missing.
-pub type ArgsMaybeEmpty = ras_expr::ArgsMaybeEmpty<ast::Expr>;
+pub type ArgsMaybeEmpty = ras_expr_ext::ArgsMaybeEmpty<ast::Expr>;
 
 impl ast::ArgList {
     /// The arguments, in order, with `None` for each child node that is no expression and for each comma that follows no argument,

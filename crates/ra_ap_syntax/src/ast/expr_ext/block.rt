@@ -1,20 +1,20 @@
 //! Blocks: what stands before them, and where they stand.
 ghost use Rattle.std.specs.Prelude.{◌≡◌, option_map};
 ghost use Rattle.ras_attr.specs.Attrs.{may_carry_attributes};
-ghost use Rattle.ras_expr.specs.ExprParts.{is_standalone};
-ghost use Rattle.ras_expr.specs.Modifiers.{modifier_shape, block_modifier};
+ghost use Rattle.ras_expr_ext.specs.ExprParts.{is_standalone};
+ghost use Rattle.ras_expr_ext.specs.Modifiers.{modifier_shape, block_modifier};
 
 use crate::ast::{self, AstNode};
 
 /// What stands before a block.
-pub type BlockModifier = ras_expr::BlockModifier<ast::Type, ast::Label>;
+pub type BlockModifier = ras_expr_ext::BlockModifier<ast::Type, ast::Label>;
 
 impl ast::BlockExpr {
     /// The first that there is of `gen` with or without `async`, `async`, `unsafe`, `try`, `const` and a label.
     pub fn modifier(&self) -> Option<BlockModifier>
         ensures { option_map (modifier_shape ⟦<ast::Type as AstNode>⟧.node ⟦<ast::Label as AstNode>⟧.node) result ≡ block_modifier ⟦<ast::TryBlockModifier as AstNode>⟧.casts ⟦<ast::Type as AstNode>⟧.casts ⟦<ast::Label as AstNode>⟧.casts self.now.syntax }
     {
-        ras_expr::block_modifier::<ast::TryBlockModifier, ast::Type, ast::Label>(&self.syntax)
+        ras_expr_ext::block_modifier::<ast::TryBlockModifier, ast::Type, ast::Label>(&self.syntax)
     }
 
     /// Whether it is no part of what it stands in, as the body of a function is one: it has no parent; or its parent is a `for` or
@@ -23,7 +23,7 @@ impl ast::BlockExpr {
     pub fn is_standalone(&self) -> bool
         ensures { result ≡ is_standalone ⟦<ast::Expr as AstNode>⟧.casts self.now.syntax }
     {
-        ras_expr::is_standalone::<ast::Expr>(&self.syntax)
+        ras_expr_ext::is_standalone::<ast::Expr>(&self.syntax)
     }
 
     /// Whether its parent is a block expression or an expression statement, so that attributes may stand in it. The last

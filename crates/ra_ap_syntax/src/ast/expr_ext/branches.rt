@@ -3,8 +3,8 @@ ghost use Rattle.std.specs.Prelude.{◌≡◌};
 ghost use Rattle.ras_node.specs.Lookups.{IsViewOf, grandparent_of, view_in};
 ghost use Rattle.ras_node.specs.Nodes.{kind_at};
 ghost use Rattle.ra_ap_syntax.specs.ExprCases.{expr_node};
-ghost use Rattle.ras_expr.specs.ExprParts.{unless_lone_block, second_as, third_as};
-ghost use Rattle.operator_walks.specs.Along.{is_block_like};
+ghost use Rattle.ras_expr_ext.specs.ExprParts.{unless_lone_block, second_as, third_as};
+ghost use Rattle.ras_prec_walks.specs.Along.{is_block_like};
 
 use crate::ast::{self, AstNode, ElseBranch, support};
 
@@ -13,7 +13,7 @@ impl ast::Expr {
     pub fn is_block_like(&self) -> bool
         ensures { result ≡ is_block_like (kind_at (expr_node self.now)) }
     {
-        operator_walks::along::is_block_like(self.syntax().kind())
+        ras_prec_walks::along::is_block_like(self.syntax().kind())
     }
 }
 
@@ -22,21 +22,21 @@ impl ast::IfExpr {
     pub fn condition(&self) -> Option<ast::Expr>
         ensures { IsViewOf ⟦<ast::Expr as AstNode>⟧ (unless_lone_block ⟦<ast::Expr as AstNode>⟧.casts self.now.syntax) result }
     {
-        ras_expr::unless_lone_block(&self.syntax)
+        ras_expr_ext::unless_lone_block(&self.syntax)
     }
 
     /// The second expression, if it is a block.
     pub fn then_branch(&self) -> Option<ast::BlockExpr>
         ensures { IsViewOf ⟦<ast::BlockExpr as AstNode>⟧ (second_as ⟦<ast::Expr as AstNode>⟧.casts ⟦<ast::BlockExpr as AstNode>⟧.casts self.now.syntax) result }
     {
-        ras_expr::second_as::<ast::Expr, ast::BlockExpr>(&self.syntax)
+        ras_expr_ext::second_as::<ast::Expr, ast::BlockExpr>(&self.syntax)
     }
 
     /// The third expression, if it is a block or an `if`.
     pub fn else_branch(&self) -> Option<ElseBranch>
         ensures { IsViewOf ⟦<ElseBranch as AstNode>⟧ (third_as ⟦<ast::Expr as AstNode>⟧.casts ⟦<ElseBranch as AstNode>⟧.casts self.now.syntax) result }
     {
-        ras_expr::third_as::<ast::Expr, ElseBranch>(&self.syntax)
+        ras_expr_ext::third_as::<ast::Expr, ElseBranch>(&self.syntax)
     }
 }
 
@@ -45,7 +45,7 @@ impl ast::WhileExpr {
     pub fn condition(&self) -> Option<ast::Expr>
         ensures { IsViewOf ⟦<ast::Expr as AstNode>⟧ (unless_lone_block ⟦<ast::Expr as AstNode>⟧.casts self.now.syntax) result }
     {
-        ras_expr::unless_lone_block(&self.syntax)
+        ras_expr_ext::unless_lone_block(&self.syntax)
     }
 }
 
@@ -54,7 +54,7 @@ impl ast::ForExpr {
     pub fn iterable(&self) -> Option<ast::Expr>
         ensures { IsViewOf ⟦<ast::Expr as AstNode>⟧ (unless_lone_block ⟦<ast::Expr as AstNode>⟧.casts self.now.syntax) result }
     {
-        ras_expr::unless_lone_block(&self.syntax)
+        ras_expr_ext::unless_lone_block(&self.syntax)
     }
 }
 

@@ -5,7 +5,7 @@ ghost use Rattle.std.specs.Option.{option_and_then};
 ghost use Rattle.tree_model.specs.Cursor.{ancestors_of};
 ghost use Rattle.ras_node.specs.Lookups.{IsViewOf};
 ghost use Rattle.ras_node.specs.Nodes.{has_kind_in};
-ghost use Rattle.ras_expr.specs.ExprParts.{index_token, record_field_name, record_field_around, if_part_is, shorthand_name};
+ghost use Rattle.ras_expr_ext.specs.ExprParts.{index_token, record_field_name, record_field_around, if_part_is, shorthand_name};
 ghost use Rattle.ra_ap_syntax.specs.ExprShapes.{field_shape, field_access};
 
 use crate::ast::{self, AstNode, support};

@@ -2,8 +2,8 @@
 ghost use Rattle.std.specs.Prelude.{◌≡◌, option_map};
 ghost use Rattle.std.specs.Option.{option_and_then};
 ghost use Rattle.ras_node.specs.Nodes.{kind_at};
-ghost use Rattle.ras_token.specs.LiteralShapes.{literal_shape, literal_by};
-ghost use Rattle.ras_expr.specs.ExprParts.{literal_token};
+ghost use Rattle.ras_tokens.specs.LiteralShapes.{literal_shape, literal_by};
+ghost use Rattle.ras_expr_ext.specs.ExprParts.{literal_token};
 
 use crate::ast::{self, LiteralKind};
 use lossless_tree::SyntaxToken;

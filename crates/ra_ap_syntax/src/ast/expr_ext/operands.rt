@@ -6,7 +6,7 @@ ghost use Rattle.syntax_kind.specs.declared.syntax_kind.SyntaxKind.{SyntaxKind};
 ghost use Rattle.tree_model.specs.Cursor.{Cursor};
 ghost use Rattle.ras_node.specs.Nodes.{kind_at, typed_child};
 ghost use Rattle.ras_operator.specs.OperatorTexts.{unary_op, range_op, binary_op};
-ghost use Rattle.ras_expr.specs.ExprParts.{first_child_token, binary_operator, range_operator, range_start_of, range_end_of, bound_before};
+ghost use Rattle.ras_expr_ext.specs.ExprParts.{first_child_token, binary_operator, range_operator, range_start_of, range_end_of, bound_before};
 ghost use Rattle.ra_ap_syntax.specs.ExprCases.{expr_node};
 
 use crate::ast::{self, AstNode, BinaryOp, RangeOp, UnaryOp, support};
@@ -18,7 +18,7 @@ impl ast::PrefixExpr {
     pub fn op_token(&self) -> Option<SyntaxToken>
         ensures { result ≡ first_child_token self.now.syntax }
     {
-        ras_expr::first_child_token(&self.syntax)
+        ras_expr_ext::first_child_token(&self.syntax)
     }
 
     /// What that token is; `None` where it is no prefix operator.
@@ -50,7 +50,7 @@ impl ast::BinExpr {
     pub fn op_token(&self) -> Option<SyntaxToken>
         ensures { result ≡ binary_operator self.now.syntax }
     {
-        ras_expr::binary_operator(&self.syntax)
+        ras_expr_ext::binary_operator(&self.syntax)
     }
 
     /// The first expression, if there is one.
@@ -113,12 +113,12 @@ impl RangeItem for ast::RangeExpr {
 
     /// The first expression before the operator; `None` where there is no operator.
     fn start(&self) -> Option<ast::Expr> {
-        ras_expr::range_start(&self.syntax)
+        ras_expr_ext::range_start(&self.syntax)
     }
 
     /// The first expression behind the operator; `None` where there is no operator.
     fn end(&self) -> Option<ast::Expr> {
-        ras_expr::range_end(&self.syntax)
+        ras_expr_ext::range_end(&self.syntax)
     }
 
     fn op_kind(&self) -> Option<RangeOp> {
@@ -126,7 +126,7 @@ impl RangeItem for ast::RangeExpr {
     }
 
     fn op_token(&self) -> Option<SyntaxToken> {
-        ras_expr::range_operator(&self.syntax)
+        ras_expr_ext::range_operator(&self.syntax)
     }
 }
 
@@ -139,12 +139,12 @@ impl RangeItem for ast::RangePat {
 
     /// The first pattern before the operator; without operator the first pattern.
     fn start(&self) -> Option<ast::Pat> {
-        ras_expr::start_or_first(&self.syntax)
+        ras_expr_ext::start_or_first(&self.syntax)
     }
 
     /// The first pattern behind the operator; `None` where there is no operator.
     fn end(&self) -> Option<ast::Pat> {
-        ras_expr::range_end(&self.syntax)
+        ras_expr_ext::range_end(&self.syntax)
     }
 
     fn op_kind(&self) -> Option<RangeOp> {
@@ -152,7 +152,7 @@ impl RangeItem for ast::RangePat {
     }
 
     fn op_token(&self) -> Option<SyntaxToken> {
-        ras_expr::range_operator(&self.syntax)
+        ras_expr_ext::range_operator(&self.syntax)
     }
 }
 

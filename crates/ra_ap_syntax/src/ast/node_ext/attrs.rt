@@ -15,7 +15,7 @@ ghost use Rattle.ra_ap_syntax.specs.AttrParts.{kind_by, doc_shape, doc_text, doc
 
 use crate::ast::{self, AnyAttr, AnyComment, AstNode, AstToken, support};
 use lossless_tree::{SyntaxKind, SyntaxToken};
-use ras_literal::{AttrKind, CommentShape};
+use ras_token_ext::{AttrKind, CommentShape};
 
 /// The attributes and documentation comments of what has them, inner ones too, in order.
 pub type AttrsWithDoc = ras_attr::AttrsWithDoc<AnyAttr>;
@@ -86,7 +86,7 @@ impl ast::DocComment {
     pub fn text(&self) -> Option<&str>
         ensures { option_map (λ s. s.now) result ≡ doc_text self.now.syntax }
     {
-        ras_literal::comment_text(self.text_with_markers()?, 3)
+        ras_token_ext::comment_text(self.text_with_markers()?, 3)
     }
 }
 

@@ -2,7 +2,7 @@
 ghost use Rattle.std.specs.Prelude.{◌≡◌, ℕ, List, Some, None, option_map};
 ghost use Rattle.tree_model.specs.Cursor.{focus};
 ghost use Rattle.lossless_tree.specs.Trees.{child_text};
-ghost use Rattle.ras_literal.specs.Fields.{IsTupleField};
+ghost use Rattle.ras_token_ext.specs.Fields.{IsTupleField};
 ghost use Rattle.ra_ap_syntax.specs.NameLikeCases.{name_like_node};
 ghost use Rattle.ra_ap_syntax.specs.NameParts.{used_name, lifetime_in};
 ghost use Rattle.ra_ap_syntax.specs.NameOrNameRefCases.{name_or_name_ref_node};
@@ -33,7 +33,7 @@ impl ast::NameRef {
         ensures text { (name : List ℕ) → child_text (focus self.now.syntax) 0 ≡ Some name → IsTupleField name result }
         ensures none { child_text (focus self.now.syntax) 0 ≡ None → result ≡ None }
     {
-        ras_literal::tuple_field(self.text()?)
+        ras_token_ext::tuple_field(self.text()?)
     }
 
     /// The kind of the first token, at any depth; `ERROR` where there is none.

@@ -1,8 +1,8 @@
 use Rattle.std.proofs.Common.{subst}
 use Rattle.tree_model.specs.Cursor.{focus}
 use Rattle.operator_trees.specs.Shown.{shown}
-use Rattle.operator_reads.specs.Reads.{ReadsBack}
-use Rattle.paren_rules.proofs.Headline.{fits_so, tied_so}
+use Rattle.operator_reading.specs.Reads.{ReadsBack}
+use Rattle.ras_prec.proofs.Headline.{fits_so, tied_so}
 use Rattle.ra_ap_syntax.specs.ExprCases.{expr_node}
 use Rattle.ra_ap_syntax.proofs.ast.prec.reads_back.Goals as goal
 

@@ -1,0 +1,12 @@
+use Rattle.std.proofs.Common.{◌≡◌}
+use Rattle.tree_model.specs.Cursor.{focus}
+use Rattle.tree_model.specs.Every.{every}
+use Rattle.operator_reading.specs.Reads.{node_fits}
+use Rattle.operator_reading.proofs.ReadsLemmas.{all_of}
+use Rattle.operator_reading.proofs.reads.all_fit.Given as goal
+
+abbrev pub invariant-loop-element : goal.invariant-loop-element
+invariant-loop-element l =
+    (goal.iterator-loop-element).can_next l.element-iterator ×
+    (goal.iterator-loop-element).is_finite l.element-iterator ×
+    (every node_fits (focus l.node) ≡ all_of node_fits l.element-iterator)

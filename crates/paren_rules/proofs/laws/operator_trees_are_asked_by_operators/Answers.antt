@@ -1,8 +1,0 @@
-use Rattle.paren_rules.proofs.Agree.{asked_by_operators, arguments_ask}
-use Rattle.paren_rules.proofs.laws.operator_trees_are_asked_by_operators.Goals as goal
-
-pub returns-clause-expression : goal.returns-clause-expression
-returns-clause-expression c = asked_by_operators
-
-pub returns-clause-arguments : goal.returns-clause-arguments
-returns-clause-arguments c = arguments_ask

@@ -1,7 +1,0 @@
-use Rattle.std.proofs.Common.{ap, ◌∙◌}
-use Rattle.std.specs.Prelude.{codes}
-use Rattle.ras_literal.specs.Literals.{can_borrow}
-use Rattle.ras_token.proofs.token_ext.strings.tokens+CString.value.Goals as goal
-
-pub returns-clause-borrowed : goal.returns-clause-borrowed
-returns-clause-borrowed c h = c.bytes_value.ensures.borrowed (ap (can_borrow (codes "cr")) c.text.ensures ∙ h)
