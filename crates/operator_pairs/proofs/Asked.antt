@@ -22,7 +22,7 @@ use Rattle.operator_trees.proofs.Operands.{PartStands, Stands, kid_stands, opera
 use Rattle.operator_trees.proofs.Tokens.{sound-term}
 use Rattle.operator_powers.specs.Rules.{form_at, is_arguments, is_term_form, kid_place, operators_ask}
 use Rattle.operator_powers.proofs.Cursors.{form_told, not_arguments, operators_asked, child_parent, place_parent}
-use Rattle.operator_places.proofs.Deep.{Asked, asked_so}
+use Rattle.operator_pairs.proofs.Deep.{Asked, asked_so}
 use Rattle.operator_pairs.specs.Pairs.{operand_cursor, angle_behind, asks}
 use Rattle.operator_pairs.proofs.Listed.{direct_place}
 

@@ -29,7 +29,7 @@ use Rattle.operator_trees.proofs.Operands.{told_parts}
 use Rattle.operator_trees.proofs.Tokens.{and_both}
 use Rattle.operator_powers.specs.Rules.{form_at, kid_place}
 use Rattle.operator_powers.proofs.Cursors.{form_told, not_foreign, subtree-child}
-use Rattle.operator_places.proofs.Deep.{inside_shown}
+use Rattle.operator_pairs.proofs.Deep.{inside_shown}
 use Rattle.operator_pairs.specs.Listed.{under, below, below_arguments, is_term, shows_term}
 use Rattle.operator_pairs.specs.Pairs.{operand_cursor, angle_behind, asks, is_paren, may_go_from, is_needless, inside_fits, part_fits, may_go, is_pair_term, reads_without, needless_pairs, pairs_read_without, nodes_below, AreNeedless, NeedlessOf}
 use Rattle.operator_pairs.proofs.Listed.{filter-map, term_places}

@@ -10,14 +10,15 @@ ghost use Rattle.operator_trees.specs.Shown.{meaning, IsTerm};
 ghost use Rattle.operator_powers.specs.Rules.{form_at, is_foreign, asks_below};
 ghost use Rattle.operator_pairs.specs.Pairs.{operand_cursor, angle_behind, asks, MayGoBefore};
 
+use crate::place;
 use lossless_tree::SyntaxNode;
 
-// The test of `operator_places`, and what it asks at the place's own parent.
+// The test of `place`, and what it asks at the place's own parent.
 fn is_asked(own: &SyntaxNode, parent: &SyntaxNode, place: &SyntaxNode) -> bool
     ensures everywhere { result ≡ asks_below own.now parent.now place.now (begins_with_angle (leaves_behind place.now.tree place.now.place)) }
     ensures asks { parent_of place.now ≡ Some parent.now → is_foreign (form_at own.now) ≡ false → result ≡ asks own.now parent.now place.now }
 {
-    operator_places::test::needs_parens_in_place_of(own, parent, place)
+    place::needs_parens_in_place_of(own, parent, place)
 }
 
 /// Whether an expression of an operator tree needs parentheses in place of what stands at `place`, whose parent is `parent`.

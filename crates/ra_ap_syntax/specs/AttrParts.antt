@@ -13,7 +13,7 @@ use Rattle.ras_token_ext.specs.declared.comments.CommentShape.{CommentShape}
 use Rattle.ras_token_ext.specs.Comments.{comment_text, shape_of}
 use Rattle.ras_node.specs.Nodes.{is_of_kind, typed_child}
 use Rattle.ras_node.specs.Sets.{is_any_comment}
-use Rattle.ras_item.specs.NodeParts.{if_in, single_name}
+use Rattle.ras_node_ext.specs.NodeParts.{if_in, single_name}
 
 abbrev pub kind_by : Bool → AttrKind
 kind_by inner = if inner then Inner else Outer

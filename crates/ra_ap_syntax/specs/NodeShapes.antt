@@ -20,7 +20,7 @@ use Rattle.ra_ap_syntax.specs.declared.ast.node_ext.paths.PathSegmentKind.TheVar
 use Rattle.ra_ap_syntax.specs.declared.ast.node_ext.attrs.CfgAtomKey.{CfgAtomKey}
 use Rattle.ra_ap_syntax.specs.declared.ast.node_ext.attrs.CfgAtomKey.TheVariants as atom
 use Rattle.ra_ap_syntax.specs.TypeCases.{ty_node}
-use Rattle.ras_item.specs.NodeParts.{has_token, first_token_kind, single_segment, name_token}
+use Rattle.ras_node_ext.specs.NodeParts.{has_token, first_token_kind, single_segment, name_token}
 
 -- the fields of a struct, a union or a variant
 pub data StructShape : Type 0 where

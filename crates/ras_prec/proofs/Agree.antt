@@ -25,11 +25,11 @@ use Rattle.operator_trees.proofs.Tokens.{tokens-shown}
 use Rattle.operator_powers.specs.Rules.{form_at, is_foreign, is_term_form, is_arguments, by_power, form_powers, asks_at, operators_ask, operator_start}
 use Rattle.operator_powers.proofs.Cursors.{not_foreign}
 use Rattle.operator_powers.proofs.Walk.{leaf_here, flat, leaves_descendants}
-use Rattle.operator_places.specs.Next.{first_kind, kind_behind}
+use Rattle.operator_pairs.specs.Next.{first_kind, kind_behind}
 use Rattle.operator_pairs.specs.Pairs as pairs
 use Rattle.operator_pairs.specs.Pairs.{operand_cursor}
 use Rattle.operator_pairs.proofs.Asked.{AskedAt, asked_at, operand_shown}
-use Rattle.operator_precedence.specs.Levels.{is_valueless, precedence_of}
+use Rattle.ras_operators.specs.Levels.{is_valueless, precedence_of}
 use Rattle.ras_prec_walks.specs.Above.{child_toward, first_child_of_it, is_among, is_at_or_above, is_child_of, is_followed_by_block}
 use Rattle.ras_prec_walks.specs.CastName.{ends_in_cast_name}
 use Rattle.ras_prec_walks.specs.Inside.{has_exterior_record, has_let}

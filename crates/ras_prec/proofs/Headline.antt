@@ -24,7 +24,7 @@ use Rattle.operator_pairs.specs.Pairs.{operand_cursor, angle_behind, inside_fits
 use Rattle.operator_pairs.proofs.Asked.{AskedAt, asked_at, asked_below, operand_shown}
 use Rattle.operator_pairs.proofs.Found.{needless_listed}
 use Rattle.operator_pairs.proofs.Ties.{asked_nowhere, only_reading, precedences_ask}
-use Rattle.operator_precedence.specs.Levels.{as_precedence, precedence_of}
+use Rattle.ras_operators.specs.Levels.{as_precedence, precedence_of}
 use Rattle.ras_prec.specs.Headline.{IsOneReadingOf, NeedsNone, NoOperandNeedsAny, InsideNeedsNone, ReadsWithout, HasPair, AreNeedless, NeedlessOf}
 use Rattle.ras_prec.specs.Rules.{asks}
 use Rattle.ras_prec.proofs.Agree.{operand_asked}

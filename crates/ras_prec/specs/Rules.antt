@@ -16,11 +16,11 @@ use Rattle.ras_node.specs.Sets.{is_expr, is_stmt}
 use Rattle.operator_terms.specs.Powers.{like_postfix}
 use Rattle.operator_terms.specs.Reading.{is_angle}
 use Rattle.operator_powers.specs.Rules.{by_power, form_at, is_call_form, is_field_form}
-use Rattle.operator_places.specs.Next.{kind_behind}
+use Rattle.operator_pairs.specs.Next.{kind_behind}
 use Rattle.operator_pairs.specs.Pairs as pairs
-use Rattle.operator_precedence.specs.declared.level.ExprPrecedence.{ExprPrecedence}
-use Rattle.operator_precedence.specs.declared.level.ExprPrecedence.TheVariants as level
-use Rattle.operator_precedence.specs.Levels.{precedence_of, is_valueless}
+use Rattle.ras_operators.specs.declared.level.ExprPrecedence.{ExprPrecedence}
+use Rattle.ras_operators.specs.declared.level.ExprPrecedence.TheVariants as level
+use Rattle.ras_operators.specs.Levels.{precedence_of, is_valueless}
 use Rattle.ras_prec_walks.specs.Above.{child_toward, is_at_or_above, is_followed_by_block}
 use Rattle.ras_prec_walks.specs.Along.{begins_with_block, ends_in_brace}
 use Rattle.ras_prec_walks.specs.CastName.{ends_in_cast_name}

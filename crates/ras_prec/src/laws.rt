@@ -8,7 +8,7 @@ ghost use Rattle.operator_trees.specs.Leaves.{leaves_of};
 ghost use Rattle.operator_trees.specs.Shown.{meaning, IsTerm};
 ghost use Rattle.operator_pairs.specs.Pairs.{operand_cursor, angle_behind};
 ghost use Rattle.operator_powers.specs.Rules.{form_at, is_term_form, is_arguments};
-ghost use Rattle.operator_precedence.specs.Levels.{as_precedence, precedence_of};
+ghost use Rattle.ras_operators.specs.Levels.{as_precedence, precedence_of};
 ghost use Rattle.ras_prec_walks.specs.CastName.{ends_in_cast_name};
 ghost use Rattle.ras_prec.specs.Headline.{NeedsNone};
 ghost use Rattle.ras_prec.specs.Rules.{asks, asks_by_operators};

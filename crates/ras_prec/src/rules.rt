@@ -10,8 +10,8 @@ ghost use Rattle.operator_terms.specs.Places.{Demand, Part, some_part, operand, 
 ghost use Rattle.operator_trees.specs.Leaves.{leaves_behind};
 ghost use Rattle.operator_trees.specs.Shown.{meaning, IsTerm};
 ghost use Rattle.operator_pairs.specs.Pairs.{operand_cursor, angle_behind, MayGoBefore};
-ghost use Rattle.operator_precedence.specs.declared.level.ExprPrecedence.{ExprPrecedence};
-ghost use Rattle.operator_precedence.specs.Levels.{precedence_of, is_valueless};
+ghost use Rattle.ras_operators.specs.declared.level.ExprPrecedence.{ExprPrecedence};
+ghost use Rattle.ras_operators.specs.Levels.{precedence_of, is_valueless};
 ghost use Rattle.ras_prec_walks.specs.Above.{is_followed_by_block};
 ghost use Rattle.ras_prec_walks.specs.CastName.{ends_in_cast_name};
 ghost use Rattle.ras_prec_walks.specs.Inside.{has_let};
@@ -24,12 +24,12 @@ ghost use Rattle.ras_prec.specs.Rules.{is_called_field, is_bare_jump, is_cut_by_
 
 use crate::order::{powers_of, stands_before_in};
 use lossless_tree::{NodeOrToken, SyntaxKind, SyntaxNode, SyntaxToken};
-use operator_places::behind::kind_behind;
+use operator_pairs::behind::kind_behind;
 use operator_powers::edge::is_angle;
 use operator_powers::node::{is_call_form, is_field_form};
 use operator_powers::powers::{Strength, by_power};
-use operator_precedence::ExprPrecedence;
-use operator_precedence::node::{is_ret_like_with_no_value, precedence_of};
+use ras_operators::ExprPrecedence;
+use ras_operators::node::{is_ret_like_with_no_value, precedence_of};
 use operator_trees::form_of;
 use ras_prec_walks::above::{child_toward, is_at_or_above, is_followed_by_block};
 use ras_prec_walks::along::{begins_with_block, ends_in_brace};

@@ -1,2 +1,2 @@
 //! The operators of expressions and patterns.
-pub use ras_operator::{ArithOp, BinaryOp, CmpOp, LogicOp, Ordering, RangeOp, UnaryOp};
+pub use ras_operators::{ArithOp, BinaryOp, CmpOp, LogicOp, Ordering, RangeOp, UnaryOp};

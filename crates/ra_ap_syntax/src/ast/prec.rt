@@ -10,7 +10,7 @@ ghost use Rattle.operator_trees.specs.Leaves.{leaves_behind};
 ghost use Rattle.operator_trees.specs.Shown.{shown, meaning, IsTerm};
 ghost use Rattle.operator_reading.specs.Reads.{ReadsBack};
 ghost use Rattle.operator_pairs.specs.Pairs.{operand_cursor, angle_behind, MayGoBefore};
-ghost use Rattle.operator_precedence.specs.Levels.{precedence_of, is_valueless, is_dyn_or_impl, is_pointing};
+ghost use Rattle.ras_operators.specs.Levels.{precedence_of, is_valueless, is_dyn_or_impl, is_pointing};
 ghost use Rattle.ras_prec.specs.Headline.{NeedlessOf, NoOperandNeedsAny};
 ghost use Rattle.ras_prec.specs.Rules.{asks};
 ghost use Rattle.ra_ap_syntax.specs.ExprCases.{expr_node};
@@ -18,7 +18,7 @@ ghost use Rattle.ra_ap_syntax.specs.TypeCases.{ty_node};
 
 use crate::ast::{self, AstNode};
 use lossless_tree::SyntaxNode;
-pub use operator_precedence::{ExprPrecedence, Fixity};
+pub use ras_operators::{ExprPrecedence, Fixity};
 use std::alloc::{AllocError, Global};
 
 /// The precedence of an expression: of a binary operator by its token, of a closure without a return type that of a jump. It takes
@@ -26,7 +26,7 @@ use std::alloc::{AllocError, Global};
 pub fn precedence(expr: &ast::Expr) -> ExprPrecedence
     ensures { result ≡ precedence_of (expr_node expr.now) }
 {
-    operator_precedence::node::precedence_of(expr.syntax())
+    ras_operators::node::precedence_of(expr.syntax())
 }
 
 impl ast::Expr {
@@ -41,7 +41,7 @@ impl ast::Expr {
     pub fn is_ret_like_with_no_value(&self) -> bool
         ensures { result ≡ is_valueless (expr_node self.now) }
     {
-        operator_precedence::node::is_ret_like_with_no_value(self.syntax())
+        ras_operators::node::is_ret_like_with_no_value(self.syntax())
     }
 
     /// Whether the expression needs parentheses below `parent`: its parent, a node further up, or the expression itself; false for
@@ -90,7 +90,7 @@ impl ast::Type {
     pub fn needs_parens_in(&self, parent: &SyntaxNode) -> bool
         ensures { result ≡ (is_dyn_or_impl (kind_at (ty_node self.now)) && is_pointing (kind_at parent.now)) }
     {
-        operator_precedence::node::type_needs_parens_in(self.syntax(), parent)
+        ras_operators::node::type_needs_parens_in(self.syntax(), parent)
     }
 }
 

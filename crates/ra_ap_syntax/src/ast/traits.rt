@@ -3,7 +3,7 @@ ghost use Rattle.std.specs.Prelude.{◌≡◌};
 ghost use Rattle.ras_node.specs.Lookups.{IsFirstChild, IsViewOf, loop_body};
 ghost use Rattle.std.specs.List.{filter};
 ghost use Rattle.ras_node.specs.Nodes.{has_kind_in, typed_children};
-ghost use Rattle.ras_attr.specs.Attrs.{inner_holder, attrs_with_inner};
+ghost use Rattle.ras_node_ext.specs.Attrs.{inner_holder, attrs_with_inner};
 
 use crate::ast::{self, AstChildren, AstNode, AttrsIter, AttrsWithDoc, support};
 use lossless_tree::SyntaxNode;
@@ -55,7 +55,7 @@ pub trait HasAttrs: AstNode {
     final fn inner_attributes_node(&self) -> Option<SyntaxNode>
         ensures { result ≡ inner_holder (Self.node self.now) }
     {
-        ras_attr::inner_attributes_node(self.syntax())
+        ras_node_ext::inner_attributes_node(self.syntax())
     }
 }
 

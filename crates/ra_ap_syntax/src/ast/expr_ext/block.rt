@@ -1,6 +1,6 @@
 //! Blocks: what stands before them, and where they stand.
 ghost use Rattle.std.specs.Prelude.{◌≡◌, option_map};
-ghost use Rattle.ras_attr.specs.Attrs.{may_carry_attributes};
+ghost use Rattle.ras_node_ext.specs.Attrs.{may_carry_attributes};
 ghost use Rattle.ras_expr_ext.specs.ExprParts.{is_standalone};
 ghost use Rattle.ras_expr_ext.specs.Modifiers.{modifier_shape, block_modifier};
 
@@ -31,6 +31,6 @@ impl ast::BlockExpr {
     pub fn may_carry_attributes(&self) -> bool
         ensures { result ≡ may_carry_attributes self.now.syntax }
     {
-        ras_attr::may_carry_attributes(&self.syntax)
+        ras_node_ext::may_carry_attributes(&self.syntax)
     }
 }

@@ -5,13 +5,13 @@ ghost use Rattle.ras_node.specs.Lookups.{IsFirstChild, IsViewOf, second_typed_ch
 ghost use Rattle.syntax_kind.specs.declared.syntax_kind.SyntaxKind.{SyntaxKind};
 ghost use Rattle.tree_model.specs.Cursor.{Cursor};
 ghost use Rattle.ras_node.specs.Nodes.{kind_at, typed_child};
-ghost use Rattle.ras_operator.specs.OperatorTexts.{unary_op, range_op, binary_op};
+ghost use Rattle.ras_operators.specs.OperatorTexts.{unary_op, range_op, binary_op};
 ghost use Rattle.ras_expr_ext.specs.ExprParts.{first_child_token, binary_operator, range_operator, range_start_of, range_end_of, bound_before};
 ghost use Rattle.ra_ap_syntax.specs.ExprCases.{expr_node};
 
 use crate::ast::{self, AstNode, BinaryOp, RangeOp, UnaryOp, support};
 use lossless_tree::{SyntaxNode, SyntaxToken};
-use ras_operator::{binary_op, range_op, unary_op};
+use ras_operators::{binary_op, range_op, unary_op};
 
 impl ast::PrefixExpr {
     /// The first child, if it is a token: the operator.

@@ -4,11 +4,11 @@ ghost use Rattle.std.specs.Option.{option_and_then};
 ghost use Rattle.tree_model.specs.Cursor.{focus, children_of, parent_of};
 ghost use Rattle.lossless_tree.specs.Element.{element_of};
 ghost use Rattle.lossless_tree.specs.Trees.{child_text};
-ghost use Rattle.ras_attr.specs.Attrs.{is_inner};
-ghost use Rattle.ras_meta.specs.TokenTrees.{trees_and_tokens};
+ghost use Rattle.ras_node_ext.specs.Attrs.{is_inner};
+ghost use Rattle.ras_node_ext.specs.TokenTrees.{trees_and_tokens};
 ghost use Rattle.ras_node.specs.Lookups.{IsViewOf, view_in};
-ghost use Rattle.ras_item.specs.NodeParts.{left_delimiter, right_delimiter, is_opening, is_closing};
-ghost use Rattle.ras_item.specs.NodeParts.{has_token, if_in};
+ghost use Rattle.ras_node_ext.specs.NodeParts.{left_delimiter, right_delimiter, is_opening, is_closing};
+ghost use Rattle.ras_node_ext.specs.NodeParts.{has_token, if_in};
 ghost use Rattle.ra_ap_syntax.specs.NodeShapes.{atom_shape, atom_key};
 ghost use Rattle.ra_ap_syntax.specs.AnyAttrCases.{any_attr_node};
 ghost use Rattle.ra_ap_syntax.specs.AttrParts.{kind_by, doc_shape, doc_text, doc_token};
@@ -18,17 +18,17 @@ use lossless_tree::{SyntaxKind, SyntaxToken};
 use ras_token_ext::{AttrKind, CommentShape};
 
 /// The attributes and documentation comments of what has them, inner ones too, in order.
-pub type AttrsWithDoc = ras_attr::AttrsWithDoc<AnyAttr>;
+pub type AttrsWithDoc = ras_node_ext::AttrsWithDoc<AnyAttr>;
 
 /// The attributes among these, in order.
-pub type AttrsIter = ras_attr::AttrsIter<AnyAttr, ast::Attr>;
+pub type AttrsIter = ras_node_ext::AttrsIter<AnyAttr, ast::Attr>;
 
 /// The token trees and tokens in a token tree, in order: without its first child, whatever that is, closing delimiters, white
 /// space and comments.
-pub type TokenTreeChildren = ras_meta::TokenTreeChildren<ast::TokenTree>;
+pub type TokenTreeChildren = ras_node_ext::TokenTreeChildren<ast::TokenTree>;
 
 /// All token trees and tokens among the children of a token tree, in order.
-pub type TokenTreesAndTokens = ras_meta::TokenTreesAndTokens<ast::TokenTree>;
+pub type TokenTreesAndTokens = ras_node_ext::TokenTreesAndTokens<ast::TokenTree>;
 
 fn kind_by(inner: bool) -> AttrKind
     ensures { result ≡ kind_by inner }
@@ -95,7 +95,7 @@ impl AnyAttr {
     pub fn kind(&self) -> AttrKind
         ensures { result ≡ kind_by (is_inner (any_attr_node self.now)) }
     {
-        kind_by(ras_attr::is_inner(self.syntax()))
+        kind_by(ras_node_ext::is_inner(self.syntax()))
     }
 }
 

@@ -5,7 +5,7 @@ ghost use Rattle.ras_node.specs.Lookups.{IsViewOf, IsFirstChild, grandparent_of,
 ghost use Rattle.ras_node.specs.Nodes.{typed_child, token_child};
 ghost use Rattle.ra_ap_syntax.specs.ItemCases.{item_node};
 ghost use Rattle.ra_ap_syntax.specs.TypeOrConstParamCases.{type_or_const_param_node};
-ghost use Rattle.ras_item.specs.NodeParts.{trait_of, self_type_of, impl_around, impl_trait, macro_args, macro_body, generic_params_of, if_kind};
+ghost use Rattle.ras_node_ext.specs.NodeParts.{trait_of, self_type_of, impl_around, impl_trait, macro_args, macro_body, generic_params_of, if_kind};
 ghost use Rattle.ra_ap_syntax.specs.NodeShapes.{struct_shape, struct_kind, self_param_kind, visibility_shape, inner_visibility, visibility_kind, seen_by_words, seen_in_path, in_path};
 
 use crate::ast::{self, AnyHasGenericParams, AstNode, AstToken, support};
@@ -37,14 +37,14 @@ impl ast::Impl {
     pub fn trait_(&self) -> Option<ast::Type>
         ensures { IsViewOf ⟦<ast::Type as AstNode>⟧ (trait_of ⟦<ast::Type as AstNode>⟧.casts self.now.syntax) result }
     {
-        ras_item::trait_of(&self.syntax)
+        ras_node_ext::trait_of(&self.syntax)
     }
 
     /// The type that it is for: the one after the trait, or the first type where there is no trait.
     pub fn self_ty(&self) -> Option<ast::Type>
         ensures { IsViewOf ⟦<ast::Type as AstNode>⟧ (self_type_of ⟦<ast::Type as AstNode>⟧.casts self.now.syntax) result }
     {
-        ras_item::self_type_of(&self.syntax)
+        ras_node_ext::self_type_of(&self.syntax)
     }
 
     /// The nearest impl above a name, if its trait starts where the name does.

@@ -5,7 +5,7 @@ ghost use Rattle.std.specs.Option.{option_and_then, option_map_or};
 ghost use Rattle.tree_model.specs.Cursor.{Cursor, ancestors_of};
 ghost use Rattle.ras_node.specs.Lookups.{IsViewOf};
 ghost use Rattle.ras_node.specs.Nodes.{has_kind_in, typed_child};
-ghost use Rattle.ras_meta.specs.Metas.{opened, IsMetaPath, IsMetaName};
+ghost use Rattle.ras_node_ext.specs.Metas.{opened, IsMetaPath, IsMetaName};
 ghost use Rattle.ra_ap_syntax.specs.MetaCases.{meta_node};
 ghost use Rattle.ra_ap_syntax.specs.AttrParts.{simple_path, atom_of, simple_atom, simple_call, call_in};
 
@@ -21,7 +21,7 @@ fn atom_of(alloc: Global, path: Option<ast::Path>) -> Result<Option<String>, All
         return Ok(None);
     };
     match path.as_single_name_ref() {
-        Some(name) => ras_meta::owned(alloc, name.text()),
+        Some(name) => ras_node_ext::owned(alloc, name.text()),
         None => Ok(None),
     }
 }
@@ -52,7 +52,7 @@ impl Meta {
     pub fn path(&self) -> Option<ast::Path>
         ensures { IsMetaPath ⟦<ast::Meta as AstNode>⟧.casts ⟦<ast::Path as AstNode>⟧.casts (meta_node self.now) (option_map (λ it. it.syntax) result) }
     {
-        ras_meta::meta_path::<Meta, ast::Path>(support::copy(self))
+        ras_node_ext::meta_path::<Meta, ast::Path>(support::copy(self))
     }
 
     /// The path of a meta that is a path alone, as `a::b`; `None` of others.
@@ -94,7 +94,7 @@ impl Meta {
     pub fn simple_name(&self, alloc: Global) -> Result<Option<String>, AllocError>
         ensures { IfOk result (λ name. IsMetaName ⟦<ast::Meta as AstNode>⟧.casts ⟦<ast::Path as AstNode>⟧.casts ⟦<ast::PathSegment as AstNode>⟧.casts (meta_node self.now) (option_map (λ t. string_bytes t) name)) }
     {
-        ras_meta::meta_name::<Meta, ast::Path, ast::PathSegment>(alloc, self)
+        ras_node_ext::meta_name::<Meta, ast::Path, ast::PathSegment>(alloc, self)
     }
 
     /// Itself; or, of a `cfg_attr`, the metas in it whatever its predicate, in order, of which each that is a `cfg_attr` again
@@ -104,7 +104,7 @@ impl Meta {
     pub fn skip_cfg_attrs(self, alloc: Global) -> Result<Vec<Meta>, AllocError>
         ensures { IfOk result (λ metas. map meta_node metas.items ≡ opened ⟦<ast::Meta as AstNode>⟧.casts (meta_node self)) }
     {
-        ras_meta::skip_cfg_attrs(alloc, self)
+        ras_node_ext::skip_cfg_attrs(alloc, self)
     }
 
     /// The nearest attribute above it.

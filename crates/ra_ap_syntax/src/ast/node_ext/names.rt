@@ -6,7 +6,7 @@ ghost use Rattle.ras_token_ext.specs.Fields.{IsTupleField};
 ghost use Rattle.ra_ap_syntax.specs.NameLikeCases.{name_like_node};
 ghost use Rattle.ra_ap_syntax.specs.NameParts.{used_name, lifetime_in};
 ghost use Rattle.ra_ap_syntax.specs.NameOrNameRefCases.{name_or_name_ref_node};
-ghost use Rattle.ras_item.specs.NodeParts.{first_token_kind};
+ghost use Rattle.ras_node_ext.specs.NodeParts.{first_token_kind};
 
 use crate::ast::{self, AstNode, NameLike, NameOrNameRef};
 use lossless_tree::SyntaxKind;

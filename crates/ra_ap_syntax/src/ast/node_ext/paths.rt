@@ -1,21 +1,21 @@
 //! Paths and their segments.
 ghost use Rattle.std.specs.Prelude.{◌≡◌, option_map, drop};
 ghost use Rattle.tree_model.specs.Cursor.{parent_of, ancestors_of};
-ghost use Rattle.ras_path.specs.Path.{AreSegments, IsFirstQualifier, IsQualifierEnd, IsFirstSegment, qualifiers_of, top_from};
+ghost use Rattle.ras_node_ext.specs.Path.{AreSegments, IsFirstQualifier, IsQualifierEnd, IsFirstSegment, qualifiers_of, top_from};
 ghost use Rattle.ras_node.specs.Lookups.{IsViewOf, view_in};
-ghost use Rattle.ras_item.specs.NodeParts.{single_segment, single_name, name_token, qualifying_trait};
+ghost use Rattle.ras_node_ext.specs.NodeParts.{single_segment, single_name, name_token, qualifying_trait};
 ghost use Rattle.ra_ap_syntax.specs.NodeShapes.{segment_shape, segment_kind, name_by_kind, anchored};
 ghost use Rattle.ras_node.specs.Nodes.{kind_at};
-ghost use Rattle.ras_item.specs.NodeParts.{first_token_kind};
+ghost use Rattle.ras_node_ext.specs.NodeParts.{first_token_kind};
 
 use crate::ast::{self, AstNode, support};
 use lossless_tree::{SyntaxKind, SyntaxNode, SyntaxToken};
 
 /// The segments of a path, in order.
-pub type Segments = ras_path::Segments<ast::Path, ast::PathSegment>;
+pub type Segments = ras_node_ext::Segments<ast::Path, ast::PathSegment>;
 
 /// The qualifiers of a path, the nearest first.
-pub type Qualifiers = ras_path::Qualifiers<ast::Path>;
+pub type Qualifiers = ras_node_ext::Qualifiers<ast::Path>;
 
 impl ast::Path {
     /// The segments, from that of the deepest qualifier outwards, through the paths around that lie in this one's range: to its own.
@@ -37,14 +37,14 @@ impl ast::Path {
     pub fn first_qualifier(&self) -> Option<ast::Path>
         ensures { IsQualifierEnd ⟦<ast::Path as AstNode>⟧.casts self.now.syntax (option_map (λ it. it.syntax) result) }
     {
-        ras_path::first_qualifier(self)
+        ras_node_ext::first_qualifier(self)
     }
 
     /// The end of the chain of qualifiers; this path where it has none. It takes time in their number.
     pub fn first_qualifier_or_self(&self) -> ast::Path
         ensures { IsFirstQualifier ⟦<ast::Path as AstNode>⟧.casts self.now.syntax result.syntax }
     {
-        ras_path::first_qualifier_or_self(support::copy(self))
+        ras_node_ext::first_qualifier_or_self(support::copy(self))
     }
 
     /// The segment at the end of the chain of qualifiers, if that path has one: `a` of `a::b::c`.
@@ -58,7 +58,7 @@ impl ast::Path {
     pub fn top_path(&self) -> ast::Path
         ensures { result.syntax ≡ top_from ⟦<ast::Path as AstNode>⟧.casts self.now.syntax (drop 1 (ancestors_of self.now.syntax)) }
     {
-        ras_path::top_path(support::copy(self))
+        ras_node_ext::top_path(support::copy(self))
     }
 
     /// The path that it is the qualifier of: the parent, if that is a path.

@@ -5,9 +5,9 @@ ghost use Rattle.std.specs.Option.{option_and_then};
 ghost use Rattle.tree_model.specs.Cursor.{ancestors_of, parent_of};
 ghost use Rattle.ras_node.specs.Lookups.{IsViewOf, view_in, grandparent_of};
 ghost use Rattle.ras_node.specs.Nodes.{typed_child, typed_children, has_kind_in, kind_at};
-ghost use Rattle.ras_item.specs.Slices.{is_rest, before_rest, behind_rest};
+ghost use Rattle.ras_node_ext.specs.Slices.{is_rest, before_rest, behind_rest};
 ghost use Rattle.ra_ap_syntax.specs.PatCases.{pat_node};
-ghost use Rattle.ras_item.specs.NodeParts.{leading_pipe, bound_name, bound_in_box, pat_field_name, if_its_part_is, is_simple_ident, if_kind};
+ghost use Rattle.ras_node_ext.specs.NodeParts.{leading_pipe, bound_name, bound_in_box, pat_field_name, if_its_part_is, is_simple_ident, if_kind};
 
 use crate::ast::{self, AstNode, HasName, NameOrNameRef, support};
 use lossless_tree::{SyntaxKind, SyntaxNode, SyntaxToken};
@@ -28,7 +28,7 @@ impl ast::OrPat {
 }
 
 /// The patterns in a slice pattern: those before the first rest pattern, that one, and those behind it.
-pub type SlicePatComponents = ras_item::SliceComponents<ast::Pat>;
+pub type SlicePatComponents = ras_node_ext::SliceComponents<ast::Pat>;
 
 impl ast::SlicePat {
     /// The patterns before the first rest pattern, that one, and those behind it. A rest pattern is `..`, also bound by a name
@@ -40,7 +40,7 @@ impl ast::SlicePat {
         ensures slice { IfOk result (λ parts. option_map pat_node parts.slice ≡ find (is_rest ⟦<ast::Pat as AstNode>⟧.casts) (typed_children ⟦<ast::Pat as AstNode>⟧.casts self.now.syntax)) }
         ensures suffix { IfOk result (λ parts. map pat_node parts.suffix.items ≡ behind_rest ⟦<ast::Pat as AstNode>⟧.casts (typed_children ⟦<ast::Pat as AstNode>⟧.casts self.now.syntax)) }
     {
-        ras_item::slice_components(alloc, &self.syntax)
+        ras_node_ext::slice_components(alloc, &self.syntax)
     }
 }
 

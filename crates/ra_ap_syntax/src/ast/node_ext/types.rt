@@ -2,9 +2,9 @@
 ghost use Rattle.std.specs.Prelude.{◌≡◌, option_map, is_some, ◌||◌, not};
 ghost use Rattle.ras_node.specs.Lookups.{IsViewOf};
 ghost use Rattle.ras_node.specs.Nodes.{typed_child, typed_children, kind_at};
-ghost use Rattle.ras_item.specs.Bounds.{lifetime_bounds};
+ghost use Rattle.ras_node_ext.specs.Bounds.{lifetime_bounds};
 ghost use Rattle.ra_ap_syntax.specs.TypeCases.{ty_node};
-ghost use Rattle.ras_item.specs.NodeParts.{generic_args_of};
+ghost use Rattle.ras_node_ext.specs.NodeParts.{generic_args_of};
 ghost use Rattle.ra_ap_syntax.specs.NodeShapes.{bound_shape, bound_kind, bound_of_for, bound_without_path};
 
 use crate::ast::{self, AstChildren, AstNode, HasGenericArgs, HasTypeBounds, support};
@@ -92,7 +92,7 @@ pub type LifetimeParams = AstChildren<ast::LifetimeParam>;
 pub type TypeOrConstParams = AstChildren<ast::TypeOrConstParam>;
 
 /// The lifetimes among the bounds of a lifetime, in order, as tokens.
-pub type LifetimeBounds = ras_item::LifetimeBounds<ast::TypeBound, ast::Lifetime>;
+pub type LifetimeBounds = ras_node_ext::LifetimeBounds<ast::TypeBound, ast::Lifetime>;
 
 impl ast::LifetimeParam {
     /// The lifetimes among its bounds, in order: `'b` and `'c` of `'a: 'b + 'c`.

@@ -7,10 +7,10 @@ ghost use Rattle.std.specs.Prelude.{drop, map};
 ghost use Rattle.lossless_tree.specs.Element.{element_of};
 ghost use Rattle.ras_node.specs.PartSets.{is_comma};
 ghost use Rattle.ras_node.specs.Searches.{tokens_among};
-ghost use Rattle.ras_path.specs.Path.{top_tree_from};
+ghost use Rattle.ras_node_ext.specs.Path.{top_tree_from};
 ghost use Rattle.ras_node.specs.Lookups.{IsViewOf, view_in};
 ghost use Rattle.ras_node.specs.Nodes.{typed_child};
-ghost use Rattle.ras_item.specs.NodeParts.{is_glob, is_simple_path, has_token};
+ghost use Rattle.ras_node_ext.specs.NodeParts.{is_glob, is_simple_path, has_token};
 
 use crate::ast::{self, AstNode, support};
 use lossless_tree::SyntaxKind;
@@ -58,7 +58,7 @@ impl ast::UseTree {
     pub fn top_use_tree(&self) -> ast::UseTree
         ensures { result.syntax ≡ top_tree_from ⟦<ast::UseTreeList as AstNode>⟧.casts ⟦<ast::UseTree as AstNode>⟧.casts self.now.syntax (drop 1 (ancestors_of self.now.syntax)) }
     {
-        ras_path::top_use_tree::<ast::UseTreeList, ast::UseTree>(support::copy(self))
+        ras_node_ext::top_use_tree::<ast::UseTreeList, ast::UseTree>(support::copy(self))
     }
 
     /// The list that it stands in: the parent, if that is one.

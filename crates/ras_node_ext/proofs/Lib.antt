@@ -1,0 +1,4 @@
+mod PathChains
+mod Downwards
+mod MetaChains
+mod Opened

@@ -1,0 +1,2 @@
+pub mod OperatorTexts
+pub mod Levels
