@@ -1,7 +1,7 @@
 //! Reads trees that are written down as words, and prints of each of their nodes what each call of each view of it answers.
 //!
 //! A line is a tree, or a heading that begins with `#`. The words are parted by a space: `KIND(` enters a node, `)` leaves it, and
-//! `KIND:text` is a token. Behind a line that makes no tree stands `no tree`.
+//! `KIND:text` is a token. After a line that makes no tree is `no tree`.
 #![tactic(auto)]
 
 mod attrs;

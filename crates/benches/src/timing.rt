@@ -3,7 +3,7 @@
 use crate::stopped::Stopped;
 use std::time::Instant;
 
-/// Makes a call once, and says how many nanoseconds it took. What it gave is dropped behind that time.
+/// Makes a call once, and says how many nanoseconds it took. What it gave is dropped after that time.
 pub fn time_once<T: Drop, F: FnOnce() -> Result<T, Stopped>>(
     rt: &HostRuntime,
     call: F,

@@ -50,7 +50,7 @@ ends_no_fault (takes j m ∷ xs) h = ends_no_fault xs h
 ends_no_fault (ends ∷ xs) h = ends_no_fault xs h
 ends_no_fault (reports m p ∷ xs) h = (let bad : _ ∷ step_faults xs ≡ [] = h in cc)
 
--- the steps stand in one root, cut the text so far, and the tokens that are left cut the rest of it
+-- the steps are in one root, cut the text so far, and the tokens that are left cut the rest of it
 pub record Held (root : SyntaxKind) (text : List ℕ) (rest : List RawToken) (cut : ℕ) (position : ℕ) (depth : ℕ) (steps : List FrontStep) (faults : List Fault) : Type 0 where
   pub inner : List FrontStep
   pub steps_are : steps ≡ begins root ∷ inner

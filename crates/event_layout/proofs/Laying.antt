@@ -55,7 +55,7 @@ closing root text s h e z =
     subst (λ steps. Laid root text (steps ++ ends ∷ [])) (sym h.steps_are)
     (rooted root text s.rest s.cut s.position s.depth h.inner h.so_far h.ahead h.closed h.no_faults e z)
 
--- no token is left behind as many moves
+-- no token is left after as many moves
 pass_on_rest : (ts : List RawToken) (s : Laying) → s.rest ≡ ts → length (pass_on ts s).rest ≡ length s.rest - 1
 pass_on_rest [] s e = omega (arith, ap length e)
 pass_on_rest (t ∷ ts) s e = omega (arith, ap length e)

@@ -162,7 +162,7 @@ moves (suc n) g s = advance_of g (moves n g s)
 abbrev pub closed_of : Laying → Laying
 closed_of s = exit_all_of s.depth s
 
--- what is left behind the last event
+-- what is left after the last event
 abbrev pub finish_of : Laying → Laying
 finish_of s = added ends (closed_of (pass_all_of (length s.rest) s))
 

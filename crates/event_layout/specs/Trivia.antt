@@ -13,7 +13,7 @@ unfoldable pub lead : List Token → ℕ
 lead [] = 0
 lead (t ∷ ts) = if is_trivia t.kind then lead ts + 1 else 0
 
--- the position behind n more bytes, where that has 32 bits
+-- the position after n more bytes, where that has 32 bits
 abbrev pub later_of : ℕ → ℕ → ℕ
 later_of a n = min (a + n) (2 ^ 32 - 1)
 
@@ -41,7 +41,7 @@ kept_of text k kept = if is_comment k then one_more kept else (if nat_eq kept 0 
 abbrev pub attached_after : List ℕ → Token → Keep → Keep
 attached_after bytes t a = record { kept = kept_of (part_of bytes a.start t.len) t.kind a.kept; start = later_of a.start t.len }
 
--- how many of the trivia, which start at `start`, go into the node behind them: the comments from the last blank line on, and what
+-- how many of the trivia, which start at `start`, go into the node after them: the comments from the last blank line on, and what
 -- white space follows them
 unfoldable pub attached : List ℕ → ℕ → List Token → ℕ
 attached bytes start ts = (fold (λ a t. attached_after bytes t a) (record { kept = 0; start = start }) ts).kept

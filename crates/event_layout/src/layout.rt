@@ -18,9 +18,9 @@ use token_layout::Token;
 pub struct Fault {
     /// The number of its message.
     pub message: u16,
-    /// Where it stands in the text, in bytes.
+    /// Where it is in the text, in bytes.
     pub position: TextSize,
-    /// How many of the lexer's tokens stand behind it. White space and comments before the next token may be among them.
+    /// How many of the lexer's tokens follow it. White space and comments before the next token may be among them.
     pub left: usize,
 }
 
@@ -366,7 +366,7 @@ impl<'a> Layout<'a> {
         }
     }
 
-    // What is left behind the last event.
+    // What is left after the last event.
     fn finish(&mut self) -> Result<(), AllocError>
         ensures { OnOk result (laying_of self.new ≡ finish_of (laying_of self.old)) }
     {
@@ -460,7 +460,7 @@ fn lay(
 
 /// The steps of one node of the kind `root` over all tokens, and in it of the nodes of the events.
 ///
-/// The node that ends last is the root, whatever its kind; `root` stands in its place. White space and comments go out as late as
+/// The node that ends last is the root, whatever its kind; `root` is in its place. White space and comments go out as late as
 /// they can: before the next token, or before a node that is entered, into the node around it. Into a node of one of the kinds
 /// `attaching` go the comments before it, from the last blank line on, and what white space follows them.
 ///

@@ -1,6 +1,6 @@
 //! For those who write a front end with a grammar as data: from the events of a parser to the steps of one tree.
 //!
-//! A parser says in a flat list which tokens it took, how many of the lexer's each is made of, and what nodes stand over what it said
+//! A parser says in a flat list which tokens it took, how many of the lexer's each is made of, and what nodes are over what it said
 //! before. [`lay_out`] puts white space and comments between, where rust-analyzer has them, and makes steps that build one tree over
 //! the whole text, whatever the events are.
 #![tactic(auto)]

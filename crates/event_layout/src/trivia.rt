@@ -92,7 +92,7 @@ fn attached_after(bytes: &[u8], token: Token, before: Keep) -> Keep
     }
 }
 
-// Of the trivia, which start at `start`: the comments from the last blank line on, and the white space behind them.
+// Of the trivia, which start at `start`: the comments from the last blank line on, and the white space after them.
 #[tactic(auto, unfolding(crate::specs::Trivia::attached))]
 fn attached(bytes: &[u8], start: TextSize, trivia: &[Token]) -> usize
     ensures { result ≡ attached bytes.now start trivia.now }
@@ -135,7 +135,7 @@ pub fn first(tokens: &[Token], count: usize) -> &[Token]
     &tokens[..count.min(tokens.len())]
 }
 
-/// The tokens behind the first `count`; none where there are fewer.
+/// The tokens after the first `count`; none where there are fewer.
 pub fn behind(tokens: &[Token], count: usize) -> &[Token]
     ensures { result.now ≡ drop count tokens.now }
 {

@@ -1,4 +1,4 @@
-//! An editor's loop: applies edits to a text, and says for each which range was read anew, and to standard error in what time.
+//! An editor's loop: applies edits to a text, and says for each which range was parsed again, and to standard error in what time.
 #![tactic(auto)]
 
 use ra_ap_syntax::{Edition, Parse, ParseError, SourceFile, TextRange, TextSize};
@@ -9,12 +9,12 @@ use tiny_front::Tiny;
 
 type File = Parse<SourceFile>;
 
-// The first byte that goes, the byte behind the last one, and what comes in their place.
+// The first byte that goes, the byte after the last one, and what comes in their place.
 type Edit = (u32, u32, &'static str);
 
 const NOW: Edition = Edition::CURRENT;
 
-// The file after an edit, and the range that was read anew; `None` where the text has no such range.
+// The file after an edit, and the range that was parsed again; `None` where the text has no such range.
 fn edit(alloc: Global, old: &File, edit: Edit) -> Result<Option<(File, TextRange)>, ParseError> {
     let (start, end, insert) = edit;
     let root = old.syntax_node();

@@ -1,4 +1,4 @@
-//! A linter: prints where each needless pair of parentheses of an expression stands, and the text with blanks for the first pair.
+//! A linter: prints where each needless pair of parentheses of an expression is, and the text with blanks for the first pair.
 #![tactic(auto)]
 
 use ra_ap_syntax::ast::prec::needless_parens;
@@ -8,7 +8,7 @@ use std::fmt::Write;
 use std::io;
 use tiny_front::Tiny;
 
-// What stands before a pair, in it and behind it.
+// What precedes a pair, in it and after it.
 fn parts<'a>(text: &'a str, pair: &'a ast::ParenExpr) -> (&'a str, &'a str, &'a str) {
     let (range, shown) = (pair.syntax().text_range(), pair.syntax().as_str());
     let before = text.get(..range.start().raw() as usize).unwrap_or("");

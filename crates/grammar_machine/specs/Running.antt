@@ -32,7 +32,7 @@ pub record Tables : Type 0 where
 abbrev pub tables_of : Grammar → Tables
 tables_of g = record { ops = g.ops.now; sets = g.sets.now; rows = g.rows.now; powers = g.powers.now; kinds = g.kinds.now }
 
--- what was made and what is open; the last one stands first
+-- what was made and what is open; the last one is first
 pub record Stacks : Type 0 where
   pub frames : List Frame
   pub marks : List ℕ
@@ -67,7 +67,7 @@ seen_as_of Two t = t.two
 seen_as_of Three t = t.three
 seen_as_of Word t = t.word
 
--- behind the last token
+-- after the last token
 abbrev pub end_as_of : View → ℕ
 end_as_of One = 1
 end_as_of Two = 0
@@ -331,7 +331,7 @@ begin_of rule = record {
 abbrev pub fuel_of : ℕ → ℕ
 fuel_of n = min (min (n + 1) (2 ^ 64 - 1) * 1200) (2 ^ 64 - 1)
 
--- the machine behind the last operation
+-- the machine after the last operation
 abbrev pub run_of : Tables → ℕ → List Sight → State
 run_of g rule ts = runs (fuel_of (length ts)) g ts (begin_of rule)
 

@@ -1,14 +1,14 @@
 //! What a grammar is made of, and how the machine sees the tokens.
 //!
 //! Kinds of tokens are small numbers here, so that a set of them is a row of 256 bits: 0 is no kind, and 1 is the kind of
-//! what stands behind the last token.
+//! what follows the last token.
 
 use crate::event::Part;
 use syntax_kind::SyntaxKind;
 
 /// How the machine sees a token that is no trivia: the small numbers of kinds, 0 where a view has none.
 ///
-/// Punctuation comes as single signs. What two or three of them make together, where nothing stands between, is in the
+/// Punctuation comes as single signs. What two or three of them make together, where nothing is between, is in the
 /// views `two` and `three` of the first.
 #[derive(Clone, Copy, Debug, PartialEq, Eq)]
 pub struct Sight {
@@ -100,7 +100,7 @@ pub enum Op {
         test: Test,
         target: u16,
     },
-    /// Goes to the target that stands at the number of the next token's kind in the row of targets that begins there.
+    /// Goes to the target that is at the number of the next token's kind in the row of targets that begins there.
     Switch {
         row: u16,
     },
@@ -170,7 +170,7 @@ pub enum Op {
         keep: u8,
         add: u8,
     },
-    /// Returns behind the last call, with the level and the flags from before it. With no call to return from the machine stops.
+    /// Returns after the last call, with the level and the flags from before it. With no call to return from the machine stops.
     Return,
     /// Forgets the last mark, and returns.
     Leave,
@@ -210,7 +210,7 @@ pub struct Grammar<'a> {
     pub ops: &'a [Op],
     /// The sets of kinds, four words of 64 bits each. The bit of kind k of set s is bit k % 64 of word 4 s + k / 64.
     pub sets: &'a [u64],
-    /// The rows of targets for `Switch`, one behind the other.
+    /// The rows of targets for `Switch`, one after the other.
     pub rows: &'a [u16],
     /// How the operators bind, by the number of the kind.
     pub powers: &'a [Option<Power>],

@@ -7,7 +7,7 @@ use crate::grammar::{Grammar, Level, Op, Power, Sight, Test, View};
 use std::alloc::{AllocError, Global};
 use syntax_kind::SyntaxKind;
 
-/// The number of the kind that stands behind the last token.
+/// The number of the kind that follows the last token.
 const END: u8 = 1;
 
 /// The number of no operation: where a rule returns to that nothing called.
@@ -17,7 +17,7 @@ const STOP: u32 = u32::MAX;
 /// takes a token sooner or later stays far below.
 const STEPS_A_TOKEN: usize = 1200;
 
-/// Where the machine stands.
+/// Where the machine is.
 #[derive(Clone, Copy, Debug)]
 struct Place {
     /// The next operation.

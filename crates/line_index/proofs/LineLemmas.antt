@@ -24,7 +24,7 @@ pub behind-nil : bytes_behind [] ≡ 0
 unfolding bytes_behind
 behind-nil = refl
 
--- a text with no line feed is behind the last one as a whole
+-- a text with no line feed is after the last one as a whole
 pub behind_flat : (b : List ℕ) → line_feeds b ≡ 0 → bytes_behind b ≡ length b
 unfolding bytes_behind
 behind_flat [] h = refl
@@ -92,7 +92,7 @@ starts_rise s v h i j le lt =
     (λ fits. fits)
     (cases_lt (get_or v j 0) (get_or v i 0))
 
--- an offset behind the start of line n, with at most n line feeds before it, is on line n
+-- an offset after the start of line n, with at most n line feeds before it, is on line n
 pub on_line : (s : List ℕ) (n p c o : ℕ) → IsLineStart s n p → o ≡ p + c → o ≤ length s → line_feeds (take o s) ≤ n → IsOffset s (record { line = n; col = c }) o
 on_line s n p c o h e within most =
     let from : p ≤ o = omega (arith, e) in
@@ -112,7 +112,7 @@ before_start s n q o h lt =
     omega (arith, lt, col_of s n q h, apart s o q (omega (arith, lt)) h.0 same))
     (cases_lt (line_feeds (take o s)) n)
 
--- an offset on line n is as far behind its start as its column says
+-- an offset on line n is as far after its start as its column says
 pub from_start : (s : List ℕ) (n p c o : ℕ) → IsLineStart s n p → IsOffset s (record { line = n; col = c }) o → o ≡ p + c
 from_start s n p c o h k =
     let l : line_feeds (take o s) ≡ line_feeds (take p s) = ap (λ (x : LineCol). x.line) k.1 ∙ sym (line_of s n p h) in
@@ -181,7 +181,7 @@ starts-other s v b ne h =
       each = λ n lt. start_on s b n (get_or v n 0) (h.each n lt);
     }
 
--- a line starts behind a line feed
+-- a line starts after a line feed
 new_start : (s : List ℕ) (n : ℕ) → n ≡ line_feeds s + 1 → IsLineStart (s ++ 10 ∷ []) n (length s + 1)
 new_start s n e =
     let len : length (s ++ 10 ∷ []) ≡ length s + 1 = length-append s (10 ∷ []) in
@@ -202,7 +202,7 @@ starts-feed s v h =
           (cases_lt n (length v));
     }
 
--- an offset is at its column behind the kept start of its line
+-- an offset is at its column after the kept start of its line
 pub kept_start : (s v : List ℕ) → HasStarts s v → (o n : ℕ) → o ≤ length s → n ≡ line_feeds (take o s) → (n < length v) × (o ≡ get_or v n 0 + bytes_behind (take o s))
 kept_start s v h o n within e =
     let inside : n < length v = omega (arith, h.count, e, line_feeds_within s o within) in
@@ -262,7 +262,7 @@ line_feeds_le (b ∷ s) =
 pub few_lines : (s : List ℕ) (o : ℕ) → o ≤ length s → line_feeds (take o s) ≤ o
 few_lines s o h = omega (arith, line_feeds_le (take o s), length-take-le o s h)
 
--- a line that is not the first one starts behind a line feed
+-- a line that is not the first one starts after a line feed
 pub starts_late : (s : List ℕ) (n q : ℕ) → IsLineStart s (n + 1) q → 0 < q
 starts_late s n q h =
     ⊎_elim

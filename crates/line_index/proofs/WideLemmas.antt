@@ -39,7 +39,7 @@ pub wide_end : (e : WideEncoding) (s : List ℕ) → length s ≡ 0 → wide_len
 wide_end e [] h = ap (sum_by (units e)) chars-nil
 wide_end e (x ∷ s) h = absurd (omega (arith, h))
 
--- what is behind the last line feed is nothing: the last byte is a line feed
+-- what is after the last line feed is nothing: the last byte is a line feed
 last_feed : (x : ℕ) (s : List ℕ) → bytes_behind (x ∷ s) ≡ 0 → get_or (x ∷ s) (length s) 0 ≡ 10
 last_feed x [] h =
     ⊎_elim
@@ -120,7 +120,7 @@ between_some : (s : List ℕ) (j k : ℕ) → j < k → k ≤ length s → 0 < l
 between_some s j k lt fits =
     omega (arith, lt, fits, length-drop j s, length-take-le (k - j) (drop j s) (omega (arith, lt, fits, length-drop j s)))
 
--- behind the character at b, there are no more units than its rest has
+-- after the character at b, there are no more units than its rest has
 later_units : (e : WideEncoding) (s rest : List ℕ) (b k c : ℕ) → IsUtf8 s → IsCharBoundary s b → IsCharBoundary s k → b < k → drop b s ≡ encode c ++ rest → units e c + wide_length e (drop k s) ≤ wide_length e (drop b s)
 later_units e s rest b k c u bb bk lt h =
     let le : b ≤ k = omega (arith, lt) in

@@ -15,7 +15,7 @@ unfoldable pub line_feeds : List ℕ → ℕ
 line_feeds [] = 0
 line_feeds (b ∷ s) = cond (b == 10) 1 0 + line_feeds s
 
--- how many bytes are behind the last line feed
+-- how many bytes are after the last line feed
 unfoldable pub bytes_behind : List ℕ → ℕ
 bytes_behind [] = 0
 bytes_behind (b ∷ s) = cond (line_feeds (b ∷ s) == 0) (length (b ∷ s)) (bytes_behind s)

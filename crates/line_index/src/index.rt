@@ -10,12 +10,12 @@ use text_size::{TextRange, TextSize};
 
 /// The starts of a text's lines, for the line and the column of an offset and back. A clause sees the bytes of the text.
 ///
-/// A line ends behind its line feed (`\n`), or at the end of the text. So a text has one line more than it has line feeds.
+/// A line ends after its line feed (`\n`), or at the end of the text. So a text has one line more than it has line feeds.
 /// It has the name, and calls, of the type in the crate `line-index`, and borrows the text.
 #[derive(Drop)]
 pub struct LineIndex<'a> {
     text: &'a str,
-    // The start of each line, in order: 0, and the offset behind each line feed.
+    // The start of each line, in order: 0, and the offset after each line feed.
     starts: Vec<u32>,
 }
 
@@ -75,7 +75,7 @@ impl<'a> LineIndex<'a> {
 
     /// The offset with this line and column; `None` where the text has no such line, or the line no such column.
     ///
-    /// A line feed is the last byte of its line, so the offset behind it has another line. The text's end is an offset of the last
+    /// A line feed is the last byte of its line, so the offset after it has another line. The text's end is an offset of the last
     /// line. Inverse to `line_col`.
     pub fn offset(&self, at: LineCol) -> Option<TextSize>
         ensures { MatchOption result (NoOffset self.now at) (IsOffset self.now at) }

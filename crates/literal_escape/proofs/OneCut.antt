@@ -9,7 +9,7 @@ use Rattle.literal_escape.proofs.Digits.{and_left, and_right}
 use Rattle.literal_escape.proofs.Partial.{fresh, begun, blanks, Next, done, after}
 use Rattle.literal_escape.proofs.Cutting.{finished, going, pieces_of, works}
 
--- what may stand within the braces makes the front longer
+-- what may be within the braces makes the front longer
 inside : (mode : Mode) (f : ℕ) (had m tail : List ℕ) → list_all is_inside m ≡ true → pieces_of mode (begun (slash_u_digits f had)) (m ++ tail) ≡ pieces_of mode (begun (slash_u_digits f (had ++ m))) tail
 unfolding pieces_of
 inside mode f had [] tail h = rw (append-nil had) refl
@@ -91,7 +91,7 @@ pair_piece : (mode : Mode) (a b : ℕ) (rest : List ℕ) → is_hex a ≡ true �
 unfolding pieces_of
 pair_piece mode a b rest h k = rw h (rw k refl)
 
--- the function finds each piece that stands in front
+-- the function finds each piece that is in front
 first : (mode : Mode) (p : Piece) (rest : List ℕ) → IsPiece mode p rest → pieces_of mode fresh (spelling p ++ rest) ≡ p ∷ pieces_of mode fresh rest
 first mode (character c) rest h = plain_piece mode c rest h
 first mode (letter c) rest h = letter_piece mode c rest h

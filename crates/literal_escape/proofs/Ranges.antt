@@ -82,7 +82,7 @@ all-append : (content : List ℕ) (xs ys : List Report) → AllByRecursion (Lies
 all-append content [] ys h k = k
 all-append content (x ∷ xs) ys h k = (h.0, all-append content xs ys h.1 k)
 
--- a report on some characters behind others
+-- a report on some characters after others
 lies : (content before text rest : List ℕ) (at : ℕ) (unit : Result MixedUnit EscapeError) → content ≡ before ++ (text ++ rest) → at ≡ size before → Lies content (record { start = at; end = at + size text; unit = unit })
 lies content before text rest at unit e a =
     ((before, text ++ rest, e, a), (before ++ text, rest, e ∙ sym (append_assoc before text rest), omega (arith, size-append before text)))

@@ -1,4 +1,4 @@
--- The answer for a literal of one unit, by its first report and those behind it.
+-- The answer for a literal of one unit, by its first report and those after it.
 use Rattle.std.proofs.Common.{◌≡◌, true, false, Option, Some, None, Result, Ok, Err, List, [], ◌∷◌, refl}
 use Rattle.std.specs.Prelude.{is_some, is_ok}
 use Rattle.literal_escape.specs.declared.error.EscapeError.{EscapeError}

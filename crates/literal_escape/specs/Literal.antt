@@ -15,7 +15,7 @@ is_warning MultipleSkippedLinesWarning = true
 is_warning UnskippedWhitespaceWarning = true
 is_warning _ = false
 
--- a string of one of the three kinds, where a continuation may stand
+-- a string of one of the three kinds, where a continuation may be
 abbrev pub is_string : Mode → Bool
 is_string modes.Char = false
 is_string modes.Byte = false

@@ -53,7 +53,7 @@ spelling (braced first more) = (92 ∷ 117 ∷ 123 ∷ first ∷ more) ++ 125 �
 spelling (faulty begun next) = front begun ++ shown next
 spelling (continuation blanks) = 92 ∷ 10 ∷ blanks
 
--- what may stand within the braces after the first digit
+-- what may be within the braces after the first digit
 abbrev pub is_inside : ℕ → Bool
 is_inside c = is_hex c || c == 95
 
@@ -79,7 +79,7 @@ abbrev pub StartsWithNoBlank : List ℕ → Type 0
 StartsWithNoBlank [] = Unit {0}
 StartsWithNoBlank (c ∷ cs) = is_blank c ≡ false
 
--- the row of each piece, before what follows it in the content: a fault without a character stands at the end,
+-- the row of each piece, before what follows it in the content: a fault without a character is at the end,
 -- and a continuation skips each blank that there is
 abbrev pub IsPiece : Mode → Piece → List ℕ → Type 0
 IsPiece mode (character c) rest = (c == 92) ≡ false
@@ -144,12 +144,12 @@ abbrev pub reports_from : Mode → ℕ → List Piece → List Report
 reports_from mode at [] = []
 reports_from mode at (p ∷ ps) = piece_reports mode at p (flat_map spelling ps) ++ reports_from mode (at + size (spelling p)) ps
 
--- where a report stands, as the calls give it
+-- where a report is, as the calls give it
 abbrev pub range_of : Report → Range ℕ
 range_of r = record { start = r.start; end = r.end }
 
 -- Calls of a closure, by its step, lead from one state to another: one call for each report, in order, with where it
--- stands and with the meaning or fault as view shows it
+-- is and with the meaning or fault as view shows it
 abbrev pub CalledOnEach : {F U : Type 0} → (Result MixedUnit EscapeError → U) → (F → Range ℕ → U → F → Type 0) → F → F → List Report → Type 0
 CalledOnEach view step old new reports = FoldsTo (λ f r g. step f (range_of r) (view r.unit) g) old reports new
 
@@ -175,7 +175,7 @@ IsOffset content n = (before : List ℕ) × (behind : List ℕ) × (content ≡ 
 abbrev pub IsWithin : ℕ → Report → Type 0
 IsWithin len r = (r.start ≤ len) × (r.end ≤ len)
 
--- where the next report may begin: a unit is over at its end, but a warning covers the reports behind it
+-- where the next report may begin: a unit is over at its end, but a warning covers the reports after it
 abbrev pub is_warned : Result MixedUnit EscapeError → Bool
 is_warned (Ok unit) = false
 is_warned (Err e) = is_warning e

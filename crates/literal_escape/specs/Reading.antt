@@ -1,4 +1,4 @@
--- What the reader's private functions answer, by the state that they stand in. Of these, public clauses cite
+-- What the reader's private functions answer, by the state that they are in. Of these, public clauses cite
 -- to_come, reports_in and Gives alone: the pieces are in Pieces.
 use Rattle.std.specs.Prelude.{◌≡◌, ℕ, ◌+◌, ◌-◌, ◌*◌, ◌^◌, min, Bool, false, not, ◌==◌, ◌&&◌, ◌||◌, if◌then◌else◌, Option, Some, None, Result, Err, List, [], ◌∷◌}
 use Rattle.std.specs.Char.{digit_value, len_utf8, is_whitespace}
@@ -90,7 +90,7 @@ has_lines _ = false
 abbrev pub report_of : Reader → ℕ → Result MixedUnit EscapeError → Report
 report_of r more unit = record { start = r.start; end = r.at + more; unit = unit }
 
--- the reader where it stands, between two pieces
+-- the reader where it is, between two pieces
 abbrev pub fresh_of : Reader → Reader
 fresh_of r = record r { start = r.at; state = states.Start }
 
@@ -108,7 +108,7 @@ warned_of r c =
     else (if has_lines r.state then record r { state = states.Continuation false }
     else fresh_of r)
 
--- the report that a step gives, and the reader behind it
+-- the report that a step gives, and the reader after it
 abbrev pub found : Reader → Step → Option Report
 found r (Go state) = None
 found r (Ends unit) = Some (report_of r 0 unit)

@@ -1,6 +1,6 @@
 //! What the text of a Rust literal means: characters, bytes, strings, byte strings and C strings.
 //!
-//! A *content* is what stands between the quotes of a literal that is not raw. It is cut into
+//! A *content* is what is between the quotes of a literal that is not raw. It is cut into
 //! pieces: a character for itself, an escape, a faulty piece, or a continuation, which is a
 //! backslash before a newline with the blanks after it. A string's continuation means nothing;
 //! each other piece is a *unit*, with a meaning or a fault. All places are byte offsets into the

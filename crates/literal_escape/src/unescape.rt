@@ -54,7 +54,7 @@ pub fn unescape_byte(content: &str) -> Result<u8, EscapeError>
     }
 }
 
-/// Calls `callback` on each unit of a string's content, in order: where it stands, in bytes, and
+/// Calls `callback` on each unit of a string's content, in order: where it is, in bytes, and
 /// its character or its fault. After a fault the reading goes on. The warnings of a continuation
 /// come among the units as faults that are not fatal.
 ///

@@ -16,7 +16,7 @@ begins (c ∷ l) m x e =
     let same : c ≡ cursor_of x = sym (cursor_of-element_by (focus c) c) ∙ ap cursor_of first in
     ap (λ y. y ∷ l) same ∙ ap (λ k. cursor_of x ∷ k) (same_cursors l m (ap tail_of e))
 
--- the child is the element that stands at its cursor
+-- the child is the element that is at its cursor
 pub stands : (l m : List Cursor) (x : NodeOrToken Cursor Cursor) → map element_of l ≡ x ∷ map element_of m → element_of (cursor_of x) ≡ x
 unfolding head_of tail_of
 stands [] m x e = (let no : [] ≡ x ∷ map element_of m = e in cc)
@@ -45,7 +45,7 @@ is_token-Token : (t : Tree) (c n : Cursor) → element_by t c ≡ Token n → is
 is_token-Token (node k f) c n e = (let no : Node c ≡ Token n = e in cc)
 is_token-Token (token k s) c n e = refl
 
--- a child that is a node n: what is left begins with n, which stands at a node
+-- a child that is a node n: what is left begins with n, which is at a node
 pub record NodeStep (l m : List Cursor) (n : Cursor) : Type 0 where
   pub begins : l ≡ n ∷ m
   pub is_node : at_node n ≡ true

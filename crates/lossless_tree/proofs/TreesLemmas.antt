@@ -1,4 +1,4 @@
--- What stands at a row and behind it, as a rest of siblings.
+-- The node or token at a row and after it, as a rest of siblings.
 use Rattle.std.proofs.Common.{◌≡◌, ℕ, zero, suc, ◌+◌, ◌-◌, ◌<◌, ◌≤◌, inl, inr, [], ◌∷◌, ◌++◌, Bool, true, false, nat_lt, leb, length, if◌then◌else◌, refl, sym, ap, subst, ◌∙◌, arith}
 use Rattle.tree_model.specs.Tree.{Tree, node, token, Forest, nil, cons, text, size, forest_size, Place, forest_of_children, child_at, start}
 use Rattle.lossless_tree.specs.Trees.{Siblings, is_done, first_of, rest_of, behind_first, inside_first}
@@ -23,7 +23,7 @@ if_true b x y e = rw e refl
 if_false : {A : Type 0} (b : Bool) (x y : A) → b ≡ false → (if b then x else y) ≡ y
 if_false b x y e = rw e refl
 
--- what follows a token, what stands in a node, and what follows a node
+-- what follows a token, what is in a node, and what follows a node
 at_in : (k : _) (c r : Forest) (n : ℕ) → n < forest_size c → forest_at (cons (node k c) r) (suc n) ≡ forest_at c n
 at_in k c r n h = if_true (nat_lt n (forest_size c)) (forest_at c n) (forest_at r (n - forest_size c)) (lt_true n (forest_size c) h)
 
@@ -102,7 +102,7 @@ none_left tree row end h = if_false (nat_lt row end) (forest_at (cons tree nil) 
 some_left : (tree : Tree) (row end : ℕ) → row < end → trees_at tree row end ≡ forest_at (cons tree nil) row
 some_left tree row end h = if_true (nat_lt row end) (forest_at (cons tree nil) row) nil (lt_true row end h)
 
--- the first tree that is left, and what is behind it
+-- the first tree that is left, and what is after it
 pub record First (tree : Tree) (row end : ℕ) : Type 0 where
   pub later : Forest
   pub in_range : row < size tree
@@ -123,7 +123,7 @@ first tree row end b w h =
 pub first_is : (tree : Tree) (row end b : ℕ) → IsTrees tree row end b → row < end → tree_at tree row ≡ first_of (trees_at tree row end)
 first_is tree row end b w h = sym (ap first_of (first tree row end b w h).is)
 
--- what is left behind the first
+-- what is left after the first
 pub record Later (tree : Tree) (row end e d : ℕ) : Type 0 where
   pub is : trees_at tree e end ≡ rest_of (trees_at tree row end)
   pub is_trees : IsTrees tree e end d
@@ -223,7 +223,7 @@ done_seen tree row end b w =
     done : (m n : ℕ) → m ≤ n → leb m n ≡ true
     done m n h = grind arith
 
--- a child behind the first, counted from there
+-- a child after the first, counted from there
 pub child_at_rest : (f : Forest) (n : ℕ) → is_done f ≡ false → child_at (rest_of f) n ≡ child_at f (suc n)
 child_at_rest nil n e = (let no : true ≡ false = e in cc)
 child_at_rest (cons t r) n e = refl

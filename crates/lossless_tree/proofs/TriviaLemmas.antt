@@ -10,7 +10,7 @@ use Rattle.lossless_tree.specs.Element.{element_of, element_by, is_trivia_elemen
 use Rattle.tree_model.specs.NearestToken.{is_trivia_token, is_no_trivia}
 use Rattle.lossless_tree.proofs.NodeLists.{head_of, tail_of, same_cursors}
 
--- the test of an element is that of what stands at its cursor
+-- the test of an element is that of the node or token at its cursor
 pub trivia_of_element : (c : Cursor) → is_trivia_element (element_of c) ≡ is_trivia_token (focus c)
 trivia_of_element c = here (focus c) refl
   where

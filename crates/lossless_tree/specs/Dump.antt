@@ -11,7 +11,7 @@ use Rattle.text_size.specs.TextRange.{range_text}
 use Rattle.tree_model.specs.Tree.{Tree, node, token, kind_of, text}
 use Rattle.tree_model.specs.Cursor.{Cursor, focus, range_of, level_below, descendants_of}
 
--- a character as it stands between the quotes: `"` and `\` behind a backslash, newline, carriage return, tab and NUL
+-- a character as it is between the quotes: `"` and `\` after a backslash, newline, carriage return, tab and NUL
 -- by their letters, every other control byte as `\u{h}` with its number h in hexadecimal, all else as it is
 abbrev pub escaped : ℕ → List ℕ
 escaped c =
@@ -44,7 +44,7 @@ abbrev pub shown_text : Tree → List ℕ
 shown_text (node k c) = []
 shown_text (token k t) = codes " " ++ quoted t
 
--- `KIND@start..end`: what stands at a cursor, its text aside. So a node prints for programmers
+-- `KIND@start..end`: the node or token at a cursor, its text aside. So a node prints for programmers
 abbrev pub span_text : Cursor → List ℕ
 span_text c = kind_name (kind_of (focus c)) ++ codes "@" ++ range_text (range_of c)
 

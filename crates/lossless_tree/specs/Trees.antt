@@ -27,7 +27,7 @@ abbrev pub rest_of : Forest → Forest
 rest_of nil = nil
 rest_of (cons t r) = r
 
--- the siblings behind the first, and the children of the first
+-- the siblings after the first, and the children of the first
 abbrev pub behind_first : Siblings → Siblings
 behind_first s = record { trees = rest_of s.trees; start = s.start + length (text (first_of s.trees)) }
 

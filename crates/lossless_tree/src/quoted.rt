@@ -59,7 +59,7 @@ fn write_front<W: Write>(f: &mut Formatter<W>, text: &str, bytes: usize) -> fmt:
     Ok(())
 }
 
-// A character as it stands between quotes.
+// A character as it is between quotes.
 fn write_escaped<W: Write>(f: &mut Formatter<W>, c: char) -> fmt::Result
     ensures { WritesOnOk W.write_str_gives f.old result (escaped c) f.new }
 {

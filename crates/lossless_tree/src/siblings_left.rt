@@ -36,7 +36,7 @@ impl<'t> Model for SiblingsLeft<'t> {
 }
 
 impl<'t> SiblingsLeft<'t> {
-    // The children of what stands at a row.
+    // The children of the node or token at a row.
     pub(crate) fn below(table: &'t Table, row: usize) -> Self
         requires { IsRow table.now row }
         ensures { result ≡ record { trees = forest_of_children (tree_at table.now row); start = start_at table.now row } }
@@ -106,7 +106,7 @@ impl<'t> SiblingsLeft<'t> {
         self.start
     }
 
-    /// The siblings behind the first one.
+    /// The siblings after the first one.
     pub fn rest(&self) -> SiblingsLeft<'t>
         ensures { result ≡ behind_first self.now }
     {

@@ -52,7 +52,7 @@ holder_of t q i d held is = by (part_at d t q) refl (sym (part_at-last q d t i) 
     by None e h = absurd (let bad : None ≡ Some held = h in cc)
     by (Some holder) e h = (holder, e, h)
 
--- where it stands: behind its holder's place, the part's own
+-- where it is: after its holder's place, the part's own
 pub operand_place_last : (q : List ℕ) (u : Tree) (d : Demand) (t : Term) (i : ℕ) (holder held : Part) → part_at d t q ≡ Some holder → part holder.term i ≡ Some held
     → operand_place (q ++ i ∷ []) u t ≡ operand_place q u t ++ part_place holder.term (forest_of_children (subtree u (operand_place q u t))) i
 operand_place_last [] u d t i holder held is has =
@@ -141,7 +141,7 @@ fits_any d angle s e f = subst (λ d. FitsPlace d angle s) (sym e) (omega arith,
 
 -- ---- the test, with the operand's own parent
 
--- what stands at an operand, its parent, and what the test says there of any term
+-- the node or token at an operand, its parent, and what the test says there of any term
 pub record AskedAt (r : Cursor) (t : Term) (q : List ℕ) (held : Part) : Type 0 where
   pub shows : meaning (focus (operand_cursor r t q)) ≡ IsTerm held.term
   pub parent : Cursor

@@ -1,4 +1,4 @@
--- The operands of a tree that shows a term, at every depth: what stands there, and what follows.
+-- The operands of a tree that shows a term, at every depth: what is there, and what follows.
 use Rattle.std.proofs.Common.{◌≡◌, ℕ, List, [], ◌∷◌, ◌++◌, Bool, true, false, Some, refl, sym, ap, subst, ◌∙◌, ◌↔◌, append_assoc}
 use Rattle.tree_model.specs.Tree.{Place, subtree, forest_of_children}
 use Rattle.tree_model.specs.Cursor.{Cursor, focus, at_place}

@@ -1,4 +1,4 @@
--- Pairs of a tree that shows a term: which may go, and where they stand.
+-- Pairs of a tree that shows a term: which may go, and where they are.
 use Rattle.std.proofs.Common.{◌≡◌, ◌+◌, ◌++◌, ℕ, zero, suc, List, [], ◌∷◌, Bool, true, false, not, ◌&&◌, cond, map, drop, length, get_or, Option, Some, None, option_and_then, option_map, refl, sym, ap, subst, ◌∙◌, arith, append-nil}
 use Rattle.std.specs.List.{filter, find, list_all, range_with_len}
 use Rattle.syntax_kind.specs.declared.syntax_kind.SyntaxKind.{SyntaxKind}

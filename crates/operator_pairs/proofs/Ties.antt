@@ -39,7 +39,7 @@ pair_asked r t i q d e parent own shows is above own_shows reads stands =
 pub only_reading : (t u : Term) → Reads 0 (tokens t) t → Reads 0 (tokens t) u → u ≡ t
 only_reading t u h g = sym (one_reading 0 0 (tokens t) t u h g)
 
--- where neither `<` nor `<<` follows, anything may stand
+-- where neither `<` nor `<<` follows, anything may be
 pub may_stand : (following : List Token) (t : Term) (q : List ℕ) → begins_with_angle following ≡ false → MayGoBefore following t q
 may_stand following t q h = ((λ ends. h), (λ ends. h))
 

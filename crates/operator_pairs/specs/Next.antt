@@ -1,4 +1,4 @@
--- The first token behind a place.
+-- The first token after a place.
 use Rattle.std.specs.Prelude.{ℕ, suc, ◌+◌, List, [], ◌∷◌, Option, Some, None}
 use Rattle.syntax_kind.specs.declared.syntax_kind.SyntaxKind.{SyntaxKind}
 use Rattle.tree_model.specs.Tree.{Tree, Place, child_at, forest_of_children, forest_size}

@@ -19,11 +19,11 @@ use Rattle.operator_pairs.specs.Listed.{below}
 abbrev pub operand_cursor : Cursor → Term → List ℕ → Cursor
 operand_cursor r t q = at_place r (r.place ++ operand_place q (focus r) t)
 
--- `<` or `<<` stands behind the operand, in the whole tree
+-- `<` or `<<` follows the operand, in the whole tree
 abbrev pub angle_behind : Cursor → Term → List ℕ → Bool
 angle_behind r t q = begins_with_angle (tokens_behind q t ++ leaves_behind r.tree r.place)
 
--- what is asked of `own` in place of what stands at `place`, below its own parent
+-- what is asked of `own` in place of the node or token at `place`, below its own parent
 abbrev pub asks : (own parent place : Cursor) → Bool
 asks own parent place = cond (is_arguments (form_at parent)) false (operators_ask own parent place (begins_with_angle (leaves_behind place.tree place.place)))
 
@@ -51,7 +51,7 @@ abbrev pub part_fits : Bool → Option Part → Bool
 part_fits angle (Some p) = inside_fits p.demand angle p.term
 part_fits angle None = false
 
--- a pair stands at the place, and what it holds fits there, before the tokens that follow the whole
+-- a pair is at the place, and what it holds fits there, before the tokens that follow the whole
 abbrev pub may_go : List Token → Term → List ℕ → Bool
 may_go following t q = part_fits (begins_with_angle (tokens_behind q t ++ following)) (operand t q)
 
@@ -63,15 +63,15 @@ abbrev pub is_pair_part : Option Part → Bool
 is_pair_part (Some p) = is_pair_term p.term
 is_pair_part None = false
 
--- a pair stands at the place, and without it the tokens read as the term without it
+-- a pair is at the place, and without it the tokens read as the term without it
 abbrev pub reads_without : Term → List ℕ → Bool
 reads_without t q = is_pair_part (operand t q) && all_fit (without q t)
 
--- the whole term, and it without the pair at the place, may stand before these tokens
+-- the whole term, and it without the pair at the place, may precede these tokens
 abbrev pub MayGoBefore : List Token → Term → List ℕ → Type 0
 MayGoBefore following t q = MayStandBefore following t × MayStandBefore following (without q t)
 
--- no operand below the root is asked for a pair by its own parent
+-- no operand below the root needs a pair by its own parent
 abbrev pub AskedNowhere : Cursor → Term → Type 0
 AskedNowhere r t =
     (i : ℕ) (q : List ℕ) (held : Part) (parent : Cursor) → operand t (i ∷ q) ≡ Some held → parent_of (operand_cursor r t (i ∷ q)) ≡ Some parent

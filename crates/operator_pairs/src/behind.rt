@@ -1,4 +1,4 @@
-//! The first token behind a place.
+//! The first token after a place.
 ghost use Rattle.std.specs.Prelude.{◌≡◌, ◌≤◌, suc};
 ghost use Rattle.lossless_tree.specs.Element.{cursor_of};
 ghost use Rattle.operator_pairs.specs.Steps.{answer, steps_after};
@@ -65,7 +65,7 @@ fn one_on(element: &SyntaxElement) -> Step
     }
 }
 
-/// The kind of the first token behind a node or token that is no trivia.
+/// The kind of the first token after a node or token that is no trivia.
 pub fn kind_behind(element: &SyntaxElement) -> Option<SyntaxKind>
     ensures { result ≡ kind_behind (cursor_of element.now) }
 {

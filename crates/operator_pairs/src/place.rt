@@ -27,7 +27,7 @@ fn element_at(node: &SyntaxNode) -> SyntaxElement
     }
 }
 
-// `<` or `<<` follows behind the node.
+// `<` or `<<` follows after the node.
 fn is_before_angle(node: &SyntaxNode) -> bool
     ensures { result ≡ begins_with_angle (leaves_behind node.now.tree node.now.place) }
 {
@@ -37,7 +37,7 @@ fn is_before_angle(node: &SyntaxNode) -> bool
     }
 }
 
-/// Whether an expression of an operator tree needs parentheses in place of what stands at `place`, whose parent is `parent`.
+/// Whether an expression of an operator tree needs parentheses in place of the node or token at `place`, whose parent is `parent`.
 ///
 /// At a part of a node that shows a term, asked with the part's own parent, the answer for what shows a term is the test over
 /// terms. It is false where `parent` is not the place's own parent, where it is a list of arguments, and of what has no form of an

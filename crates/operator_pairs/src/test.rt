@@ -21,10 +21,10 @@ fn is_asked(own: &SyntaxNode, parent: &SyntaxNode, place: &SyntaxNode) -> bool
     place::needs_parens_in_place_of(own, parent, place)
 }
 
-/// Whether an expression of an operator tree needs parentheses in place of what stands at `place`, whose parent is `parent`.
+/// Whether an expression of an operator tree needs parentheses in place of the node or token at `place`, whose parent is `parent`.
 ///
 /// At an operand below the root of an operator tree, asked with the operand's own parent node (for an argument that is the list
-/// of arguments), it answers false exactly where the expression fits there, before the tokens that stand behind the operand in the
+/// of arguments), it answers false exactly where the expression fits there, before the tokens that follow the operand in the
 /// whole tree. Of a pair's inside in place of the pair, where the tree reads back and neither `<` nor `<<` follows it, this is:
 /// exactly where the tokens without the pair read as the term without it; and then no other term reads them.
 ///

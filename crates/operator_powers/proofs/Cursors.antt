@@ -69,7 +69,7 @@ kid_is i b (cons (token k t) r) j h = skip (kid_is (suc i) (b + length t) r) (is
 kid_is i b (cons (node k c) r) zero h = (0, omega arith, refl, omega arith)
 kid_is i b (cons (node k c) r) (suc j) h = later i b (node k c) r _ (kid_is (suc i) (b + length (text (node k c))) r j (omega arith))
 
--- numbers don't hang on where the kids start
+-- numbers don't depend on where the kids start
 same_number : (i a b : ℕ) (c : Forest) (j : ℕ) → (get_or (kids i a c) j no_kid).number ≡ (get_or (kids i b c) j no_kid).number
 same_number i a b nil j = refl
 same_number i a b (cons (token k t) r) j = skip (same_number (suc i) (a + length t) (b + length t) r) (is_trivia k) j
@@ -83,7 +83,7 @@ same_number i a b (cons (token k t) r) j = skip (same_number (suc i) (a + length
 same_number i a b (cons (node k c) r) zero = refl
 same_number i a b (cons (node k c) r) (suc j) = same_number (suc i) (a + length (text (node k c))) (b + length (text (node k c))) r j
 
--- where a kid's cursor stands
+-- where a kid's cursor is
 pub place_of_kid : (c : Cursor) (j : ℕ) → j < length (kids 0 (range_start c) (forest_of_children (focus c)))
     → (range_start (kid_place c j) ≡ (get_or (kids 0 (range_start c) (forest_of_children (focus c))) j no_kid).start)
     × (range_end (kid_place c j) ≡ kid_end (get_or (kids 0 (range_start c) (forest_of_children (focus c))) j no_kid))

@@ -254,7 +254,7 @@ unread_all c next e = record {
   seen = refl;
 }
 
--- the next one stands before those that were read
+-- the next one precedes those that were read
 pub record Standing (c y : Cursor) (named : Bool) : Type 0 where
   pub before : List Cursor
   pub after : List Cursor

@@ -1,4 +1,4 @@
--- Where the operator of a node stands that shows a term, and what its powers are.
+-- Where the operator of a node is that shows a term, and what its powers are.
 use Rattle.std.proofs.Common.{◌≡◌, ◌≤◌, ◌<◌, ◌+◌, ◌++◌, ℕ, zero, suc, List, [], ◌∷◌, Bool, true, false, not, cond, map, length, get_or, Option, Some, None, nat_eq, refl, sym, ap, subst, ◌∙◌, arith, length-append}
 use Rattle.syntax_kind.specs.declared.syntax_kind.SyntaxKind.{SyntaxKind}
 use Rattle.syntax_kind.specs.declared.syntax_kind.SyntaxKind.TheVariants.{Token as OfToken}

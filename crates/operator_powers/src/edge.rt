@@ -10,7 +10,7 @@ use lossless_tree::{NodeOrToken, SyntaxElement, SyntaxNode};
 use syntax_kind::SyntaxKind;
 
 /// What was seen of a row of tokens: whether the last is `as`, whether the last two are `as` and a name, and whether no `<`
-/// or `<<` stood behind such two.
+/// or `<<` was after such two.
 #[derive(Clone, Copy)]
 pub struct Edge {
     pub was_as: bool,

@@ -19,7 +19,7 @@ pub fits_told : (u : Tree) → IsNode u → not (is_term_form (form_of (kind_of 
 fits_told (node k c) h = refl
 fits_told (token k t) h = absurd h
 
--- the powers don't hang on where the children start
+-- the powers don't depend on where the children start
 kind_found : (w : Wanted) (c : Forest) (a b : ℕ) → powers_or (token_start w c a) ≡ powers_or (token_start w c b)
 kind_found w nil a b = refl
 kind_found w (cons (token k t) r) a b = by (wants w k) (kind_found w r (a + length t) (b + length t))

@@ -204,7 +204,7 @@ rest_now _ h = absurd (let bad : false ≡ true = h in cc)
 abbrev pub two_on : List Meaning → Option (List Meaning)
 two_on ms = option_and_then (take what.Comma) (take what.ATerm ms)
 
--- a comma behind the first argument: what stands behind it is as right
+-- a comma after the first argument: what follows it is as right
 pub rest_step : (ms ns : List Meaning) → two_on ms ≡ Some ns → (is_right (rest_form ns) ≡ is_right (rest_form ms)) × (length ns < length ms)
 rest_step (IsTerm e ∷ IsSign Comma ∷ ms) ns h =
     let same : ms ≡ ns = (let g : Some ms ≡ Some ns = h in cc) in

@@ -23,7 +23,7 @@ part_asks own oc f pp before = if is_field_form own && is_call_form f then true 
 abbrev pub child_asks : Form → Powers → Bool → Tree → Bool
 child_asks f pp before t = not (is_token t) && (is_term_form (form_of (kind_of t)) && part_asks (form_of (kind_of t)) (forest_of_children t) f pp before)
 
--- a child behind the first token that is no trivia stands behind the operator
+-- a child after the first token that is no trivia follows the operator
 abbrev pub still_before : Tree → Bool → Bool
 still_before (node k c) before = before
 still_before (token k t) before = is_trivia k && before

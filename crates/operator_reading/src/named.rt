@@ -5,7 +5,7 @@ ghost use Rattle.operator_reading.specs.Named.{named_text};
 use lossless_tree::{SyntaxKind, T};
 
 /// The one text of a kind whose tokens have one in an operator tree, as `T!` names it; empty for all other kinds. So every such
-/// kind stands here, and beside its text.
+/// kind is here, and beside its text.
 #[tactic(auto, unfolding(operator_terms::specs::Token::fixed_text))]
 pub fn kinds_have_their_texts(kind: SyntaxKind) -> &'static str
     ensures { result.now ≡ named_text kind }

@@ -26,7 +26,7 @@ fn is_range(trees: &SiblingsLeft<'_>) -> bool
         || is_three(trees, What::ATerm, What::AnyDots, What::ATerm)
 }
 
-// What stands behind an argument and its comma.
+// What follows an argument and its comma.
 fn next_argument<'t>(trees: &SiblingsLeft<'t>) -> Option<SiblingsLeft<'t>>
     ensures { option_map (λ s. assumed s.trees) result ≡ option_and_then (take what.Comma) (take what.ATerm (assumed trees.now.trees)) }
 {

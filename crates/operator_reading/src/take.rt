@@ -14,7 +14,7 @@ use lossless_tree::SiblingsLeft;
 use operator_trees::{Form, form_of};
 use syntax_kind::SyntaxKind;
 
-/// What may stand among the children of a node.
+/// What may be among the children of a node.
 #[derive(Clone, Copy)]
 pub enum What {
     ALiteral,
@@ -164,7 +164,7 @@ fn first_is(here: &SiblingsLeft<'_>, wanted: What) -> bool
     }
 }
 
-/// What stands behind the first that is no trivia, if that is what is wanted.
+/// What follows the first that is no trivia, if that is what is wanted.
 pub fn take<'t>(trees: &SiblingsLeft<'t>, wanted: What) -> Option<SiblingsLeft<'t>>
     ensures { option_map (λ s. assumed s.trees) result ≡ take wanted (assumed trees.now.trees) }
 {

@@ -1,7 +1,7 @@
 -- The rule on casts, from tokens to terms.
 --
 -- `no_cast_before_angle` speaks of neighbours in a token list. `Clear angle t` says the same by the structure of the term: no
--- cast in t stands before `<` or `<<`, where `angle` says whether one of these follows t. The flag goes down the right edge
+-- cast in t precedes `<` or `<<`, where `angle` says whether one of these follows t. The flag goes down the right edge
 -- of the term; the left operand of an operator gets the operator itself; inside delimiters it is false. `rule-term` is the
 -- equivalence, with any tokens following.
 use Rattle.std.proofs.Common.{◌≡◌, ◌↔◌, List, [], ◌∷◌, ◌++◌, Bool, true, false, not, ◌&&◌, refl, ap, subst, append_assoc}
@@ -27,7 +27,7 @@ pub rule_of_facts : (ts : List Token) → NoCastBeforeAngle ts → no_cast_befor
 rule_of_facts [] h = refl
 rule_of_facts (t ∷ ts) h = true-both (not (is_as t.kind && begins_with_name_and_angle ts)) (no_cast_before_angle ts) (ap not h.0) (rule_of_facts ts h.1)
 
--- a cast stands at the right edge
+-- a cast is at the right edge
 abbrev pub cast_at_end : Term → Bool
 cast_at_end (Cast e n) = true
 cast_at_end (Prefix op e) = cast_at_end e
@@ -37,7 +37,7 @@ cast_at_end (RangeTo inclusive r) = cast_at_end r
 cast_at_end (Range inclusive l r) = cast_at_end r
 cast_at_end _ = false
 
--- no cast in the term stands before `<` or `<<`; the flag says whether the term does
+-- no cast in the term precedes `<` or `<<`; the flag says whether the term does
 abbrev mutual
   pub Clear : Bool → Term → Type 0
   Clear next (Literal kind text) = Unit {0}

@@ -34,7 +34,7 @@ begins p q same (RangeFrom l) rest = begins p q same l _
 begins p q same (RangeTo inclusive r) rest = ap (λ x. run x (emit r rest)) (same (To inclusive) refl)
 begins p q same (Range inclusive l r) rest = begins p q same l _
 
--- behind a range's operator without an end, and behind a `&`
+-- after a range's operator without an end, and after a `&`
 
 after_full : (s : Stack) (c : Sign) → starter c ≡ true → step (Has s RangeFull) c ≡ step (Wants (After 2 (RangeTo false) s)) c
 after_full s c e = ap (λ b. cond b (step (Wants (After 2 (RangeTo false) s)) c) (proceed c s RangeFull)) e

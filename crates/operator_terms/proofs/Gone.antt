@@ -1,6 +1,6 @@
 -- Tokens round an operand. For each part of a form, the form's tokens are some tokens before the part, the part's, and those
--- behind it, and they stay when the part is changed (`in_term`). Along a place this gives: without a pair exactly its two
--- tokens are gone, and `tokens_behind` is what stands behind an operand.
+-- after it, and they stay when the part is changed (`in_term`). Along a place this gives: without a pair exactly its two
+-- tokens are gone, and `tokens_behind` is what follows an operand.
 use Rattle.std.proofs.Common.{◌≡◌, ℕ, zero, suc, List, [], ◌∷◌, ◌++◌, Option, Some, None, IfSome, option_and_then, refl, sym, ◌∙◌, subst, append_assoc, append-nil}
 use Rattle.syntax_kind.specs.declared.syntax_kind.token_kind.TokenKind.TheVariants as token
 use Rattle.operator_terms.specs.Token.{Token, fixed}
@@ -9,7 +9,7 @@ use Rattle.operator_terms.specs.Term.{Await, Binary, Borrow, Call, Cast, Field, 
 use Rattle.operator_terms.specs.Places.{AtLeast, Demand, Part, argument, behind_argument, behind_in, behind_part, operand, part, part_at, some_part, tokens_behind}
 use Rattle.operator_terms.specs.Pairs.{change_argument, change_part, without}
 
--- The inner tokens stand in the whole between others, `before` and the given `behind`; in the changed whole new tokens stand
+-- The inner tokens are in the whole between others, `before` and the given `behind`; in the changed whole new tokens are
 -- in their place, and the others stay.
 pub record Between (whole changed inner new behind : List Token) : Type 0 where
   pub before : List Token
@@ -19,11 +19,11 @@ pub record Between (whole changed inner new behind : List Token) : Type 0 where
 itself : (i n : List Token) → Between i n i n []
 itself i n = record { before = []; was = sym (append-nil i); is = sym (append-nil n) }
 
--- the whole stands between more tokens, in front and at the back
+-- the whole is between more tokens, in front and at the back
 around : (front back : List Token) {whole changed : List Token} (w c : List Token) {i n behind : List Token} → whole ≡ front ++ (w ++ back) → changed ≡ front ++ (c ++ back) → Between w c i n behind → Between whole changed i n (behind ++ back)
 around front back w c was is b = record { before = front ++ b.before; was = was ∙ rw b.was (simp append_assoc); is = is ∙ rw b.is (simp append_assoc) }
 
--- more tokens stand in front alone
+-- more tokens are in front alone
 after : (front : List Token) {whole changed : List Token} (w c : List Token) {i n behind : List Token} → whole ≡ front ++ w → changed ≡ front ++ c → Between w c i n behind → Between whole changed i n behind
 after front w c was is b = record { before = front ++ b.before; was = was ∙ rw b.was (simp append_assoc); is = is ∙ rw b.is (simp append_assoc) }
 

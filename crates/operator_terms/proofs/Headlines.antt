@@ -12,7 +12,7 @@ use Rattle.operator_terms.proofs.Readings.{Fine, stands_of_clear, clear-places, 
 use Rattle.operator_terms.proofs.MayGo.{clear_before, pair_may_go_before}
 use Rattle.operator_terms.proofs.Power.{needs_where_unfit}
 
--- ---- a part of what stands at a place stands at the place one step longer
+-- ---- a part of the node or token at a place is at the place one step longer
 
 itself : (o : Option Part) → option_and_then (λ p. some_part p.demand p.term) o ≡ o
 itself None = refl
@@ -29,7 +29,7 @@ part_at-last (j ∷ q) d t i = onward (part t j) (λ r. part_at-last q r.demand 
 pub operand-last : (t : Term) (q : List ℕ) (i : ℕ) (holder held : Part) → operand t q ≡ Some holder → part holder.term i ≡ Some held → operand t (q ++ (i ∷ [])) ≡ Some held
 operand-last t q i holder held e f = part_at-last q (AtLeast 0) t i ∙ ap (option_and_then (λ p. part p.term i)) e ∙ f
 
--- and behind it stand, first, what its holder has behind it
+-- and after it are, first, what its holder has after it
 
 behind_of : (f : Term → List Token) (o : Option Part) (r : Part) (ts : List Token) → o ≡ Some r → behind_in f o ts ≡ f r.term ++ ts
 behind_of f o r ts e = ap (λ x. behind_in f x ts) e

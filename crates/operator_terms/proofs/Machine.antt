@@ -1,7 +1,7 @@
 -- The machine: a parser by shift and reduce, with which it is proved that tokens read as one term at most.
 --
 -- It goes over the signs of the tokens once, with a stack of what waits for an operand. Each entry of the stack is kept as the
--- function from that operand to the term that will be made, so three kinds of entries serve all forms: behind an operator
+-- function from that operand to the term that will be made, so three kinds of entries serve all forms: after an operator
 -- or a prefix (with the level that it demands of the operand), in brackets round one term, in brackets round arguments.
 --
 -- The machine needn't refuse what isn't in the grammar, and nothing is claimed of it there. `step` is one case a state, and
@@ -53,7 +53,7 @@ pub data Stack : Type 0 where
   Enclosed : (Term → Term) → Stack → Stack
   Arguments : (Terms → Term) → Stack → Stack
 
--- An operand is wanted, or one was read, or a dot behind one, or a `&` in front of one, or an `as` behind one; or no reading
+-- An operand is wanted, or one was read, or a dot after one, or a `&` in front of one, or an `as` after one; or no reading
 -- goes on from here.
 pub data State : Type 0 where
   Wants : Stack → State
@@ -140,7 +140,7 @@ separated p = comma_at p.0 p.1
 abbrev pub casting : Stack × Term → State
 casting p = Typing p.0 p.1
 
--- a sign behind an operand
+-- a sign after an operand
 abbrev pub proceed : Sign → Stack → Term → State
 proceed Dot s t = Dotted s t
 proceed As s t = casting (reduce 12 s t)
@@ -192,7 +192,7 @@ run q (c ∷ cs) = run (step q c) cs
 abbrev pub has : Stack × Term → State
 has p = Has p.0 p.1
 
--- the stack and the operand behind the signs of a term
+-- the stack and the operand after the signs of a term
 abbrev pub push : Term → Stack → Stack × Term
 push (Literal kind text) s = (s, Literal kind text)
 push (Name text) s = (s, Name text)

@@ -1,6 +1,6 @@
 -- The term with a pair round each operand that doesn't fit. It reads: by the flag that `paired_before` hands down, each operand
--- fits or stands in a pair, which fits everywhere (levels in `paired-parts`, casts in `paired-clear`). Where all fit, nothing
--- is put in (`kept`). And part by part, a pair stands where the operand doesn't fit and nowhere else (`paired_by_parts`).
+-- fits or is in a pair, which fits everywhere (levels in `paired-parts`, casts in `paired-clear`). Where all fit, nothing
+-- is put in (`kept`). And part by part, a pair is where the operand doesn't fit and nowhere else (`paired_by_parts`).
 use Rattle.std.proofs.Common.{◌≡◌, ◌≤◌, ◌↔◌, ℕ, zero, suc, List, [], ◌∷◌, ◌++◌, Bool, true, false, not, ◌&&◌, leb, Option, IfSome, refl, sym, ap, ap₂, subst, ◌∙◌, arith, leb-true}
 use Rattle.syntax_kind.specs.declared.syntax_kind.token_kind.TokenKind.TheVariants as token
 use Rattle.operator_terms.specs.Token.{Token, fixed}
@@ -191,7 +191,7 @@ paired_keeps t = (
   (λ reads. kept t false (Derives-parts t 0 (tokens t) (reads-derives 0 (tokens t) t reads)) (clear_of_tokens t (reads-rule 0 (tokens t) t reads))),
 )
 
--- ---- part by part: a pair stands round a part exactly where the test for its place says so
+-- ---- part by part: a pair is round a part exactly where the test for its place says so
 
 pub fits_before-fits : (d : Demand) (angle : Bool) (e : Term) → fits_before d angle e ≡ true ↔ (Meets d e × (ends_in_cast (tokens e) ≡ true → angle ≡ false))
 fits_before-fits d angle e = (
@@ -202,7 +202,7 @@ fits_before-fits d angle e = (
 abbrev pub paired_part : Demand → Bool → Term → Option Part
 paired_part d angle e = some_part d (pair_unless (fits_before d angle e) (paired_before angle e))
 
--- where anything may stand, before no `<`, there is no pair
+-- where anything may be, before no `<`, there is no pair
 anywhere : (e : Term) → some_part (AtLeast 0) (paired_before false e) ≡ paired_part (AtLeast 0) false e
 anywhere e = ap (λ b. some_part (AtLeast 0) (pair_unless b (paired_before false e))) (sym ((fits_before-fits (AtLeast 0) false e).1 (omega arith, λ ends. refl)))
 

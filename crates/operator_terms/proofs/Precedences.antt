@@ -6,7 +6,7 @@ use Rattle.operator_terms.specs.Operators.{Operator, Or, And, Compare, Compute, 
 use Rattle.operator_terms.specs.Term.{Term, Paren, Field, Await, Try, Cast, Method, Call, Index, Prefix, Borrow, Binary, RangeFrom, RangeTo, Range, Terms, NoTerms, Last, More, level, is_field, tokens}
 use Rattle.operator_terms.specs.Places.{Demand, AtLeast, Callee, Meets, Part, some_part, argument, part, ends_in_cast}
 use Rattle.operator_terms.specs.Powers.{needs_pair_at}
-use Rattle.operator_terms.specs.Precedence.{Precedence, rank, arithmetic_precedence, ras_operators, precedence, needs_parentheses_in}
+use Rattle.operator_terms.specs.Precedence.{Precedence, rank, arithmetic_precedence, operator_precedence, precedence, needs_parentheses_in}
 use Rattle.operator_terms.proofs.Power.{needs_where_unfit}
 
 -- ---- precedences are levels, one higher, since a jump is below all of them
@@ -15,7 +15,7 @@ rank-arithmetic : (a : Arithmetic) → rank (arithmetic_precedence a) ≡ suc (a
 rank-arithmetic Add = refl
 rank-arithmetic _ = refl
 
-rank-operator : (op : Operator) → rank (ras_operators op) ≡ suc (operator_level op)
+rank-operator : (op : Operator) → rank (operator_precedence op) ≡ suc (operator_level op)
 rank-operator (Compute a) = rank-arithmetic a
 rank-operator _ = refl
 
@@ -46,7 +46,7 @@ prefixed e h =
 above : (e : Term) (k : ℕ) → nat_le (rank (precedence e)) k ≡ false → k ≤ level e
 above e k h = let more : k < rank (precedence e) = leb-false (rank (precedence e)) k h in omega (arith, rank-level e)
 
-by_operator : (p : Precedence) (op : Operator) → needs_parentheses_in p (ras_operators op) ≡ nat_le (rank p) (rank (ras_operators op))
+by_operator : (p : Precedence) (op : Operator) → needs_parentheses_in p (operator_precedence op) ≡ nat_le (rank p) (rank (operator_precedence op))
 by_operator p (Compute Add) = refl
 by_operator p _ = refl
 
@@ -58,13 +58,13 @@ near (Compute a) = omega arith
 near Assign = omega arith
 near (AssignBy a) = omega arith
 
-reaches : (op : Operator) (e : Term) → needs_parentheses_in (precedence e) (ras_operators op) ≡ false → suc (operator_level op) ≤ level e
+reaches : (op : Operator) (e : Term) → needs_parentheses_in (precedence e) (operator_precedence op) ≡ false → suc (operator_level op) ≤ level e
 reaches op e h = above e (suc (operator_level op)) (ap (nat_le (rank (precedence e))) (sym (rank-operator op)) ∙ sym (by_operator (precedence e) op) ∙ h)
 
-left : (op : Operator) (e : Term) → needs_parentheses_in (precedence e) (ras_operators op) ≡ false → left_demand op ≤ level e
+left : (op : Operator) (e : Term) → needs_parentheses_in (precedence e) (operator_precedence op) ≡ false → left_demand op ≤ level e
 left op e h = let more = reaches op e h in let close = near op in omega arith
 
-right : (op : Operator) (e : Term) → needs_parentheses_in (precedence e) (ras_operators op) ≡ false → right_demand op ≤ level e
+right : (op : Operator) (e : Term) → needs_parentheses_in (precedence e) (operator_precedence op) ≡ false → right_demand op ≤ level e
 right op e h = let more = reaches op e h in let close = near op in omega arith
 
 -- ---- the parts

@@ -92,7 +92,7 @@ clear_of_tokens t h = ((rule-term t []).0 (rw append-nil (facts_of_rule (tokens 
 pub tokens_of_clear : (t : Term) → Clear false t → no_cast_before_angle (tokens t) ≡ true
 tokens_of_clear t h = rule_of_facts (tokens t) (rw append-nil at ((rule-term t []).1 (h, tt)))
 
--- the part meets its demand and may stand before these tokens
+-- the part meets its demand and may precede these tokens
 abbrev pub Fine : List Token → Part → Type 0
 Fine behind p = Meets p.demand p.term × MayStandBefore behind p.term
 

@@ -1,9 +1,9 @@
 -- What the machine's stack gives back.
 --
--- Behind a term the stack holds the term's right edge: what it pushed for its last operand, that operand's last operand, and so
+-- After a term the stack holds the term's right edge: what it pushed for its last operand, that operand's last operand, and so
 -- on. A weaker sign takes all of this back (`reduce-push`), since each demand on the right edge of a term that fits lies
 -- above the term's own level (`Edge_of_fit`); and it stops at what waited before (`reduce-stops`). The lemmas `step-..` say
--- what the machine does with the sign behind a form's left operand.
+-- what the machine does with the sign after a form's left operand.
 use Rattle.std.proofs.Common.{◌≡◌, ◌≤◌, ◌<◌, ◌⊎◌, inl, inr, ℕ, suc, Bool, true, false, cond, None, refl, ap, ◌∙◌, arith, le-leb, le_refl}
 use Rattle.operator_terms.specs.Operators.{And, Assign, AssignBy, Compare, Compute, Operator, Or, left_demand, operator_level, right_demand}
 use Rattle.operator_terms.specs.Term.{Await, Binary, Borrow, Call, Cast, Field, Index, Literal, Method, Name, Paren, Prefix, Range, RangeFrom, RangeFull, RangeTo, Term, Try, is_field, level}
@@ -105,7 +105,7 @@ Edge_of_fit (Index e i) k limit h parts some near small = tt
 Edge_of_fit RangeFull k limit h parts some near small = tt
 Edge_of_fit (RangeFrom l) k limit h parts some near small = tt
 
--- ---- a sign behind a term
+-- ---- a sign after a term
 
 cond_same : {A : Type 0} (b : Bool) (x : A) → cond b x x ≡ x
 cond_same true x = refl
@@ -148,7 +148,7 @@ starts_or_high (Compute a) = let h = arithmetic_range a in inr (omega arith)
 starts_or_high Assign = inl refl
 starts_or_high (AssignBy a) = inl refl
 
--- an operator behind its left operand
+-- an operator after its left operand
 pub step-operator : (op : Operator) (l : Term) (s : Stack) → left_demand op ≤ level l → PartsFit l → Holds (operator_level op) s → step (has (push l s)) (Op op) ≡ Wants (After (right_demand op) (Binary op l) s)
 step-operator op l s h parts top =
     let about = numbers op in
@@ -160,13 +160,13 @@ step-operator op l s h parts top =
     goes (inl none) = step-behind (Op op) (push l s).0 (push l s).1 none
     goes (inr high) = step-ended (Op op) (push l s).0 (push l s).1 (ended l s (push l s).0 (omega arith) parts)
 
--- a range's operator behind its start
+-- a range's operator after its start
 pub step-range : (inclusive : Bool) (l : Term) (s : Stack) → 2 ≤ level l → PartsFit l → Holds 1 s → step (has (push l s)) (To inclusive) ≡ ranged inclusive (s, l)
 step-range inclusive l s h parts top =
     step-ended (To inclusive) (push l s).0 (push l s).1 (ended l s (push l s).0 h parts)
     ∙ ap (ranged inclusive) (reduce-push l 2 s (Edge_of_fit l 2 2 h parts (omega arith) (omega arith) (omega arith)) ∙ reduce-stops 1 2 s l top (omega arith))
 
--- `as` behind what is cast
+-- `as` after what is cast
 pub step-cast : (e : Term) (s : Stack) → 11 ≤ level e → PartsFit e → Holds 11 s → step (has (push e s)) As ≡ Typing s e
 step-cast e s h parts top = ap casting (reduce-push e 12 s (Edge_of_fit e 11 12 h parts (omega arith) (omega arith) (omega arith)) ∙ reduce-stops 11 12 s e top (omega arith))
 
@@ -190,7 +190,7 @@ push-postfix (Method e n args) s h = refl
 push-postfix (Call e args) s h = refl
 push-postfix (Index e i) s h = refl
 
--- arguments behind a callee that is no field
+-- arguments after a callee that is no field
 pub step-call : (t : Term) (s : Stack) → 13 ≤ level t → is_field t ≡ false → step (Has s t) Opens ≡ Wants (Arguments (Call t) s)
 step-call (Prefix op e) s h callee = absurd (omega arith)
 step-call (Borrow mutable e) s h callee = absurd (omega arith)

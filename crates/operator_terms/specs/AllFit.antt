@@ -5,7 +5,7 @@ use Rattle.operator_terms.specs.Term.{Term, Literal, Name, Paren, Field, Await, 
 use Rattle.operator_terms.specs.Reading.{no_cast_before_angle}
 use Rattle.operator_terms.specs.Places.{AtLeast, Callee, meets}
 
--- The form's own parts meet their demands. Arguments, what stands in parentheses and what stands in brackets may be any.
+-- The form's own parts meet their demands. Arguments, what is in parentheses and what is in brackets may be any.
 abbrev pub parts_meet : Term → Bool
 parts_meet (Field e n) = meets (AtLeast 13) e
 parts_meet (Await e) = meets (AtLeast 13) e
@@ -48,6 +48,6 @@ abbrev mutual
   all_demands_met (Last e) = demands_met e
   all_demands_met (More e es) = demands_met e && all_demands_met es
 
--- every operand fits: each has the level that is demanded, and no cast's name stands before `<` or `<<`
+-- every operand fits: each has the level that is demanded, and no cast's name precedes `<` or `<<`
 abbrev pub all_fit : Term → Bool
 all_fit t = demands_met t && no_cast_before_angle (tokens t)

@@ -11,7 +11,7 @@ use Rattle.operator_terms.specs.Powers.{needs_pair_at}
 abbrev pub IsOneReading : Term → Type 0
 IsOneReading t = Reads 0 (tokens t) t × ((u : Term) → Reads 0 (tokens t) u → u ≡ t)
 
--- The first of the tokens behind the part number i of what stands at q is `<` or `<<`. The tokens that follow the whole
+-- The first of the tokens after the part number i of the node or token at q is `<` or `<<`. The tokens that follow the whole
 -- term are given too.
 abbrev pub angle_behind : List Token → Term → List ℕ → ℕ → Bool
 angle_behind following t q i = begins_with_angle (tokens_behind (q ++ (i ∷ [])) t ++ following)

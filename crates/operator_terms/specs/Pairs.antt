@@ -19,7 +19,7 @@ is_angle_operator op = is_angle (OfToken (operator_kind op))
 
 -- The term with a pair round each operand that doesn't fit, at every depth at once. The flag says whether `<` or `<<`
 -- follows the term in the whole term as it was given: it is handed on to the last part of a form, and the flag of a left
--- operand says whether the form's own operator is `<` or `<<`. Each operand is judged where it stood before any pair was
+-- operand says whether the form's own operator is `<` or `<<`. Each operand is judged where it was before any pair was
 -- put in, also inside an operand that gets one.
 abbrev mutual
   pub paired_before : Bool → Term → Term

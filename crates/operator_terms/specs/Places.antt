@@ -35,7 +35,7 @@ argument (Last e) (suc i) = None
 argument (More e es) zero = some_part (AtLeast 0) e
 argument (More e es) (suc i) = argument es i
 
--- The part of this number, counted from 0 as they stand in the text; the argument i of a call or method call is its
+-- The part of this number, counted from 0 as they are in the text; the argument i of a call or method call is its
 -- part i + 1.
 abbrev pub part : Term → ℕ → Option Part
 part (Paren e) zero = some_part (AtLeast 0) e
@@ -59,12 +59,12 @@ part (Range inclusive l r) zero = some_part (AtLeast 2) l
 part (Range inclusive l r) (suc zero) = some_part (AtLeast 2) r
 part _ _ = None
 
--- A place is a list of part numbers from the root down. At the root, where d is demanded, the term itself stands.
+-- A place is a list of part numbers from the root down. At the root, where d is demanded, the term itself is.
 abbrev pub part_at : Demand → Term → List ℕ → Option Part
 part_at d t [] = some_part d t
 part_at d t (i ∷ q) = option_and_then (λ p. part_at p.demand p.term q) (part t i)
 
--- the operand at a place: the part that stands there, at any depth, or the whole term
+-- the operand at a place: the part that is there, at any depth, or the whole term
 abbrev pub operand : Term → List ℕ → Option Part
 operand t q = part_at (AtLeast 0) t q
 
@@ -76,7 +76,7 @@ behind_argument (Last e) i = []
 behind_argument (More e es) zero = fixed token.COMMA ∷ argument_tokens es
 behind_argument (More e es) (suc i) = behind_argument es i
 
--- the tokens of the form that stand behind its part of this number
+-- the tokens of the form that follow its part of this number
 abbrev pub behind_part : Term → ℕ → List Token
 behind_part (Paren e) i = fixed token.R_PAREN ∷ []
 behind_part (Field e n) i = fixed token.DOT ∷ name n ∷ []
@@ -98,7 +98,7 @@ abbrev pub behind_in : (Term → List Token) → Option Part → List Token → 
 behind_in f None ts = []
 behind_in f (Some p) ts = f p.term ++ ts
 
--- the tokens of the whole term that stand behind the operand at a place
+-- the tokens of the whole term that follow the operand at a place
 abbrev pub tokens_behind : List ℕ → Term → List Token
 tokens_behind [] t = []
 tokens_behind (i ∷ q) t = behind_in (tokens_behind q) (part t i) (behind_part t i)
@@ -120,11 +120,11 @@ ends_in_cast (t ∷ ts) = (is_as t.kind && is_one_name ts) || ends_in_cast ts
 abbrev pub FitsPlace : Demand → (angle : Bool) → Term → Type 0
 FitsPlace d angle e = Meets d e × (ends_in_cast (tokens e) ≡ true → angle ≡ false)
 
--- The operand at the place q fits, before the tokens that stand behind it in the whole term. (Nothing is said where q is no
+-- The operand at the place q fits, before the tokens that follow it in the whole term. (Nothing is said where q is no
 -- place of the term.)
 abbrev pub Fits : Term → List ℕ → Type 0
 Fits t q = IfSome (operand t q) (λ p. FitsPlace p.demand (begins_with_angle (tokens_behind q t)) p.term)
 
--- a whole term may stand before these tokens: if it ends in a cast's name, they don't begin with `<` or `<<`
+-- a whole term may precede these tokens: if it ends in a cast's name, they don't begin with `<` or `<<`
 abbrev pub MayStandBefore : List Token → Term → Type 0
 MayStandBefore following t = ends_in_cast (tokens t) ≡ true → begins_with_angle following ≡ false

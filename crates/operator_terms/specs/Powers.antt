@@ -1,12 +1,12 @@
 -- The test for parentheses by binding powers, as rust-analyzer's `Expr::needs_parens_in` asks it (but for three
 -- answers, which docs/DIFFERENCES.md tells): each form has a left and a right power,
--- and a part stands before or behind the operator of the form that holds it.
+-- and a part precedes or after the operator of the form that holds it.
 use Rattle.std.specs.Prelude.{ℕ, zero, suc, Bool, true, false, not, ◌&&◌, ◌||◌, nat_eq, nat_lt, if◌then◌else◌}
 use Rattle.operator_terms.specs.Operators.{Arithmetic, Add, Subtract, Multiply, Divide, Remainder, ShiftLeft, ShiftRight, BitXor, BitOr, BitAnd, Operator, Or, And, Compare, Compute, Assign, AssignBy}
 use Rattle.operator_terms.specs.Term.{Term, Literal, Name, Paren, Field, Await, Try, Cast, Method, Call, Index, Prefix, Borrow, Binary, RangeFull, RangeFrom, RangeTo, Range, is_field, tokens}
 use Rattle.operator_terms.specs.Places.{ends_in_cast}
 
--- how strongly a form binds what stands on its left and on its right. Powers of 0 mark prefixes, postfixes and wholes; a
+-- how strongly a form binds what is on its left and on its right. Powers of 0 mark prefixes, postfixes and wholes; a
 -- field and an open range have both all the same.
 pub record Powers : Type 0 where
   pub left : ℕ
@@ -84,8 +84,8 @@ like_prefix p = nat_eq p.left 0 && not (nat_eq p.right 0)
 abbrev pub like_postfix : Powers → Bool
 like_postfix p = not (nat_eq p.left 0) && nat_eq p.right 0
 
--- The powers don't matter: one of the two is like a pair; or the operand is like a prefix and the parent's operator stands
--- in front of it or is a prefix too; or it is like a postfix and the parent's operator is behind it or is a postfix.
+-- The powers don't matter: one of the two is like a pair; or the operand is like a prefix and the parent's operator is
+-- in front of it or is a prefix too; or it is like a postfix and the parent's operator is after it or is a postfix.
 abbrev pub is_excused : Powers → Powers → Bool → Bool
 is_excused self parent before =
     like_paren self || like_paren parent
@@ -98,7 +98,7 @@ binds_less self parent before = if before then nat_lt self.right parent.left els
 
 -- An operand needs a pair in its parent where the first of these rules that applies says so. A field that is called
 -- needs one. One whose powers don't matter needs none. A comparison in a comparison and a range in a range need one.
--- Else it needs one where it binds less. `before`: the operand stands before the parent's operator.
+-- Else it needs one where it binds less. `before`: the operand precedes the parent's operator.
 abbrev pub needs_pair_by_power : Term → Term → Bool → Bool
 needs_pair_by_power self parent before =
     if is_field self && is_call parent then true
@@ -106,7 +106,7 @@ needs_pair_by_power self parent before =
     else (if (is_comparison self && is_comparison parent) || (is_range self && is_range parent) then true
     else binds_less (powers self) (powers parent) before))
 
--- the part of this number stands before the form's operator
+-- the part of this number precedes the form's operator
 abbrev pub part_before : Term → ℕ → Bool
 part_before (Paren e) i = false
 part_before (Prefix op e) i = false

@@ -40,13 +40,13 @@ arithmetic_precedence op.BitXor = BitXor
 arithmetic_precedence op.BitOr = BitOr
 arithmetic_precedence op.BitAnd = BitAnd
 
-abbrev pub ras_operators : Operator → Precedence
-ras_operators op.Or = LOr
-ras_operators op.And = LAnd
-ras_operators (op.Compare c) = Compare
-ras_operators (op.Compute a) = arithmetic_precedence a
-ras_operators op.Assign = Assign
-ras_operators (op.AssignBy a) = Assign
+abbrev pub operator_precedence : Operator → Precedence
+operator_precedence op.Or = LOr
+operator_precedence op.And = LAnd
+operator_precedence (op.Compare c) = Compare
+operator_precedence (op.Compute a) = arithmetic_precedence a
+operator_precedence op.Assign = Assign
+operator_precedence (op.AssignBy a) = Assign
 
 -- the precedence of an expression, as `Expr::precedence` answers it
 abbrev pub precedence : Term → Precedence
@@ -62,7 +62,7 @@ precedence (term.Call e args) = Postfix
 precedence (term.Index e i) = Postfix
 precedence (term.Prefix o e) = Prefix
 precedence (term.Borrow mutable e) = Prefix
-precedence (term.Binary o l r) = ras_operators o
+precedence (term.Binary o l r) = operator_precedence o
 precedence term.RangeFull = Range
 precedence (term.RangeFrom l) = Range
 precedence (term.RangeTo inclusive r) = Range

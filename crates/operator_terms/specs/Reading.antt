@@ -47,14 +47,14 @@ unfoldable mutual
       (k ≤ 1) × (before : List Token) × (after : List Token)
       × (ts ≡ before ++ (fixed (range_kind inclusive) ∷ after)) × Derives 2 before l × Derives 2 after r
 
-  -- arguments, with a comma behind each but perhaps the last
+  -- arguments, with a comma after each but perhaps the last
   pub DerivesAll : List Token → Terms → Type 0
   DerivesAll ts NoTerms = ts ≡ []
   DerivesAll ts (Last e) = Derives 0 ts e
   DerivesAll ts (More e es) =
       (first : List Token) × (others : List Token) × (ts ≡ first ++ (fixed token.COMMA ∷ others)) × Derives 0 first e × DerivesAll others es
 
--- ---- the rule on casts: behind `as T` a `<` or `<<` would begin the generic arguments of the type T, so `a as T < b` is
+-- ---- the rule on casts: after `as T` a `<` or `<<` would begin the generic arguments of the type T, so `a as T < b` is
 -- no comparison (Rust Reference, "Type cast expressions" and "Paths in types")
 
 abbrev pub is_as : SyntaxKind → Bool

@@ -10,7 +10,7 @@ use Rattle.operator_terms.specs.Term.{literal, name}
 use Rattle.operator_terms.specs.Operators.{LiteralKind, Int, Float, Char, Byte, Str, ByteStr, CStr, True, False, Add, Subtract, Multiply, Divide, Remainder, ShiftLeft, ShiftRight, BitXor, BitOr, BitAnd, Equal, NotEqual, Less, LessOrEqual, Greater, GreaterOrEqual, Operator, Or, And, Compare, Compute, Assign, AssignBy, operator_kind, range_kind}
 
 -- A literal or a word with its text, a delimiter, a keyword, `..` or `..=`, an operator; `Strange` is all else. `-`, `*` and
--- `&` are operators here, also where they stand as a prefix: the place decides.
+-- `&` are operators here, also where they are as a prefix: the place decides.
 pub data Sign : Type 0 where
   Lit : LiteralKind → (text : List ℕ) → Sign
   Word : (text : List ℕ) → Sign

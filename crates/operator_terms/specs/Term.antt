@@ -6,7 +6,7 @@ use Rattle.syntax_kind.specs.declared.syntax_kind.token_kind.TokenKind.TheVarian
 
 -- The forms. A range has both ends (`Range`), one (`RangeFrom`, `RangeTo`) or none (`RangeFull`): so `..=` always has
 -- its end. `Cast` is to a type of one name.
--- Arguments are none (`NoTerms`), a last one (`Last`), or one with a comma behind it and then others (`More`): so `f(a)`
+-- Arguments are none (`NoTerms`), a last one (`Last`), or one with a comma after it and then others (`More`): so `f(a)`
 -- is `Last a`, `f(a,)` is `More a NoTerms`, and `f(a, b)` is `More a (Last b)`.
 mutual
   pub data Term : Type 0 where

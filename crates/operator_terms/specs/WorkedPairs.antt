@@ -23,7 +23,7 @@ needless t q i = record { term = t; above = q; number = i; may_go = true }
 abbrev pub needed : Term → List ℕ → ℕ → Pair
 needed t q i = record { term = t; above = q; number = i; may_go = false }
 
--- what the test answers for what the pair holds, in the pair's place; nothing where no part stands there
+-- what the test answers for what the pair holds, in the pair's place; nothing where no part is there
 abbrev pub asked : Pair → Option Bool
 asked p =
     option_and_then (λ holder.

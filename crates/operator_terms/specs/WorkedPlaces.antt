@@ -1,4 +1,4 @@
--- For each place of an operand, with one operator of each level, which of the forms need a pair there and which may stand bare, as the test by binding
+-- For each place of an operand, with one operator of each level, which of the forms need a pair there and which may be bare, as the test by binding
 -- powers answers it. The forms are samples, of each level and shape.
 use Rattle.std.specs.Prelude.{◌≡◌, ℕ, List, [], ◌∷◌, ◌++◌, Bool, true, false}
 use Rattle.operator_terms.specs.Term.{Term, Paren, Await, Try, Index, RangeFull, RangeFrom}
@@ -150,7 +150,7 @@ below_postfixes = prefixes ++ below_prefixes
 
 -- ---- the places
 
--- the part of this number in a form; which samples may stand there bare, and which need a pair
+-- the part of this number in a form; which samples may be there bare, and which need a pair
 pub record Place : Type 0 where
   pub holder : Term
   pub number : ℕ

@@ -1,5 +1,5 @@
 -- Worked terms, and whether every operand fits: so whether the tokens read as the term. In the text beside a term, the
--- brackets ⟨ ⟩ stand round an operand that doesn't fit. They are no tokens: they only show which term is meant.
+-- brackets ⟨ ⟩ are round an operand that doesn't fit. They are no tokens: they only show which term is meant.
 use Rattle.std.specs.Prelude.{◌≡◌, List, [], ◌∷◌, Bool, true, false}
 use Rattle.operator_terms.specs.Term.{Term, Paren, Call, Await, Try, Index, RangeFull, RangeFrom, NoTerms, Last, More}
 use Rattle.operator_terms.specs.AllFit.{all_fit}
@@ -134,7 +134,7 @@ postfixes =
     ∷ fails (dot_f (plus a b))  -- `⟨a + b⟩.f`
     ∷ []
 
--- casts, and what stands before `<` and `<<`
+-- casts, and what precedes `<` and `<<`
 abbrev pub casts : List Row
 casts =
     reads (as_U (as_T a))  -- `a as T as U`

@@ -7,7 +7,7 @@ use Rattle.operator_terms.specs.Operators.{Int, Float, Char, Byte, Str, ByteStr,
 use Rattle.operator_terms.specs.Term.{Term, Literal, Paren, Field, Await, Try, Cast, Method, Call, Index, Prefix, Borrow, Binary, RangeFull, RangeFrom, RangeTo, Range, NoTerms, Last, More, tokens}
 use Rattle.operator_terms.specs.Notation.{a, b, c, f}
 
--- the tokens, each as its kind and its text, with a blank behind each
+-- the tokens, each as its kind and its text, with a blank after each
 abbrev pub described : List Token → List ℕ
 described [] = []
 described (t ∷ ts) = kind_name t.kind ++ (32 ∷ (t.text ++ (32 ∷ described ts)))

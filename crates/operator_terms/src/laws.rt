@@ -43,15 +43,15 @@ pub fn reads_where_all_fit()
         → Reads k (tokens t) t ↔ ((k ≤ level t) × ((q : List ℕ) → Fits t q)) }
 {}
 
-/// The tokens of an operand stand in those of the whole term, and what `tokens_behind` says stands
-/// behind them.
+/// The tokens of an operand are in those of the whole term, and what `tokens_behind` says is
+/// after them.
 pub fn tokens_of_an_operand()
     ensures { (t : Term) (q : List ℕ) (d : Demand) (e : Term) → operand t q ≡ some_part d e
         → (before : List Token) × (tokens t ≡ before ++ (tokens e ++ tokens_behind q t)) }
 {}
 
-/// A part of the operand at a place is the operand one step further down; behind it stand first the
-/// tokens of its own form, and then those behind the form.
+/// A part of the operand at a place is the operand one step further down; after it are first the
+/// tokens of its own form, and then those after the form.
 pub fn operands_of_operands()
     ensures operand { (t : Term) (q : List ℕ) (i : ℕ) (holder held : Part)
         → operand t q ≡ Some holder → part holder.term i ≡ Some held
@@ -95,10 +95,10 @@ pub fn paired_keeps_what_reads()
     ensures { (t : Term) → paired t ≡ t ↔ Reads 0 (tokens t) t }
 {}
 
-/// Pairs stand where they must and nowhere else.
+/// Pairs are where they must and nowhere else.
 ///
 /// `test`: the test that puts them in asks whether an operand fits. `parts`: a part of the paired
-/// term is the paired part, in a pair unless it fits before the tokens that stand behind it.
+/// term is the paired part, in a pair unless it fits before the tokens that follow it.
 pub fn pairs_where_unfit()
     ensures test { (d : Demand) (angle : Bool) (e : Term)
         → fits_before d angle e ≡ true ↔ FitsPlace d angle e }
@@ -158,7 +158,7 @@ pub fn precedences_ask_enough()
 /// for a pair at no operand. `pairs`: in such a term, the test asks for none at what a pair holds
 /// exactly where the tokens without the pair read as the term without it.
 ///
-/// The term may stand before any tokens, `following`; where it, or it without the pair, ends in a
+/// The term may precede any tokens, `following`; where it, or it without the pair, ends in a
 /// cast's name, these must not begin with `<` or `<<`.
 pub fn the_operator_theorem()
     ensures readings { (following : List Token) (t : Term)
@@ -167,7 +167,7 @@ pub fn the_operator_theorem()
         → MayStandBefore following t → IsOneReading t → FindsNeedless following t }
 {}
 
-/// A term without casts may stand before any tokens, and without a pair it still has no casts. So for
+/// A term without casts may precede any tokens, and without a pair it still has no casts. So for
 /// such a term the theorem asks nothing of what follows.
 pub fn without_casts_all_may_follow()
     ensures stands { (following : List Token) (t : Term)
@@ -201,7 +201,7 @@ pub fn worked_tokens()
 {}
 
 /// For each place of an operand, with one operator of each level, and samples of all forms: which of them the test by binding powers
-/// lets stand there bare, and for which it asks for a pair. And what the test by precedences says.
+/// lets be there bare, and for which it asks for a pair. And what the test by precedences says.
 pub fn worked_places()
     ensures strong { EachRow IsRightAt strong_places }
     ensures sides { EachRow IsRightAt sides }

@@ -18,7 +18,7 @@ pub right-outlined : (m : Meaning) → is_right (outlined m) ≡ is_right m
 right-outlined IsNothing = refl
 right-outlined _ = refl
 
--- ---- a form's outline hangs on the outlines of the parts alone
+-- ---- a form's outline depends on the outlines of the parts alone
 
 same-literal : (ms : List Meaning) → outlined (literal_form (map erase ms)) ≡ outlined (literal_form ms)
 same-literal (IsSign (Lit k t) ∷ []) = refl
@@ -161,14 +161,14 @@ erased-all (cons (node k c) r) h =
     ap (λ m. m ∷ map erase (meanings r)) (erased (form_of k) (meanings c) (and_left (is_right (means (form_of k) (meanings c))) (all_right (meanings r)) h))
     ∙ ap (λ ms. blank_of (form_of k) ∷ ms) (erased-all r (and_right (is_right (means (form_of k) (meanings c))) (all_right (meanings r)) h))
 
--- the outline of what a node means is that of its shape, where what stands below is right
+-- the outline of what a node means is that of its shape, where what is below is right
 pub outlined-node : (k : SyntaxKind) (c : Forest) → all_right (meanings c) ≡ true → outlined (means (form_of k) (assumed c)) ≡ outlined (means (form_of k) (meanings c))
 outlined-node k c h = ap (λ ms. outlined (means (form_of k) ms)) (sym (erased-all c h)) ∙ same (form_of k) (meanings c)
 
 right-node : (k : SyntaxKind) (c : Forest) → all_right (meanings c) ≡ true → is_right (means (form_of k) (assumed c)) ≡ is_right (means (form_of k) (meanings c))
 right-node k c h = sym (right-outlined (means (form_of k) (assumed c))) ∙ ap is_right (outlined-node k c h) ∙ right-outlined (means (form_of k) (meanings c))
 
--- a node means something exactly where it has its shape and what stands below is right
+-- a node means something exactly where it has its shape and what is below is right
 below : (k : SyntaxKind) (c : Forest) (b : Bool) → all_right (meanings c) ≡ b → is_right (means (form_of k) (meanings c)) ≡ (is_right (means (form_of k) (assumed c)) && b)
 below k c true h = sym (right-node k c h) ∙ and_true (is_right (means (form_of k) (assumed c)))
   where

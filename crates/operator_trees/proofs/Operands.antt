@@ -1,4 +1,4 @@
--- Where operands stand, and which tokens stand behind them.
+-- Where operands are, and which tokens follow them.
 use Rattle.std.proofs.Common.{◌≡◌, ◌<◌, ◌+◌, ◌++◌, ℕ, zero, suc, List, [], ◌∷◌, Bool, true, false, cond, length, get_or, Option, Some, None, IfSome, refl, sym, ap, subst, ◌∙◌, arith}
 use Rattle.syntax_kind.specs.Kinds.{is_trivia}
 use Rattle.tree_model.specs.Tree.{Tree, node, token, Forest, nil, cons, text}
@@ -26,7 +26,7 @@ use Rattle.operator_trees.proofs.Inversion.{no, term_parts, arguments_parts}
 use Rattle.operator_trees.proofs.Tokens.{sound, list_tokens, all_sound, and_both, leaves-are, sound-term, sound-arguments, tokens-arguments}
 use Rattle.operator_trees.proofs.Sides.{meanings-kids, kid_means, argument_stands, is_some, part_stands}
 
--- a kid is the child of its number, and behind it stand the tokens of the kids behind it
+-- a kid is the child of its number, and after it are the tokens of the kids after it
 abbrev pub Behind : ℕ → Forest → ℕ → Kid → Type 0
 Behind i c j k = (n : ℕ) × (k.number ≡ i + n) × (k.tree ≡ child_at c n) × (leaves (behind_child c n) ≡ list_tokens (drop (suc j) (meanings c)))
 
@@ -54,7 +54,7 @@ behind_kid i b (cons (node k c) r) (suc j) s h =
     let n = behind_kid (suc i) (b + length (text (node k c))) r j (and_both (sound (means (form_of k) (meanings c))) (all_sound (meanings r)) s).1 less in
     (suc n.0, omega (arith, n.1), n.2, n.3)
 
--- what stands behind a part in its form
+-- what follows a part in its form
 behind-direct : (t : Term) (i : ℕ) → is_some (part t i) ≡ true → is_direct t i ≡ true → list_tokens (drop (suc (part_kid t i)) (kid_meanings t)) ≡ behind_part t i
 unfolding tokens
 behind-direct (Literal k x) i h d = absurd (no h)
@@ -117,7 +117,7 @@ part-listed _ i h d = refl
 
 -- ---- one step down
 
--- a kid by its meanings: the child of its number means what the list says, and behind it stand the tokens of the rest
+-- a kid by its meanings: the child of its number means what the list says, and after it are the tokens of the rest
 pub record Stands (c : Forest) (ms : List Meaning) (j : ℕ) : Type 0 where
   pub means_it : meaning (child_at c (kid_at c j).number) ≡ get_or ms j IsNothing
   pub is_child : child_at c (kid_at c j).number ≡ (kid_at c j).tree
@@ -134,7 +134,7 @@ kid_stands c ms j e s h =
       behind = ap (λ i. leaves (behind_child c i)) number ∙ n.3 ∙ ap (λ ms. list_tokens (drop (suc j) ms)) e;
     }
 
--- the part stands where `part_place` says, and behind it what `behind_part` says
+-- the part is where `part_place` says, and after it what `behind_part` says
 pub record PartStands (u : Tree) (at : Place) (e : Term) (behind : List Token) : Type 0 where
   pub shows : meaning (subtree u at) ≡ IsTerm e
   pub leaves_are : leaves_behind u at ≡ behind

@@ -1,4 +1,4 @@
--- Children that are no trivia: what they mean, which parts stand there, and on which side of the operator.
+-- Children that are no trivia: what they mean, which parts are there, and on which side of the operator.
 use Rattle.std.proofs.Common.{◌≡◌, ◌≤◌, ◌<◌, ◌+◌, ◌++◌, ℕ, zero, suc, List, [], ◌∷◌, Bool, true, false, ◌&&◌, cond, map, length, get_or, Option, Some, None, IfSome, nat_lt, nat_le, refl, sym, ap, subst, ◌∙◌, arith, length-append}
 use Rattle.syntax_kind.specs.declared.syntax_kind.SyntaxKind.{SyntaxKind}
 use Rattle.syntax_kind.specs.declared.syntax_kind.SyntaxKind.TheVariants.{Token as OfToken, Node as OfNode, OTHER}
@@ -27,7 +27,7 @@ meanings-kids i b (cons (token k t) r) = skip (meanings-kids (suc i) (b + length
     skip e false = ap (λ ms. IsSign (leaf k t) ∷ ms) e
 meanings-kids i b (cons (node k c) r) = ap (λ ms. means (form_of k) (meanings c) ∷ ms) (meanings-kids (suc i) (b + length (text (node k c))) r)
 
--- they stand in order
+-- they are in order
 From-less : (a b : ℕ) (ks : List Kid) → a ≤ b → From b ks → From a ks
 From-less a b [] h w = tt
 From-less a b (k ∷ ks) h w = (omega (arith, h, w.0), w.1)
@@ -53,7 +53,7 @@ in_order b (k ∷ ks) zero (suc j) w h g = From-start (kid_end k) ks j w.1 (omeg
 in_order b (k ∷ ks) (suc i) zero w h g = absurd (omega arith)
 in_order b (k ∷ ks) (suc i) (suc j) w h g = in_order (kid_end k) ks i j w.1 (omega arith) (omega arith)
 
--- ---- the part stands at its kid
+-- ---- the part is at its kid
 pub part_stands : (t : Term) (i : ℕ) → is_direct t i ≡ true → IfSome (part t i) (λ p. get_or (kid_meanings t) (part_kid t i) IsNothing ≡ IsTerm p.term)
 part_stands (Paren e) zero d = refl
 part_stands (Field e n) zero d = refl
@@ -114,7 +114,7 @@ has_text (cons (node k c) r) h =
 pub node_has_text : (k : SyntaxKind) (c : Forest) → is_right (means (form_of k) (meanings c)) ≡ true → 1 ≤ length (text (node k c))
 node_has_text k c h = has_text c (firm-form (form_of k) (meanings c) h)
 
--- ---- on which side a part's kid stands of the operator's
+-- ---- on which side a part's kid is of the operator's
 abbrev pub is_some : Option Part → Bool
 is_some None = false
 is_some (Some p) = true
@@ -151,7 +151,7 @@ told (Range inclusive l r) zero h d = refl
 told (Range inclusive l r) (suc zero) h d = refl
 told t i h d = absurd (no h)
 
--- A part's kid ends before the operator's starts exactly where the part stands before its form's operator.
+-- A part's kid ends before the operator's starts exactly where the part precedes its form's operator.
 pub side_by_kids : (n : ℕ) (ks : List Kid) (before : Bool) (i j : ℕ) → From 0 ks → n ≡ length ks → side_right n before i j ≡ true → (get_or ks i no_kid).start < kid_end (get_or ks i no_kid) → nat_le (kid_end (get_or ks i no_kid)) (get_or ks j no_kid).start ≡ before
 side_by_kids n ks true i j w e s h =
     let lt : i < j = grind arith in
@@ -173,11 +173,11 @@ get_kid [] n = refl
 get_kid (k ∷ ks) zero = refl
 get_kid (k ∷ ks) (suc n) = get_kid ks n
 
--- what stands at a kid means what the form says of it
+-- the node or token at a kid means what the form says of it
 pub kid_means : (c : Forest) (ms : List Meaning) (n : ℕ) → meanings c ≡ ms → meaning (kid_at c n).tree ≡ get_or ms n IsNothing
 kid_means c ms n e = sym (get_kid (kids 0 0 c) n) ∙ ap (λ ms. get_or ms n IsNothing) (meanings-kids 0 0 c ∙ e)
 
--- what stands at a part's kid shows the part
+-- the node or token at a part's kid shows the part
 pub operand_shows : (f : Form) (c : Forest) (t : Term) (i : ℕ) (p : Part) → means f (meanings c) ≡ IsTerm t → part t i ≡ Some p → is_direct t i ≡ true → meaning (kid_at c (part_kid t i)).tree ≡ IsTerm p.term
 operand_shows f c t i p shows is direct =
     let there : get_or (kid_meanings t) (part_kid t i) IsNothing ≡ IsTerm p.term = subst (λ o. IfSome o (λ p. get_or (kid_meanings t) (part_kid t i) IsNothing ≡ IsTerm p.term)) is (part_stands t i direct) in

@@ -1,4 +1,4 @@
--- On which side of its parent's operator an operand stands, by bytes.
+-- On which side of its parent's operator an operand is, by bytes.
 use Rattle.std.specs.Prelude.{ℕ, zero, suc, ◌+◌, ◌≤◌, List, [], ◌∷◌, Bool, true, false, ⊤, cond, length, get_or, nat_lt, nat_le, if◌then◌else◌}
 use Rattle.syntax_kind.specs.Kinds.{is_trivia}
 use Rattle.tree_model.specs.Tree.{Tree, node, token, Forest, nil, cons, no_tree, text}
@@ -32,7 +32,7 @@ no_kid = record { number = 0; start = 0; tree = no_tree }
 abbrev pub kid_at : Forest → ℕ → Kid
 kid_at c n = get_or (kids 0 0 c) n no_kid
 
--- they stand one after the other, from byte b on
+-- they are one after the other, from byte b on
 abbrev pub From : ℕ → List Kid → Type 0
 From b [] = ⊤
 From b (k ∷ ks) = (b ≤ k.start) × From (kid_end k) ks

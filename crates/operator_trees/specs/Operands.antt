@@ -1,4 +1,4 @@
--- Where the operands of a tree stand that shows a term.
+-- Where the operands of a tree are that shows a term.
 use Rattle.std.specs.Prelude.{ℕ, suc, List, [], ◌∷◌, ◌++◌, Option, Some, None}
 use Rattle.tree_model.specs.Tree.{Tree, Forest, Place, subtree, forest_of_children}
 use Rattle.operator_terms.specs.Term.{Term, Method, Call}

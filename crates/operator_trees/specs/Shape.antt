@@ -68,9 +68,9 @@ term_form (RangeFrom l) = form.Range
 term_form (RangeTo inclusive r) = form.Range
 term_form (Range inclusive l r) = form.Range
 
--- ---- meanings without what stands below
+-- ---- meanings without what is below
 
--- what stands in the place of a part
+-- what is in the place of a part
 abbrev pub blank : Term
 blank = Name []
 

@@ -42,7 +42,7 @@ fn put(open: &mut Vec<Unfinished>, tree: PlainTree) -> Result<Option<PlainTree>,
 
 impl PlainTree {
     /// Reads a tree. Words are parted by a space: `KIND(` or `(` enters a node, `)` leaves it, and `KIND:text` or `:text`
-    /// is a token. No text has a space; a `~` can stand in its place.
+    /// is a token. No text has a space; a `~` can be in its place.
     pub fn read(alloc: Global, words: &'static str) -> Result<PlainTree, Fail> {
         let mut open: Vec<Unfinished> = Vec::new(alloc);
         let mut number: u16 = 0;
@@ -111,7 +111,7 @@ impl PlainTree {
         Ok(())
     }
 
-    /// The kinds of the tokens that have a text and touch the offset, put behind those that are found already. The tree
+    /// The kinds of the tokens that have a text and touch the offset, put after those that are found already. The tree
     /// starts at `start`.
     pub fn tokens_at(
         &self,

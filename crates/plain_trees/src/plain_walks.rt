@@ -75,7 +75,7 @@ impl PlainTree {
         None
     }
 
-    /// The kinds of what stands above the kind, the nearest first.
+    /// The kinds of what is above the kind, the nearest first.
     pub fn above(&self, kind: SyntaxKind, found: &mut Vec<SyntaxKind>) -> Result<bool, Fail> {
         if self.kind() == kind {
             return Ok(true);
@@ -118,7 +118,7 @@ impl PlainTree {
     }
 }
 
-/// The one behind the kind in a list; none behind the last.
+/// The one after the kind in a list; none after the last.
 pub fn behind(kinds: &Vec<SyntaxKind>, kind: SyntaxKind) -> Option<SyntaxKind> {
     let mut passed = false;
     for other in kinds {

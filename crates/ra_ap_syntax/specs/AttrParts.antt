@@ -18,7 +18,7 @@ use Rattle.ras_node_ext.specs.NodeParts.{if_in, single_name}
 abbrev pub kind_by : Bool → AttrKind
 kind_by inner = if inner then Inner else Outer
 
--- a documentation comment, by the text of its first child: its shape, and what stands between its markers, of which the opening
+-- a documentation comment, by the text of its first child: its shape, and what is between its markers, of which the opening
 -- one has three bytes; and its first token, if that is a comment
 abbrev pub doc_shape : Cursor → Option CommentShape
 doc_shape c = option_map shape_of (child_text (focus c) 0)

@@ -10,11 +10,11 @@ mod views;
 
 pub use expr_ext::{ArgsMaybeEmpty, ArrayExprKind, BlockModifier, FieldKind, RangeItem};
 pub use operators::{ArithOp, BinaryOp, CmpOp, LogicOp, Ordering, RangeOp, UnaryOp};
+pub(crate) use ras_node::support;
+pub use ras_node::{AstChildren, AstNode, AstToken, cast_ref};
 pub use ras_token_ext::{
     AttrKind, CommentKind, CommentShape, IntError, QuoteOffsets, Radix, ValueError,
 };
-pub(crate) use ras_node::support;
-pub use ras_node::{AstChildren, AstNode, AstToken, cast_ref};
 pub use ras_tokens::tokens::{
     Byte, ByteString, CString, Char, Comment, FloatNumber, IntNumber, String, Whitespace,
 };

@@ -2,7 +2,7 @@
 //!
 //! First the headline, [`the_operator_theorem`]. Its other half are clauses: that every parse keeps its text is `text_is` of
 //! `parsed` of [`SourceFile::parse`](ast::SourceFile::parse) and [`Expr::parse`](ast::Expr::parse); that every reparse holds the
-//! edited text, one piece or all read anew, is `same_text` of `incremental_reparse`, `reparse` and `full_reparse` of
+//! edited text, one piece or all parsed again, is `same_text` of `incremental_reparse`, `reparse` and `full_reparse` of
 //! [`Parse`](crate::Parse).
 ghost use Rattle.std.specs.Prelude.{◌≡◌, ◌↔◌, ◌++◌, ◌∷◌, [], ℕ, List};
 ghost use Rattle.syntax_kind.specs.declared.syntax_kind.token_kind.TokenKind.TheVariants as token;
@@ -23,11 +23,11 @@ pub use operator_pairs::laws::{
     it_reads_where_none_is_asked, needless_pairs_are_found, needless_pairs_may_go,
     one_term_of_the_tokens, operands_are_asked,
 };
+pub use ras_algo::laws::common_ancestor_is_deepest;
 pub use ras_prec::laws::{
     operator_trees_are_asked_by_operators, operator_trees_end_in_casts_by_two_tokens,
     operator_trees_have_their_precedence, precedences_ask_enough,
 };
-pub use ras_algo::laws::common_ancestor_is_deepest;
 pub use ras_tokens::laws::names_of_tokens;
 
 /// The operator theorem: what the answers of `needs_parens_in` and `needs_parens_in_place_of` say of an operator tree, the place
@@ -38,7 +38,7 @@ pub use ras_tokens::laws::names_of_tokens;
 /// pair below the root holds, in place of the pair, exactly where the tokens without the pair read as the term without it.
 /// `tokens`: these are the tree's tokens, less the pair's two.
 ///
-/// The tree may stand before any tokens, but where the term, or the term without the pair, ends in a cast's name, not before `<` or
+/// The tree may precede any tokens, but where the term, or the term without the pair, ends in a cast's name, not before `<` or
 /// `<<`.
 pub fn the_operator_theorem()
     ensures readings { (r : Cursor) (t : Term) → meaning (focus r) ≡ IsTerm t → MayStandBefore (leaves_behind r.tree r.place) t

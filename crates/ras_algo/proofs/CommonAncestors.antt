@@ -1,4 +1,4 @@
--- The first common node of two chains of ancestors, from one depth on: it stands at the longest common front of the places.
+-- The first common node of two chains of ancestors, from one depth on: it is at the longest common front of the places.
 use Rattle.std.proofs.Common.{◌≡◌, ℕ, suc, ◌-◌, ◌<◌, ◌≤◌, ◌==◌, ◌&&◌, List, [], ◌∷◌, ◌++◌, length, drop, map, Bool, true, false, cond, not, refl, sym, ap, ◌∙◌, arith}
 use Rattle.std.specs.Prelude.{Some, None, Option, MatchOption, option_map}
 use Rattle.std.specs.Option.{option_or, option_eq}
@@ -23,7 +23,7 @@ use Rattle.ras_algo.specs.Algo.{common_front, common_ancestor, nearest_node}
 
 -- ---- lists of pairs
 
--- the pairs of two lists, and of what stands behind them
+-- the pairs of two lists, and of what follows them
 zip-append : {A : Type 0} (xs ys vs ws : List A) → length xs ≡ length ys → zip (xs ++ vs) (ys ++ ws) ≡ zip xs ys ++ zip vs ws
 zip-append [] [] vs ws e = refl
 zip-append [] (y ∷ ys) vs ws e = absurd (omega arith)
@@ -152,7 +152,7 @@ of_one_tree t p q =
     ∙ find-places t (from_depth p q) (from_depth q p)
     ∙ ap (option_map (λ w. (at t w.0, at t w.1))) (first_common p q)
 
--- of equal trees the first pair that is the same stands at the common front
+-- of equal trees the first pair that is the same is at the common front
 pub first_pair : (u v : Cursor) → u.tree ≡ v.tree → find is_same_pair (zip (chain_from_depth u v) (chain_from_depth v u)) ≡ Some (at_place u (common_front u.place v.place), at_place u (common_front u.place v.place))
 first_pair u v e =
     ap (λ t. find is_same_pair (zip (chain_from_depth u (at t v.place)) (chain_from_depth (at t v.place) u))) (sym e)

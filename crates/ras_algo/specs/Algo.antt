@@ -16,7 +16,7 @@ use Rattle.tree_model.specs.NearestToken.{tokens_beyond}
 use Rattle.tree_model.specs.TokenSearch.{tokens_at}
 use Rattle.ras_node.specs.Nodes.{kind_at, is_of_kind}
 
--- the siblings behind a cursor in order, or those before it, the nearest first
+-- the siblings after a cursor in order, or those before it, the nearest first
 abbrev pub siblings_beyond : Direction → Cursor → List Cursor
 siblings_beyond Next c = following_of c
 siblings_beyond Prev c = preceding_of c
@@ -39,7 +39,7 @@ abbrev pub last_token_of : NodeOrToken Cursor Cursor → Option Cursor
 last_token_of (Node c) = find at_token (reverse (descendants_of c))
 last_token_of (Token c) = Some c
 
--- of what stands at a cursor: its kind is no trivia; is not WHITESPACE; is ERROR
+-- of the node or token at a cursor: its kind is no trivia; is not WHITESPACE; is ERROR
 abbrev pub has_no_trivia_kind : Cursor → Bool
 has_no_trivia_kind c = not (is_trivia (kind_at c))
 

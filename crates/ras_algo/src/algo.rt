@@ -143,7 +143,7 @@ pub fn neighbor<T: AstNode>(me: &T, direction: Direction) -> Option<T>
     ensures { option_map T.node result ≡ find (has_kind_in T.casts) (filter at_node (siblings_beyond direction (T.node me.now))) }
 {
     let node = me.syntax();
-    // It stands at a node, so it is the first of its sibling nodes.
+    // It is at a node, so it is the first of its sibling nodes.
     node_is_placed(node);
     let mut siblings = node.siblings(direction).skip(1);
     T::cast(siblings.find(|node| T::can_cast(node.kind()))?)
@@ -205,7 +205,7 @@ pub fn previous_non_trivia_token(element: SyntaxElement) -> Option<SyntaxToken>
     non_trivia_beyond(&first, Direction::Prev)
 }
 
-/// The nearest token behind this node or token that is no trivia; `None` where there is none, and of a node without tokens.
+/// The nearest token after this node or token that is no trivia; `None` where there is none, and of a node without tokens.
 /// It takes time linear in the nodes and tokens that it passes.
 pub fn next_non_trivia_token(element: SyntaxElement) -> Option<SyntaxToken>
     ensures { result ≡ option_and_then (λ last. find has_no_trivia_kind (tokens_beyond Next last)) (last_token_of element) }

@@ -12,7 +12,7 @@ edition_of year =
     if year == 2024 then Some Edition2024 else
     None)))
 
--- a buffer whose front has these values; what stands behind them stays
+-- a buffer whose front has these values; what follows them stays
 abbrev pub over : {A : Type 0} → List A → List A → List A
 over xs buffer = xs ++ drop (length xs) buffer
 

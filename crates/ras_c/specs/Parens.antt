@@ -29,7 +29,7 @@ range_from start end = record { start = start; end = end }
 abbrev pub spans : Bounds → Cursor → Bool
 spans range c = (range_start c == range.start) && (range_end c == range.end)
 
--- the term that stands at a place, if it shows one
+-- the term that is at a place, if it shows one
 abbrev pub term_at : Cursor → Option Term
 term_at c = shown (focus c)
 

@@ -16,7 +16,7 @@ use Rattle.ras_c.specs.declared.read.ErrorRow.{ErrorRow}
 use Rattle.ras_c.specs.declared.read.Counts.{Counts}
 use Rattle.ras_c.specs.Border.{edition_of, over}
 
--- an error as a row, and the bytes of all messages, one behind the other
+-- an error as a row, and the bytes of all messages, one after the other
 abbrev pub error_row : Fault → ErrorRow
 error_row f = record { start = f.range.start; end = f.range.end; message = length f.message }
 

@@ -23,7 +23,7 @@ pub struct ErrorRow {
     pub start: u32,
     /// The byte where its range ends.
     pub end: u32,
-    /// How many bytes its message has; the messages stand one behind the other.
+    /// How many bytes its message has; the messages follow one another.
     pub message: u32,
 }
 
@@ -146,7 +146,7 @@ pub(crate) fn tell(
     OK
 }
 
-/// Reads a text, of the edition of a year, as a Rust file: its tree as rows in preorder, its errors, and their messages one behind
+/// Reads a text, of the edition of a year, as a Rust file: its tree as rows in preorder, its errors, and their messages one after
 /// the other, each at the front of its buffer. [`OK`], [`NOT_UTF8`], [`TOO_LONG`], [`NO_MEMORY`], [`NO_ROOM`] or [`NO_EDITION`].
 ///
 /// Whatever the text is, there is a tree. A text of n bytes seldom has more than 2 n rows.

@@ -45,7 +45,7 @@ bound_before bounds c = first_node bounds (before is_range_operator (children_of
 abbrev pub range_start_of : (SyntaxKind → Bool) → Cursor → Option Cursor
 range_start_of bounds c = option_and_then (λ _. bound_before bounds c) (range_operator c)
 
--- the first bound behind the operator
+-- the first bound after the operator
 abbrev pub range_end_of : (SyntaxKind → Bool) → Cursor → Option Cursor
 range_end_of bounds c = first_node bounds (behind is_range_operator (children_of c))
 
@@ -57,7 +57,7 @@ literal_token c = option_and_then token_part (option_map element_of (find (has_o
 abbrev pub index_token : Cursor → Option Cursor
 index_token c = option_and_then token_part (option_map element_of (find (has_other_kind is_before_index) (children_of c)))
 
--- a block is no part of what it stands in: in a `for` or an `if` it is the first expression, or there is none; it is never so as
+-- a block is no part of what it is in: in a `for` or an `if` it is the first expression, or there is none; it is never so as
 -- the `else` of a `let`, the body of a function or a loop, or a constant pattern
 abbrev pub is_standalone_in : (SyntaxKind → Bool) → Cursor → SyntaxKind → Cursor → Bool
 is_standalone_in exprs c (Node kind.FOR_EXPR) p = option_map_or (λ e. is_same_cursor e c) (typed_child exprs p) true

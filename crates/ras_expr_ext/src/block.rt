@@ -1,4 +1,4 @@
-//! Blocks: what stands before them, and where they stand.
+//! Blocks: what precedes them, and where they are.
 ghost use Rattle.std.specs.Prelude.{◌≡◌, option_map, true};
 ghost use Rattle.std.specs.Option.{option_map_or};
 ghost use Rattle.tree_model.specs.Equality.{is_same_cursor};
@@ -9,7 +9,7 @@ ghost use Rattle.ras_expr_ext.specs.Modifiers.{modifier_shape, block_modifier};
 use lossless_tree::{SyntaxKind, SyntaxNode, SyntaxToken};
 use ras_node::{AstNode, support};
 
-/// What stands before a block.
+/// What precedes a block.
 #[derive(Drop)]
 pub enum BlockModifier<T, L> {
     Async(SyntaxToken),
@@ -61,7 +61,7 @@ pub fn block_modifier<M: AstNode + Drop, T: AstNode + Drop, L: AstNode + Drop>(
     Some(BlockModifier::Label(support::child(block)?))
 }
 
-/// Whether a block is no part of what it stands in, as the body of a function is one: it has no parent; or its parent is a `for`
+/// Whether a block is no part of what it is in, as the body of a function is one: it has no parent; or its parent is a `for`
 /// or an `if`, and it is the first child there that can be viewed as an `N`, or there is none; or its parent is neither of these,
 /// and no `let` with `else`, function, `while`, `loop` or constant pattern.
 pub fn is_standalone<N: AstNode + Drop>(block: &SyntaxNode) -> bool

@@ -32,7 +32,7 @@ impl Edition {
 /// How a node may be read again by itself, as [`FrontEnd::reparser`](crate::FrontEnd::reparser) answers it.
 #[derive(Clone, Copy, Debug, PartialEq, Eq, Hash)]
 pub struct Reparser {
-    /// The kind of the node, which is also that of the node read anew.
+    /// The kind of the node, which is also that of the node parsed again.
     pub kind: SyntaxKind,
     /// Opaque to everyone but the front end: which grammar rule re-parses the node.
     pub number: u32,

@@ -69,7 +69,7 @@ pub trait FrontEnd {
     fn keyword(&self, text: &str, edition: Edition) -> Option<SyntaxKind>
         ensures { result ≡ (answers self.now).word edition text.now };
 
-    /// Whether a kind is that of a strict keyword: a word that is an identifier only behind `r#`.
+    /// Whether a kind is that of a strict keyword: a word that is an identifier only after `r#`.
     fn is_strict_keyword(&self, kind: SyntaxKind, edition: Edition) -> bool
         ensures { result ≡ (answers self.now).is_strict edition kind };
 

@@ -1,4 +1,4 @@
--- Sets of kinds: operators (Rust Reference, "Operator expressions"), and what may stand before a part that is looked for.
+-- Sets of kinds: operators (Rust Reference, "Operator expressions"), and what may precede a part that is looked for.
 use Rattle.std.specs.Prelude.{Bool, true, false}
 use Rattle.syntax_kind.specs.declared.syntax_kind.SyntaxKind.{SyntaxKind}
 use Rattle.syntax_kind.specs.declared.syntax_kind.SyntaxKind.TheVariants.{Node, Token}

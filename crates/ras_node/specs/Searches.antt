@@ -35,7 +35,7 @@ first_node kinds l = find (has_kind_in kinds) (filter at_node l)
 abbrev pub first_token : (SyntaxKind → Bool) → List Cursor → Option Cursor
 first_token kinds l = find (has_kind_in kinds) (filter at_token l)
 
--- of a list of cursors, those behind the first token with a kind of the set; none where there is no such token
+-- of a list of cursors, those after the first token with a kind of the set; none where there is no such token
 abbrev pub behind : (SyntaxKind → Bool) → List Cursor → List Cursor
 behind kinds [] = []
 behind kinds (c ∷ l) = if is_token_in kinds c then l else behind kinds l

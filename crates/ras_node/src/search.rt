@@ -32,7 +32,7 @@ fn is_other<S: KindSet>(element: &SyntaxElement) -> bool
     !S::has(element.kind())
 }
 
-/// What is left behind the first token with a kind of the set.
+/// What is left after the first token with a kind of the set.
 pub fn behind<T: KindSet>(left: SyntaxElementChildren) -> SyntaxElementChildren
     ensures { result ≡ behind T.kinds left }
 {

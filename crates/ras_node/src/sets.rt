@@ -23,7 +23,7 @@ pub trait KindSet {
         ensures { result ≡ kinds kind };
 }
 
-/// The kinds of what stands behind an `else`.
+/// The kinds of what follows an `else`.
 pub enum ElseBranches {}
 
 impl KindSet for ElseBranches {

@@ -1,4 +1,4 @@
--- A walk that passes over what stands below each node that is no `cfg_attr` comes to the metas to which the top opens.
+-- A walk that passes over what is below each node that is no `cfg_attr` comes to the metas to which the top opens.
 use Rattle.std.proofs.Common.{◌≡◌, ℕ, suc, ◌+◌, ◌≤◌, ◌<◌, ◌++◌, Bool, true, false, ◌&&◌, ◌||◌, cond, List, [], ◌∷◌, map, length, Option, Some, None, Decides, refl, sym, ap, subst, ◌∙◌, arith, append_assoc, length-append}
 use Rattle.std.proofs.lemmas.List.{append-nil, map-append}
 use Rattle.std.specs.Prelude.{if◌then◌else◌, option_map, not, drop}
@@ -18,7 +18,7 @@ use Rattle.lossless_tree.specs.WalkEvent.{node_event}
 use Rattle.ras_node.specs.Nodes.{kind_at, has_kind_in}
 use Rattle.ras_node_ext.specs.Metas.{is_cfg_attr, reaches, is_opened, opened}
 
--- what the walk keeps from here on, and the node below which it passes over what stands there, if it does
+-- what the walk keeps from here on, and the node below which it passes over what is there, if it does
 abbrev pub kept : (SyntaxKind → Bool) → Option Cursor → List (WalkEvent Cursor) → List Cursor
 kept metas past [] = []
 kept metas None (Enter c ∷ w) = if is_cfg_attr c then kept metas None w else filter (has_kind_in metas) (c ∷ []) ++ kept metas (Some c) w
@@ -52,7 +52,7 @@ is_not false d f = refl
 itself : (c : Cursor) → is_same_cursor c c ≡ true
 itself c = (cursor_Decides c c).1 refl
 
--- one that stands deeper is another
+-- one that is deeper is another
 deeper : (c p : Cursor) → length p.place < length c.place → is_same_cursor c p ≡ false
 deeper c p h = is_not (is_same_cursor c p) (cursor_Decides c p) (λ e. (let same : length c.place ≡ length p.place = ap (λ x. length x.place) e in omega arith))
 

@@ -1,5 +1,5 @@
 -- The attributes and documentation comments of a node, and the node that holds its inner ones.
--- (Rust Reference, "Attributes": an inner attribute, `#![..]`, is of what it stands in, an outer one of what follows it.)
+-- (Rust Reference, "Attributes": an inner attribute, `#![..]`, is of what it is in, an outer one of what follows it.)
 use Rattle.std.specs.Prelude.{Bool, true, false, not, ◌||◌, List, [], ◌++◌, Option, Some, None, is_some, if◌then◌else◌}
 use Rattle.std.specs.Option.{option_and_then, option_map_or}
 use Rattle.std.specs.List.{filter, find}
@@ -39,7 +39,7 @@ node_child k c = find (is_of_kind k) (filter at_node (children_of c))
 abbrev pub may_carry_attributes : Cursor → Bool
 may_carry_attributes c = option_map_or (λ p. is_of_kind (Node kind.BLOCK_EXPR) p || is_of_kind (Node kind.EXPR_STMT) p) (parent_of c) false
 
--- the node in which the inner attributes of an owner stand: a file itself, and a block where it may have them; of a function the
+-- the node in which the inner attributes of an owner are: a file itself, and a block where it may have them; of a function the
 -- statements of its body; of an extern block, a `match`, an implementation, a trait and a module the list in it
 abbrev pub inner_holder_by : SyntaxKind → Cursor → Option Cursor
 inner_holder_by (Node kind.SOURCE_FILE) c = Some c

@@ -1,4 +1,4 @@
--- What an attribute says, where `cfg_attr` and `unsafe` stand around it.
+-- What an attribute says, where `cfg_attr` and `unsafe` are around it.
 -- (Rust Reference, "The `cfg_attr` attribute": it is the attributes that it lists, which may be `cfg_attr`s again.)
 use Rattle.std.specs.Prelude.{◌≡◌, ℕ, Bool, true, false, not, ◌&&◌, ◌||◌, List, [], ◌∷◌, Option, Some, None, option_map, is_some, codes, drop, if◌then◌else◌}
 use Rattle.std.specs.Option.{option_and_then}
@@ -19,7 +19,7 @@ abbrev pub reaches : Cursor → List Cursor → Bool
 reaches top [] = false
 reaches top (a ∷ above) = is_cfg_attr a && (is_same_cursor a top || reaches top above)
 
--- a meta that is no `cfg_attr`, and is `top`, or stands in `cfg_attr`s alone up to it
+-- a meta that is no `cfg_attr`, and is `top`, or is in `cfg_attr`s alone up to it
 abbrev pub is_opened : (metas : SyntaxKind → Bool) → Cursor → Cursor → Bool
 is_opened metas top c =
     metas (kind_at c) && (not (is_cfg_attr c) && (is_same_cursor c top || reaches top (drop 1 (ancestors_of c))))
@@ -31,7 +31,7 @@ opened metas top = filter (is_opened metas top) (filter at_node (descendants_of 
 abbrev pub is_unsafe : Cursor → Bool
 is_unsafe c = is_of_kind (Node kind.UNSAFE_META) c
 
--- d is what stands in the `unsafe`s around c: c itself where it is none; none, where an `unsafe` has no meta in it
+-- d is what is in the `unsafe`s around c: c itself where it is none; none, where an `unsafe` has no meta in it
 pub data IsInnermost (metas : SyntaxKind → Bool) : Cursor → Option Cursor → Type 0 where
   itself : {c : Cursor} → is_unsafe c ≡ false → IsInnermost metas c (Some c)
   empty : {c : Cursor} → is_unsafe c ≡ true → typed_child metas c ≡ None → IsInnermost metas c None
@@ -41,7 +41,7 @@ pub data IsInnermost (metas : SyntaxKind → Bool) : Cursor → Option Cursor �
 abbrev pub own_path : (paths : SyntaxKind → Bool) → Cursor → Option Cursor
 own_path paths c = if is_cfg_attr c || is_of_kind (Node kind.CFG_META) c then None else typed_child paths c
 
--- r is the path of what stands in the `unsafe`s around c
+-- r is the path of what is in the `unsafe`s around c
 abbrev pub IsMetaPath : (metas paths : SyntaxKind → Bool) → Cursor → Option Cursor → Type 0
 IsMetaPath metas paths c r = (d : Option Cursor) × IsInnermost metas c d × (r ≡ option_and_then (own_path paths) d)
 

@@ -53,7 +53,7 @@ macro_body trees c = option_or (second_typed_child trees c) (typed_child trees c
 abbrev pub leading_pipe : Cursor → Option Cursor
 leading_pipe c = option_and_then (if_kind (Token token.PIPE)) (option_and_then token_part (option_map element_of (find is_no_trivia (children_of c))))
 
--- the name that a pattern binds, also behind `box`
+-- the name that a pattern binds, also after `box`
 abbrev pub bound_in_box : (names pats : SyntaxKind → Bool) → Cursor → Option Cursor
 bound_in_box names pats p = option_and_then (λ q. option_and_then (typed_child names) (if_kind (Node kind.IDENT_PAT) q)) (typed_child pats p)
 

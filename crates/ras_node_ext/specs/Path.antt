@@ -8,7 +8,7 @@ use Rattle.tree_model.specs.Tree.{size}
 use Rattle.tree_model.specs.Cursor.{Cursor, focus, range_start, range_end, range_of, ancestors_of}
 use Rattle.ras_node.specs.Nodes.{kind_at, typed_child}
 
--- d is what stands at the end of the chain of qualifiers of c: of the first children that are paths
+-- d is the node or token at the end of the chain of qualifiers of c: of the first children that are paths
 pub data IsFirstQualifier (paths : SyntaxKind → Bool) : Cursor → Cursor → Type 0 where
   here : {c : Cursor} → typed_child paths c ≡ None → IsFirstQualifier paths c c
   below : {c q d : Cursor} → typed_child paths c ≡ Some q → IsFirstQualifier paths q d → IsFirstQualifier paths c d

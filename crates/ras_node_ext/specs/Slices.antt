@@ -1,4 +1,4 @@
--- The patterns in a slice pattern: `a` and `b` before the `..` of `[a, b, rest @ .., c]`, and `c` behind it.
+-- The patterns in a slice pattern: `a` and `b` before the `..` of `[a, b, rest @ .., c]`, and `c` after it.
 -- (Rust Reference, "Slice patterns", "Rest patterns".)
 use Rattle.std.specs.Prelude.{Bool, false, ◌||◌, ◌&&◌, List, [], ◌∷◌, if◌then◌else◌}
 use Rattle.std.specs.Option.{option_map_or}
@@ -15,12 +15,12 @@ is_dots c = is_of_kind (Node kind.REST_PAT) c
 abbrev pub is_bound_dots : (pats : SyntaxKind → Bool) → Cursor → Bool
 is_bound_dots pats c = is_dots c || (is_of_kind (Node kind.IDENT_PAT) c && option_map_or is_dots (typed_child pats c) false)
 
--- the same, also behind `&`
+-- the same, also after `&`
 abbrev pub is_rest : (pats : SyntaxKind → Bool) → Cursor → Bool
 is_rest pats c =
     is_bound_dots pats c || (is_of_kind (Node kind.REF_PAT) c && option_map_or (is_bound_dots pats) (typed_child pats c) false)
 
--- those before the first of these, all where there is none; and those behind it
+-- those before the first of these, all where there is none; and those after it
 abbrev pub before_rest : (pats : SyntaxKind → Bool) → List Cursor → List Cursor
 before_rest pats [] = []
 before_rest pats (c ∷ l) = if is_rest pats c then [] else c ∷ before_rest pats l

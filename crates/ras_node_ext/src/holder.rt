@@ -1,4 +1,4 @@
-//! Where the inner attributes of a node stand.
+//! Where the inner attributes of a node are.
 ghost use Rattle.std.specs.Prelude.{◌≡◌};
 ghost use Rattle.ras_node_ext.specs.Attrs.{node_child, may_carry_attributes, inner_holder};
 ghost use Rattle.ras_node.specs.Nodes.{is_of_kind};
@@ -26,7 +26,7 @@ fn node_child(parent: &SyntaxNode, kind: SyntaxKind) -> Option<SyntaxNode>
     None
 }
 
-/// Whether a block's parent is a block expression or an expression statement, so that attributes may stand in it.
+/// Whether a block's parent is a block expression or an expression statement, so that attributes may be in it.
 pub fn may_carry_attributes(block: &SyntaxNode) -> bool
     ensures { result ≡ may_carry_attributes block.now }
 {
@@ -39,7 +39,7 @@ pub fn may_carry_attributes(block: &SyntaxNode) -> bool
     }
 }
 
-/// The node in which the inner attributes of another stand: a file itself; a block itself, where it may have them; of a
+/// The node in which the inner attributes of another are: a file itself; a block itself, where it may have them; of a
 /// function the statements of its body; of an extern block, a `match`, an implementation, a trait and a module the list in
 /// it. `None` for other nodes, and where that part is missing.
 pub fn inner_attributes_node(owner: &SyntaxNode) -> Option<SyntaxNode>

@@ -1,4 +1,4 @@
-//! What an attribute says, where `cfg_attr` and `unsafe` stand around it.
+//! What an attribute says, where `cfg_attr` and `unsafe` are around it.
 ghost use Rattle.std.specs.Prelude.{◌≡◌, ◌++◌, ◌∷◌, [], OnOk, map, option_map, is_some, string_bytes, IfOk};
 ghost use Rattle.std.specs.Option.{option_and_then};
 ghost use Rattle.std.specs.List.{find, filter};
@@ -35,7 +35,7 @@ fn add_view<M: AstNode + Drop>(views: &mut Vec<M>, node: SyntaxNode) -> Result<(
 pub fn skip_cfg_attrs<M: AstNode + Drop>(alloc: Global, meta: M) -> Result<Vec<M>, AllocError>
     ensures { IfOk result (λ metas. map M.node metas.items ≡ opened M.casts (M.node meta)) }
 {
-    // The walk comes to a node only where all above it, up to the meta, are `cfg_attr`s: what stands below another node is
+    // The walk comes to a node only where all above it, up to the meta, are `cfg_attr`s: what is below another node is
     // passed over, up to where that is left.
     let mut metas = Vec::new(alloc);
     let mut events = meta.syntax().preorder();

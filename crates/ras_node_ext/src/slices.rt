@@ -15,7 +15,7 @@ pub struct SliceComponents<P: AstNode> {
     pub prefix: Vec<P>,
     /// The rest pattern.
     pub slice: Option<P>,
-    /// Those behind it.
+    /// Those after it.
     pub suffix: Vec<P>,
 }
 
@@ -41,7 +41,7 @@ fn is_bound_dots<P: AstNode + Drop>(pat: &SyntaxNode) -> bool
     }
 }
 
-// The same, also behind `&`.
+// The same, also after `&`.
 fn is_rest<P: AstNode + Drop>(pat: &SyntaxNode) -> bool
     ensures { result ≡ is_rest P.casts pat.now }
 {
@@ -87,7 +87,7 @@ fn take_all<P: AstNode + Drop>(alloc: Global, left: AstChildren<P>) -> Result<Ve
     Ok(taken)
 }
 
-/// The patterns among the children of a slice pattern: those before the first rest pattern, that one, and those behind it.
+/// The patterns among the children of a slice pattern: those before the first rest pattern, that one, and those after it.
 ///
 /// It takes memory for its two lists.
 pub fn slice_components<P: AstNode + Drop>(

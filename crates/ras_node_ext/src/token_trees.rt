@@ -109,7 +109,7 @@ impl<T: AstNode> Iterator for TokenTreesAndTokens<T> {
     }
 }
 
-/// What stands in a token tree: its children without the first, whatever that is, that are token trees or tokens, in order,
+/// What is in a token tree: its children without the first, whatever that is, that are token trees or tokens, in order,
 /// without white space, comments and closing delimiters. A clause sees those that are left.
 #[derive(Drop)]
 pub struct TokenTreeChildren<T: AstNode> {
@@ -135,7 +135,7 @@ impl<T: AstNode> Model for TokenTreeChildren<T> {
 }
 
 impl<T: AstNode> TokenTreeChildren<T> {
-    /// What stands in a token tree.
+    /// What is in a token tree.
     pub fn new(tree: &T) -> TokenTreeChildren<T>
         ensures { result ≡ inner_parts T.casts (map element_of (children_of (T.node tree.now))) }
     {

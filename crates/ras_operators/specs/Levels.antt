@@ -35,42 +35,42 @@ as_precedence level.Postfix = term.Postfix
 as_precedence level.Unambiguous = term.Unambiguous
 
 -- that of a binary operator, by its token
-abbrev pub ras_operators : SyntaxKind → ExprPrecedence
-ras_operators (Token token.PIPE2) = level.LOr
-ras_operators (Token token.AMP2) = level.LAnd
-ras_operators (Token token.EQ2) = level.Compare
-ras_operators (Token token.NEQ) = level.Compare
-ras_operators (Token token.L_ANGLE) = level.Compare
-ras_operators (Token token.R_ANGLE) = level.Compare
-ras_operators (Token token.LTEQ) = level.Compare
-ras_operators (Token token.GTEQ) = level.Compare
-ras_operators (Token token.PIPE) = level.BitOr
-ras_operators (Token token.CARET) = level.BitXor
-ras_operators (Token token.AMP) = level.BitAnd
-ras_operators (Token token.SHL) = level.Shift
-ras_operators (Token token.SHR) = level.Shift
-ras_operators (Token token.PLUS) = level.Sum
-ras_operators (Token token.MINUS) = level.Sum
-ras_operators (Token token.STAR) = level.Product
-ras_operators (Token token.SLASH) = level.Product
-ras_operators (Token token.PERCENT) = level.Product
-ras_operators (Token token.EQ) = level.Assign
-ras_operators (Token token.PLUSEQ) = level.Assign
-ras_operators (Token token.MINUSEQ) = level.Assign
-ras_operators (Token token.STAREQ) = level.Assign
-ras_operators (Token token.SLASHEQ) = level.Assign
-ras_operators (Token token.PERCENTEQ) = level.Assign
-ras_operators (Token token.SHLEQ) = level.Assign
-ras_operators (Token token.SHREQ) = level.Assign
-ras_operators (Token token.CARETEQ) = level.Assign
-ras_operators (Token token.PIPEEQ) = level.Assign
-ras_operators (Token token.AMPEQ) = level.Assign
-ras_operators _ = level.Unambiguous
+abbrev pub operator_precedence : SyntaxKind → ExprPrecedence
+operator_precedence (Token token.PIPE2) = level.LOr
+operator_precedence (Token token.AMP2) = level.LAnd
+operator_precedence (Token token.EQ2) = level.Compare
+operator_precedence (Token token.NEQ) = level.Compare
+operator_precedence (Token token.L_ANGLE) = level.Compare
+operator_precedence (Token token.R_ANGLE) = level.Compare
+operator_precedence (Token token.LTEQ) = level.Compare
+operator_precedence (Token token.GTEQ) = level.Compare
+operator_precedence (Token token.PIPE) = level.BitOr
+operator_precedence (Token token.CARET) = level.BitXor
+operator_precedence (Token token.AMP) = level.BitAnd
+operator_precedence (Token token.SHL) = level.Shift
+operator_precedence (Token token.SHR) = level.Shift
+operator_precedence (Token token.PLUS) = level.Sum
+operator_precedence (Token token.MINUS) = level.Sum
+operator_precedence (Token token.STAR) = level.Product
+operator_precedence (Token token.SLASH) = level.Product
+operator_precedence (Token token.PERCENT) = level.Product
+operator_precedence (Token token.EQ) = level.Assign
+operator_precedence (Token token.PLUSEQ) = level.Assign
+operator_precedence (Token token.MINUSEQ) = level.Assign
+operator_precedence (Token token.STAREQ) = level.Assign
+operator_precedence (Token token.SLASHEQ) = level.Assign
+operator_precedence (Token token.PERCENTEQ) = level.Assign
+operator_precedence (Token token.SHLEQ) = level.Assign
+operator_precedence (Token token.SHREQ) = level.Assign
+operator_precedence (Token token.CARETEQ) = level.Assign
+operator_precedence (Token token.PIPEEQ) = level.Assign
+operator_precedence (Token token.AMPEQ) = level.Assign
+operator_precedence _ = level.Unambiguous
 
 -- that of a binary expression, by its operator; one without operator is unambiguous
 abbrev pub binary_precedence : Option Cursor → ExprPrecedence
 binary_precedence None = level.Unambiguous
-binary_precedence (Some operator) = ras_operators (kind_at operator)
+binary_precedence (Some operator) = operator_precedence (kind_at operator)
 
 -- that of a closure, by its return type: with one its body is a block
 abbrev pub closure_precedence : Option Cursor → ExprPrecedence
@@ -119,7 +119,7 @@ is_valueless_at _ c = false
 abbrev pub is_valueless : Cursor → Bool
 is_valueless c = is_valueless_at (kind_at c) c
 
--- a type with bounds, in which a `+` may stand
+-- a type with bounds, in which a `+` may be
 abbrev pub is_dyn_or_impl : SyntaxKind → Bool
 is_dyn_or_impl (Node kind.DYN_TRAIT_TYPE) = true
 is_dyn_or_impl (Node kind.IMPL_TRAIT_TYPE) = true

@@ -88,7 +88,7 @@ cmp_text (cmp.Ord ordering.Less true) = codes "<"
 cmp_text (cmp.Ord ordering.Greater false) = codes ">="
 cmp_text (cmp.Ord ordering.Greater true) = codes ">"
 
--- an assignment is written `=`, behind its operator where it has one
+-- an assignment is written `=`, after its operator where it has one
 abbrev pub binary_text : BinaryOp → List ℕ
 binary_text (op.LogicOp o) = logic_text o
 binary_text (op.ArithOp o) = arith_text o

@@ -2,7 +2,7 @@
 ghost use Rattle.std.specs.Prelude.{◌≡◌, is_some, ◌&&◌};
 ghost use Rattle.ras_node.specs.Nodes.{typed_child};
 ghost use Rattle.ras_node.specs.Sets.{is_expr};
-ghost use Rattle.ras_operators.specs.Levels.{ras_operators, binary_precedence, closure_precedence, precedence_at, precedence_of, is_ret_type, is_valueless, is_dyn_or_impl, is_pointing};
+ghost use Rattle.ras_operators.specs.Levels.{operator_precedence, binary_precedence, closure_precedence, precedence_at, precedence_of, is_ret_type, is_valueless, is_dyn_or_impl, is_pointing};
 ghost use Rattle.ras_node.specs.Searches.{first_token};
 ghost use Rattle.ras_node.specs.PartSets.{is_binary_operator};
 ghost use Rattle.tree_model.specs.Cursor.{children_of};
@@ -23,8 +23,8 @@ impl KindSet for RetTypes {
     }
 }
 
-fn ras_operators(kind: SyntaxKind) -> ExprPrecedence
-    ensures { result ≡ ras_operators kind }
+fn operator_precedence(kind: SyntaxKind) -> ExprPrecedence
+    ensures { result ≡ operator_precedence kind }
 {
     match kind {
         SyntaxKind::PIPE2 => ExprPrecedence::LOr,
@@ -60,7 +60,7 @@ fn binary_precedence(node: &SyntaxNode) -> ExprPrecedence
     ensures { result ≡ binary_precedence (first_token is_binary_operator (children_of node.now)) }
 {
     match ras_node::first_token::<BinaryOperators>(node.children_with_tokens()) {
-        Some(token) => ras_operators(token.kind()),
+        Some(token) => operator_precedence(token.kind()),
         None => ExprPrecedence::Unambiguous,
     }
 }
@@ -143,7 +143,7 @@ fn is_pointing(kind: SyntaxKind) -> bool
     )
 }
 
-/// Whether a type needs parentheses below a parent: a `dyn` or `impl` type in a cast, behind `&` or in a pointer type, where a `+`
+/// Whether a type needs parentheses below a parent: a `dyn` or `impl` type in a cast, after `&` or in a pointer type, where a `+`
 /// would not be its own.
 pub fn type_needs_parens_in(own: &SyntaxNode, parent: &SyntaxNode) -> bool
     ensures { result ≡ (is_dyn_or_impl (kind_at own.now) && is_pointing (kind_at parent.now)) }

@@ -41,7 +41,7 @@ use Rattle.ras_prec.proofs.CastEdge.{cast_names_agree}
 use Rattle.ras_prec.proofs.KindFacts.{valueless, bare, jumps, expr_of_form, no_expr, no_statement}
 use Rattle.ras_prec.proofs.Nothing.{no_block_at_end, none_sought}
 
--- ---- where the place stands
+-- ---- where the place is
 
 above : (parent place : Cursor) → parent_of place ≡ Some parent → is_at_or_above parent place ≡ true
 above parent place at =

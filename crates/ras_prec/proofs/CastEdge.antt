@@ -203,7 +203,7 @@ later a u r m n ns ms same before kid =
           ap (λ b. cond b (Some a) (first_type (suc a) r)) p.0 ∙ kid.typed is p.1 ∙ ap Some next);
     }
 
--- no tree that means something behind it
+-- no tree that means something after it
 here : (a : ℕ) (u : Tree) (r : Forest) → meanings r ≡ [] → (is_token u ≡ true → last_in u ≡ Some []) → LastKid a (cons u r) (meaning u) []
 here a u r none solid =
     let zeroth : a ≡ a + 0 = omega arith in

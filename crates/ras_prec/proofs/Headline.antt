@@ -122,7 +122,7 @@ tied_so c (Some b) h = λ t shows stands.
 
 -- ---- what `needless_parens` answers
 
--- a pair stands there, and what it holds fits
+-- a pair is there, and what it holds fits
 abbrev PairFits : Bool → Option Part → Type 0
 PairFits angle o = (d : Demand) × (e : Term) × (o ≡ some_part d (Paren e)) × FitsPlace d angle e
 

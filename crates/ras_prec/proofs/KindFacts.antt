@@ -14,7 +14,7 @@ use Rattle.ras_node.specs.Sets.{is_expr}
 use Rattle.operator_trees.specs.Forms.{form_of}
 use Rattle.operator_trees.proofs.Inversion.{no}
 use Rattle.operator_powers.specs.Rules.{is_foreign, is_term_form, is_arguments}
-use Rattle.ras_operators.specs.Levels.{precedence_at, ras_operators, binary_precedence, is_valueless_at}
+use Rattle.ras_operators.specs.Levels.{precedence_at, operator_precedence, binary_precedence, is_valueless_at}
 use Rattle.ras_prec_walks.specs.Along.{is_block}
 use Rattle.ras_prec.specs.Rules.{is_bare_jump, is_jump, is_statement}
 
@@ -44,7 +44,7 @@ bare (Node kind.BREAK_EXPR) c h = absurd (no (sym h))
 bare (Node kind.YIELD_EXPR) c h = absurd (no (sym h))
 bare _ c h = refl
 
-operator_jump : (k : SyntaxKind) → is_jump (ras_operators k) ≡ false
+operator_jump : (k : SyntaxKind) → is_jump (operator_precedence k) ≡ false
 operator_jump (Token token.PIPE2) = refl
 operator_jump _ = refl
 

@@ -1,4 +1,4 @@
--- The last token of a node that is no trivia, and where it stands.
+-- The last token of a node that is no trivia, and where it is.
 use Rattle.std.proofs.Common.{◌≡◌, ℕ, zero, suc, ◌+◌, List, [], ◌∷◌, ◌++◌, map, reverse, Bool, true, false, not, ◌&&◌, cond, Option, Some, None, option_map, refl, sym, ap, subst, ◌∙◌, arith, append_assoc, append-nil}
 use Rattle.std.specs.List.{filter, find}
 use Rattle.std.specs.Option.{option_and_then, option_or}
@@ -20,7 +20,7 @@ abbrev pub is_solid : Tree → Bool
 is_solid (node k c) = false
 is_solid (token k t) = not (is_trivia k)
 
--- where the last one of a forest stands, whose first tree is child number i
+-- where the last one of a forest is, whose first tree is child number i
 abbrev pub last_place : ℕ → Forest → Option Place
 last_place i nil = None
 last_place i (cons (token k t) r) = option_or (last_place (suc i) r) (cond (is_trivia k) None (Some (i ∷ [])))

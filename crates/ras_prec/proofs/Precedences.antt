@@ -29,7 +29,7 @@ use Rattle.operator_powers.specs.Rules.{form_at, is_term_form}
 use Rattle.operator_powers.proofs.Cursors.{form_told, subtree-child}
 use Rattle.ras_operators.specs.declared.level.ExprPrecedence.{ExprPrecedence}
 use Rattle.ras_operators.specs.declared.level.ExprPrecedence.TheVariants as level
-use Rattle.ras_operators.specs.Levels.{as_precedence, ras_operators, binary_precedence, precedence_at, precedence_of}
+use Rattle.ras_operators.specs.Levels.{as_precedence, operator_precedence, binary_precedence, precedence_at, precedence_of}
 
 -- ---- the kind of the first token child of some kinds, among trees and among cursors
 
@@ -79,7 +79,7 @@ no_operator (OfToken tok.COMMENT) h = refl
 no_operator k h = absurd (no h)
 
 abbrev OperatorKnown : Operator → Type 0
-OperatorKnown op = (is_binary_operator (OfToken (operator_kind op)) ≡ true) × (as_precedence (ras_operators (OfToken (operator_kind op))) ≡ of_term.ras_operators op)
+OperatorKnown op = (is_binary_operator (OfToken (operator_kind op)) ≡ true) × (as_precedence (operator_precedence (OfToken (operator_kind op))) ≡ of_term.operator_precedence op)
 
 known : (op : Operator) → OperatorKnown op
 known Or = (refl, refl)
@@ -153,7 +153,7 @@ operator_first (cons (node k c) r) l op ms h = sign_first r op ms (head_is (mean
 
 abbrev by_kind : Option SyntaxKind → ExprPrecedence
 by_kind None = level.Unambiguous
-by_kind (Some k) = ras_operators k
+by_kind (Some k) = operator_precedence k
 
 binary_by_kind : (o : Option Cursor) → binary_precedence o ≡ by_kind (option_map kind_at o)
 binary_by_kind None = refl

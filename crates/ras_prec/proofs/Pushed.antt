@@ -1,4 +1,4 @@
--- A view that is put behind others, of the node that came first.
+-- A view that is put after others, of the node that came first.
 use Rattle.std.proofs.Common.{◌≡◌, Bool, true, false, List, [], ◌∷◌, ◌++◌, Some, None, map, cond, refl, sym, ap, ◌∙◌}
 use Rattle.std.specs.Prelude.{if◌then◌else◌}
 use Rattle.std.specs.List.{filter}

@@ -16,11 +16,11 @@ use Rattle.ras_prec.specs.Rules.{asks}
 abbrev pub IsOneReadingOf : List Token → Term → Type 0
 IsOneReadingOf ts t = Reads 0 ts t × ((u : Term) → Reads 0 ts u → u ≡ t)
 
--- What stands at the place has a parent; and asked with it, `own` needs no parentheses in place of what stands there.
+-- The node or token at the place has a parent; and asked with it, `own` needs no parentheses in place of what is there.
 abbrev pub NeedsNone : (own place : Cursor) → Type 0
 NeedsNone own place = (parent : Cursor) × (parent_of place ≡ Some parent) × (asks own parent place ≡ false)
 
--- no operand below the root needs parentheses where it stands; the parent of an argument is the list of arguments
+-- no operand below the root needs parentheses where it is; the parent of an argument is the list of arguments
 abbrev pub NoOperandNeedsAny : Cursor → Term → Type 0
 NoOperandNeedsAny r t =
     (i : ℕ) (q : List ℕ) (held : Part) → operand t (i ∷ q) ≡ Some held → NeedsNone (operand_cursor r t (i ∷ q)) (operand_cursor r t (i ∷ q))
@@ -35,12 +35,12 @@ ReadsWithout t q = Reads 0 (tokens (without q t)) (without q t)
 
 -- ---- what `needless_parens` answers
 
--- a pair stands at the place
+-- a pair is at the place
 abbrev pub HasPair : Term → List ℕ → Type 0
 HasPair t q = (d : Demand) × (e : Term) × (operand t q ≡ some_part d (Paren e))
 
--- The pairs stand at the places, of all below the root in the order of the text, of which `picks` is true. It is true of those
--- where a pair stands whose inside needs no parentheses in its place; and these are those where a pair stands without which the
+-- The pairs are at the places, of all below the root in the order of the text, of which `picks` is true. It is true of those
+-- where a pair is whose inside needs no parentheses in its place; and these are those where a pair is without which the
 -- tokens read as the term without it.
 abbrev pub AreNeedless : Cursor → List Cursor → Term → Type 0
 AreNeedless r pairs t =

@@ -1,4 +1,4 @@
--- The operator of an expression and its powers, also of what stands in no operator tree.
+-- The operator of an expression and its powers, also of what is in no operator tree.
 -- (Upstream: `binding_power` and `is_ordered_before_parent_in_place_of` in `ast::prec` of rust-analyzer's `syntax`.)
 use Rattle.std.specs.Prelude.{ℕ, ◌-◌, Bool, true, false, length, Option, Some, None, if◌then◌else◌}
 use Rattle.std.specs.Option.{option_and_then}
@@ -69,6 +69,6 @@ powers_of c = if is_foreign (form_at c) then other_powers (kind_at c) else form_
 abbrev pub order_of : Cursor → ℕ
 order_of c = if is_foreign (form_at c) then start_of (other_operator (keyword (kind_at c)) c) c else operator_start (form_at c) (forest_of_children (focus c)) (range_start c)
 
--- its operator would stand before the parent's, in place of what stands at the place
+-- its operator would precede the parent's, in place of the node or token at the place
 abbrev pub stands_before_in : (own parent place : Cursor) → Bool
 stands_before_in own parent place = stands_before (order_of own - range_start own) (length (text (focus own))) (range_start place) (range_end place) (order_of parent)

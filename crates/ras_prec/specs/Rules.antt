@@ -1,4 +1,4 @@
--- The rules by which an expression needs parentheses, of cursors: `own` is asked in place of what stands at `place`, below `parent`.
+-- The rules by which an expression needs parentheses, of cursors: `own` is asked in place of the node or token at `place`, below `parent`.
 -- (Upstream: `needs_parens_in_place_of` in `ast::prec` of rust-analyzer's `syntax`; docs/DIFFERENCES.md tells three answers of
 -- these that are others.)
 use Rattle.std.specs.Prelude.{Bool, true, false, not, ◌&&◌, ◌||◌, Option, Some, None, is_some, if◌then◌else◌}
@@ -52,11 +52,11 @@ is_logic (Token token.AMP2) = true
 is_logic (Token token.PIPE2) = true
 is_logic _ = false
 
--- the kind of the first token behind a node that is no trivia, if the node holds a token
+-- the kind of the first token after a node that is no trivia, if the node holds a token
 abbrev pub kind_from : Cursor → Option SyntaxKind
 kind_from c = if is_some (find at_token (descendants_of c)) then kind_behind c else None
 
--- the same behind the parent's child at the place
+-- the same after the parent's child at the place
 abbrev pub kind_next : Cursor → Cursor → Option SyntaxKind
 kind_next parent place = option_and_then kind_from (child_toward parent place)
 
@@ -102,7 +102,7 @@ is_logic_token (Some t) = is_logic (kind_at t)
 abbrev pub is_logic_expr : Cursor → Bool
 is_logic_expr c = is_of_kind (Node kind.BIN_EXPR) c && is_logic_token (first_token is_binary_operator (children_of c))
 
--- In a statement, or as one: what begins with a block would end behind it; and no `else` follows `&&`, `||` or a brace.
+-- In a statement, or as one: what begins with a block would end after it; and no `else` follows `&&`, `||` or a brace.
 abbrev pub asks_in_statement : (own parent : Cursor) → Bool
 asks_in_statement own parent = begins_with_block own || (is_let_else parent && (is_logic_expr own || ends_in_brace own))
 

@@ -1,4 +1,4 @@
-//! Whether an expression needs parentheses, wherever it stands.
+//! Whether an expression needs parentheses, wherever it is.
 #![tactic(auto)]
 
 pub mod laws;

@@ -1,4 +1,4 @@
-//! The operator of an expression and its powers, also of what stands in no operator tree.
+//! The operator of an expression and its powers, also of what is in no operator tree.
 ghost use Rattle.std.specs.Prelude.{◌≡◌};
 ghost use Rattle.std.specs.Option.{option_and_then};
 ghost use Rattle.ras_node.specs.Nodes.{kind_at, typed_child};
@@ -117,7 +117,7 @@ pub fn order_of(node: &SyntaxNode) -> usize
     operator_start(form, &node.trees())
 }
 
-/// Whether the operator of an expression would stand before that of the parent, in place of what stands at `place`.
+/// Whether the operator of an expression would precede that of the parent, in place of the node or token at `place`.
 pub fn stands_before_in(own: &SyntaxNode, parent: &SyntaxNode, place: &SyntaxNode) -> bool
     ensures { result ≡ stands_before_in own.now parent.now place.now }
 {

@@ -28,15 +28,15 @@ use operator_pairs::behind::kind_behind;
 use operator_powers::edge::is_angle;
 use operator_powers::node::{is_call_form, is_field_form};
 use operator_powers::powers::{Strength, by_power};
+use operator_trees::form_of;
+use ras_node::sets::{BinaryOperators, Exprs, KindSet, Stmts};
 use ras_operators::ExprPrecedence;
 use ras_operators::node::{is_ret_like_with_no_value, precedence_of};
-use operator_trees::form_of;
 use ras_prec_walks::above::{child_toward, is_at_or_above, is_followed_by_block};
 use ras_prec_walks::along::{begins_with_block, ends_in_brace};
 use ras_prec_walks::cast_name::ends_in_cast_name;
 use ras_prec_walks::inside::{has_exterior_record, has_let};
 use ras_prec_walks::parts::{is_and, range_ends_in_block};
-use ras_node::sets::{BinaryOperators, Exprs, KindSet, Stmts};
 
 // The function of a call is a field: without parentheses it would be a method call.
 fn is_called_field(own: &SyntaxNode, parent: &SyntaxNode) -> bool
@@ -75,7 +75,7 @@ fn is_logic(kind: SyntaxKind) -> bool
     matches!(kind, SyntaxKind::AMP2 | SyntaxKind::PIPE2)
 }
 
-// The kind of the first token behind the node that is no trivia, if the node holds a token.
+// The kind of the first token after the node that is no trivia, if the node holds a token.
 fn kind_from(node: SyntaxNode) -> Option<SyntaxKind>
     ensures { result ≡ kind_from node }
 {
@@ -86,7 +86,7 @@ fn kind_from(node: SyntaxNode) -> Option<SyntaxKind>
     }
 }
 
-// The same behind the parent's child at the place.
+// The same after the parent's child at the place.
 fn kind_next(parent: &SyntaxNode, place: &SyntaxNode) -> Option<SyntaxKind>
     ensures { result ≡ kind_next parent.now place.now }
 {
@@ -127,7 +127,7 @@ fn binds_less(own: &SyntaxNode, parent: &SyntaxNode, place: &SyntaxNode) -> bool
     )
 }
 
-// A block follows the parent, and would be taken by what it stands behind.
+// A block follows the parent, and would be taken by what it follows.
 fn is_before_block(own: &SyntaxNode, parent: &SyntaxNode) -> bool
     ensures { result ≡ (is_followed_by_block parent.now && is_cut_by_block own.now) }
 {
@@ -215,7 +215,7 @@ fn is_logic_expr(own: &SyntaxNode) -> bool
         && is_logic_token(ras_node::first_token::<BinaryOperators>(own.children_with_tokens()))
 }
 
-// A statement would end behind the block that it begins with; and `else` follows neither `&&`, `||` nor a brace.
+// A statement would end after the block that it begins with; and `else` follows neither `&&`, `||` nor a brace.
 fn asks_in_statement(own: &SyntaxNode, parent: &SyntaxNode) -> bool
     ensures { result ≡ asks_in_statement own.now parent.now }
 {
@@ -242,11 +242,11 @@ fn asks(own: &SyntaxNode, parent: &SyntaxNode, place: &SyntaxNode) -> bool
     is_statement(kind) && asks_in_statement(own, parent)
 }
 
-/// Whether an expression needs parentheses in place of what stands at `place`, where `parent` is the parent of that, or stands
+/// Whether an expression needs parentheses in place of the node or token at `place`, where `parent` is the parent of that, or is
 /// further up, or is the place itself; false where it is neither.
 ///
 /// At an operand below the root of an operator tree, asked with the operand's own parent node (for an argument that is the list
-/// of arguments), it answers false exactly where the expression fits there, before the tokens that stand behind the operand in the
+/// of arguments), it answers false exactly where the expression fits there, before the tokens that follow the operand in the
 /// whole tree. Of a pair's inside in place of the pair, where the tree reads back and neither `<` nor `<<` follows it, this is:
 /// exactly where the tokens without the pair read as the term without it; and then no other term reads them.
 pub fn needs_parens_in_place_of(own: &SyntaxNode, parent: &SyntaxNode, place: &SyntaxNode) -> bool
@@ -266,7 +266,7 @@ pub fn needs_parens_in_place_of(own: &SyntaxNode, parent: &SyntaxNode, place: &S
 /// [`needs_parens_in_place_of`] with `place = own`.
 ///
 /// At an operand below the root of an operator tree, asked with the operand's own parent node, it answers false exactly where the
-/// operand fits, before the tokens that stand behind it in the whole tree. Where neither `<` nor `<<` follows the operator tree,
+/// operand fits, before the tokens that follow it in the whole tree. Where neither `<` nor `<<` follows the operator tree,
 /// this is `Fits`, of the term alone.
 pub fn needs_parens_in(own: &SyntaxNode, parent: &SyntaxNode) -> bool
     ensures asks { result ≡ asks own.now parent.now own.now }

@@ -1,4 +1,4 @@
--- A walk that passes over what stands below each node that is no step comes to those nodes from which one goes up to the top.
+-- A walk that passes over what is below each node that is no step comes to those nodes from which one goes up to the top.
 use Rattle.std.proofs.Common.{◌≡◌, ℕ, suc, ◌+◌, ◌≤◌, ◌<◌, ◌++◌, Bool, true, false, ◌&&◌, ◌||◌, cond, List, [], ◌∷◌, map, length, Option, Some, None, Decides, refl, sym, ap, subst, ◌∙◌, arith, append_assoc, length-append}
 use Rattle.std.proofs.lemmas.List.{append-nil, map-append}
 use Rattle.std.specs.Prelude.{if◌then◌else◌, option_map, is_some, not}
@@ -21,7 +21,7 @@ use Rattle.ras_prec_walks.proofs.Operands.{child, Children, first_child, more_ch
 abbrev pub is_come_to : Sought → Cursor → Cursor → Bool
 is_come_to s top c = is_same_cursor c top || is_step s c (parent_of c)
 
--- what the walk finds from here on, and the node below which it passes over what stands there, if it does
+-- what the walk finds from here on, and the node below which it passes over what is there, if it does
 abbrev pub finds : Sought → Cursor → Option Cursor → List (WalkEvent Cursor) → Bool
 finds s top past [] = false
 finds s top None (Enter c ∷ w) = if is_come_to s top c then is_sought s c || finds s top None w else finds s top (Some c) w
@@ -29,7 +29,7 @@ finds s top None (Leave c ∷ w) = finds s top None w
 finds s top (Some p) (Enter c ∷ w) = finds s top (Some p) w
 finds s top (Some p) (Leave c ∷ w) = if is_same_cursor c p then finds s top None w else finds s top (Some p) w
 
--- it comes to a node, or passes over what stands below
+-- it comes to a node, or passes over what is below
 pub comes : (s : Sought) (top : Cursor) (past : Option Cursor) (c : Cursor) (w all : List (WalkEvent Cursor)) → is_some past ≡ false → is_come_to s top c ≡ true → all ≡ Enter c ∷ w → finds s top past all ≡ is_sought s c || finds s top past w
 comes s top None c w all n e a = ap (finds s top None) a ∙ ap (λ b. if b then is_sought s c || finds s top None w else finds s top (Some c) w) e
 comes s top (Some p) c w all n e a = absurd (let bad : true ≡ false = n in cc)
@@ -60,7 +60,7 @@ is_not false d f = refl
 itself : (c : Cursor) → is_same_cursor c c ≡ true
 itself c = (cursor_Decides c c).1 refl
 
--- one that stands deeper is another
+-- one that is deeper is another
 deeper : (c p : Cursor) → length p.place < length c.place → is_same_cursor c p ≡ false
 deeper c p h = is_not (is_same_cursor c p) (cursor_Decides c p) (λ e. (let same : length c.place ≡ length p.place = ap (λ x. length x.place) e in omega arith))
 

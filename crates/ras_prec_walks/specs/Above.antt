@@ -1,4 +1,4 @@
--- What stands around an expression: a condition or scrutinee that a block follows, an ancestor.
+-- What is around an expression: a condition or scrutinee that a block follows, an ancestor.
 -- (Upstream: `child_is_followed_by_a_block` in `ast::prec` of rust-analyzer's `syntax`.)
 use Rattle.std.specs.Prelude.{Bool, true, false, ◌&&◌, ◌||◌, List, [], ◌∷◌, Option, Some, None, if◌then◌else◌}
 use Rattle.syntax_kind.specs.declared.syntax_kind.SyntaxKind.{SyntaxKind}
@@ -8,7 +8,7 @@ use Rattle.tree_model.specs.Cursor.{Cursor, ancestors_of, parent_of}
 use Rattle.tree_model.specs.Equality.{is_same_cursor}
 use Rattle.ras_node.specs.Nodes.{kind_at}
 
--- behind a child of it, a block follows
+-- after a child of it, a block follows
 abbrev pub comes_before_block : SyntaxKind → Bool
 comes_before_block (Node kind.FOR_EXPR) = true
 comes_before_block (Node kind.IF_EXPR) = true
@@ -57,6 +57,6 @@ abbrev pub first_child_of_it : Cursor → List Cursor → Option Cursor
 first_child_of_it c [] = None
 first_child_of_it c (d ∷ ds) = if is_child_of c (parent_of d) then Some d else first_child_of_it c ds
 
--- the child of c at which, or below which, d stands
+-- the child of c at which, or below which, d is
 abbrev pub child_toward : Cursor → Cursor → Option Cursor
 child_toward c d = first_child_of_it c (ancestors_of d)

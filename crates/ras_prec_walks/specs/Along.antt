@@ -60,7 +60,7 @@ last_operand (Node kind.BIN_EXPR) = Second
 last_operand (Node kind.RANGE_EXPR) = BehindDots
 last_operand _ = First
 
--- of a node's children, the expression that is meant: the first, the second, or the first behind `..` or `..=`
+-- of a node's children, the expression that is meant: the first, the second, or the first after `..` or `..=`
 abbrev pub meant_child : Meant → Cursor → Option Cursor
 meant_child First c = typed_child is_expr c
 meant_child Second c = second_typed_child is_expr c

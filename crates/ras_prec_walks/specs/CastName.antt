@@ -1,4 +1,4 @@
--- An expression that ends in the name of a cast's type: `<` and `<<` behind it would go on with that type.
+-- An expression that ends in the name of a cast's type: `<` and `<<` after it would go on with that type.
 use Rattle.std.specs.Prelude.{Bool, false, ◌&&◌, ◌||◌, List, [], ◌∷◌, reverse, Option, Some, None, if◌then◌else◌}
 use Rattle.std.specs.List.{find}
 use Rattle.std.specs.Option.{option_and_then}

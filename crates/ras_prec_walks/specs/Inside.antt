@@ -1,4 +1,4 @@
--- What stands in an expression outside delimiters: a record, and a `let` in a condition.
+-- What is in an expression outside delimiters: a record, and a `let` in a condition.
 -- (Upstream: `contains_exterior_struct_lit` and `contains_let_expr` in `ast::prec` of rust-analyzer's `syntax`.)
 use Rattle.std.specs.Prelude.{Bool, false, not, ◌&&◌, ◌||◌, List, [], ◌∷◌, Option, Some, None, is_some}
 use Rattle.std.specs.List.{filter}

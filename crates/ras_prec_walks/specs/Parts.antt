@@ -28,7 +28,7 @@ is_and c = is_of_kind (Node kind.BIN_EXPR) c && is_and_token (first_token is_bin
 abbrev pub is_block_at : Cursor → Bool
 is_block_at c = is_block (kind_at c)
 
--- a range whose end, the first expression behind its operator, is a block
+-- a range whose end, the first expression after its operator, is a block
 abbrev pub range_ends_in_block : Cursor → Bool
 range_ends_in_block c = is_of_kind (Node kind.RANGE_EXPR) c && passes is_block_at (meant_child BehindDots c)
 

@@ -1,4 +1,4 @@
--- The one loop of the walks along operands, by its steps: at each child what is meant behind it, or inside it, or the answer.
+-- The one loop of the walks along operands, by its steps: at each child what is meant after it, or inside it, or the answer.
 -- (Own: what it answers is said in `Along`.)
 use Rattle.std.specs.Prelude.{Bool, true, false, ◌&&◌, ◌||◌, if◌then◌else◌}
 use Rattle.syntax_kind.specs.declared.syntax_kind.SyntaxKind.{SyntaxKind}
@@ -29,7 +29,7 @@ abbrev pub operand : Toward → SyntaxKind → Meant
 operand End k = last_operand k
 operand _ k = First
 
--- which expression is meant behind a token
+-- which expression is meant after a token
 abbrev pub past_token : Meant → SyntaxKind → Meant
 past_token First k = First
 past_token Second k = Second

@@ -1,4 +1,4 @@
-//! What stands around an expression: a condition or scrutinee that a block follows, an ancestor.
+//! What is around an expression: a condition or scrutinee that a block follows, an ancestor.
 ghost use Rattle.std.specs.Prelude.{◌≡◌};
 ghost use Rattle.std.specs.List.{find};
 ghost use Rattle.tree_model.specs.Cursor.{ancestors_of, parent_of};
@@ -6,7 +6,7 @@ ghost use Rattle.ras_prec_walks.specs.Above.{comes_before_block, hands_on, befor
 
 use lossless_tree::{SyntaxKind, SyntaxNode};
 
-// Behind a child of it, a block follows.
+// After a child of it, a block follows.
 fn comes_before_block(kind: SyntaxKind) -> bool
     ensures { result ≡ comes_before_block kind }
 {
@@ -43,7 +43,7 @@ fn hands_on(kind: SyntaxKind) -> bool
 /// Whether a block follows the children of an expression: it is a `for`, an `if`, a `match`, a `while` or an `include_bytes`, or
 /// a binary operator, a range, a prefix, `&`, `let` or a jump below such a one, or below one of these in its turn.
 ///
-/// It takes time linear in how many of these stand around.
+/// It takes time linear in how many of these are around.
 pub fn is_followed_by_block(node: &SyntaxNode) -> bool
     ensures { result ≡ is_followed_by_block node.now }
 {
@@ -60,7 +60,7 @@ pub fn is_followed_by_block(node: &SyntaxNode) -> bool
     false
 }
 
-/// Whether a node is another one, or stands above it.
+/// Whether a node is another one, or is above it.
 pub fn is_at_or_above(node: &SyntaxNode, other: &SyntaxNode) -> bool
     ensures { result ≡ is_at_or_above node.now other.now }
 {
@@ -82,7 +82,7 @@ fn is_child_of(parent: &SyntaxNode, node: &SyntaxNode) -> bool
     }
 }
 
-/// The child of a node at which, or below which, another one stands; `None` where it doesn't stand below it.
+/// The child of a node at which, or below which, another one is; `None` where it doesn't be below it.
 pub fn child_toward(parent: &SyntaxNode, node: &SyntaxNode) -> Option<SyntaxNode>
     ensures { result ≡ child_toward parent.now node.now }
 {

@@ -19,7 +19,7 @@ pub enum Toward {
     Any,
 }
 
-/// Which expression is meant among the children that are left: the first, the second, or the first behind `..` or `..=`.
+/// Which expression is meant among the children that are left: the first, the second, or the first after `..` or `..=`.
 #[derive(Clone, Copy)]
 pub enum Meant {
     First,
@@ -27,7 +27,7 @@ pub enum Meant {
     BehindDots,
 }
 
-/// What one child says of a walk: its answer, or which expression is meant behind the child, or inside it.
+/// What one child says of a walk: its answer, or which expression is meant after the child, or inside it.
 #[derive(Clone, Copy)]
 pub enum Turn {
     Answer(bool),

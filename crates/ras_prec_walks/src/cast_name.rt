@@ -9,8 +9,8 @@ ghost use Rattle.ras_prec_walks.specs.CastName.{is_in_name, is_type_of_cast, is_
 
 use crate::parts::is_it;
 use lossless_tree::{Direction, SyntaxKind, SyntaxNode, SyntaxToken};
-use ras_node::sets::{KindSet, NameLikes, Types};
 use ras_algo::algo;
+use ras_node::sets::{KindSet, NameLikes, Types};
 
 fn is_in_name(parent: Option<SyntaxNode>) -> bool
     ensures { result ≡ is_in_name parent }
@@ -68,10 +68,10 @@ fn last_leaf(node: &SyntaxNode) -> Option<SyntaxToken>
     algo::skip_trivia_token(node.last_token()?, Direction::Prev)
 }
 
-/// Whether the last token of an expression that is no trivia is a name, and ends the type of a cast in it too: `<` and `<<` behind
+/// Whether the last token of an expression that is no trivia is a name, and ends the type of a cast in it too: `<` and `<<` after
 /// it would go on with that type.
 ///
-/// It takes time linear in the trivia at the end, and in how deep that token stands.
+/// It takes time linear in the trivia at the end, and in how deep that token is.
 pub fn ends_in_cast_name(node: &SyntaxNode) -> bool
     ensures { result ≡ ends_in_cast_name node.now }
 {

@@ -1,4 +1,4 @@
-//! What stands in an expression outside delimiters: a record, and a `let` in a condition.
+//! What is in an expression outside delimiters: a record, and a `let` in a condition.
 ghost use Rattle.std.specs.Prelude.{◌≡◌};
 ghost use Rattle.std.specs.List.{filter, list_any};
 ghost use Rattle.tree_model.specs.Cursor.{descendants_of, at_node, parent_of};
@@ -88,7 +88,7 @@ impl Operands {
         is_this(node, &self.first)
     }
 
-    // A record in the operand stands in the whole outside delimiters.
+    // A record in the operand is in the whole outside delimiters.
     fn is_operand(&self, node: &SyntaxNode) -> bool
         ensures { result ≡ is_operand (kind_at self.now) node.now self.now }
     {
@@ -154,7 +154,7 @@ fn is_sought(sought: Sought, node: &SyntaxNode) -> bool
     }
 }
 
-// The walk comes to a node only where each above it, up to the top, is such an operand of the next: what stands below another is
+// The walk comes to a node only where each above it, up to the top, is such an operand of the next: what is below another is
 // passed over, up to where that is left.
 fn holds(sought: Sought, top: &SyntaxNode) -> bool
     ensures { result ≡ holds sought top.now (filter at_node (descendants_of top.now)) }
@@ -185,7 +185,7 @@ fn holds(sought: Sought, top: &SyntaxNode) -> bool
     false
 }
 
-/// Whether a record stands in the expression that no delimiters surround: the expression is one, or a side of its binary operator
+/// Whether a record is in the expression that no delimiters surround: the expression is one, or a side of its binary operator
 /// has one, or its base, receiver or operand has, of an index, `.await`, a field, a method call, a cast or a prefix.
 ///
 /// It walks the expression once, in time linear in it.

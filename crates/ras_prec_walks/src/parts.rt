@@ -67,7 +67,7 @@ pub fn is_and(node: &SyntaxNode) -> bool
         && is_and_token(ras_node::first_token::<BinaryOperators>(node.children_with_tokens()))
 }
 
-/// Whether it is a range whose end, the first expression behind its operator, is a block.
+/// Whether it is a range whose end, the first expression after its operator, is a block.
 pub fn range_ends_in_block(node: &SyntaxNode) -> bool
     ensures { result ≡ range_ends_in_block node.now }
 {

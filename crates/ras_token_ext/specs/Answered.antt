@@ -5,7 +5,7 @@ use Rattle.ras_token_ext.specs.Literals.{value_as_text}
 use Rattle.ras_token_ext.specs.declared.values.ValueError.{ValueError}
 use Rattle.ras_token_ext.specs.declared.values.ValueError.TheVariants.{Escape, Memory}
 
--- the value, whose bytes a view shows; or the fault; or, of a literal that has a value, that memory is out
+-- the value, whose bytes a view shows; or the fault; or, of a literal that has a value, that memory runs out
 abbrev pub IsValueOf : {V : Type 0} → (V → List ℕ) → Result (List ℕ) EscapeError → Result V ValueError → Type 0
 IsValueOf bytes value (Ok v) = value ≡ Ok (bytes v)
 IsValueOf bytes value (Err (Escape e)) = value ≡ Err e
@@ -17,7 +17,7 @@ TakesNoMemory borrowed (Ok v) = borrowed v
 TakesNoMemory borrowed (Err (Escape e)) = Unit {0}
 TakesNoMemory borrowed (Err Memory) = ⊥
 
--- the value as a text, or the fault; or, where the bytes have a value, be it a text or not, that memory is out
+-- the value as a text, or the fault; or, where the bytes have a value, be it a text or not, that memory runs out
 abbrev pub IsTextOf : {V : Type 0} → (V → List ℕ) → Result (List ℕ) EscapeError → Result V ValueError → Type 0
 IsTextOf bytes value (Ok v) = value_as_text value ≡ Ok (bytes v)
 IsTextOf bytes value (Err (Escape e)) = value_as_text value ≡ Err e

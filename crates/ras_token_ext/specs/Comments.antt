@@ -42,7 +42,7 @@ abbrev pub prefix_of : CommentShape → Option AttrKind → List ℕ
 prefix_of Line doc = line_prefix doc
 prefix_of Block doc = block_prefix doc
 
--- what stands behind the opening marker, of a block without its closing marker
+-- what follows the opening marker, of a block without its closing marker
 abbrev pub without_closing : CommentShape → List ℕ → Option (List ℕ)
 without_closing shape behind = if is_block_shape shape && ends_with nat_eq behind (codes "*/") then part behind 0 (length behind - 2) else Some behind
 

@@ -17,7 +17,7 @@ use Rattle.ras_token_ext.specs.Texts.{part, first_place, last_place, is_raw}
 
 -- ---- characters and bytes
 
--- what stands behind an opening marker, without a closing `'` (39), if there is one
+-- what follows an opening marker, without a closing `'` (39), if there is one
 abbrev pub without_quote : List ℕ → Option (List ℕ)
 without_quote behind = if ends_with nat_eq behind (codes "'") then part behind 0 (length behind - 1) else Some behind
 
@@ -37,7 +37,7 @@ byte_value text = unit_value modes.Byte (unquoted (codes "b'") text)
 
 -- ---- strings
 
--- where the first and the last `"` (34) stand; nothing where there are not two
+-- where the first and the last `"` (34) are; nothing where there are not two
 abbrev pub quote_places : List ℕ → Option (ℕ × ℕ)
 quote_places text =
     option_and_then (λ first. option_and_then (λ last. if nat_lt first last then Some (first, last) else None) (last_place 34 0 None text)) (first_place 34 0 text)
@@ -92,7 +92,7 @@ report_text r = unit_text r.unit
 abbrev pub string_meanings : List ℕ → List ℕ
 string_meanings content = flat_map report_text (reports_in modes.Str (chars content))
 
--- a backslash (92) stands in the content
+-- a backslash (92) is in the content
 abbrev pub has_backslash : List ℕ → Bool
 has_backslash content = list_any (λ b. b == 92) content
 

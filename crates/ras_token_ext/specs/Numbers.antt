@@ -29,7 +29,7 @@ abbrev pub prefix_len : Radix → ℕ
 prefix_len Decimal = 0
 prefix_len _ = 2
 
--- the suffix begins at the first ASCII letter behind the prefix, in hexadecimal at the first that is no digit
+-- the suffix begins at the first ASCII letter after the prefix, in hexadecimal at the first that is no digit
 abbrev pub is_letter_past_f : ℕ → Bool
 is_letter_past_f b = (nat_le 103 b && nat_le b 122) || (nat_le 71 b && nat_le b 90)
 
@@ -91,7 +91,7 @@ abbrev pub number_after : ℕ → ℕ → List ℕ → Option ℕ
 number_after base n [] = Some n
 number_after base n (b ∷ text) = option_and_then (λ m. number_after base m text) (appended base n b)
 
--- the suffix of a float begins at its first ASCII letter, but behind an `e` (101) or `E` (69) at the next one
+-- the suffix of a float begins at its first ASCII letter, but after an `e` (101) or `E` (69) at the next one
 abbrev pub first_letter : List ℕ → ℕ
 first_letter text = position_or_len is_ascii_alphabetic text
 

@@ -1,4 +1,4 @@
--- Where the quotes and the content of a string stand in the text of a whole tree.
+-- Where the quotes and the content of a string are in the text of a whole tree.
 use Rattle.std.specs.Prelude.{ℕ, ◌+◌, ◌-◌, nat_le, List, length, Option, Some, None, option_map, if◌then◌else◌}
 use Rattle.text_size.specs.TextRange.{Bounds}
 use Rattle.ras_token_ext.specs.declared.quotes.QuoteOffsets.{QuoteOffsets}

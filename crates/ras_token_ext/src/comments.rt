@@ -43,21 +43,21 @@ impl CommentShape {
 /// What an attribute or a doc comment belongs to.
 #[derive(Clone, Copy, Debug, PartialEq, Eq)]
 pub enum AttrKind {
-    /// What it stands in: `#![a]`, `//! a`.
+    /// What it is in: `#![a]`, `//! a`.
     Inner,
-    /// What it stands before: `#[a]`, `/// a`.
+    /// What it precedes: `#[a]`, `/// a`.
     Outer,
 }
 
 impl AttrKind {
-    /// Whether it belongs to what it stands in.
+    /// Whether it belongs to what it is in.
     pub fn is_inner(&self) -> bool
         ensures { result ≡ is_inner_kind self.now }
     {
         matches!(self, AttrKind::Inner)
     }
 
-    /// Whether it belongs to what it stands before.
+    /// Whether it belongs to what it precedes.
     pub fn is_outer(&self) -> bool
         ensures { result ≡ is_outer_kind self.now }
     {
@@ -88,9 +88,9 @@ impl CommentKind {
     }
 }
 
-/// The text of a comment behind an opening marker of so many bytes, of a block without the closing `*/`, if it has one.
+/// The text of a comment after an opening marker of so many bytes, of a block without the closing `*/`, if it has one.
 ///
-/// `None` where the text is shorter than the marker, and where a character stands across the marker's end.
+/// `None` where the text is shorter than the marker, and where a character is across the marker's end.
 pub fn comment_text(text: &str, marker_len: usize) -> Option<&str>
     ensures { option_map (λ s. s.now) result ≡ comment_text marker_len text.now }
 {

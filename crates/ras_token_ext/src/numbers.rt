@@ -81,7 +81,7 @@ fn starts_suffix(radix: Radix, byte: u8) -> bool
     }
 }
 
-// Where the suffix begins behind a prefix; the length where there is none.
+// Where the suffix begins after a prefix; the length where there is none.
 fn suffix_place(text: &str, radix: Radix) -> usize
     ensures value { result ≡ position_or_len (starts_suffix radix) text.now }
     ensures boundary { IsCharBoundary text.now result }
@@ -107,7 +107,7 @@ pub fn split_int(text: &str) -> (&str, &str, &str)
     (prefix, digits, suffix)
 }
 
-// Where the first ASCII letter stands; the length where there is none.
+// Where the first ASCII letter is; the length where there is none.
 fn first_letter(text: &str) -> usize
     ensures value { result ≡ first_letter text.now }
     ensures boundary { IsCharBoundary text.now result }
@@ -139,7 +139,7 @@ fn float_len(text: &str) -> usize
 }
 
 /// The digits of a floating point number, with point, exponent and underscores, and its suffix, which may be empty: it
-/// begins at the first ASCII letter, but behind an `e` or `E` at the next one.
+/// begins at the first ASCII letter, but after an `e` or `E` at the next one.
 pub fn split_float(text: &str) -> (&str, &str)
     ensures digits { result.0.now ≡ float_digits text.now }
     ensures suffix { result.1.now ≡ float_suffix text.now }

@@ -1,11 +1,11 @@
-//! Where the quotes and the content of a string stand in the text of a whole tree.
+//! Where the quotes and the content of a string are in the text of a whole tree.
 ghost use Rattle.std.specs.Prelude.{◌≡◌, ◌+◌, ◌<◌, ◌^◌, length};
 ghost use Rattle.ras_token_ext.specs.Quotes.{quote_offsets, range_up, offset_down};
 
 use crate::strings::quote_places;
 use text_size::{TextRange, TextSize};
 
-/// The ranges of a string's quotes, with what stands outside of them, and of its content.
+/// The ranges of a string's quotes, with what is outside of them, and of its content.
 #[derive(Clone, Copy, Debug, PartialEq, Eq)]
 pub struct QuoteOffsets {
     /// From the token's start up to the content, and from the content up to the token's end.

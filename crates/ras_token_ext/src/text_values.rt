@@ -32,7 +32,7 @@ fn bytes_text(bytes: CowSlice<'_, u8, Global>) -> Result<CowStr<'_, Global>, Val
 
 /// The value of a byte string or a C string, as [`bytes_value`], as a text.
 ///
-/// Bytes that are no UTF-8 are `Escape(NonAsciiCharInByte)`; where memory is out before they are known, it is `Memory`.
+/// Bytes that are no UTF-8 are `Escape(NonAsciiCharInByte)`; where memory runs out before they are known, it is `Memory`.
 pub fn text_value<'t>(
     alloc: Global,
     mode: Mode,

@@ -27,7 +27,7 @@ fn shown(mode: Mode, unit: Result<MixedUnit, EscapeError>) -> Result<char, Escap
     }
 }
 
-/// Calls `callback` on each unit of a content, in order: where it stands, in bytes from the content's start, and its character
+/// Calls `callback` on each unit of a content, in order: where it is, in bytes from the content's start, and its character
 /// or its fault, warnings too. A byte comes as the character of its number, and each unit of a C string as `_`, without faults.
 ///
 /// Gives the callback back, as the last call left it.

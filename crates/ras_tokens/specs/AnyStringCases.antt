@@ -1,4 +1,4 @@
--- A string literal of any kind: the kinds that it is of, the token behind it, and how it is read.
+-- A string literal of any kind: the kinds that it is of, the token after it, and how it is read.
 use Rattle.std.specs.Prelude.{◌≡◌, true, ℕ, List, codes}
 use Rattle.std.proofs.Common.{refl}
 use Rattle.syntax_kind.specs.declared.syntax_kind.SyntaxKind.TheVariants.{Token}

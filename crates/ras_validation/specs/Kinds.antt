@@ -26,7 +26,7 @@ is_member (Node node.CONST) = true
 is_member (Node node.TYPE_ALIAS) = true
 is_member _ = false
 
--- `(`, `<` and `=`, behind which a `+` in a type is not ambiguous
+-- `(`, `<` and `=`, after which a `+` in a type is not ambiguous
 abbrev pub delimits_type : SyntaxKind → Bool
 delimits_type (Token token.L_PAREN) = true
 delimits_type (Token token.L_ANGLE) = true

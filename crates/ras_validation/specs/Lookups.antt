@@ -28,7 +28,7 @@ if_kind kind c = if is_of_kind kind c then Some c else None
 abbrev pub type_child : Cursor → Option Cursor
 type_child c = first_node is_ty (children_of c)
 
--- the token before or behind a token, white space and comments left out
+-- the token before or after a token, white space and comments left out
 abbrev pub token_before : Cursor → Option Cursor
 token_before c = find has_no_trivia_kind (tokens_beyond Prev c)
 
@@ -39,7 +39,7 @@ token_behind c = find has_no_trivia_kind (tokens_beyond Next c)
 abbrev pub literal_token : Cursor → Option Cursor
 literal_token c = option_and_then token_part (option_map element_of (find (has_other_kind is_before_literal) (children_of c)))
 
--- of a range, the operator and the expression behind it
+-- of a range, the operator and the expression after it
 abbrev pub range_operator : Cursor → Option Cursor
 range_operator c = first_token is_range_operator (children_of c)
 
@@ -64,7 +64,7 @@ segment_keyword kind segment = option_and_then (token_child kind) (node_child (N
 abbrev pub path_around : Cursor → Option Cursor
 path_around c = option_and_then (if_kind (Node node.PATH)) (parent_of c)
 
--- the segment is the start of its path: no `::` stands before it, and no qualifier
+-- the segment is the start of its path: no `::` is before it, and no qualifier
 abbrev pub starts_path : Cursor → Cursor → Bool
 starts_path segment path = not (is_some (token_child (Token token.COLON2) segment)) && not (is_some (node_child (Node node.PATH) path))
 

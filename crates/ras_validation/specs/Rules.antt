@@ -15,11 +15,11 @@ use Rattle.ras_node.specs.Nodes.{kind_at, is_of_kind, token_child}
 use Rattle.ras_validation.specs.Kinds.{takes_inner_attributes, is_member, delimits_type}
 use Rattle.ras_validation.specs.Lookups.{node_child, if_kind, type_child, token_before, token_behind, range_operator, range_end_expr, binary_operator, single_name, segment_keyword, path_around, starts_path, has_trait, is_inner_attribute, has_two_bounds, is_typed_bound}
 
--- the `mut` behind a `const`
+-- the `mut` after a `const`
 abbrev pub mutable_const : Cursor → Option Cursor
 mutable_const c = option_and_then (λ keyword. option_and_then (if_kind (Token token.MUT_KW)) (token_behind keyword)) (token_child (Token token.CONST_KW) c)
 
--- the statement list of a block that may have no inner attributes where it stands
+-- the statement list of a block that may have no inner attributes where it is
 abbrev pub bare_statements : Cursor → Option Cursor
 bare_statements c =
     if option_map_or (λ p. takes_inner_attributes (kind_at p)) (parent_of c) false then None
@@ -71,7 +71,7 @@ abbrev pub self_in_path : Cursor → Option Cursor
 self_in_path c =
     option_and_then (λ path. if not (starts_path c path) && is_some (path_around path) then segment_keyword (Token token.SELF_KW) c else None) (path_around c)
 
--- what one node above a path says of it, where `last` is the last path passed: it stands under a use prefix, it does
+-- what one node above a path says of it, where `last` is the last path passed: it is under a use prefix, it does
 -- not, or what is above decides
 abbrev pub prefix_verdict : Cursor → SyntaxKind → Cursor → Option Bool
 prefix_verdict last (Node node.USE_TREE) a = option_and_then (λ path. if is_same_cursor path last then None else Some true) (node_child (Node node.PATH) a)
@@ -91,7 +91,7 @@ under_use_prefix last [] = false
 under_use_prefix last (a ∷ above) =
     decided (prefix_verdict last (kind_at a) a) (under_use_prefix (if is_of_kind (Node node.PATH) a then a else last) above)
 
--- `crate` that does not begin its path, or stands under a use prefix; a segment with a `self` too breaks no rule by it
+-- `crate` that does not begin its path, or is under a use prefix; a segment with a `self` too breaks no rule by it
 abbrev pub crate_is_inside : Cursor → Cursor → Bool
 crate_is_inside c path = not (starts_path c path) || under_use_prefix path (drop 1 (ancestors_of path))
 
@@ -105,7 +105,7 @@ bounded_keyword (Node node.DYN_TRAIT_TYPE) c = token_child (Token token.DYN_KW) 
 bounded_keyword (Node node.IMPL_TRAIT_TYPE) c = token_child (Token token.IMPL_KW) c
 bounded_keyword _ c = None
 
--- a `dyn` or `impl` type with two bounds or more, where a token stands before its keyword that is none of `(`, `<` and `=`
+-- a `dyn` or `impl` type with two bounds or more, where a token precedes its keyword that is none of `(`, `<` and `=`
 abbrev pub ambiguous_plus : Cursor → Option Cursor
 ambiguous_plus c =
     option_and_then (λ keyword. option_and_then (λ before. option_and_then (λ list. if has_two_bounds false (filter at_node (children_of list)) && not (delimits_type (kind_at before)) then Some c else None)
@@ -113,7 +113,7 @@ ambiguous_plus c =
     (token_before keyword))
     (bounded_keyword (kind_at c) c)
 
--- the same of the type behind a `&` or a `*`, and of the type that a function pointer returns
+-- the same of the type after a `&` or a `*`, and of the type that a function pointer returns
 abbrev pub ambiguous_target : Cursor → Option Cursor
 ambiguous_target c = option_and_then ambiguous_plus (type_child c)
 

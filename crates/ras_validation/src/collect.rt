@@ -42,7 +42,7 @@ fn inner_attribute(node: &SyntaxNode) -> Option<TextRange>
     }
 }
 
-// The statement list of a block that may have no inner attributes where it stands.
+// The statement list of a block that may have no inner attributes where it is.
 fn bare_statements(block: &SyntaxNode) -> Option<SyntaxNode>
     ensures { result ≡ bare_statements block.now }
 {
@@ -69,7 +69,7 @@ fn add_attributes_in(found: &mut Vec<Violation>, list: &SyntaxNode) -> Result<()
     Ok(())
 }
 
-// Adds the inner attributes of a `BLOCK_EXPR` that may have none where it stands. Where memory is refused some of them may be
+// Adds the inner attributes of a `BLOCK_EXPR` that may have none where it is. Where memory is refused some of them may be
 // missing.
 fn add_block_attributes(found: &mut Vec<Violation>, block: &SyntaxNode) -> Result<(), AllocError>
     ensures { OnOk result (found.new.items ≡ found.old.items ++ block_attributes block.now) }

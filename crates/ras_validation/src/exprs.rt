@@ -83,7 +83,7 @@ fn is_in_condition(node: &SyntaxNode) -> bool
 }
 
 /// A `LET_EXPR` that is no part of a condition: of an `if`, a `while` or the guard of a match, through parentheses and `&&`
-/// alone. It takes time linear in how many of these stand around it.
+/// alone. It takes time linear in how many of these are around it.
 pub fn misplaced_let(expr: &SyntaxNode) -> Option<TextRange>
     ensures { result ≡ option_map range_of (misplaced_let expr.now) }
 {

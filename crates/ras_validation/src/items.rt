@@ -9,7 +9,7 @@ use lossless_tree::{SyntaxKind, SyntaxNode};
 use ras_node::{KindSet, support};
 use text_size::TextRange;
 
-/// The `mut` behind the `const` of a `CONST`, white space and comments left out.
+/// The `mut` after the `const` of a `CONST`, white space and comments left out.
 pub fn mutable_const(item: &SyntaxNode) -> Option<TextRange>
     ensures { result ≡ option_map range_of (mutable_const item.now) }
 {
@@ -22,7 +22,7 @@ pub fn mutable_const(item: &SyntaxNode) -> Option<TextRange>
     }
 }
 
-// Whether what stands in the parentheses of a visibility is a path of one identifier, without `in`.
+// Whether what is in the parentheses of a visibility is a path of one identifier, without `in`.
 fn names_identifier(inner: &SyntaxNode) -> bool
     ensures { result ≡ names_identifier inner.now }
 {

@@ -42,7 +42,7 @@ impl KindSet for Members {
     }
 }
 
-/// `(`, `<` and `=`, behind which a `+` in a type is not ambiguous.
+/// `(`, `<` and `=`, after which a `+` in a type is not ambiguous.
 pub enum DelimitsType {}
 
 impl KindSet for DelimitsType {

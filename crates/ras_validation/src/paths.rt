@@ -20,7 +20,7 @@ pub fn self_in_path(segment: &SyntaxNode) -> Option<TextRange>
     Some(segment_keyword(segment, SyntaxKind::SELF_KW)?.text_range())
 }
 
-// What one node above a path says of it, where `last` is the last path passed: whether it stands under a use prefix, or
+// What one node above a path says of it, where `last` is the last path passed: whether it is under a use prefix, or
 // `None` where what is above decides.
 fn prefix_verdict(last: &SyntaxNode, above: &SyntaxNode) -> Option<bool>
     ensures { result ≡ prefix_verdict last.now (kind_at above.now) above.now }
@@ -54,14 +54,14 @@ fn is_under_use_prefix(path: SyntaxNode) -> bool
     false
 }
 
-// Whether a `crate` does not begin its path, or the path stands under a use prefix.
+// Whether a `crate` does not begin its path, or the path is under a use prefix.
 fn crate_is_inside(segment: &SyntaxNode, path: SyntaxNode) -> bool
     ensures { result ≡ crate_is_inside segment.now path }
 {
     !starts_path(segment, &path) || is_under_use_prefix(path)
 }
 
-/// The `crate` of a `PATH_SEGMENT` that does not begin its path, or stands under a prefix of a `use`. A segment that lies in
+/// The `crate` of a `PATH_SEGMENT` that does not begin its path, or is under a prefix of a `use`. A segment that lies in
 /// no path, or has a `self` too, breaks no rule. It takes time linear in the depth of the use trees around.
 pub fn crate_in_path(segment: &SyntaxNode) -> Option<TextRange>
     ensures { result ≡ option_map range_of (crate_in_path segment.now) }

@@ -21,7 +21,7 @@ fn bounded_keyword(ty: &SyntaxNode) -> Option<SyntaxToken>
     }
 }
 
-/// A `dyn` or `impl` type with two bounds or more, where a token stands before its keyword, white space and comments left
+/// A `dyn` or `impl` type with two bounds or more, where a token precedes its keyword, white space and comments left
 /// out, that is none of `(`, `<` and `=`.
 pub fn ambiguous_plus(ty: &SyntaxNode) -> Option<TextRange>
     ensures { result ≡ option_map range_of (ambiguous_plus ty.now) }
@@ -36,7 +36,7 @@ pub fn ambiguous_plus(ty: &SyntaxNode) -> Option<TextRange>
     }
 }
 
-/// The same of the type behind the `&` of a `REF_TYPE` or the `*` of a `PTR_TYPE`.
+/// The same of the type after the `&` of a `REF_TYPE` or the `*` of a `PTR_TYPE`.
 pub fn ambiguous_target(ty: &SyntaxNode) -> Option<TextRange>
     ensures { result ≡ option_map range_of (ambiguous_target ty.now) }
 {

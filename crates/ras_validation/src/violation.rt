@@ -14,7 +14,7 @@ pub enum ViolationMessage {
     Escape(EscapeError),
     /// A `const` is followed by `mut`: the range is that of the `mut`.
     MutableConst,
-    /// An inner attribute of a block stands where the block may have none: the attribute's range.
+    /// An inner attribute of a block is where the block may have none: the attribute's range.
     InnerAttribute,
     /// A field is named by a number with underscores, a base or a suffix: the number's range.
     NumericName,
@@ -25,9 +25,9 @@ pub enum ViolationMessage {
     VisibilityInTrait,
     /// A range by `..=` has no end: the range of the whole expression.
     RangeWithoutEnd,
-    /// `self` stands neither at the start nor at the end of its path: the keyword's range.
+    /// `self` is neither at the start nor at the end of its path: the keyword's range.
     SelfInPath,
-    /// `crate` does not begin its path, or the path stands under a prefix of a `use`: the keyword's range.
+    /// `crate` does not begin its path, or the path is under a prefix of a `use`: the keyword's range.
     CrateInPath,
     /// A `dyn` or `impl` type with two bounds or more is that to which a reference or a raw pointer leads, or that which a function
     /// pointer returns, and the token before its keyword is none of `(`, `<` and `=`: the range of the `dyn` or `impl` type.

@@ -1,6 +1,6 @@
-//! Calls that take no memory: each is made once all memory is out, and answers as ever.
+//! Calls that take no memory: each is made once all memory runs out, and answers as ever.
 //!
-//! The trees and builders stand before the line `built`. Every request for memory behind it may be refused.
+//! The trees and builders are before the line `built`. Every request for memory after it may be refused.
 use crate::asking::Stopped;
 use ra_ap_syntax::{
     AstNode, Edition, FinishError, Parse, SourceFile, SyntaxError, SyntaxKind, SyntaxNode,
@@ -11,7 +11,7 @@ use tiny_front::Tiny;
 
 const NOW: Edition = Edition::CURRENT;
 
-// What a builder is given, one letter a call: a node begins, a node ends, a token comes, an error far behind the text.
+// What a builder is given, one letter a call: a node begins, a node ends, a token comes, an error far after the text.
 fn builder(alloc: Global, calls: &str) -> Result<SyntaxTreeBuilder, AllocError> {
     let mut builder = SyntaxTreeBuilder::new(alloc);
     for call in calls.chars() {

@@ -1,6 +1,6 @@
-//! Makes each call that takes memory, and makes it once more where it is refused: what it was asked of has to stand as it was.
+//! Makes each call that takes memory, and makes it once more where it is refused: what it was asked of has to be as it was.
 //!
-//! A line for each call: its name and what it answers, and between them `refused; ` where the first answer was that memory is out,
+//! A line for each call: its name and what it answers, and between them `refused; ` where the first answer was that memory runs out,
 //! or `changed; ` where something is no longer as it was. It is for a run in which one request for memory is refused, whichever.
 //! With the argument `free` it makes the calls that take no memory, for a run in which all is refused from the line `built` on.
 #![tactic(auto)]

@@ -12,14 +12,14 @@ const TEXT: &str = "fn foo() { 1 + 1 }\n";
 
 const BROKEN: &str = "fn f() { 1 +";
 
-// An edit of the name, of a token in the block, and of what stands before all.
+// An edit of the name, of a token in the block, and of what precedes all.
 const EDITS: [Edit; 3] = [
     ("reparse of a token", 3, 6, "main"),
     ("reparse of a block", 11, 12, "2 *"),
     ("reparse of all", 0, 0, "fn g() {}\n"),
 ];
 
-// The first byte that goes, the byte behind the last one, and what comes in their place, with a name in front.
+// The first byte that goes, the byte after the last one, and what comes in their place, with a name in front.
 type Edit = (&'static str, u32, u32, &'static str);
 
 // The file after an edit; `None` where the text has no such range.
@@ -34,7 +34,7 @@ fn edited(alloc: Global, old: &File, edit: Edit) -> Result<Option<File>, ParseEr
     Ok(Some(old.reparse(alloc, &Tiny, delete, insert, NOW)?))
 }
 
-// What is read anew, where that is a piece.
+// What is parsed again, where that is a piece.
 fn replaced(alloc: Global, old: &File, edit: Edit) -> Result<Option<TextRange>, ParseError> {
     let (_, start, end, insert) = edit;
     let root = old.syntax_node();
@@ -93,7 +93,7 @@ fn ok_word(alloc: Global, parse: File) -> &'static str {
     word(&parse.ok(alloc))
 }
 
-// The parse that `ok` hands back where memory is out is the one that it was asked of, and answers its errors.
+// The parse that `ok` hands back where memory runs out is the one that it was asked of, and answers its errors.
 fn handed_back(
     rt: &HostRuntime,
     name: &'static str,

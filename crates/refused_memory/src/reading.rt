@@ -164,7 +164,7 @@ fn meta(rt: &HostRuntime, meta: &ast::Meta) -> Result<(), Stopped> {
     say(rt, "skip_cfg_attrs", first, stands, count)
 }
 
-// How many patterns stand before and behind the rest.
+// How many patterns are before and after the rest.
 fn around(alloc: Global, slice: &ast::SlicePat) -> Result<usize, AllocError> {
     let parts = slice.components(alloc)?;
     Ok(parts.prefix.len().wrapping_add(parts.suffix.len()))

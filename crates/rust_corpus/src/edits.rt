@@ -228,7 +228,7 @@ impl Edits {
         if !is_same {
             self.different = self.different.saturating_add(1);
         }
-        // The errors of a piece stand behind those that are kept, so their order is no matter.
+        // The errors of a piece follow those that are kept, so their order is no matter.
         let has_errors = errors(alloc, &piece)? == errors(alloc, &whole)?;
         if is_same && !has_errors {
             self.other_errors = self.other_errors.saturating_add(1);

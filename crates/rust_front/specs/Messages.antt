@@ -47,7 +47,7 @@ front_of n s = if is_boundary_of n s then take n s else []
 abbrev pub back_of : ℕ → List ℕ → List ℕ
 back_of n s = if is_boundary_of n s then drop n s else []
 
--- a token's text stands between the two parts of a message, where the second is not empty
+-- a token's text is between the two parts of a message, where the second is not empty
 abbrev pub quoted_on : List ℕ → List ℕ → List ℕ → List ℕ
 quoted_on first [] token = first
 quoted_on first (b ∷ bs) token = first ++ (token ++ (b ∷ bs))

@@ -52,7 +52,7 @@ fn filled(alloc: Global, name: &str, text: &str) -> Result<String, AllocError>
     Ok(out)
 }
 
-/// The parser's message of a number. In the place of `%` stands the name of the kind of the first of the tokens.
+/// The parser's message of a number. In the place of `%` is the name of the kind of the first of the tokens.
 pub fn parser_message(alloc: Global, number: u16, tokens: &[Token]) -> Result<String, AllocError>
     ensures { IfOk result (λ s. string_bytes s ≡ parser_message_of number tokens.now) }
 {

@@ -32,7 +32,7 @@ fn add(steps: &mut Vec<Step>, step: Step) -> Result<(), AllocError>
     Ok(())
 }
 
-/// The steps, and behind them the errors.
+/// The steps, and after them the errors.
 pub fn reported(
     alloc: Global,
     tokens: &[Token],

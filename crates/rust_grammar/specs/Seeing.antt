@@ -28,7 +28,7 @@ abbrev pub number_on : Option Token → ℕ
 number_on None = 0
 number_on (Some t) = number_of t.kind
 
--- what a token and a sign right behind it make together, or 0
+-- what a token and a sign right after it make together, or 0
 abbrev pub joined_of : ℕ → ℕ → ℕ
 joined_of left sign =
     if nat_lt sign FIRST_SIGN || nat_le SIGNS (sign - FIRST_SIGN) then 0 else byte_or_0 (slice_get JOINTS (left * SIGNS + (sign - FIRST_SIGN)))
@@ -55,7 +55,7 @@ finer_of e one text =
     if one == IDENT then word_on (contextual_keyword_of e text) else (
     if one == FLOAT_NUMBER then shape_of text else 0)
 
--- a token with the two behind it, by their numbers
+-- a token with the two after it, by their numbers
 abbrev pub sight_of : Edition → List ℕ → ℕ → ℕ → ℕ → Sight
 sight_of e text one second third = record { one = one; two = joined_of one second; three = joined_of (joined_of one second) third; word = finer_of e one text }
 

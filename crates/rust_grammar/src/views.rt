@@ -55,7 +55,7 @@ fn number_at(tokens: &[Token], i: usize) -> u8
     }
 }
 
-// The number of what a token and a sign right behind it make together, or 0.
+// The number of what a token and a sign right after it make together, or 0.
 fn joined(left: u8, sign: u8) -> u8
     ensures { result ≡ joined_of left sign }
 {
@@ -117,7 +117,7 @@ fn finer(one: u8, text: &str, edition: Edition) -> u8
     }
 }
 
-// The sight of a token with the two behind it, if it is no trivia.
+// The sight of a token with the two after it, if it is no trivia.
 fn see(
     sights: &mut Vec<Sight>,
     edition: Edition,
@@ -143,7 +143,7 @@ fn see(
     Ok(())
 }
 
-// The first bytes and the others. Where no character begins behind them, all and nothing.
+// The first bytes and the others. Where no character begins after them, all and nothing.
 fn cut(text: &str, len: usize) -> (&str, &str)
     ensures { len ≤ length text.now → IsUtf8 (take len text.now) → (result.0.now ≡ take len text.now) × (result.1.now ≡ drop len text.now) }
 {

@@ -24,7 +24,7 @@ use Rattle.rust_lexer.specs.Tokens.{token_of}
 use Rattle.rust_lexer.proofs.Cutting.{cut-boundary, cut-some, front-utf8, back-utf8}
 use Rattle.rust_lexer.proofs.Steps.{steps-one, steps-stop, steps-end}
 
--- the tokens split the text, one behind the other
+-- the tokens split the text, one after the other
 abbrev IsSplit : List Token → List ℕ → Type 0
 IsSplit [] s = s ≡ []
 IsSplit (t ∷ ts) s = (front : List ℕ) × (rest : List ℕ) × (s ≡ front ++ rest) × (t.len ≡ length front) × IsUtf8 front × IsSplit ts rest

@@ -48,7 +48,7 @@ digit_first (x ∷ s) h = record { d = x; is = refl; is_digit = h }
 digit_is_decimal : (d : ℕ) → is_digit_of d ≡ true → is_in_of Decimal d ≡ true
 digit_is_decimal d h = or_left (is_digit_of d) (d == 95) h
 
--- what follows the digits behind a first one
+-- what follows the digits after a first one
 skip_digit : (c : Class) (d : ℕ) (s : List ℕ) → is_in_of c d ≡ true → skip_of c (d ∷ s) ≡ skip_of c s
 skip_digit c d s h = ap (λ (b : Bool). if b then skip_of c s else d ∷ s) h
 
@@ -188,7 +188,7 @@ fraction_on true w t k no_name h =
     (subst (λ (l : List ℕ). NumberRead l (if begins_exponent_of r then exponent_of (drop 1 r) else float_of r)) all
     (behind_fraction_on (begins_exponent_of r) w first.d z.front r k first.is_digit z.all_pass z.next_fails refl))
 
--- ---- behind the whole digits
+-- ---- after the whole digits
 
 alone : (w s : List ℕ) → Whole w → Stops s → NumberRead (w ++ s) (whole_of s)
 alone w s k stop = record { number = w; behind = s; parts = refl; is_number = whole w k; longest = stop; suffix = refl }

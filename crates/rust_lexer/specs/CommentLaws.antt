@@ -3,7 +3,7 @@ use Rattle.std.specs.Prelude.{◌≡◌, ◌↔◌, ℕ, suc, ◌<◌, ◌^◌, 
 use Rattle.rust_lexer.specs.declared.scan.Scan.TheVariants.{Comment, Closed}
 use Rattle.rust_lexer.specs.Scans.{run_of}
 
--- s follows the opening `/*` of a comment that stands in d others, and r what closes the last of them: comments nest, and a text is
+-- s follows the opening `/*` of a comment that is in d others, and r what closes the last of them: comments nest, and a text is
 -- read from its start, so that no sign is of two marks
 pub data Closes : ℕ → List ℕ → List ℕ → Type 0 where
   ends : (r : List ℕ) → Closes 0 (42 ∷ 47 ∷ r) r

@@ -12,7 +12,7 @@ use Rattle.rust_lexer.specs.Classes.{begins_of, skip_of}
 use Rattle.rust_lexer.specs.Scans.{run_of}
 use Rattle.rust_lexer.specs.Shapes.{plain_of, with_of}
 
--- `//!` documents what it stands in, `///` what it stands before, `////` nothing
+-- `//!` documents what it is in, `///` what it precedes, `////` nothing
 abbrev pub line_kind_of : List ℕ → SyntaxKind
 line_kind_of s =
     if begins_of 33 s then Token token.INNER_DOC_COMMENT

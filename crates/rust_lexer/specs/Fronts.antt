@@ -17,23 +17,23 @@ pub record FollowsLongest (test : ℕ → Bool) (s r : List ℕ) : Type 0 where
 abbrev pub LongestFronts : Type 0
 LongestFronts = (c : Class) (s : List ℕ) → FollowsLongest (is_in_of c) s (skip_of c s)
 
--- the content of a string: characters but quotes and backslashes, and backslashes with a character behind each
+-- the content of a string: characters but quotes and backslashes, and backslashes with a character after each
 pub data StringContent : List ℕ → Type 0 where
   nothing : StringContent []
   plain : (b : ℕ) (s : List ℕ) → b ≢ 34 → b ≢ 92 → StringContent s → StringContent (b ∷ s)
   escape : (b : ℕ) (s : List ℕ) → StringContent s → StringContent (92 ∷ b ∷ s)
 
--- what stands between the opening quote of a string and what follows its closing one
+-- what is between the opening quote of a string and what follows its closing one
 pub record StringRead (s r : List ℕ) : Type 0 where
   pub content : List ℕ
   pub parts : s ≡ content ++ 34 ∷ r
   pub is_content : StringContent content
 
--- a string is read to the quote behind its content
+-- a string is read to the quote after its content
 abbrev pub StringsAreRead : Type 0
 StringsAreRead = (s : List ℕ) → (run_of Text s).0 ≡ Closed → StringRead s (run_of Text s).1
 
--- and whatever content stands before a quote is read
+-- and whatever content precedes a quote is read
 abbrev pub ContentsAreRead : Type 0
 ContentsAreRead = (content r : List ℕ) → StringContent content → run_of Text (content ++ 34 ∷ r) ≡ (Closed, r)
 
@@ -42,11 +42,11 @@ abbrev pub hashes : ℕ → List ℕ
 hashes zero = []
 hashes (suc n) = 35 ∷ hashes n
 
--- what stands between the opening quote of a raw string with h signs # and what follows its closing ones
+-- what is between the opening quote of a raw string with h signs # and what follows its closing ones
 pub record RawRead (h : ℕ) (s r : List ℕ) : Type 0 where
   pub content : List ℕ
   pub parts : s ≡ content ++ 34 ∷ (hashes h ++ r)
 
--- a raw string is read up to a quote with as many # behind it as it began with
+-- a raw string is read up to a quote with as many # after it as it began with
 abbrev pub RawStringsAreRead : Type 0
 RawStringsAreRead = (h : ℕ) (s : List ℕ) → (run_of (Raw h) s).0 ≡ Closed → RawRead h s (run_of (Raw h) s).1

@@ -85,7 +85,7 @@ abbrev pub body_on : Scan → List ℕ → Option ℕ
 body_on Closed r = behind_closing r (closing_of r)
 body_on _ r = None
 
--- behind the opening fence of so many dashes
+-- after the opening fence of so many dashes
 abbrev pub body_of : ℕ → List ℕ → Option ℕ
 body_of d s = let r = skip_of classes.InLine s in body_on (run_of (Matter d) r).0 (run_of (Matter d) r).1
 

@@ -1,4 +1,4 @@
--- Whether a string that stands before a token perhaps ends too late, since the quote that should close it is missing.
+-- Whether a string that precedes a token perhaps ends too late, since the quote that should close it is missing.
 use Rattle.std.specs.Prelude.{ℕ, zero, suc, ◌-◌, Bool, true, false, not, ◌==◌, ◌&&◌, ◌||◌, List, [], ◌∷◌, length, take, drop}
 use Rattle.syntax_kind.specs.declared.syntax_kind.SyntaxKind.{SyntaxKind}
 use Rattle.syntax_kind.specs.declared.syntax_kind.SyntaxKind.TheVariants.{Token}
@@ -14,7 +14,7 @@ abbrev pub is_closed_of : Scan → Bool
 is_closed_of Closed = true
 is_closed_of _ = false
 
--- one byte stands right behind another somewhere
+-- one byte follows directly another somewhere
 abbrev pub holds_pair_of : ℕ → ℕ → List ℕ → Bool
 holds_pair_of x y s = is_closed_of (run_of (Seek x y) s).0
 
@@ -29,7 +29,7 @@ is_string_of _ = false
 abbrev pub is_code_of : SyntaxKind → List ℕ → Bool
 is_code_of k w = is_string_of k && holds_code_of w
 
--- one of the n last tokens is a string with code; the last one stands first, and s is their text
+-- one of the n last tokens is a string with code; the last one is first, and s is their text
 unfoldable pub is_behind_code_of : ℕ → List span.Token → List ℕ → Bool
 is_behind_code_of zero ts s = false
 is_behind_code_of (suc n) [] s = false

@@ -1,4 +1,4 @@
--- The tokens of a text, one behind the other, and what is wrong with some of them.
+-- The tokens of a text, one after the other, and what is wrong with some of them.
 use Rattle.std.specs.Prelude.{ℕ, zero, suc, ◌-◌, ◌^◌, min, ◌==◌, if◌then◌else◌, Option, Some, None, List, [], ◌∷◌, ◌++◌, length, reverse}
 use Rattle.text_size.specs.declared.range.TextRange.{TextRange}
 use Rattle.syntax_kind.specs.declared.syntax_kind.SyntaxKind.{SyntaxKind}
@@ -28,7 +28,7 @@ size_of n = min n (2 ^ 32 - 1)
 abbrev pub range_of : ℕ → ℕ → ℕ → TextRange
 range_of n r t = record { start = size_of (n - r); end = size_of (n - t) }
 
--- problems at a range, behind other errors
+-- problems at a range, after other errors
 abbrev pub faults_at : TextRange → List Problem → List LexError → List LexError
 faults_at r [] es = es
 faults_at r (p ∷ ps) es = faults_at r ps (es ++ (record { problem = p; range = r }) ∷ [])
@@ -37,11 +37,11 @@ abbrev pub faults_with : TextRange → Option Problem → List LexError → List
 faults_with r None es = es
 faults_with r (Some p) es = es ++ (record { problem = p; range = r }) ∷ []
 
--- what stands between so many bytes before and so many behind
+-- what is between so many bytes before and so many after
 abbrev pub content_of : ℕ → ℕ → List ℕ → List ℕ
 content_of before behind s = back_of (length (front_of behind s) - before) (front_of behind s)
 
--- of a prefix behind these tokens, with n bytes from it on
+-- of a prefix after these tokens, with n bytes from it on
 abbrev pub prefix_problem_of : List Token → List ℕ → ℕ → Problem
 prefix_problem_of ts text n = if is_behind_code_of 5 (reverse ts) (front_of n text) then UnknownPrefixBehindString else UnknownPrefix
 

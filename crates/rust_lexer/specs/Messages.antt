@@ -65,7 +65,7 @@ message_front_of problems.UnterminatedCString = codes "Missing trailing `\"` sym
 message_front_of problems.InvalidRawString = codes "Invalid raw string literal"
 message_front_of (problems.Content m e) = content_message_of m e
 
--- and behind it
+-- and after it
 abbrev pub message_back_of : Problem → List ℕ
 message_back_of problems.UnknownPrefixBehindString = codes "` (note: check for unterminated string literal)"
 message_back_of _ = []

@@ -16,17 +16,17 @@ use Rattle.rust_lexer.specs.Numbers.{number_of}
 abbrev pub AreIn : Class → List ℕ → Type 0
 AreIn c w = All (λ b. is_in_of c b ≡ true) w
 
--- the letter behind 0, and the digits that are read behind it: decimal ones that a base lacks are read all the same
+-- the letter after 0, and the digits that are read after it: decimal ones that a base lacks are read all the same
 abbrev pub IsBase : ℕ → Class → Type 0
 IsBase letter c = ((letter ≡ 120) × (c ≡ Hexadecimal)) ⊎ (((letter ≡ 98) ⊎ (letter ≡ 111)) × (c ≡ Decimal))
 
--- whole numbers: digits and `_` behind a digit; or a base, and digits and `_`, among them a digit
+-- whole numbers: digits and `_` after a digit; or a base, and digits and `_`, among them a digit
 pub data Whole : List ℕ → Type 0 where
   decimal : (d : ℕ) (ds : List ℕ) → is_digit_of d ≡ true → AreIn Decimal ds → Whole (d ∷ ds)
   based : (letter : ℕ) (c : Class) (us : List ℕ) (d : ℕ) (ds : List ℕ) → IsBase letter c → AreIn Underscore us
       → is_in_of c d ≡ true → is_in_of Underscore d ≡ false → AreIn c ds → Whole (48 ∷ letter ∷ (us ++ d ∷ ds))
 
--- what may stand before an exponent: a whole number, or one with a fraction
+-- what may precede an exponent: a whole number, or one with a fraction
 pub data Mantissa : List ℕ → Type 0 where
   bare : (w : List ℕ) → Whole w → Mantissa w
   fractional : (w : List ℕ) (d : ℕ) (ds : List ℕ) → Whole w → is_digit_of d ≡ true → AreIn Decimal ds → Mantissa (w ++ 46 ∷ (d ∷ ds))
@@ -52,7 +52,7 @@ pub data Number : SyntaxKind → Fault → List ℕ → Type 0 where
   exponent : (m e : List ℕ) → Mantissa m → Exponent e → Number (Token token.FLOAT_NUMBER) No (m ++ e)
   no_exponent_digits : (m e : List ℕ) → Mantissa m → BareExponent e → Number (Token token.FLOAT_NUMBER) (Is NoExponentDigits) (m ++ e)
 
--- the text begins with such a number; neither a digit nor `_` follows it, and its token ends behind its suffix
+-- the text begins with such a number; neither a digit nor `_` follows it, and its token ends after its suffix
 pub record NumberRead (text : List ℕ) (x : Shape) : Type 0 where
   pub number : List ℕ
   pub behind : List ℕ
@@ -61,6 +61,6 @@ pub record NumberRead (text : List ℕ) (x : Shape) : Type 0 where
   pub longest : test_on (is_in_of Decimal) (slice_get behind 0) ≡ false
   pub suffix : x.left ≡ length (skip_suffix_of behind)
 
--- what is read where a digit stands first
+-- what is read where a digit is first
 abbrev pub NumbersAreRead : Type 0
 NumbersAreRead = (d : ℕ) (s : List ℕ) → is_digit_of d ≡ true → NumberRead (d ∷ s) (number_of d s)

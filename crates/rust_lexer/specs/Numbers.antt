@@ -29,25 +29,25 @@ float_without_digits_of s = with_of (Token token.FLOAT_NUMBER) (length (skip_suf
 abbrev pub sign_of : List ℕ → List ℕ
 sign_of s = if begins_of 43 s || begins_of 45 s then drop 1 s else s
 
--- behind e or E: a sign, digits and `_`, among them a digit
+-- after e or E: a sign, digits and `_`, among them a digit
 abbrev pub exponent_of : List ℕ → Shape
 exponent_of s =
     let d = sign_of s in
     if begins_digit_of (skip_of classes.Underscore d) then float_of (skip_of classes.Decimal d) else float_without_digits_of (skip_of classes.Decimal d)
 
--- behind the dot; an exponent needs a digit before it
+-- after the dot; an exponent needs a digit before it
 abbrev pub fraction_of : List ℕ → Shape
 fraction_of s =
     if not (begins_digit_of s) then float_of s
     else (let r = skip_of classes.Decimal s in if begins_exponent_of r then exponent_of (drop 1 r) else float_of r)
 
--- behind the digits: a dot is of the number where no other dot and no name follows it
+-- after the digits: a dot is of the number where no other dot and no name follows it
 abbrev pub behind_digits_of : List ℕ → Shape
 behind_digits_of s =
     if begins_of 46 s then (if begins_of 46 (drop 1 s) || begins_name_of (drop 1 s) then whole_of s else fraction_of (drop 1 s))
     else (if begins_exponent_of s then exponent_of (drop 1 s) else whole_of s)
 
--- behind 0x, 0b or 0o; decimal digits that a base lacks are read all the same
+-- after 0x, 0b or 0o; decimal digits that a base lacks are read all the same
 abbrev pub based_of : Class → List ℕ → Shape
 based_of c s =
     let d = skip_of classes.Underscore s in

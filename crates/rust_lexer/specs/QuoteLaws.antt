@@ -3,7 +3,7 @@ use Rattle.std.specs.Prelude.{◌≡◌, ◌≢◌, ℕ, List, [], ◌∷◌, �
 use Rattle.rust_lexer.specs.declared.scan.Scan.TheVariants.{Quote, Closed}
 use Rattle.rust_lexer.specs.Scans.{run_of}
 
--- what may stand between the quotes of a character: no quote, backslash, slash or newline but behind a backslash, and one newline right
+-- what may be between the quotes of a character: no quote, backslash, slash or newline but after a backslash, and one newline right
 -- before the closing quote; that it is one character is looked at later
 pub data CharacterContent : List ℕ → Type 0 where
   nothing : CharacterContent []
@@ -11,16 +11,16 @@ pub data CharacterContent : List ℕ → Type 0 where
   plain : (b : ℕ) (s : List ℕ) → b ≢ 39 → b ≢ 92 → b ≢ 10 → b ≢ 47 → CharacterContent s → CharacterContent (b ∷ s)
   escape : (b : ℕ) (s : List ℕ) → CharacterContent s → CharacterContent (92 ∷ b ∷ s)
 
--- what stands between the opening quote of a character and what follows its closing one
+-- what is between the opening quote of a character and what follows its closing one
 pub record CharacterRead (s r : List ℕ) : Type 0 where
   pub content : List ℕ
   pub parts : s ≡ content ++ 39 ∷ r
   pub is_content : CharacterContent content
 
--- a character is read to the quote behind its content
+-- a character is read to the quote after its content
 abbrev pub CharactersAreRead : Type 0
 CharactersAreRead = (s : List ℕ) → (run_of Quote s).0 ≡ Closed → CharacterRead s (run_of Quote s).1
 
--- and whatever content stands before a quote is read
+-- and whatever content precedes a quote is read
 abbrev pub CharacterContentsAreRead : Type 0
 CharacterContentsAreRead = (content r : List ℕ) → CharacterContent content → run_of Quote (content ++ 39 ∷ r) ≡ (Closed, r)

@@ -30,7 +30,7 @@ unterminated_of modes.Str = problems.UnterminatedString
 unterminated_of modes.ByteStr = problems.UnterminatedByteString
 unterminated_of modes.CStr = problems.UnterminatedCString
 
--- how many bytes stand before the content: the quote, and b or c
+-- how many bytes are before the content: the quote, and b or c
 abbrev pub opening_of : Mode → ℕ
 opening_of modes.Char = 1
 opening_of modes.Byte = 2
@@ -42,7 +42,7 @@ opening_of modes.CStr = 2
 abbrev pub one_more : ℕ → ℕ
 one_more n = min (n + 1) (2 ^ 64 - 1)
 
--- a literal whose closing quote stands before s; a suffix may follow
+-- a literal whose closing quote precedes s; a suffix may follow
 abbrev pub closed_of : Mode → List ℕ → Shape
 closed_of m s = record { kind = kind_of m; left = length (skip_suffix_of s); fault = Content m (opening_of m) (one_more (length s)) }
 

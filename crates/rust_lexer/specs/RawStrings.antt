@@ -14,12 +14,12 @@ use Rattle.rust_lexer.specs.Shapes.{plain_of, with_of}
 abbrev pub invalid_of : SyntaxKind → ℕ → Shape
 invalid_of k n = with_of k n InvalidRawString
 
--- at most 255 # may stand before the opening quote
+-- at most 255 # may precede the opening quote
 abbrev pub body_on : SyntaxKind → ℕ → Scan → List ℕ → Shape
 body_on k h Closed r = if nat_lt h 256 then plain_of k (length (skip_suffix_of r)) else invalid_of k (length r)
 body_on k h _ r = invalid_of k (length r)
 
--- behind the opening quote
+-- after the opening quote
 abbrev pub body_of : SyntaxKind → ℕ → List ℕ → Shape
 body_of k h s = body_on k h (run_of (Raw h) s).0 (run_of (Raw h) s).1
 

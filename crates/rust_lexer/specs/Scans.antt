@@ -14,11 +14,11 @@ comment_slash_of d b = if b == 42 then Comment (min (d + 1) (2 ^ 32 - 1)) else c
 abbrev pub comment_star_of : ℕ → ℕ → Scan
 comment_star_of d b = if not (b == 47) then comment_of d b else (if d == 0 then Closed else Comment (d - 1))
 
--- a string ends with the first quote that no backslash stands before
+-- a string ends with the first quote that no backslash precedes
 abbrev pub text_of : ℕ → Scan
 text_of b = if b == 34 then Closed else (if b == 92 then TextEscape else Text)
 
--- a character ends with the first quote that no backslash stands before; none is sought behind a slash or another line
+-- a character ends with the first quote that no backslash precedes; none is sought after a slash or another line
 abbrev pub quote_of : ℕ → Option Scan
 quote_of b = if b == 39 then Some Closed else (if b == 92 then Some QuoteEscape else (if b == 10 then Some QuoteLine else (if b == 47 then None else Some Quote)))
 
@@ -42,7 +42,7 @@ matter_of d b = if b == 10 then Fence d d else Matter d
 abbrev pub fence_of : ℕ → ℕ → ℕ → Scan
 fence_of n d b = if not (b == 45) then matter_of d b else (if nat_le n 1 then Closed else Fence (n - 1) d)
 
--- one byte is sought right behind another
+-- one byte is sought right after another
 abbrev pub seek_of : ℕ → ℕ → ℕ → Scan
 seek_of x y b = if b == x then SeekSecond x y else Seek x y
 

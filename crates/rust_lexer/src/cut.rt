@@ -2,7 +2,7 @@
 ghost use Rattle.std.specs.Prelude.{◌≡◌, take, drop};
 ghost use Rattle.rust_lexer.specs.Cuts.{cut_of, front_of, back_of};
 
-/// The text but for its last `left` bytes, and these. Where no character begins there, or nothing stands before, it is the whole
+/// The text but for its last `left` bytes, and these. Where no character begins there, or nothing precedes, it is the whole
 /// text, and nothing.
 #[inline]
 pub fn split(text: &str, left: usize) -> (&str, &str)

@@ -6,7 +6,7 @@ use crate::class::{Class, Wide, after, after_char, begins, begins_wide, skip};
 use crate::scan::{Scan, run};
 use crate::shebang::{begins_shebang, behind_two};
 
-/// What stands before a file's first token, by how many bytes follow each.
+/// What precedes a file's first token, by how many bytes follow each.
 #[derive(Clone, Copy)]
 pub struct Prelude {
     /// The shebang, with the end of its line.
@@ -56,7 +56,7 @@ fn has_shebang(text: &str) -> bool
     begins_shebang(text.as_bytes()) && !begins(b'[', behind_two(text).trim_start().as_bytes())
 }
 
-// How many bytes follow the line of the closing fence, by what follows the fence; `None` where more than blanks stands there.
+// How many bytes follow the line of the closing fence, by what follows the fence; `None` where more than blanks is there.
 fn closing(bytes: &[u8]) -> Option<usize>
     ensures { result ≡ closing_of bytes.now }
 {

@@ -22,7 +22,7 @@ fn holds_pair(first: u8, second: u8, bytes: &[u8]) -> bool
     is_closed(run(Scan::Seek(first, second), bytes).0)
 }
 
-// Code stands in the string: a `(`, and a comment or the end of a statement.
+// Code is in the string: a `(`, and a comment or the end of a statement.
 fn holds_code(bytes: &[u8]) -> bool
     ensures { result ≡ holds_code_of bytes.now }
 {

@@ -10,7 +10,7 @@ pub fn longest_fronts()
     ensures { LongestFronts }
 {}
 
-/// A string ends with the first quote that no backslash stands before, where a backslash takes what stands behind it.
+/// A string ends with the first quote that no backslash precedes, where a backslash takes what follows it.
 pub fn strings()
     ensures read { StringsAreRead }
     ensures contents { ContentsAreRead }
@@ -26,7 +26,7 @@ pub fn block_comments()
     ensures { BlockCommentsAreRead }
 {}
 
-/// A number is digits in one of four bases, a fraction, an exponent and a suffix; neither a digit nor `_` is left behind its digits.
+/// A number is digits in one of four bases, a fraction, an exponent and a suffix; neither a digit nor `_` is left after its digits.
 pub fn numbers()
     ensures { NumbersAreRead }
 {}
@@ -37,7 +37,7 @@ pub fn names()
     ensures read { NamesAreRead }
 {}
 
-/// A character ends with the first quote that no backslash stands before; none is sought behind a slash or in another line.
+/// A character ends with the first quote that no backslash precedes; none is sought after a slash or in another line.
 pub fn characters()
     ensures read { CharactersAreRead }
     ensures contents { CharacterContentsAreRead }

@@ -36,7 +36,7 @@ pub struct LexError {
 /// The tokens of a text, and what is wrong with some.
 #[derive(Drop)]
 pub struct Lexed {
-    /// The tokens, one behind the other.
+    /// The tokens, one after the other.
     pub tokens: Vec<Token>,
     /// What is wrong, in the order of the tokens. A literal may have several.
     pub errors: Vec<LexError>,
@@ -104,7 +104,7 @@ fn report_content(
     }
 }
 
-// The text but for so many bytes before and behind.
+// The text but for so many bytes before and after.
 pub(crate) fn content(text: &str, before: usize, behind: usize) -> &str
     ensures { result.now ≡ content_of before behind text.now }
 {
@@ -167,7 +167,7 @@ fn take<'a>(
     Ok(tail)
 }
 
-// The same of a token of this kind with so many bytes behind it, if there is one and something is left.
+// The same of a token of this kind with so many bytes after it, if there is one and something is left.
 fn take_some<'a>(
     lexed: &mut Lexed,
     text: &str,
@@ -200,7 +200,7 @@ fn take_prelude<'a>(
     take_some(lexed, text, rest, kinds::FRONTMATTER, prelude.front_matter)
 }
 
-// Takes what stands before the first token of the file.
+// Takes what precedes the first token of the file.
 #[tactic(auto, unfolding(crate::specs::Lexing::taken_head))]
 fn take_head<'a>(lexed: &mut Lexed, text: &'a str, edition: Edition) -> Result<&'a str, AllocError>
     ensures { IfOk result (λ tail. lexing_of lexed.new tail.now ≡ taken_head edition text.now (lexing_of lexed.old text.now)) }

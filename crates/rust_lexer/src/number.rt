@@ -57,7 +57,7 @@ fn sign(rest: &[u8]) -> &[u8]
     }
 }
 
-// Behind the `e`.
+// After the `e`.
 fn exponent(rest: &[u8]) -> Shape
     ensures { result ≡ exponent_of rest.now }
 {
@@ -69,7 +69,7 @@ fn exponent(rest: &[u8]) -> Shape
     }
 }
 
-// Behind the dot.
+// After the dot.
 fn fraction(rest: &[u8]) -> Shape
     ensures { result ≡ fraction_of rest.now }
 {
@@ -84,7 +84,7 @@ fn fraction(rest: &[u8]) -> Shape
     }
 }
 
-// Behind the digits.
+// After the digits.
 fn behind_digits(rest: &[u8]) -> Shape
     ensures { result ≡ behind_digits_of rest.now }
 {
@@ -102,7 +102,7 @@ fn behind_digits(rest: &[u8]) -> Shape
     }
 }
 
-// Behind the letter of another base.
+// After the letter of another base.
 fn based(class: Class, rest: &[u8]) -> Shape
     ensures { result ≡ based_of class rest.now }
 {

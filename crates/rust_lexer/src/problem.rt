@@ -19,7 +19,7 @@ pub enum Problem {
     LifetimePrefix,
     /// A name right before a quote or a `#`.
     UnknownPrefix,
-    /// The same behind a string that perhaps ends too late: one of the five tokens before it is a string with a `(` in it, and
+    /// The same after a string that perhaps ends too late: one of the five tokens before it is a string with a `(` in it, and
     /// with `//` or a `;` before a newline.
     UnknownPrefixBehindString,
     /// `0x`, `0b` or `0o` without a digit.
@@ -143,7 +143,7 @@ fn message_back(problem: Problem) -> &'static str
 }
 
 impl Problem {
-    /// The message, in two parts: where the second is not empty, the token's text stands between them.
+    /// The message, in two parts: where the second is not empty, the token's text is between them.
     pub fn message(self) -> (&'static str, &'static str)
         ensures front { result.0.now ≡ message_front_of self }
         ensures back { result.1.now ≡ message_back_of self }

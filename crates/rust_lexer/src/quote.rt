@@ -34,7 +34,7 @@ fn unterminated(mode: Mode) -> Problem
     }
 }
 
-// How many bytes stand before the content.
+// How many bytes are before the content.
 fn opening(mode: Mode) -> usize
     ensures { result ≡ opening_of mode }
 {
@@ -47,7 +47,7 @@ fn opening(mode: Mode) -> usize
     }
 }
 
-// A literal whose closing quote stands before `rest`.
+// A literal whose closing quote precedes `rest`.
 fn closed(mode: Mode, rest: &[u8]) -> Shape
     ensures { result ≡ closed_of mode rest.now }
 {

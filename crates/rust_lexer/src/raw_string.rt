@@ -15,7 +15,7 @@ fn invalid(kind: SyntaxKind, left: usize) -> Shape
     Shape::with(kind, left, Problem::InvalidRawString)
 }
 
-// What follows the opening quote behind so many `#`.
+// What follows the opening quote after so many `#`.
 fn body(kind: SyntaxKind, hashes: usize, rest: &[u8]) -> Shape
     ensures { result ≡ body_of kind hashes rest.now }
 {

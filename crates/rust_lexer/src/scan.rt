@@ -7,31 +7,31 @@ ghost use Rattle.rust_lexer.specs.Scans.{after_raw_quote_of, comment_of, comment
 pub enum Scan {
     /// A block comment, in so many others.
     Comment(u32),
-    /// The same behind a `/` that may open one.
+    /// The same after a `/` that may open one.
     CommentSlash(u32),
-    /// The same behind a `*` that may close it.
+    /// The same after a `*` that may close it.
     CommentStar(u32),
     /// A string.
     Text,
-    /// The same behind a backslash.
+    /// The same after a backslash.
     TextEscape,
     /// A character.
     Quote,
-    /// The same behind a backslash.
+    /// The same after a backslash.
     QuoteEscape,
-    /// The same behind a newline.
+    /// The same after a newline.
     QuoteLine,
     /// A raw string with so many `#`.
     Raw(usize),
-    /// The same behind a quote, with this many `#` to come, and in all.
+    /// The same after a quote, with this many `#` to come, and in all.
     RawHashes(usize, usize),
     /// A front matter with a fence of so many `-`.
     Matter(usize),
     /// The same at the start of a line, with this many `-` to come, and in all.
     Fence(usize, usize),
-    /// This byte and that are sought, one behind the other.
+    /// This byte and that are sought, one after the other.
     Seek(u8, u8),
-    /// The same behind the first.
+    /// The same after the first.
     SeekSecond(u8, u8),
     /// The closing mark is read.
     Closed,

@@ -50,7 +50,7 @@ fn begins_bracket(text: &str, edition: Edition) -> bool
     false
 }
 
-/// The text behind its first two bytes, which are of ASCII.
+/// The text after its first two bytes, which are of ASCII.
 pub fn behind_two(text: &str) -> &str
     ensures { result.now ≡ behind_two_of text.now }
 {

@@ -1,4 +1,4 @@
--- Marks of pairs one behind the other, and a token behind a text.
+-- Marks of pairs one after the other, and a token after a text.
 use Rattle.std.proofs.Common.{◌≡◌, ◌-◌, ◌&&◌, ℕ, Bool, true, List, [], ◌∷◌, ◌++◌, length, set, take, slice_get, Option, Some, None, refl, sym, ap, ◌∙◌}
 use Rattle.std.proofs.lemmas.List.{length-set}
 use Rattle.std.proofs.Math.Seq.{take-append_seam}

@@ -1,4 +1,4 @@
--- Pairs that were tried, and further ones behind them.
+-- Pairs that were tried, and further ones after them.
 use Rattle.std.proofs.Common.{◌≡◌, ◌≤◌, ◌+◌, ◌-◌, ℕ, Bool, true, false, not, cond, List, [], ◌∷◌, ◌++◌, length, map, take, drop, is_some, option_map, arith, min, Global, Option, Some, None, refl, sym, ap, subst, ◌∙◌}
 use Rattle.std.specs.List.{filter}
 use Rattle.std.proofs.lemmas.List.{take-append-drop, length-append, length-map, length-take, length-drop}

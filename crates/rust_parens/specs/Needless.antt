@@ -48,7 +48,7 @@ abbrev pub IsAnswer : Front → Entry → Edition → Parsed → List Cursor →
 IsAnswer front entry edition old pairs None = Refused front entry edition old pairs
 IsAnswer front entry edition old pairs (Some s) = (s ≡ fixed old pairs) × MayGo front entry edition old pairs
 
--- ---- pairs that were tried one behind the other
+-- ---- pairs that were tried one after the other
 
 -- those that go
 abbrev pub chosen : List Tried → List Cursor

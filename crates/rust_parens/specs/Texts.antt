@@ -40,7 +40,7 @@ is_sign a b =
     (a == b && (a == 46 || (a == 58 || (a == 38 || (a == 124 || (a == 60 || (a == 62 || a == 47)))))))
     || ((a == 45 && b == 62) || ((a == 61 && b == 62) || ((a == 60 && b == 45) || ((a == 47 && b == 42) || (a == 42 && b == 47)))))
 
--- two bytes with `=` behind: `==`, `!=`, `<=`, `>=`, `+=`, `-=`, `*=`, `/=`, `%=`, `^=`, `&=`, `|=`
+-- two bytes with `=` after: `==`, `!=`, `<=`, `>=`, `+=`, `-=`, `*=`, `/=`, `%=`, `^=`, `&=`, `|=`
 abbrev pub takes_equals : ℕ → Bool
 takes_equals a =
     a == 61 || (a == 33 || (a == 60 || (a == 62 || (a == 43 || (a == 45 || (a == 42 || (a == 47 || (a == 37 || (a == 94 || (a == 38 || a == 124))))))))))
@@ -58,11 +58,11 @@ abbrev pub blank : Bool → List ℕ
 blank true = 32 ∷ []
 blank false = []
 
--- a token behind a text; where something was left out between, a blank keeps them apart if they would grow together
+-- a token after a text; where something was left out between, a blank keeps them apart if they would grow together
 abbrev pub put : Bool → List ℕ → List ℕ → List ℕ
 put gap s t = s ++ (blank (gap && grow_at (slice_get s (length s - 1)) (slice_get t 0)) ++ t)
 
--- a node or token behind a text: a node adds nothing, and a token that the marks leave out leaves a gap
+-- a node or token after a text: a node adds nothing, and a token that the marks leave out leaves a gap
 abbrev pub with_element : List Bool → List ℕ × Bool → Element → List ℕ × Bool
 with_element marks st (element.Node c) = st
 with_element marks st (element.Token c) = if is_left_out marks (element.Token c) then (st.0, true) else (put st.1 st.0 (text (focus c)), false)

@@ -5,9 +5,9 @@ ghost use Rattle.tree_model.specs.Cursor.{at_node, descendants_of};
 ghost use Rattle.rust_parens.specs.Pairs.{may_go, inside_may_go, parens_of};
 
 use lossless_tree::{SyntaxKind, SyntaxNode, TextRange};
-use ras_prec_walks::parts::first_expr;
-use ras_prec::rules::needs_parens_in_place_of;
 use ras_node::support;
+use ras_prec::rules::needs_parens_in_place_of;
+use ras_prec_walks::parts::first_expr;
 use std::alloc::{AllocError, Global};
 
 /// The ranges of the `(` and of the `)` of a pair; `None` where one is missing.
@@ -35,7 +35,7 @@ fn inside_may_go(pair: &SyntaxNode) -> bool
 /// Whether a node is a pair of parentheses, both there, round an expression that needs none in its place, as
 /// [`needs_parens_in_place_of`] answers.
 ///
-/// The test is one of operators and statements. Where the pair stands in something else, as in the arm of a `match`, the text has to be
+/// The test is one of operators and statements. Where the pair is in something else, as in the arm of a `match`, the text has to be
 /// read again without it to be sure.
 pub fn may_go(node: &SyntaxNode) -> bool
     ensures { result ≡ may_go node.now }
@@ -43,7 +43,7 @@ pub fn may_go(node: &SyntaxNode) -> bool
     node.kind() == SyntaxKind::PAREN_EXPR && parens_of(node).is_some() && inside_may_go(node)
 }
 
-/// The pairs of a tree that may go, in preorder. Where two of them stand in one another, not both may.
+/// The pairs of a tree that may go, in preorder. Where two of them are in one another, not both may.
 pub fn pairs(alloc: Global, root: &SyntaxNode) -> Result<Vec<SyntaxNode>, AllocError>
     ensures { IfOk result (λ found. found.items ≡ filter may_go (filter at_node (descendants_of root.now))) }
 {

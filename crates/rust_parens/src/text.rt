@@ -58,7 +58,7 @@ fn is_word(byte: u8) -> bool
             || ((97 <= byte && byte <= 122) || (byte == b'_' || 128 <= byte)))
 }
 
-// A byte that a word takes in, as `"` behind `b`.
+// A byte that a word takes in, as `"` after `b`.
 fn is_taken(byte: u8) -> bool
     ensures { result ≡ is_taken byte }
 {
@@ -79,7 +79,7 @@ fn is_sign(a: u8, b: u8) -> bool
                     || ((a == b'/' && b == b'*') || (a == b'*' && b == b'/')))))
 }
 
-// A byte that is one sign with `=` behind.
+// A byte that is one sign with `=` after.
 fn takes_equals(a: u8) -> bool
     ensures { result ≡ takes_equals a }
 {
@@ -115,7 +115,7 @@ fn blank(apart: bool) -> &'static str
     if apart { " " } else { "" }
 }
 
-// Puts a token behind a text; where something was left out between, with a blank if they would grow together.
+// Puts a token after a text; where something was left out between, with a blank if they would grow together.
 #[tactic(auto, using(crate::proofs::MarkLemmas::put_both))]
 fn put(out: &mut String, gap: bool, token: &str) -> Result<(), AllocError>
     ensures { OnOk result (string_bytes out.new ≡ put gap (string_bytes out.old) token.now) }
@@ -126,7 +126,7 @@ fn put(out: &mut String, gap: bool, token: &str) -> Result<(), AllocError>
     out.push_str(token)
 }
 
-// Puts a node or token behind a text: a token that the marks leave out leaves a gap. The answer is whether there is a gap behind it.
+// Puts a node or token after a text: a token that the marks leave out leaves a gap. The answer is whether there is a gap after it.
 fn push_element(
     out: &mut String,
     gap: bool,

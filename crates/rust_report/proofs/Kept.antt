@@ -6,7 +6,7 @@ put_behind : {A : Type 0} (before : List A) (x : A) (l : List A) → (before ++ 
 put_behind [] x l = refl
 put_behind (y ∷ ys) x l = ap (λ k. y ∷ k) (put_behind ys x l)
 
--- the first of what is left passes, and is put behind; it does not pass
+-- the first of what is left passes, and is put after; it does not pass
 pub taken : {A B : Type 0} (f : A → B) (test : A → Bool) (before now : List B) (view : B) (x : A) (left rest : List A) (all : List B)
     → now ≡ before ++ view ∷ [] → left ≡ x ∷ rest → view ≡ f x → test x ≡ true → before ++ map f (filter test left) ≡ all
     → now ++ map f (filter test rest) ≡ all

@@ -10,7 +10,7 @@ use Rattle.ras_node.specs.Nodes.{kind_at}
 use Rattle.rust_report.specs.declared.same.Difference.{Difference}
 use Rattle.rust_report.specs.Steps.{Event, Element, step, shown, first_event, first_step, IsFirstDifference}
 
--- the lists are what is left behind fronts that show the same steps
+-- the lists are what is left after fronts that show the same steps
 pub record AreAlike (old new olds news : List Event) : Type 0 where
   pub front : List Event
   pub other : List Event

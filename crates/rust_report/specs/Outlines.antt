@@ -31,7 +31,7 @@ abbrev pub is_name : SyntaxKind → Bool
 is_name (Node kind.NAME) = true
 is_name _ = false
 
--- how many items stand above it, as far as 64 bits count
+-- how many items are above it, as far as 64 bits count
 abbrev pub depth_of : Cursor → ℕ
 depth_of c = min (length (filter (has_kind_in is_listed) (drop 1 (ancestors_of c)))) (2 ^ 64 - 1)
 

@@ -9,14 +9,14 @@ use lossless_tree::{SyntaxKind, SyntaxNode};
 use ras_node::KindSet;
 use std::alloc::{AllocError, Global};
 
-/// An item, its name, and how deep it stands.
+/// An item, its name, and how deep it is.
 #[derive(Drop)]
 pub struct Row {
     /// The item.
     pub item: SyntaxNode,
     /// The node `NAME` of the item; `None` for an `impl`, a `use` and what else has no name of its own.
     pub name: Option<SyntaxNode>,
-    /// How many items stand around it, as far as a `usize` counts.
+    /// How many items are around it, as far as a `usize` counts.
     pub depth: usize,
 }
 

@@ -12,12 +12,12 @@ use lossless_tree::{SyntaxElement, SyntaxKind, SyntaxNode};
 use rust_kinds::from_name;
 use std::alloc::{AllocError, AllocFailed, Global};
 
-/// How what a step of a pattern stands for is related to what stands before it in the pattern.
+/// How what a step of a pattern stands for is related to what is before it in the pattern.
 #[derive(Clone, Copy, Debug, PartialEq, Eq)]
 pub enum Link {
     /// It is a child of it: `>`.
     Child,
-    /// It stands below it, at any depth: `//`.
+    /// It is below it, at any depth: `//`.
     Within,
 }
 
@@ -33,7 +33,7 @@ pub struct Step {
 /// Why a text is no pattern.
 #[derive(Debug, Drop, thiserror::Error)]
 pub enum PatternError {
-    /// Where a kind should stand there is none: at the start, at the end, or between two signs.
+    /// Where a kind should be there is none: at the start, at the end, or between two signs.
     #[error("a kind is missing")]
     NoKind,
     /// A word is the name of no kind.
@@ -90,7 +90,7 @@ fn push_part(alloc: Global, steps: &mut Vec<Step>, part: &str) -> Result<(), Pat
 /// The steps of a pattern, as `FN > NAME` or `CALL_EXPR//PAREN_EXPR`, the last one first: that of the nodes and tokens that are looked
 /// for.
 ///
-/// A step is the name of a kind, or `*` for any. Behind `>` stands a child, behind `//` what stands below at any depth. White space
+/// A step is the name of a kind, or `*` for any. After `>` is a child, after `//` what is below at any depth. White space
 /// round a step means nothing.
 pub fn parse_pattern(alloc: Global, text: &str) -> Result<Vec<Step>, PatternError> {
     let mut steps = Vec::new(alloc);
@@ -112,7 +112,7 @@ fn allows(step: Step, kind: SyntaxKind) -> bool
 
 /// Whether a node or token of a kind, below a parent if there is one, fits the steps of a pattern, the last one first.
 ///
-/// It takes constant time for a step behind `>`, and tries each node above for one behind `//`.
+/// It takes constant time for a step after `>`, and tries each node above for one after `//`.
 pub fn fits(steps: &[Step], kind: SyntaxKind, above: Option<SyntaxNode>) -> bool
     ensures { result ≡ fits steps.now kind above }
 {
@@ -144,7 +144,7 @@ pub fn fits(steps: &[Step], kind: SyntaxKind, above: Option<SyntaxNode>) -> bool
 
 /// The nodes and tokens of a tree that fit a pattern, in preorder.
 ///
-/// A step behind `//` is tried at every node above; a pattern with several of them takes time by the product of these.
+/// A step after `//` is tried at every node above; a pattern with several of them takes time by the product of these.
 pub fn query(
     alloc: Global,
     root: &SyntaxNode,

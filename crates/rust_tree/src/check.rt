@@ -56,7 +56,7 @@ fn write_many<W: Write>(out: &mut W, sign: &str, count: u64) -> io::Result<()> {
     Ok(())
 }
 
-// White space as wide as what stands before a column.
+// White space as wide as what precedes a column.
 fn write_blanks<W: Write>(out: &mut W, line: &str, column: u64) -> io::Result<()> {
     let mut at = 1u64;
     for sign in line.chars() {

@@ -212,7 +212,7 @@ fn role_of_word(token: &SyntaxToken) -> Role {
     }
 }
 
-// Whether a token is one of an attribute, or of the path of what it says: a name stands four nodes below that.
+// Whether a token is one of an attribute, or of the path of what it says: a name is four nodes below that.
 fn is_of_attribute(token: &SyntaxToken) -> bool {
     match token.parent() {
         Some(parent) => {

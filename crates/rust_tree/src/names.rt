@@ -12,7 +12,7 @@ fn name_by(digits: &str) -> Option<&'static str> {
     }
 }
 
-// What a line says behind `OTHER(`: the name in its place, and what follows.
+// What a line says after `OTHER(`: the name in its place, and what follows.
 fn named<'a>(line: &'a str) -> Option<(&'static str, &'a str)> {
     let (digits, rest) = line.split_once(')')?;
     let name = name_by(digits)?;

@@ -26,7 +26,7 @@ pub enum Drawing {
     Html,
 }
 
-/// Where the part of a tree that is shown stands.
+/// Where the part of a tree that is shown is.
 #[derive(Clone, Copy, Debug)]
 pub enum Part {
     /// The whole tree.
@@ -126,7 +126,7 @@ fn write_sexp<W: Write>(alloc: Global, out: &mut W, element: &SyntaxElement) -> 
     }
 }
 
-// What stands before an element: a line feed and an indentation, or a comma between two.
+// What precedes an element: a line feed and an indentation, or a comma between two.
 fn write_before<W: Write>(
     out: &mut W,
     drawing: Drawing,
@@ -151,7 +151,7 @@ fn write_before<W: Write>(
     }
 }
 
-// What stands behind what an element holds.
+// What follows what an element holds.
 fn write_behind<W: Write>(
     out: &mut W,
     drawing: Drawing,
@@ -307,7 +307,7 @@ fn part_of(
     })
 }
 
-// The node that a page is of: the part, or the node that a token stands in.
+// The node that a page is of: the part, or the node that a token is in.
 fn node_of(root: &SyntaxNode, part: &SyntaxElement) -> SyntaxNode {
     match part {
         NodeOrToken::Node(node) => share(node),

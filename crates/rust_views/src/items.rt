@@ -36,7 +36,7 @@ pub fn extern_crate_rename(it: &ast::ExternCrate) -> Option<Rename>
     support::child(it.syntax())
 }
 
-/// The name behind `as`, if there is one.
+/// The name after `as`, if there is one.
 pub fn rename_name(it: &Rename) -> Option<ast::Name>
     ensures { IsFirstChild ⟦<ast::Name as AstNode>⟧ (⟦<Rename as AstNode>⟧.node it.now) result }
 {

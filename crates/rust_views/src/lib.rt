@@ -1,6 +1,6 @@
 //! Views of the nodes of Rust's trees for whose kinds `SyntaxKind` has no constant, and the lookups that lead to them and on from them.
 //!
-//! All other views are those of `ra_ap_syntax`. The lookups here are functions, since the views that they are asked of stand there:
+//! All other views are those of `ra_ap_syntax`. The lookups here are functions, since the views that they are asked of are there:
 //! `variant_list(&it)` is rust-analyzer's `it.variant_list()`. A call takes time in the children that it passes, and no memory.
 #![tactic(auto)]
 
@@ -40,5 +40,5 @@ pub type RecordPatFieldList = Typed<{ raw::RECORD_PAT_FIELD_LIST }>;
 /// The types of the arguments in a path: `(A, B)` in `Fn(A, B) -> C`.
 pub type ParenthesizedArgList = Typed<{ raw::PARENTHESIZED_ARG_LIST }>;
 
-/// `(..)` behind a function's name in a bound.
+/// `(..)` after a function's name in a bound.
 pub type ReturnTypeSyntax = Typed<{ raw::RETURN_TYPE_SYNTAX }>;

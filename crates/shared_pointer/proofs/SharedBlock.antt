@@ -1,4 +1,4 @@
--- The block of a `Shared`: its three fields as cells, and the names of what stands in it. Assumes `Logic`.
+-- The block of a `Shared`: its three fields as cells, and the names of what is in it. Assumes `Logic`.
 --     block_filled        a block that was just written is a count of 1 and what the last owner gets
 --     contents_lend       what the last owner gets may be lent: it shows the value
 --     contents_split      the same, as cells
@@ -67,7 +67,7 @@ module _ (E : Bx) where
   abbrev pub rejoined : ℕ → ℕ → Fml
   rejoined b o = rejoin (P E) (R E) (block_ptr b o)
 
-  -- what stands at c, where the value x lies
+  -- the node or token at c, where the value x lies
   module _ (c : Ptr) (x : X E) where
     abbrev pub counter : ℕ → Fml
     counter = count_at c

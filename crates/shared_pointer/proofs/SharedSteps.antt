@@ -1,9 +1,9 @@
 -- What the walks of `Shared` have in common: a step opens something in the walk's context, or puts it back. Assumes `Logic`.
---     count_opened, count_shut           the invariant: the count's cell, what stands beside it, and what shuts it again
+--     count_opened, count_shut           the invariant: the count's cell, what is beside it, and what shuts it again
 --     one_more, one_more_at_full         an owner more, below the full count and at it
 --     one_less, last_one                 an owner less, and the last one
 --     owner_split, owner_joined          an owner by value
---     borrow_opened, borrow_shut         an owner behind a `&`
+--     borrow_opened, borrow_shut         an owner after a `&`
 use mathlib.Core.Path.{◌≡◌, refl, sym}
 use mathlib.Core.Bool.{Bool, true, false}
 use Prim.Native.Nat.{ℕ, ◌+◌, ◌-◌, ◌<◌, ◌^◌}

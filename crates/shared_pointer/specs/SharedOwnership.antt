@@ -1,6 +1,6 @@
 -- What a `Shared` owns, and what a `&` to one lends.
 --
--- The value stands in its block as long as a lifetime `alive` lasts. Its token is cut into 2 ^ 64 counted parts.
+-- The value is in its block as long as a lifetime `alive` lasts. Its token is cut into 2 ^ 64 counted parts.
 -- An owner holds one part, its ticket, so `alive` can't end, and the value can't go, while there is an owner.
 -- An invariant holds the count's cell and the till: all parts that no owner holds. With the last owner the till is
 -- whole again, `alive` ends, and the value and the block come back.
@@ -85,7 +85,7 @@ till a false n = fex (n ≡ full_count) (λ _. fsep (full_for_good a) (any_part 
 
 -- `count n` is the count's cell with n in it, and `contents` is what the last owner gets
 module _ (count : ℕ → Fml) (contents : Fml) where
-  -- what stands beside the count: the till, and `contents`, lent out until `alive` ends
+  -- what is beside the count: the till, and `contents`, lent out until `alive` ends
   abbrev pub vault : Marks → Bool → ℕ → Fml
   vault a y n = fsep (till a y n) (flent (a.alive ∷ []) contents)
 

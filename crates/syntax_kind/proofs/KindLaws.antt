@@ -27,7 +27,7 @@ number_at-kind_name (Token t) h = token_number t
 number_at-kind_name (Node t) h = node_number t
 number_at-kind_name (OTHER n) h = absurd (omega arith)
 
--- the bracket of `OTHER(n)` stands in no other name
+-- the bracket of `OTHER(n)` is in no other name
 abbrev has_bracket : List ℕ → Bool
 has_bracket name = get_or name 5 0 == 40
 

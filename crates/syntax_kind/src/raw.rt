@@ -2,8 +2,6 @@
 //! [`SyntaxKind::to_raw`](crate::SyntaxKind::to_raw) gives. A view knows its kind by such a number.
 use crate::{NodeKind, TokenKind};
 
-pub mod laws;
-
 // The number of the first kind of node: those of the kinds of tokens come before it.
 const FIRST_NODE: u32 = 117;
 

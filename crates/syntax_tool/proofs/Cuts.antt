@@ -29,7 +29,7 @@ cut_once c (x ∷ xs) ys (u ∷ us) vs h k e =
     let w = cut_once c xs ys us vs h.1 k.1 rest in
     (ap (λ y. y ∷ xs) head ∙ ap (λ l. u ∷ l) w.0, w.1)
 
--- what stands before the first c, where the text is such a front and c
+-- what precedes the first c, where the text is such a front and c
 pub cut_at_first : (c : ℕ) (text before after us vs : List ℕ) → IsCut c text before after → HasNo c us → text ≡ us ++ c ∷ vs → (us ≡ before) × (vs ≡ after)
 cut_at_first c text before after us vs (lacks, inl is) k e = cut_once c us vs before after k lacks (sym e ∙ is)
 cut_at_first c text before after us vs (lacks, inr whole) k e = absurd (has_no_before c us vs (subst (HasNo c) (sym whole.0 ∙ e) lacks))
@@ -59,7 +59,7 @@ some_bytes text r h e = grind (arith, nat_tests)
 pub no_bytes : (text : List ℕ) (r : Bool) → r ≡ true → r ≡ (length text == 0) → length text ≡ 0
 no_bytes text r h e = grind (arith, nat_tests)
 
--- the first line and what stands behind it, by the first newline
+-- the first line and what follows it, by the first newline
 pub line_is : {A : Type 0} (bs : List ℕ) (before behind : A → List ℕ) (r : Option A)
     → MatchOption r ((i : ℕ) → i < length bs → get_or bs i 0 ≢ 10) (λ x. (bs ≡ before x ++ 10 ∷ behind x) × ((i : ℕ) → i < length (before x) → get_or (before x) i 0 ≢ 10))
     → IfSome r (λ x. IsLine bs (before x) (behind x))

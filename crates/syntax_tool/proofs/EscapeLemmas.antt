@@ -44,7 +44,7 @@ unescaped-all_plain raw plain out whole h is e =
     e ∙ ap (option_map (λ t. out ++ t)) (ap unescaped (sym (append-nil plain)) ∙ unescaped-plain plain [] h)
     ∙ ap (λ t. Some (out ++ t)) (append-nil plain) ∙ ap Some (sym is)
 
--- a backslash, and what stands behind it
+-- a backslash, and what follows it
 unescaped-escape : (letter : ℕ) (rest : List ℕ) → unescaped (92 ∷ (letter ∷ rest)) ≡ option_and_then (λ e. option_map (λ t. e ∷ t) (unescaped rest)) (escape_of letter)
 unescaped-escape letter rest = refl
 
@@ -80,7 +80,7 @@ pub head_of : (bs after : List ℕ) (letter : ℕ) → bs ≡ after → 0 < leng
 head_of bs [] letter is some h = absurd (omega (arith, ap length is, some))
 head_of bs (b ∷ after) letter is some h = ap (λ x. x ∷ after) (sym (h ∙ ap (λ l. get_or l 0 0) is))
 
--- behind an ASCII letter a text may be cut
+-- after an ASCII letter a text may be cut
 pub cut_behind : (bs after : List ℕ) (letter c : ℕ) → bs ≡ after → IsUtf8 bs → 0 < length bs → letter ≡ get_or bs 0 0 → escape_of letter ≡ Some c → IsCharBoundary after 1
 cut_behind bs after letter c is u some h e =
     subst (λ l. IsCharBoundary l 1) is (IsCharBoundary-after_ascii bs 0 u some (omega (arith, (escape_of-ascii letter c e).0, h)))

@@ -17,7 +17,7 @@ if_newline n x y h = grind (arith, nat_tests)
 if_other : {A : Type 0} (n : ℕ) (x y : A) → n ≢ 10 → (if n == 10 then x else y) ≡ y
 if_other n x y h = grind (arith, nat_tests)
 
--- the first line, and those behind its newline
+-- the first line, and those after its newline
 lines_of-line : (line after : List ℕ) → HasNo 10 line → lines_of (line ++ 10 ∷ after) ≡ line ∷ lines_of after
 lines_of-line [] after h = if_newline 10 ([] ∷ lines_of after) (onto_first 10 (lines_of after)) refl
 lines_of-line (b ∷ line) after h = if_other b ([] ∷ lines_of (line ++ 10 ∷ after)) (onto_first b (lines_of (line ++ 10 ∷ after))) h.0 ∙ ap (onto_first b) (lines_of-line line after h.1)
@@ -75,7 +75,7 @@ module _ (whole : List (List ℕ)) (line after text : List ℕ) (cut : IsCut 10 
 pub no_fault : (line : List ℕ) (d f : Draft) → AppendsEvent line d f → d.faults ≡ [] → f.faults ≡ []
 no_fault line d f (e, reads, is) h = ap (λ (l : Draft). l.faults) is ∙ h
 
--- nothing stands behind the last line
+-- nothing follows the last line
 pub read_all : (whole : List (List ℕ)) (text : List ℕ) (es : List Event) → length text ≡ 0 → ((r : Result (List Event) Refusal) → ReadsLines (lines_of text) r → ReadsLines whole (behind es r)) → ReadsLines whole (Ok es)
 read_all whole [] es empty h = subst (λ l. ReadsLines whole (Ok l)) (append-nil es) (h (Ok []) refl)
 read_all whole (b ∷ text) es empty h = absurd (omega (arith, empty))
@@ -88,12 +88,12 @@ read_none whole es empty r h = subst (λ l. ReadsLines whole (behind l r)) (sym 
     same (Ok fs) h = h
     same (Err x) h = h
 
--- what stands behind the first line is shorter
+-- what follows the first line is shorter
 pub cut_shorter : (text line after : List ℕ) → IsCut 10 text line after → 0 < length text → length after < length text
 cut_shorter text line after (lacks, inl is) some = omega (arith, ap length is, length-append line (10 ∷ after))
 cut_shorter text line after (lacks, inr last) some = omega (arith, ap length last.1, some)
 
--- what stands behind the first line is text
+-- what follows the first line is text
 pub cut_is_text : (text line after : List ℕ) → IsCut 10 text line after → IsUtf8 text → IsUtf8 after
 cut_is_text text line after (lacks, inl is) u =
     let there : get_or text (length line) 0 ≡ 10 = ap (λ l. get_or l (length line) 0) is ∙ get_or-append_seam line 10 after 0 in

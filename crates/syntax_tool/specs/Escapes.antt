@@ -2,7 +2,7 @@
 use Rattle.std.specs.Prelude.{ℕ, List, [], ◌∷◌, Option, None, Some, option_map, ◌==◌, if◌then◌else◌}
 use Rattle.std.specs.Option.{option_and_then}
 
--- what the letter behind a backslash stands for
+-- what the letter after a backslash stands for
 abbrev pub escape_of : ℕ → Option ℕ
 escape_of b =
     if b == 110 then Some 10

@@ -12,7 +12,7 @@ abbrev pub onto_first : ℕ → List (List ℕ) → List (List ℕ)
 onto_first b [] = (b ∷ []) ∷ []
 onto_first b (l ∷ ls) = (b ∷ l) ∷ ls
 
--- the lines of a text: what stands between its newlines, and behind the last one
+-- the lines of a text: what is between its newlines, and after the last one
 abbrev pub lines_of : List ℕ → List (List ℕ)
 lines_of [] = [] ∷ []
 lines_of (b ∷ bs) = if b == 10 then [] ∷ lines_of bs else onto_first b (lines_of bs)
@@ -28,11 +28,11 @@ abbrev pub HasNo : ℕ → List ℕ → Type 0
 HasNo c [] = ⊤
 HasNo c (b ∷ bs) = (b ≢ c) × HasNo c bs
 
--- the text, cut at the first c: what stands before it and behind it, or all and nothing where there is none
+-- the text, cut at the first c: what is before it and after it, or all and nothing where there is none
 abbrev pub IsCut : ℕ → List ℕ → List ℕ → List ℕ → Type 0
 IsCut c text before after = HasNo c before × ((text ≡ before ++ c ∷ after) ⊎ ((text ≡ before) × (after ≡ [])))
 
--- the first line of a text, which ends in a newline, and what stands behind it
+-- the first line of a text, which ends in a newline, and what follows it
 abbrev pub IsLine : List ℕ → List ℕ → List ℕ → Type 0
 IsLine text line behind = HasNo 10 line × (text ≡ line ++ 10 ∷ behind)
 
@@ -41,7 +41,7 @@ pub record IsWord (bytes : List ℕ) : Type 0 where
   pub some : 0 < length bytes
   pub no_space : HasNo 32 bytes
 
--- `token KIND`, with or without one space behind it, stands for the empty text; `token KIND TEXT` for that text, in which
+-- `token KIND`, with or without one space after it, stands for the empty text; `token KIND TEXT` for that text, in which
 -- a backslash begins an escape
 abbrev pub IsTokenLine : List ℕ → List ℕ → List ℕ → Type 0
 IsTokenLine line kind t =

@@ -18,7 +18,7 @@ use Rattle.syntax_tool.specs.Lines.{HasNo, IsCut, IsLine}
 abbrev pub is_digit : ℕ → Bool
 is_digit b = nat_le 48 b && nat_le b 57
 
--- the number that digits go on to, behind those of n; 2^64 - 1, which is longer than any text, stands for what is greater
+-- the number that digits go on to, after those of n; 2^64 - 1, which is longer than any text, stands for what is greater
 abbrev pub value_from : ℕ → List ℕ → ℕ
 value_from n [] = n
 value_from n (b ∷ bs) = value_from (min (10 * n + (b - 48)) (2 ^ 64 - 1)) bs
@@ -39,7 +39,7 @@ abbrev pub told : Option Bounds → List ℕ
 told None = codes "whole\n"
 told (Some range) = codes "piece " ++ range_text range ++ codes "\n"
 
--- the new parse: a piece was read anew in place of a range, or all was
+-- the new parse: a piece was parsed again in place of a range, or all was
 abbrev pub IsReread : Parsed → Edit → Option Bounds → Parsed → Type 0
 IsReread old edit (Some range) new = IsIncremental tiny_front Edition2024 old edit (Some (new, range))
 IsReread old edit None new = IsIncremental tiny_front Edition2024 old edit None × IsParseOf (edited (text old.tree) edit) (tiny_front.parsed SourceFile Edition2024 (edited (text old.tree) edit)) new
@@ -68,7 +68,7 @@ abbrev pub AnswersRequest : Option ℕ → Option ℕ → Option (List ℕ) → 
 AnswersRequest (Some start) (Some end) (Some insert) s r = AnswersRange s start end insert r
 AnswersRequest _ _ _ s r = r ≡ Err BadLine
 
--- the text begins with two lines, and this stands behind them
+-- the text begins with two lines, and this follows them
 abbrev pub AreLines : List ℕ → List ℕ → List ℕ → List ℕ → Type 0
 AreLines text first second whole = (behind : List ℕ) × IsLine text first behind × IsLine behind second whole
 

@@ -11,7 +11,7 @@ pub enum Command {
     Dump,
     /// An expression's text to whether its tree reads back, and its needless pairs of parentheses.
     Parens,
-    /// An edit and a file's text to the dump of the tree after the edit, and what was read anew.
+    /// An edit and a file's text to the dump of the tree after the edit, and what was parsed again.
     Reparse,
 }
 

@@ -4,7 +4,7 @@ ghost use Rattle.syntax_tool.specs.Escapes.{escape_of, unescaped};
 
 use crate::refusal::Refusal;
 
-// What the letter behind a backslash stands for.
+// What the letter after a backslash stands for.
 fn escape_of(letter: u8) -> Option<char>
     ensures { result ≡ escape_of letter }
 {

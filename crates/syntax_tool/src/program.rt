@@ -30,7 +30,7 @@ fn output<R: Read>(alloc: Global, command: Command, reader: &mut R) -> Result<St
 /// `reads_back false` or `reads_back none`, and a line `needless a..b` for each pair of parentheses that may go. `reparse`
 /// reads a line `START END`, a line with the text that is put in its place, in which `\n`, `\r`, `\t` and `\\` are escapes and
 /// any other backslash is refused, and a file of that language; where one of the two lines has no newline, the input is refused.
-/// It writes a line `piece a..b`, the range in the old text that was read anew, or `whole`, and then what `dump` writes of the
+/// It writes a line `piece a..b`, the range in the old text that was parsed again, or `whole`, and then what `dump` writes of the
 /// text after the edit. The status is 0. Where the input is refused, the line `refused: NAME` is written with the name of a [`Refusal`], and the status is 1.
 /// Every other word names no command: the usage line is written, the status is 2, and nothing is read. All output is made before
 /// the first byte is written; a write that fails gives status 1 and leaves a prefix of the output.

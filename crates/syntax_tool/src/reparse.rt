@@ -77,7 +77,7 @@ fn report(
     Ok(out)
 }
 
-// The parse after an edit, and the range that was read anew, where not all was.
+// The parse after an edit, and the range that was parsed again, where not all was.
 fn edit_parse(
     alloc: Global,
     old: &Parse<SourceFile>,
@@ -134,7 +134,7 @@ fn range_answer(
     edit_answer(alloc, &old, delete, insert)
 }
 
-// The first line without its newline, and what stands behind it; nothing where there is no newline.
+// The first line without its newline, and what follows it; nothing where there is no newline.
 fn first_line(text: &str) -> Option<(&str, &str)>
     ensures is { IfSome result (λ p. IsLine text.now p.0.now p.1.now) }
     ensures none { IfNone result (HasNo 10 text.now) }
@@ -142,7 +142,7 @@ fn first_line(text: &str) -> Option<(&str, &str)>
     text.split_once('\n')
 }
 
-// The answer to the two lines of a request and the text behind them.
+// The answer to the two lines of a request and the text after them.
 fn lines_answer(alloc: Global, first: &str, second: &str, whole: &str) -> Result<String, Refusal>
     ensures { MatchResult result
         (λ out. AnswersLines first.now second.now whole.now (Ok (string_bytes out)))

@@ -119,7 +119,7 @@ fn the_first_child_is_replaced(rt: HostRuntime) -> Result<(), Fail> {
     ensure_parents(&rt, &new)
 }
 
-// The last sibling behind this one, or it.
+// The last sibling after this one, or it.
 fn last_from(first: SyntaxElement) -> SyntaxElement {
     let mut last = first;
     for _step in 0..9 {
@@ -272,7 +272,7 @@ fn ensure_first_sibling(root: &SyntaxNode) -> Result<(), Fail> {
     ensure(number.inside().is_done(), "inside a token")
 }
 
-// The siblings behind it.
+// The siblings after it.
 fn ensure_later_siblings(root: &SyntaxNode) -> Result<(), Fail> {
     let sign = root.trees().rest().without_trivia();
     ensure(sign.kind() == SyntaxKind::PLUS, "kind behind trivia")?;
@@ -282,7 +282,7 @@ fn ensure_later_siblings(root: &SyntaxNode) -> Result<(), Fail> {
     ensure(last.start().raw() == 4, "start of the last")
 }
 
-// What is behind the last one.
+// What is after the last one.
 fn ensure_end_of_siblings(root: &SyntaxNode) -> Result<(), Fail> {
     let sign = root.trees().rest().without_trivia();
     let none = sign.rest().without_trivia().rest();

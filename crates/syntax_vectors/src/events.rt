@@ -85,7 +85,7 @@ fn texts_in_dumps(rt: HostRuntime) -> Result<(), Fail> {
         b"enter NAME\ntoken STRING \\r\\t\\\\\x00\x01\x1f\x7f\nexit\n",
         b"NAME@0..7\n  STRING@0..7 \"\\r\\t\\\\\\0\\u{1}\\u{1f}\\u{7f}\"\n",
     )?;
-    // The boundary from byte 21 on is behind a character of two, three and four bytes; such characters stand as they are.
+    // The boundary from byte 21 on is after a character of two, three and four bytes; such characters are as they are.
     expect_dump(
         &rt,
         b"enter NAME\ntoken COMMENT aaaaaaaaaaaaaaaaaaaa\xc3\xa9bbbb\nexit\n",
@@ -243,7 +243,7 @@ fn the_end_is_read_once(rt: HostRuntime) -> Result<(), Fail> {
     Ok(())
 }
 
-// The reader would go on behind the failure, and is not asked to.
+// The reader would go on after the failure, and is not asked to.
 #[test]
 fn each_read_fails_in_turn(rt: HostRuntime) -> Result<(), Fail> {
     let reads = STORED.len().div_ceil(7);

@@ -53,7 +53,7 @@ pub struct Sink {
 }
 
 impl Sink {
-    /// What is written goes behind the bytes of `written`.
+    /// What is written goes after the bytes of `written`.
     pub fn new(written: Vec<u8>, step: usize, writes: usize) -> Self {
         Sink {
             written,

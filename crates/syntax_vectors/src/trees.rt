@@ -109,7 +109,7 @@ fn elements_are_nodes_or_tokens(rt: HostRuntime) -> Result<(), Fail> {
     Ok(())
 }
 
-// The element behind the first child.
+// The element after the first child.
 fn second(root: &SyntaxNode) -> Option<SyntaxElement> {
     root.first_child_or_token()?.next_sibling_or_token()
 }

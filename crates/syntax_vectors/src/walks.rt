@@ -236,7 +236,7 @@ fn siblings_are(
     )
 }
 
-// What stands above a node or token.
+// What is above a node or token.
 fn ancestors_are(rt: &HostRuntime, plain: &PlainTree, element: &SyntaxElement) -> Result<(), Fail> {
     let kind = element.kind();
     let mut above = Vec::new(rt.alloc());

@@ -28,7 +28,7 @@ pub struct Parser {
     // the next token, and its position
     pub at: usize,
     pub position: TextSize,
-    // the token behind the last one taken
+    // the token after the last one taken
     pub end: usize,
     // a part is lacking, and the goals round it give up
     pub failed: bool,

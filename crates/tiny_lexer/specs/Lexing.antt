@@ -16,7 +16,7 @@ use Rattle.tiny_lexer.specs.Scans.{begin_of, goes_on_of, scan_kind_of, problem_o
 abbrev pub size_of : List ℕ → ℕ
 size_of w = if nat_lt (length w) (2 ^ 32) then length w else 0
 
--- the position behind n more bytes, where that has 32 bits
+-- the position after n more bytes, where that has 32 bits
 abbrev pub later_of : ℕ → ℕ → ℕ
 later_of a n = min (a + n) (2 ^ 32 - 1)
 

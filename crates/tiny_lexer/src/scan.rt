@@ -15,10 +15,10 @@ pub enum Scan {
     Number,
     LineComment,
     BlockComment,
-    // behind a `*`
+    // after a `*`
     BlockStar,
     Text,
-    // behind a backslash
+    // after a backslash
     TextEscape,
     Unknown,
     Colon,

@@ -224,7 +224,7 @@ inner (after {u = v} {r} {n} {m} {i} {p} {t} {b} {d} is_m is_d a) =
       | inr w ↦ inr (inner_after v r n m i p t b d is_m is_d a w)
     ]
 
--- what stands before a top place ends before it
+-- what precedes a top place ends before it
 pub earlier_ends : {f : Forest} {n m i : ℕ} {p : Place} {t u : Tree} {b d : ℕ} → At f n (i ∷ []) t b → At f m p u d → m < n → m + size u ≤ n
 earlier_ends here other h = absurd (omega arith)
 earlier_ends (below a) other h = absurd (no_empty_place a)
@@ -236,7 +236,7 @@ pub forest_size-cons : (u : Tree) (r : Forest) → forest_size (cons u r) ≡ si
 forest_size-cons (token k x) r = omega arith
 forest_size-cons (node k c) r = omega arith
 
--- what stands after a top place
+-- what is after a top place
 pub next_top : {f : Forest} {n i : ℕ} {t : Tree} {b : ℕ} → At f n (i ∷ []) t b
     → (At f (n + size t) (suc i ∷ []) (child_at f (suc i)) (b + length (text t)) × (suc i < child_count f)) ⊎ ((n + size t ≡ forest_size f) × (child_count f ≡ suc i))
 next_top (here {u} {r = nil}) = inr (omega (arith, forest_size-cons u nil), refl)

@@ -111,7 +111,7 @@ towards_last asked rs i d empty none lt ends later =
     above : (a b : ℕ) → b < a → nat_le a b ≡ false
     above a b h = grind (arith, nat_tests)
 
--- to the first child where all end behind an empty range which none holds
+-- to the first child where all end after an empty range which none holds
 pub towards_first : (asked : Bounds) (rs : List Bounds) → asked.end ≤ asked.start → ((j : ℕ) (d : Bounds) → j < length rs → holds asked (get_or rs j d) ≡ false)
     → 0 < length rs → ((j : ℕ) (e : Bounds) → j < length rs → asked.start < (get_or rs j e).end) → child_towards asked rs ≡ Some 0
 towards_first asked rs empty none some later =

@@ -7,7 +7,7 @@ use Rattle.tree_model.specs.Edit.{splice, set_child, replace, Within, end, text_
 use Rattle.tree_model.proofs.Texts.{forest_text-cons}
 use Rattle.tree_model.proofs.PlaceLemmas.{places_are_reached}
 
--- old and new have the same bytes before the pieces x and y, and the same behind them
+-- old and new have the same bytes before the pieces x and y, and the same after them
 pub record Swapped (old new x y : List ℕ) (at : ℕ) : Type 0 where
   pub before : List ℕ
   pub behind : List ℕ
@@ -45,7 +45,7 @@ swapped (node k c) (i ∷ p) u h =
       at_is = omega (arith, length-append w.before v.before, w.at_is, v.at_is);
     }
 
--- what a text with a piece in it is before the piece, and behind it
+-- what a text with a piece in it is before the piece, and after it
 taken : (s before x behind : List ℕ) (n : ℕ) → s ≡ before ++ (x ++ behind) → length before ≡ n → take n s ≡ before
 taken s before x behind n is e = ap (take n) is ∙ ap (λ m. take m (before ++ (x ++ behind))) (sym e) ∙ take-append_seam before (x ++ behind)
 

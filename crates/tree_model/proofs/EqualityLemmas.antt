@@ -1,4 +1,4 @@
--- Equal cursors stand at one row.
+-- Equal cursors are at one row.
 use Rattle.std.proofs.Common.{◌≡◌, ℕ, ◌<◌, Bool, true, false, sym, ap, subst, ◌∙◌}
 use Rattle.tree_model.specs.Tree.{Tree, size}
 use Rattle.tree_model.specs.Rows.{place_at}

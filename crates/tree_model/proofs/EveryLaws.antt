@@ -16,7 +16,7 @@ same_tests : {A : Type 0} (f g : A → Bool) → ((x : A) → f x ≡ g x) → (
 same_tests f g h [] = refl
 same_tests f g h (x ∷ xs) = cong₂ (λ a b. a && b) (h x) (same_tests f g h xs)
 
--- h tests the places of a forest whose first tree is child number i as f tests what stands there
+-- h tests the places of a forest whose first tree is child number i as f tests what is there
 every_from : (f : Tree → Bool) (h : Place → Bool) (i : ℕ) (c : Forest) → ((j : ℕ) (q : Place) → h ((i + j) ∷ q) ≡ f (subtree (child_at c j) q)) → list_all h (places_from i c) ≡ every_in f c
 every_from f h i nil same = refl
 every_from f h i (cons (token k t) r) same =

@@ -58,7 +58,7 @@ distinct_tokens c =
     let rows = all_rows c.tree ∙ ap (λ p. descendants_of (record { tree = c.tree; place = p })) (root_place c.tree) in
     subst (λ l. Distinct (filter at_token l)) rows (distinct_kept at_token _ (distinct_rows c.tree 0 (size c.tree) (omega arith)))
 
--- ---- what stands on either side in a list
+-- ---- what is on either side in a list
 
 avoids_inside : (x c : Cursor) (front back : List Cursor) → Avoids x (front ++ c ∷ back) → x ≡ c → ⊥
 avoids_inside x c [] back a = a.0
@@ -89,7 +89,7 @@ after_in c all front back d e =
     ∙ ap (λ n. drop (n + 1) (front ++ c ∷ back)) (found_at c front back (subst Distinct e d))
     ∙ drop-append-add front (c ∷ back) 1
 
--- ---- the tokens behind one, and before it
+-- ---- the tokens after one, and before it
 
 pub tokens_behind : (c : Cursor) (front back : List Cursor) → all_tokens c ≡ front ++ c ∷ back → tokens_beyond Next c ≡ back
 tokens_behind c front back e = after_in c (all_tokens c) front back (distinct_tokens c) e

@@ -8,7 +8,7 @@ use Rattle.tree_model.specs.Rows.{place_at, tree_at, start_at}
 use Rattle.tree_model.proofs.At.{At, At-unique, At-same_row, At-fits, some_row, forest_size-cons, place_above-append, last_position-append}
 use Rattle.tree_model.proofs.TableLemmas.{at_row}
 
--- the place of a row that is known to stand somewhere
+-- the place of a row that is known to be somewhere
 pub place_from_At : {whole : Tree} {n : ℕ} {i : ℕ} {p : Place} {t : Tree} {b : ℕ} → At (cons whole nil) n (i ∷ p) t b → p ≡ place_at whole n
 place_from_At {whole} {n} {i} {p} {t} a =
     let lt : n < size whole = omega (arith, At-fits a, some_row t, forest_size-cons whole nil) in

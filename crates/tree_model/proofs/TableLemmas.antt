@@ -26,7 +26,7 @@ last_end_at whole n e h is_e h' =
       | inr done ↦ omega (arith, done.1, ap length (forest_text-cons whole nil), length-append (text whole) [])
     ]
 
--- where a subtree's text stands in the text
+-- where a subtree's text is in the text
 pub record Cut (s : List ℕ) (whole : Tree) (n : ℕ) : Type 0 where
   pub start_in_order : start_at whole n ≤ end_at whole n
   pub end_in_text : end_at whole n ≤ length s

@@ -28,7 +28,7 @@ range_start c = start c.tree c.place
 abbrev pub range_end : Cursor → ℕ
 range_end c = start c.tree c.place + length (text (focus c))
 
--- the cursor stands at the root of its tree
+-- the cursor is at the root of its tree
 abbrev pub IsRoot : Cursor → Type 0
 IsRoot c = c.place ≡ []
 
@@ -81,7 +81,7 @@ abbrev pub siblings_in : Direction → Cursor → List Cursor
 siblings_in Next c = c ∷ following_of c
 siblings_in Prev c = c ∷ preceding_of c
 
--- the cursor stands at a node; at a token
+-- the cursor is at a node; at a token
 abbrev pub at_node : Cursor → Bool
 at_node c = is_node (focus c)
 
@@ -100,7 +100,7 @@ descendants_of c = map (λ q. at_place c (c.place ++ q)) (places (focus c))
 abbrev pub all_tokens : Cursor → List Cursor
 all_tokens c = filter at_token (descendants_of (at_place c []))
 
--- what stands right behind x in the list, if anything does; and right before it
+-- what follows directly x in the list, if anything does; and right before it
 abbrev pub IsRightBehind : {A : Type 0} → List A → A → Option A → Type 0
 IsRightBehind {A} l x r =
     MatchOption r ((front : List A) × (l ≡ front ++ x ∷ [])) (λ y. (front : List A) × (back : List A) × (l ≡ front ++ x ∷ (y ∷ back)))

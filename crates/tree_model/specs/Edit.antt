@@ -22,7 +22,7 @@ abbrev pub with_child : Tree → ℕ → Tree → Tree
 with_child (node k c) i u = node k (set_child c i u)
 with_child (token k t) i u = token k t
 
--- the tree with the piece u in place of what stands at a place
+-- the tree with the piece u in place of the node or token at a place
 abbrev pub replace : Tree → Place → Tree → Tree
 replace t [] u = u
 replace t (i ∷ p) u = with_child t i (replace (child_at (forest_of_children t) i) p u)
@@ -36,7 +36,7 @@ Within t (i ∷ p) = (i < child_count (forest_of_children t)) × Within (child_a
 abbrev pub end : Tree → Place → ℕ
 end t p = start t p + length (text (subtree t p))
 
--- the text before a place, and behind it
+-- the text before a place, and after it
 abbrev pub text_before : Tree → Place → List ℕ
 text_before t p = take (start t p) (text t)
 
@@ -47,7 +47,7 @@ text_behind t p = drop (end t p) (text t)
 abbrev pub PlacesAreReached : Type 0
 PlacesAreReached = (t : Tree) (p : Place) → IsPlace t p ↔ Within t p
 
--- the whole text is what stands before a place, at it and behind it, and the place starts where the first part ends
+-- the whole text is what precedes a place, at it and after it, and the place starts where the first part ends
 abbrev pub TextAround : Type 0
 TextAround =
     (t : Tree) (p : Place) → IsPlace t p
@@ -61,7 +61,7 @@ PlacesEndWithin = (t : Tree) (p : Place) → IsPlace t p → end t p ≤ length 
 abbrev pub RootIsPlace : Type 0
 RootIsPlace = (t : Tree) → IsPlace t []
 
--- the text of a tree with a piece replaced is the spliced text, and the piece stands at its place
+-- the text of a tree with a piece replaced is the spliced text, and the piece is at its place
 abbrev pub ReplacedText : Type 0
 ReplacedText =
     (t : Tree) (p : Place) (u : Tree) → IsPlace t p

@@ -1,5 +1,5 @@
 -- Whether two trees, and two cursors, are the same.
--- (Upstream: `rowan`'s `SyntaxNode: PartialEq`; there two cursors are equal where they stand at the same node of one tree in memory.)
+-- (Upstream: `rowan`'s `SyntaxNode: PartialEq`; there two cursors are equal where they are at the same node of one tree in memory.)
 use Rattle.std.specs.Prelude.{ℕ, Bool, true, false, ◌==◌, ◌&&◌, List, ◌++◌}
 use Rattle.std.specs.Cmp.Lexicographic.{pointwise}
 use Rattle.std.specs.Hash as fed
@@ -21,6 +21,6 @@ is_same_tree t u = is_same_forest (cons t nil) (cons u nil)
 abbrev pub is_same_cursor : Cursor → Cursor → Bool
 is_same_cursor c d = is_same_tree c.tree d.tree && pointwise ◌==◌ c.place d.place
 
--- what a cursor's hash is made of: the kind, the range, and how many nodes and tokens stand there
+-- what a cursor's hash is made of: the kind, the range, and how many nodes and tokens are there
 abbrev pub cursor_hash : Cursor → List (List ℕ)
 cursor_hash c = fed.u32 (kind_raw (kind_of (focus c))) ++ (fed.u32 (range_start c) ++ (fed.u32 (range_end c) ++ fed.usize (size (focus c))))

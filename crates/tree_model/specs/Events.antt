@@ -11,7 +11,7 @@ pub data Event : Type 0 where
   leaf : SyntaxKind → List ℕ → Event
   exit : Event
 
--- what events build, by cases: no events build no trees; a token stands for itself; what stands between entering a node
+-- what events build, by cases: no events build no trees; a token stands for itself; what is between entering a node
 -- and leaving it builds the node's children
 pub data Builds : List Event → Forest → Type 0 where
   nothing : Builds [] nil
@@ -46,7 +46,7 @@ open_after d (leaf k t ∷ es) = open_after d es
 open_after zero (exit ∷ es) = None
 open_after (suc d) (exit ∷ es) = open_after d es
 
--- reading from the right: the forests that stand before each exit that is not matched yet
+-- reading from the right: the forests that are before each exit that is not matched yet
 abbrev pub first_forest : List Forest → Forest
 first_forest [] = nil
 first_forest (f ∷ fs) = f

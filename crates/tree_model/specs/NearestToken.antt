@@ -9,7 +9,7 @@ use Rattle.tree_model.specs.Tree.{Tree, node, token}
 use Rattle.tree_model.specs.Cursor.{Cursor, focus, all_tokens}
 use Rattle.tree_model.specs.Equality.{is_same_cursor}
 
--- the tokens of the whole tree behind a token in order, or those before it, the nearest first
+-- the tokens of the whole tree after a token in order, or those before it, the nearest first
 abbrev pub tokens_beyond : Direction → Cursor → List Cursor
 tokens_beyond Next c = after_first (is_same_cursor c) (all_tokens c)
 tokens_beyond Prev c = reverse (before_first (is_same_cursor c) (all_tokens c))
@@ -19,6 +19,6 @@ abbrev pub is_trivia_token : Tree → Bool
 is_trivia_token (node k c) = false
 is_trivia_token (token k t) = is_trivia k
 
--- what stands at a cursor is no trivia
+-- the node or token at a cursor is no trivia
 abbrev pub is_no_trivia : Cursor → Bool
 is_no_trivia c = not (is_trivia_token (focus c))

@@ -12,7 +12,7 @@ TextsAreUtf8 nil = ⊤
 TextsAreUtf8 (cons (token k t) r) = IsUtf8 t × TextsAreUtf8 r
 TextsAreUtf8 (cons (node k c) r) = TextsAreUtf8 c × TextsAreUtf8 r
 
--- the place with this number in preorder, what stands there, and where it starts
+-- the place with this number in preorder, what is there, and where it starts
 abbrev pub place_at : Tree → ℕ → Place
 place_at tree n = get_or (places tree) n []
 
@@ -29,6 +29,6 @@ end_at tree n = start_at tree n + length (text (tree_at tree n))
 abbrev pub IsRow : Tree → ℕ → Type 0
 IsRow tree n = n < size tree
 
--- the number is one of the tree's rows, or that behind the last one
+-- the number is one of the tree's rows, or that after the last one
 abbrev pub EndsWithin : Tree → ℕ → Type 0
 EndsWithin tree n = n ≤ size tree

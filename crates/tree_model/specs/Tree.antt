@@ -64,7 +64,7 @@ abbrev pub places : Tree → List Place
 places (node k c) = [] ∷ places_from 0 c
 places (token k t) = [] ∷ []
 
--- what stands where there is no tree
+-- what is where there is no tree
 abbrev pub no_tree : Tree
 no_tree = node (OTHER 0) nil
 
@@ -85,7 +85,7 @@ abbrev pub subtree : Tree → Place → Tree
 subtree t [] = t
 subtree t (i ∷ p) = subtree (child_at (forest_of_children t) i) p
 
--- where a place starts: the bytes of all tokens that stand before it
+-- where a place starts: the bytes of all tokens that are before it
 abbrev pub start : Tree → Place → ℕ
 start t [] = 0
 start t (i ∷ p) = bytes_before (forest_of_children t) i + start (child_at (forest_of_children t) i) p

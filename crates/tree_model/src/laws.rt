@@ -36,12 +36,12 @@ pub fn root_is_place()
     ensures { RootIsPlace }
 {}
 
-/// A tree's text is the text before a place, that of the place, and the text behind it.
+/// A tree's text is the text before a place, that of the place, and the text after it.
 pub fn text_around_a_place()
     ensures { TextAround }
 {}
 
-/// The text of a tree with a piece replaced is the spliced text, and the new piece stands where the old one stood.
+/// The text of a tree with a piece replaced is the spliced text, and the new piece is where the old one was.
 pub fn replaced_text()
     ensures { ReplacedText }
 {}
@@ -57,7 +57,7 @@ pub fn children_fill_nodes()
     ensures { ChildrenFillNodes }
 {}
 
-/// Two cursors are equal exactly where both stand at the same place in equal trees; so equality is an equivalence.
+/// Two cursors are equal exactly where both be at the same place in equal trees; so equality is an equivalence.
 pub fn equality_is_sameness()
     ensures { EqualityIsSameness }
 {}

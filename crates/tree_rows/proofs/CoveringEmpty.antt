@@ -92,7 +92,7 @@ first_step whole n row v asked empty w is_v long past =
     not_inside : ChildRow whole row 0 v → start_at whole v < asked.start → ⊥
     not_inside x low = (let clash : true ≡ false = sym (is_held asked (range_at whole v) (inr (omega (arith, empty), low, past))) ∙ none_child whole row 0 v asked w.none x in cc)
 
--- what is known when the first child ends at or before the offset, and the row itself behind it
+-- what is known when the first child ends at or before the offset, and the row itself after it
 pub record Split (whole : Tree) (row last e : ℕ) (asked : Bounds) : Type 0 where
   pub is_row : row < size whole
   pub empty : asked.start ≡ asked.end
@@ -103,7 +103,7 @@ pub record Split (whole : Tree) (row last e : ℕ) (asked : Bounds) : Type 0 whe
   pub past : asked.start < end_at whole row
   pub split : SplitsAt whole (row + 1) e (asked.start + 1) (last + 1)
 
--- that row is behind the row itself
+-- that row is after the row itself
 pub last_behind : (whole : Tree) (row last e : ℕ) (asked : Bounds) → Split whole row last e asked → row < last
 last_behind whole row last e asked w =
     elim (below_or_after row last) [
@@ -122,7 +122,7 @@ same_end whole a b h k e =
       | inr done ↦ sym (last_end_at whole a (row_at whole a).end h (end_of_row whole a h) (omega (arith, done.1))) ∙ last_end_at whole b (row_at whole b).end k (end_of_row whole b k) (omega (arith, done.1, e))
     ]
 
--- a child that holds the last row that starts at or before the range ends behind it
+-- a child that holds the last row that starts at or before the range ends after it
 ends_past : (whole : Tree) (row last e child : ℕ) (asked : Bounds) → Split whole row last e asked → IsChildOver whole row last child → asked.start < end_at whole child
 ends_past whole row last e child asked w u =
     let inside = around_in whole row last e child asked w u in

@@ -64,7 +64,7 @@ child_row whole n j h lt =
     let w = child_in (children_at whole n) j lt in
     (suc n + w.0, child_of_node whole n j w.0 (tree_at whole n) h refl (at_row whole n h) w.1 lt)
 
--- later children stand behind
+-- later children follow
 pub in_order : (whole : Tree) (n j v i u : ℕ) → ChildRow whole n j v → ChildRow whole n i u → j < i → (row_at whole v).end ≤ u
 in_order whole n j v i u x y h =
     let size_is : size (tree_at whole v) ≡ size x.child = ap size (x.tree_is ∙ subtree_child x.at) in
@@ -134,7 +134,7 @@ to_last whole n j v asked h empty none x ends later =
     (omega (arith, ap (λ r. r.end) (child_range whole n j v (range_at whole v) x), ends))
     (λ i d more less. each_range (λ r. asked.start < r.end) whole n i d h (λ u y. later i u y more) less))
 
--- to the first child where all end behind an empty range which none holds
+-- to the first child where all end after an empty range which none holds
 pub to_first : (whole : Tree) (n v : ℕ) (asked : Bounds) → n < size whole → asked.end ≤ asked.start → NoneHolds whole n asked → ChildRow whole n 0 v
     → ((i u : ℕ) → ChildRow whole n i u → asked.start < end_at whole u) → covering_of (cursor_at whole n) asked ≡ covering_of (cursor_at whole v) asked
 to_first whole n v asked h empty none x later =

@@ -64,7 +64,7 @@ hung_there whole n h x =
 row_starts : (whole : Tree) (n : ℕ) → n < size whole → (row_at whole n).start ≡ start_at whole n
 row_starts whole n h = ap (λ r. r.start) (row_at-is whole n h) ∙ row_of-start (tree_at whole n) n (start_at whole n)
 
--- the parent of a row inside a subtree stands in the subtree
+-- the parent of a row inside a subtree is in the subtree
 pub parent_inside : (whole : Tree) (root n : ℕ) → root < size whole → n < size whole → root < n → n < root + size (tree_at whole root) → root ≤ parent_at whole n
 parent_inside whole root n h hn lt inside =
     elim (hangs whole n hn) [

@@ -32,7 +32,7 @@ all_changed f [] (suc i) h = refl
 all_changed f (x ∷ xs) zero h = absurd (omega (arith, h))
 all_changed f (x ∷ xs) (suc i) h = ap (λ l. f x ∷ l) (all_changed f xs i (omega (arith, h)))
 
--- all that stands behind the first n
+-- all that follows the first n
 pub whole_rest : {X : Type 0} (xs : List X) (n : ℕ) → take (length xs - n) (drop n xs) ≡ drop n xs
 whole_rest xs n = take_all (length xs - n) (drop n xs) (omega (arith, length-drop n xs))
 

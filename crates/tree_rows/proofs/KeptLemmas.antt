@@ -1,4 +1,4 @@
--- Rows of which those behind one start elsewhere.
+-- Rows of which those after one start elsewhere.
 use Rattle.std.proofs.Common.{◌≡◌, inl, inr, ℕ, suc, ◌+◌, ◌-◌, ◌<◌, ◌≤◌, List, ◌∷◌, ◌++◌, [], length, map, max, get_or, take, drop, refl, sym, ap, ◌∙◌, arith, length-append}
 use Rattle.std.specs.Prelude.{◌^◌}
 use Rattle.std.proofs.lemmas.List.{get_or-map, length-map, length-take, length-drop, get_or-take, get_or-drop, get_or_append_left, get_or-append_right, take-append-drop, ext_get_or}
@@ -24,7 +24,7 @@ moved_stays at from to kept n d le lt =
     get_or_append_left (take (suc at) kept.rows) (map (row_from from to) (drop (suc at) kept.rows)) d n (omega (arith, length-take (suc at) kept.rows))
     ∙ get_or-take (suc at) kept.rows n d (omega arith)
 
--- behind it they move
+-- after it they move
 pub moved_moves : (at from to : ℕ) (kept : Columns) (n : ℕ) (d : Row) → at < n → n < length kept.rows → get_or (starts_moved at from to kept).rows n d ≡ row_from from to (get_or kept.rows n d)
 moved_moves at from to kept n d le lt =
     let z = drop (suc at) kept.rows in
@@ -33,7 +33,7 @@ moved_moves at from to kept n d le lt =
     ∙ get_or-map (row_from from to) z (n - suc at) d d (omega (arith, length-drop (suc at) kept.rows))
     ∙ ap (row_from from to) (get_or-drop (suc at) kept.rows (n - suc at) d ∙ ap (λ k. get_or kept.rows k d) there)
 
--- where there is none behind the row
+-- where there is none after the row
 pub none_moved : (at from to : ℕ) (kept : Columns) → length kept.rows ≤ suc at → starts_moved at from to kept ≡ kept
 none_moved at from to kept h =
     same_columns (starts_moved at from to kept) kept
@@ -44,7 +44,7 @@ none_moved at from to kept h =
 row_twice : (from mid to : ℕ) (r : Row) → row_from mid to (row_from from mid r) ≡ row_from from to r
 row_twice from mid to r = let e : (((r.start - from) + mid) - mid) + to ≡ (r.start - from) + to = omega arith in ap (λ s. record { kind = r.kind; is_token = r.is_token; start = s; end = r.end }) e
 
--- moved once more from where they stand
+-- moved once more from where they are
 pub moved_twice : (at from mid to : ℕ) (kept : Columns) → starts_moved at mid to (starts_moved at from mid kept) ≡ starts_moved at from to kept
 moved_twice at from mid to kept =
     let one = starts_moved at from mid kept in
@@ -77,7 +77,7 @@ pub same_maps : {X Y : Type 0} (f g : X → Y) → ((x : X) → f x ≡ g x) →
 same_maps f g h [] = refl
 same_maps f g h (x ∷ xs) = cong₂ ◌∷◌ (h x) (same_maps f g h xs)
 
--- rows that were copied as they are kept, with those behind the row moved
+-- rows that were copied as they are kept, with those after the row moved
 cut_moved : (at from to first end : ℕ) (kept : Columns) (j : ℕ) → first ≤ end → end ≤ length kept.rows → at < end → j ≡ max first (at + 1) - first
     → take j (cut_of first end kept).rows ++ map (row_from from to) (drop j (cut_of first end kept).rows) ≡ (cut_of first end (starts_moved at from to kept)).rows
 cut_moved at from to first end kept j h fits lt is_j =

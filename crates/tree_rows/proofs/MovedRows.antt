@@ -1,4 +1,4 @@
--- The rows of a subtree stand together, and are its own rows moved; the rows of a tree with a piece replaced. They are seen as they
+-- The rows of a subtree are together, and are its own rows moved; the rows of a tree with a piece replaced. They are seen as they
 -- hang, each beside its parent's number.
 use Rattle.std.proofs.Common.{◌≡◌, ℕ, suc, ◌+◌, ◌-◌, ◌<◌, ◌≤◌, List, [], ◌∷◌, ◌++◌, length, map, refl, sym, ap, ◌∙◌, arith, append_assoc, append-nil, length-append}
 use Rattle.std.proofs.Common.{Bool, true, false}
@@ -32,7 +32,7 @@ same_hung k b s s' e e' p p' is_s is_e is_p =
     cong₂ (λ x y. record { row = record { kind = k; is_token = b; start = x; end = y }; up = p }) is_s is_e
     ∙ ap (λ x. record { row = record { kind = k; is_token = b; start = s'; end = e' }; up = x }) is_p
 
--- rows that all stand behind the bound move together
+-- rows that all follow the bound move together
 pub hung_of-moved : (f : Forest) (by : Shift) (m d u m' d' u' : ℕ) → by.from_row ≤ m → by.from_byte ≤ d
     → m' ≡ (m - by.from_row) + by.to_row → d' ≡ (d - by.from_byte) + by.to_byte → u' ≡ moved_number by u
     → hung_of f m' d' u' ≡ map (moved_hung by) (hung_of f m d u)
@@ -70,7 +70,7 @@ hung_of-cons (node k c) r m d up =
     ap (λ l. hung (node k c) m d up ∷ l)
     (cong₂ (λ x i. x ++ hung_of r i (d + length (forest_text c)) up) (sym (append-nil (hung_of c (suc m) d m))) e)
 
--- what stands behind a subtree starts where that ends, or later
+-- what follows a subtree starts where that ends, or later
 pub At-later : {f : Forest} {n m : ℕ} {p q : Place} {t v : Tree} {b d : ℕ} → At f n p t b → At f m q v d → n + size t ≤ m → b + length (text t) ≤ d
 At-later (here {u}) here h = absurd (omega (arith, h, some_row u))
 At-later (here {u = node k c}) (below {t} a) h = absurd (omega (arith, h, At-fits a, some_row t))

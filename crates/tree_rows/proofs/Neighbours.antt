@@ -1,4 +1,4 @@
--- What stands around a place, by rows.
+-- What is around a place, by rows.
 use Rattle.std.proofs.Common.{◌≡◌, inl, inr, ℕ, ◌-◌, ◌<◌, ◌≤◌, List, ◌++◌, refl, sym, ap, ◌∙◌, subst, arith}
 use Rattle.std.specs.Prelude.{[], Option, None, Some, option_map}
 use Rattle.std.specs.List.{filter}

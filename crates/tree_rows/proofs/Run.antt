@@ -109,6 +109,6 @@ run_all f steps rest kept up at is ended same =
     ap (λ s. s.kept) (ap (λ l. run l (state kept up at)) (sym ended) ∙ same ∙ ap (λ l. run l (state no_rows 0 0)) (is ∙ sym (append-nil (steps_of f))) ∙ run-steps_of f [] [] 0 0)
     ∙ sym (columns_of-hung f)
 
--- no events come of what is left of a list behind its end
+-- no events come of what is left of a list after its end
 pub none_left : {X : Type 0} (h : X → Option BuilderEvent) (xs : List X) (i : ℕ) → length xs ≤ i → filter_map h (drop i xs) ≡ []
 none_left h xs i past = ap (filter_map h) (drop_of_length-le xs past)

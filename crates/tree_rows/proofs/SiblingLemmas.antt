@@ -53,7 +53,7 @@ parent_tree whole q c w = ap (tree_at whole) (sym w.q_is) ∙ w.v.parent_is
 child_place : (whole : Tree) (q c : ℕ) (w : Child whole q c) → place_at whole c ≡ place_at whole q ++ w.v.w.position ∷ []
 child_place whole q c w = w.v.place_is ∙ ap (λ i. place_at whole i ++ w.v.w.position ∷ []) w.q_is
 
--- the row of a child, by where it stands among its parent's children
+-- the row of a child, by where it is among its parent's children
 child_row : (whole : Tree) (q c : ℕ) (w : Child whole q c) → c ≡ suc q + w.v.w.row_within
 child_row whole q c w = omega (arith, w.v.w.row_is, w.v.q_is, w.q_is)
 
@@ -125,7 +125,7 @@ prev_sibling_found whole n q e c h k parent is_e lt u =
       ],
     )
 
--- what stands in the first row of a forest is its first tree
+-- what is in the first row of a forest is its first tree
 first_position : {f : Forest} {n i : ℕ} {t : Tree} {b : ℕ} → At f n (i ∷ []) t b → n ≡ 0 → i ≡ 0
 first_position here e = refl
 first_position (below a) e = absurd (no_empty_place a)

@@ -29,11 +29,11 @@ nested whole n m h from lt =
       ends = w.1;
     }
 
--- the row behind a subtree starts where its text ends
+-- the row after a subtree starts where its text ends
 pub behind_starts : (whole : Tree) (n e : ℕ) → n < size whole → e ≡ (row_at whole n).end → e < size whole → start_at whole e ≡ end_at whole n
 behind_starts whole n e h is_e lt = sym (row_start whole e lt) ∙ next_start_at whole n e h (is_e ∙ end_of_row whole n h) lt
 
--- rows behind a subtree start where its text ends, or behind that
+-- rows after a subtree start where its text ends, or after that
 pub later_starts : (whole : Tree) (n m : ℕ) → n < size whole → (row_at whole n).end ≤ m → m < size whole → end_at whole n ≤ start_at whole m
 later_starts whole n m h past lt = omega (arith, behind_starts whole n (row_at whole n).end h refl (omega arith), starts_rise whole (row_at whole n).end m past lt)
 

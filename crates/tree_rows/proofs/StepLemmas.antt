@@ -68,7 +68,7 @@ hangs whole n h =
       | inr w ↦ inr (hangs_at whole n h w)
     ]
 
--- row q is the first before n whose subtree reaches behind n: it is the parent
+-- row q is the first before n whose subtree reaches after n: it is the parent
 pub parent_found : (whole : Tree) (n q : ℕ) → n < size whole → q < n → n < (row_at whole q).end → ((k : ℕ) → q < k → k < n → (row_at whole k).end ≤ n) → Some (place_at whole q) ≡ parent_place (place_at whole n)
 parent_found whole n q h lt reaches between =
     elim (hangs whole n h) [
@@ -244,7 +244,7 @@ row_is_token tree row h = ap (λ r. r.is_token) (row_at-is tree row h) ∙ of_ki
     of_kind (token k x) = refl
     of_kind (node k c) = refl
 
--- the row behind a subtree is where its row ends
+-- the row after a subtree is where its row ends
 pub end_is_behind : (whole : Tree) (n e : ℕ) → n < size whole → e ≡ n + size (tree_at whole n) → e ≡ (row_at whole n).end
 end_is_behind whole n e h is = is ∙ sym (end_of_row whole n h)
 

@@ -5,7 +5,7 @@ use Rattle.tree_rows.specs.declared.builder_event.BuilderEvent.TheVariants.{Ente
 use Rattle.tree_model.specs.Tree.{Tree}
 use Rattle.tree_model.specs.Events.{Event, enter, leaf, exit, BuildsNode}
 
--- the events of the steps, whose texts stand one after another in s
+-- the events of the steps, whose texts are one after another in s
 abbrev pub events_from : List BuilderEvent → List ℕ → List Event
 events_from [] s = []
 events_from (Enter k ∷ es) s = enter k ∷ events_from es s

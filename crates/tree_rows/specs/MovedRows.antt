@@ -58,7 +58,7 @@ moved_subtree tree n m b up = record {
 abbrev pub moved_before : Tree → ℕ → ℕ → Columns
 moved_before tree n count = moved (shift_from (n + size (tree_at tree n)) (n + count) 0 0) (rows_between tree 0 n)
 
--- the rows behind it, when others of so many rows and bytes take its place
+-- the rows after it, when others of so many rows and bytes take its place
 abbrev pub moved_behind : Tree → ℕ → ℕ → ℕ → Columns
 moved_behind tree n count bytes =
     moved (shift_from (n + size (tree_at tree n)) (n + count) (end_at tree n) (start_at tree n + bytes)) (rows_between tree (n + size (tree_at tree n)) (size tree))

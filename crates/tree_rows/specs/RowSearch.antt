@@ -7,14 +7,14 @@ use Rattle.tree_rows.specs.declared.table.narrow.Stretch.{Stretch}
 use Rattle.tree_model.specs.Cursor.{cursor_at}
 use Rattle.tree_model.specs.Covering.{child_ranges, holds, covering_of}
 
--- the rows from `from` on that start before the offset end at row i, and from there to `to` each starts at it or behind it
+-- the rows from `from` on that start before the offset end at row i, and from there to `to` each starts at it or after it
 pub record SplitsAt (tree : Tree) (from to offset i : ℕ) : Type 0 where
   pub begun : from ≤ i
   pub within : i ≤ to
   pub before : (k : ℕ) → from ≤ k → k < i → start_at tree k < offset
   pub behind : (k : ℕ) → i ≤ k → k < to → offset ≤ start_at tree k
 
--- the first row that starts at the offset or behind it is in the stretch near, or right behind it, if it is so with whole
+-- the first row that starts at the offset or after it is in the stretch near, or right after it, if it is so with whole
 pub record IsNarrowed (tree : Tree) (whole : Stretch) (offset : ℕ) (near : Stretch) : Type 0 where
   pub begun : whole.low ≤ near.low
   pub ordered : near.low ≤ near.high
@@ -22,7 +22,7 @@ pub record IsNarrowed (tree : Tree) (whole : Stretch) (offset : ℕ) (near : Str
   pub before : (k : ℕ) → whole.low ≤ k → k < near.low → start_at tree k < offset
   pub behind : (k : ℕ) → near.high ≤ k → k < whole.high → offset ≤ start_at tree k
 
--- the last row before `to`, if it is not before `from` and its text ends at the offset or behind it
+-- the last row before `to`, if it is not before `from` and its text ends at the offset or after it
 abbrev pub Reaching : Tree → ℕ → ℕ → ℕ → Option ℕ → Type 0
 Reaching tree from to offset None = from < to → (k : ℕ) → suc k ≡ to → end_at tree k < offset
 Reaching tree from to offset (Some k) = (from < to) × (suc k ≡ to) × (offset ≤ end_at tree k)

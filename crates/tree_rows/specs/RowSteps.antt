@@ -6,7 +6,7 @@ use Rattle.tree_model.specs.Rows.{tree_at}
 use Rattle.tree_model.specs.Cursor.{Cursor, at_token, cursors_from}
 use Rattle.tree_rows.specs.Rows.{row_at, parent_at}
 
--- row n stands below row q
+-- row n is below row q
 pub record IsBelow (tree : Tree) (q n : ℕ) : Type 0 where
   pub behind : q < n
   pub reaches : n < (row_at tree q).end

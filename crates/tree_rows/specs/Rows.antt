@@ -53,7 +53,7 @@ no_rows = record { rows = []; parents = [] }
 abbrev pub one_row : Row → ℕ → Columns
 one_row r parent = record { rows = r ∷ []; parents = parent ∷ [] }
 
--- the rows of b behind those of a, and their parents likewise
+-- the rows of b after those of a, and their parents likewise
 abbrev pub joined : Columns → Columns → Columns
 joined a b = record { rows = a.rows ++ b.rows; parents = a.parents ++ b.parents }
 
@@ -64,7 +64,7 @@ front (cons t r) zero = nil
 front (cons (token k t) r) (suc m) = cons (token k t) (front r m)
 front (cons (node k c) r) (suc m) = cons (node k c) (front r (m - forest_size c))
 
--- the trees behind its first m rows
+-- the trees after its first m rows
 abbrev pub back : Forest → ℕ → Forest
 back nil m = nil
 back (cons t r) zero = cons t r

@@ -1,13 +1,13 @@
--- Rows of which those behind one start elsewhere than they are kept. No contract outside this crate names them.
+-- Rows of which those after one start elsewhere than they are kept. No contract outside this crate names them.
 use Rattle.std.specs.Prelude.{ℕ, suc, ◌+◌, ◌-◌, ◌<◌, ◌^◌, ◌++◌, map, take, drop, length, get_or}
 use Rattle.tree_rows.specs.declared.rows.Row.{Row}
 use Rattle.tree_rows.specs.Rows.{Columns, no_row}
 
--- a row that starts as far behind byte `to` as it is kept behind byte `from`
+-- a row that starts as far after byte `to` as it is kept after byte `from`
 abbrev pub row_from : ℕ → ℕ → Row → Row
 row_from from to r = record { kind = r.kind; is_token = r.is_token; start = (r.start - from) + to; end = r.end }
 
--- rows of which those behind row `at` start so
+-- rows of which those after row `at` start so
 abbrev pub starts_moved : ℕ → ℕ → ℕ → Columns → Columns
 starts_moved at from to kept = record { rows = take (suc at) kept.rows ++ map (row_from from to) (drop (suc at) kept.rows); parents = kept.parents }
 

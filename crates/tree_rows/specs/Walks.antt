@@ -41,7 +41,7 @@ MovesLevel tree start o enters row after =
     (enters ≡ true → (open_count tree start after ≡ open_count tree start o + 1) × (level_below (cursor_at tree start) (cursor_at tree row) ≡ open_count tree start o))
     × (enters ≡ false → open_count tree start after + 1 ≡ open_count tree start o)
 
--- the walk of the subtree at row start stands before row next, with that row open
+-- the walk of the subtree at row start precedes row next, with that row open
 pub record IsWalk (tree : Tree) (start next : ℕ) (o : Option ℕ) : Type 0 where
   pub start_is_row : start < size tree
   pub begun : start ≤ next

@@ -3,7 +3,7 @@ ghost use Rattle.std.specs.Prelude.{◌≡◌, Option};
 
 use syntax_kind::SyntaxKind;
 
-/// An event without its text, which stands with that of the others in one string.
+/// An event without its text, which is with that of the others in one string.
 #[derive(Clone, Copy)]
 pub enum BuilderEvent {
     /// A node begins.
@@ -14,7 +14,7 @@ pub enum BuilderEvent {
     Exit,
 }
 
-/// A step from which a tree is built where it stands: rows are made of a list of such steps, and no list of events is.
+/// A step from which a tree is built where it is: rows are made of a list of such steps, and no list of events is.
 pub trait TreeStep {
     ghost use Rattle.tree_rows.specs.declared.builder_event.BuilderEvent.{BuilderEvent};
 

@@ -1,4 +1,4 @@
-//! Rows that trees share: those behind one of them may start elsewhere than they are kept.
+//! Rows that trees share: those after one of them may start elsewhere than they are kept.
 ghost use Rattle.std.specs.Prelude.{◌≡◌, ◌<◌, ◌≤◌, ◌^◌, length, get_or, IfOk, IfSome, OnOk};
 ghost use Rattle.std.specs.Cmp.Lexicographic.{pointwise};
 ghost use Rattle.tree_rows.specs.Rows.{no_row, joined};
@@ -16,11 +16,11 @@ use std::marker::Model;
 #[derive(Drop)]
 pub struct Kept {
     rows: Shared<Rows>,
-    /// The rows behind this one start elsewhere.
+    /// The rows after this one start elsewhere.
     at: usize,
     /// From this byte on they are kept,
     from: usize,
-    /// and from that byte on they stand.
+    /// and from that byte on they are.
     to: usize,
 }
 
@@ -81,7 +81,7 @@ impl Kept {
         }
     }
 
-    /// The number that stands beside row `n`.
+    /// The number that is beside row `n`.
     pub(crate) fn parent(&self, n: usize) -> usize
         requires { n < length self.now.rows }
         ensures { result ≡ get_or self.now.parents n 0 }
@@ -89,7 +89,7 @@ impl Kept {
         self.rows.as_ref().parent(n)
     }
 
-    /// The same rows, where those behind row `n`, which start at `from` or behind it, start so much later as `to` is behind that.
+    /// The same rows, where those after row `n`, which start at `from` or after it, start so much later as `to` is after that.
     /// They are shared. `None` where others start elsewhere already.
     pub(crate) fn restarted(&self, n: usize, from: usize, to: usize) -> Option<Kept>
         requires is_row { n < length self.now.rows }
@@ -117,7 +117,7 @@ impl Kept {
         None
     }
 
-    /// The rows `first..end` behind these.
+    /// The rows `first..end` after these.
     pub(crate) fn copy_to(
         &self,
         rows: &mut Rows,

@@ -27,7 +27,7 @@ pub fn parents_are_nearest()
     ensures { ParentsAreNearest }
 {}
 
-/// The tokens of a node are those among its descendants, and they stand one behind the other among all tokens.
+/// The tokens of a node are those among its descendants, and they follow one another among all tokens.
 pub fn tokens_stand_together()
     ensures { TokensStandTogether }
 {}
@@ -37,7 +37,7 @@ pub fn parents_stand_around()
     ensures { ParentsStandAround }
 {}
 
-/// In preorder the next sibling is the first place behind the subtree, if that is still below the parent.
+/// In preorder the next sibling is the first place after the subtree, if that is still below the parent.
 pub fn siblings_stand_behind()
     ensures { SiblingsStandBehind }
 {}

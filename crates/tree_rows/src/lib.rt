@@ -1,6 +1,6 @@
 //! The table of rows that holds a tree: one text, and one row for each place in preorder.
 //!
-//! `lossless_tree` stands its cursors on it; who reads trees uses those.
+//! `lossless_tree` is its cursors on it; who reads trees uses those.
 #![tactic(auto)]
 
 mod builder_event;

@@ -132,7 +132,7 @@ impl Rows {
         self.packed[n].row()
     }
 
-    /// The number that stands beside row `n`.
+    /// The number that is beside row `n`.
     pub(crate) fn parent(&self, n: usize) -> usize
         requires { n < length self.now.rows }
         ensures { result ≡ get_or self.now.parents n 0 }
@@ -165,7 +165,7 @@ impl Rows {
         self.packed[n].set_end(end);
     }
 
-    /// The rows `first..end` of other ones behind these; where there is no memory for them, all stays as it was.
+    /// The rows `first..end` of other ones after these; where there is no memory for them, all stays as it was.
     pub(crate) fn extend_from(
         &mut self,
         other: &Rows,

@@ -84,7 +84,7 @@ impl Table {
         self.row(n).kind
     }
 
-    /// Whether what stands at row `n` is a token.
+    /// Whether the node or token at row `n` is a token.
     pub fn is_token_at(&self, n: usize) -> bool
         requires { n < size self.now }
         ensures { result ≡ is_token (tree_at self.now n) }
@@ -92,7 +92,7 @@ impl Table {
         self.row(n).is_token
     }
 
-    /// The row of the place behind the subtree at row `n`: as many rows on as stand there.
+    /// The row of the place after the subtree at row `n`: as many rows on as are there.
     pub fn row_behind(&self, n: usize) -> usize
         requires { n < size self.now }
         ensures { result ≡ n + size (tree_at self.now n) }
@@ -100,7 +100,7 @@ impl Table {
         self.row(n).end
     }
 
-    /// The row of the next place in preorder; behind the last place, the number of rows.
+    /// The row of the next place in preorder; after the last place, the number of rows.
     pub fn next_row(&self, n: usize) -> usize
         requires { n < size self.now }
         ensures { result ≡ n + 1 }
@@ -110,7 +110,7 @@ impl Table {
         n + 1
     }
 
-    /// The rows of the places below row `n`: the first, and that behind the last.
+    /// The rows of the places below row `n`: the first, and that after the last.
     pub fn rows_below(&self, n: usize) -> (usize, usize)
         requires { n < size self.now }
         ensures first { result.0 ≡ n + 1 }
@@ -128,7 +128,7 @@ impl Table {
         self.row(n).start
     }
 
-    /// How many nodes and tokens stand at row `n` and below.
+    /// How many nodes and tokens are at row `n` and below.
     pub fn size_at(&self, n: usize) -> usize
         requires { n < size self.now }
         ensures { result ≡ size (tree_at self.now n) }

@@ -45,7 +45,7 @@ pub fn is_same_element(a: &SyntaxElement, b: &SyntaxElement) -> bool
     *a == *b
 }
 
-/// The tokens of a node stand one behind the other among those of its tree: a caller has the law from two calls.
+/// The tokens of a node follow one another among those of its tree: a caller has the law from two calls.
 pub fn tokens_of_node(node: &SyntaxNode)
     ensures { (front : List Cursor) × (back : List Cursor) × (all_tokens node.now ≡ front ++ (filter at_token (descendants_of node.now) ++ back)) }
 {
@@ -61,7 +61,7 @@ pub fn node_ends_within(node: &SyntaxNode)
     places_end_within();
 }
 
-/// A name behind white space.
+/// A name after white space.
 pub fn name_tree(alloc: Global, name: &str) -> Result<SyntaxNode, FinishError>
     ensures { IfOk result IsRoot }
 {

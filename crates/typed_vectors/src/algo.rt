@@ -251,7 +251,7 @@ fn the_neighbor_of_a_neighbor(rt: HostRuntime) -> Result<(), Fail> {
     Ok(())
 }
 
-// The sibling behind it is this node.
+// The sibling after it is this node.
 fn is_before(element: SyntaxElement, node: SyntaxNode) -> bool {
     match algo::non_trivia_sibling(element, Direction::Next) {
         Some(sibling) => sibling == NodeOrToken::Node(node),
@@ -296,7 +296,7 @@ fn tokens_past_white_space(rt: HostRuntime) -> Result<(), Fail> {
     Ok(())
 }
 
-// Where the token behind or before an element starts, trivia left out.
+// Where the token after or before an element starts, trivia left out.
 fn next_start(from: SyntaxElement) -> Option<u32> {
     start_of(algo::next_non_trivia_token(from))
 }

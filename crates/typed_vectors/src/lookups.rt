@@ -37,13 +37,13 @@ fn token_text(rt: &HostRuntime, found: Option<SyntaxToken>) -> Option<String> {
     Some(text)
 }
 
-// Adds a text and a bar behind it.
+// Adds a text and a bar after it.
 fn add_barred(list: &mut String, text: &str) -> Option<()> {
     list.push_str(text).ok()?;
     list.push_str("|").ok()
 }
 
-// The texts of nodes, a bar behind each.
+// The texts of nodes, a bar after each.
 fn texts<N: AstNode + Drop>(rt: &HostRuntime, found: AstChildren<N>) -> Option<String> {
     let mut text = String::new(rt.alloc());
     for it in found {

@@ -10,7 +10,7 @@ use ra_ap_syntax::{SyntaxKind, SyntaxToken, TextRange, TextSize, TreeBuilder};
 use std::alloc::Global;
 use std::test::Fail;
 
-// The token of a literal, behind four spaces.
+// The token of a literal, after four spaces.
 fn behind_spaces(alloc: Global, kind: SyntaxKind, text: &str) -> Result<SyntaxToken, Fail> {
     let mut builder = TreeBuilder::new(alloc);
     builder.start_node(SyntaxKind::LITERAL)?;

@@ -1,4 +1,4 @@
-//! The README's tour: each snippet there stands here.
+//! The README's tour: each snippet there is here.
 use ra_ap_syntax::ast::{self, ArithOp, BinaryOp, HasModuleItem, HasName};
 use ra_ap_syntax::unescape::unescape_str;
 use ra_ap_syntax::{

@@ -1,4 +1,4 @@
-//! A call of each shape, and what its clause tells who stands above: the same answer by a definition, which a wrong call does not
+//! A call of each shape, and what its clause tells who is above: the same answer by a definition, which a wrong call does not
 //! give.
 ghost use Rattle.std.specs.Prelude.{◌≡◌, IfSome, is_some};
 ghost use Rattle.ra_ap_syntax.specs.Nodes.{kind_at, token_child, typed_children};

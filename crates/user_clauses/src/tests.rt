@@ -17,7 +17,7 @@ fn kinds_are_named_by_their_texts(rt: HostRuntime) -> Result<(), Fail> {
     Ok(())
 }
 
-// The tree of `fn f 1+`: a function that has a name alone, and behind it a sum without a right side.
+// The tree of `fn f 1+`: a function that has a name alone, and after it a sum without a right side.
 fn tree(alloc: Global) -> Result<SyntaxNode, FinishError> {
     let memory = |_| FinishError::Memory;
     let mut builder = TreeBuilder::new(alloc);

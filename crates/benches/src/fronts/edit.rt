@@ -1,4 +1,4 @@
-//! Edits of a text: one token, one block, or all read anew.
+//! Edits of a text: one token, one block, or all parsed again.
 
 use super::parse::print;
 use super::text::Input;
@@ -11,7 +11,7 @@ const NOW: Edition = Edition::CURRENT;
 
 type File = Parse<SourceFile>;
 
-// The nanoseconds of an edit, and whether a piece was read anew.
+// The nanoseconds of an edit, and whether a piece was parsed again.
 fn edit(
     rt: &HostRuntime,
     old: &File,
@@ -63,7 +63,7 @@ fn time_copy(rt: &HostRuntime, input: Input, old: &File, runs: u32) -> Result<()
     print(rt, "copy", input, root.as_str(), least)
 }
 
-/// Times a copy of a tree's text and rows, and edits of it that read one token, one block and all anew.
+/// Times a copy of a tree's text and rows, and edits of it that read one token, one block and all again.
 pub fn time_edits(rt: &HostRuntime, input: Input, runs: u32) -> Result<(), Stopped> {
     let text = input.text(rt.alloc())?;
     let old = SourceFile::parse(rt.alloc(), text.as_str(), &Tiny, NOW)?;

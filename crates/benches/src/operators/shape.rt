@@ -25,7 +25,7 @@ impl Shape {
         }
     }
 
-    // What stands before the name `a` and behind it, again and again, and how many operators that has each time.
+    // What precedes the name `a` and after it, again and again, and how many operators that has each time.
     fn around(self) -> (&'static str, &'static str, u32) {
         match self {
             Shape::Flat => ("", " + a", 1),

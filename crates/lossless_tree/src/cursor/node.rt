@@ -160,7 +160,7 @@ impl SyntaxNode {
 }
 
 impl SyntaxNode {
-    /// The place of a node is one of its tree's, and what stands there is a node. It does nothing: an upper crate calls it to
+    /// The place of a node is one of its tree's, and what is there is a node. It does nothing: an upper crate calls it to
     /// have the two facts.
     pub fn placed(&self)
         ensures placed { IsPlaced self.now }
@@ -261,7 +261,7 @@ impl SyntaxNode {
         children.next()
     }
 
-    /// The last child node; `None` where there is none. It passes over the tokens behind it, and takes time in the depth of
+    /// The last child node; `None` where there is none. It passes over the tokens after it, and takes time in the depth of
     /// that node and of the sibling before it.
     pub fn last_child(&self) -> Option<SyntaxNode>
         ensures { result ≡ find at_node (reverse (children_of self.now)) }
@@ -270,7 +270,7 @@ impl SyntaxNode {
         nearest_node(&self.table, last, Direction::Prev)
     }
 
-    /// The nearest sibling node behind this one; `None` where there is none. It passes over the tokens between.
+    /// The nearest sibling node after this one; `None` where there is none. It passes over the tokens between.
     pub fn next_sibling(&self) -> Option<SyntaxNode>
         ensures { result ≡ find at_node (following_of self.now) }
     {
@@ -327,7 +327,7 @@ impl SyntaxNode {
         Some(SyntaxToken::at(self.table.share(), row))
     }
 
-    /// The last token below this node; `None` where there is none. It takes time in the number of nodes behind it.
+    /// The last token below this node; `None` where there is none. It takes time in the number of nodes after it.
     pub fn last_token(&self) -> Option<SyntaxToken>
         ensures { result ≡ find at_token (reverse (descendants_of self.now)) }
     {
@@ -428,10 +428,10 @@ impl SyntaxNode {
 
 impl SyntaxNode {
     /// The tree below this node as text, a line for each node and token in preorder, two spaces a level:
-    /// `KIND@start..end`, and behind that a token's text in quotes.
+    /// `KIND@start..end`, and after that a token's text in quotes.
     ///
     /// Of a text of 25 bytes and more only what ends at the first character boundary from byte 21 on is shown, and
-    /// ` ...`. Quotes, backslashes and control bytes are escaped, all other characters stand as they are. Every line
+    /// ` ...`. Quotes, backslashes and control bytes are escaped, all other characters are as they are. Every line
     /// ends with a newline. It takes time linear in the text that it gives.
     pub fn dump(&self, alloc: Global) -> Result<String, AllocError>
         ensures { IfOk result (λ text. string_bytes text ≡ dump_of self.now) }
@@ -469,7 +469,7 @@ impl Clone for SyntaxNode {
     }
 }
 
-/// Equal where both stand at the same place in equal trees. Of cursors of one tree it takes constant time.
+/// Equal where both be at the same place in equal trees. Of cursors of one tree it takes constant time.
 impl PartialEq for SyntaxNode {
     ghost use Rattle.tree_model.specs.Equality.{is_same_cursor};
     ghost use Rattle.tree_model.specs.EqualityLaws.{cursor_equivalence};

@@ -18,7 +18,7 @@ use tree_rows::Table;
 pub enum WalkEvent<T> {
     /// It is entered, before what is below.
     Enter(T),
-    /// It is left, behind what is below.
+    /// It is left, after what is below.
     Leave(T),
 }
 

@@ -93,7 +93,7 @@ impl SyntaxToken {
 }
 
 impl SyntaxToken {
-    /// The place of a token is one of its tree's, and what stands there is a token. It does nothing: an upper crate calls it to
+    /// The place of a token is one of its tree's, and what is there is a token. It does nothing: an upper crate calls it to
     /// have the two facts.
     pub fn placed(&self)
         ensures placed { IsPlaced self.now }
@@ -171,7 +171,7 @@ impl SyntaxToken {
         self.cursor().siblings_with_tokens(direction)
     }
 
-    /// The token right behind this one in the whole tree; `None` for the last. It takes time in the number of nodes
+    /// The token right after this one in the whole tree; `None` for the last. It takes time in the number of nodes
     /// between.
     pub fn next_token(&self) -> Option<SyntaxToken>
         ensures { IsRightBehind (all_tokens self.now) self.now result }
@@ -189,7 +189,7 @@ impl SyntaxToken {
         Some(SyntaxToken::at(self.table.share(), row))
     }
 
-    /// The nearest token behind this one in the whole tree that is no trivia: no white space or comment; `None` where
+    /// The nearest token after this one in the whole tree that is no trivia: no white space or comment; `None` where
     /// there is none. It takes time in the nodes and tokens that it passes.
     pub fn next_token_no_trivia(&self) -> Option<SyntaxToken>
         ensures { result ≡ find is_no_trivia (tokens_beyond Next self.now) }
@@ -230,7 +230,7 @@ impl Clone for SyntaxToken {
     }
 }
 
-/// Equal where both stand at the same place in equal trees. Of cursors of one tree it takes constant time.
+/// Equal where both be at the same place in equal trees. Of cursors of one tree it takes constant time.
 impl PartialEq for SyntaxToken {
     ghost use Rattle.tree_model.specs.Equality.{is_same_cursor};
     ghost use Rattle.tree_model.specs.EqualityLaws.{cursor_equivalence};

@@ -1,4 +1,4 @@
-//! The rules of what stands in items, patterns, types, paths, names and attributes.
+//! The rules of what is in items, patterns, types, paths, names and attributes.
 mod attrs;
 mod block;
 mod holders;

@@ -49,9 +49,9 @@ impl ast::Expr {
     /// chains of `let`, statements and `let` with `else`.
     ///
     /// At an operand below the root of an operator tree, asked with the operand's own parent node (for an argument that is the list
-    /// of arguments), it answers false exactly where the operand fits, before the tokens that stand behind it in the whole tree;
+    /// of arguments), it answers false exactly where the operand fits, before the tokens that follow it in the whole tree;
     /// where neither `<` nor `<<` follows the operator tree, this is `Fits`, of the term alone. Below an expression that a block
-    /// follows, and below an `&&`, it may walk the whole of the expression, once: how deep a record or a `let` stands does not matter.
+    /// follows, and below an `&&`, it may walk the whole of the expression, once: how deep a record or a `let` is does not matter.
     pub fn needs_parens_in(&self, parent: &SyntaxNode) -> bool
         ensures asks { result ≡ asks (expr_node self.now) parent.now (expr_node self.now) }
         ensures fits { (r : Cursor) (t : Term) (i : ℕ) (q : List ℕ) (held : Part) → meaning (focus r) ≡ IsTerm t → operand t (i ∷ q) ≡ Some held
@@ -64,7 +64,7 @@ impl ast::Expr {
         ras_prec::rules::needs_parens_in(self.syntax(), parent)
     }
 
-    /// Whether the expression would need parentheses in place of what stands at `place`, below `parent`: the parent of that, a node
+    /// Whether the expression would need parentheses in place of the node or token at `place`, below `parent`: the parent of that, a node
     /// further up, or the place itself; false for any other node.
     ///
     /// Of a pair's inside in place of the pair, below the root of an operator tree that reads back and that neither `<` nor `<<`
@@ -86,7 +86,7 @@ impl ast::Expr {
 }
 
 impl ast::Type {
-    /// Whether the type needs parentheses below a parent: a `dyn` or `impl` type in a cast, behind `&` or in a pointer type.
+    /// Whether the type needs parentheses below a parent: a `dyn` or `impl` type in a cast, after `&` or in a pointer type.
     pub fn needs_parens_in(&self, parent: &SyntaxNode) -> bool
         ensures { result ≡ (is_dyn_or_impl (kind_at (ty_node self.now)) && is_pointing (kind_at parent.now)) }
     {

@@ -49,7 +49,7 @@ pub trait HasAttrs: AstNode {
         support::children(self.syntax())
     }
 
-    /// The node in which its inner attributes stand: a file itself; a block itself, where it may have them; of a function the
+    /// The node in which its inner attributes are: a file itself; a block itself, where it may have them; of a function the
     /// statements of its body; of an extern block, a `match`, an implementation, a trait and a module the list in it. `None`
     /// of others, and where that part is missing.
     final fn inner_attributes_node(&self) -> Option<SyntaxNode>

@@ -1,4 +1,4 @@
-//! The kinds of the nodes in which something of one type may stand.
+//! The kinds of the nodes in which something of one type may be.
 ghost use Rattle.ras_node.specs.Sets.{has_attrs, has_generic_params};
 
 use super::{Exprs, GenericParams, Items, KindSet};

@@ -20,7 +20,7 @@ impl tokens::Comment {
     }
 
     /// The text without the markers `//`, or `/*` and `*/`, of which the last may be missing; `None` where the text has no
-    /// two bytes, or a character stands across their end.
+    /// two bytes, or a character is across their end.
     pub fn text_without_markers(&self) -> Option<&str>
         ensures { option_map (λ s. s.now) result ≡ comment_text 2 (text (focus self.now.syntax)) }
     {
@@ -65,7 +65,7 @@ impl AnyComment {
         self.kind().prefix()
     }
 
-    /// Whether it documents what it stands in.
+    /// Whether it documents what it is in.
     pub fn is_inner(&self) -> bool
         ensures { result ≡ option_map_or is_inner_kind (doc_kind_of (kind_at self.now.syntax)) false }
     {
@@ -75,7 +75,7 @@ impl AnyComment {
         }
     }
 
-    /// Whether it documents what it stands before.
+    /// Whether it documents what it precedes.
     pub fn is_outer(&self) -> bool
         ensures { result ≡ option_map_or is_outer_kind (doc_kind_of (kind_at self.now.syntax)) false }
     {
@@ -93,7 +93,7 @@ impl AnyComment {
     }
 
     /// The text without the markers, of which the closing one may be missing; `None` where the text is shorter than its
-    /// opening marker, or a character stands across that marker's end.
+    /// opening marker, or a character is across that marker's end.
     pub fn text(&self) -> Option<&str>
         ensures { option_map (λ s. s.now) result ≡ comment_text (marker_len (doc_kind_of (kind_at self.now.syntax))) (text (focus self.now.syntax)) }
     {

@@ -18,8 +18,8 @@ ghost use Rattle.ras_tokens.specs.AnyStringCases.{any_string_prefix, any_string_
 use crate::{AnyString, tokens};
 use literal_escape::{EscapeError, Mode};
 use lossless_tree::{TextRange, TextSize};
-use ras_token_ext::QuoteOffsets;
 use ras_node::AstToken;
+use ras_token_ext::QuoteOffsets;
 use std::ops::Range;
 
 /// A string literal: its content lies between the first and the last `"` of its text. Ranges and offsets are those of the
@@ -39,7 +39,7 @@ pub trait IsString: AstToken {
     fn mode(&self) -> Mode
         ensures { result ≡ literal self.now };
 
-    /// Calls `callback` on each unit of a content of the kind, in order: where it stands, in bytes from the content's start, and
+    /// Calls `callback` on each unit of a content of the kind, in order: where it is, in bytes from the content's start, and
     /// its character or its fault, warnings too. A byte comes as the character of its number, and each unit of a C string as
     /// `_`, without faults. Gives the callback back, as the last call left it.
     final fn unescape<F: FnMut(Range<usize>, Result<char, EscapeError>)>(

@@ -50,7 +50,7 @@ impl tokens::CString {
 impl AnyString {
     /// The value as a text, as that of the string, byte string or C string.
     ///
-    /// Bytes that are no UTF-8 are `Escape(NonAsciiCharInByte)`. Where memory is out before that is known, it is `Memory`.
+    /// Bytes that are no UTF-8 are `Escape(NonAsciiCharInByte)`. Where memory runs out before that is known, it is `Memory`.
     pub fn value(&self, alloc: Global) -> Result<CowStr<'_, Global>, ValueError>
         ensures value { IsAnyStringValue cow_str_bytes self.now result }
         ensures borrowed { any_string_can_borrow self.now ≡ true → TakesNoMemory IsBorrowedStr result }

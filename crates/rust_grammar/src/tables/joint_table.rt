@@ -1,12 +1,12 @@
 //! What punctuation makes together. Written by tests/grammar from rust.grammar.
 
-/// The number of the first sign that a joint token may have behind its first.
+/// The number of the first sign that a joint token may have after its first.
 pub(crate) const FIRST_SIGN: u8 = 24;
 
 /// How many signs there are from that one on.
 pub(crate) const SIGNS: usize = 19;
 
-/// The kind that a token makes with a sign behind it, or 0: a row of signs for each kind.
+/// The kind that a token makes with a sign after it, or 0: a row of signs for each kind.
 #[rattlefmt::skip]
 pub(crate) static JOINTS: [u8; 2926] = [
     0, 0, 0, 0, 0, 0, 0, 0, 0, 0, 0, 0, 0, 0, 0, 0, 0, 0, 0, 0, 0, 0, 0, 0, 0, 0, 0, 0, 0, 0, 0, 0, 0, 0, 0, 0, 0, 0, 0,

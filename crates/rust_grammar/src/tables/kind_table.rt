@@ -75,7 +75,7 @@ pub(crate) const IDENT: u8 = 3;
 /// The number of a number with a dot or an exponent.
 pub(crate) const FLOAT_NUMBER: u8 = 6;
 
-/// The number of a number with digits behind its dot.
+/// The number of a number with digits after its dot.
 pub(crate) const FLOAT_PAIR: u8 = 152;
 
 /// The number of a number that ends with its dot.

@@ -1,6 +1,6 @@
 //! The rows of targets. Written by tests/grammar from rust.grammar.
 
-/// A target for each of the 96 kinds of single tokens, row behind row.
+/// A target for each of the 96 kinds of single tokens, row after row.
 #[rattlefmt::skip]
 pub(crate) static ROWS: [u16; 30528] = [
     17, 17, 17, 17, 17, 17, 17, 17, 17, 17, 17, 17, 15, 17, 17, 17, 17, 17, 17, 17, 17, 17, 17, 17, 17, 17, 17, 1, 17, 17, 17, 17, 17, 17, 17, 17, 17, 17, 17, 17, 17, 17, 17, 17, 17, 17, 17, 17, 17, 17, 17, 17, 17, 17, 17, 17, 17, 17, 17,

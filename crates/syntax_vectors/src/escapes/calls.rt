@@ -10,7 +10,7 @@ use std::test::Fail;
 /// A byte from 80 on in a C string is shown as its number past this one.
 pub const HIGH_BYTE: u32 = 0x200000;
 
-/// A report: where a unit stands, in bytes, and its number or its fault.
+/// A report: where a unit is, in bytes, and its number or its fault.
 #[derive(Clone, Copy, Debug, PartialEq, Eq)]
 pub struct Row {
     pub start: usize,

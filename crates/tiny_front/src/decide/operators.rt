@@ -1,4 +1,4 @@
-//! What stands between operands: binary operators, ranges and casts.
+//! What is between operands: binary operators, ranges and casts.
 ghost use Rattle.std.specs.Prelude.{◌≡◌};
 ghost use Rattle.tiny_front.specs.Deciding.{begins_of, binary_of, fits_of, shuts_cast_of, cast_operator_of, range_operator_of, binary_operator_of, sign_of, operators_of, range_end_of};
 
@@ -108,7 +108,7 @@ pub(super) fn operator(class: Class) -> Option<Binary>
     }
 }
 
-// Whether an operator of a level, whose left operand has at least the level `left`, stands in the demand behind an
+// Whether an operator of a level, whose left operand has at least the level `left`, is in the demand after an
 // operand of the level `level`.
 pub(super) fn fits(own: u8, left: u8, demand: u8, level: u8) -> bool
     ensures { result ≡ fits_of own left demand level }
@@ -116,7 +116,7 @@ pub(super) fn fits(own: u8, left: u8, demand: u8, level: u8) -> bool
     demand <= own && left <= level
 }
 
-// Whether the token ends the expression behind a cast's name.
+// Whether the token ends the expression after a cast's name.
 pub(super) fn shuts_cast(class: Class) -> bool
     ensures { result ≡ shuts_cast_of class }
 {
@@ -239,7 +239,7 @@ pub(super) fn operators(
     }
 }
 
-// An end where one begins; behind `..=` always.
+// An end where one begins; after `..=` always.
 pub(super) fn range_end(class: Option<Class>, inclusive: bool) -> Move
     ensures { result ≡ range_end_of class inclusive }
 {

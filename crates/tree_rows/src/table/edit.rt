@@ -19,7 +19,7 @@ use syntax_kind::SyntaxKind;
 use tree_model::ReplaceError;
 
 impl Table {
-    // The rows from `first` up to `end`, moved, behind `rows`.
+    // The rows from `first` up to `end`, moved, after `rows`.
     fn push_moved(
         &self,
         rows: &mut Rows,
@@ -38,7 +38,7 @@ impl Table {
         Ok(())
     }
 
-    // The rows of the node at row `n` behind `rows`, moved so that the node has the row `to`, starts at `byte` and has its
+    // The rows of the node at row `n` after `rows`, moved so that the node has the row `to`, starts at `byte` and has its
     // parent at `up`.
     fn push_node(
         &self,
@@ -127,7 +127,7 @@ impl Table {
         Ok(rows)
     }
 
-    // The rows behind the subtree at row `n`, where `count` rows and `bytes` bytes take its place.
+    // The rows after the subtree at row `n`, where `count` rows and `bytes` bytes take its place.
     fn push_behind(
         &self,
         rows: &mut Rows,

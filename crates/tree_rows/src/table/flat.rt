@@ -15,7 +15,7 @@ pub struct FlatRow {
     pub kind: u32,
     /// The byte where its text starts.
     pub start: u32,
-    /// The number of the first row behind its subtree.
+    /// The number of the first row after its subtree.
     pub behind: u32,
     /// The number of its parent's row; the root, row 0, has 0.
     pub parent: u32,

@@ -17,7 +17,7 @@ pub struct Stretch {
 }
 
 impl Table {
-    // A part of a stretch that has the first row that starts at `offset` or behind it, or ends right before that. It goes from one
+    // A part of a stretch that has the first row that starts at `offset` or after it, or ends right before that. It goes from one
     // guess in steps that grow, so a search takes no more time than by halves alone, but for a constant.
     pub(super) fn narrowed(&self, whole: Stretch, offset: usize) -> Stretch
         requires ordered { whole.low ≤ whole.high }
@@ -57,7 +57,7 @@ impl Table {
         }
     }
 
-    // What two rows say, so far before the guess and behind it, or the nearest that the stretch has.
+    // What two rows say, so far before the guess and after it, or the nearest that the stretch has.
     fn narrower(&self, whole: Stretch, guess: usize, offset: usize, reach: usize) -> Stretch
         requires some { whole.low < whole.high }
         requires in_range { whole.high ≤ size self.now }

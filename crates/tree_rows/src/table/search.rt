@@ -16,7 +16,7 @@ use syntax_kind::SyntaxKind;
 use text_size::TextRange;
 
 impl Table {
-    // The first of the rows `from..to` that starts at `offset` or behind it; `to` where none does.
+    // The first of the rows `from..to` that starts at `offset` or after it; `to` where none does.
     fn first_row_from(&self, from: usize, to: usize, offset: usize) -> usize
         requires ordered { from ≤ to }
         requires in_range { to ≤ size self.now }
@@ -53,7 +53,7 @@ impl Table {
         )
     }
 
-    // The last of the rows `from..to`, if there is one and its text ends at `offset` or behind it.
+    // The last of the rows `from..to`, if there is one and its text ends at `offset` or after it.
     fn last_reaching(&self, from: usize, to: usize, offset: usize) -> Option<usize>
         requires { to ≤ size self.now }
         ensures { Reaching self.now from to offset result }
@@ -132,7 +132,7 @@ impl Table {
         self.child_over(row, last) - 1
     }
 
-    // From row `n` down to first children while these end behind an empty range.
+    // From row `n` down to first children while these end after an empty range.
     fn down_first_children(&self, n: usize, range: TextRange) -> usize
         requires is_row { n < size self.now }
         requires empty { range.start ≡ range.end }

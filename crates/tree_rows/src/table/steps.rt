@@ -123,7 +123,7 @@ impl Table {
         self.last_token_row(n, end)
     }
 
-    /// The token right behind the token at row `n`.
+    /// The token right after the token at row `n`.
     pub fn next_token_row(&self, n: usize) -> Option<usize>
         requires is_row { n < size self.now }
         requires is_token { IsToken (tree_at self.now n) }
@@ -146,7 +146,7 @@ impl Table {
         self.last_token_row(0, n)
     }
 
-    // Whether what stands at row `n` is a token that is no trivia. It reads the row once.
+    // Whether the node or token at row `n` is a token that is no trivia. It reads the row once.
     fn is_no_trivia_token_at(&self, n: usize) -> bool
         requires { n < size self.now }
         ensures { result ≡ (at_token (cursor_at self.now n) && is_no_trivia (cursor_at self.now n)) }
@@ -187,7 +187,7 @@ impl Table {
         None
     }
 
-    /// The nearest token behind the token at row `n` that is no trivia. It goes over the rows between, and reads each once.
+    /// The nearest token after the token at row `n` that is no trivia. It goes over the rows between, and reads each once.
     pub fn next_no_trivia_token_row(&self, n: usize) -> Option<usize>
         requires is_row { n < size self.now }
         requires is_token { IsToken (tree_at self.now n) }

@@ -6,7 +6,7 @@ ghost use Rattle.tree_rows.specs.Walks.{walk_left, IsWalk, MovesLevel};
 
 use super::Table;
 
-/// One step of a walk: the row that is entered or left, and where the walk stands then.
+/// One step of a walk: the row that is entered or left, and where the walk is then.
 #[derive(Clone, Copy)]
 pub struct WalkStep {
     /// Whether the row is entered; else it is left.
@@ -36,7 +36,7 @@ impl Table {
                 if next != start {
                     return None;
                 }
-                // The row's end says, for the proof, that the number behind it fits.
+                // The row's end says, for the proof, that the number after it fits.
                 let _end = self.row(start);
                 let next = start + 1;
                 Some(WalkStep {

@@ -50,7 +50,7 @@ fn kinds_of_attributes(rt: HostRuntime) -> Result<(), Fail> {
     Ok(())
 }
 
-// A comment, the length of its marker and the text behind it.
+// A comment, the length of its marker and the text after it.
 type Text = (&'static str, usize, Option<&'static str>);
 
 const TEXTS: [Text; 13] = [

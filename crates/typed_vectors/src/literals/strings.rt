@@ -59,7 +59,7 @@ fn contents(rt: HostRuntime) -> Result<(), Fail> {
     Ok(())
 }
 
-// The text of a value, behind `=` where it is borrowed and `+` where it is not.
+// The text of a value, after `=` where it is borrowed and `+` where it is not.
 fn shown_value(alloc: Global, value: &CowStr<'_, Global>) -> Result<String, Fail> {
     Ok(match value {
         CowStr::Borrowed(text) => format!(in alloc; "={text}")?,

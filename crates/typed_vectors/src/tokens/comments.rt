@@ -146,7 +146,7 @@ fn kinds_of_comments(rt: HostRuntime) -> Result<(), Fail> {
     Ok(())
 }
 
-// Whether a comment documents what it stands in, or what follows.
+// Whether a comment documents what it is in, or what follows.
 const DOCUMENTED: [(SyntaxKind, &str, bool, bool); 3] = [
     (SyntaxKind::COMMENT, "//", false, false),
     (SyntaxKind::INNER_DOC_COMMENT, "//!", true, false),

@@ -105,7 +105,7 @@ fn digits_of_integers(rt: HostRuntime) -> Result<(), Fail> {
     Ok(())
 }
 
-// A number, its value as a text, what stands before its suffix, and that.
+// A number, its value as a text, what precedes its suffix, and that.
 type Float = (
     &'static str,
     &'static str,

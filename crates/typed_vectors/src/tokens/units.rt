@@ -6,7 +6,7 @@ use ra_ap_syntax::unescape::EscapeError;
 use std::alloc::{AllocError, Global};
 use std::test::Fail;
 
-// A call: where a unit stands, and its character or its fault.
+// A call: where a unit is, and its character or its fault.
 #[derive(Clone, Copy, Debug, PartialEq, Eq)]
 struct Call {
     start: usize,

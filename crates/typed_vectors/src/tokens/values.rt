@@ -6,7 +6,7 @@ use std::alloc::Global;
 use std::borrow::{CowSlice, CowStr};
 use std::test::Fail;
 
-// The text of a value, behind `=` where it is borrowed and `+` where it is not; else the refusal.
+// The text of a value, after `=` where it is borrowed and `+` where it is not; else the refusal.
 fn shown(alloc: Global, kind: SyntaxKind, text: &str) -> Result<String, Fail> {
     let string: ast::AnyString = typed(alloc, kind, text)?;
     Ok(match string.value(alloc) {

@@ -1,4 +1,4 @@
-//! Blocks: what stands before them, and where they stand.
+//! Blocks: what precedes them, and where they are.
 ghost use Rattle.std.specs.Prelude.{◌≡◌, option_map};
 ghost use Rattle.ras_node_ext.specs.Attrs.{may_carry_attributes};
 ghost use Rattle.ras_expr_ext.specs.ExprParts.{is_standalone};
@@ -6,7 +6,7 @@ ghost use Rattle.ras_expr_ext.specs.Modifiers.{modifier_shape, block_modifier};
 
 use crate::ast::{self, AstNode};
 
-/// What stands before a block.
+/// What precedes a block.
 pub type BlockModifier = ras_expr_ext::BlockModifier<ast::Type, ast::Label>;
 
 impl ast::BlockExpr {
@@ -17,7 +17,7 @@ impl ast::BlockExpr {
         ras_expr_ext::block_modifier::<ast::TryBlockModifier, ast::Type, ast::Label>(&self.syntax)
     }
 
-    /// Whether it is no part of what it stands in, as the body of a function is one: it has no parent; or its parent is a `for` or
+    /// Whether it is no part of what it is in, as the body of a function is one: it has no parent; or its parent is a `for` or
     /// an `if`, and it is the first expression there, or there is none; or its parent is neither of these, and no `let` with
     /// `else`, function, `while`, `loop` or constant pattern.
     pub fn is_standalone(&self) -> bool
@@ -26,7 +26,7 @@ impl ast::BlockExpr {
         ras_expr_ext::is_standalone::<ast::Expr>(&self.syntax)
     }
 
-    /// Whether its parent is a block expression or an expression statement, so that attributes may stand in it. The last
+    /// Whether its parent is a block expression or an expression statement, so that attributes may be in it. The last
     /// expression of a block has its list of statements as parent.
     pub fn may_carry_attributes(&self) -> bool
         ensures { result ≡ may_carry_attributes self.now.syntax }

@@ -78,7 +78,7 @@ impl ast::BinExpr {
 
 /// A range, of expressions or of patterns.
 pub trait RangeItem {
-    /// What stands at its ends.
+    /// The node or token at its ends.
     type Bound: AstNode;
 
     /// The node of the range.
@@ -91,7 +91,7 @@ pub trait RangeItem {
     fn start(&self) -> Option<Self::Bound>
         ensures { option_map Self.Bound.node result ≡ start_by Self.Bound.casts (range self.now) };
 
-    /// The first end behind the operator; `None` where there is none, or no operator.
+    /// The first end after the operator; `None` where there is none, or no operator.
     fn end(&self) -> Option<Self::Bound>
         ensures { option_map Self.Bound.node result ≡ range_end_of Self.Bound.casts (range self.now) };
 
@@ -116,7 +116,7 @@ impl RangeItem for ast::RangeExpr {
         ras_expr_ext::range_start(&self.syntax)
     }
 
-    /// The first expression behind the operator; `None` where there is no operator.
+    /// The first expression after the operator; `None` where there is no operator.
     fn end(&self) -> Option<ast::Expr> {
         ras_expr_ext::range_end(&self.syntax)
     }
@@ -142,7 +142,7 @@ impl RangeItem for ast::RangePat {
         ras_expr_ext::start_or_first(&self.syntax)
     }
 
-    /// The first pattern behind the operator; `None` where there is no operator.
+    /// The first pattern after the operator; `None` where there is no operator.
     fn end(&self) -> Option<ast::Pat> {
         ras_expr_ext::range_end(&self.syntax)
     }

@@ -82,7 +82,7 @@ impl ast::DocComment {
     }
 
     /// The text of the first child without the markers, of which the closing one may be missing; `None` where that is no
-    /// token, has no three bytes, or a character stands across their end.
+    /// token, has no three bytes, or a character is across their end.
     pub fn text(&self) -> Option<&str>
         ensures { option_map (λ s. s.now) result ≡ doc_text self.now.syntax }
     {
@@ -155,7 +155,7 @@ impl ast::TokenTree {
         TokenTreesAndTokens::new(&self.syntax)
     }
 
-    /// The meta that it stands in: the parent, if that is one.
+    /// The meta that it is in: the parent, if that is one.
     pub fn parent_meta(&self) -> Option<ast::Meta>
         ensures { IsViewOf ⟦<ast::Meta as AstNode>⟧ (view_in ⟦<ast::Meta as AstNode>⟧.casts (parent_of self.now.syntax)) result }
     {

@@ -52,7 +52,7 @@ impl ast::BlockExpr {
         Statements { left }
     }
 
-    /// The first child of its list that is an expression: in a well-formed block its value. Statements stand in nodes of their own.
+    /// The first child of its list that is an expression: in a well-formed block its value. Statements are in nodes of their own.
     pub fn tail_expr(&self) -> Option<ast::Expr>
         ensures { IsViewOf ⟦<ast::Expr as AstNode>⟧ (typed_child_in ⟦<ast::StmtList as AstNode>⟧.casts ⟦<ast::Expr as AstNode>⟧.casts self.now.syntax) result }
     {

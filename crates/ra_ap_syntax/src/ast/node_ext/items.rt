@@ -1,4 +1,4 @@
-//! Items and what stands in them.
+//! Items and what is in them.
 ghost use Rattle.std.specs.Prelude.{◌≡◌, option_map, is_some, ◌||◌, not};
 ghost use Rattle.std.specs.Option.{option_and_then};
 ghost use Rattle.ras_node.specs.Lookups.{IsViewOf, IsFirstChild, grandparent_of, view_in};
@@ -142,7 +142,7 @@ impl ast::Variant {
 }
 
 impl ast::Module {
-    /// The module that it stands in: the parent's parent, if that is one.
+    /// The module that it is in: the parent's parent, if that is one.
     pub fn parent(&self) -> Option<ast::Module>
         ensures { IsViewOf ⟦<ast::Module as AstNode>⟧ (view_in ⟦<ast::Module as AstNode>⟧.casts (grandparent_of self.now.syntax)) result }
     {

@@ -27,12 +27,12 @@ impl ast::OrPat {
     }
 }
 
-/// The patterns in a slice pattern: those before the first rest pattern, that one, and those behind it.
+/// The patterns in a slice pattern: those before the first rest pattern, that one, and those after it.
 pub type SlicePatComponents = ras_node_ext::SliceComponents<ast::Pat>;
 
 impl ast::SlicePat {
-    /// The patterns before the first rest pattern, that one, and those behind it. A rest pattern is `..`, also bound by a name
-    /// or behind `&`.
+    /// The patterns before the first rest pattern, that one, and those after it. A rest pattern is `..`, also bound by a name
+    /// or after `&`.
     ///
     /// It takes memory for the two lists.
     pub fn components(&self, alloc: Global) -> Result<SlicePatComponents, AllocError>
@@ -45,7 +45,7 @@ impl ast::SlicePat {
 }
 
 impl ast::IdentPat {
-    /// Whether it is a name alone: it has no `@`, `mut`, `ref` and no pattern behind an `@`.
+    /// Whether it is a name alone: it has no `@`, `mut`, `ref` and no pattern after an `@`.
     pub fn is_simple_ident(&self) -> bool
         ensures { result ≡ is_simple_ident ⟦<ast::Pat as AstNode>⟧.casts self.now.syntax }
     {
@@ -81,7 +81,7 @@ fn bound_in_box<N: AstNode + Drop>(boxed: &SyntaxNode) -> Option<ast::Name>
     }
 }
 
-// The name that a pattern binds, also behind `box`.
+// The name that a pattern binds, also after `box`.
 fn bound_name(pat: &SyntaxNode) -> Option<ast::Name>
     ensures { IsViewOf ⟦<ast::Name as AstNode>⟧ (bound_name ⟦<ast::Name as AstNode>⟧.casts ⟦<ast::Pat as AstNode>⟧.casts pat.now) result }
 {
@@ -100,7 +100,7 @@ fn name_bound_by<N: AstNode + Drop>(pat: N) -> Option<ast::Name>
 }
 
 impl ast::RecordPatField {
-    /// The field's name: its own, or the name that its pattern binds, also behind `box`.
+    /// The field's name: its own, or the name that its pattern binds, also after `box`.
     pub fn field_name(&self) -> Option<NameOrNameRef>
         ensures { IsViewOf ⟦<NameOrNameRef as AstNode>⟧ (pat_field_name ⟦<ast::NameRef as AstNode>⟧.casts ⟦<ast::Name as AstNode>⟧.casts ⟦<ast::Pat as AstNode>⟧.casts self.now.syntax) result }
     {

@@ -53,7 +53,7 @@ impl ast::UseTree {
         self.star_token().is_none()
     }
 
-    /// The outermost of the use trees around it, going up by lists while there are such; this tree where it stands in no list of a
+    /// The outermost of the use trees around it, going up by lists while there are such; this tree where it is in no list of a
     /// tree. It takes time in their number.
     pub fn top_use_tree(&self) -> ast::UseTree
         ensures { result.syntax ≡ top_tree_from ⟦<ast::UseTreeList as AstNode>⟧.casts ⟦<ast::UseTree as AstNode>⟧.casts self.now.syntax (drop 1 (ancestors_of self.now.syntax)) }
@@ -61,7 +61,7 @@ impl ast::UseTree {
         ras_node_ext::top_use_tree::<ast::UseTreeList, ast::UseTree>(support::copy(self))
     }
 
-    /// The list that it stands in: the parent, if that is one.
+    /// The list that it is in: the parent, if that is one.
     pub fn parent_use_tree_list(&self) -> Option<ast::UseTreeList>
         ensures { IsViewOf ⟦<ast::UseTreeList as AstNode>⟧ (view_in ⟦<ast::UseTreeList as AstNode>⟧.casts (parent_of self.now.syntax)) result }
     {

@@ -223,7 +223,7 @@ pub type CallExpr = Typed<{ raw::CALL_EXPR }>;
 /// A cast: `a as T`.
 pub type CastExpr = Typed<{ raw::CAST_EXPR }>;
 
-/// A `cfg!` predicate where an expression stands.
+/// A `cfg!` predicate where an expression is.
 pub type CfgPredExpr = Typed<{ raw::CFG_PRED_EXPR }>;
 
 /// A closure: `|a| b`, `move || a`.
@@ -259,7 +259,7 @@ pub type Literal = Typed<{ raw::LITERAL }>;
 /// A `loop { .. }`.
 pub type LoopExpr = Typed<{ raw::LOOP_EXPR }>;
 
-/// A macro call where an expression stands.
+/// A macro call as an expression.
 pub type MacroExpr = Typed<{ raw::MACRO_EXPR }>;
 
 /// `match a { .. }`.
@@ -274,7 +274,7 @@ pub type OffsetOfExpr = Typed<{ raw::OFFSET_OF_EXPR }>;
 /// An expression in parentheses: `(a)`.
 pub type ParenExpr = Typed<{ raw::PAREN_EXPR }>;
 
-/// A path where an expression stands: `a::b`.
+/// A path as an expression: `a::b`.
 pub type PathExpr = Typed<{ raw::PATH_EXPR }>;
 
 /// A prefix operator and its operand: `-a`, `!a`, `*a`.
@@ -349,16 +349,16 @@ pub type FormatArgsArg = Typed<{ raw::FORMAT_ARGS_ARG }>;
 /// `box p`.
 pub type BoxPat = Typed<{ raw::BOX_PAT }>;
 
-/// A constant block where a pattern stands: `const { .. }`.
+/// A constant block as a pattern: `const { .. }`.
 pub type ConstBlockPat = Typed<{ raw::CONST_BLOCK_PAT }>;
 
 /// A name that is bound: `ref mut x @ p`.
 pub type IdentPat = Typed<{ raw::IDENT_PAT }>;
 
-/// A literal where a pattern stands.
+/// A literal as a pattern.
 pub type LiteralPat = Typed<{ raw::LITERAL_PAT }>;
 
-/// A macro call where a pattern stands.
+/// A macro call as a pattern.
 pub type MacroPat = Typed<{ raw::MACRO_PAT }>;
 
 /// Alternatives: `p | q`.
@@ -367,7 +367,7 @@ pub type OrPat = Typed<{ raw::OR_PAT }>;
 /// A pattern in parentheses: `(p)`.
 pub type ParenPat = Typed<{ raw::PAREN_PAT }>;
 
-/// A path where a pattern stands.
+/// A path as a pattern.
 pub type PathPat = Typed<{ raw::PATH_PAT }>;
 
 /// A range of values: `a..=b`.
@@ -376,7 +376,7 @@ pub type RangePat = Typed<{ raw::RANGE_PAT }>;
 /// A struct and patterns of its fields: `S { f: p, .. }`.
 pub type RecordPat = Typed<{ raw::RECORD_PAT }>;
 
-/// A pattern behind a reference: `&p`.
+/// A pattern after a reference: `&p`.
 pub type RefPat = Typed<{ raw::REF_PAT }>;
 
 /// The rest: `..`.
@@ -415,7 +415,7 @@ pub type ImplTraitType = Typed<{ raw::IMPL_TRAIT_TYPE }>;
 /// The type that is left out: `_`.
 pub type InferType = Typed<{ raw::INFER_TYPE }>;
 
-/// A macro call where a type stands.
+/// A macro call as a type.
 pub type MacroType = Typed<{ raw::MACRO_TYPE }>;
 
 /// The type without values: `!`.
@@ -424,7 +424,7 @@ pub type NeverType = Typed<{ raw::NEVER_TYPE }>;
 /// A type in parentheses: `(T)`.
 pub type ParenType = Typed<{ raw::PAREN_TYPE }>;
 
-/// A path where a type stands: `a::T<U>`.
+/// A path as a type: `a::T<U>`.
 pub type PathType = Typed<{ raw::PATH_TYPE }>;
 
 /// A raw pointer type: `*const T`, `*mut T`.

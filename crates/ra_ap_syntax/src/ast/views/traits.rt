@@ -37,7 +37,7 @@ pub trait HasArgList: AstNode {
     }
 }
 
-/// What items stand in.
+/// What items are in.
 pub trait HasModuleItem: AstNode {
     /// The children that are items, in order.
     final fn items(&self) -> AstChildren<ast::Item>

@@ -5,7 +5,7 @@ use Rattle.token_layout.specs.Laid.{IsCut}
 use Rattle.rust_grammar.specs.Seeing.{sights_of}
 use Rattle.rust_grammar.proofs.views.sights.Given as goal
 
--- the tokens that are left cut what is left of the text, and their sights come behind those that are there
+-- the tokens that are left cut what is left of the text, and their sights come after those that are there
 abbrev pub invariant-loop-token : goal.invariant-loop-token
 invariant-loop-token l = shadow (Utf8 l.rest) × (IsCut l.fn.tokens l.fn.text → (IsCut l.left l.rest) × (l.sights.items ++ sights_of l.edition l.rest l.left ≡ sights_of l.edition l.fn.text l.fn.tokens))
 

@@ -4,7 +4,7 @@ use Rattle.std.specs.Str.Iter.{chars_rest}
 use Rattle.line_index.specs.Lines.{wide_length}
 use Rattle.line_index.proofs.line_col.WideEncoding.bytes_of.Given as goal
 
--- the rest of the text is behind the bytes so far
+-- the rest of the text is after the bytes so far
 abbrev pub invariant-loop-c : goal.invariant-loop-c
 invariant-loop-c l = record {
   utf8 : IsUtf8 (chars_rest l.c-iterator);

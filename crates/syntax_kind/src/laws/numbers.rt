@@ -1,4 +1,4 @@
-//! Laws of the numbers. The functions do nothing: the contract is the law.
+//! Laws of the numbers by which views know their kinds.
 ghost use Rattle.std.specs.Prelude.{◌≡◌, ℕ};
 ghost use Rattle.syntax_kind.specs.Kinds.{kind_raw};
 
