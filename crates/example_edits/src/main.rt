@@ -2,10 +2,10 @@
 #![tactic(auto)]
 
 use ra_ap_syntax::{Edition, Parse, ParseError, SourceFile, TextRange, TextSize};
+use rust_front::Rust;
 use std::alloc::Global;
 use std::io;
 use std::time::Instant;
-use tiny_front::Tiny;
 
 type File = Parse<SourceFile>;
 
@@ -23,10 +23,10 @@ fn edit(alloc: Global, old: &File, edit: Edit) -> Result<Option<(File, TextRange
         return Ok(None);
     }
     let delete = TextRange::new(TextSize::new(start), TextSize::new(end));
-    if let Some(piece) = old.incremental_reparse(alloc, &Tiny, delete, insert, NOW)? {
+    if let Some(piece) = old.incremental_reparse(alloc, &Rust, delete, insert, NOW)? {
         return Ok(Some(piece));
     }
-    let whole = old.full_reparse(alloc, &Tiny, delete, insert, NOW)?;
+    let whole = old.full_reparse(alloc, &Rust, delete, insert, NOW)?;
     let range = whole.syntax_node().text_range();
     Ok(Some((whole, range)))
 }
@@ -39,13 +39,13 @@ fn apply(rt: &HostRuntime, old: File, change: Edit) -> io::Result<File> {
     };
     let took = Instant::now(rt)?.duration_since(begun).as_nanos();
     let (start, end, insert) = change;
-    println!(rt; "{start}..{end} by {insert:?}: {range} read anew")?;
+    println!(rt; "{start}..{end} by {insert:?}: {range} parsed again")?;
     eprintln!(rt; "in {took} ns")?;
     Ok(new)
 }
 
 fn main(rt: HostRuntime) -> io::Result<()> {
-    let Ok(mut file) = SourceFile::parse(rt.alloc(), "fn foo() { 1 }\n", &Tiny, NOW) else {
+    let Ok(mut file) = SourceFile::parse(rt.alloc(), "fn foo() { 1 }\n", &Rust, NOW) else {
         return println!(rt; "out of memory");
     };
     file = apply(&rt, file, (3, 6, "main"))?;

@@ -1,40 +1,49 @@
-//! An outline: reads event lines, builds their tree, and prints each item with its range, indented by the items around it.
+//! Prints the items of a Rust file, read from standard input: the line, kind and name of each, indented by the items around it.
 #![tactic(auto)]
 
-use ra_ap_syntax::{AstNode, SyntaxNode, ast};
+use line_index::LineIndex;
+use ra_ap_syntax::{AstNode, Edition, ParseError, SourceFile, SyntaxNode, ast};
+use rust_front::Rust;
 use std::alloc::{AllocError, Global};
 use std::fmt::Write;
 use std::io;
-use std::process::ExitCode;
-use syntax_tool::{Refusal, read_events};
 
-fn outline(alloc: Global, root: &SyntaxNode) -> Result<String, AllocError> {
+// A line for an item: its own name is the first one in it.
+fn push_item(out: &mut String, lines: &LineIndex<'_>, item: &SyntaxNode) -> Result<(), AllocError> {
+    for around in item.ancestors().skip(1) {
+        if ast::Item::can_cast(around.kind()) {
+            out.push_str("  ")?;
+        }
+    }
+    if let Some(at) = lines.line_col(item.text_range().start()) {
+        write!(out, "{}: ", at.line.saturating_add(1))?;
+    }
+    write!(out, "{}", item.kind())?;
+    if let Some(name) = item.children().filter_map(ast::Name::cast).next() {
+        write!(out, " {}", name.syntax().as_str())?;
+    }
+    out.push_str("\n")
+}
+
+fn outline(alloc: Global, text: &str) -> Result<String, ParseError> {
+    if text.len() > u32::MAX as usize {
+        return Err(ParseError::TooLong);
+    }
+    let lines = LineIndex::new(alloc, text)?;
+    let file = SourceFile::parse(alloc, text, &Rust, Edition::CURRENT)?;
     let mut out = String::new(alloc);
-    for node in root.descendants() {
+    for node in file.syntax_node().descendants() {
         if ast::Item::can_cast(node.kind()) {
-            for around in node.ancestors().skip(1) {
-                if ast::Item::can_cast(around.kind()) {
-                    out.push_str("  ")?;
-                }
-            }
-            writeln!(&mut out, "{} {}", node.kind(), node.text_range())?;
+            push_item(&mut out, &lines, &node)?;
         }
     }
     Ok(out)
 }
 
-fn outline_of_input(rt: &HostRuntime) -> Result<String, Refusal> {
-    let Ok(input) = io::read_to_string(rt.alloc(), rt.reader()) else {
-        return Err(Refusal::Read);
-    };
-    let parse = read_events(rt.alloc(), input.as_str())?.finish()?;
-    Ok(outline(rt.alloc(), &parse.syntax_node())?)
-}
-
-fn main(rt: HostRuntime) -> ExitCode {
-    let printed = match outline_of_input(&rt) {
+fn main(rt: HostRuntime) -> io::Result<()> {
+    let input = io::read_to_string(rt.alloc(), rt.reader())?;
+    match outline(rt.alloc(), input.as_str()) {
         Ok(text) => print!(rt; "{text}"),
-        Err(refusal) => print!(rt; "{}", refusal.line()),
-    };
-    ExitCode::from(printed.is_err() as u8)
+        Err(_) => println!(rt; "the text is too long, or memory ran out"),
+    }
 }

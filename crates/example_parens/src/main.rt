@@ -1,49 +1,61 @@
-//! A linter: prints where each needless pair of parentheses of an expression is, and the text with blanks for the first pair.
+//! A linter: prints the line and column of each pair of parentheses of a Rust file that its place does not need.
 #![tactic(auto)]
 
-use ra_ap_syntax::ast::prec::needless_parens;
-use ra_ap_syntax::{AstNode, Edition, ParseError, ast};
+use line_index::LineIndex;
+use ra_ap_syntax::{AstNode, Edition, ParseError, SourceFile, ast};
+use rust_front::Rust;
 use std::alloc::{AllocError, Global};
 use std::fmt::Write;
 use std::io;
-use tiny_front::Tiny;
 
-// What precedes a pair, in it and after it.
-fn parts<'a>(text: &'a str, pair: &'a ast::ParenExpr) -> (&'a str, &'a str, &'a str) {
-    let (range, shown) = (pair.syntax().text_range(), pair.syntax().as_str());
-    let before = text.get(..range.start().raw() as usize).unwrap_or("");
-    let inside = shown.get(1..shown.len().saturating_sub(1)).unwrap_or("");
-    let behind = text.get(range.end().raw() as usize..).unwrap_or("");
-    (before, inside, behind)
+// Whether the expression inside a pair needs no parentheses in place of the pair, below any of the nodes around it: a record may
+// need them because of an `if` further up.
+fn is_needless(pair: &ast::ParenExpr) -> bool {
+    let Some(inside) = pair.expr() else {
+        return false;
+    };
+    for around in pair.syntax().ancestors().skip(1) {
+        if inside.needs_parens_in_place_of(&around, pair.syntax()) {
+            return false;
+        }
+    }
+    true
 }
 
-// The line on a pair.
-fn name(out: &mut String, text: &str, pair: &ast::ParenExpr) -> Result<(), AllocError> {
-    let (before, _, _) = parts(text, pair);
-    let line = before.split('\n').count();
-    let last = before.rsplit('\n').next().unwrap_or("").chars();
-    let (column, shown) = (last.count().saturating_add(1), pair.syntax().as_str());
-    writeln!(out, "{line}:{column}: {shown} needs no parentheses")
-}
-
-fn report(alloc: Global, text: &str, expr: &ast::Expr) -> Result<String, AllocError> {
-    let mut out = String::new(alloc);
-    let pairs = needless_parens(alloc, expr)?.unwrap_or(Vec::new(alloc));
-    for pair in pairs.iter() {
-        name(&mut out, text, pair)?;
-    }
-    if let Some(first) = pairs.as_slice().first() {
-        let (before, inside, behind) = parts(text, first);
-        write!(out, "without the first:\n{before} {inside} {behind}")?;
-    }
-    Ok(out)
+// Columns count bytes, from 1.
+fn push_pair(
+    out: &mut String,
+    lines: &LineIndex<'_>,
+    pair: &ast::ParenExpr,
+) -> Result<(), AllocError> {
+    let Some(at) = lines.line_col(pair.syntax().text_range().start()) else {
+        return Ok(());
+    };
+    let (line, column) = (at.line.saturating_add(1), at.col.saturating_add(1));
+    writeln!(
+        out,
+        "{line}:{column}: {} needs no parentheses",
+        pair.syntax().as_str()
+    )
 }
 
 fn lint(alloc: Global, text: &str) -> Result<String, ParseError> {
-    match ast::Expr::parse(alloc, text, &Tiny, Edition::CURRENT)?.tree() {
-        Some(expr) => Ok(report(alloc, text, &expr)?),
-        None => Ok(String::new(alloc)),
+    if text.len() > u32::MAX as usize {
+        return Err(ParseError::TooLong);
     }
+    let lines = LineIndex::new(alloc, text)?;
+    let file = SourceFile::parse(alloc, text, &Rust, Edition::CURRENT)?;
+    let mut out = String::new(alloc);
+    for pair in file
+        .syntax_node()
+        .descendants()
+        .filter_map(ast::ParenExpr::cast)
+    {
+        if is_needless(&pair) {
+            push_pair(&mut out, &lines, &pair)?;
+        }
+    }
+    Ok(out)
 }
 
 fn main(rt: HostRuntime) -> io::Result<()> {
