@@ -29,7 +29,7 @@ impl<N: AstNode> Model for AstPtr<N> {
 }
 
 impl<N: AstNode> AstPtr<N> {
-    /// The pointer to the node after a view.
+    /// The pointer to the node of a view.
     pub fn new(node: &N) -> AstPtr<N>
         ensures { result ≡ pointer_to (N.node node.now) }
     {

@@ -19,7 +19,7 @@ pub data ModifierShape : Type 0 where
   const : Cursor → ModifierShape
   label : Cursor → ModifierShape
 
--- a modifier's variant, by the nodes after its views
+-- a modifier's variant, by the nodes of its views
 abbrev pub modifier_shape : {T L : Type 0} → (T → Cursor) → (L → Cursor) → BlockModifier T L → ModifierShape
 modifier_shape types labels (modifier.AsyncGen t) = async_gen t
 modifier_shape types labels (modifier.Gen t) = gen t

@@ -16,7 +16,7 @@ pub trait AstNode: Sized {
     /// The kinds of the nodes that can be viewed so.
     ghost casts: { SyntaxKind → Bool };
 
-    /// The node after the view.
+    /// The node of the view.
     ghost node: { Self → Cursor };
 
     /// The one kind that the view is of; `None` where it is of several.
@@ -35,7 +35,7 @@ pub trait AstNode: Sized {
         ensures exact { is_some result ≡ casts (kind_at syntax) }
         ensures same { IfSome result (λ it. node it ≡ syntax) };
 
-    /// The node after the view.
+    /// The node of the view.
     fn syntax(&self) -> &SyntaxNode
         ensures { result.now ≡ node self.now };
 

@@ -12,7 +12,7 @@ pub trait AstToken: Sized {
     /// The kinds of the tokens that can be viewed so.
     ghost casts: { SyntaxKind → Bool };
 
-    /// The token after the view.
+    /// The token of the view.
     ghost token: { Self → Cursor };
 
     /// Whether a token of this kind can be viewed so.
@@ -24,7 +24,7 @@ pub trait AstToken: Sized {
         ensures exact { is_some result ≡ casts (kind_at syntax) }
         ensures same { IfSome result (λ it. token it ≡ syntax) };
 
-    /// The token after the view.
+    /// The token of the view.
     fn syntax(&self) -> &SyntaxToken
         ensures { result.now ≡ token self.now };
 

@@ -376,7 +376,7 @@ pub type RangePat = Typed<{ raw::RANGE_PAT }>;
 /// A struct and patterns of its fields: `S { f: p, .. }`.
 pub type RecordPat = Typed<{ raw::RECORD_PAT }>;
 
-/// A pattern after a reference: `&p`.
+/// A reference pattern: `&p`.
 pub type RefPat = Typed<{ raw::REF_PAT }>;
 
 /// The rest: `..`.
