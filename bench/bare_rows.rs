@@ -13,7 +13,7 @@ struct Row {
     #[allow(dead_code)]
     kind: u16,
     start: u32,
-    // The number of the first row behind the subtree.
+    // The number of the first row after the subtree.
     behind: u64,
 }
 

@@ -1,6 +1,6 @@
 //! The opponent of `benches fronts`: a lexer and a parser of the language of `tiny_front`, in plain Rust and std alone, as they
 //! would be written by hand. The parser goes down by recursion, and builds a tree of the kind that `rowan` keeps: green nodes
-//! and tokens that are shared by `Rc`. An edit reads one token or one block anew, by the same conditions, or all; a new tree
+//! and tokens that are shared by `Rc`. An edit parses one token or one block again, by the same conditions, or all; a new tree
 //! shares what did not change. With `dump` it prints the tree of its input as `run dump` does, so that the two can be compared;
 //! with `keep BYTES COUNT` it reads a text of so many bytes as often as is said, for others to see how much memory that takes.
 
@@ -631,7 +631,7 @@ fn merged(old: &[Problem], new: Vec<Problem>, start: u32, end: u32, grows: i64) 
     errors
 }
 
-// The file after an edit: as a tree and its errors; its text is in the tree. Says whether a piece was read anew.
+// The file after an edit: as a tree and its errors; its text is in the tree. Says whether a piece was parsed again.
 fn edit(old: &File, from: u32, to: u32, insert: &str) -> (GreenNode, Vec<Problem>, bool) {
     let (mut way, mut here, mut offset) = covering(&old.root, from, to);
     let grows = insert.len() as i64 - (to - from) as i64;
@@ -745,7 +745,7 @@ fn time_parse(input: &str, text: &str, runs: u32) {
     measure("dump", input, text.len(), runs, || dump(&file));
 }
 
-// One token, one block and all read anew, at a place where a function begins.
+// One token, one block and all parsed again, at a place where a function begins.
 fn time_edits(input: &str, text: &str, function: usize, runs: u32) {
     let file = parse(text);
     let name = function as u32 + 3;

@@ -199,7 +199,7 @@ impl Node {
         }
     }
 
-    // The token that holds the byte before or behind the offset.
+    // The token that holds the byte before or after the offset.
     fn token_at_offset(&self, offset: u32) -> Option<Token> {
         let mut node = self.clone();
         loop {

@@ -16,7 +16,7 @@ static int is_chosen(const char *name, long *seen) {
     return number != NULL && *seen == atol(number);
 }
 
-// Whether this allocation is refused, as the one that is named or as one behind it; it says so on standard error.
+// Whether this allocation is refused, as the one that is named or as one after it; it says so on standard error.
 static int is_refused(void) {
     const char *first = getenv("REFUSE_FROM");
     if (!is_chosen("REFUSE_ALLOCATION", &allocations) && (first == NULL || allocations < atol(first)))

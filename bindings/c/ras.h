@@ -43,7 +43,7 @@ typedef struct {
     uint32_t kind;
     /* The byte where its text starts. */
     uint32_t start;
-    /* The number of the first row behind its subtree. */
+    /* The number of the first row after its subtree. */
     uint32_t behind;
     /* The number of its parent's row; the root, row 0, has 0. */
     uint32_t parent;
@@ -63,7 +63,7 @@ typedef struct {
     uint32_t start;
     /* The byte where its range ends. */
     uint32_t end;
-    /* How many bytes its message has; the messages stand one behind the other. */
+    /* How many bytes its message has; the messages follow one another. */
     uint32_t message;
 } ras_error_row;
 
@@ -129,7 +129,7 @@ uint32_t ras_c_reads_back(
     uint32_t *answer);
 
 /*
- * Reads a text, of the edition of a year, as a Rust file: its tree as rows in preorder, its errors, and their messages one behind
+ * Reads a text, of the edition of a year, as a Rust file: its tree as rows in preorder, its errors, and their messages one after
  * the other, each at the front of its buffer. RAS_OK, RAS_NOT_UTF8, RAS_TOO_LONG, RAS_NO_MEMORY, RAS_NO_ROOM or RAS_NO_EDITION.
  *
  * Whatever the text is, there is a tree. A text of n bytes seldom has more than 2 n rows.

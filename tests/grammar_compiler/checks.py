@@ -116,7 +116,7 @@ class Steps:
     """The longest way of the machine between two takes, and how many calls it may leave open.
 
     The machine is run without tokens: what is not known of the next four, of the flags and of the last answer at first
-    goes both ways at a test, and is known behind it. A way begins behind a take, behind a call, where it returns, and
+    goes both ways at a test, and is known after it. A way begins after a take, after a call, where it returns, and
     at each rule. It ends with a take, or with a return out of the rule that it began in.
     """
 
@@ -159,7 +159,7 @@ class Steps:
         return self.length[start]
 
     def taken(self, views, frames, stays):
-        """Behind a take: the way ends, but where there was no token to take."""
+        """After a take: the way ends, but where there was no token to take."""
         if self.views.narrowed(views, 0, ~self.views.end & self.views.all):
             self.frames = max(self.frames, len(frames))
         at_end = self.views.narrowed(views, 0, self.views.end)

@@ -153,7 +153,7 @@ class Grammar:
         elif what == "rule":
             name = words.take()
             if name in self.rules:
-                words.fail(f"the rule {name} stands twice")
+                words.fail(f"the rule {name} is there twice")
             words.need("{")
             self.rules[name] = Rule(self, name).ops
         else:
@@ -387,7 +387,7 @@ class Rule:
                 self.jump(open_one[0 if word == "continue" else 1])
                 return
         if word != "return":
-            self.words.fail(f"{word} stands in no loop")
+            self.words.fail(f"{word} is in no loop")
         self.emit("Return")
 
     def statement(self, word):

@@ -13,7 +13,7 @@ TOKEN_KINDS = 117
 NUMBERED = [
     ("IDENT", "an identifier"),
     ("FLOAT_NUMBER", "a number with a dot or an exponent"),
-    ("FLOAT_PAIR", "a number with digits behind its dot"),
+    ("FLOAT_PAIR", "a number with digits after its dot"),
     ("FLOAT_DOT", "a number that ends with its dot"),
 ]
 # So many messages make a function of their own.
@@ -66,7 +66,7 @@ def op_text(op, table, kind_text):
 
 
 def in_lines(items, width):
-    """Items of a list behind commas, as many a line as fit."""
+    """Items of a list after commas, as many a line as fit."""
     lines, line = [], "   "
     for item in items:
         if len(line) + len(item) + 2 > width:
@@ -103,7 +103,7 @@ def arm(number, text):
 
 
 def message_pages(messages):
-    """The messages as a function and as its definition, in parts, since a proof about a long choice is dear."""
+    """The messages as a function and as its definition, in parts, since a proof about a long choice is expensive."""
     parts = [list(enumerate(messages))[at : at + MESSAGES_A_PART] for at in range(0, len(messages), MESSAGES_A_PART)]
     code, definitions = [], []
     for which, part in enumerate(parts):
@@ -148,7 +148,7 @@ def pages(grammar, table, top):
     made["src/tables/op_table.rt"] = page("The operations.", uses, [static("The operations of all rules.", "OPS", "Op", ops, 240)])
     words = [bits(kind for kind in kinds if kind // 64 == word) >> 64 * word for kinds in table.sets for word in range(4)]
     made["src/tables/set_table.rt"] = page("The sets of kinds.", [], [static("Four words of 64 bits for each set.", "SETS", "u64", [f"0x{word:x}" for word in words])])
-    made["src/tables/row_table.rt"] = page("The rows of targets.", [], [static(f"A target for each of the {grammar.width} kinds of single tokens, row behind row.", "ROWS", "u16", list(map(str, table.rows)), 240)])
+    made["src/tables/row_table.rt"] = page("The rows of targets.", [], [static(f"A target for each of the {grammar.width} kinds of single tokens, row after row.", "ROWS", "u16", list(map(str, table.rows)), 240)])
     powers = [grammar.powers.get(kind) for kind in range(len(grammar.kinds))]
     powers = [f"Some(Power {{ level: {p[0]}, right: {p[1]} }})" if p else "None" for p in powers]
     made["src/tables/power_table.rt"] = page("How operators bind.", ["grammar_machine::Power"], [static("The powers of operators, by the numbers of kinds.", "POWERS", "Option<Power>", powers)])
@@ -182,9 +182,9 @@ def pages(grammar, table, top):
         "What punctuation makes together.",
         [],
         [
-            f"/// The number of the first sign that a joint token may have behind its first.\npub(crate) const FIRST_SIGN: u8 = {first};",
+            f"/// The number of the first sign that a joint token may have after its first.\npub(crate) const FIRST_SIGN: u8 = {first};",
             f"/// How many signs there are from that one on.\npub(crate) const SIGNS: usize = {last - first + 1};",
-            static("The kind that a token makes with a sign behind it, or 0: a row of signs for each kind.", "JOINTS", "u8", joints),
+            static("The kind that a token makes with a sign after it, or 0: a row of signs for each kind.", "JOINTS", "u8", joints),
         ],
     )
     made["src/tables/messages.rt"], made["specs/Messages.antt"] = message_pages(grammar.messages)

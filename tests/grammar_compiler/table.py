@@ -1,15 +1,15 @@
-"""From rules to one table of operations, with what often stands together made one operation."""
+"""From rules to one table of operations, with what often comes together made one operation."""
 import collections
 
 from .language import NONE, ONE, WORD, Flag, Label, Op, Seen
 
-# A rule of at most so many operations that looks at no flag and no level stands in place of its calls.
+# A rule of at most so many operations that looks at no flag and no level is in place of its calls.
 INLINED = 12
-# From so many tests of the next token's kind on, one behind the other, a row of targets takes their place.
+# From so many tests of the next token's kind on, one after the other, a row of targets takes their place.
 SWITCHED = 2
 # A jump to at most so many operations and a return does these itself.
 REPEATED = 3
-# Operations behind which the machine does not go on with the next one
+# Operations after which the machine does not go on with the next one
 ENDS = ("Jump", "Return", "Leave", "Reply", "Become", "Switch")
 
 
@@ -89,7 +89,7 @@ class Table:
                 if op.name == "Call" and self.ops[op.target].name == "Open":
                     self.ops[number] = Op(op.line, "Enter", target=op.target + 1)
 
-    # ---- tests of the next token's kind, one behind the other
+    # ---- tests of the next token's kind, one after the other
 
     def decided(self, op, kind):
         """Whether the test of a branch holds, if that follows from the next token's kind; else None."""
@@ -165,7 +165,7 @@ class Table:
 
 
 def fused(ops):
-    """Operations that often stand one behind the other as one: a node of one token, and what comes before a return."""
+    """Operations that often follow one another as one: a node of one token, and what comes before a return."""
     made = []
     for op in ops:
         made.append(op)
@@ -213,7 +213,7 @@ def without_jumps(ops):
 
 
 def without_dead(ops):
-    """Without the labels that no operation names, and without what stands behind a return or a jump and has no label."""
+    """Without the labels that no operation names, and without what follows a return or a jump and has no label."""
     named = {op.target for op in ops if isinstance(op, Op) and isinstance(op.fields.get("target"), Label)}
     made, runs = [], True
     for op in ops:

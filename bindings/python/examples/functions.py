@@ -1,5 +1,5 @@
 #!/usr/bin/env python3
-"""Lists the functions of the Rust files of a folder: file, line, and name with the names of what the function stands in.
+"""Lists the functions of the Rust files of a folder: file, line, and name with the names of what the function is in.
 
 usage: functions.py FOLDER
 """

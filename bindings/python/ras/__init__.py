@@ -7,7 +7,7 @@
 >>> [it.text for it in tree.root.descendants() if it.kind == "BIN_EXPR"]
 ['(1 + 2) * 3', '1 + 2']
 
-There is a tree whatever the text is, and each byte of the text stands in one token of it. One call reads a text; nodes and tokens are
+There is a tree whatever the text is, and each byte of the text is in one token of it. One call reads a text; nodes and tokens are
 made as they are asked for. Offsets and ranges are in bytes of the text's UTF-8.
 """
 import array
@@ -106,7 +106,7 @@ class Tree:
             if _had_room(status):
                 break
             row_room, error_room, message_room = counts.rows, counts.errors, max(counts.messages, 1)
-        # Four numbers a row: the kind, where it starts, the first row behind its subtree, its parent's row.
+        # Four numbers a row: the kind, where it starts, the first row after its subtree, its parent's row.
         self.rows = memoryview(rows)[: 4 * counts.rows]
         self.errors, at = [], 0
         for n in range(counts.errors):
@@ -187,7 +187,7 @@ class Element:
 
     @property
     def behind(self):
-        """The first row behind its subtree."""
+        """The first row after its subtree."""
         return self.tree.rows[4 * self.row + 2]
 
     @property

@@ -1,4 +1,4 @@
-//! A linter: functions that do nothing, `unwrap` calls, and `if` whose condition stands in parentheses.
+//! A linter: functions that do nothing, `unwrap` calls, and `if` whose condition is in parentheses.
 //!
 //! Over rust-analyzer's crate it is the same text with `ra_ap_syntax` in place of `ras` in the two `use` lines.
 //!

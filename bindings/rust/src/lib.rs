@@ -1,6 +1,6 @@
 //! Lossless syntax trees for Rust, over a parser of which each function is proved.
 //!
-//! [`Tree::parse`] reads a text. There is a tree whatever the text is, each byte of the text stands in one token of it, and
+//! [`Tree::parse`] reads a text. There is a tree whatever the text is, each byte of the text is in one token of it, and
 //! [`Tree::errors`] lists what is wrong. A [`Node`] and a [`Token`] are places in a tree; [`ast`] has them by type.
 //!
 //! ```

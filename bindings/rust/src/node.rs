@@ -62,7 +62,7 @@ impl<'t> Place<'t> {
         (before > parent).then(|| self.at(before).up_to_child_of(parent).element())
     }
 
-    // The place on the way up whose parent stands at this row.
+    // The place on the way up whose parent is at this row.
     fn up_to_child_of(self, row: u32) -> Place<'t> {
         let mut place = self;
         while place.row().parent != row {

@@ -33,7 +33,7 @@ pub struct FlatRow {
     pub kind: u32,
     /// The byte where its text starts.
     pub start: u32,
-    /// The number of the first row behind its subtree.
+    /// The number of the first row after its subtree.
     pub behind: u32,
     /// The number of its parent's row; the root, row 0, has 0.
     pub parent: u32,
@@ -57,7 +57,7 @@ pub struct ErrorRow {
     pub start: u32,
     /// The byte where its range ends.
     pub end: u32,
-    /// How many bytes its message has; the messages stand one behind the other.
+    /// How many bytes its message has; the messages follow one another.
     pub message: u32,
 }
 
@@ -125,7 +125,7 @@ unsafe extern "C" {
         answer: *mut u32,
     ) -> u32;
 
-    /// Reads a text, of the edition of a year, as a Rust file: its tree as rows in preorder, its errors, and their messages one behind
+    /// Reads a text, of the edition of a year, as a Rust file: its tree as rows in preorder, its errors, and their messages one after
     /// the other, each at the front of its buffer. [`OK`], [`NOT_UTF8`], [`TOO_LONG`], [`NO_MEMORY`], [`NO_ROOM`] or [`NO_EDITION`].
     ///
     /// Whatever the text is, there is a tree. A text of n bytes seldom has more than 2 n rows.

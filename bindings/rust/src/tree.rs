@@ -96,7 +96,7 @@ impl std::error::Error for SyntaxError {}
 
 /// A text, its lossless tree, and what is wrong with it.
 ///
-/// There is a tree whatever the text is, and each byte of the text stands in one token of it. A tree is plain data: it may be sent
+/// There is a tree whatever the text is, and each byte of the text is in one token of it. A tree is plain data: it may be sent
 /// to another thread, and shared with others.
 ///
 /// ```
@@ -219,7 +219,7 @@ impl Tree {
 
     /// The pairs of parentheses that may go, each a `PAREN_EXPR`, in preorder: those whose inside needs none in their place.
     ///
-    /// That several of them may go at once is not said: after an edit, ask again. The text is read anew.
+    /// That several of them may go at once is not said: after an edit, ask again. The text is parsed again.
     ///
     /// ```
     /// use ras::{Edition, Tree};

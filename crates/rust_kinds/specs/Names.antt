@@ -82,7 +82,7 @@ next_hash hash byte = (hash * 42 + byte) % 65536
 abbrev pub place_of : List ℕ → ℕ
 place_of name = fold next_hash 0 name % 225
 
--- the number n of the kind `OTHER(n)` with this name: the node or token at its place, if it has the name
+-- the number n of the kind `OTHER(n)` with this name: the name at its place, if it is this one
 abbrev pub number_at : List ℕ → ℕ
 number_at name = slice_index_or NUMBERS (place_of name) 0
 

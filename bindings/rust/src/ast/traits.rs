@@ -45,7 +45,7 @@ pub trait HasArgList<'t>: AstNode<'t> {
     }
 }
 
-/// What items stand in.
+/// What items are in.
 pub trait HasModuleItem<'t>: AstNode<'t> {
     /// The children that are items, in order.
     fn items(&self) -> AstChildren<'t, Item<'t>> {
