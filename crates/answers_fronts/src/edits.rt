@@ -8,7 +8,7 @@ use std::fmt::Write;
 
 pub type File = Parse<SourceFile>;
 
-/// The first byte that goes, the byte behind the last one, and what comes in their place.
+/// The first byte that goes, the byte after the last one, and what comes in their place.
 #[derive(Clone, Copy)]
 pub struct Change<'a> {
     pub start: u32,
@@ -16,7 +16,7 @@ pub struct Change<'a> {
     pub insert: &'a str,
 }
 
-/// The file after an edit, and the range that was read anew where not all was.
+/// The file after an edit, and the range that was parsed again where not all was.
 pub type Edited = (File, Option<TextRange>);
 
 fn with_piece(

@@ -128,7 +128,7 @@ fn is_piece<F: FrontEnd>(
     }
 }
 
-// Where what was read anew stands now.
+// Where what was parsed again is now.
 fn new_range(old: &SyntaxNode, new: &SyntaxNode, replaced: TextRange) -> TextRange {
     let behind = old
         .text_range()
@@ -151,7 +151,7 @@ fn is_spliced(
     Ok(after.as_str() == expected.as_str())
 }
 
-// Whether what was read anew in place of a range is right.
+// Whether what was parsed again in place of a range is right.
 fn is_right_piece<F: FrontEnd>(
     alloc: Global,
     front: &F,

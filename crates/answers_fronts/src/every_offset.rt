@@ -9,7 +9,7 @@ use ra_ap_syntax::{
 use std::alloc::Global;
 use std::fmt::Write;
 
-// The tokens with a text that touch an offset: the first and the last of them, and how many nodes stand above them in all.
+// The tokens with a text that touch an offset: the first and the last of them, and how many nodes are above them in all.
 #[derive(Drop)]
 struct Touching {
     first: Option<SyntaxToken>,

@@ -5,7 +5,7 @@
 //!
 //! - `run COMMAND INPUT`: what the program writes, and its status; `bytes COMMAND` runs it on the byte 255.
 //! - `file FRONT TEXT`, `expr FRONT TEXT`: the parse's dump, its errors, what `tree`, `cast` and `ok` answer.
-//! - `edit FRONT START END |INSERT|TEXT`: what is read anew, the new text, whether the parse equals that of the new text, errors.
+//! - `edit FRONT START END |INSERT|TEXT`: what is parsed again, the new text, whether the parse equals that of the new text, errors.
 //! - `edits FRONT TEXT`: each range of the text edited with nothing, `x`, `}`, `"` and a newline.
 //! - `offsets FRONT TEXT`: each offset and each range of the text, asked of the tree and of plain searches.
 //! - `walk TEXT`: its items, their names, and what is in and around the last expression of each body.

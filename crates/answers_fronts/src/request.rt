@@ -3,7 +3,7 @@
 use crate::stopped::Stopped;
 use std::alloc::{AllocError, Global};
 
-// What the letter behind a backslash stands for.
+// What the letter after a backslash stands for.
 fn escape(letter: char) -> char {
     match letter {
         'n' => '\n',

@@ -42,7 +42,7 @@ fn show_next(out: &mut String, tail: &SyntaxNode) -> Result<(), Stopped> {
     }
 }
 
-// The node, what is below it, and what stands around it.
+// The node, what is below it, and what is around it.
 fn show_tail(out: &mut String, tail: &SyntaxNode) -> Result<(), Stopped> {
     show_node(out, tail)?;
     show_below(out, tail)?;
@@ -100,7 +100,7 @@ fn show_items(out: &mut String, file: &SourceFile) -> Result<(), Stopped> {
     Ok(())
 }
 
-/// Prints each function of a file: its name, its tail, and what stands round the tail.
+/// Prints each function of a file: its name, its tail, and what is round the tail.
 pub fn show_walk(alloc: Global, out: &mut String, text: &str) -> Result<(), Stopped> {
     let parse = SourceFile::parse(alloc, text, &Tiny, Edition::CURRENT)?;
     match parse.tree() {

@@ -1,19 +1,20 @@
 -- What the loops of a dump add, step by step.
 use Rattle.std.proofs.Common.{◌≡◌, ℕ, suc, ◌+◌, ◌-◌, ◌<◌, ◌≤◌, List, [], ◌∷◌, ◌++◌, length, refl, sym, ap, ◌∙◌, arith, append_assoc, append-nil, length-append}
-use Rattle.std.specs.Prelude.{IsUtf8, encode_utf8, encode_utf8_all, ◌==◌, ◌*◌, if◌then◌else◌, nat_lt, codes, replicate, Bool, true, false, cond, map, None}
+use Rattle.std.specs.Prelude.{IsUtf8, encode_utf8, encode_utf8_all, ◌==◌, ◌*◌, if◌then◌else◌, nat_lt, codes, replicate, Bool, true, false, cond, map, Option, None, Some}
 use Rattle.std.specs.Char.{len_utf8}
 use Rattle.std.specs.List.{flat_map}
+use Rattle.std.proofs.lemmas.List.{replicate-append-replicate}
 use Rattle.std.proofs.lemmas.List.Concat.{flat_map-append}
 use Rattle.std.specs.Str.{chars}
 use Rattle.std.proofs.lemmas.Bool.Decides.{nat_tests}
 use Rattle.std.proofs.lemmas.Str.{chars_past_char, chars-nil, length-encode, len_utf8_bounds, encodes-chars}
 use Rattle.lossless_tree.specs.Dump.{escaped, shortest_front, shown, quoted, shown_text, dump_line, dump_of}
-use Rattle.tree_model.specs.Tree.{Tree, node, token, Forest, nil, cons, text, kind_of, IsNode, IsToken, Place, places, places_from, walk, walk_from, under}
+use Rattle.tree_model.specs.Tree.{Tree, node, token, Forest, nil, cons, text, kind_of, IsNode, Place, places, places_from, walk, walk_from, under, size}
 use Rattle.syntax_kind.specs.Kinds.{kind_name}
 use Rattle.text_size.specs.TextRange.{range_text}
 use Rattle.tree_model.specs.Cursor.{Cursor, focus, at_place, range_of, level_below, walk_of, cursor_at}
-use Rattle.tree_rows.specs.Walks.{walk_left}
-use Rattle.tree_rows.proofs.WalkSteps.{walk_left-whole}
+use Rattle.tree_rows.specs.Walks.{IsWalk, open_count, walk_left}
+use Rattle.tree_rows.proofs.WalkSteps.{depth_row, open_row, walk_left-whole}
 
 if_zero : {A : Type 0} (n : ℕ) (x y : A) → n ≡ 0 → (if n == 0 then x else y) ≡ x
 if_zero n x y h = grind (arith, nat_tests)
@@ -67,17 +68,9 @@ pub shown_text-node : (t : Tree) → IsNode t → shown_text t ≡ []
 shown_text-node (node k c) h = refl
 shown_text-node (token k x) h = absurd h
 
-pub text_pushed : (out after : List ℕ) (t : Tree) → IsToken t → after ≡ out ++ (codes " " ++ quoted (text t)) → after ≡ out ++ shown_text t
-text_pushed out after (node k c) h e = absurd h
-text_pushed out after (token k x) h e = e
-
--- the parts of a line, one after another
-pub line_pushed : (old one two three four : List ℕ) (level : ℕ) (c : Cursor) → one ≡ old ++ replicate (2 * level) 32
-    → two ≡ one ++ (kind_name (kind_of (focus c)) ++ (64 ∷ range_text (range_of c)))
-    → three ≡ two ++ shown_text (focus c) → four ≡ three ++ 10 ∷ [] → four ≡ old ++ dump_line level c
-line_pushed old one two three four level c a b d e =
-    let head = kind_name (kind_of (focus c)) ++ (64 ∷ range_text (range_of c)) in
-    e ∙ ap (λ l. l ++ 10 ∷ []) (d ∙ ap (λ l. l ++ shown_text (focus c)) (b ∙ ap (λ l. l ++ head) a)) ∙ simp append_assoc
+-- one level more of the indentation
+pub two_more : (n : ℕ) → replicate (2 * n) 32 ++ codes "  " ≡ replicate (2 * (n + 1)) 32
+two_more n = replicate-append-replicate (2 * n) 2 32 ∙ ap (λ m. replicate m 32) (omega arith)
 
 -- ---- the whole dump
 
@@ -143,3 +136,10 @@ lines_at_start whole start out empty =
 
 pub lines_at_end : (c : Cursor) (out whole : List ℕ) (w : List (Bool × Cursor)) → w ≡ [] → out ++ event_lines c w ≡ whole → out ≡ whole
 lines_at_end c out whole w done h = sym (append-nil out) ∙ ap (λ l. out ++ event_lines c l) (sym done) ∙ h
+
+-- as many nodes are open as there are rows at most
+pub open_fits : (whole : Tree) (start next : ℕ) (o : Option ℕ) → IsWalk whole start next o → open_count whole start o ≤ size whole
+open_fits whole start next None w = omega arith
+open_fits whole start next (Some o) w =
+    let is_row = open_row whole start next o w in
+    omega (arith, is_row, depth_row whole o is_row)

@@ -1,57 +1,102 @@
 //! How a tree prints.
-ghost use Rattle.std.specs.Prelude.{◌≡◌, ◌++◌, ◌*◌, OnOk, IfOk, string_bytes, replicate};
+ghost use Rattle.std.specs.Prelude.{◌≡◌, ◌*◌, Some, replicate};
+ghost use Rattle.std.specs.Fmt.{WritesOnOk};
 ghost use Rattle.tree_model.specs.Rows.{IsRow, tree_at};
 ghost use Rattle.tree_model.specs.Cursor.{cursor_at};
 ghost use Rattle.lossless_tree.specs.Dump.{shown_text, dump_line, dump_of};
 
 use crate::quoted::Quoted;
-use std::alloc::{AllocError, Global};
-use std::fmt::Write;
+use shared_pointer::Shared;
+use std::fmt;
+use std::fmt::{Formatter, Write};
+use std::marker::Model;
 use tree_rows::Table;
 
-// What stands behind the range of a row: a token's text.
-fn push_text(out: &mut String, table: &Table, row: usize) -> Result<(), AllocError>
+/// Writes by `{}` what `dump` of a node or token returns, without a `String` of its own. It takes no memory.
+#[derive(Drop)]
+pub struct Dump<'t> {
+    table: &'t Shared<Table>,
+    row: usize,
+}
+
+impl<'t> Model for Dump<'t> {
+    ghost use Rattle.tree_model.specs.Cursor.{Cursor, cursor_code};
+
+    ghost Value = { Cursor };
+
+    ghost coded = { cursor_code };
+
+    ghost use Rattle.tree_model.specs.Rows.{place_at, IsRow};
+
+    ghost view = { λ d. record { tree = d.table.now.value; place = place_at d.table.now.value d.row } };
+
+    ghost invariant = { λ d. IsRow d.table.now.value d.row };
+}
+
+impl<'t> Dump<'t> {
+    // The dump of what is at a row.
+    pub(crate) fn at(table: &'t Shared<Table>, row: usize) -> Self
+        requires { IsRow table.now.value row }
+        ensures { result ≡ cursor_at table.now.value row }
+    {
+        Dump { table, row }
+    }
+}
+
+impl<'t> fmt::Display for Dump<'t> {
+    ghost output = { λ c. Some (dump_of c) };
+
+    fn fmt<W: Write>(&self, f: &mut Formatter<W>) -> fmt::Result {
+        write_lines(f, self.table, self.row)
+    }
+}
+
+// What follows the range of a row: a token's text.
+fn write_text<W: Write>(f: &mut Formatter<W>, table: &Table, row: usize) -> fmt::Result
     requires { IsRow table.now row }
-    ensures { OnOk result (string_bytes out.new ≡ string_bytes out.old ++ shown_text (tree_at table.now row)) }
+    ensures { WritesOnOk W.write_str_gives f.old result (shown_text (tree_at table.now row)) f.new }
 {
     if table.is_token_at(row) {
         let text = Quoted(table.text_at(row));
-        write!(out, " {text}")?;
+        write!(f, " {text}")?;
     }
     Ok(())
 }
 
-fn push_indent(out: &mut String, level: usize) -> Result<(), AllocError>
-    ensures { OnOk result (string_bytes out.new ≡ string_bytes out.old ++ replicate (2 * level) 32) }
+fn write_indent<W: Write>(f: &mut Formatter<W>, level: usize) -> fmt::Result
+    ensures { WritesOnOk W.write_str_gives f.old result (replicate (2 * level) 32) f.new }
 {
     for _i in 0..level {
-        out.push_str("  ")?;
+        f.write_str("  ")?;
     }
     Ok(())
 }
 
 // The line of a row, so many levels below the one that is dumped.
-fn push_line(out: &mut String, level: usize, table: &Table, row: usize) -> Result<(), AllocError>
+fn write_line<W: Write>(
+    f: &mut Formatter<W>,
+    level: usize,
+    table: &Table,
+    row: usize,
+) -> fmt::Result
     requires { IsRow table.now row }
-    ensures { OnOk result (string_bytes out.new ≡ string_bytes out.old ++ dump_line level (cursor_at table.now row)) }
+    ensures { WritesOnOk W.write_str_gives f.old result (dump_line level (cursor_at table.now row)) f.new }
 {
-    push_indent(out, level)?;
+    write_indent(f, level)?;
     let kind = table.kind_at(row);
     let range = table.range_at(row);
-    write!(out, "{kind}@{range}")?;
-    push_text(out, table, row)?;
-    out.push_str("\n")?;
-    Ok(())
+    write!(f, "{kind}@{range}")?;
+    write_text(f, table, row)?;
+    f.write_str("\n")
 }
 
 // The lines of the subtree at a row.
-pub(crate) fn dump(alloc: Global, table: &Table, start: usize) -> Result<String, AllocError>
+fn write_lines<W: Write>(f: &mut Formatter<W>, table: &Table, start: usize) -> fmt::Result
     requires { IsRow table.now start }
-    ensures { IfOk result (λ s. string_bytes s ≡ dump_of (cursor_at table.now start)) }
+    ensures { WritesOnOk W.write_str_gives f.old result (dump_of (cursor_at table.now start)) f.new }
 {
     // For the proof: the number of rows fits.
     let _count = table.len();
-    let mut out = String::new(alloc);
     let mut level: usize = 0;
     let mut next = start;
     let mut innermost = None;
@@ -59,11 +104,11 @@ pub(crate) fn dump(alloc: Global, table: &Table, start: usize) -> Result<String,
         next = step.next;
         innermost = step.innermost;
         if step.enters {
-            push_line(&mut out, level, table, step.row)?;
+            write_line(f, level, table, step.row)?;
             level += 1;
         } else {
             level -= 1;
         }
     }
-    Ok(out)
+    Ok(())
 }

@@ -4,6 +4,7 @@
 mod builder;
 mod cursor;
 mod dump;
+mod exact;
 pub mod laws;
 mod macros;
 mod over;
@@ -22,6 +23,8 @@ pub use cursor::siblings::{SyntaxElementSiblings, SyntaxNodeSiblings};
 pub use cursor::text::SyntaxText;
 pub use cursor::token::SyntaxToken;
 pub use cursor::token_at_offset::TokenAtOffset;
+pub use dump::Dump;
+pub use exact::exact_string;
 pub use over::tree_over;
 pub use ptr::SyntaxNodePtr;
 pub use shared_pointer::Shared;

@@ -93,7 +93,7 @@ impl Terms {
         self.all.as_slice().get(number).copied()
     }
 
-    // The first number of a term of so many forms, and the one behind the last.
+    // The first number of a term of so many forms, and the one after the last.
     fn range(&self, forms: usize) -> (usize, usize) {
         let starts = self.starts.as_slice();
         let start = starts.get(forms).copied().unwrap_or(0);

@@ -12,7 +12,8 @@ ghost use Rattle.lossless_tree.specs.Dump.{dump_of};
 use super::element::{SyntaxElement, element};
 use super::node::SyntaxNode;
 use super::siblings::{SyntaxElementSiblings, first_no_trivia};
-use crate::dump;
+use crate::dump::Dump;
+use crate::exact::exact_string;
 use shared_pointer::Shared;
 use std::alloc::{AllocError, Global};
 use std::hash::{Hash, Hasher};
@@ -114,7 +115,7 @@ impl<'t> TreeCursor<'t> {
     pub(crate) fn dump(&self, alloc: Global) -> Result<String, AllocError>
         ensures { IfOk result (λ text. string_bytes text ≡ dump_of self.now) }
     {
-        dump::dump(alloc, self.table, self.row)
+        exact_string(alloc, &Dump::at(self.table, self.row))
     }
 }
 

@@ -1,4 +1,4 @@
-//! Where the number of a name stands: a perfect hash by "hash and displace".
+//! Where the number of a name is: a perfect hash by "hash and displace".
 //!
 //! A name's hash picks a shift, and hash and shift together pick a slot. The shifts are chosen so
 //! that no two names share a slot; the check computes this for all 264 names.
