@@ -1,18 +1,16 @@
 -- What the loops of a dump add, step by step.
 use Rattle.std.proofs.Common.{◌≡◌, ℕ, suc, ◌+◌, ◌-◌, ◌<◌, ◌≤◌, List, [], ◌∷◌, ◌++◌, length, refl, sym, ap, ◌∙◌, arith, append_assoc, append-nil, length-append}
-use Rattle.std.specs.Prelude.{IsUtf8, encode_utf8, encode_utf8_all, ◌==◌, ◌*◌, if◌then◌else◌, nat_lt, codes, replicate, Bool, true, false, cond, map, Option, None, Some}
+use Rattle.std.specs.Prelude.{IsUtf8, encode_utf8, encode_utf8_all, ◌==◌, if◌then◌else◌, nat_lt, codes, replicate, Bool, true, false, cond, map, Option, None, Some}
 use Rattle.std.specs.Char.{len_utf8}
-use Rattle.std.specs.List.{flat_map}
+use Rattle.std.specs.List.{flat_map, list_all}
 use Rattle.std.proofs.lemmas.List.{replicate-append-replicate}
 use Rattle.std.proofs.lemmas.List.Concat.{flat_map-append}
 use Rattle.std.specs.Str.{chars}
 use Rattle.std.proofs.lemmas.Bool.Decides.{nat_tests}
 use Rattle.std.proofs.lemmas.Str.{chars_past_char, chars-nil, length-encode, len_utf8_bounds, encodes-chars}
-use Rattle.lossless_tree.specs.Dump.{escaped, shortest_front, shown, quoted, shown_text, dump_line, dump_of}
-use Rattle.tree_model.specs.Tree.{Tree, node, token, Forest, nil, cons, text, kind_of, IsNode, Place, places, places_from, walk, walk_from, under, size}
-use Rattle.syntax_kind.specs.Kinds.{kind_name}
-use Rattle.text_size.specs.TextRange.{range_text}
-use Rattle.tree_model.specs.Cursor.{Cursor, focus, at_place, range_of, level_below, walk_of, cursor_at}
+use Rattle.lossless_tree.specs.Dump.{escaped, is_plain, shortest_front, shown, shown_text, dump_line, dump_of}
+use Rattle.tree_model.specs.Tree.{Tree, node, token, Forest, nil, cons, IsNode, Place, places, places_from, walk, walk_from, under, size}
+use Rattle.tree_model.specs.Cursor.{Cursor, focus, at_place, level_below, walk_of, cursor_at}
 use Rattle.tree_rows.specs.Walks.{IsWalk, open_count, walk_left}
 use Rattle.tree_rows.proofs.WalkSteps.{depth_row, open_row, walk_left-whole}
 
@@ -59,18 +57,27 @@ below_limit : (n : ℕ) (x y : List ℕ) → n < 25 → (if nat_lt n 25 then x e
 below_limit n x y h = grind (arith, nat_tests)
 
 -- a short text is shown whole
-pub shown_short : (t : List ℕ) → IsUtf8 t → length t < 25 → flat_map escaped (shortest_front (length t) (chars t)) ≡ shown t
-shown_short t u h =
-    ap (flat_map escaped) (shortest_front-whole t u)
-    ∙ sym (below_limit (length t) (flat_map escaped (chars t)) (flat_map escaped (shortest_front 21 (chars t)) ++ codes " ...") h)
+pub shown_short : (t : List ℕ) → length t < 25 → flat_map escaped (chars t) ≡ shown t
+shown_short t h = sym (below_limit (length t) (flat_map escaped (chars t)) (flat_map escaped (shortest_front 21 (chars t)) ++ codes " ...") h)
+
+plain_char : (c : ℕ) → is_plain c ≡ true → escaped c ≡ encode_utf8 c
+plain_char c h = grind (arith, nat_tests)
+
+plain_chars : (cs : List ℕ) → list_all is_plain cs ≡ true → flat_map escaped cs ≡ encode_utf8_all cs
+plain_chars [] h = refl
+plain_chars (c ∷ cs) h = grind (arith, plain_char c, plain_chars cs, nat_tests)
+
+-- a text of characters that stand for themselves is shown as it is
+pub plain_whole : (t : List ℕ) → IsUtf8 t → list_all is_plain (chars t) ≡ true → t ≡ flat_map escaped (chars t)
+plain_whole t u h = sym (encodes-chars t u) ∙ sym (plain_chars (chars t) h)
 
 pub shown_text-node : (t : Tree) → IsNode t → shown_text t ≡ []
 shown_text-node (node k c) h = refl
 shown_text-node (token k x) h = absurd h
 
--- one level more of the indentation
-pub two_more : (n : ℕ) → replicate (2 * n) 32 ++ codes "  " ≡ replicate (2 * (n + 1)) 32
-two_more n = replicate-append-replicate (2 * n) 2 32 ∙ ap (λ m. replicate m 32) (omega arith)
+-- spaces of the indentation, and some more
+pub more_spaces : (n m k : ℕ) → n + m ≡ k → replicate {A = ℕ} n 32 ++ replicate m 32 ≡ replicate k 32
+more_spaces n m k e = replicate-append-replicate n m 32 ∙ ap (λ l. replicate {A = ℕ} l 32) e
 
 -- ---- the whole dump
 

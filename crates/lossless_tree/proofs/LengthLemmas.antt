@@ -1,8 +1,8 @@
 -- What a writer that counts has counted.
-use Rattle.std.proofs.Common.{◌≡◌, ℕ, ◌+◌, List, [], ◌∷◌, length, refl, sym, ap, ◌∙◌, arith, length-append}
+use Rattle.std.proofs.Common.{◌≡◌, ℕ, ◌+◌, List, [], ◌∷◌, length, ap, arith, length-append}
 use Rattle.std.specs.Prelude.{Option, Some, None, IfSome}
 use Rattle.std.specs.List.{FoldsTo, concat}
-use Rattle.std.specs.Fmt.{WritesInCalls, WritesText}
+use Rattle.std.specs.Fmt.{WritesText}
 
 module _ {W : Type 0} (took : W → List ℕ → W → Type 0) (count : W → ℕ) (counts : (w : W) (bs : List ℕ) (v : W) → took w bs v → count v ≡ count w + length bs) where
   count_after_calls : (w : W) (xs : List (List ℕ)) (v : W) → FoldsTo took w xs v → count v ≡ count w + length (concat xs)

@@ -1,6 +1,6 @@
 -- How a tree prints: a line for each node and token, in preorder.
 -- (Upstream: the text that `{:#?}` gives of a `rowan` `SyntaxNode`, with this crate's format for the tokens' texts.)
-use Rattle.std.specs.Prelude.{ℕ, ◌-◌, ◌*◌, List, [], ◌∷◌, ◌++◌, length, codes, encode_utf8, replicate, ◌==◌, ◌||◌, nat_lt, if◌then◌else◌}
+use Rattle.std.specs.Prelude.{ℕ, ◌-◌, ◌*◌, List, [], ◌∷◌, ◌++◌, length, codes, encode_utf8, replicate, ◌==◌, ◌||◌, ◌&&◌, Bool, not, nat_le, nat_lt, if◌then◌else◌}
 use Rattle.std.specs.Char.{len_utf8}
 use Rattle.std.specs.Fmt.{digits}
 use Rattle.std.proofs.Common.{false}
@@ -23,6 +23,10 @@ escaped c =
     else (if c == 0 then codes "\\0"
     else (if nat_lt c 32 || (c == 127) then codes "\\u{" ++ digits 16 false c ++ codes "}"
     else encode_utf8 c))))))
+
+-- a character that stands for itself between the quotes
+abbrev pub is_plain : ℕ → Bool
+is_plain c = nat_le 32 c && not (c == 34) && not (c == 92) && not (c == 127)
 
 -- the shortest front of some characters that has at least n bytes
 abbrev pub shortest_front : ℕ → List ℕ → List ℕ

@@ -63,10 +63,14 @@ fn write_text<W: Write>(f: &mut Formatter<W>, table: &Table, row: usize) -> fmt:
     Ok(())
 }
 
+// Two spaces a level, sixteen at a time as far as that goes.
 fn write_indent<W: Write>(f: &mut Formatter<W>, level: usize) -> fmt::Result
     ensures { WritesOnOk W.write_str_gives f.old result (replicate (2 * level) 32) f.new }
 {
-    for _i in 0..level {
+    for _eight in 0..level / 8 {
+        f.write_str("                ")?;
+    }
+    for _one in 0..level % 8 {
         f.write_str("  ")?;
     }
     Ok(())

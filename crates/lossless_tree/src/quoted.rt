@@ -1,9 +1,9 @@
 //! A token's text between quotes, as it is shown.
 ghost use Rattle.std.specs.Prelude.{◌≡◌};
-ghost use Rattle.std.specs.List.{flat_map};
+ghost use Rattle.std.specs.List.{flat_map, list_all};
 ghost use Rattle.std.specs.Str.{chars};
 ghost use Rattle.std.specs.Fmt.{WritesOnOk};
-ghost use Rattle.lossless_tree.specs.Dump.{escaped, shortest_front, shown};
+ghost use Rattle.lossless_tree.specs.Dump.{escaped, is_plain, shortest_front, shown};
 
 use std::fmt;
 use std::fmt::{Formatter, Write};
@@ -35,13 +35,36 @@ impl<'t> fmt::Display for Quoted<'t> {
 fn write_shown<W: Write>(f: &mut Formatter<W>, text: &str) -> fmt::Result
     ensures { WritesOnOk W.write_str_gives f.old result (shown text.now) f.new }
 {
-    let len = text.len();
-    if len < WHOLE_BELOW {
-        write_front(f, text, len)
+    if text.len() < WHOLE_BELOW {
+        write_whole(f, text)
     } else {
         write_front(f, text, SHOWN)?;
         f.write_str(" ...")
     }
+}
+
+// All of a text: most need no escape, and are written at once.
+fn write_whole<W: Write>(f: &mut Formatter<W>, text: &str) -> fmt::Result
+    ensures { WritesOnOk W.write_str_gives f.old result (flat_map escaped (chars text.now)) f.new }
+{
+    if is_all_plain(text) {
+        f.write_str(text)
+    } else {
+        write_front(f, text, text.len())
+    }
+}
+
+fn is_all_plain(text: &str) -> bool
+    ensures { result ≡ list_all is_plain (chars text.now) }
+{
+    text.chars().all(|c| is_plain(c))
+}
+
+// Whether a character stands for itself between quotes.
+fn is_plain(c: char) -> bool
+    ensures { result ≡ is_plain c }
+{
+    c >= ' ' && c != '"' && c != '\\' && c != '\u{7f}'
 }
 
 // The shortest front of whole characters that has at least so many bytes, or all of them.

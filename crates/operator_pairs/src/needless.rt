@@ -28,7 +28,7 @@ fn may_go_from(inside: &SyntaxNode, parent: &SyntaxNode, pair: &SyntaxNode) -> b
     !is_foreign(form_of(inside.kind())) && !needs_parens_in_place_of(inside, parent, pair)
 }
 
-/// Whether the node is a pair whose inside needs no parentheses in its place, where both be in an operator tree.
+/// Whether the node is a pair whose inside needs no parentheses in its place, where both are in an operator tree.
 pub fn is_needless(node: &SyntaxNode) -> bool
     ensures { result ≡ is_needless node.now }
 {

@@ -477,7 +477,7 @@ impl Clone for SyntaxNode {
     }
 }
 
-/// Equal where both be at the same place in equal trees. Of cursors of one tree it takes constant time.
+/// Equal where both are at the same place in equal trees. Of cursors of one tree it takes constant time.
 impl PartialEq for SyntaxNode {
     ghost use Rattle.tree_model.specs.Equality.{is_same_cursor};
     ghost use Rattle.tree_model.specs.EqualityLaws.{cursor_equivalence};

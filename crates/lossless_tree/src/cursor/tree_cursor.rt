@@ -119,7 +119,7 @@ impl<'t> TreeCursor<'t> {
     }
 }
 
-// Equal where both be at the same place in equal trees. Of one shared table it takes constant time; of two, where the
+// Equal where both are at the same place in equal trees. Of one shared table it takes constant time; of two, where the
 // row numbers are equal, it compares texts and rows.
 impl<'t> PartialEq for TreeCursor<'t> {
     ghost use Rattle.tree_model.specs.Equality.{is_same_cursor};

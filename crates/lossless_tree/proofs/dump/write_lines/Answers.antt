@@ -3,7 +3,7 @@ use Rattle.std.proofs.Output.{has_written_append, writes_in_calls_nil}
 use Rattle.tree_model.specs.Cursor.{cursor_at}
 use Rattle.tree_rows.specs.Walks.{walk_left}
 use Rattle.tree_rows.proofs.WalkSteps.{walk_begins}
-use Rattle.lossless_tree.specs.Dump.{dump_line}
+use Rattle.lossless_tree.specs.Dump.{dump_line, dump_of}
 use Rattle.lossless_tree.proofs.DumpLemmas.{after_enter, lines_at_start, open_fits}
 use Rattle.lossless_tree.proofs.dump.write_lines.Goals as goal
 
@@ -38,7 +38,7 @@ loop-step-preserved-then-step g c =
           let now = c.loop-step.invariant.whole plain in (
             now.0 ++ dump_line c.loop-step.level here,
             has_written_append _ _ _ _ _ _ now.1 (c.in_ok-write_line.ensures now.1.plain (refl {a = true})),
-            after_enter top here c.loop-step.level now.0 (now.0 ++ dump_line c.loop-step.level here) _ _ rest (c.in-Some.ensures.rest ∙ ap (λ b. (b, here) ∷ rest) c.if-step.true)
+            after_enter top here c.loop-step.level now.0 (now.0 ++ dump_line c.loop-step.level here) (dump_of top) (walk_left c.args.table.now c.args.start c.loop-step.next c.loop-step.innermost) rest (c.in-Some.ensures.rest ∙ ap (λ b. (b, here) ∷ rest) c.if-step.true)
                 (c.loop-step.invariant.level_is ∙ sym moved.1) refl now.2,
           );
     }
