@@ -57,7 +57,7 @@ pub fn children_fill_nodes()
     ensures { ChildrenFillNodes }
 {}
 
-/// Two cursors are equal exactly where both be at the same place in equal trees; so equality is an equivalence.
+/// Two cursors are equal exactly where both are at the same place in equal trees; so equality is an equivalence.
 pub fn equality_is_sameness()
     ensures { EqualityIsSameness }
 {}
