@@ -3,6 +3,7 @@ ghost use Rattle.std.specs.Prelude.{◌≡◌, Some, true, ⊤};
 ghost use Rattle.std.specs.Cmp.{partial_equiv_from_equiv, on_equiv};
 ghost use Rattle.tree_model.specs.Tree.{text};
 ghost use Rattle.tree_model.specs.Cursor.{focus};
+ghost use Rattle.lossless_tree.specs.Dump.{token_line};
 ghost use Rattle.tree_model.specs.Equality.{is_same_cursor, cursor_hash};
 ghost use Rattle.tree_model.specs.EqualityLaws.{cursor_equivalence, cursors_alike};
 ghost use Rattle.ras_node.specs.Nodes.{kind_at};
@@ -99,6 +100,15 @@ impl fmt::Display for AnyComment {
     }
 }
 
+/// The kind, the range and the text, as the token prints.
+impl fmt::Debug for AnyComment {
+    ghost debug_output = { λ it. Some (token_line it.syntax) };
+
+    fn fmt<W: fmt::Write>(&self, f: &mut fmt::Formatter<W>) -> fmt::Result {
+        fmt::Debug::fmt(&self.syntax, f)
+    }
+}
+
 /// A string literal, a byte string literal or a C string literal.
 #[derive(Clone, PartialEq, Eq, Hash, Drop)]
 pub enum AnyString {
@@ -142,5 +152,14 @@ impl fmt::Display for AnyString {
     fn fmt<W: fmt::Write>(&self, f: &mut fmt::Formatter<W>) -> fmt::Result {
         let text = self.text();
         write!(f, "{text}")
+    }
+}
+
+/// The kind, the range and the text, as the token prints.
+impl fmt::Debug for AnyString {
+    ghost debug_output = { λ it. Some (token_line (any_string_token it)) };
+
+    fn fmt<W: fmt::Write>(&self, f: &mut fmt::Formatter<W>) -> fmt::Result {
+        fmt::Debug::fmt(self.syntax(), f)
     }
 }

@@ -4,6 +4,7 @@ ghost use Rattle.std.proofs.lemmas.Bool.{eq-eqb};
 ghost use Rattle.syntax_kind.specs.Kinds.{kind_raw};
 ghost use Rattle.tree_model.specs.Tree.{text};
 ghost use Rattle.tree_model.specs.Cursor.{focus};
+ghost use Rattle.lossless_tree.specs.Dump.{token_line};
 ghost use Rattle.tree_model.specs.Equality.{is_same_cursor, cursor_hash};
 ghost use Rattle.tree_model.specs.EqualityLaws.{cursor_equivalence, cursors_alike};
 ghost use Rattle.std.specs.Cmp.{partial_equiv_from_equiv, on_equiv};
@@ -87,5 +88,14 @@ impl<const K: u32> fmt::Display for TypedToken<K> {
     fn fmt<W: fmt::Write>(&self, f: &mut fmt::Formatter<W>) -> fmt::Result {
         let text = self.syntax.text();
         write!(f, "{text}")
+    }
+}
+
+/// The kind, the range and the text, as the token prints.
+impl<const K: u32> fmt::Debug for TypedToken<K> {
+    ghost debug_output = { λ it. Some (token_line it.syntax) };
+
+    fn fmt<W: fmt::Write>(&self, f: &mut fmt::Formatter<W>) -> fmt::Result {
+        fmt::Debug::fmt(&self.syntax, f)
     }
 }

@@ -87,6 +87,21 @@ fn an_edit_reads_a_token_anew(rt: HostRuntime) -> Result<(), Fail> {
     Ok(())
 }
 
+#[test]
+fn views_print_for_programmers(rt: HostRuntime) -> Result<(), Fail> {
+    let alloc = rt.alloc();
+    let parse = SourceFile::parse(alloc, "fn foo() { 1 + 2 }", &Rust, Edition::CURRENT)?;
+    let root = parse.syntax_node();
+    let sum = sum_at(&root, TextSize::new(13))?;
+    assert_eq!(rt; format!(in alloc; "{sum:?}")?.as_str(), "BIN_EXPR@11..16");
+    let expr = ast::Expr::BinExpr(sum);
+    assert_eq!(rt;
+        format!(in alloc; "{expr:?} {expr}")?.as_str(),
+        "BIN_EXPR@11..16 1 + 2"
+    );
+    Ok(())
+}
+
 fn name_tree(alloc: Global) -> Result<SyntaxNode, Fail> {
     let mut builder = TreeBuilder::new(alloc);
     builder.start_node(SyntaxKind::NAME)?;

@@ -4,6 +4,7 @@ ghost use Rattle.std.proofs.lemmas.Bool.{eq-eqb};
 ghost use Rattle.syntax_kind.specs.Kinds.{kind_raw, IsKind};
 ghost use Rattle.tree_model.specs.Tree.{text};
 ghost use Rattle.tree_model.specs.Cursor.{focus};
+ghost use Rattle.lossless_tree.specs.Dump.{span_text};
 ghost use Rattle.tree_model.specs.Equality.{is_same_cursor, cursor_hash};
 ghost use Rattle.tree_model.specs.EqualityLaws.{cursor_equivalence, cursors_alike};
 ghost use Rattle.std.specs.Cmp.{partial_equiv_from_equiv, on_equiv};
@@ -94,5 +95,14 @@ impl<const K: u32> fmt::Display for Typed<K> {
     fn fmt<W: fmt::Write>(&self, f: &mut fmt::Formatter<W>) -> fmt::Result {
         let text = self.syntax.as_str();
         write!(f, "{text}")
+    }
+}
+
+/// The kind and the range, as the node prints.
+impl<const K: u32> fmt::Debug for Typed<K> {
+    ghost debug_output = { λ it. Some (span_text it.syntax) };
+
+    fn fmt<W: fmt::Write>(&self, f: &mut fmt::Formatter<W>) -> fmt::Result {
+        fmt::Debug::fmt(&self.syntax, f)
     }
 }

@@ -2,6 +2,7 @@
 ghost use Rattle.std.specs.Prelude.{◌≡◌, Some};
 ghost use Rattle.tree_model.specs.Tree.{text};
 ghost use Rattle.tree_model.specs.Cursor.{focus};
+ghost use Rattle.lossless_tree.specs.Dump.{span_text};
 ghost use Rattle.ra_ap_syntax.specs.declared.ast.views.adt.Adt.TheVariants as adt;
 ghost use Rattle.ras_node.specs.Sets.{is_adt};
 ghost use Rattle.ra_ap_syntax.specs.AdtCases.{adt_node, adt_castable};
@@ -55,6 +56,15 @@ impl fmt::Display for Adt {
     fn fmt<W: fmt::Write>(&self, f: &mut fmt::Formatter<W>) -> fmt::Result {
         let text = self.syntax().as_str();
         write!(f, "{text}")
+    }
+}
+
+/// The kind and the range, as the node prints.
+impl fmt::Debug for Adt {
+    ghost debug_output = { λ it. Some (span_text (adt_node it)) };
+
+    fn fmt<W: fmt::Write>(&self, f: &mut fmt::Formatter<W>) -> fmt::Result {
+        fmt::Debug::fmt(self.syntax(), f)
     }
 }
 

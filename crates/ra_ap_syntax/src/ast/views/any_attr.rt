@@ -2,6 +2,7 @@
 ghost use Rattle.std.specs.Prelude.{◌≡◌, Some};
 ghost use Rattle.tree_model.specs.Tree.{text};
 ghost use Rattle.tree_model.specs.Cursor.{focus};
+ghost use Rattle.lossless_tree.specs.Dump.{span_text};
 ghost use Rattle.ra_ap_syntax.specs.declared.ast.views.any_attr.AnyAttr.TheVariants as any_attr;
 ghost use Rattle.ras_node.specs.Sets.{is_any_attr};
 ghost use Rattle.ra_ap_syntax.specs.AnyAttrCases.{any_attr_node, any_attr_castable};
@@ -52,6 +53,15 @@ impl fmt::Display for AnyAttr {
     fn fmt<W: fmt::Write>(&self, f: &mut fmt::Formatter<W>) -> fmt::Result {
         let text = self.syntax().as_str();
         write!(f, "{text}")
+    }
+}
+
+/// The kind and the range, as the node prints.
+impl fmt::Debug for AnyAttr {
+    ghost debug_output = { λ it. Some (span_text (any_attr_node it)) };
+
+    fn fmt<W: fmt::Write>(&self, f: &mut fmt::Formatter<W>) -> fmt::Result {
+        fmt::Debug::fmt(self.syntax(), f)
     }
 }
 

@@ -2,6 +2,7 @@
 ghost use Rattle.std.specs.Prelude.{◌≡◌, Some};
 ghost use Rattle.tree_model.specs.Tree.{text};
 ghost use Rattle.tree_model.specs.Cursor.{focus};
+ghost use Rattle.lossless_tree.specs.Dump.{span_text};
 ghost use Rattle.ra_ap_syntax.specs.declared.ast.views.generic_arg.GenericArg.TheVariants as generic_arg;
 ghost use Rattle.ras_node.specs.Sets.{is_generic_arg};
 ghost use Rattle.ra_ap_syntax.specs.GenericArgCases.{generic_arg_node, generic_arg_castable};
@@ -58,6 +59,15 @@ impl fmt::Display for GenericArg {
     fn fmt<W: fmt::Write>(&self, f: &mut fmt::Formatter<W>) -> fmt::Result {
         let text = self.syntax().as_str();
         write!(f, "{text}")
+    }
+}
+
+/// The kind and the range, as the node prints.
+impl fmt::Debug for GenericArg {
+    ghost debug_output = { λ it. Some (span_text (generic_arg_node it)) };
+
+    fn fmt<W: fmt::Write>(&self, f: &mut fmt::Formatter<W>) -> fmt::Result {
+        fmt::Debug::fmt(self.syntax(), f)
     }
 }
 

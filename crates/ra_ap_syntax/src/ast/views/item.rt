@@ -3,6 +3,7 @@ ghost use Rattle.std.specs.Prelude.{◌≡◌, Some, ⊤};
 ghost use Rattle.std.specs.Cmp.{partial_equiv_from_equiv, on_equiv};
 ghost use Rattle.tree_model.specs.Tree.{text};
 ghost use Rattle.tree_model.specs.Cursor.{focus};
+ghost use Rattle.lossless_tree.specs.Dump.{span_text};
 ghost use Rattle.tree_model.specs.Equality.{is_same_cursor, cursor_hash};
 ghost use Rattle.tree_model.specs.EqualityLaws.{cursor_equivalence, cursors_alike};
 ghost use Rattle.ra_ap_syntax.specs.declared.ast.views.item.Item.TheVariants as item;
@@ -138,6 +139,15 @@ impl fmt::Display for Item {
     fn fmt<W: fmt::Write>(&self, f: &mut fmt::Formatter<W>) -> fmt::Result {
         let text = self.syntax().as_str();
         write!(f, "{text}")
+    }
+}
+
+/// The kind and the range, as the node prints.
+impl fmt::Debug for Item {
+    ghost debug_output = { λ it. Some (span_text (item_node it)) };
+
+    fn fmt<W: fmt::Write>(&self, f: &mut fmt::Formatter<W>) -> fmt::Result {
+        fmt::Debug::fmt(self.syntax(), f)
     }
 }
 

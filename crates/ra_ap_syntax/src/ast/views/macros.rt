@@ -2,6 +2,7 @@
 ghost use Rattle.std.specs.Prelude.{◌≡◌, Some};
 ghost use Rattle.tree_model.specs.Tree.{text};
 ghost use Rattle.tree_model.specs.Cursor.{focus};
+ghost use Rattle.lossless_tree.specs.Dump.{span_text};
 ghost use Rattle.ra_ap_syntax.specs.declared.ast.views.macros.Macro.TheVariants as macro;
 ghost use Rattle.ras_node.specs.Sets.{is_macro};
 ghost use Rattle.ra_ap_syntax.specs.MacroCases.{macro_node, macro_castable};
@@ -51,6 +52,15 @@ impl fmt::Display for Macro {
     fn fmt<W: fmt::Write>(&self, f: &mut fmt::Formatter<W>) -> fmt::Result {
         let text = self.syntax().as_str();
         write!(f, "{text}")
+    }
+}
+
+/// The kind and the range, as the node prints.
+impl fmt::Debug for Macro {
+    ghost debug_output = { λ it. Some (span_text (macro_node it)) };
+
+    fn fmt<W: fmt::Write>(&self, f: &mut fmt::Formatter<W>) -> fmt::Result {
+        fmt::Debug::fmt(self.syntax(), f)
     }
 }
 

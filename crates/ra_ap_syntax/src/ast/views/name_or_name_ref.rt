@@ -2,6 +2,7 @@
 ghost use Rattle.std.specs.Prelude.{◌≡◌, Some};
 ghost use Rattle.tree_model.specs.Tree.{text};
 ghost use Rattle.tree_model.specs.Cursor.{focus};
+ghost use Rattle.lossless_tree.specs.Dump.{span_text};
 ghost use Rattle.ras_node.specs.Sets.{is_name_or_name_ref};
 ghost use Rattle.ra_ap_syntax.specs.NameOrNameRefCases.{name_or_name_ref_node, name_or_name_ref_castable};
 
@@ -50,5 +51,14 @@ impl fmt::Display for NameOrNameRef {
     fn fmt<W: fmt::Write>(&self, f: &mut fmt::Formatter<W>) -> fmt::Result {
         let text = self.syntax().as_str();
         write!(f, "{text}")
+    }
+}
+
+/// The kind and the range, as the node prints.
+impl fmt::Debug for NameOrNameRef {
+    ghost debug_output = { λ it. Some (span_text (name_or_name_ref_node it)) };
+
+    fn fmt<W: fmt::Write>(&self, f: &mut fmt::Formatter<W>) -> fmt::Result {
+        fmt::Debug::fmt(self.syntax(), f)
     }
 }
