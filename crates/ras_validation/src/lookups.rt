@@ -6,9 +6,9 @@ ghost use Rattle.ras_node.specs.Nodes.{is_of_kind};
 ghost use Rattle.ras_validation.specs.Lookups.{node_child, if_kind, type_child, token_before, token_behind, literal_token, range_operator, range_end_expr, binary_operator, single_name, segment_keyword, path_around, starts_path, has_trait, is_inner_attribute, has_two_bounds, is_typed_bound};
 
 use lossless_tree::{NodeOrToken, SyntaxKind, SyntaxNode, SyntaxToken};
+use ras_algo::algo;
 use ras_node::sets::{BeforeLiteral, BinaryOperators, Exprs, RangeOperators, Types};
 use ras_node::{behind, first_node, first_other, first_token, support};
-use ras_algo::algo;
 
 // Whether a node is of a kind.
 fn is_of_kind(node: &SyntaxNode, kind: SyntaxKind) -> bool
