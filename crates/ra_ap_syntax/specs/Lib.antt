@@ -66,11 +66,11 @@ pub use Rattle.ras_front_end.specs.Keeps
 pub use Rattle.ras_front_end.specs.Fault
 pub use Rattle.ras_front_end.specs.FaultEquality
 pub use Rattle.ras_parsing.specs.Draft
-pub use Rattle.ras_reparsing.specs.Reparse
-pub use Rattle.ras_reparsing.specs.Edit as TextEdit
-pub use Rattle.ras_typed_parse.specs.AllErrors
-pub use Rattle.ras_typed_parse.specs.Names
-pub use Rattle.ras_typed_parse.specs.OkCases
+pub use Rattle.ras_parsing.specs.Reparse
+pub use Rattle.ras_parsing.specs.Edit as TextEdit
+pub use Rattle.ras_parsing.specs.AllErrors
+pub use Rattle.ras_parsing.specs.Names
+pub use Rattle.ras_parsing.specs.OkCases
 pub use Rattle.operator_terms.specs.Term
 pub use Rattle.operator_terms.specs.Places
 pub use Rattle.operator_terms.specs.Precedence

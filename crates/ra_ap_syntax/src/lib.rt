@@ -19,7 +19,7 @@ pub use ras_algo::{algo, ptr};
 pub use ras_front_end::{
     Edition, Entry, FrontEnd, Output, ParseError, Reparser, Step, SyntaxError,
 };
-pub use ras_typed_parse::{FileView, OkError, Parse, SyntaxTreeBuilder, utils};
+pub use ras_parsing::{FileView, OkError, Parse, SyntaxTreeBuilder, utils};
 
 /// Matches a node against views: the first that casts, and whose guard holds where it has one.
 ///

@@ -8,7 +8,7 @@ ghost use Rattle.ras_front_end.specs.Parsed.{IsParseOf, ErrorsLieIn};
 
 use crate::ast::{Expr, SourceFile};
 use ras_front_end::{Edition, Entry, FrontEnd, ParseError};
-use ras_typed_parse::{FileView, Parse, read_as};
+use ras_parsing::{FileView, Parse, read};
 use std::alloc::Global;
 
 impl FileView for SourceFile {}
@@ -31,7 +31,7 @@ impl SourceFile {
         ensures accepted { OnOk result (length text.now < 2 ^ 32) }
         ensures refused { IfErr result (λ e. (e ≡ TooLong) ↔ (2 ^ 32 ≤ length text.now)) }
     {
-        read_as(alloc, front, Entry::SourceFile, text, edition)
+        read(alloc, front, Entry::SourceFile, text, edition)
     }
 }
 
@@ -53,6 +53,6 @@ impl Expr {
         ensures accepted { OnOk result (length text.now < 2 ^ 32) }
         ensures refused { IfErr result (λ e. (e ≡ TooLong) ↔ (2 ^ 32 ≤ length text.now)) }
     {
-        read_as(alloc, front, Entry::Expr, text, edition)
+        read(alloc, front, Entry::Expr, text, edition)
     }
 }

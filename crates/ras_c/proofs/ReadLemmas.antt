@@ -8,7 +8,7 @@ use Rattle.ras_front_end.specs.Fault.{Fault}
 use Rattle.tree_model.specs.Tree.{size}
 use Rattle.tree_model.specs.Edit.{root_of}
 use Rattle.ras_front_end.specs.Parsed.{Parsed}
-use Rattle.ras_typed_parse.specs.AllErrors.{all_errors, violation_fault}
+use Rattle.ras_parsing.specs.AllErrors.{all_errors, violation_fault}
 use Rattle.ras_validation.specs.Violations.{violations_of}
 use Rattle.ras_c.specs.Read.{buffers, needed, messages_of, message_of}
 use Rattle.tree_rows.specs.declared.table.flat.FlatRow.{FlatRow}

@@ -10,7 +10,7 @@ use Rattle.ras_front_end.specs.declared.edition.Entry.TheVariants.{SourceFile}
 use Rattle.ras_front_end.specs.Fault.{Fault}
 use Rattle.ras_front_end.specs.Parsed.{Parsed, IsParseOf}
 use Rattle.ras_validation.specs.Violations.{violations_of}
-use Rattle.ras_typed_parse.specs.AllErrors.{all_errors}
+use Rattle.ras_parsing.specs.AllErrors.{all_errors}
 use Rattle.rust_front.specs.Front.{rust_front}
 use Rattle.ras_c.specs.declared.read.ErrorRow.{ErrorRow}
 use Rattle.ras_c.specs.declared.read.Counts.{Counts}

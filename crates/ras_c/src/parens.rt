@@ -52,7 +52,7 @@ fn needless_below(alloc: Global, root: &SyntaxNode) -> Result<Vec<Range>, AllocE
 }
 
 // The parse of a text, or the status that says why there is none.
-fn parsed(alloc: Global, text: &[u8], edition: u32) -> Result<Parse, u32>
+fn parsed(alloc: Global, text: &[u8], edition: u32) -> Result<Parse<SyntaxNode>, u32>
     ensures read { IfOk result (λ p. IsReading edition text.now p) }
     ensures known { IfOk result (λ _. edition_of edition ≡ None → ⊥) }
     ensures text { IfOk result (λ _. IsUtf8 text.now × (length text.now < 2 ^ 32)) }

@@ -10,8 +10,7 @@ use crate::fill::{fill, small};
 use crate::status::{NO_EDITION, NO_MEMORY, NO_ROOM, NOT_UTF8, OK, TOO_LONG, edition_of};
 use lossless_tree::{FlatRow, SyntaxNode};
 use ras_front_end::{Entry, ParseError, SyntaxError};
-use ras_parsing::read;
-use ras_typed_parse::Parse;
+use ras_parsing::{Parse, read};
 use rust_front::Rust;
 use std::alloc::{AllocError, Global};
 
@@ -95,13 +94,13 @@ fn write_rows(parse: &Parse<SyntaxNode>, rows: &mut [FlatRow]) -> usize
     ensures written { size parse.now.tree ≤ length rows.old → size parse.now.tree < 2 ^ 32 → rows.new ≡ over (flat_rows parse.now.tree) rows.old }
     ensures unchanged { (length rows.old < size parse.now.tree) ⊎ (2 ^ 32 ≤ size parse.now.tree) → rows.new ≡ rows.old }
 {
-    parse.parsed().root().write_flat_rows(rows)
+    parse.root().write_flat_rows(rows)
 }
 
 fn stored_count(parse: &Parse<SyntaxNode>) -> usize
     ensures { result ≡ length parse.now.errors }
 {
-    parse.parsed().stored().len()
+    parse.stored().len()
 }
 
 /// Tells a parse: its rows, its errors and their messages, and how much all of that is.
@@ -177,7 +176,7 @@ pub extern "C" fn ras_c_read(
         return NOT_UTF8;
     };
     match read(alloc, &Rust, Entry::SourceFile, text, edition) {
-        Ok(parse) => tell(alloc, &Parse::of(parse), rows, errors, messages, counts),
+        Ok(parse) => tell(alloc, &parse, rows, errors, messages, counts),
         Err(ParseError::TooLong) => TOO_LONG,
         Err(ParseError::Memory) => NO_MEMORY,
     }

@@ -2,3 +2,11 @@ pub mod TreeTexts
 pub mod BuildLemmas
 pub mod PastErrors
 pub mod DraftRefusals
+pub mod MergeSteps
+pub mod MergedInText
+pub mod Around
+pub mod OneToken
+pub mod TokenPaths
+pub mod BlockPaths
+pub mod Blocks
+pub mod ElementKinds

@@ -11,7 +11,7 @@ use std::alloc::{AllocError, Global};
 
 /// The root of a new tree, and the errors in its text.
 #[derive(Drop)]
-pub struct Built {
+pub(crate) struct Built {
     /// The root.
     pub root: SyntaxNode,
     /// The errors, the parser's in the order of the steps and then the lexer's.
@@ -28,7 +28,7 @@ fn store(errors: &mut Vec<SyntaxError>, error: SyntaxError) -> Result<(), AllocE
 /// The tree of an output whose steps build one over the text, and its errors.
 ///
 /// It takes time linear in the text and the steps.
-pub fn build_output(alloc: Global, text: &str, output: Output) -> Result<Built, AllocError>
+pub(crate) fn build_output(alloc: Global, text: &str, output: Output) -> Result<Built, AllocError>
     requires short { length text.now < 2 ^ 32 }
     requires keeps { Keeps (λ root. ⊤) text.now (reading_of output) }
     ensures root { IfOk result (λ b. IsRoot b.root) }

@@ -9,7 +9,7 @@ ghost use Rattle.ras_parsing.specs.Draft.{is_past, draft_refusal, IsAcceptedDraf
 
 use crate::build::Built;
 use crate::parse::Parse;
-use lossless_tree::{FinishError, TreeBuilder};
+use lossless_tree::{FinishError, SyntaxNode, TreeBuilder};
 use ras_front_end::SyntaxError;
 use std::alloc::{AllocError, Global};
 use std::marker::Model;
@@ -87,9 +87,9 @@ impl SyntaxTreeBuilder {
 
     /// The parse. Else the first refusal that holds, in the order of [`FinishError`]: those of the events, then
     /// `ErrorPastText` where an error's position is past the text (the text's end is not), then `Memory`. The builder is
-    /// gone then. No refusal but `Memory` takes memory, so each is answered also where there is none.
+    /// gone then. No refusal but `Memory` takes memory, so each of the others is found also where there is none left.
     #[tactic(auto, using(crate::proofs::DraftRefusals::draft_refusal_is, crate::proofs::DraftRefusals::draft_accepted))]
-    pub fn finish(self) -> Result<Parse, FinishError>
+    pub fn finish(self) -> Result<Parse<SyntaxNode>, FinishError>
         ensures ok { IfOk result (λ p. BuildsNode self.events p.tree × (p.errors ≡ self.faults)) }
         ensures in_text { IfOk result ErrorsLieIn }
         ensures accepted { OnOk result (IsAcceptedDraft self) }

@@ -1,10 +1,20 @@
-//! From a front end's answers, and from events with errors, to trees that keep their errors beside them.
+//! Parses: trees with the errors of their texts, from a front end or from events, and what edits of the text make of them. A parse
+//! names the view that its root should be.
+//! (Upstream: `Parse`, `SyntaxTreeBuilder`, `parsing` and `utils` of rust-analyzer's `syntax`.)
 #![tactic(auto)]
 
+mod balanced;
 mod build;
 mod builder;
+mod error_list;
+mod file;
+mod merge;
+mod ok_error;
 mod parse;
+mod reparse;
+pub mod utils;
 
-pub use build::{Built, build_output};
 pub use builder::SyntaxTreeBuilder;
+pub use file::FileView;
+pub use ok_error::OkError;
 pub use parse::{Parse, read};

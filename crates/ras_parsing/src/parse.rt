@@ -1,28 +1,36 @@
-//! A text to a tree with errors.
-ghost use Rattle.std.specs.Prelude.{◌≡◌, ◌<◌, ◌≤◌, ◌^◌, ◌↔◌, length, IfOk, IfErr, OnOk, All};
-ghost use Rattle.ras_front_end.specs.declared.parse_error.ParseError.TheVariants.{TooLong};
-ghost use Rattle.tree_model.specs.Tree.{kind_of, text};
+//! A tree with errors, and what its root is viewed as.
+ghost use Rattle.std.specs.Prelude.{◌≡◌, [], ◌<◌, ◌≤◌, ◌^◌, ◌↔◌, length, IfOk, IfErr, IfSome, OnOk, Some, None, is_some, if◌then◌else◌};
+ghost use Rattle.tree_model.specs.Tree.{kind_of};
 ghost use Rattle.tree_model.specs.Cursor.{IsRoot};
 ghost use Rattle.tree_model.specs.Edit.{root_of};
-ghost use Rattle.ras_front_end.specs.Parsed.{IsParseOf, ErrorsLieIn};
+ghost use Rattle.ras_front_end.specs.declared.parse_error.ParseError.TheVariants.{TooLong};
 ghost use Rattle.ras_front_end.specs.Keeps.{IsRootOf};
+ghost use Rattle.ras_front_end.specs.Parsed.{IsParseOf, ErrorsLieIn};
+ghost use Rattle.ras_parsing.specs.AllErrors.{all_errors};
+ghost use Rattle.ras_parsing.specs.OkCases.{IsOkRefusal};
 
 use crate::build::build_output;
+use crate::error_list::{copies, push_violations};
+use crate::ok_error::OkError;
 use lossless_tree::SyntaxNode;
 use ras_front_end::{Edition, Entry, FrontEnd, ParseError, SyntaxError};
+use ras_node::AstNode;
 use shared_pointer::Shared;
 use std::alloc::{AllocError, Global};
-use std::marker::Model;
+use std::marker::{Model, PhantomData};
 
-/// A tree, and the errors that were found as it was made. Cloning one takes no memory and always succeeds. A clause sees
-/// the tree and the stored errors, which lie in its text.
+/// The result of parsing: a tree, whose root should be a `T`, and the errors that were found as it was made.
+///
+/// There is a tree whatever the text is. Cloning a parse takes no memory and always succeeds. A clause sees the tree and
+/// the stored errors, which lie in its text.
 #[derive(Drop)]
-pub struct Parse {
+pub struct Parse<T> {
     root: SyntaxNode,
     errors: Shared<Vec<SyntaxError>>,
+    view: PhantomData<T>,
 }
 
-impl Model for Parse {
+impl<T> Model for Parse<T> {
     ghost use Rattle.tree_model.specs.Cursor.{IsRoot};
     ghost use Rattle.ras_front_end.specs.Parsed.{Parsed, parsed_code, ErrorsLieIn};
 
@@ -35,19 +43,39 @@ impl Model for Parse {
     ghost invariant = { λ a. IsRoot a.root × ErrorsLieIn (record { tree = a.root.tree; errors = a.errors.value.items }) };
 }
 
-impl Parse {
-    /// The parse of a whole tree, and the errors in its text.
-    pub fn from_parts(
+impl<T> Parse<T> {
+    // The parse of a whole tree, and the errors in its text.
+    pub(crate) fn from_parts(
         alloc: Global,
         root: SyntaxNode,
         errors: Vec<SyntaxError>,
-    ) -> Result<Parse, AllocError>
+    ) -> Result<Parse<T>, AllocError>
         requires root { IsRoot root }
         requires errors { ErrorsLieIn (record { tree = root.tree; errors = errors.items }) }
         ensures { IfOk result (λ p. p ≡ record { tree = root.tree; errors = errors.items }) }
     {
         let errors = Shared::new(alloc, errors)?;
-        Ok(Parse { root, errors })
+        Ok(Parse {
+            root,
+            errors,
+            view: PhantomData,
+        })
+    }
+
+    // The same parse, whose root is meant to be a `U`.
+    fn viewed<U>(self) -> Parse<U>
+        ensures { result ≡ self }
+    {
+        let Parse {
+            root,
+            errors,
+            view: _,
+        } = self;
+        Parse {
+            root,
+            errors,
+            view: PhantomData,
+        }
     }
 
     /// The root of the tree.
@@ -60,7 +88,14 @@ impl Parse {
         }
     }
 
-    /// The stored errors, in order.
+    /// The root of the tree, borrowed.
+    pub fn root(&self) -> &SyntaxNode
+        ensures { result.now ≡ root_of self.now.tree }
+    {
+        &self.root
+    }
+
+    /// The stored errors, in order: those of [`Parse::errors`] without the violations.
     pub fn stored(&self) -> &[SyntaxError]
         ensures errors { result.now ≡ self.now.errors }
         ensures in_text { ErrorsLieIn self.now }
@@ -68,31 +103,90 @@ impl Parse {
         self.errors.as_ref().as_slice()
     }
 
-    /// The root of the tree, where it stands.
-    pub fn root(&self) -> &SyntaxNode
-        ensures { result.now ≡ root_of self.now.tree }
+    /// All errors: the stored ones in their order, and after them the violations of the tree, in preorder of their nodes. Of a
+    /// text that was parsed whole the stored ones are those of the parser and then those of the lexer; after an edit those that
+    /// stay come first.
+    ///
+    /// It copies the stored errors and walks the tree: the time is that of `violations`. The parse stays as it was, also where
+    /// memory runs out.
+    pub fn errors(&self, alloc: Global) -> Result<Vec<SyntaxError>, AllocError>
+        ensures { IfOk result (λ errors. errors.items ≡ all_errors self.now) }
     {
-        &self.root
+        let stored = copies(alloc, self.stored())?;
+        push_violations(alloc, stored, &self.root)
+    }
+
+    /// The same parse, whose root is meant to be any node.
+    pub fn to_syntax(self) -> Parse<SyntaxNode>
+        ensures { result ≡ self }
+    {
+        self.viewed()
     }
 }
 
-impl Clone for Parse {
+impl<T: AstNode> Parse<T> {
+    /// The root as a `T`; `None` where it is of another kind, as an `ERROR`.
+    pub fn tree(&self) -> Option<T>
+        ensures exact { is_some result ≡ T.casts (kind_of self.now.tree) }
+        ensures same { IfSome result (λ it. T.node it ≡ root_of self.now.tree) }
+    {
+        T::cast(self.syntax_node())
+    }
+
+    /// The root as a `T`, where the text has no errors at all.
+    ///
+    /// Else [`OkError::Errors`] with all errors, where there are some; then [`OkError::OtherRoot`], where the root is of
+    /// another kind. Each gives the parse back, and so does [`OkError::Memory`], which is returned as soon as memory runs
+    /// out.
+    pub fn ok(self, alloc: Global) -> Result<T, OkError<T>>
+        ensures free { OnOk result (all_errors self ≡ []) }
+        ensures same { IfOk result (λ it. T.node it ≡ root_of self.tree) }
+        ensures refused { IfErr result (IsOkRefusal (T.casts (kind_of self.tree)) self) }
+    {
+        let errors = match self.errors(alloc) {
+            Ok(errors) => errors,
+            Err(_) => return Err(OkError::Memory(self)),
+        };
+        if !errors.is_empty() {
+            return Err(OkError::Errors(errors, self));
+        }
+        match self.tree() {
+            Some(tree) => Ok(tree),
+            None => Err(OkError::OtherRoot(self)),
+        }
+    }
+}
+
+impl Parse<SyntaxNode> {
+    /// The same parse, whose root is meant to be an `N`; `None` where it is of another kind, and then the parse is gone.
+    pub fn cast<N: AstNode>(self) -> Option<Parse<N>>
+        ensures { result ≡ (if N.casts (kind_of self.tree) then Some self else None) }
+    {
+        if !N::can_cast(self.root.kind()) {
+            return None;
+        }
+        Some(self.viewed())
+    }
+}
+
+impl<T> Clone for Parse<T> {
     ghost use Rattle.std.specs.Prelude.{◌≡◌, ⊤};
 
     ghost is_clone = { λ p copy. copy ≡ p };
 
     ghost is_infallible = { λ _. ⊤ };
 
-    fn clone(&self) -> Result<Parse, AllocError> {
+    fn clone(&self) -> Result<Parse<T>, AllocError> {
         Ok(Parse {
             root: self.syntax_node(),
             errors: self.errors.share(),
+            view: PhantomData,
         })
     }
 }
 
 /// Equal where trees and stored errors are.
-impl PartialEq for Parse {
+impl<T> PartialEq for Parse<T> {
     ghost use Rattle.ras_parsing.specs.ParsedEquality.{is_same_parsed, parsed_equivalence};
     ghost use Rattle.std.specs.Cmp.{partial_equiv_from_equiv};
 
@@ -100,28 +194,28 @@ impl PartialEq for Parse {
 
     ghost laws = { partial_equiv_from_equiv parsed_equivalence };
 
-    fn eq(&self, other: &Parse) -> bool {
+    fn eq(&self, other: &Parse<T>) -> bool {
         self.root == other.root && self.stored() == other.stored()
     }
 }
 
-impl Eq for Parse {
+impl<T> Eq for Parse<T> {
     ghost use Rattle.ras_parsing.specs.ParsedEquality.{parsed_equivalence};
 
     ghost laws = { parsed_equivalence };
 }
 
-/// The parse of a text as a front end reads it.
+/// The parse of a text by a front end, with a root that is meant to be a `T`.
 ///
 /// `TooLong` exactly where the text is longer than 4,294,967,295 bytes; that is looked at first. It takes the front end's
 /// time, and then time linear in the text.
-pub fn read<F: FrontEnd>(
+pub fn read<T, F: FrontEnd>(
     alloc: Global,
     front: &F,
     entry: Entry,
     text: &str,
     edition: Edition,
-) -> Result<Parse, ParseError>
+) -> Result<Parse<T>, ParseError>
     ensures parsed { IfOk result (IsParseOf text.now ((F.answers front.now).parsed entry edition text.now)) }
     ensures root { IfOk result (λ p. IsRootOf entry (kind_of p.tree)) }
     ensures in_text { IfOk result ErrorsLieIn }

@@ -1,8 +1,9 @@
 //! The program `rust_bench`: times the lexer and the front end for Rust on a file, and prints the least time of some rounds.
 #![tactic(auto)]
 
+use lossless_tree::SyntaxNode;
 use ras_front_end::{Edition, Entry, FrontEnd};
-use ras_parsing::read;
+use ras_parsing::{Parse, read};
 use rust_front::Rust;
 use rust_lexer::lex;
 use std::time::Instant;
@@ -34,7 +35,7 @@ fn read_to_steps(rt: &HostRuntime, text: &str) -> anyhow::Result<u128> {
 // From the text to its tree.
 fn parsed(rt: &HostRuntime, text: &str) -> anyhow::Result<u128> {
     let begun = Instant::now(rt)?;
-    let parse = read(rt.alloc(), &Rust, Entry::SourceFile, text, NOW)?;
+    let parse: Parse<SyntaxNode> = read(rt.alloc(), &Rust, Entry::SourceFile, text, NOW)?;
     let took = nanoseconds_since(rt, begun)?;
     drop(parse);
     Ok(took)

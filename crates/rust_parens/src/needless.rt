@@ -46,7 +46,7 @@ struct Run {
 }
 
 // Whether a parse is the old one without what the marks leave out, with as many errors.
-fn is_same(old: &Parse, marks: &[bool], new: &Parse) -> bool
+fn is_same(old: &Parse<SyntaxNode>, marks: &[bool], new: &Parse<SyntaxNode>) -> bool
     ensures { IsTrue result ↔ IsMarkedOut old.now marks.now new.now }
 {
     old.stored().len() == new.stored().len()
@@ -59,7 +59,7 @@ fn without<F: FrontEnd>(
     front: &F,
     entry: Entry,
     edition: Edition,
-    old: &Parse,
+    old: &Parse<SyntaxNode>,
     chosen: &[SyntaxNode],
     more: &[SyntaxNode],
 ) -> Result<Option<String>, AllocError>
@@ -87,7 +87,7 @@ fn next_run<F: FrontEnd>(
     front: &F,
     entry: Entry,
     edition: Edition,
-    old: &Parse,
+    old: &Parse<SyntaxNode>,
     chosen: &[SyntaxNode],
     rest: &[SyntaxNode],
     step: usize,
@@ -151,7 +151,7 @@ pub fn find_needless<F: FrontEnd>(
     front: &F,
     entry: Entry,
     edition: Edition,
-    old: &Parse,
+    old: &Parse<SyntaxNode>,
 ) -> Result<Needless, AllocError>
     ensures found { IfOk result (λ n. AreTried (F.answers front.now) entry edition old.now n.pairs.items n.tried.items (option_map string_bytes n.text)) }
     ensures left { IfOk result (λ n. n.left + length n.tried.items ≡ length (candidates_of old.now)) }

@@ -193,7 +193,7 @@ pub fn check<W: Write>(
     let errors = if options.reading.validates {
         parse.errors(alloc)?
     } else {
-        return write_all(alloc, out, name, text, parse.parsed().stored(), options);
+        return write_all(alloc, out, name, text, parse.stored(), options);
     };
     write_all(alloc, out, name, text, errors.as_slice(), options)
 }

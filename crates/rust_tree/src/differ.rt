@@ -63,12 +63,7 @@ pub fn show<W: Write>(
 ) -> Result<bool, Failure> {
     let old_parse = parsed(alloc, old.text, reading)?;
     let new_parse = parsed(alloc, new.text, reading)?;
-    let found = first_difference(
-        old_parse.parsed().root(),
-        &[],
-        new_parse.parsed().root(),
-        trivia,
-    );
+    let found = first_difference(old_parse.root(), &[], new_parse.root(), trivia);
     let Some(found) = found else {
         return Ok(false);
     };

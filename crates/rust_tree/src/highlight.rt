@@ -276,7 +276,7 @@ pub fn show<W: Write>(
         write_head(out, name)?;
         out.write_all(STYLE.as_bytes())?;
     }
-    for element in parse.parsed().root().descendants_with_tokens() {
+    for element in parse.root().descendants_with_tokens() {
         if let NodeOrToken::Token(token) = &element {
             match ink {
                 Ink::Html => write_html(out, role_of(token), token.text())?,

@@ -143,7 +143,7 @@ pub fn show<W: Write>(
 ) -> Result<u64, Failure> {
     let parse = parsed(alloc, text, reading)?;
     let lines = lines(alloc, text)?;
-    for row in &outline(alloc, parse.parsed().root())? {
+    for row in &outline(alloc, parse.root())? {
         write_row(alloc, out, name, &lines, row, format)?;
     }
     Ok(0)

@@ -69,7 +69,7 @@ pub fn show<W: Write>(
 ) -> Result<u64, Failure> {
     let parse = parsed(alloc, text, reading)?;
     let lines = lines(alloc, text)?;
-    let found = query(alloc, parse.parsed().root(), steps)?;
+    let found = query(alloc, parse.root(), steps)?;
     for element in &found {
         write_match(alloc, out, path, &lines, element, format)?;
     }

@@ -3,8 +3,7 @@
 use line_index::LineIndex;
 use lossless_tree::{SyntaxNode, TextSize};
 use ras_front_end::{Edition, Entry, ParseError};
-use ras_parsing::read;
-use ras_typed_parse::Parse;
+use ras_parsing::{Parse, read};
 use rust_front::Rust;
 use rust_report::{Spot, spot_at};
 use std::alloc::{AllocError, Global};
@@ -26,8 +25,7 @@ pub fn parsed(
     text: &str,
     reading: Reading,
 ) -> Result<Parse<SyntaxNode>, ParseError> {
-    let parsed = read(alloc, &Rust, reading.entry, text, reading.edition)?;
-    Ok(Parse::of(parsed))
+    read(alloc, &Rust, reading.entry, text, reading.edition)
 }
 
 /// The lines of a text.

@@ -325,7 +325,7 @@ pub fn show<W: Write>(
     showing: &Showing,
 ) -> Result<u64, Failure> {
     let parse = parsed(alloc, text, reading)?;
-    let root = parse.parsed().root();
+    let root = parse.root();
     let errors = if reading.validates {
         Some(parse.errors(alloc)?)
     } else {
@@ -333,7 +333,7 @@ pub fn show<W: Write>(
     };
     let errors = match &errors {
         Some(errors) => errors.as_slice(),
-        None => parse.parsed().stored(),
+        None => parse.stored(),
     };
     if showing.stats {
         write_stats(out, text, root, errors.len())?;

@@ -12,7 +12,7 @@ use Rattle.ras_front_end.specs.declared.parse_error.ParseError.TheVariants as pa
 use Rattle.ras_front_end.specs.declared.edition.Entry.TheVariants.{SourceFile}
 use Rattle.ras_front_end.specs.declared.edition.Edition.TheVariants.{Edition2024}
 use Rattle.ras_front_end.specs.Parsed.{Parsed, IsParseOf}
-use Rattle.ras_typed_parse.specs.AllErrors.{debug_dump_of}
+use Rattle.ras_parsing.specs.AllErrors.{debug_dump_of}
 use Rattle.tiny_front.specs.Front.{tiny_front}
 use Rattle.syntax_tool.specs.declared.command.Command.{Command}
 use Rattle.syntax_tool.specs.declared.command.Command.TheVariants.{Events, Dump, Parens, Reparse}

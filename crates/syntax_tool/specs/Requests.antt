@@ -6,9 +6,9 @@ use Rattle.tree_model.specs.Tree.{text}
 use Rattle.ras_front_end.specs.declared.edition.Entry.TheVariants.{SourceFile}
 use Rattle.ras_front_end.specs.declared.edition.Edition.TheVariants.{Edition2024}
 use Rattle.ras_front_end.specs.Parsed.{Parsed, IsParseOf}
-use Rattle.ras_reparsing.specs.Edit.{Edit, edited}
-use Rattle.ras_reparsing.specs.Reparse.{IsIncremental}
-use Rattle.ras_typed_parse.specs.AllErrors.{debug_dump_of}
+use Rattle.ras_parsing.specs.Edit.{Edit, edited}
+use Rattle.ras_parsing.specs.Reparse.{IsIncremental}
+use Rattle.ras_parsing.specs.AllErrors.{debug_dump_of}
 use Rattle.tiny_front.specs.Front.{tiny_front}
 use Rattle.syntax_tool.specs.declared.refusal.Refusal.{Refusal}
 use Rattle.syntax_tool.specs.declared.refusal.Refusal.TheVariants.{BadLine, BadRange, TooLong}

@@ -3,8 +3,8 @@ ghost use Rattle.std.specs.Prelude.{◌≡◌, ◌↔◌, ◌⊎◌, ◌++◌, �
 ghost use Rattle.std.specs.List.{list_all};
 ghost use Rattle.tree_model.specs.Tree.{text};
 ghost use Rattle.ras_front_end.specs.declared.parse_error.ParseError.TheVariants.{TooLong};
-ghost use Rattle.ras_reparsing.specs.Edit.{IsEditOf, edited};
-ghost use Rattle.ras_typed_parse.specs.AllErrors.{debug_dump_of};
+ghost use Rattle.ras_parsing.specs.Edit.{IsEditOf, edited};
+ghost use Rattle.ras_parsing.specs.AllErrors.{debug_dump_of};
 ghost use Rattle.syntax_tool.specs.Requests.{is_digit, value_from, number_of, told, IsRange, IsReread, AnswersEdit, AnswersRange, AnswersLines, AnswersReparse};
 ghost use Rattle.syntax_tool.specs.Lines.{HasNo, IsLine};
 

@@ -1,6 +1,6 @@
 use Rattle.std.proofs.Common.{◌≡◌, ◌∙◌, ◌<◌, ◌≤◌, ◌-◌, length, map, refl, ap, arith}
 use Rattle.tree_model.specs.Tree.{size}
-use Rattle.ras_typed_parse.specs.AllErrors.{all_errors}
+use Rattle.ras_parsing.specs.AllErrors.{all_errors}
 use Rattle.ras_c.specs.Read.{needed, messages_of, error_row, HasRoom}
 use Rattle.ras_c.proofs.ReadLemmas.{stored_within, needed_by, same_buffers, over_by}
 use Rattle.ras_c.proofs.read.tell.Goals as goal

@@ -1,8 +1,8 @@
 use Rattle.std.proofs.Common.{subst}
 use Rattle.std.specs.Prelude.{None}
 use Rattle.ras_front_end.specs.declared.edition.Edition.TheVariants.{Edition2024}
-use Rattle.ras_reparsing.specs.Edit.{Edit}
-use Rattle.ras_reparsing.specs.Reparse.{IsIncremental}
+use Rattle.ras_parsing.specs.Edit.{Edit}
+use Rattle.ras_parsing.specs.Reparse.{IsIncremental}
 use Rattle.tiny_front.specs.Front.{tiny_front}
 use Rattle.syntax_tool.proofs.reparse.edit_parse.Goals as goal
 

@@ -1,0 +1,54 @@
+-- What the steps of a reparse find, for the proofs.
+use Rattle.std.specs.Prelude.{◌≡◌, ℕ, ◌-◌, ◌≤◌, List, length, take, drop, Option, Some, None, IfSome, Contains, ◌++◌, IsTrue}
+use Rattle.std.specs.Char.{encode_utf8}
+use Rattle.text_size.specs.TextRange.{Bounds}
+use Rattle.syntax_kind.specs.Kinds.{is_trivia}
+use Rattle.syntax_kind.specs.declared.syntax_kind.SyntaxKind.{SyntaxKind}
+use Rattle.syntax_kind.specs.declared.syntax_kind.SyntaxKind.TheVariants.{Token}
+use Rattle.syntax_kind.specs.declared.syntax_kind.token_kind.TokenKind.TheVariants as kind
+use Rattle.tree_model.specs.Tree.{Tree, text, IsPlace}
+use Rattle.tree_model.specs.Cursor.{Cursor, range_start, range_end}
+use Rattle.ras_front_end.specs.declared.edition.Edition.{Edition}
+use Rattle.ras_front_end.specs.declared.edition.Reparser.{Reparser}
+use Rattle.ras_front_end.specs.Front.{Front}
+use Rattle.ras_front_end.specs.Parsed.{Parsed, IsParseOf}
+use Rattle.ras_parsing.specs.Edit.{Edit, covered, edited_at}
+use Rattle.ras_parsing.specs.Reparse.{is_token_kind, IsContextualWord, TokenPath, BlockPath, with_piece}
+
+abbrev pub LosesNewline : List ℕ → Bounds → Type 0
+LosesNewline s r = Contains (take (r.end - r.start) (drop r.start s)) 10
+
+-- a token of a kind may be parsed again when these bytes of the text go from it
+abbrev pub MayStay : SyntaxKind → List ℕ → Bounds → Type 0
+MayStay k s r = IsTrue (is_token_kind k) × (IsTrue (is_trivia k) → LosesNewline s r → ⊥)
+
+-- a text is one token of a kind, with this error, and none with the next character
+pub record IsOneToken (front : Front) (edition : Edition) (k : SyntaxKind) (new : List ℕ) (next : Option ℕ) (fault : Option (List ℕ)) : Type 0 where
+  pub same_kind : front.single edition new ≡ Some (k, fault)
+  pub no_word : k ≡ Token kind.IDENT → IsContextualWord new → ⊥
+  pub alone : IfSome next (λ c. front.single edition (new ++ encode_utf8 c) ≡ None)
+
+abbrev pub NoOneToken : Front → Edition → SyntaxKind → List ℕ → Option ℕ → Type 0
+NoOneToken front edition k new next = (fault : Option (List ℕ)) → IsOneToken front edition k new next fault → ⊥
+
+pub record IsNewToken (front : Front) (edition : Edition) (tree : Tree) (edit : Edit) (c : Cursor) (new : List ℕ) (fault : Option (List ℕ)) : Type 0 where
+  pub covers : c ≡ covered tree edit
+  pub text_is : new ≡ edited_at c edit
+  pub path : TokenPath front edition tree edit fault
+
+pub record IsNewBlock (front : Front) (edition : Edition) (tree : Tree) (edit : Edit) (c : Cursor) (r : Reparser) (new : List ℕ) : Type 0 where
+  pub text_is : new ≡ edited_at c edit
+  pub path : BlockPath front edition tree edit c r
+
+-- the new parse has the tree and the errors of the block's reading
+pub record IsBlockOf (front : Front) (edition : Edition) (old : Parsed) (edit : Edit) (c : Cursor) (r : Reparser) (new : Parsed) : Type 0 where
+  pub piece : Parsed
+  pub is_parse : IsParseOf (edited_at c edit) (front.piece r edition (edited_at c edit)) piece
+  pub is : new ≡ with_piece old edit c piece
+
+-- the edit lies inside of the node or token at a place
+pub record IsAround (c : Cursor) (edit : Edit) : Type 0 where
+  pub is_place : IsPlace c.tree c.place
+  pub begun : range_start c ≤ edit.delete.start
+  pub ended : edit.delete.end ≤ range_end c
+  pub within : range_end c ≤ length (text c.tree)

@@ -1,0 +1,75 @@
+//! Old and new errors, after a piece is parsed again.
+ghost use Rattle.std.specs.Prelude.{◌≡◌, ◌+◌, ◌-◌, ◌<◌, ◌≤◌, ◌^◌, length, IfOk, OnOk, All, ◌++◌};
+ghost use Rattle.ras_parsing.specs.Reparse.{shifted, moved, kept_fault, merged};
+
+use ras_front_end::SyntaxError;
+use std::alloc::{AllocError, Global};
+use text_size::{TextRange, TextSize};
+
+// The offset after an edit of a byte after it.
+fn shifted(offset: TextSize, delete: TextRange, insert: &str) -> TextSize
+    requires behind { delete.end ≤ offset }
+    requires short { shifted (record { delete = delete; insert = insert.now }) offset < 2 ^ 32 }
+    ensures { result ≡ shifted (record { delete = delete; insert = insert.now }) offset }
+{
+    let kept = offset.raw() as usize - delete.len().raw() as usize;
+    TextSize::new((kept + insert.len()) as u32)
+}
+
+// Stores an old error where it stays or goes with its text.
+fn keep(
+    kept: &mut Vec<SyntaxError>,
+    error: &SyntaxError,
+    replaced: TextRange,
+    delete: TextRange,
+    insert: &str,
+) -> Result<(), AllocError>
+    requires within { delete.end ≤ replaced.end }
+    requires short { shifted (record { delete = delete; insert = insert.now }) error.now.range.end < 2 ^ 32 }
+    ensures { OnOk result (kept.new.items ≡ kept.old.items ++ kept_fault replaced (record { delete = delete; insert = insert.now }) error.now) }
+{
+    let range = error.range();
+    if range.end() <= replaced.start() {
+        kept.push(error.clone()?)?;
+    } else if replaced.end() <= range.start() {
+        let start = shifted(range.start(), delete, insert);
+        let end = shifted(range.end(), delete, insert);
+        kept.push(error.clone()?.with_range(TextRange::new(start, end)))?;
+    }
+    Ok(())
+}
+
+// The error of a piece, as an error of the text around it.
+fn moved(error: SyntaxError, by: TextSize) -> SyntaxError
+    requires { error.range.end + by < 2 ^ 32 }
+    ensures { result ≡ moved by error }
+{
+    let range = error.range();
+    let start = TextSize::new(range.start().raw() + by.raw());
+    let end = TextSize::new(range.end().raw() + by.raw());
+    error.with_range(TextRange::new(start, end))
+}
+
+// The old errors that are left after an edit inside of what was replaced, and then those of the new piece.
+pub(crate) fn merge(
+    alloc: Global,
+    old: &[SyntaxError],
+    new: Vec<SyntaxError>,
+    replaced: TextRange,
+    delete: TextRange,
+    insert: &str,
+) -> Result<Vec<SyntaxError>, AllocError>
+    requires within { delete.end ≤ replaced.end }
+    requires old_short { All (λ f. shifted (record { delete = delete; insert = insert.now }) f.range.end < 2 ^ 32) old.now }
+    requires new_short { All (λ f. f.range.end + replaced.start < 2 ^ 32) new.items }
+    ensures { IfOk result (λ errors. errors.items ≡ merged old.now new.items replaced (record { delete = delete; insert = insert.now })) }
+{
+    let mut errors = Vec::new(alloc);
+    for error in old {
+        keep(&mut errors, error, replaced, delete, insert)?;
+    }
+    for error in new {
+        errors.push(moved(error, replaced.start()))?;
+    }
+    Ok(errors)
+}

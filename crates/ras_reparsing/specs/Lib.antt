@@ -1,3 +1,0 @@
-pub mod Edit
-pub mod Reparse
-pub mod Rereading

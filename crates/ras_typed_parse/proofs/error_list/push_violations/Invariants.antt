@@ -1,6 +1,0 @@
-use Rattle.std.proofs.Common.{◌≡◌, ◌++◌, take, map}
-use Rattle.ras_typed_parse.specs.AllErrors.{violation_fault}
-use Rattle.ras_typed_parse.proofs.error_list.push_violations.Given as goal
-
-abbrev pub invariant-loop-violation : goal.invariant-loop-violation
-invariant-loop-violation l = l.errors.items ≡ l.fn.errors.items ++ map violation_fault (take l.violation-index l.violation-items)

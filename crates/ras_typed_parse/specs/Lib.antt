@@ -1,3 +1,0 @@
-pub mod AllErrors
-pub mod OkCases
-pub mod Names
