@@ -1,6 +1,6 @@
 //! The operators of expressions and patterns, by their tokens, and as they are written.
 ghost use Rattle.std.specs.Prelude.{◌≡◌, Some};
-ghost use Rattle.ras_operator.specs.OperatorTexts.{unary_op, range_op, binary_op, logic_text, arith_text, cmp_text, binary_text};
+ghost use Rattle.ras_operators.specs.OperatorTexts.{unary_op, range_op, binary_op, logic_text, arith_text, cmp_text, binary_text};
 
 use std::fmt;
 use syntax_kind::SyntaxKind;
