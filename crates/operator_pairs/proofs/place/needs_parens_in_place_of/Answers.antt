@@ -3,7 +3,7 @@ use Rattle.tree_model.specs.Cursor.{focus}
 use Rattle.operator_terms.specs.Powers.{needs_pair_at}
 use Rattle.operator_trees.specs.Shown.{meaning, IsTerm}
 use Rattle.operator_pairs.proofs.Deep.{asked_so, pair_so, inside_shown}
-use Rattle.operator_pairs.proofs.test.needs_parens_in_place_of.Goals as goal
+use Rattle.operator_pairs.proofs.place.needs_parens_in_place_of.Goals as goal
 
 pub returns-clause-direct : goal.returns-clause-direct
 returns-clause-direct c = λ s t i p self shows is direct at.
