@@ -3,19 +3,19 @@ use Rattle.std.specs.Prelude.{true, false, Option, Some, None, List, ℕ, codes,
 use Rattle.syntax_kind.specs.declared.syntax_kind.SyntaxKind.{SyntaxKind}
 use Rattle.syntax_kind.specs.declared.syntax_kind.SyntaxKind.TheVariants.{Token}
 use Rattle.syntax_kind.specs.declared.syntax_kind.token_kind.TokenKind.TheVariants as token
-use Rattle.ras_operators.specs.declared.BinaryOp.{BinaryOp}
-use Rattle.ras_operators.specs.declared.BinaryOp.TheVariants as op
-use Rattle.ras_operators.specs.declared.LogicOp.{LogicOp}
-use Rattle.ras_operators.specs.declared.LogicOp.TheVariants as logic
-use Rattle.ras_operators.specs.declared.ArithOp.{ArithOp}
-use Rattle.ras_operators.specs.declared.ArithOp.TheVariants as arith
-use Rattle.ras_operators.specs.declared.CmpOp.{CmpOp}
-use Rattle.ras_operators.specs.declared.CmpOp.TheVariants as cmp
-use Rattle.ras_operators.specs.declared.Ordering.TheVariants as ordering
-use Rattle.ras_operators.specs.declared.UnaryOp.{UnaryOp}
-use Rattle.ras_operators.specs.declared.UnaryOp.TheVariants as unary
-use Rattle.ras_operators.specs.declared.RangeOp.{RangeOp}
-use Rattle.ras_operators.specs.declared.RangeOp.TheVariants as range
+use Rattle.ras_operators.specs.declared.operators.BinaryOp.{BinaryOp}
+use Rattle.ras_operators.specs.declared.operators.BinaryOp.TheVariants as op
+use Rattle.ras_operators.specs.declared.operators.LogicOp.{LogicOp}
+use Rattle.ras_operators.specs.declared.operators.LogicOp.TheVariants as logic
+use Rattle.ras_operators.specs.declared.operators.ArithOp.{ArithOp}
+use Rattle.ras_operators.specs.declared.operators.ArithOp.TheVariants as arith
+use Rattle.ras_operators.specs.declared.operators.CmpOp.{CmpOp}
+use Rattle.ras_operators.specs.declared.operators.CmpOp.TheVariants as cmp
+use Rattle.ras_operators.specs.declared.operators.Ordering.TheVariants as ordering
+use Rattle.ras_operators.specs.declared.operators.UnaryOp.{UnaryOp}
+use Rattle.ras_operators.specs.declared.operators.UnaryOp.TheVariants as unary
+use Rattle.ras_operators.specs.declared.operators.RangeOp.{RangeOp}
+use Rattle.ras_operators.specs.declared.operators.RangeOp.TheVariants as range
 
 -- the prefix operator that a kind of token is
 abbrev pub unary_op : SyntaxKind → Option UnaryOp
