@@ -16,6 +16,7 @@ use std::fmt::{Formatter, Write};
 pub trait FileView: AstNode {}
 
 // The dump of a tree, and a line for each error.
+#[derive(Drop)]
 struct DebugDump<'p> {
     tree: Dump<'p>,
     errors: &'p [SyntaxError],
