@@ -26,6 +26,7 @@ mod parens;
 mod parses;
 mod request;
 mod stopped;
+mod useless;
 mod walk;
 
 use built::show_built;
@@ -43,8 +44,10 @@ use std::fmt::Write;
 use std::io;
 use std::process::ExitCode;
 use stopped::Stopped;
-use tiny_front::Tiny;
-use useless_fronts::Useless;
+use tiny_front::TINY;
+use tiny_lexer::TinyLexer;
+use token_layout::SpanFront;
+use useless::Useless;
 use walk::show_walk;
 
 fn show_written(out: &mut String, written: &[u8]) -> Result<(), Stopped> {
@@ -64,8 +67,8 @@ fn show_run(alloc: Global, out: &mut String, command: &str, input: &[u8]) -> Res
 }
 
 fn show_name(out: &mut String, word: &str) -> Result<(), Stopped> {
-    let identifier = is_identifier(word, &Tiny, Edition::CURRENT);
-    let raw = is_raw_identifier(word, &Tiny, Edition::CURRENT);
+    let identifier = is_identifier(word, &TINY, Edition::CURRENT);
+    let raw = is_raw_identifier(word, &TINY, Edition::CURRENT);
     Ok(writeln!(out, "identifier {identifier}, raw {raw}")?)
 }
 
@@ -87,6 +90,13 @@ fn show_by<F: FrontEnd>(
     }
 }
 
+fn with(parser: Useless) -> SpanFront<TinyLexer, Useless> {
+    SpanFront {
+        lexer: TinyLexer,
+        parser,
+    }
+}
+
 // A request, its first word apart.
 fn show(alloc: Global, out: &mut String, request: &str, rest: &str) -> Result<(), Stopped> {
     match request {
@@ -101,9 +111,9 @@ fn show(alloc: Global, out: &mut String, request: &str, rest: &str) -> Result<()
     let (word, text) = rest.split_once(' ').unwrap_or((rest, ""));
     match (request, word) {
         ("run", _) => show_run(alloc, out, word, text.as_bytes()),
-        (_, "tiny") => show_by(alloc, out, &Tiny, request, text),
-        (_, "wrong") => show_by(alloc, out, &Useless::Wrong, request, text),
-        (_, "flat") => show_by(alloc, out, &Useless::Flat, request, text),
+        (_, "tiny") => show_by(alloc, out, &TINY, request, text),
+        (_, "wrong") => show_by(alloc, out, &with(Useless::Wrong), request, text),
+        (_, "flat") => show_by(alloc, out, &with(Useless::Flat), request, text),
         _ => Err(Stopped::NoRequest),
     }
 }

@@ -1,11 +1,12 @@
 -- Pairs of brackets among tokens.
-use Rattle.std.specs.Prelude.{ℕ, zero, suc, ◌+◌, List, [], ◌∷◌, ◌++◌, reverse, slice_get, Option, Some, None}
+use Rattle.std.specs.Prelude.{ℕ, zero, suc, ◌+◌, List, [], ◌∷◌, ◌++◌, length, reverse, slice_get, Option, Some, None}
 use Rattle.syntax_kind.specs.declared.syntax_kind.SyntaxKind.{SyntaxKind}
 use Rattle.syntax_kind.specs.declared.syntax_kind.SyntaxKind.TheVariants.{Token, Node}
 use Rattle.syntax_kind.specs.declared.syntax_kind.token_kind.TokenKind.TheVariants as token
 use Rattle.syntax_kind.specs.declared.syntax_kind.node_kind.NodeKind.TheVariants as node
 use Rattle.token_layout.specs.declared.span.Span.{Span}
 use Rattle.token_layout.specs.declared.span.Token.{Token as LexedToken}
+use Rattle.token_layout.specs.Answers.{ParserAnswers}
 use Rattle.example_front.specs.declared.brackets.Pairs.{Pairs}
 
 -- the brackets that are not closed, the last one first, and the nodes of those that are
@@ -40,3 +41,9 @@ met_at i (Some t) s = met_of i t.kind s
 unfoldable pub pairs_of : ℕ → List LexedToken → Pairing
 pairs_of zero ts = record { starts = []; closed = [] }
 pairs_of (suc n) ts = met_at n (slice_get ts n) (pairs_of n ts)
+
+abbrev pub bracket_parser : ParserAnswers
+bracket_parser = record {
+  outline = λ target ts. record { root = Token token.ERROR; spans = (pairs_of (length ts) ts).closed; errors = [] };
+  rule = λ kind first_child parent. None;
+}

@@ -5,13 +5,15 @@ mod brackets;
 
 use brackets::Brackets;
 use ra_ap_syntax::{Edition, SourceFile};
-use span_front::SpanFront;
 use std::io;
+use tiny_lexer::TinyLexer;
+use token_layout::SpanFront;
 
 fn main(rt: HostRuntime) -> io::Result<()> {
     let input = io::read_to_string(rt.alloc(), rt.reader())?;
-    let (text, front) = (input.as_str(), SpanFront { nodes: Brackets });
-    let Ok(parse) = SourceFile::parse(rt.alloc(), text, &front, Edition::CURRENT) else {
+    let (lexer, parser) = (TinyLexer, Brackets);
+    let front = SpanFront { lexer, parser };
+    let Ok(parse) = SourceFile::parse(rt.alloc(), input.as_str(), &front, Edition::CURRENT) else {
         return println!(rt; "the text is too long, or memory ran out");
     };
     match parse.debug_dump(rt.alloc()) {

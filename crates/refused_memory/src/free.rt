@@ -7,7 +7,7 @@ use ra_ap_syntax::{
     SyntaxTreeBuilder, TextSize, ast, utils,
 };
 use std::alloc::{AllocError, Global};
-use tiny_front::Tiny;
+use tiny_front::TINY;
 
 const NOW: Edition = Edition::CURRENT;
 
@@ -53,7 +53,7 @@ struct Built {
 }
 
 fn build(alloc: Global) -> Result<Built, Stopped> {
-    let file = match SourceFile::parse(alloc, "fn f() { 1 + }", &Tiny, NOW) {
+    let file = match SourceFile::parse(alloc, "fn f() { 1 + }", &TINY, NOW) {
         Ok(file) => file,
         Err(_) => return Err(Stopped::Twice("parse")),
     };
@@ -106,13 +106,13 @@ fn parses(rt: &HostRuntime, file: Parse<SourceFile>) -> Result<(), Stopped> {
 fn names(rt: &HostRuntime) -> Result<(), Stopped> {
     println!(rt;
         "is_identifier: {} {}",
-        utils::is_identifier("a", &Tiny, NOW),
-        utils::is_identifier("fn", &Tiny, NOW)
+        utils::is_identifier("a", &TINY, NOW),
+        utils::is_identifier("fn", &TINY, NOW)
     )?;
     println!(rt;
         "is_raw_identifier: {} {}",
-        utils::is_raw_identifier("fn", &Tiny, NOW),
-        utils::is_raw_identifier("a", &Tiny, NOW)
+        utils::is_raw_identifier("fn", &TINY, NOW),
+        utils::is_raw_identifier("a", &TINY, NOW)
     )?;
     Ok(())
 }

@@ -1,12 +1,7 @@
--- Faults and complaints as the reading's errors.
-use Rattle.ras_front_end.specs.Fault.{Fault}
-use Rattle.ras_front_end.specs.Reading.{FrontStep, reports}
-use Rattle.tiny_lexer.specs.declared.lexer.Complaint.{Complaint}
+-- Faults as the parser's errors.
+use Rattle.ras_front_end.specs.Fault.{Fault, fault_at}
 use Rattle.tiny_front.specs.declared.parser.Fault.{Fault as ParserFault}
-use Rattle.tiny_front.specs.Messages.{message_bytes, problem_bytes}
+use Rattle.tiny_front.specs.Messages.{message_bytes}
 
-abbrev pub report_of : ParserFault → FrontStep
-report_of f = reports (message_bytes f.message) f.position
-
-abbrev pub error_of : Complaint → Fault
-error_of c = record { message = problem_bytes c.problem; range = c.range }
+abbrev pub error_of : ParserFault → Fault
+error_of f = fault_at (message_bytes f.message) f.position

@@ -1,7 +1,8 @@
 //! The lexer reads a character at a time; a token goes on for as long as its scan does.
-ghost use Rattle.std.specs.Prelude.{◌≡◌, ◌≤◌, OnOk, IfOk, string_bytes};
+ghost use Rattle.std.specs.Prelude.{◌≡◌, ◌≤◌, ◌<◌, ◌^◌, OnOk, IfOk, All, length, string_bytes};
 ghost use Rattle.std.specs.Str.{chars};
 ghost use Rattle.token_layout.specs.Laid.{IsCut};
+ghost use Rattle.tiny_lexer.specs.Cut.{ComplaintLiesIn};
 ghost use Rattle.tiny_lexer.specs.Lexing.{size_of, later_of, lexing_of, report_of, emit_of, end_of, next_of, begun_of, more_of, feed_of, feeds, fresh, tokens_of, complaints_of};
 
 use crate::scan::{Problem, Scan, begin, goes_on, scan_kind, wrong_with};
@@ -150,11 +151,8 @@ fn read(alloc: Global, text: &str, edition: Edition) -> Result<Lexer, AllocError
     Ok(lexer)
 }
 
-/// The tokens of a text, and what is wrong with some of them.
-///
-/// The tokens cut every text of at most 4,294,967,295 bytes: each byte is in one of them, in order. Block comments don't nest. It
-/// takes time linear in the text.
-pub fn lex(alloc: Global, text: &str, edition: Edition) -> Result<Lexed, AllocError>
+// What the lexer holds at the end of the text.
+fn finished(alloc: Global, text: &str, edition: Edition) -> Result<Lexed, AllocError>
     ensures tokens { IfOk result (λ l. l.tokens.items ≡ tokens_of edition text.now) }
     ensures complaints { IfOk result (λ l. l.complaints.items ≡ complaints_of edition text.now) }
 {
@@ -168,4 +166,15 @@ pub fn lex(alloc: Global, text: &str, edition: Edition) -> Result<Lexed, AllocEr
         start: _,
     } = lexer;
     Ok(Lexed { tokens, complaints })
+}
+
+/// The tokens of a text, and what is wrong with some of them. It takes time linear in the text.
+pub fn lex(alloc: Global, text: &str, edition: Edition) -> Result<Lexed, AllocError>
+    ensures tokens { IfOk result (λ l. l.tokens.items ≡ tokens_of edition text.now) }
+    ensures complaints { IfOk result (λ l. l.complaints.items ≡ complaints_of edition text.now) }
+    ensures cut { length text.now < 2 ^ 32 → IfOk result (λ l. IsCut l.tokens.items text.now) }
+    ensures lie { length text.now < 2 ^ 32 → IfOk result (λ l. All (ComplaintLiesIn (length text.now)) l.complaints.items) }
+{
+    let lexed = finished(alloc, text, edition)?;
+    Ok(lexed)
 }

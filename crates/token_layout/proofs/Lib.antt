@@ -1,3 +1,2 @@
-pub mod Back
 pub mod Push
-pub mod Kept
+pub mod Fits

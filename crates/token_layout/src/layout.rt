@@ -98,7 +98,7 @@ impl Layout {
     }
 }
 
-// All moves from behind the last token.
+// All moves from after the last token.
 fn lay(alloc: Global, tokens: &[Token], spans: Vec<Span>) -> Result<Layout, AllocError>
     ensures { IfOk result (λ p. laying_of p ≡ moves (length tokens.now + 2 * length spans.items) tokens.now (start_of tokens.now spans.items)) }
 {
@@ -130,9 +130,9 @@ fn steps(
 
 /// The steps of one node of the kind `root` over all tokens, and in it of the nodes of `spans`.
 ///
-/// The spans stand in the order in which their nodes end: inner ones before outer ones, and earlier before later ones.
+/// The spans are in the order in which their nodes end: inner ones before outer ones, and earlier before later ones.
 /// Where they are in another order, cross, or reach past the tokens, the steps still build one tree over all tokens, though
-/// perhaps not the one that was meant. A node over no token stays empty, and stands before a node that begins there, also where
+/// perhaps not the one that was meant. A node over no token stays empty, and precedes a node that begins there, also where
 /// that ends later. It takes time and memory linear in the tokens and spans.
 pub fn lay_out(
     alloc: Global,

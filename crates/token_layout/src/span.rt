@@ -20,6 +20,6 @@ pub struct Span {
     pub kind: SyntaxKind,
     /// The number of its first token.
     pub first: usize,
-    /// The number of the token behind its last one.
+    /// The number of the token after its last one.
     pub end: usize,
 }

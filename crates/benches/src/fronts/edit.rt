@@ -5,7 +5,7 @@ use super::text::Input;
 use crate::stopped::Stopped;
 use crate::timing::time_once;
 use ra_ap_syntax::{Edition, Parse, SourceFile, TextRange, TextSize};
-use tiny_front::Tiny;
+use tiny_front::TINY;
 
 const NOW: Edition = Edition::CURRENT;
 
@@ -27,9 +27,9 @@ fn edit(
     let delete = TextRange::new(TextSize::new(from), TextSize::new(to));
     let nanoseconds = time_once(
         rt,
-        || Ok(old.reparse(rt.alloc(), &Tiny, delete, insert, NOW)?),
+        || Ok(old.reparse(rt.alloc(), &TINY, delete, insert, NOW)?),
     )?;
-    let piece = old.incremental_reparse(rt.alloc(), &Tiny, delete, insert, NOW)?;
+    let piece = old.incremental_reparse(rt.alloc(), &TINY, delete, insert, NOW)?;
     Ok((nanoseconds, piece.is_some()))
 }
 
@@ -66,7 +66,7 @@ fn time_copy(rt: &HostRuntime, input: Input, old: &File, runs: u32) -> Result<()
 /// Times a copy of a tree's text and rows, and edits of it that read one token, one block and all again.
 pub fn time_edits(rt: &HostRuntime, input: Input, runs: u32) -> Result<(), Stopped> {
     let text = input.text(rt.alloc())?;
-    let old = SourceFile::parse(rt.alloc(), text.as_str(), &Tiny, NOW)?;
+    let old = SourceFile::parse(rt.alloc(), text.as_str(), &TINY, NOW)?;
     let function = input.function(text.as_str()).ok_or(Stopped::Edit)?;
     let rest = text.as_str().get(function..).ok_or(Stopped::Edit)?;
     let statement = rest.find(";").ok_or(Stopped::Edit)?;
