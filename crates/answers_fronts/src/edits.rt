@@ -32,7 +32,7 @@ fn read_whole(new: Result<File, ParseError>) -> Result<Option<Edited>, Stopped> 
     Ok(Some((new?, None)))
 }
 
-/// What an edit makes of a file; `None` where the text has no such range.
+/// What an edit makes of a file, or `None` if the text has no such range.
 pub fn edited<F: FrontEnd>(
     alloc: Global,
     front: &F,

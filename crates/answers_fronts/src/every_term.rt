@@ -1,6 +1,7 @@
 //! Every operator term of at most so many forms over the name `a`, written down with spaces and read by `TINY`. Where the
 //! built tree reads back, the tree that is read has to be the built one, also in a body: after `let`, as a statement and as
-//! the tail. Else the text has to be refused, or read as another tree that reads back. What comes out otherwise is printed.
+//! the tail. Otherwise, the text has to be refused, or read as another tree that reads back. What comes out otherwise is
+//! printed.
 
 mod body;
 mod terms;

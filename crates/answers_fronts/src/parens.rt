@@ -2,7 +2,7 @@
 //!
 //! A row is a tree as words, parted by a space: `KIND(` enters a node, `)` leaves it, `KIND:text` is a token, and a short word
 //! stands for some of these. The node that is asked is marked by `>` before its word, the parent by `^`, and the node in whose
-//! place it would be by `@`, where that is another.
+//! place it would be by `@`, if that is another.
 
 mod short;
 

@@ -197,7 +197,7 @@ impl Sheet {
         }
     }
 
-    /// The same of a node that is no view.
+    /// The same of a node that is not a view.
     pub fn plain(&mut self, call: &str, found: Option<SyntaxNode>) -> Result<(), AllocError> {
         match found {
             Some(node) => self.node_line(call, &node),

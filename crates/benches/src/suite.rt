@@ -22,7 +22,7 @@ pub enum Suite {
 }
 
 impl Suite {
-    /// The suite of a name; `None` where there is none of that name.
+    /// The suite of a name, or `None` if there is none of that name.
     pub fn from_name(name: &str) -> Option<Suite> {
         match name {
             "trees" => Some(Suite::Trees),

@@ -6,7 +6,7 @@
 use crate::event::Part;
 use syntax_kind::SyntaxKind;
 
-/// How the machine sees a token that is no trivia: the small numbers of kinds, 0 where a view has none.
+/// How the machine sees a token that is not trivia: the small numbers of kinds, 0 where a view has none.
 ///
 /// Punctuation comes as single signs. What two or three of them make together, where nothing is between, is in the
 /// views `two` and `three` of the first.
@@ -116,7 +116,7 @@ pub enum Op {
     },
     /// Takes the longest operator that begins at the next token.
     TakeOperator,
-    /// Takes the next token if it has this kind, else makes the error of this number.
+    /// Takes the next token if it has this kind, otherwise makes the error of this number.
     Expect {
         kind: u8,
         message: u16,
@@ -197,7 +197,7 @@ pub enum Op {
 /// How tightly an operator binds.
 #[derive(Clone, Copy, Debug, PartialEq, Eq)]
 pub struct Power {
-    /// Its level. At 0 it is no operator, and it only hides the shorter one that it begins with, as `=>` hides `=`.
+    /// Its level. At 0 it is not an operator, and it only hides the shorter one that it begins with, as `=>` hides `=`.
     pub level: u8,
     /// The level of its right operand.
     pub right: u8,

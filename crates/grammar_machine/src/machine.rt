@@ -621,7 +621,8 @@ fn fuel(sights: &[Sight]) -> usize
     sights.len().saturating_add(1).saturating_mul(STEPS_A_TOKEN)
 }
 
-/// What a rule makes of the tokens, which are those of a text that are no trivia: events, from which a tree can be laid out.
+/// What a rule makes of the tokens, which are those of a text that are not trivia: events, from which a tree can be laid
+/// out.
 ///
 /// `rule` is the number of the rule's first operation. The machine stops where the rule returns, and where it comes to a number
 /// that no operation has. A grammar that goes in a circle is stopped after 1,200 operations for each token and as many for

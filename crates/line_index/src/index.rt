@@ -35,11 +35,11 @@ impl<'a> Model for LineIndex<'a> {
 }
 
 impl<'a> LineIndex<'a> {
-    /// Finds the lines of a text of less than 4 GiB, as `TextSize::of` tells, in time linear in its length.
+    /// Finds the lines of a text of less than 4 GiB, in time linear in its length.
     ///
     /// # Errors
     ///
-    /// `AllocError` where memory runs out.
+    /// `AllocError` if memory runs out.
     pub fn new(alloc: Global, text: &'a str) -> Result<LineIndex<'a>, AllocError>
         requires { length text.now < 2 ^ 32 }
         ensures { IfOk result (λ index. index ≡ text.now) }
@@ -55,7 +55,7 @@ impl<'a> LineIndex<'a> {
         Ok(LineIndex { text, starts })
     }
 
-    /// The line and the column of an offset; `None` where it is past the end of the text.
+    /// The line and the column of an offset, or `None` if it is past the end of the text.
     ///
     /// The line is the number of line feeds before the offset. In the text `"a\nbc"` offset 1 is line 0 and column 1, offset 2 is
     /// line 1 and column 0, and offset 4, the text's end, is line 1 and column 2. Takes time logarithmic in the number of lines.
@@ -73,7 +73,7 @@ impl<'a> LineIndex<'a> {
         })
     }
 
-    /// The offset with this line and column; `None` where the text has no such line, or the line no such column.
+    /// The offset with this line and column, or `None` if the text has no such line, or the line no such column.
     ///
     /// A line feed is the last byte of its line, so the offset after it has another line. The text's end is an offset of the last
     /// line. Inverse to `line_col`.
@@ -93,7 +93,7 @@ impl<'a> LineIndex<'a> {
         Some(TextSize::new(offset))
     }
 
-    /// The range of a line with its line feed; `None` where the text has no such line.
+    /// The range of a line with its line feed, or `None` if the text has no such line.
     pub fn line(&self, line: u32) -> Option<TextRange>
         ensures { MatchOption result (line_feeds self.now < line) (IsLine self.now line) }
     {
@@ -106,8 +106,7 @@ impl<'a> LineIndex<'a> {
         Some(TextRange::new(TextSize::new(start), TextSize::new(end)))
     }
 
-    /// The same place with its column in units of an encoding; `None` where `offset` answers `None`, and inside a
-    /// character.
+    /// The same place with its column in units of an encoding, or `None` if `offset` answers `None`, and inside a character.
     ///
     /// Takes time linear in the column.
     pub fn to_wide(&self, encoding: WideEncoding, at: LineCol) -> Option<WideLineCol>
@@ -125,7 +124,7 @@ impl<'a> LineIndex<'a> {
         })
     }
 
-    /// The same place with its column in bytes; `None` where the text has no such line, or no character of the line starts at such a
+    /// The same place with its column in bytes, or `None` if the text has no such line, or no character of the line starts at such a
     /// column. The end of the text counts as the start of a character.
     ///
     /// Inverse to `to_wide`. Takes time linear in the column.

@@ -13,7 +13,7 @@ pub struct LineCol {
     pub col: u32,
 }
 
-/// What a column is counted in, where it is not in bytes.
+/// What a column is counted in, if it is not in bytes.
 #[derive(Clone, Copy, Debug, PartialEq, Eq, Hash)]
 pub enum WideEncoding {
     /// Units of UTF-16: two for a character past U+FFFF, and otherwise one.

@@ -10,11 +10,11 @@ use syntax_kind::SyntaxKind;
 use tree_model::FinishError;
 use tree_rows::{BuilderEvent, Table, build_rows, first_refusal};
 
-/// Builds a tree from events: a node is entered, tokens come, the node is left.
+/// Builds a tree from events: a node starts, its tokens and nodes are added, the node is finished.
 ///
-/// The three calls that append an event take it as it comes, in any order, and refuse only for want of memory; the
-/// builder is then as before. Whether the events build a tree is looked at in `finish`. It has the calls of
-/// these names of `GreenNodeBuilder` in the crate `rowan`. A clause sees the list of events.
+/// The three calls that append an event accept any event in any order. They fail only if memory runs out, and the builder
+/// is then unchanged. `finish` checks that the events build one tree. The calls have the names of those of
+/// `GreenNodeBuilder` in the crate `rowan`. In clauses, a builder is its list of events.
 ///
 /// ```text
 /// let mut builder = TreeBuilder::new(alloc);
@@ -94,7 +94,7 @@ impl TreeBuilder {
         self.text.as_str().len()
     }
 
-    /// The refusal that [`TreeBuilder::finish`] would answer now, other than `Memory`; `None` where the events build a tree.
+    /// The refusal that [`TreeBuilder::finish`] would answer now, other than `Memory`, or `None` if the events build a tree.
     /// It takes no memory, and time linear in the number of events.
     pub fn refusal(&self) -> Option<FinishError>
         ensures { result ≡ first_refusal self.now }
@@ -107,8 +107,8 @@ impl TreeBuilder {
 
     /// The root of the tree that the events build, in time linear in the number of events.
     ///
-    /// Else the first refusal that holds of all the events, in the order of [`FinishError`]; the builder is then gone.
-    /// The text is not copied.
+    /// If the events do not build one tree, returns the first error, in the order of [`FinishError`], and the builder is
+    /// dropped. The text is not copied.
     #[tactic(auto, using(tree_model::proofs::Refusals::first_refusal_is, tree_model::proofs::Refusals::none_accepted))]
     pub fn finish(self) -> Result<SyntaxNode, FinishError>
         ensures ok { IfOk result (λ root. BuildsNode self root.tree × IsRoot root) }

@@ -34,10 +34,10 @@ fn printed_len<D: Display>(value: &D) -> Result<usize, fmt::Error>
     Ok(length.bytes)
 }
 
-/// What `{}` writes of a value, as `to_string` returns it, in a string whose capacity is its length.
+/// Formats a value with `{}`, as `to_string` does, into a string whose capacity is its length.
 ///
-/// It prints the value twice, first to count the bytes: `to_string` doubles its string as it grows, and in between holds the
-/// text and room for twice as much. Where printing fails, that is an `AllocError` too.
+/// It formats the value twice, first to count the bytes, so that memory is allocated once: `to_string` doubles its buffer as
+/// it grows. If formatting fails, the result is an `AllocError` too.
 pub fn exact_string<D: Display>(alloc: Global, value: &D) -> Result<String, AllocError>
     ensures { IfOk result (λ s. IfSome (D.output value.now) (λ text. string_bytes s ≡ text)) }
 {

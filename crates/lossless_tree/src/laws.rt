@@ -18,7 +18,7 @@ pub use tree_rows::laws::{
     siblings_stand_behind, tokens_stand_together,
 };
 
-/// A node's place is one of its tree's and holds a node; the tree's root is a node, and its text is UTF-8 of fewer than
+/// A node's place is in its tree, and has a node; the root of the tree is a node, and its text is UTF-8 of fewer than
 /// 2^32 bytes.
 pub fn node_is_placed(node: &SyntaxNode)
     ensures placed { IsPlaced node.now }

@@ -8,11 +8,11 @@ use crate::cursor::node::SyntaxNode;
 use std::alloc::{AllocError, Global};
 use tree_rows::{Table, TreeStep};
 
-/// The root of the tree that steps build over a text: each token takes the bytes that follow those of the tokens before it.
+/// Builds a tree from steps over a text: each token takes the bytes that follow those of the tokens before it.
 ///
-/// It is the tree that a [`TreeBuilder`](crate::TreeBuilder) makes of the same events, in one pass over the steps as they are:
-/// no list of events is made, the text is copied once, and no refusal is looked for, since the caller knows that the steps build
-/// one tree. It takes time linear in the steps and the text.
+/// It is the tree that a [`TreeBuilder`](crate::TreeBuilder) builds from the same events, made in one pass: no list of events is
+/// made, and the text is copied once. The steps are not checked, since the caller has proved that they build one tree. Takes
+/// time linear in the steps and the text.
 pub fn tree_over<S: TreeStep>(
     alloc: Global,
     text: &str,

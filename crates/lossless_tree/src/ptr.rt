@@ -52,11 +52,12 @@ impl SyntaxNodePtr {
         self.range
     }
 
-    /// The first node in preorder of the tree of `root` that has this kind and range; `None` where there is none, and
-    /// where `root` has a parent.
+    /// The first node in preorder of the tree of `root` that has this kind and range, or `None` if there is none or if `root`
+    /// has a parent.
     ///
-    /// That is the node pointed to if it has a text and no node above it has its kind and range. The time grows with
-    /// the logarithm of the size of the tree and with the number of nodes and tokens that start where the range does.
+    /// It is the node that the pointer was made from if that node is not empty and no ancestor has the same kind and range.
+    /// Takes time logarithmic in the size of the tree, and linear in the number of nodes and tokens that start where the
+    /// range does.
     pub fn to_node(&self, root: &SyntaxNode) -> Option<SyntaxNode>
         ensures { Finds self.now root.now result }
     {

@@ -133,7 +133,7 @@ impl<'t> SiblingsLeft<'t> {
         }
     }
 
-    /// What is left from the first on that is no trivia: no token of white space or a comment. It takes time linear in the
+    /// What is left from the first on that is not trivia: no token of white space or a comment. It takes time linear in the
     /// trivia that it passes.
     pub fn without_trivia(&self) -> SiblingsLeft<'t>
         ensures { result ≡ without_trivia self.now }

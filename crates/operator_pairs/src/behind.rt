@@ -65,7 +65,7 @@ fn one_on(element: &SyntaxElement) -> Step
     }
 }
 
-/// The kind of the first token after a node or token that is no trivia.
+/// The kind of the first token after a node or token that is not trivia.
 pub fn kind_behind(element: &SyntaxElement) -> Option<SyntaxKind>
     ensures { result ≡ kind_behind (cursor_of element.now) }
 {

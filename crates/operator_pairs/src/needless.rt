@@ -61,7 +61,7 @@ fn needless_below(alloc: Global, root: &SyntaxNode) -> Result<Vec<SyntaxNode>, A
     Ok(found)
 }
 
-/// Whether the node is a reading of its own tokens; `None` where it shows no term.
+/// Whether the node is a reading of its own tokens, or `None` if it shows no term.
 ///
 /// It is one exactly where no operand below it needs parentheses in its own parent, unless it ends in a cast's name and `<` or `<<`
 /// follows.

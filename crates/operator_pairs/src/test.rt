@@ -28,7 +28,7 @@ fn is_asked(own: &SyntaxNode, parent: &SyntaxNode, place: &SyntaxNode) -> bool
 /// whole tree. Of a pair's inside in place of the pair, where the tree reads back and neither `<` nor `<<` follows it, this is:
 /// exactly where the tokens without the pair read as the term without it; and then no other term reads them.
 ///
-/// It is false where `parent` is not the place's own parent, where it is a list of arguments, and of what has no form of an operator
+/// It is false where `parent` is not the place's own parent, if it is a list of arguments, and of what has no form of an operator
 /// tree.
 pub fn needs_parens_in_place_of(own: &SyntaxNode, parent: &SyntaxNode, place: &SyntaxNode) -> bool
     ensures everywhere { result ≡ asks_below own.now parent.now place.now (begins_with_angle (leaves_behind place.now.tree place.now.place)) }

@@ -120,7 +120,7 @@ fn needs_parens_below(
 /// Whether an expression of an operator tree needs parentheses in place of the node or token at `place`, whose parent is `parent`. The flag
 /// says whether `<` or `<<` follows after the parent's child there.
 ///
-/// It is false where `parent` is not the place's own parent, where it is a list of arguments, and of what has no form of an operator
+/// It is false where `parent` is not the place's own parent, if it is a list of arguments, and of what has no form of an operator
 /// tree.
 pub fn needs_parens_before(
     own: &SyntaxNode,

@@ -39,7 +39,7 @@ pub fn is_angle(kind: SyntaxKind) -> bool
     matches!(kind, SyntaxKind::L_ANGLE | SyntaxKind::SHL)
 }
 
-/// The kind of a token that is no trivia.
+/// The kind of a token that is not trivia.
 pub fn leaf_kind(element: &SyntaxElement) -> Option<SyntaxKind>
     ensures { result ≡ leaf_kind element.now }
 {

@@ -44,8 +44,8 @@ fn is_cast_word(named: bool, kind: SyntaxKind) -> bool
     named && is_as(kind)
 }
 
-/// Whether the last tokens of a node that are no trivia are `as` and a name. It takes time in the trivia after the two and between
-/// them, and in the nodes that begin there or at the node's first token.
+/// Whether the last tokens of a node that are not trivia are `as` and a name. Takes time linear in the trivia after the two and
+/// between them, and in the nodes that begin there or at the node's first token.
 pub fn ends_in_cast(node: &SyntaxNode) -> bool
     ensures { result ≡ ends_in_cast (leaves_of (focus node.now)) }
 {

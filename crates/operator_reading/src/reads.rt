@@ -79,7 +79,7 @@ fn is_reading(node: &SyntaxNode) -> bool
     all_fit(node) && edge_of(node).clear
 }
 
-/// Whether the node is a reading of its own tokens; `None` where it shows no term.
+/// Whether the node is a reading of its own tokens, or `None` if it shows no term.
 ///
 /// It takes no memory, and time linear in the subtree.
 pub fn reads_back(node: &SyntaxNode) -> Option<bool>

@@ -164,7 +164,7 @@ fn first_is(here: &SiblingsLeft<'_>, wanted: What) -> bool
     }
 }
 
-/// What follows the first that is no trivia, if that is what is wanted.
+/// What follows the first that is not trivia, if that is what is wanted.
 pub fn take<'t>(trees: &SiblingsLeft<'t>, wanted: What) -> Option<SiblingsLeft<'t>>
     ensures { option_map (λ s. assumed s.trees) result ≡ take wanted (assumed trees.now.trees) }
 {

@@ -200,8 +200,8 @@ pub fn worked_tokens()
     ensures others { EachRow HasTokens other_tokens }
 {}
 
-/// For each place of an operand, with one operator of each level, and samples of all forms: which of them the test by binding powers
-/// lets be there bare, and for which it asks for a pair. And what the test by precedences says.
+/// For each place of an operand, with one operator of each level, and samples of all forms: which of them the test by binding
+/// powers accepts without parentheses, and for which it asks for a pair. Also the result of the test by precedences.
 pub fn worked_places()
     ensures strong { EachRow IsRightAt strong_places }
     ensures sides { EachRow IsRightAt sides }

@@ -21,10 +21,10 @@ pub use ras_front_end::{
 };
 pub use ras_parsing::{FileView, OkError, Parse, SyntaxTreeBuilder, utils};
 
-/// Matches a node against views: the first that casts, and whose guard holds where it has one.
+/// Matches a node against typed views. The first arm is taken whose view casts and whose guard, if any, is true.
 ///
-/// `match_ast! { match node { ast::CallExpr(it) => a, ast::Item(it) if guard => b, _ => c } }` leaves the node where it is,
-/// and evaluates what it matches once.
+/// `match_ast! { match node { ast::CallExpr(it) => a, ast::Item(it) if guard => b, _ => c } }` borrows the node, and
+/// evaluates the expression `node` once.
 #[macro_export]
 macro_rules! match_ast {
     (match $node:ident { $($arms:tt)* }) => { $crate::match_ast!(match ($node) { $($arms)* }) };

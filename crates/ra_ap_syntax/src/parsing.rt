@@ -14,11 +14,11 @@ use std::alloc::Global;
 impl FileView for SourceFile {}
 
 impl SourceFile {
-    /// The parse of a file's text: the tree that the front end's steps for it build, and the steps' errors and then the lexer's.
-    /// Whatever the text is, there is a tree of all of it, and its root is a `SOURCE_FILE`.
+    /// Parses the text of a file with a front end. The result has a tree of the whole text, whose root is a `SOURCE_FILE`, also
+    /// if the text has syntax errors. Its errors are those of the parser, followed by those of the lexer.
     ///
-    /// `TooLong` exactly where the text is longer than 4,294,967,295 bytes; that is looked at first. It takes the front end's
-    /// time, and then time linear in the text.
+    /// Returns `TooLong` if the text is longer than 4,294,967,295 bytes; this is checked first. Takes the time of the front
+    /// end, and time linear in the text.
     pub fn parse<F: FrontEnd>(
         alloc: Global,
         text: &str,
@@ -36,11 +36,12 @@ impl SourceFile {
 }
 
 impl Expr {
-    /// The parse of an expression's text: the tree that the front end's steps for it build, and the steps' errors and then the
-    /// lexer's. Whatever the text is, there is a tree of all of it; its root is an expression, or `ERROR`, of which `tree` is `None`.
+    /// Parses the text of an expression with a front end. The result has a tree of the whole text, also if the text has syntax
+    /// errors; its root is an expression, or `ERROR` (and then `tree` returns `None`). Its errors are those of the parser, followed
+    /// by those of the lexer.
     ///
-    /// `TooLong` exactly where the text is longer than 4,294,967,295 bytes; that is looked at first. It takes the front end's
-    /// time, and then time linear in the text.
+    /// Returns `TooLong` if the text is longer than 4,294,967,295 bytes; this is checked first. Takes the time of the front
+    /// end, and time linear in the text.
     pub fn parse<F: FrontEnd>(
         alloc: Global,
         text: &str,

@@ -87,8 +87,8 @@ pub fn ancestors_at_offset(node: &SyntaxNode, offset: TextSize) -> AncestorsAtOf
     AncestorsAtOffset { left, right }
 }
 
-/// The first that can be viewed so of the nodes above the tokens at an offset, the shortest first; `None` where there is
-/// none. It takes the time of `ancestors_at_offset` and of the nodes that it passes.
+/// The first that can be cast to this view of the nodes above the tokens at an offset, the shortest first, or `None` if
+/// there is none. It takes the time of `ancestors_at_offset` and of the nodes that it passes.
 pub fn find_node_at_offset<N: AstNode>(syntax: &SyntaxNode, offset: TextSize) -> Option<N>
     ensures { option_map N.node result ≡ find (has_kind_in N.casts) (ancestors_at syntax.now offset) }
 {
@@ -96,8 +96,8 @@ pub fn find_node_at_offset<N: AstNode>(syntax: &SyntaxNode, offset: TextSize) ->
     N::cast(nodes.find(|node| N::can_cast(node.kind()))?)
 }
 
-/// The first that can be viewed so of what covers a range and the nodes above it; `None` where there is none. It takes
-/// the time of `SyntaxNode::covering_element`.
+/// The first that can be cast to this view of what covers a range and the nodes above it, or `None` if there is none. It
+/// takes the time of `SyntaxNode::covering_element`.
 pub fn find_node_at_range<N: AstNode>(syntax: &SyntaxNode, range: TextRange) -> Option<N>
     ensures { option_map N.node result ≡ find (has_kind_in N.casts) (ancestors_of_element (element_of (covering_of syntax.now range))) }
 {
@@ -105,8 +105,8 @@ pub fn find_node_at_range<N: AstNode>(syntax: &SyntaxNode, range: TextRange) -> 
     N::cast(nodes.find(|node| N::can_cast(node.kind()))?)
 }
 
-/// The first token from this one on, itself included, in a direction, that is no trivia: no white space or comment;
-/// `None` where there is none. It takes time linear in the nodes and tokens that it passes.
+/// The first token from this one on, itself included, in a direction, that is not trivia (white space or a comment), or
+/// `None` if there is none. It takes time linear in the nodes and tokens that it passes.
 pub fn skip_trivia_token(token: SyntaxToken, direction: Direction) -> Option<SyntaxToken>
     ensures { result ≡ find has_no_trivia_kind (tokens_from direction token) }
 {
@@ -117,8 +117,8 @@ pub fn skip_trivia_token(token: SyntaxToken, direction: Direction) -> Option<Syn
     }
 }
 
-/// The first token from this one on, itself included, in a direction, that is no `WHITESPACE`; `None` where there is none.
-/// It takes time linear in the nodes and tokens that it passes.
+/// The first token from this one on, itself included, in a direction, that is not `WHITESPACE`, or `None` if there is
+/// none. It takes time linear in the nodes and tokens that it passes.
 pub fn skip_whitespace_token(token: SyntaxToken, direction: Direction) -> Option<SyntaxToken>
     ensures { result ≡ find is_no_whitespace (tokens_from direction token) }
 {
@@ -126,8 +126,8 @@ pub fn skip_whitespace_token(token: SyntaxToken, direction: Direction) -> Option
     tokens.find(|token| token.kind() != SyntaxKind::WHITESPACE)
 }
 
-/// The nearest sibling in a direction, node or token, that is no trivia: no token of white space or a comment; `None`
-/// where there is none. It passes over the trivia between, forwards in constant time each, backwards in the depth there.
+/// The nearest sibling in a direction, node or token, that is not trivia (white space or a comment), or `None` if there
+/// is none. It passes over the trivia between, forwards in constant time each, backwards in the depth there.
 pub fn non_trivia_sibling(element: SyntaxElement, direction: Direction) -> Option<SyntaxElement>
     ensures { result ≡ option_map element_of (find is_no_trivia (siblings_beyond direction (cursor_of element))) }
 {
@@ -137,7 +137,7 @@ pub fn non_trivia_sibling(element: SyntaxElement, direction: Direction) -> Optio
         .find(|sibling| !sibling.is_trivia())
 }
 
-/// The nearest sibling node in a direction that can be viewed as `me` is; `None` where there is none. It passes over the
+/// The nearest sibling node in a direction that can be viewed as `me` is, or `None` if there is none. It passes over the
 /// siblings between, forwards in constant time each, backwards in the size of their subtrees.
 pub fn neighbor<T: AstNode>(me: &T, direction: Direction) -> Option<T>
     ensures { option_map T.node result ≡ find (has_kind_in T.casts) (filter at_node (siblings_beyond direction (T.node me.now))) }
@@ -149,7 +149,7 @@ pub fn neighbor<T: AstNode>(me: &T, direction: Direction) -> Option<T>
     T::cast(siblings.find(|node| T::can_cast(node.kind()))?)
 }
 
-/// The deepest node that is an ancestor of both, where a node counts as its own; `None` where their trees are unequal.
+/// The deepest node that is an ancestor of both, where a node counts as its own, or `None` if their trees are unequal.
 ///
 /// Of nodes of one tree it takes time linear in their depths; of two it also compares the trees, at most twice.
 pub fn least_common_ancestor(u: &SyntaxNode, v: &SyntaxNode) -> Option<SyntaxNode>
@@ -178,8 +178,8 @@ fn ancestors_from_depth(node: &SyntaxNode, other: &SyntaxNode) -> Ancestors
     ancestors
 }
 
-/// The deepest node that is an ancestor of both, where a node counts as its own and a token's nearest is its parent;
-/// `None` where their trees are unequal.
+/// The deepest node that is an ancestor of both, where a node counts as its own and a token's nearest is its parent, or
+/// `None` if their trees are unequal.
 ///
 /// It takes the time of `least_common_ancestor`.
 pub fn least_common_ancestor_element(u: SyntaxElement, v: SyntaxElement) -> Option<SyntaxNode>
@@ -196,8 +196,8 @@ pub fn has_errors(node: &SyntaxNode) -> bool
         .any(|child| child.kind() == SyntaxKind::ERROR)
 }
 
-/// The nearest token before this node or token that is no trivia; `None` where there is none, and of a node without tokens.
-/// It takes time linear in the nodes and tokens that it passes.
+/// The nearest token before this node or token that is not trivia, or `None` if there is none or the node has no tokens. It
+/// takes time linear in the nodes and tokens that it passes.
 pub fn previous_non_trivia_token(element: SyntaxElement) -> Option<SyntaxToken>
     ensures { result ≡ option_and_then (λ first. find has_no_trivia_kind (tokens_beyond Prev first)) (first_token_of element) }
 {
@@ -205,8 +205,8 @@ pub fn previous_non_trivia_token(element: SyntaxElement) -> Option<SyntaxToken>
     non_trivia_beyond(&first, Direction::Prev)
 }
 
-/// The nearest token after this node or token that is no trivia; `None` where there is none, and of a node without tokens.
-/// It takes time linear in the nodes and tokens that it passes.
+/// The nearest token after this node or token that is not trivia, or `None` if there is none or the node has no tokens. It
+/// takes time linear in the nodes and tokens that it passes.
 pub fn next_non_trivia_token(element: SyntaxElement) -> Option<SyntaxToken>
     ensures { result ≡ option_and_then (λ last. find has_no_trivia_kind (tokens_beyond Next last)) (last_token_of element) }
 {

@@ -36,8 +36,8 @@ impl<N: AstNode> AstPtr<N> {
         AstPtr::of(SyntaxNodePtr::new(node.syntax()))
     }
 
-    /// The view of the node that `SyntaxNodePtr::to_node` finds; `None` where that finds none, and where a node of this
-    /// kind can't be viewed so.
+    /// The view of the node that `SyntaxNodePtr::to_node` finds, or `None` if that finds none, or if a node of this kind
+    /// can't be cast to this view.
     pub fn to_node(&self, root: &SyntaxNode) -> Option<N>
         ensures found { IsTrue (N.casts self.now.kind) → Finds self.now root.now (option_map N.node result) }
         ensures other { IsFalse (N.casts self.now.kind) → result ≡ None }
@@ -66,7 +66,7 @@ impl<N: AstNode> AstPtr<N> {
         self.raw.kind()
     }
 
-    /// The same node viewed as a `U`; `None` where a node of this kind can't be viewed so.
+    /// The same node viewed as a `U`, or `None` if a node of this kind can't be cast to this view.
     pub fn cast<U: AstNode>(self) -> Option<AstPtr<U>>
         ensures { result ≡ (if U.casts self.kind then Some self else None) }
     {
@@ -82,7 +82,7 @@ impl<N: AstNode> AstPtr<N> {
         AstPtr::of(self.raw)
     }
 
-    /// The same node viewed as an `N`; `None` where a node of this kind can't be viewed so.
+    /// The same node viewed as an `N`, or `None` if a node of this kind can't be cast to this view.
     pub fn try_from_raw(raw: SyntaxNodePtr) -> Option<AstPtr<N>>
         ensures { result ≡ (if N.casts raw.kind then Some raw else None) }
     {

@@ -6,7 +6,7 @@ ghost use Rattle.ras_expr_ext.specs.ExprParts.{unless_lone_block, second_as, thi
 use lossless_tree::{SyntaxKind, SyntaxNode};
 use ras_node::{AstNode, support};
 
-/// The first child that can be viewed as an `N`; where it is a block, only if there is another one: a lone block is the body.
+/// The first child that can be viewed as an `N`; if it is a block, only if there is another one: a lone block is the body.
 pub fn unless_lone_block<N: AstNode + Drop>(parent: &SyntaxNode) -> Option<N>
     ensures { option_map N.node result ≡ unless_lone_block N.casts parent.now }
 {
@@ -32,7 +32,7 @@ pub fn third_as<N: AstNode + Drop, M: AstNode>(parent: &SyntaxNode) -> Option<M>
 }
 
 /// The body of a loop: of a `loop` the first child that can be viewed as an `N`. The first block of a `for` or a `while` may be
-/// what it goes over or its condition, so their body is the second, or the first where there is one alone, if there is any.
+/// what it goes over or its condition, so their body is the second, or the first if there is only one, if there is any.
 pub fn loop_body<N: AstNode + Drop>(node: &SyntaxNode) -> Option<N>
     ensures { option_map N.node result ≡ loop_body N.casts node.now }
 {

@@ -27,7 +27,7 @@ pub fn range_operator(parent: &SyntaxNode) -> Option<SyntaxToken>
     ras_node::first_token::<RangeOperators>(parent.children_with_tokens())
 }
 
-/// The first end before the operator; `None` where there is no operator.
+/// The first end before the operator, or `None` if there is no operator.
 pub fn range_start<N: AstNode>(parent: &SyntaxNode) -> Option<N>
     ensures { option_map N.node result ≡ range_start_of N.casts parent.now }
 {
@@ -42,7 +42,7 @@ pub fn start_or_first<N: AstNode>(parent: &SyntaxNode) -> Option<N>
     support::first_before::<N, RangeOperators>(parent.children_with_tokens())
 }
 
-/// The first end after the operator; `None` where there is no operator.
+/// The first end after the operator, or `None` if there is no operator.
 pub fn range_end<N: AstNode>(parent: &SyntaxNode) -> Option<N>
     ensures { option_map N.node result ≡ range_end_of N.casts parent.now }
 {

@@ -8,10 +8,10 @@ use crate::output::Output;
 use std::alloc::{AllocError, Global};
 use syntax_kind::SyntaxKind;
 
-/// A lexer and a parser. Each answer but out of memory is a function of the arguments.
+/// A lexer and a parser. Each result, except out of memory, is a function of the arguments.
 ///
-/// Who implements it proves the law `kept`: of a text of at most 4,294,967,295 bytes a reading's steps build one tree over the
-/// whole text, with a root of the entry's kind, and its errors lie in the text; and the like of a piece.
+/// An implementation proves the law `kept`: for a text of at most 4,294,967,295 bytes the steps build one tree over the whole
+/// text, whose root is of the entry's kind, and the errors are in the text; the same holds for a piece that is parsed again.
 pub trait FrontEnd {
     // The answers, as functions of the arguments.
     ghost answers: { Self → Front };
@@ -35,7 +35,7 @@ pub trait FrontEnd {
     ) -> Result<Output, AllocError>
         ensures { IfOk result (λ output. reading_of output ≡ (answers self.now).parsed entry edition text.now) };
 
-    /// The kind of the one token that the text is, and the lexer's error; `None` where it is not one token.
+    /// The kind of the one token that the text is, and the lexer's error, or `None` if it is not one token.
     fn single_token(
         &self,
         alloc: Global,
@@ -44,7 +44,7 @@ pub trait FrontEnd {
     ) -> Result<Option<(SyntaxKind, Option<String>)>, AllocError>
         ensures { IfOk result (λ token. option_map single_of token ≡ (answers self.now).single edition text.now) };
 
-    /// How a node of this kind may be read by itself; `None` where it may not. `first_child` is the kind of its first child, node
+    /// How a node of this kind may be read by itself, or `None` if it may not. `first_child` is the kind of its first child, node
     /// or token, and `parent` that of its parent.
     fn reparser(
         &self,
@@ -65,7 +65,7 @@ pub trait FrontEnd {
     ) -> Result<Output, AllocError>
         ensures { IfOk result (λ output. reading_of output ≡ (answers self.now).piece reparser edition text.now) };
 
-    /// The kind of the keyword that the text is; `None` where it is none in the edition.
+    /// The kind of the keyword that the text is, or `None` if it is not one in the edition.
     fn keyword(&self, text: &str, edition: Edition) -> Option<SyntaxKind>
         ensures { result ≡ (answers self.now).word edition text.now };
 

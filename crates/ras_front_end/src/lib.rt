@@ -1,4 +1,4 @@
-//! What a lexer and a parser have to answer so that trees come of it, and the errors that they tell.
+//! The interface of a lexer and a parser from which trees are built, and the errors that they report.
 #![tactic(auto)]
 
 mod edition;

@@ -5,7 +5,7 @@ use std::alloc::AllocError;
 /// Why parsing failed. Syntax errors are not a failure; they are kept in the `Parse`.
 #[derive(Clone, Copy, Debug, PartialEq, Eq, Hash, thiserror::Error)]
 pub enum ParseError {
-    /// The text is longer than 4,294,967,295 bytes. This is looked at first.
+    /// The text is longer than 4,294,967,295 bytes. This is checked first.
     #[error("the text is longer than 4294967295 bytes")]
     TooLong,
     /// Out of memory.

@@ -4,7 +4,7 @@ ghost use Rattle.ras_front_end.specs.TreeEvent.{tree_event};
 use crate::output::Step;
 use lossless_tree::{BuilderEvent, TreeStep};
 
-/// A tree is built of the steps as they are; an error has nothing to do with it.
+/// A tree is built from the steps directly; steps that report an error are skipped.
 impl TreeStep for Step {
     ghost step_event = { tree_event };
 

@@ -13,24 +13,24 @@ use std::alloc::{AllocError, Global};
 ///
 /// A view holds the node and nothing else, so a cast takes neither time nor memory.
 pub trait AstNode: Sized {
-    /// The kinds of the nodes that can be viewed so.
+    /// The kinds of the nodes that can be cast to this view.
     ghost casts: { SyntaxKind → Bool };
 
     /// The node of the view.
     ghost node: { Self → Cursor };
 
-    /// The one kind that the view is of; `None` where it is of several.
+    /// The one kind that the view is of, or `None` if it is of several.
     fn kind() -> Option<SyntaxKind>
         ensures { IfSome result (λ only. (k : SyntaxKind) → IsTrue (casts k) ↔ (k ≡ only)) }
     {
         None
     }
 
-    /// Whether a node of this kind can be viewed so.
+    /// Whether a node of this kind can be cast to this view.
     fn can_cast(kind: SyntaxKind) -> bool
         ensures { result ≡ casts kind };
 
-    /// The view of a node; `None` where it is of another kind.
+    /// The view of a node, or `None` if it is of another kind.
     fn cast(syntax: SyntaxNode) -> Option<Self>
         ensures exact { is_some result ≡ casts (kind_at syntax) }
         ensures same { IfSome result (λ it. node it ≡ syntax) };
@@ -55,7 +55,7 @@ pub trait AstNode: Sized {
     ghost castable: { (it : Self) → casts (kind_at (node it)) ≡ true };
 }
 
-/// The view of a node that stays where it is; `None` where it is of another kind. It takes no memory.
+/// The view of a node that stays where it is, or `None` if it is of another kind. It takes no memory.
 pub fn cast_ref<N: AstNode>(syntax: &SyntaxNode) -> Option<N>
     ensures exact { is_some result ≡ N.casts (kind_at syntax.now) }
     ensures same { IfSome result (λ it. N.node it ≡ syntax.now) }

@@ -87,7 +87,7 @@ pub fn first_token<S: KindSet>(left: SyntaxElementChildren) -> Option<SyntaxToke
     None
 }
 
-/// The first node or token whose kind is none of the set.
+/// The first node or token whose kind is not in the set.
 pub fn first_other<S: KindSet>(left: SyntaxElementChildren) -> Option<SyntaxElement>
     ensures { result ≡ option_map element_of (find (has_other_kind S.kinds) left) }
 {

@@ -124,7 +124,7 @@ pub fn third_child<N: AstNode + Drop>(parent: &SyntaxNode) -> Option<N>
     all.next()
 }
 
-/// The same node viewed as an `M`; `None` where it can't be.
+/// The same node viewed as an `M`, or `None` if it can't be cast to this view.
 pub fn recast<N: AstNode + Drop, M: AstNode>(it: Option<N>) -> Option<M>
     ensures { option_map M.node result ≡ view_in M.casts (option_map N.node it) }
 {
@@ -132,28 +132,28 @@ pub fn recast<N: AstNode + Drop, M: AstNode>(it: Option<N>) -> Option<M>
     M::cast(share(it.syntax()))
 }
 
-/// The view of a node; `None` where there is none, and where it can't be viewed so.
+/// The view of a node, or `None` if there is none or if it can't be cast to this view.
 pub fn view<N: AstNode>(node: Option<SyntaxNode>) -> Option<N>
     ensures { option_map N.node result ≡ view_in N.casts node }
 {
     N::cast(node?)
 }
 
-/// The parent of a node, viewed as an `N`; `None` where there is none, and where it can't be viewed so.
+/// The parent of a node, viewed as an `N`, or `None` if there is none or if it can't be cast to this view.
 pub fn parent_as<N: AstNode>(node: &SyntaxNode) -> Option<N>
     ensures { option_map N.node result ≡ view_in N.casts (parent_of node.now) }
 {
     view(node.parent())
 }
 
-/// The parent's parent, viewed as an `N`; `None` where there is none, and where it can't be viewed so.
+/// The parent's parent, viewed as an `N`, or `None` if there is none or if it can't be cast to this view.
 pub fn grandparent_as<N: AstNode>(node: &SyntaxNode) -> Option<N>
     ensures { option_map N.node result ≡ view_in N.casts (grandparent_of node.now) }
 {
     view(node.parent()?.parent())
 }
 
-/// The nearest node above a node that can be viewed as an `N`; `None` where there is none.
+/// The nearest node above a node that can be viewed as an `N`, or `None` if there is none.
 pub fn ancestor_as<N: AstNode>(node: &SyntaxNode) -> Option<N>
     ensures { option_map N.node result ≡ find (has_kind_in N.casts) (drop 1 (ancestors_of node.now)) }
 {

@@ -9,17 +9,17 @@ use lossless_tree::{SyntaxKind, SyntaxToken};
 
 /// A view of a token as one kind of token, or as one of several.
 pub trait AstToken: Sized {
-    /// The kinds of the tokens that can be viewed so.
+    /// The kinds of the tokens that can be cast to this view.
     ghost casts: { SyntaxKind → Bool };
 
     /// The token of the view.
     ghost token: { Self → Cursor };
 
-    /// Whether a token of this kind can be viewed so.
+    /// Whether a token of this kind can be cast to this view.
     fn can_cast(kind: SyntaxKind) -> bool
         ensures { result ≡ casts kind };
 
-    /// The view of a token; `None` where it is of another kind.
+    /// The view of a token, or `None` if it is of another kind.
     fn cast(syntax: SyntaxToken) -> Option<Self>
         ensures exact { is_some result ≡ casts (kind_at syntax) }
         ensures same { IfSome result (λ it. token it ≡ syntax) };

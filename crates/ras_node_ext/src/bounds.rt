@@ -73,7 +73,7 @@ impl<B: AstNode, L: AstNode> Model for LifetimeBounds<B, L> {
 }
 
 impl<B: AstNode, L: AstNode> LifetimeBounds<B, L> {
-    /// Those of a list of bounds; none where there is no list.
+    /// Those of a list of bounds; none if there is no list.
     pub fn new<T: AstNode + Drop>(list: Option<T>) -> LifetimeBounds<B, L>
         ensures { result ≡ lifetime_bounds B.casts L.casts (option_map T.node list) }
     {

@@ -8,7 +8,7 @@ ghost use Rattle.ras_node_ext.specs.Path.{IsFirstQualifier, IsQualifierEnd, top_
 use lossless_tree::SyntaxNode;
 use ras_node::{AstNode, support};
 
-/// The end of the chain of qualifiers, first children that are paths; the path itself where it has none.
+/// The end of the chain of qualifiers, first children that are paths; the path itself if it has none.
 pub fn first_qualifier_or_self<P: AstNode + Drop>(path: P) -> P
     ensures { IsFirstQualifier P.casts (P.node path) (P.node result) }
 {
@@ -19,7 +19,7 @@ pub fn first_qualifier_or_self<P: AstNode + Drop>(path: P) -> P
     path
 }
 
-/// The end of the chain of qualifiers; `None` where the path has none.
+/// The end of the chain of qualifiers, or `None` if the path has none.
 pub fn first_qualifier<P: AstNode + Drop>(path: &P) -> Option<P>
     ensures { IsQualifierEnd P.casts (P.node path.now) (option_map P.node result) }
 {
@@ -55,8 +55,8 @@ fn tree_of<L: AstNode, T: AstNode>(list: &SyntaxNode, tree: Option<SyntaxNode>) 
     support::view(tree)
 }
 
-/// The outermost of the use trees around a use tree, going up by lists while there are such; the tree itself where it is in
-/// no list of a tree.
+/// The outermost of the use trees around a use tree, going up by lists while there are such; the tree itself if it is in no
+/// list of a tree.
 pub fn top_use_tree<L: AstNode, T: AstNode + Drop>(tree: T) -> T
     ensures { T.node result ≡ top_tree_from L.casts T.casts (T.node tree) (drop 1 (ancestors_of (T.node tree))) }
 {

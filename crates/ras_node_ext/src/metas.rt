@@ -66,8 +66,8 @@ fn is_unsafe(node: &SyntaxNode) -> bool
     node.kind() == SyntaxKind::UNSAFE_META
 }
 
-/// The meta in the `unsafe`s around it: itself where it is no `unsafe(..)`; `None` where one of these has no meta in it. It
-/// takes time in their number.
+/// The meta in the `unsafe`s around it: itself if it is not `unsafe(..)`, or `None` if one of these has no meta in it.
+/// Takes time linear in their number.
 pub fn innermost_meta<M: AstNode + Drop>(meta: M) -> Option<M>
     ensures { IsInnermost M.casts (M.node meta) (option_map M.node result) }
 {
@@ -96,8 +96,8 @@ fn own_path<P: AstNode>(meta: &SyntaxNode) -> Option<P>
     support::child(meta)
 }
 
-/// The path of a meta, of an `unsafe(..)` that of the meta in it; `None` of a `cfg` and a `cfg_attr`. It takes time in the
-/// number of `unsafe`s.
+/// The path of a meta, of an `unsafe(..)` that of the meta in it; `None` of a `cfg` and a `cfg_attr`. Takes time linear in
+/// the number of `unsafe`s.
 pub fn meta_path<M: AstNode + Drop, P: AstNode>(meta: M) -> Option<P>
     ensures { IsMetaPath M.casts P.casts (M.node meta) (option_map P.node result) }
 {
@@ -107,7 +107,7 @@ pub fn meta_path<M: AstNode + Drop, P: AstNode>(meta: M) -> Option<P>
     }
 }
 
-/// A text of its own with these bytes, where there is a text.
+/// A text of its own with these bytes, if there is a text.
 pub fn owned(alloc: Global, text: Option<&str>) -> Result<Option<String>, AllocError>
     ensures { IfOk result (λ copy. option_map (λ t. string_bytes t) copy ≡ option_map (λ s. s.now) text.entry) }
 {

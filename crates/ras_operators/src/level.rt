@@ -49,15 +49,15 @@ pub enum Fixity {
     Left,
     /// `a = b = c` is `a = (b = c)`.
     Right,
-    /// Neither groups: `a < b < c` is no expression.
+    /// Neither groups: `a < b < c` is not an expression.
     None,
 }
 
 impl ExprPrecedence {
     /// Whether an expression of this precedence needs parentheses in one of the other, by precedences alone: sides don't count,
     /// and so it mostly asks for more than are needed; but it knows no context, and asks for none where a field is called, where a
-    /// cast's name precedes `<` or `<<`, or where a record is in a condition. In what is unambiguous none are needed; in a
-    /// postfix where it binds less; in a prefix likewise, though a jump needs none; else unless it binds more.
+    /// cast's name precedes `<` or `<<`, or where a record is in a condition. In what is unambiguous none are needed; in a postfix
+    /// where it binds less; in a prefix likewise, though a jump needs none; otherwise unless it binds more.
     pub fn needs_parentheses_in(self, other: ExprPrecedence) -> bool
         ensures { result ≡ needs_parentheses_in (as_precedence self) (as_precedence other) }
     {

@@ -73,7 +73,7 @@ pub enum Ordering {
 pub enum CmpOp {
     /// `==`, negated `!=`.
     Eq { negated: bool },
-    /// `<`, `>`, and `<=`, `>=` where it is not strict.
+    /// `<`, `>`, and `<=`, `>=` if it is not strict.
     Ord { ordering: Ordering, strict: bool },
 }
 
@@ -87,7 +87,7 @@ pub enum BinaryOp {
     Assignment { op: Option<ArithOp> },
 }
 
-/// The prefix operator that a kind of token is; `None` for what is none.
+/// The prefix operator that a kind of token is, or `None` if it is not one.
 pub fn unary_op(kind: SyntaxKind) -> Option<UnaryOp>
     ensures { result ≡ unary_op kind }
 {
@@ -99,7 +99,7 @@ pub fn unary_op(kind: SyntaxKind) -> Option<UnaryOp>
     }
 }
 
-/// The range operator that a kind of token is; `None` for what is none.
+/// The range operator that a kind of token is, or `None` if it is not one.
 pub fn range_op(kind: SyntaxKind) -> Option<RangeOp>
     ensures { result ≡ range_op kind }
 {
@@ -110,7 +110,7 @@ pub fn range_op(kind: SyntaxKind) -> Option<RangeOp>
     }
 }
 
-/// The binary operator that a kind of token is; `None` for what is none.
+/// The binary operator that a kind of token is, or `None` if it is not one.
 pub fn binary_op(kind: SyntaxKind) -> Option<BinaryOp>
     ensures { result ≡ binary_op kind }
 {

@@ -85,9 +85,9 @@ impl SyntaxTreeBuilder {
         Ok(())
     }
 
-    /// The parse. Else the first refusal that holds, in the order of [`FinishError`]: those of the events, then
-    /// `ErrorPastText` where an error's position is past the text (the text's end is not), then `Memory`. The builder is
-    /// gone then. No refusal but `Memory` takes memory, so each of the others is found also where there is none left.
+    /// The parse, or the first error in the order of [`FinishError`]: those of the events, then `ErrorPastText` if the
+    /// position of an error is after the end of the text, then `Memory`. The builder is dropped in each case. All errors
+    /// except `Memory` are found without allocating, so they are also returned if no memory is left.
     #[tactic(auto, using(crate::proofs::DraftRefusals::draft_refusal_is, crate::proofs::DraftRefusals::draft_accepted))]
     pub fn finish(self) -> Result<Parse<SyntaxNode>, FinishError>
         ensures ok { IfOk result (λ p. BuildsNode self.events p.tree × (p.errors ≡ self.faults)) }

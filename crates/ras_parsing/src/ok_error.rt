@@ -3,12 +3,12 @@
 use crate::parse::Parse;
 use ras_front_end::SyntaxError;
 
-/// Why [`Parse::ok`] gives no tree. Each has the parse that was asked.
+/// Why [`Parse::ok`] returns no tree. Each variant contains the parse.
 #[derive(Drop)]
 pub enum OkError<T> {
-    /// There are errors: all of them, as [`Parse::errors`] answers them.
+    /// There are errors: all of them, as [`Parse::errors`] returns them.
     Errors(Vec<SyntaxError>, Parse<T>),
-    /// There are none, and the root is of another kind.
+    /// There are no errors, but the root is of another kind.
     OtherRoot(Parse<T>),
     /// Out of memory.
     Memory(Parse<T>),

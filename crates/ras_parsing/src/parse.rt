@@ -103,11 +103,11 @@ impl<T> Parse<T> {
         self.errors.as_ref().as_slice()
     }
 
-    /// All errors: the stored ones in their order, and after them the violations of the tree, in preorder of their nodes. Of a
-    /// text that was parsed whole the stored ones are those of the parser and then those of the lexer; after an edit those that
-    /// stay come first.
+    /// All errors: the stored ones in their order, followed by the violations of the tree, in preorder of their nodes. After a
+    /// full parse, the stored errors are those of the parser, followed by those of the lexer; after an incremental re-parse,
+    /// the old errors that are kept come first.
     ///
-    /// It copies the stored errors and walks the tree: the time is that of `violations`. The parse stays as it was, also where
+    /// It copies the stored errors and walks the tree: the time is that of `violations`. The parse is unchanged, also if
     /// memory runs out.
     pub fn errors(&self, alloc: Global) -> Result<Vec<SyntaxError>, AllocError>
         ensures { IfOk result (λ errors. errors.items ≡ all_errors self.now) }
@@ -125,7 +125,7 @@ impl<T> Parse<T> {
 }
 
 impl<T: AstNode> Parse<T> {
-    /// The root as a `T`; `None` where it is of another kind, as an `ERROR`.
+    /// The root as a `T`, or `None` if it is of another kind, as an `ERROR`.
     pub fn tree(&self) -> Option<T>
         ensures exact { is_some result ≡ T.casts (kind_of self.now.tree) }
         ensures same { IfSome result (λ it. T.node it ≡ root_of self.now.tree) }
@@ -135,7 +135,7 @@ impl<T: AstNode> Parse<T> {
 
     /// The root as a `T`, where the text has no errors at all.
     ///
-    /// Else [`OkError::Errors`] with all errors, where there are some; then [`OkError::OtherRoot`], where the root is of
+    /// Otherwise, [`OkError::Errors`] with all errors, if there are any; then [`OkError::OtherRoot`], if the root is of
     /// another kind. Each gives the parse back, and so does [`OkError::Memory`], which is returned as soon as memory runs
     /// out.
     pub fn ok(self, alloc: Global) -> Result<T, OkError<T>>
@@ -158,7 +158,7 @@ impl<T: AstNode> Parse<T> {
 }
 
 impl Parse<SyntaxNode> {
-    /// The same parse, whose root is meant to be an `N`; `None` where it is of another kind, and then the parse is gone.
+    /// The same parse, whose root is meant to be an `N`, or `None` if it is of another kind, and then the parse is gone.
     pub fn cast<N: AstNode>(self) -> Option<Parse<N>>
         ensures { result ≡ (if N.casts (kind_of self.tree) then Some self else None) }
     {
@@ -207,8 +207,8 @@ impl<T> Eq for Parse<T> {
 
 /// The parse of a text by a front end, with a root that is meant to be a `T`.
 ///
-/// `TooLong` exactly where the text is longer than 4,294,967,295 bytes; that is looked at first. It takes the front end's
-/// time, and then time linear in the text.
+/// Returns `TooLong` if the text is longer than 4,294,967,295 bytes; this is checked first. Takes the time of the front
+/// end, and time linear in the text.
 pub fn read<T, F: FrontEnd>(
     alloc: Global,
     front: &F,

@@ -25,11 +25,11 @@ use ras_front_end::{Edition, Entry, FrontEnd, ParseError, Reparser, SyntaxError}
 use std::alloc::{AllocError, Global};
 
 impl<T: FileView> Parse<T> {
-    /// The parse after an edit: the bytes of `delete` go, and `insert` comes in their place. One token or one block is parsed
-    /// again where that is possible, else all. The old parse stays as it was.
+    /// The parse after an edit that replaces the bytes in `delete` by `insert`. Only one token or one block is parsed again
+    /// if that is possible, otherwise the whole text. The old parse is unchanged.
     ///
-    /// The range lies in the text, on character boundaries. `TooLong` exactly where the new text is longer than
-    /// 4,294,967,295 bytes; that is looked at first.
+    /// The range must be in the text, on character boundaries. Returns `TooLong` if the new text is longer than 4,294,967,295
+    /// bytes; this is checked first.
     pub fn reparse<F: FrontEnd>(
         &self,
         alloc: Global,
@@ -52,10 +52,10 @@ impl<T: FileView> Parse<T> {
     }
 
     /// The parse after an edit, where all of the new text is parsed as a file: what [`Parse::reparse`] returns where
-    /// [`Parse::incremental_reparse`] returns `None`. The old parse stays as it was.
+    /// [`Parse::incremental_reparse`] returns `None`. The old parse is unchanged.
     ///
-    /// The range lies in the text, on character boundaries. `TooLong` exactly where the new text is longer than
-    /// 4,294,967,295 bytes; that is looked at first.
+    /// The range must be in the text, on character boundaries. Returns `TooLong` if the new text is longer than 4,294,967,295
+    /// bytes; this is checked first.
     pub fn full_reparse<F: FrontEnd>(
         &self,
         alloc: Global,
@@ -84,8 +84,8 @@ impl<T: FileView> Parse<T> {
         read(alloc, front, Entry::SourceFile, text.as_str(), edition)
     }
 
-    /// The parse after an edit, where one token or one block is parsed again, and the range in the old text that was replaced;
-    /// `None` where the whole text has to be. The old parse stays as it was.
+    /// The parse after an edit, where one token or one block is parsed again, and the range in the old text that was replaced,
+    /// or `None` if the whole text has to be. The old parse is unchanged.
     ///
     /// *One token* is parsed again where the smallest element that covers the deleted range is a token of white space, a comment,
     /// a name, or a string (plain, byte or C); white space and comments must not lose a newline. The token's new text must be
@@ -95,8 +95,9 @@ impl<T: FileView> Parse<T> {
     /// *One block* is parsed again otherwise, where a node around the edit has a reparser; the nearest one is taken. The braces
     /// of its new text must balance: it begins with `{`, and the last token is the `}` that closes it.
     ///
-    /// The range lies in the text, on character boundaries. `TooLong` exactly where the new text is longer than
-    /// 4,294,967,295 bytes; that is looked at first. Beside the piece that is parsed it takes one copy of the text and the tree.
+    /// The range must be in the text, on character boundaries. Returns `TooLong` if the new text is longer than 4,294,967,295
+    /// bytes; this is checked first. The text is copied once. If one token is parsed again, the nodes are shared with the old
+    /// tree as in `SyntaxToken::replace_with`; if one block is parsed again, they are copied.
     pub fn incremental_reparse<F: FrontEnd>(
         &self,
         alloc: Global,

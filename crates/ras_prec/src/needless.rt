@@ -47,7 +47,7 @@ fn needless_below<N: AstNode + Drop>(alloc: Global, root: &SyntaxNode) -> Result
     Ok(found)
 }
 
-/// Whether the node is a reading of its own tokens; `None` where it shows no term.
+/// Whether the node is a reading of its own tokens, or `None` if it shows no term.
 ///
 /// It is one exactly where every operand fits its place; and, unless it ends in a cast's name and `<` or `<<` follows, exactly
 /// where no operand below it needs parentheses in its own parent, as [`needs_parens_in`](crate::rules::needs_parens_in) answers it.

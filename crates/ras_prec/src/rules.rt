@@ -243,7 +243,7 @@ fn asks(own: &SyntaxNode, parent: &SyntaxNode, place: &SyntaxNode) -> bool
 }
 
 /// Whether an expression needs parentheses in place of the node or token at `place`, where `parent` is the parent of that, or is
-/// further up, or is the place itself; false where it is neither.
+/// further up, or is the place itself; false if it is neither.
 ///
 /// At an operand below the root of an operator tree, asked with the operand's own parent node (for an argument that is the list
 /// of arguments), it answers false exactly where the expression fits there, before the tokens that follow the operand in the

@@ -82,7 +82,7 @@ fn is_child_of(parent: &SyntaxNode, node: &SyntaxNode) -> bool
     }
 }
 
-/// The child of a node at which, or below which, another one is; `None` where it is not below it.
+/// The child of a node at which, or below which, another one is, or `None` if it is not below it.
 pub fn child_toward(parent: &SyntaxNode, node: &SyntaxNode) -> Option<SyntaxNode>
     ensures { result ≡ child_toward parent.now node.now }
 {

@@ -14,7 +14,7 @@ pub enum CommentShape {
 }
 
 impl CommentShape {
-    /// `Block` where the text begins with `/*`, else `Line`.
+    /// `Block` where the text begins with `/*`, otherwise `Line`.
     pub fn from_text(text: &str) -> CommentShape
         ensures { result ≡ shape_of text.now }
     {

@@ -25,7 +25,7 @@ impl Radix {
         Radix::Hexadecimal,
     ];
 
-    /// The radix of an integer: by its prefix `0b`, `0o` or `0x`, in lower case, else decimal.
+    /// The radix of an integer: by its prefix `0b`, `0o` or `0x`, in lower case, otherwise decimal.
     pub fn of(text: &str) -> Radix
         ensures value { result ≡ radix_of text.now }
         ensures boundary { IsCharBoundary text.now (prefix_len result) }
@@ -155,7 +155,7 @@ fn if_any(text: &str) -> Option<&str>
     if text.is_empty() { None } else { Some(text) }
 }
 
-/// The suffix of an integer, as `u8`; `None` where there is none.
+/// The suffix of an integer, as `u8`, or `None` if there is none.
 pub fn int_suffix(text: &str) -> Option<&str>
     ensures { option_map (λ s. s.now) result ≡ if_any (int_suffix text.now) }
 {
@@ -163,7 +163,7 @@ pub fn int_suffix(text: &str) -> Option<&str>
     if_any(suffix)
 }
 
-/// The suffix of a floating point number, as `f64`; `None` where there is none.
+/// The suffix of a floating point number, as `f64`, or `None` if there is none.
 pub fn float_suffix(text: &str) -> Option<&str>
     ensures { option_map (λ s. s.now) result ≡ if_any (float_suffix text.now) }
 {

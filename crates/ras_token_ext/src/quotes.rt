@@ -14,7 +14,7 @@ pub struct QuoteOffsets {
     pub contents: TextRange,
 }
 
-/// The ranges of a string that starts at an offset; `None` where it has no two quotes.
+/// The ranges of a string that starts at an offset, or `None` if it has no two quotes.
 pub fn quote_offsets(text: &str, start: TextSize) -> Option<QuoteOffsets>
     requires { start + length text.now < 2 ^ 32 }
     ensures { result ≡ quote_offsets start text.now }
@@ -29,7 +29,7 @@ pub fn quote_offsets(text: &str, start: TextSize) -> Option<QuoteOffsets>
     })
 }
 
-/// A range of a content as a range of the whole text; `None` where it reaches past the content.
+/// A range of a content as a range of the whole text, or `None` if it reaches past the content.
 pub fn range_up(contents: TextRange, range: TextRange) -> Option<TextRange>
     ensures { result ≡ range_up contents range }
 {
@@ -40,7 +40,7 @@ pub fn range_up(contents: TextRange, range: TextRange) -> Option<TextRange>
     }
 }
 
-/// An offset of the whole text as one of a content, also past its end; `None` where it lies before it.
+/// An offset of the whole text as one of a content, also past its end, or `None` if it lies before it.
 pub fn offset_down(contents: TextRange, offset: TextSize) -> Option<TextSize>
     ensures { result ≡ offset_down contents offset }
 {

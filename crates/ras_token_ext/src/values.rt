@@ -76,11 +76,11 @@ fn content_bytes(
     }
 }
 
-/// The value of a byte string or a C string: the content of a raw one, which begins with `prefix`, else the meanings of its
-/// units joined.
+/// The value of a byte string or a C string: the content of a raw one, which begins with `prefix`, otherwise the meanings
+/// of its units joined.
 ///
-/// Without two quotes it is `Escape(LoneSlash)`, else the last fatal fault refuses it; warnings pass. A content that is raw or
-/// has no backslash is borrowed, and takes no memory.
+/// Without two quotes it is `Escape(LoneSlash)`, otherwise the last fatal fault refuses it; warnings pass. A content that is
+/// raw or has no backslash is borrowed, and takes no memory.
 pub fn bytes_value<'t>(
     alloc: Global,
     mode: Mode,

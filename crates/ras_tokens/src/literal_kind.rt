@@ -22,7 +22,7 @@ pub enum LiteralKind {
 }
 
 impl LiteralKind {
-    /// What a token is as a literal; `None` where it is of no literal's kind.
+    /// What a token is as a literal, or `None` if it is of no literal's kind.
     pub fn of_token(syntax: SyntaxToken) -> Option<LiteralKind>
         ensures { option_map literal_shape result ≡ literal_by (kind_at syntax) syntax }
     {

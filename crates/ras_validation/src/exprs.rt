@@ -24,7 +24,7 @@ fn first_token_in(node: &SyntaxNode) -> Option<SyntaxToken>
     node.first_child_or_token()?.into_token()
 }
 
-/// The number that names the field of a `FIELD_EXPR` or `RECORD_EXPR_FIELD`, where it is not made of decimal digits alone.
+/// The number that names the field of a `FIELD_EXPR` or `RECORD_EXPR_FIELD`, if it is not made of decimal digits alone.
 pub fn numeric_name(field: &SyntaxNode) -> Option<TextRange>
     ensures { result ≡ option_map range_of (numeric_name field.now) }
 {

@@ -30,7 +30,7 @@ pub enum ViolationMessage {
     /// `crate` does not begin its path, or the path is under a prefix of a `use`: the keyword's range.
     CrateInPath,
     /// A `dyn` or `impl` type with two bounds or more is that to which a reference or a raw pointer leads, or that which a function
-    /// pointer returns, and the token before its keyword is none of `(`, `<` and `=`: the range of the `dyn` or `impl` type.
+    /// pointer returns, and the token before its keyword is not one of `(`, `<` and `=`: the range of the `dyn` or `impl` type.
     AmbiguousPlus,
     /// A `dyn` or `impl` has a list of bounds, and none of these has a type: the range of the `dyn` or `impl` type.
     NoTrait,

@@ -21,8 +21,8 @@ use token_layout::Token;
 
 /// The front end for Rust, of the editions 2015 to 2024.
 ///
-/// Its trees, its messages and their positions are those of rust-analyzer's parser. Whatever a text is, its reading keeps the law of
-/// [`FrontEnd`]. It takes time and memory linear in the text, and no recursion.
+/// Its trees, messages and positions are those of rust-analyzer's parser. Takes time and memory linear in the text, and does not
+/// recurse.
 #[derive(Clone, Copy, Debug, Drop)]
 pub struct Rust;
 

@@ -153,7 +153,7 @@ fn cut(text: &str, len: usize) -> (&str, &str)
     }
 }
 
-/// How the machine sees the tokens that are no trivia, in order. A token's text is looked at only where it is an identifier
+/// How the machine sees the tokens that are not trivia, in order. A token's text is looked at only if it is an identifier
 /// or a number with a dot.
 ///
 /// Time is linear in the tokens and in those texts. Where the tokens don't cut the text, which no lexer does, the finer kinds

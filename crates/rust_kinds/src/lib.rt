@@ -22,7 +22,7 @@ pub fn name_of(kind: SyntaxKind) -> Option<&'static str>
     }
 }
 
-/// The kind with this name, as [`name_of`] gives it; `None` where no kind has it.
+/// The kind with this name, as [`name_of`] gives it, or `None` if no kind has it.
 pub fn from_name(name: &str) -> Option<SyntaxKind>
     ensures exact { (k : SyntaxKind) → IsKind k → (result ≡ Some k) ↔ IsNamed k name.now }
     ensures kind { IfSome result IsKind }

@@ -116,7 +116,7 @@ fn is_name_continue(c: char) -> bool
     is_xid_continue(c)
 }
 
-/// An emoji that is no ASCII.
+/// An emoji that is not ASCII.
 pub fn is_emoji(c: char) -> bool
     ensures { result ≡ is_emoji_of c }
 {

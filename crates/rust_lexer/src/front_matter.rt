@@ -104,7 +104,7 @@ fn behind_shebang(text: &str) -> &[u8]
     }
 }
 
-/// The shebang and the front matter of a text; `None` where a front matter begins that is faulty.
+/// The shebang and the front matter of a text, or `None` if a front matter begins that is faulty.
 pub fn head(text: &str) -> Option<Prelude>
     ensures { result ≡ prelude_of text.now }
 {

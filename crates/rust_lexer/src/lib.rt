@@ -1,7 +1,7 @@
-//! Rust's lexer: cuts a text into raw tokens, white space and comments among them, and tells what is wrong with some.
+//! Rust's lexer: cuts a text into raw tokens, white space and comments included, and reports errors in them.
 //!
-//! Punctuation is cut into single signs; a word is a keyword where it is one everywhere in the edition, and `IDENT` otherwise. Each
-//! byte of the text is in one token.
+//! Punctuation is cut into single characters. A word is a keyword if it is one everywhere in the edition, and `IDENT` otherwise.
+//! Each byte of the text is in exactly one token.
 #![tactic(auto)]
 
 mod class;

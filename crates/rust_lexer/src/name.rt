@@ -38,7 +38,7 @@ pub fn begins_name(bytes: &[u8]) -> bool
     }
 }
 
-/// Whether an emoji begins here that is no ASCII.
+/// Whether an emoji begins here that is not ASCII.
 pub fn begins_emoji(bytes: &[u8]) -> bool
     ensures { result ≡ begins_emoji_of bytes.now }
 {

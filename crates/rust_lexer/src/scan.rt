@@ -196,7 +196,7 @@ fn seek_second(first: u8, second: u8, byte: u8) -> Scan
     }
 }
 
-/// What is read with one more byte; `None` where the reading ends before it.
+/// What is read with one more byte, or `None` if the reading ends before it.
 #[inline]
 pub fn next(scan: Scan, byte: u8) -> Option<Scan>
     ensures { result ≡ next_of scan byte }

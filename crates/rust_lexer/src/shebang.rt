@@ -71,7 +71,7 @@ fn line_left(bytes: &[u8]) -> usize
     }
 }
 
-/// How many bytes follow the shebang of a text; `None` where it has none. An attribute `#![..]` is none, also with white space and
+/// How many bytes follow the shebang of a text, or `None` if it has none. An attribute `#![..]` is none, also with white space and
 /// comments before its bracket.
 pub fn shebang(text: &str, edition: Edition) -> Option<usize>
     ensures { result ≡ shebang_of edition text.now }

@@ -60,7 +60,7 @@ fn last_problem(text: &str, fault: Fault) -> Option<Problem>
     }
 }
 
-/// The kind of the one token that the whole text is, and the last of what is wrong with it; `None` where the text is empty or is not
+/// The kind of the one token that the whole text is, and the last of what is wrong with it, or `None` if the text is empty or is not
 /// one token.
 ///
 /// A shebang or a front matter is none here. It takes time linear in the text, and no memory.

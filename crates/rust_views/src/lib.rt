@@ -1,7 +1,8 @@
 //! Views of the nodes of Rust's trees for whose kinds `SyntaxKind` has no constant, and the lookups that lead to them and on from them.
 //!
 //! All other views are those of `ra_ap_syntax`. The lookups here are functions, since the views that they are asked of are there:
-//! `variant_list(&it)` is rust-analyzer's `it.variant_list()`. A call takes time in the children that it passes, and no memory.
+//! `variant_list(&it)` is rust-analyzer's `it.variant_list()`. A call takes time linear in the children that it passes, and no
+//! memory.
 #![tactic(auto)]
 
 pub mod exprs;

@@ -199,7 +199,7 @@ fn name_y(text: &str) -> Option<SyntaxKind>
     }
 }
 
-/// The kind of the word that the text is, where that is a keyword in some places of every edition, as `union`; `None` for any other
+/// The kind of the word that the text is, if that is a keyword in some places of every edition, as `union`; `None` for any other
 /// text. The lexer has such a word as `IDENT`.
 ///
 /// It compares the text with at most six words.

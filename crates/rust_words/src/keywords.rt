@@ -284,8 +284,8 @@ fn word_y(text: &str) -> Option<SyntaxKind>
     }
 }
 
-/// The kind of the keyword that the text is; `None` where it is none in the edition. Reserved words are keywords too, as
-/// `abstract`; words that are keywords only in some places are none, as `union`.
+/// The kind of the keyword that the text is, or `None` if it is not one in the edition. Reserved words are keywords too,
+/// as `abstract`; words that are keywords only in some places are none, as `union`.
 ///
 /// It compares the text with at most six words.
 pub fn keyword(text: &str, edition: Edition) -> Option<SyntaxKind>

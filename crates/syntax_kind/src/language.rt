@@ -7,7 +7,7 @@ use crate::syntax_kind::SyntaxKind;
 
 /// A language whose trees store kinds as numbers, like the trait of that name in `rowan`.
 pub trait Language {
-    /// The kind with this number; `None` where no kind has it.
+    /// The kind with this number, or `None` if no kind has it.
     fn kind_from_raw(raw: u32) -> Option<SyntaxKind>
         ensures exact { (k : SyntaxKind) → IsKind k → (result ≡ Some k) ↔ (kind_raw k ≡ raw) }
         ensures kind { IfSome result IsKind };

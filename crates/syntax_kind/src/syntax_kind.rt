@@ -50,7 +50,7 @@ impl SyntaxKind {
         }
     }
 
-    /// The kind with this number; `None` where no kind has it.
+    /// The kind with this number, or `None` if no kind has it.
     pub fn from_raw(raw: u32) -> Option<SyntaxKind>
         ensures exact { (k : SyntaxKind) → IsKind k → (result ≡ Some k) ↔ (kind_raw k ≡ raw) }
         ensures kind { IfSome result IsKind }

@@ -16,7 +16,7 @@ pub enum Command {
 }
 
 impl Command {
-    /// The command of a name; `None` where there is none of that name.
+    /// The command of a name, or `None` if there is none of that name.
     pub fn named(name: &str) -> Option<Command>
         ensures { result ≡ command_of name.now }
     {

@@ -9,7 +9,7 @@ use std::alloc::AllocError;
 pub enum Refusal {
     /// The reader failed, or was not at its end after `u64::MAX` reads.
     Read,
-    /// The input is not UTF-8. This is looked at first.
+    /// The input is not UTF-8. This is checked first.
     NotUtf8,
     /// A line has none of the forms of an event; of `reparse`: the first line is not two numbers, or the second has a backslash
     /// that begins no escape.
@@ -18,7 +18,7 @@ pub enum Refusal {
     BadKind,
     /// A range ends before it starts, does not lie in the text on character boundaries, or ends at 2^32 or later.
     BadRange,
-    /// The root of the tree of an expression's text is no expression.
+    /// The root of the tree of an expression's text is not an expression.
     OtherRoot,
     /// The text is longer than 4,294,967,295 bytes.
     TooLong,

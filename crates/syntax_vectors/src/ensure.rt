@@ -7,7 +7,7 @@ pub fn ensure(holds: bool, call: &'static str) -> Result<(), Fail> {
     if holds { Ok(()) } else { Err(Fail::from(call)) }
 }
 
-/// The text is the one that is wanted; where it is not, both are said.
+/// The text is the one that is wanted; if it is not, both are said.
 pub fn ensure_text(alloc: Global, found: &str, want: &str) -> Result<(), Fail> {
     if found == want {
         return Ok(());

@@ -103,7 +103,7 @@ impl TextRange {
         other.end <= self.end && self.start <= other.start
     }
 
-    /// The range `offset` bytes later; `None` where it would end past 32 bits.
+    /// The range `offset` bytes later, or `None` if it would end past 32 bits.
     pub fn checked_add(self, offset: TextSize) -> Option<TextRange>
         ensures { SomeIff result (self.end + offset < 2 ^ 32) (record { start = self.start + offset; end = self.end + offset }) }
     {
@@ -114,7 +114,7 @@ impl TextRange {
         })
     }
 
-    /// The range `offset` bytes earlier; `None` where it would start before the text.
+    /// The range `offset` bytes earlier, or `None` if it would start before the text.
     pub fn checked_sub(self, offset: TextSize) -> Option<TextRange>
         ensures { SomeIff result (offset ≤ self.start) (record { start = self.start - offset; end = self.end - offset }) }
     {

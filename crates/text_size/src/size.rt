@@ -29,7 +29,7 @@ impl TextSize {
         TextSize { raw }
     }
 
-    /// The length of a text; `None` where that takes more than 32 bits.
+    /// The length of a text, or `None` if that takes more than 32 bits.
     pub fn of(text: &str) -> Option<TextSize>
         ensures { SomeIff result (length text.now < 2 ^ 32) (length text.now) }
     {

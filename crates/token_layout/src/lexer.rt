@@ -27,7 +27,7 @@ pub trait Lexer {
         ensures tokens { IfOk result (λ lexed. lexed.tokens.items ≡ (lexes self.now).tokens edition text.now) }
         ensures errors { IfOk result (λ lexed. lexed.errors.items ≡ (lexes self.now).errors edition text.now) };
 
-    /// The kind of the keyword that the text is; `None` where it is none in the edition.
+    /// The kind of the keyword that the text is, or `None` if it is not one in the edition.
     fn keyword(&self, text: &str, edition: Edition) -> Option<SyntaxKind>
         ensures { result ≡ (lexes self.now).word edition text.now };
 

@@ -43,7 +43,7 @@ pub trait Parser {
     ) -> Result<Outline, AllocError>
         ensures { IfOk result (λ outline. outlined outline ≡ (parses self.now).outline target tokens.now) };
 
-    /// The number of the rule by which a node of this kind may be parsed again by itself; `None` where it may not. `first_child` is
+    /// The number of the rule by which a node of this kind may be parsed again by itself, or `None` if it may not. `first_child` is
     /// the kind of its first child, node or token, and `parent` that of its parent.
     fn reparser(
         &self,

@@ -21,7 +21,7 @@ pub trait TreeStep {
     // The event that the step is; `None` where it is none.
     ghost step_event: { Self → Option BuilderEvent };
 
-    /// The event that the step is; `None` where it has nothing to do with the tree.
+    /// The event that the step is, or `None` if it has nothing to do with the tree.
     fn event(&self) -> Option<BuilderEvent>
         ensures { result ≡ step_event self.now };
 }

@@ -140,7 +140,7 @@ impl Rows {
         self.parents[n]
     }
 
-    /// One more row at the end, and the number of its parent; where there is no memory for them, all stays as it was.
+    /// One more row at the end, and the number of its parent; if there is no memory for them, nothing is changed.
     pub(crate) fn push(&mut self, row: Row, parent: usize) -> Result<(), AllocError>
         requires { row.end < 2 ^ 63 }
         ensures ok { OnOk result (self.new ≡ joined self.old (one_row row parent)) }
@@ -165,7 +165,7 @@ impl Rows {
         self.packed[n].set_end(end);
     }
 
-    /// The rows `first..end` of other ones after these; where there is no memory for them, all stays as it was.
+    /// The rows `first..end` of other ones after these; if there is no memory for them, nothing is changed.
     pub(crate) fn extend_from(
         &mut self,
         other: &Rows,

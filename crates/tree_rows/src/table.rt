@@ -181,7 +181,7 @@ impl Table {
         if n == 0 { None } else { Some(self.parent(n)) }
     }
 
-    /// The row of the first child of row `n`; `None` where it has none.
+    /// The row of the first child of row `n`, or `None` if it has none.
     pub fn first_child_row(&self, n: usize) -> Option<usize>
         requires { n < size self.now }
         ensures place { option_map (place_at self.now) result ≡ first_child_place self.now (place_at self.now n) }

@@ -19,7 +19,7 @@ use text_size::TextRange;
 use tree_model::Direction;
 use tree_rows::Table;
 
-/// A node or a token, of any two types that stand for them.
+/// A node or a token. `N` is the type of nodes, and `T` that of tokens.
 #[derive(Clone, Hash, Drop)]
 pub enum NodeOrToken<N, T> {
     /// A node.
@@ -88,7 +88,8 @@ impl NodeOrToken<SyntaxNode, SyntaxToken> {
         }
     }
 
-    /// Whether this is a token of white space or a comment. A node is none, also one of comments alone.
+    /// Whether this is a token of white space or a comment. It is false for every node, also for one that contains only
+    /// comments.
     pub fn is_trivia(&self) -> bool
         ensures { result ≡ is_trivia_element self.now }
     {
@@ -138,8 +139,8 @@ impl NodeOrToken<SyntaxNode, SyntaxToken> {
         }
     }
 
-    /// What comes before this in its parent, node or token; `None` for the first child and the root. It takes time in
-    /// the depth of what comes before.
+    /// What comes before this in its parent, node or token; `None` for the first child and the root. Takes time linear in the
+    /// depth of what comes before.
     pub fn prev_sibling_or_token(&self) -> Option<SyntaxElement>
         ensures { result ≡ option_map element_of (prev_sibling_of (cursor_of self.now)) }
     {
@@ -149,7 +150,7 @@ impl NodeOrToken<SyntaxNode, SyntaxToken> {
         }
     }
 
-    /// The nearest later sibling, node or token, that is no trivia; `None` where there is none.
+    /// The nearest later sibling, node or token, that is not trivia, or `None` if there is none.
     pub fn next_no_trivia(&self) -> Option<SyntaxElement>
         ensures { result ≡ option_map element_of (find is_no_trivia (following_of (cursor_of self.now))) }
     {
@@ -159,7 +160,7 @@ impl NodeOrToken<SyntaxNode, SyntaxToken> {
         }
     }
 
-    /// This and its siblings in a direction, nodes and tokens. A step backwards takes time in the depth of the sibling
+    /// This and its siblings in a direction, nodes and tokens. A step backwards takes time linear in the depth of the sibling
     /// before.
     pub fn siblings_with_tokens(&self, direction: Direction) -> SyntaxElementSiblings
         ensures { result ≡ siblings_in direction (cursor_of self.now) }

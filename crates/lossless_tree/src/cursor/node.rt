@@ -139,9 +139,9 @@ impl SyntaxNode {
         SiblingsLeft::below(&self.table, self.row)
     }
 
-    /// The text of child number `n`, from 0, where that is a token; `None` for a node, and where there is no such child.
+    /// The text of child number `n`, from 0, if it is a token. Returns `None` if it is a node or if there is no such child.
     ///
-    /// It passes the children before it, and looks into none of them.
+    /// Takes time linear in `n`, whatever the children contain.
     pub fn child_text(&self, n: usize) -> Option<&str>
         ensures { option_map (λ s. s.now) result ≡ child_text (focus self.now) n }
     {
@@ -207,7 +207,7 @@ impl SyntaxNode {
         Ancestors::new(SyntaxNode::at(self.table.share(), self.row))
     }
 
-    /// The first child, node or token; `None` where there is none.
+    /// The first child, node or token, or `None` if there is none.
     pub fn first_child_or_token(&self) -> Option<SyntaxElement>
         ensures { result ≡ option_map element_of (first_child_of self.now) }
     {
@@ -222,8 +222,8 @@ impl SyntaxNode {
         self.cursor().next_sibling_or_token()
     }
 
-    /// The last child, node or token; `None` where there is none. It climbs from the subtree's last row, so it takes
-    /// time in the depth there.
+    /// The last child, node or token, or `None` if there is none. It climbs from the subtree's last row, so it takes time
+    /// linear in the depth there.
     pub fn last_child_or_token(&self) -> Option<SyntaxElement>
         ensures { result ≡ option_map element_of (last_child_of self.now) }
     {
@@ -231,9 +231,9 @@ impl SyntaxNode {
         Some(element(&self.table, row))
     }
 
-    /// What comes before this node in its parent, node or token; `None` for the first child and the root. It climbs
-    /// from the row before, so it takes time in the depth there; going back through all siblings takes time in the
-    /// size of their subtrees.
+    /// What comes before this node in its parent, node or token; `None` for the first child and the root. It climbs from the
+    /// row before, so it takes time linear in the depth there; going back through all siblings takes time linear in the size
+    /// of their subtrees.
     pub fn prev_sibling_or_token(&self) -> Option<SyntaxElement>
         ensures { result ≡ option_map element_of (prev_sibling_of self.now) }
     {
@@ -254,7 +254,7 @@ impl SyntaxNode {
         SyntaxNodeChildren::new(self.children_with_tokens())
     }
 
-    /// The first child node; `None` where there is none. It passes over the tokens before it.
+    /// The first child node, or `None` if there is none. It passes over the tokens before it.
     pub fn first_child(&self) -> Option<SyntaxNode>
         ensures { result ≡ find at_node (children_of self.now) }
     {
@@ -262,8 +262,8 @@ impl SyntaxNode {
         children.next()
     }
 
-    /// The last child node; `None` where there is none. It passes over the tokens after it, and takes time in the depth of
-    /// that node and of the sibling before it.
+    /// The last child node, or `None` if there is none. It passes over the tokens after it, and takes time linear in the
+    /// depth of that node and of the sibling before it.
     pub fn last_child(&self) -> Option<SyntaxNode>
         ensures { result ≡ find at_node (reverse (children_of self.now)) }
     {
@@ -271,7 +271,7 @@ impl SyntaxNode {
         nearest_node(&self.table, last, Direction::Prev)
     }
 
-    /// The nearest sibling node after this one; `None` where there is none. It passes over the tokens between.
+    /// The nearest sibling node after this one, or `None` if there is none. It passes over the tokens between.
     pub fn next_sibling(&self) -> Option<SyntaxNode>
         ensures { result ≡ find at_node (following_of self.now) }
     {
@@ -279,8 +279,8 @@ impl SyntaxNode {
         nearest_node(&self.table, next, Direction::Next)
     }
 
-    /// The nearest sibling node before this one; `None` where there is none. It passes over the tokens between, and takes
-    /// time in the depth of that node and of the sibling before it.
+    /// The nearest sibling node before this one, or `None` if there is none. It passes over the tokens between, and takes
+    /// time linear in the depth of that node and of the sibling before it.
     pub fn prev_sibling(&self) -> Option<SyntaxNode>
         ensures { result ≡ find at_node (preceding_of self.now) }
     {
@@ -288,8 +288,8 @@ impl SyntaxNode {
         nearest_node(&self.table, prev, Direction::Prev)
     }
 
-    /// The first child, node or token, that is no trivia: no token of white space or a comment; `None` where there is
-    /// none. It passes over the trivia before it.
+    /// The first child, node or token, that is not trivia (white space or a comment), or `None` if there is none. It passes
+    /// over the trivia before it.
     pub fn first_child_no_trivia(&self) -> Option<SyntaxElement>
         ensures { result ≡ option_map element_of (find is_no_trivia (children_of self.now)) }
     {
@@ -297,15 +297,15 @@ impl SyntaxNode {
         first_no_trivia(SyntaxElementSiblings::new(self.table.share(), first, Direction::Next))
     }
 
-    /// The nearest later sibling, node or token, that is no trivia: no token of white space or a comment; `None` where
-    /// there is none. It passes over the trivia between.
+    /// The nearest later sibling, node or token, that is not trivia (white space or a comment), or `None` if there is none.
+    /// It passes over the trivia between.
     pub fn next_no_trivia(&self) -> Option<SyntaxElement>
         ensures { result ≡ option_map element_of (find is_no_trivia (following_of self.now)) }
     {
         self.cursor().next_no_trivia()
     }
 
-    /// This node and its siblings in a direction, nodes and tokens. A step backwards takes time in the depth of the
+    /// This node and its siblings in a direction, nodes and tokens. A step backwards takes time linear in the depth of the
     /// sibling before.
     pub fn siblings_with_tokens(&self, direction: Direction) -> SyntaxElementSiblings
         ensures { result ≡ siblings_in direction self.now }
@@ -313,14 +313,15 @@ impl SyntaxNode {
         self.cursor().siblings_with_tokens(direction)
     }
 
-    /// This node and its sibling nodes in a direction. A step backwards takes time in the depth of the siblings before.
+    /// This node and its sibling nodes in a direction. A step backwards takes time linear in the depth of the siblings
+    /// before.
     pub fn siblings(&self, direction: Direction) -> SyntaxNodeSiblings
         ensures { result ≡ filter at_node (siblings_in direction self.now) }
     {
         SyntaxNodeSiblings::new(self.siblings_with_tokens(direction))
     }
 
-    /// The first token below this node; `None` where there is none. It takes time in the number of nodes before it.
+    /// The first token below this node, or `None` if there is none. Takes time linear in the number of nodes before it.
     pub fn first_token(&self) -> Option<SyntaxToken>
         ensures { result ≡ find at_token (descendants_of self.now) }
     {
@@ -328,7 +329,7 @@ impl SyntaxNode {
         Some(SyntaxToken::at(self.table.share(), row))
     }
 
-    /// The last token below this node; `None` where there is none. It takes time in the number of nodes after it.
+    /// The last token below this node, or `None` if there is none. Takes time linear in the number of nodes after it.
     pub fn last_token(&self) -> Option<SyntaxToken>
         ensures { result ≡ find at_token (reverse (descendants_of self.now)) }
     {
@@ -374,8 +375,8 @@ impl SyntaxNode {
     ghost use Rattle.tree_model.specs.Covering.{covering_of};
     ghost use Rattle.tree_model.specs.Pointer.{Finds};
 
-    /// The tokens of this node at an offset of the whole tree's text: those that have a text and whose range, ends
-    /// included, holds the offset. Between two tokens there are two; at an offset outside of the node there is none.
+    /// The tokens of this node at an offset of the whole tree's text: those that are not empty and whose range, both ends
+    /// included, contains the offset. Between two tokens both are returned, and none if the offset is outside the node.
     ///
     /// Empty tokens and nodes are passed over. The time grows with the logarithm of the size of the tree.
     pub fn token_at_offset(&self, offset: TextSize) -> TokenAtOffset<SyntaxToken>
@@ -394,11 +395,11 @@ impl SyntaxNode {
     /// The node or token that covers a range of the whole tree's text: down from this node while there is a child to go
     /// to.
     ///
-    /// For a range that is not empty that is the child whose range contains it. For an empty range it is the child that
-    /// has its offset strictly inside, else the last child that ends at or before it, else the first child. So a range
-    /// that is not empty and that no child contains, as one outside of this node, gives this node, and an empty one
-    /// always gives a token or a node without children. The time grows with the logarithm of the size of the tree and
-    /// with its depth.
+    /// For a range that is not empty that is the child whose range contains it. For an empty range it is the child that has
+    /// its offset strictly inside, otherwise the last child that ends at or before it, otherwise the first child. So a range
+    /// that is not empty and that no child contains, as one outside of this node, gives this node, and an empty one always
+    /// gives a token or a node without children. The time grows with the logarithm of the size of the tree and with its
+    /// depth.
     pub fn covering_element(&self, range: TextRange) -> SyntaxElement
         ensures { result ≡ element_of (covering_of self.now range) }
     {
@@ -431,9 +432,9 @@ impl SyntaxNode {
     /// The tree below this node as text, a line for each node and token in preorder, two spaces a level:
     /// `KIND@start..end`, and after that a token's text in quotes.
     ///
-    /// Of a text of 25 bytes and more only what ends at the first character boundary from byte 21 on is shown, and
-    /// ` ...`. Quotes, backslashes and control bytes are escaped, all other characters are as they are. Every line
-    /// ends with a newline. It takes time linear in the text that it gives.
+    /// A text of 25 bytes or more is cut off at the first character boundary at or after byte 21, and ` ...` is added.
+    /// Quotes, backslashes and control bytes are escaped. Every line ends with a newline. Takes time linear in the length of
+    /// the result.
     pub fn dump(&self, alloc: Global) -> Result<String, AllocError>
         ensures { IfOk result (λ text. string_bytes text ≡ dump_of self.now) }
     {

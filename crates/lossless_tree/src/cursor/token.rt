@@ -77,7 +77,8 @@ impl SyntaxToken {
     /// The root of a new tree: this token's whole tree with a token of the kind and the text `new` in place of this one. The old
     /// tree stays as it was.
     ///
-    /// It takes time and memory linear in the whole tree and the new text.
+    /// It takes time and memory linear in the whole text and the new one. The nodes and tokens are shared with the old tree if
+    /// `kind` is the token's kind and no other token of the old tree was replaced before; otherwise they are copied.
     pub fn replace_with(
         &self,
         alloc: Global,
@@ -147,23 +148,23 @@ impl SyntaxToken {
         Ancestors::from_parent(self.parent())
     }
 
-    /// What comes before this token in its parent, node or token; `None` for the first child. It climbs from the row
-    /// before, so it takes time in the depth there.
+    /// What comes before this token in its parent, node or token; `None` for the first child. It climbs from the row before,
+    /// so it takes time linear in the depth there.
     pub fn prev_sibling_or_token(&self) -> Option<SyntaxElement>
         ensures { result ≡ option_map element_of (prev_sibling_of self.now) }
     {
         self.cursor().prev_sibling_or_token()
     }
 
-    /// The nearest later sibling, node or token, that is no trivia: no token of white space or a comment; `None` where
-    /// there is none. It passes over the trivia between.
+    /// The nearest later sibling, node or token, that is not trivia (white space or a comment), or `None` if there is none.
+    /// It passes over the trivia between.
     pub fn next_no_trivia(&self) -> Option<SyntaxElement>
         ensures { result ≡ option_map element_of (find is_no_trivia (following_of self.now)) }
     {
         self.cursor().next_no_trivia()
     }
 
-    /// This token and its siblings in a direction, nodes and tokens. A step backwards takes time in the depth of the
+    /// This token and its siblings in a direction, nodes and tokens. A step backwards takes time linear in the depth of the
     /// sibling before.
     pub fn siblings_with_tokens(&self, direction: Direction) -> SyntaxElementSiblings
         ensures { result ≡ siblings_in direction self.now }
@@ -171,7 +172,7 @@ impl SyntaxToken {
         self.cursor().siblings_with_tokens(direction)
     }
 
-    /// The token right after this one in the whole tree; `None` for the last. It takes time in the number of nodes
+    /// The token right after this one in the whole tree; `None` for the last. Takes time linear in the number of nodes
     /// between.
     pub fn next_token(&self) -> Option<SyntaxToken>
         ensures { IsRightBehind (all_tokens self.now) self.now result }
@@ -180,7 +181,7 @@ impl SyntaxToken {
         Some(SyntaxToken::at(self.table.share(), row))
     }
 
-    /// The token right before this one in the whole tree; `None` for the first. It takes time in the number of nodes
+    /// The token right before this one in the whole tree; `None` for the first. Takes time linear in the number of nodes
     /// between.
     pub fn prev_token(&self) -> Option<SyntaxToken>
         ensures { IsRightBefore (all_tokens self.now) self.now result }
@@ -189,8 +190,8 @@ impl SyntaxToken {
         Some(SyntaxToken::at(self.table.share(), row))
     }
 
-    /// The nearest token after this one in the whole tree that is no trivia: no white space or comment; `None` where
-    /// there is none. It takes time in the nodes and tokens that it passes.
+    /// The nearest token after this one in the whole tree that is not trivia (white space or a comment), or `None` if there
+    /// is none. Takes time linear in the nodes and tokens that it passes.
     pub fn next_token_no_trivia(&self) -> Option<SyntaxToken>
         ensures { result ≡ find is_no_trivia (tokens_beyond Next self.now) }
     {
@@ -198,8 +199,8 @@ impl SyntaxToken {
         Some(SyntaxToken::at(self.table.share(), row))
     }
 
-    /// The nearest token before this one in the whole tree that is no trivia: no white space or comment; `None` where
-    /// there is none. It takes time in the nodes and tokens that it passes.
+    /// The nearest token before this one in the whole tree that is not trivia (white space or a comment), or `None` if there
+    /// is none. Takes time linear in the nodes and tokens that it passes.
     pub fn prev_token_no_trivia(&self) -> Option<SyntaxToken>
         ensures { result ≡ find is_no_trivia (tokens_beyond Prev self.now) }
     {

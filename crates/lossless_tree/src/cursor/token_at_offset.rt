@@ -11,7 +11,7 @@ use std::mem;
 /// It gives them in order as an iterator.
 #[derive(Clone, Debug, Drop)]
 pub enum TokenAtOffset<T> {
-    /// No token: there is none with a text, or the offset is outside of the node's text.
+    /// No token: all are empty, or the offset is outside the node's text.
     None,
     /// One token.
     Single(T),

@@ -30,7 +30,7 @@ pub fn precedence(expr: &ast::Expr) -> ExprPrecedence
 }
 
 impl ast::Expr {
-    /// The precedence of the expression, as `precedence` tells it.
+    /// The precedence of the expression, as returned by `precedence`.
     pub fn precedence(&self) -> ExprPrecedence
         ensures { result ≡ precedence_of (expr_node self.now) }
     {
@@ -44,14 +44,14 @@ impl ast::Expr {
         ras_operators::node::is_ret_like_with_no_value(self.syntax())
     }
 
-    /// Whether the expression needs parentheses below `parent`: its parent, a node further up, or the expression itself; false for
-    /// any other node. Outside operator trees upstream's rules decide: on what a block follows, on jumps without a value, records,
-    /// chains of `let`, statements and `let` with `else`.
+    /// Whether the expression needs parentheses below `parent`, which is its parent, another ancestor, or the expression itself.
+    /// For any other node the answer is false. Outside operator trees the rules are upstream's: for expressions that are followed
+    /// by a block, jumps without a value, records, chains of `let`, statements, and `let` with `else`.
     ///
-    /// At an operand below the root of an operator tree, asked with the operand's own parent node (for an argument that is the list
-    /// of arguments), it answers false exactly where the operand fits, before the tokens that follow it in the whole tree;
-    /// where neither `<` nor `<<` follows the operator tree, this is `Fits`, of the term alone. Below an expression that a block
-    /// follows, and below an `&&`, it may walk the whole of the expression, once: how deep a record or a `let` is does not matter.
+    /// For an operand of an operator tree and its own parent node (for an argument, the list of arguments), the answer is false
+    /// exactly if the operand fits, given the tokens that follow it in the whole tree. If neither `<` nor `<<` follows the operator
+    /// tree, that is `Fits`, which depends on the term alone. Takes time linear in the expression, at any depth, if a block follows
+    /// it or it is below `&&`.
     pub fn needs_parens_in(&self, parent: &SyntaxNode) -> bool
         ensures asks { result ≡ asks (expr_node self.now) parent.now (expr_node self.now) }
         ensures fits { (r : Cursor) (t : Term) (i : ℕ) (q : List ℕ) (held : Part) → meaning (focus r) ≡ IsTerm t → operand t (i ∷ q) ≡ Some held
@@ -64,12 +64,12 @@ impl ast::Expr {
         ras_prec::rules::needs_parens_in(self.syntax(), parent)
     }
 
-    /// Whether the expression would need parentheses in place of the node or token at `place`, below `parent`: the parent of that, a node
-    /// further up, or the place itself; false for any other node.
+    /// Whether the expression would need parentheses if it replaced the node or token at `place`, below `parent`, which is the parent
+    /// of `place`, another ancestor, or `place` itself. For any other node the answer is false.
     ///
-    /// Of a pair's inside in place of the pair, below the root of an operator tree that reads back and that neither `<` nor `<<`
-    /// follows, it answers false exactly where the tokens without the pair read as the term without it; and then no other term reads
-    /// them.
+    /// Let the expression be the content of a pair of parentheses, and `place` that pair, below the root of an operator tree that
+    /// reads back and is not followed by `<` or `<<`. Then the answer is false exactly if the tokens without the pair read as the
+    /// term without it; and that term is then their only reading.
     pub fn needs_parens_in_place_of(&self, parent: &SyntaxNode, place: &SyntaxNode) -> bool
         ensures asks { result ≡ asks (expr_node self.now) parent.now place.now }
         ensures fits { (r : Cursor) (t s : Term) (i : ℕ) (q : List ℕ) (held : Part) → meaning (focus r) ≡ IsTerm t → operand t (i ∷ q) ≡ Some held
@@ -94,7 +94,7 @@ impl ast::Type {
     }
 }
 
-/// Whether the expression is a reading of its own tokens; `None` where it shows no term.
+/// Whether the expression is a reading of its own tokens, or `None` if it shows no term.
 ///
 /// It is one exactly where every operand fits its place; and, unless it ends in a cast's name and `<` or `<<` follows, exactly
 /// where no operand below it needs parentheses in its own parent, as [`ast::Expr::needs_parens_in`] answers it. It takes no memory,
@@ -108,11 +108,12 @@ pub fn reads_back(expr: &ast::Expr) -> Option<bool>
     ras_prec::needless::reads_back(expr.syntax())
 }
 
-/// The pairs of parentheses below the expression that may go, in preorder: those whose inside needs none in their place. `None`
-/// unless the expression reads back. That several may go at once is not said.
+/// The pairs of parentheses below the expression that can be removed, in preorder: those whose content needs no parentheses in
+/// their place. Returns `None` unless the expression reads back. Each pair can be removed alone; removing several at once may
+/// change the tree.
 ///
-/// Where neither `<` nor `<<` follows the expression, they are those without which its tokens read as the term without the pair.
-/// It takes time linear in the expression, and memory for the answer.
+/// If neither `<` nor `<<` follows the expression, they are exactly the pairs without which its tokens read as the term without
+/// the pair. Takes time linear in the expression, and memory for the result.
 pub fn needless_parens(
     alloc: Global,
     expr: &ast::Expr,

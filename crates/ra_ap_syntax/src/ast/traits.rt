@@ -1,4 +1,5 @@
-//! The shared traits that have rules beside lookups. A call takes time in the children that it passes, and no memory.
+//! The shared traits that have rules beside lookups. A call takes time linear in the children that it passes, and no
+//! memory.
 ghost use Rattle.std.specs.Prelude.{◌≡◌};
 ghost use Rattle.ras_node.specs.Lookups.{IsFirstChild, IsViewOf, loop_body};
 ghost use Rattle.std.specs.List.{filter};
@@ -10,8 +11,8 @@ use lossless_tree::SyntaxNode;
 
 /// A loop.
 pub trait HasLoopBody: AstNode {
-    /// The body: of a `loop` the first block among the children. The first block of a `for` or a `while` may be what it
-    /// goes over or its condition, so their body is the second, or the first where there is one alone, if there is any.
+    /// The body: of a `loop` the first block among the children. The first block of a `for` or a `while` may be what it goes
+    /// over or its condition, so their body is the second, or the first if there is only one, if there is any.
     final fn loop_body(&self) -> Option<ast::BlockExpr>
         ensures { IsViewOf ⟦<ast::BlockExpr as AstNode>⟧ (loop_body ⟦<ast::BlockExpr as AstNode>⟧.casts (Self.node self.now)) result }
     {

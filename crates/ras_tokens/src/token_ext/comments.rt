@@ -19,7 +19,7 @@ impl tokens::Comment {
         CommentShape::from_text(self.syntax.text())
     }
 
-    /// The text without the markers `//`, or `/*` and `*/`, of which the last may be missing; `None` where the text has no
+    /// The text without the markers `//`, or `/*` and `*/`, of which the last may be missing, or `None` if the text has no
     /// two bytes, or a character is across their end.
     pub fn text_without_markers(&self) -> Option<&str>
         ensures { option_map (λ s. s.now) result ≡ comment_text 2 (text (focus self.now.syntax)) }
@@ -92,7 +92,7 @@ impl AnyComment {
         self.syntax.text()
     }
 
-    /// The text without the markers, of which the closing one may be missing; `None` where the text is shorter than its
+    /// The text without the markers, of which the closing one may be missing, or `None` if the text is shorter than its
     /// opening marker, or a character is across that marker's end.
     pub fn text(&self) -> Option<&str>
         ensures { option_map (λ s. s.now) result ≡ comment_text (marker_len (doc_kind_of (kind_at self.now.syntax))) (text (focus self.now.syntax)) }

@@ -23,7 +23,7 @@ use ras_token_ext::QuoteOffsets;
 use std::ops::Range;
 
 /// A string literal: its content lies between the first and the last `"` of its text. Ranges and offsets are those of the
-/// whole tree where a call doesn't say another start. No call takes memory; each takes time in the token's text.
+/// whole tree where a call doesn't say another start. No call takes memory; each takes time linear in the token's text.
 pub trait IsString: AstToken {
     /// The prefix of raw strings of the kind.
     ghost prefix: { Self → List ℕ };
@@ -60,7 +60,7 @@ pub trait IsString: AstToken {
         ras_token_ext::is_raw(self.text(), self.raw_prefix())
     }
 
-    /// The ranges of the quotes and of the content; `None` where the text has no two quotes.
+    /// The ranges of the quotes and of the content, or `None` if the text has no two quotes.
     final fn quote_offsets(&self) -> Option<QuoteOffsets>
         ensures { result ≡ quote_offsets (range_start (Self.token self.now)) (text (focus (Self.token self.now))) }
     {
@@ -75,7 +75,7 @@ pub trait IsString: AstToken {
         Some(offsets.contents)
     }
 
-    /// The content; the whole text where it has no two quotes.
+    /// The content; the whole text if it has no two quotes.
     final fn text_without_quotes(&self) -> &str
         ensures { result.now ≡ unwrap_or (content_of (text (focus (Self.token self.now)))) (text (focus (Self.token self.now))) }
     {
@@ -116,7 +116,8 @@ pub trait IsString: AstToken {
         ras_token_ext::escaped_char_ranges(self.mode(), self.raw_prefix(), self.text(), callback)
     }
 
-    /// A range of the content as one of the whole tree; `None` where it reaches past the content, and without two quotes.
+    /// A range of the content as one of the whole tree, or `None` if it reaches past the content, or if there are not two
+    /// quotes.
     final fn map_range_up(&self, range: TextRange) -> Option<TextRange>
         ensures { result ≡ option_and_then (λ q. range_up q.contents range) (quote_offsets (range_start (Self.token self.now)) (text (focus (Self.token self.now)))) }
     {
@@ -124,7 +125,8 @@ pub trait IsString: AstToken {
         ras_token_ext::range_up(offsets.contents, range)
     }
 
-    /// An offset of the whole tree as one of the content; `None` where it lies before the content, and without two quotes.
+    /// An offset of the whole tree as one of the content, or `None` if it lies before the content, or if there are not two
+    /// quotes.
     final fn map_offset_down(&self, offset: TextSize) -> Option<TextSize>
         ensures { result ≡ option_and_then (λ q. offset_down q.contents offset) (quote_offsets (range_start (Self.token self.now)) (text (focus (Self.token self.now)))) }
     {

@@ -11,7 +11,7 @@ use ras_token_ext::{IntError, Radix};
 use std::alloc::{AllocError, Global};
 
 impl tokens::IntNumber {
-    /// The radix: by the prefix `0b`, `0o` or `0x` in lower case, else decimal.
+    /// The radix: by the prefix `0b`, `0o` or `0x` in lower case, otherwise decimal.
     pub fn radix(&self) -> Radix
         ensures { result ≡ radix_of (text (focus self.now.syntax)) }
     {
@@ -27,7 +27,7 @@ impl tokens::IntNumber {
         ras_token_ext::split_int(self.syntax.text())
     }
 
-    /// The suffix; `None` where there is none.
+    /// The suffix, or `None` if there is none.
     pub fn suffix(&self) -> Option<&str>
         ensures { option_map (λ s. s.now) result ≡ if_any (int_suffix (text (focus self.now.syntax))) }
     {
@@ -58,7 +58,7 @@ impl tokens::FloatNumber {
         ras_token_ext::split_float(self.syntax.text())
     }
 
-    /// The suffix; `None` where there is none.
+    /// The suffix, or `None` if there is none.
     pub fn suffix(&self) -> Option<&str>
         ensures { option_map (λ s. s.now) result ≡ if_any (float_suffix (text (focus self.now.syntax))) }
     {

@@ -15,10 +15,10 @@ use std::alloc::Global;
 use std::borrow::{CowSlice, CowStr};
 
 impl tokens::String {
-    /// The value: the content of a raw string, else the meanings of its units joined.
+    /// The value: the content of a raw string, otherwise the meanings of its units joined.
     ///
-    /// Without two quotes it is `Escape(LoneSlash)`, else the last fatal fault refuses it; warnings pass. A content that is raw
-    /// or has no backslash is borrowed, and takes no memory.
+    /// Without two quotes it is `Escape(LoneSlash)`, otherwise the last fatal fault refuses it; warnings pass. A content that
+    /// is raw or has no backslash is borrowed, and takes no memory.
     pub fn value(&self, alloc: Global) -> Result<CowStr<'_, Global>, ValueError>
         ensures value { IsValueOf cow_str_bytes (literal_value string_meanings modes.Str (codes "r") (text (focus self.now.syntax))) result }
         ensures borrowed { can_borrow (codes "r") (text (focus self.now.syntax)) ≡ true → TakesNoMemory IsBorrowedStr result }

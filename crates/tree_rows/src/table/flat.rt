@@ -53,7 +53,7 @@ impl Table {
     }
 
     /// Writes the rows of the node at row `n`, as the root of a tree of its own, to the front of `out`, and answers how many
-    /// they are. Where that is more than `out` has, or 2^32 or more, `out` stays as it was.
+    /// they are. Where that is more than `out` has, or 2^32 or more, `out` is unchanged.
     pub fn write_flat_rows(&self, n: usize, out: &mut [FlatRow]) -> usize
         requires is_row { n < size self.now }
         requires is_node { IsNode (tree_at self.now n) }

@@ -26,8 +26,8 @@ impl Table {
         child
     }
 
-    /// The row of the last child of row `n`; `None` where it has none. It climbs from the last row below, so it takes time in the
-    /// depth there.
+    /// The row of the last child of row `n`, or `None` if it has none. It climbs from the last row below, so it takes time linear
+    /// in the depth there.
     pub fn last_child_row(&self, n: usize) -> Option<usize>
         requires { n < size self.now }
         ensures place { option_map (place_at self.now) result ≡ last_child_place self.now (place_at self.now n) }
@@ -42,7 +42,7 @@ impl Table {
     }
 
     /// The row of the previous sibling of row `n`; `None` for a first child and for the root. It climbs from the row before, so it takes
-    /// time in the depth there.
+    /// time linear in the depth there.
     pub fn prev_sibling_row(&self, n: usize) -> Option<usize>
         requires { n < size self.now }
         ensures place { option_map (place_at self.now) result ≡ prev_sibling_place (place_at self.now n) }
@@ -187,7 +187,7 @@ impl Table {
         None
     }
 
-    /// The nearest token after the token at row `n` that is no trivia. It goes over the rows between, and reads each once.
+    /// The nearest token after the token at row `n` that is not trivia. It goes over the rows between, and reads each once.
     pub fn next_no_trivia_token_row(&self, n: usize) -> Option<usize>
         requires is_row { n < size self.now }
         requires is_token { IsToken (tree_at self.now n) }
@@ -199,7 +199,7 @@ impl Table {
         self.first_no_trivia_token_row(n + 1, count)
     }
 
-    /// The nearest token before the token at row `n` that is no trivia. It goes over the rows between, and reads each once.
+    /// The nearest token before the token at row `n` that is not trivia. It goes over the rows between, and reads each once.
     pub fn prev_no_trivia_token_row(&self, n: usize) -> Option<usize>
         requires is_row { n < size self.now }
         requires is_token { IsToken (tree_at self.now n) }

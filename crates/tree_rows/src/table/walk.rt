@@ -9,7 +9,7 @@ use super::Table;
 /// One step of a walk: the row that is entered or left, and where the walk is then.
 #[derive(Clone, Copy)]
 pub struct WalkStep {
-    /// Whether the row is entered; else it is left.
+    /// Whether the row is entered; otherwise it is left.
     pub enters: bool,
     /// The row.
     pub row: usize,

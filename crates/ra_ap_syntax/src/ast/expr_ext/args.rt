@@ -10,8 +10,8 @@ use crate::ast::{self, AstNode};
 pub type ArgsMaybeEmpty = ras_expr_ext::ArgsMaybeEmpty<ast::Expr>;
 
 impl ast::ArgList {
-    /// The arguments, in order, with `None` for each child node that is no expression and for each comma that follows no argument,
-    /// as between `(` and `,`. An `ERROR` node that begins with a comma counts as one.
+    /// The arguments, in order, with `None` for each child node that is not an expression and for each comma that follows no
+    /// argument, as between `(` and `,`. An `ERROR` node that begins with a comma counts as one.
     pub fn args_maybe_empty(&self) -> ArgsMaybeEmpty
         ensures { result ≡ arguments ⟦<ast::Expr as AstNode>⟧.casts false (map element_of (children_of self.now.syntax)) }
     {

@@ -18,7 +18,8 @@ pub enum ArrayExprKind {
 }
 
 impl ast::ArrayExpr {
-    /// One value with a number, the first and the second expression, where a `;` is a child; else the list of the expressions.
+    /// One value with a number, the first and the second expression, where a `;` is a child; otherwise the list of the
+    /// expressions.
     pub fn kind(&self) -> ArrayExprKind
         ensures { array_shape result ≡ array_kind ⟦<ast::Expr as AstNode>⟧.casts self.now.syntax }
     {

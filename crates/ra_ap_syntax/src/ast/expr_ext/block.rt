@@ -17,9 +17,9 @@ impl ast::BlockExpr {
         ras_expr_ext::block_modifier::<ast::TryBlockModifier, ast::Type, ast::Label>(&self.syntax)
     }
 
-    /// Whether it is no part of what it is in, as the body of a function is one: it has no parent; or its parent is a `for` or
-    /// an `if`, and it is the first expression there, or there is none; or its parent is neither of these, and no `let` with
-    /// `else`, function, `while`, `loop` or constant pattern.
+    /// Whether the block is an expression of its own, and not a part of its parent as the body of a function is. It is if it
+    /// has no parent; if the parent is a `for` or an `if` and no other expression is first there; and if the parent is any
+    /// node except a `for`, `if`, `let` with `else`, function, `while`, `loop` or constant pattern.
     pub fn is_standalone(&self) -> bool
         ensures { result ≡ is_standalone ⟦<ast::Expr as AstNode>⟧.casts self.now.syntax }
     {

@@ -18,7 +18,7 @@ impl ast::Expr {
 }
 
 impl ast::IfExpr {
-    /// The first expression; where that is a block, only if there is another one.
+    /// The first expression; if that is a block, only if there is another one.
     pub fn condition(&self) -> Option<ast::Expr>
         ensures { IsViewOf ⟦<ast::Expr as AstNode>⟧ (unless_lone_block ⟦<ast::Expr as AstNode>⟧.casts self.now.syntax) result }
     {
@@ -41,7 +41,7 @@ impl ast::IfExpr {
 }
 
 impl ast::WhileExpr {
-    /// The first expression; where that is a block, only if there is another one.
+    /// The first expression; if that is a block, only if there is another one.
     pub fn condition(&self) -> Option<ast::Expr>
         ensures { IsViewOf ⟦<ast::Expr as AstNode>⟧ (unless_lone_block ⟦<ast::Expr as AstNode>⟧.casts self.now.syntax) result }
     {
@@ -50,7 +50,7 @@ impl ast::WhileExpr {
 }
 
 impl ast::ForExpr {
-    /// What the loop goes over: the first expression; where that is a block, only if there is another one.
+    /// What the loop goes over: the first expression; if that is a block, only if there is another one.
     pub fn iterable(&self) -> Option<ast::Expr>
         ensures { IsViewOf ⟦<ast::Expr as AstNode>⟧ (unless_lone_block ⟦<ast::Expr as AstNode>⟧.casts self.now.syntax) result }
     {

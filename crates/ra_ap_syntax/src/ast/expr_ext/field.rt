@@ -29,7 +29,7 @@ impl ast::FieldExpr {
         ras_node::first_other::<BeforeIndex>(self.syntax.children_with_tokens())?.into_token()
     }
 
-    /// The field's name, or else its number; `None` where it has neither.
+    /// The field's name, otherwise its number, or `None` if it has neither.
     pub fn field_access(&self) -> Option<FieldKind>
         ensures { option_map field_shape result ≡ field_access ⟦<ast::NameRef as AstNode>⟧.casts self.now.syntax }
     {
@@ -51,7 +51,7 @@ fn shorthand_name(path: &ast::Path) -> Option<ast::NameRef>
 }
 
 impl ast::RecordExprField {
-    /// The field's name: its own, or that of the path of one name that stands for the field and its value, as in `S { x }`.
+    /// The field's name. In the short form `S { x }` it is the name in the path `x`.
     pub fn field_name(&self) -> Option<ast::NameRef>
         ensures { IsViewOf ⟦<ast::NameRef as AstNode>⟧ (record_field_name ⟦<ast::Expr as AstNode>⟧.casts ⟦<ast::PathExpr as AstNode>⟧.casts ⟦<ast::Path as AstNode>⟧.casts ⟦<ast::PathSegment as AstNode>⟧.casts ⟦<ast::NameRef as AstNode>⟧.casts self.now.syntax) result }
     {
@@ -62,7 +62,7 @@ impl ast::RecordExprField {
         shorthand_name(&value.path()?)
     }
 
-    /// The field around a name: the name's parent, or else the fourth node above it, if that is one.
+    /// The field around a name: the name's parent, otherwise the fourth node above it, if that is one.
     pub fn for_name_ref(name_ref: &ast::NameRef) -> Option<ast::RecordExprField>
         ensures { IsViewOf ⟦<ast::RecordExprField as AstNode>⟧ (record_field_around ⟦<ast::RecordExprField as AstNode>⟧.casts name_ref.now.syntax) result }
     {

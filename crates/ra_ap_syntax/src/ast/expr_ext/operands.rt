@@ -21,7 +21,7 @@ impl ast::PrefixExpr {
         ras_expr_ext::first_child_token(&self.syntax)
     }
 
-    /// What that token is; `None` where it is no prefix operator.
+    /// What that token is, or `None` if it is not a prefix operator.
     pub fn op_kind(&self) -> Option<UnaryOp>
         ensures { result ≡ option_and_then (λ t. unary_op (kind_at t)) (first_child_token self.now.syntax) }
     {
@@ -91,11 +91,11 @@ pub trait RangeItem {
     fn start(&self) -> Option<Self::Bound>
         ensures { option_map Self.Bound.node result ≡ start_by Self.Bound.casts (range self.now) };
 
-    /// The first end after the operator; `None` where there is none, or no operator.
+    /// The end after the operator. Returns `None` if there is no operator or nothing after it.
     fn end(&self) -> Option<Self::Bound>
         ensures { option_map Self.Bound.node result ≡ range_end_of Self.Bound.casts (range self.now) };
 
-    /// What the operator is; `None` where there is none.
+    /// What the operator is, or `None` if there is none.
     fn op_kind(&self) -> Option<RangeOp>
         ensures { result ≡ option_and_then (λ t. range_op (kind_at t)) (range_operator (range self.now)) };
 
@@ -111,12 +111,12 @@ impl RangeItem for ast::RangeExpr {
 
     ghost start_by = { range_start_of };
 
-    /// The first expression before the operator; `None` where there is no operator.
+    /// The first expression before the operator, or `None` if there is no operator.
     fn start(&self) -> Option<ast::Expr> {
         ras_expr_ext::range_start(&self.syntax)
     }
 
-    /// The first expression after the operator; `None` where there is no operator.
+    /// The first expression after the operator, or `None` if there is no operator.
     fn end(&self) -> Option<ast::Expr> {
         ras_expr_ext::range_end(&self.syntax)
     }
@@ -142,7 +142,7 @@ impl RangeItem for ast::RangePat {
         ras_expr_ext::start_or_first(&self.syntax)
     }
 
-    /// The first pattern after the operator; `None` where there is no operator.
+    /// The first pattern after the operator, or `None` if there is no operator.
     fn end(&self) -> Option<ast::Pat> {
         ras_expr_ext::range_end(&self.syntax)
     }

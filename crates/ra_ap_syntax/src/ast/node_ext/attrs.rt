@@ -41,7 +41,7 @@ fn kind_by(inner: bool) -> AttrKind
 }
 
 impl ast::Attr {
-    /// Inner where it has a `!`, else outer.
+    /// Inner if it has a `!`, otherwise outer.
     pub fn kind(&self) -> AttrKind
         ensures { result ≡ kind_by (has_token SyntaxKind.BANG self.now.syntax) }
     {
@@ -53,7 +53,7 @@ impl ast::DocComment {
     /// How many bytes the opening marker of a documentation comment has.
     pub const PREFIX_LEN: usize = 3;
 
-    /// Inner where it has an inner comment token, else outer.
+    /// Inner if it has an inner comment token, otherwise outer.
     pub fn kind(&self) -> AttrKind
         ensures { result ≡ kind_by (has_token SyntaxKind.INNER_DOC_COMMENT self.now.syntax) }
     {
@@ -67,7 +67,7 @@ impl ast::DocComment {
         AnyComment::cast(self.syntax.first_token()?)
     }
 
-    /// Whether the text ends with its line or with its closing marker; `None` where the first child is no token.
+    /// Whether the text ends with its line or with its closing marker, or `None` if the first child is not a token.
     pub fn shape(&self) -> Option<CommentShape>
         ensures { result ≡ doc_shape self.now.syntax }
     {
@@ -81,7 +81,7 @@ impl ast::DocComment {
         self.syntax.child_text(0)
     }
 
-    /// The text of the first child without the markers, of which the closing one may be missing; `None` where that is no
+    /// The text of the first child without the markers, of which the closing one may be missing, or `None` if that is not a
     /// token, has no three bytes, or a character is across their end.
     pub fn text(&self) -> Option<&str>
         ensures { option_map (λ s. s.now) result ≡ doc_text self.now.syntax }

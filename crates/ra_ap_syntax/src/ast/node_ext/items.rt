@@ -12,7 +12,7 @@ use crate::ast::{self, AnyHasGenericParams, AstNode, AstToken, support};
 use lossless_tree::{SyntaxKind, SyntaxNode};
 
 impl ast::MacroDef {
-    /// Of two token trees the first; `None` where there is one alone or none.
+    /// Of two token trees the first, or `None` if there is one alone or none.
     pub fn args(&self) -> Option<ast::TokenTree>
         ensures { IsViewOf ⟦<ast::TokenTree as AstNode>⟧ (macro_args ⟦<ast::TokenTree as AstNode>⟧.casts self.now.syntax) result }
     {
@@ -21,7 +21,7 @@ impl ast::MacroDef {
         Some(first)
     }
 
-    /// The second token tree, or the first where there is one alone.
+    /// The second token tree, or the first if there is only one.
     pub fn body(&self) -> Option<ast::TokenTree>
         ensures { IsViewOf ⟦<ast::TokenTree as AstNode>⟧ (macro_body ⟦<ast::TokenTree as AstNode>⟧.casts self.now.syntax) result }
     {
@@ -33,14 +33,14 @@ impl ast::MacroDef {
 }
 
 impl ast::Impl {
-    /// The trait: the first type, if it starts before the `for`; `None` where there is no `for`.
+    /// The trait: the first type, if it starts before the `for`, or `None` if there is no `for`.
     pub fn trait_(&self) -> Option<ast::Type>
         ensures { IsViewOf ⟦<ast::Type as AstNode>⟧ (trait_of ⟦<ast::Type as AstNode>⟧.casts self.now.syntax) result }
     {
         ras_node_ext::trait_of(&self.syntax)
     }
 
-    /// The type that it is for: the one after the trait, or the first type where there is no trait.
+    /// The type that it is for: the one after the trait, or the first type if there is no trait.
     pub fn self_ty(&self) -> Option<ast::Type>
         ensures { IsViewOf ⟦<ast::Type as AstNode>⟧ (self_type_of ⟦<ast::Type as AstNode>⟧.casts self.now.syntax) result }
     {
@@ -108,7 +108,7 @@ fn struct_kind(node: &SyntaxNode) -> StructKind
 }
 
 impl ast::Struct {
-    /// Its fields: named ones, or else numbered ones, or none.
+    /// Its fields: named ones, otherwise numbered ones, or none.
     pub fn kind(&self) -> StructKind
         ensures { struct_shape result ≡ struct_kind ⟦<ast::RecordFieldList as AstNode>⟧.casts ⟦<ast::TupleFieldList as AstNode>⟧.casts self.now.syntax }
     {
@@ -117,7 +117,7 @@ impl ast::Struct {
 }
 
 impl ast::Union {
-    /// Its fields: named ones, or else numbered ones, or none.
+    /// Its fields: named ones, otherwise numbered ones, or none.
     pub fn kind(&self) -> StructKind
         ensures { struct_shape result ≡ struct_kind ⟦<ast::RecordFieldList as AstNode>⟧.casts ⟦<ast::TupleFieldList as AstNode>⟧.casts self.now.syntax }
     {
@@ -126,7 +126,7 @@ impl ast::Union {
 }
 
 impl ast::Variant {
-    /// Its fields: named ones, or else numbered ones, or none.
+    /// Its fields: named ones, otherwise numbered ones, or none.
     pub fn kind(&self) -> StructKind
         ensures { struct_shape result ≡ struct_kind ⟦<ast::RecordFieldList as AstNode>⟧.casts ⟦<ast::TupleFieldList as AstNode>⟧.casts self.now.syntax }
     {
@@ -171,7 +171,7 @@ pub enum SelfParamKind {
 }
 
 impl ast::SelfParam {
-    /// Without `&` owned; with `mut` a mutable borrow, else a shared one.
+    /// Without `&` owned; with `mut` a mutable borrow, otherwise a shared one.
     pub fn kind(&self) -> SelfParamKind
         ensures { result ≡ self_param_kind self.now.syntax }
     {
@@ -231,7 +231,7 @@ fn seen_in_path(path: ast::Path) -> VisibilityKind
 }
 
 impl ast::VisibilityInner {
-    /// `crate`, `super` or `self` where the path is that one segment without `::`; any other path; all, where there is no path.
+    /// `crate`, `super` or `self` where the path is that one segment without `::`; any other path; all, if there is no path.
     pub fn kind(&self) -> VisibilityKind
         ensures { visibility_shape result ≡ inner_visibility ⟦<ast::Path as AstNode>⟧.casts ⟦<ast::PathSegment as AstNode>⟧.casts ⟦<ast::NameRef as AstNode>⟧.casts self.now.syntax }
     {
@@ -243,7 +243,7 @@ impl ast::VisibilityInner {
 }
 
 impl ast::Visibility {
-    /// What its part in parentheses says; all, where it has none.
+    /// What its part in parentheses says; all, if it has none.
     pub fn kind(&self) -> VisibilityKind
         ensures { visibility_shape result ≡ visibility_kind ⟦<ast::VisibilityInner as AstNode>⟧.casts ⟦<ast::Path as AstNode>⟧.casts ⟦<ast::PathSegment as AstNode>⟧.casts ⟦<ast::NameRef as AstNode>⟧.casts self.now.syntax }
     {

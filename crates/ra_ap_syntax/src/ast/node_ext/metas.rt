@@ -97,10 +97,10 @@ impl Meta {
         ras_node_ext::meta_name::<Meta, ast::Path, ast::PathSegment>(alloc, self)
     }
 
-    /// Itself; or, of a `cfg_attr`, the metas in it whatever its predicate, in order, of which each that is a `cfg_attr` again
-    /// gives way to those in it.
+    /// Replaces a `cfg_attr` by the metas in it, in order and at any depth of nested `cfg_attr`s, whatever the predicates are.
+    /// Any other meta is returned unchanged.
     ///
-    /// It takes memory for the answer, and time linear in the nodes and tokens below it.
+    /// Takes memory for the result, and time linear in the nodes and tokens below it.
     pub fn skip_cfg_attrs(self, alloc: Global) -> Result<Vec<Meta>, AllocError>
         ensures { IfOk result (λ metas. map meta_node metas.items ≡ opened ⟦<ast::Meta as AstNode>⟧.casts (meta_node self)) }
     {
@@ -124,14 +124,14 @@ impl ast::Attr {
         self.meta()?.path()
     }
 
-    /// The path of its meta, where that is a path alone.
+    /// The path of its meta, if that is a path alone.
     pub fn as_simple_path(&self) -> Option<ast::Path>
         ensures { IsViewOf ⟦<ast::Path as AstNode>⟧ (option_and_then (simple_path ⟦<ast::Path as AstNode>⟧.casts) (typed_child ⟦<ast::Meta as AstNode>⟧.casts self.now.syntax)) result }
     {
         self.meta()?.as_simple_path()
     }
 
-    /// The text of its meta, where that is one name. It takes memory for the text.
+    /// The text of its meta, if that is one name. It takes memory for the text.
     pub fn as_simple_atom(&self, alloc: Global) -> Result<Option<String>, AllocError>
         ensures { IfOk result (λ atom. option_map (λ t. string_bytes t) atom ≡ option_and_then (simple_atom ⟦<ast::Path as AstNode>⟧.casts ⟦<ast::PathSegment as AstNode>⟧.casts ⟦<ast::NameRef as AstNode>⟧.casts) (typed_child ⟦<ast::Meta as AstNode>⟧.casts self.now.syntax)) }
     {
@@ -141,7 +141,7 @@ impl ast::Attr {
         }
     }
 
-    /// The name and the arguments of its meta, where that is one name with arguments. It takes memory for the name.
+    /// The name and the arguments of its meta, if that is one name with arguments. It takes memory for the name.
     pub fn as_simple_call(
         &self,
         alloc: Global,

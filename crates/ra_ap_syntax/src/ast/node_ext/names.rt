@@ -36,7 +36,7 @@ impl ast::NameRef {
         ras_token_ext::tuple_field(self.text()?)
     }
 
-    /// The kind of the first token, at any depth; `ERROR` where there is none.
+    /// The kind of the first token, at any depth, or `ERROR` if there is none.
     pub fn token_kind(&self) -> SyntaxKind
         ensures { result ≡ first_token_kind self.now.syntax }
     {
@@ -57,7 +57,7 @@ impl ast::Lifetime {
 }
 
 impl NameLike {
-    /// The name, where it is one that is used.
+    /// The name, if it is one that is used.
     pub fn as_name_ref(&self) -> Option<&ast::NameRef>
         ensures { option_map (λ it. it.now.syntax) result ≡ used_name self.now }
     {
@@ -67,7 +67,7 @@ impl NameLike {
         }
     }
 
-    /// The lifetime, where it is one.
+    /// The lifetime, if it is one.
     pub fn as_lifetime(&self) -> Option<&ast::Lifetime>
         ensures { option_map (λ it. it.now.syntax) result ≡ lifetime_in self.now }
     {

@@ -33,14 +33,15 @@ impl ast::Path {
         Qualifiers::new(self)
     }
 
-    /// The end of the chain of qualifiers: `a` of `a::b::c`. `None` where the path has no qualifier. It takes time in their number.
+    /// The end of the chain of qualifiers: `a` of `a::b::c`. `None` where the path has no qualifier. Takes time linear in their
+    /// number.
     pub fn first_qualifier(&self) -> Option<ast::Path>
         ensures { IsQualifierEnd ⟦<ast::Path as AstNode>⟧.casts self.now.syntax (option_map (λ it. it.syntax) result) }
     {
         ras_node_ext::first_qualifier(self)
     }
 
-    /// The end of the chain of qualifiers; this path where it has none. It takes time in their number.
+    /// The end of the chain of qualifiers; this path if it has none. Takes time linear in their number.
     pub fn first_qualifier_or_self(&self) -> ast::Path
         ensures { IsFirstQualifier ⟦<ast::Path as AstNode>⟧.casts self.now.syntax result.syntax }
     {
@@ -54,7 +55,8 @@ impl ast::Path {
         self.first_qualifier_or_self().segment()
     }
 
-    /// The outermost of the paths that it is a qualifier in; this path where it is none's. It takes time in their number.
+    /// The outermost path that this path is a qualifier of, directly or not; the path itself if it is not a qualifier. Takes
+    /// time linear in the number of paths between.
     pub fn top_path(&self) -> ast::Path
         ensures { result.syntax ≡ top_from ⟦<ast::Path as AstNode>⟧.casts self.now.syntax (drop 1 (ancestors_of self.now.syntax)) }
     {
@@ -130,7 +132,7 @@ fn anchored(anchor: &SyntaxNode) -> PathSegmentKind
 }
 
 impl ast::PathSegment {
-    /// What it is, by the first token of its name; without a name by its anchor `<T as U>`. `None` where it has neither.
+    /// What it is, by the first token of its name; without a name by its anchor `<T as U>`. `None` if it has neither.
     pub fn kind(&self) -> Option<PathSegmentKind>
         ensures { option_map segment_shape result ≡ segment_kind ⟦<ast::NameRef as AstNode>⟧.casts ⟦<ast::TypeAnchor as AstNode>⟧.casts ⟦<ast::Type as AstNode>⟧.casts ⟦<ast::PathType as AstNode>⟧.casts self.now.syntax }
     {
@@ -148,7 +150,7 @@ impl ast::PathSegment {
         support::parent_as(&self.syntax)
     }
 
-    /// The trait of `<T as Trait>`: the second path type in the anchor, or else the first.
+    /// The trait of `<T as Trait>`: the second path type in the anchor, otherwise the first.
     pub fn qualifying_trait(&self) -> Option<ast::PathType>
         ensures { IsViewOf ⟦<ast::PathType as AstNode>⟧ (qualifying_trait ⟦<ast::TypeAnchor as AstNode>⟧.casts ⟦<ast::PathType as AstNode>⟧.casts self.now.syntax) result }
     {

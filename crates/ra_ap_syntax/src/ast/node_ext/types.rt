@@ -40,8 +40,9 @@ fn bound_without_path(bound: &ast::TypeBound) -> Option<TypeBoundKind>
 }
 
 impl ast::TypeBound {
-    /// A path type with the bound's binder; or else the path type in a `for` type, with the binder there, and `None` where that is
-    /// another type; or else what is captured, or a lifetime. `None` where there is none of these.
+    /// A path type with the bound's binder, the path type in a `for` type with the binder of that type, the captured arguments
+    /// of `use<..>`, or a lifetime: the first of these that the bound has. Returns `None` if it has none of them, or if the
+    /// type in a `for` type is not a path type.
     pub fn kind(&self) -> Option<TypeBoundKind>
         ensures { option_map bound_shape result ≡ bound_kind ⟦<ast::PathType as AstNode>⟧.casts ⟦<ast::ForType as AstNode>⟧.casts ⟦<ast::Type as AstNode>⟧.casts ⟦<ast::ForBinder as AstNode>⟧.casts ⟦<ast::UseBoundGenericArgs as AstNode>⟧.casts ⟦<ast::Lifetime as AstNode>⟧.casts self.now.syntax }
     {
