@@ -7,6 +7,7 @@ pub use lossless_tree::SyntaxNodePtr;
 use lossless_tree::{SyntaxKind, SyntaxNode, TextRange};
 use ras_node::AstNode;
 use std::convert::Into;
+use std::fmt;
 use std::marker::{Model, PhantomData};
 
 /// A node's kind and range, by which it is found again as an `N` in its tree or in another tree of the same shape.
@@ -26,6 +27,13 @@ impl<N: AstNode> Model for AstPtr<N> {
     ghost view = { λ p. p.raw };
 
     ghost inverse = { λ p. record { raw = p; view = record {} } };
+}
+
+/// The pointer in it, as `AstPtr(SyntaxNodePtr { kind: FN, range: 0..9 })`.
+impl<N: AstNode> fmt::Debug for AstPtr<N> {
+    fn fmt<W: fmt::Write>(&self, f: &mut fmt::Formatter<W>) -> fmt::Result {
+        f.debug_tuple("AstPtr").field(&self.raw).finish()
+    }
 }
 
 impl<N: AstNode> AstPtr<N> {

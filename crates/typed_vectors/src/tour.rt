@@ -99,6 +99,10 @@ fn views_print_for_programmers(rt: HostRuntime) -> Result<(), Fail> {
         format!(in alloc; "{expr:?} {expr}")?.as_str(),
         "BIN_EXPR@11..16 1 + 2"
     );
+    assert_eq!(rt;
+        format!(in alloc; "{:?}", AstPtr::new(&expr))?.as_str(),
+        "AstPtr(SyntaxNodePtr { kind: BIN_EXPR, range: 11..16 })"
+    );
     Ok(())
 }
 
