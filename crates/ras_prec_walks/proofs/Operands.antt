@@ -109,7 +109,7 @@ abbrev pub child : Cursor → ℕ → Cursor
 child d i = at_place d (d.place ++ i ∷ [])
 
 -- n children of a node, from number k on
-abbrev children_from : Cursor → ℕ → ℕ → List Cursor
+abbrev pub children_from : Cursor → ℕ → ℕ → List Cursor
 children_from d k n = map (at_place d) (map (λ i. d.place ++ i ∷ []) (range_with_len k n))
 
 abbrev meant_in : Meant → List Cursor → Option Cursor

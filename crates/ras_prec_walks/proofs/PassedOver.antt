@@ -57,20 +57,20 @@ is_not : {P : Type 0} (b : Bool) → Decides b P → (P → ⊥) → b ≡ false
 is_not true d f = absurd (f (d.0 refl))
 is_not false d f = refl
 
-itself : (c : Cursor) → is_same_cursor c c ≡ true
+pub itself : (c : Cursor) → is_same_cursor c c ≡ true
 itself c = (cursor_Decides c c).1 refl
 
 -- one that is deeper is another
-deeper : (c p : Cursor) → length p.place < length c.place → is_same_cursor c p ≡ false
+pub deeper : (c p : Cursor) → length p.place < length c.place → is_same_cursor c p ≡ false
 deeper c p h = is_not (is_same_cursor c p) (cursor_Decides c p) (λ e. (let same : length c.place ≡ length p.place = ap (λ x. length x.place) e in omega arith))
 
-child_deep : (d : Cursor) (i : ℕ) → length (child d i).place ≡ length d.place + 1
+pub child_deep : (d : Cursor) (i : ℕ) → length (child d i).place ≡ length d.place + 1
 child_deep d i = length-append d.place (i ∷ [])
 
-child_parent : (d : Cursor) (i : ℕ) → parent_of (child d i) ≡ Some d
+pub child_parent : (d : Cursor) (i : ℕ) → parent_of (child d i) ≡ Some d
 child_parent d i = ap (option_map (at_place (child d i))) (parent_place-append d.place i)
 
-child_leads : (s : Sought) (top d : Cursor) (i : ℕ)
+pub child_leads : (s : Sought) (top d : Cursor) (i : ℕ)
     → leads_up s top (ancestors_of (child d i)) ≡ is_same_cursor (child d i) top || (is_step s (child d i) (parent_of (child d i)) && leads_up s top (ancestors_of d))
 child_leads s top d i =
     ap (leads_up s top) (ancestors_of-step (child d i))
@@ -83,7 +83,7 @@ events d i nil = []
 events d i (cons (token k t) r) = events d (suc i) r
 events d i (cons (node k c) r) = Enter (child d i) ∷ (events (child d i) 0 c ++ Leave (child d i) ∷ events d (suc i) r)
 
-abbrev nodes : Cursor → ℕ → Forest → List Cursor
+abbrev pub nodes : Cursor → ℕ → Forest → List Cursor
 nodes d i nil = []
 nodes d i (cons (token k t) r) = nodes d (suc i) r
 nodes d i (cons (node k c) r) = child d i ∷ (nodes (child d i) 0 c ++ nodes d (suc i) r)
@@ -91,7 +91,7 @@ nodes d i (cons (node k c) r) = child d i ∷ (nodes (child d i) 0 c ++ nodes d 
 abbrev move_at : Cursor → Bool × Place → Bool × Cursor
 move_at d w = (w.0, at_place d (d.place ++ w.1))
 
-abbrev below : Cursor → Place → Cursor
+abbrev pub below : Cursor → Place → Cursor
 below d q = at_place d (d.place ++ q)
 
 moves_under : (d : Cursor) (i : ℕ) (l : List (Bool × Place)) → map (move_at d) (map (under i) l) ≡ map (move_at (child d i)) l
@@ -134,7 +134,7 @@ events_told d i (cons (node k c) r) same =
     ∙ ap (λ u. Enter (child d i) ∷ (events (child d i) 0 c ++ map node_event (cond (is_node u) ((false, child d i) ∷ filter moves_at_node rest) (filter moves_at_node rest)))) here
     ∙ ap (λ l. Enter (child d i) ∷ (events (child d i) 0 c ++ Leave (child d i) ∷ l)) (events_told d (suc i) r (more_children d i (node k c) r same))
 
-nodes_told : (d : Cursor) (i : ℕ) (f : Forest) → Children d i f → filter at_node (map (below d) (places_from i f)) ≡ nodes d i f
+pub nodes_told : (d : Cursor) (i : ℕ) (f : Forest) → Children d i f → filter at_node (map (below d) (places_from i f)) ≡ nodes d i f
 nodes_told d i nil same = refl
 nodes_told d i (cons (token k t) r) same =
     let rest : List Cursor = map (below d) (places_from (suc i) r) in
@@ -169,7 +169,7 @@ passed_over s top p d i (cons (node k c) r) w h =
 
 -- ---- what is found
 
-holds-append : (s : Sought) (top : Cursor) (l m : List Cursor) → holds s top (l ++ m) ≡ holds s top l || holds s top m
+pub holds-append : (s : Sought) (top : Cursor) (l m : List Cursor) → holds s top (l ++ m) ≡ holds s top l || holds s top m
 holds-append s top [] m = refl
 holds-append s top (c ∷ l) m = ap (λ b. is_open s top c || b) (holds-append s top l m) ∙ or_assoc (is_open s top c) (holds s top l) (holds s top m)
   where

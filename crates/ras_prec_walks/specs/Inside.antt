@@ -10,6 +10,7 @@ use Rattle.tree_model.specs.Equality.{is_same_cursor}
 use Rattle.ras_node.specs.Nodes.{kind_at, is_of_kind, typed_child}
 use Rattle.ras_node.specs.Lookups.{second_typed_child}
 use Rattle.ras_node.specs.Sets.{is_expr}
+use Rattle.ras_prec_walks.specs.Along.{passes}
 use Rattle.ras_prec_walks.specs.Parts.{is_it, is_and}
 use Rattle.ras_prec_walks.specs.declared.inside.Sought.{Sought}
 use Rattle.ras_prec_walks.specs.declared.inside.Sought.TheVariants.{Record, Let}
@@ -72,3 +73,20 @@ has_exterior_record c = holds Record c (filter at_node (descendants_of c))
 -- a `let` in it, through `&&` alone, or an `&&` there that lacks a side
 abbrev pub has_let : Cursor → Bool
 has_let c = holds Let c (filter at_node (descendants_of c))
+
+-- ---- the same from an expression on to its operands
+
+-- the first or the second expression passes
+abbrev pub side_passes : (Cursor → Bool) → Cursor → Bool
+side_passes test c = passes test (typed_child is_expr c) || passes test (second_typed_child is_expr c)
+
+-- an operand that no delimiters of the expression surround passes
+abbrev pub operand_passes : SyntaxKind → (Cursor → Bool) → Cursor → Bool
+operand_passes (Node kind.BIN_EXPR) test c = side_passes test c
+operand_passes (Node kind.INDEX_EXPR) test c = passes test (typed_child is_expr c)
+operand_passes (Node kind.AWAIT_EXPR) test c = passes test (typed_child is_expr c)
+operand_passes (Node kind.PREFIX_EXPR) test c = passes test (typed_child is_expr c)
+operand_passes (Node kind.CAST_EXPR) test c = passes test (typed_child is_expr c)
+operand_passes (Node kind.FIELD_EXPR) test c = passes test (typed_child is_expr c)
+operand_passes (Node kind.METHOD_CALL_EXPR) test c = passes test (typed_child is_expr c)
+operand_passes _ test c = false
