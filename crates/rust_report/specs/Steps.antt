@@ -57,9 +57,9 @@ counts trivia marks e = counts_element trivia marks (element_in e)
 abbrev pub counted : Trivia → List Bool → List (Bool × Cursor) → List Event
 counted trivia marks walk = filter (counts trivia marks) (map walk_event walk)
 
--- the first of some events is this one, and the others are left; none is where there are none
+-- the first of some events is this one, and the others are left; none is where there are none, and none is left
 abbrev pub IsNext : List Event → Option Event → List Event → Type 0
-IsNext old None new = old ≡ []
+IsNext old None new = (old ≡ []) × (new ≡ [])
 IsNext old (Some e) new = old ≡ e ∷ new
 
 -- the kind, and a token's text

@@ -5,8 +5,10 @@ mod items;
 mod pattern;
 mod place;
 mod same;
+mod words;
 
 pub use items::{Row, is_listed, outline};
-pub use pattern::{Link, PatternError, Step, fits, kind_named, parse_pattern, query};
+pub use pattern::{Link, Step, fits, query};
 pub use place::{Spot, offset_of, spot_at};
-pub use same::{Difference, Trivia, first_difference, is_left_out};
+pub use same::{Difference, Trivia, differences, first_difference, is_left_out};
+pub use words::{PatternError, kind_named, parse_pattern};

@@ -1,16 +1,13 @@
 //! Patterns of kinds, and what they find in a tree.
-ghost use Rattle.std.specs.Prelude.{◌≡◌, ◌↔◌, IfOk, Some, map};
+ghost use Rattle.std.specs.Prelude.{◌≡◌, IfOk, map};
 ghost use Rattle.std.specs.List.{filter};
 ghost use Rattle.tree_model.specs.Cursor.{descendants_of};
 ghost use Rattle.lossless_tree.specs.Element.{element_of};
-ghost use Rattle.syntax_kind.specs.declared.syntax_kind.SyntaxKind.{SyntaxKind};
-ghost use Rattle.syntax_kind.specs.Kinds.{IsKind};
-ghost use Rattle.rust_kinds.specs.Names.{IsNamed};
 ghost use Rattle.rust_report.specs.Patterns.{allows, fits, fits_at};
+ghost use Rattle.rust_report.specs.Climbs.{IsClimb, one_fits};
 
 use lossless_tree::{SyntaxElement, SyntaxKind, SyntaxNode};
-use rust_kinds::from_name;
-use std::alloc::{AllocError, AllocFailed, Global};
+use std::alloc::{AllocError, Global};
 
 /// How what a step of a pattern stands for is related to what is before it in the pattern.
 #[derive(Clone, Copy, Debug, PartialEq, Eq)]
@@ -30,77 +27,6 @@ pub struct Step {
     pub kind: Option<SyntaxKind>,
 }
 
-/// Why a text is no pattern.
-#[derive(Debug, Drop, thiserror::Error)]
-pub enum PatternError {
-    /// Where a kind should be there is none: at the start, at the end, or between two signs.
-    #[error("a kind is missing")]
-    NoKind,
-    /// A word is the name of no kind.
-    #[error("no kind is named `{0}`")]
-    UnknownKind(String),
-    /// Out of memory.
-    #[error("out of memory")]
-    Memory,
-}
-
-impl From<AllocError> for PatternError {
-    fn from(_error: AllocError) -> PatternError {
-        PatternError::Memory
-    }
-}
-
-impl<T: Drop> From<AllocFailed<T>> for PatternError {
-    fn from(_error: AllocFailed<T>) -> PatternError {
-        PatternError::Memory
-    }
-}
-
-/// The kind with this name, also one of the table of `rust_kinds`; `None` where there is none.
-pub fn kind_named(name: &str) -> Option<SyntaxKind>
-    ensures { (k : SyntaxKind) → IsKind k → (result ≡ Some k) ↔ IsNamed k name.now }
-{
-    from_name(name)
-}
-
-// What a word of a pattern stands for.
-fn kind_of_word(alloc: Global, word: &str) -> Result<Option<SyntaxKind>, PatternError> {
-    if word.is_empty() {
-        return Err(PatternError::NoKind);
-    }
-    if word == "*" {
-        return Ok(None);
-    }
-    match kind_named(word) {
-        Some(kind) => Ok(Some(kind)),
-        None => Err(PatternError::UnknownKind(String::from_str(alloc, word)?)),
-    }
-}
-
-fn push_part(alloc: Global, steps: &mut Vec<Step>, part: &str) -> Result<(), PatternError> {
-    let mut link = Link::Child;
-    for word in part.split("//") {
-        let kind = kind_of_word(alloc, word.trim())?;
-        steps.push(Step { link, kind })?;
-        link = Link::Within;
-    }
-    Ok(())
-}
-
-/// The steps of a pattern, as `FN > NAME` or `CALL_EXPR//PAREN_EXPR`, the last one first: that of the nodes and tokens that are looked
-/// for.
-///
-/// A step is the name of a kind, or `*` for any. After `>` is a child, after `//` what is below at any depth. White space
-/// round a step means nothing.
-pub fn parse_pattern(alloc: Global, text: &str) -> Result<Vec<Step>, PatternError> {
-    let mut steps = Vec::new(alloc);
-    for part in text.split('>') {
-        push_part(alloc, &mut steps, part)?;
-    }
-    steps.reverse();
-    Ok(steps)
-}
-
 fn allows(step: Step, kind: SyntaxKind) -> bool
     ensures { result ≡ allows step kind }
 {
@@ -110,41 +36,84 @@ fn allows(step: Step, kind: SyntaxKind) -> bool
     }
 }
 
+// What the steps of a pattern up to the first `//` say of a node or token.
+#[derive(Drop)]
+enum Climb<'a> {
+    // All steps fit, and none is left.
+    Whole,
+    // One does not fit.
+    Not,
+    // They fit, and these steps are left for this node and those above it.
+    Part(&'a [Step], Option<SyntaxNode>),
+}
+
+// Compares a node or token and the nodes above it with the steps up to the first `//`.
+fn compare<'a>(steps: &'a [Step], kind: SyntaxKind, above: Option<SyntaxNode>) -> Climb<'a>
+    ensures { IsClimb steps.now kind above result }
+{
+    let mut left = steps;
+    let mut now = kind;
+    let mut up = above;
+    while let Some((step, rest)) = left.split_first() {
+        if !allows(*step, now) {
+            return Climb::Not;
+        }
+        if rest.is_empty() {
+            return Climb::Whole;
+        }
+        match step.link {
+            Link::Within => return Climb::Part(rest, up),
+            Link::Child => {
+                let Some(parent) = up else {
+                    return Climb::Not;
+                };
+                left = rest;
+                now = parent.kind();
+                up = parent.parent();
+            }
+        }
+    }
+    Climb::Whole
+}
+
+// Whether a node fits the steps, or one above it does. Where the steps up to a `//` fit a node, they need not be tried at those above
+// it: what the steps after the `//` find above those, they find above this one too.
+fn one_fits(steps: &[Step], first: Option<SyntaxNode>) -> bool
+    ensures { result ≡ one_fits steps.now first }
+{
+    let mut left = steps;
+    let mut next = first;
+    while let Some(node) = next {
+        match compare(left, node.kind(), node.parent()) {
+            Climb::Whole => return true,
+            Climb::Not => next = node.parent(),
+            Climb::Part(rest, up) => {
+                left = rest;
+                next = up;
+            }
+        }
+    }
+    false
+}
+
 /// Whether a node or token of a kind, below a parent if there is one, fits the steps of a pattern, the last one first.
 ///
-/// It takes constant time for a step after `>`, and tries each node above for one after `//`.
+/// Takes constant time for each step after `>`. For a step after `//` it looks at each node above at most once, or, where `n` steps after
+/// `>` follow before the next `//`, at most `n + 1` times. So the time is at most the depth times the number of steps, however many `//`
+/// there are.
 pub fn fits(steps: &[Step], kind: SyntaxKind, above: Option<SyntaxNode>) -> bool
     ensures { result ≡ fits steps.now kind above }
 {
-    let Some((step, rest)) = steps.split_first() else {
-        return true;
-    };
-    if !allows(*step, kind) {
-        return false;
-    }
-    if rest.is_empty() {
-        return true;
-    }
-    let Some(parent) = above else {
-        return false;
-    };
-    match step.link {
-        Link::Child => fits(rest, parent.kind(), parent.parent()),
-        Link::Within => {
-            let mut nodes = parent.ancestors();
-            while let Some(node) = nodes.next() {
-                if fits(rest, node.kind(), node.parent()) {
-                    return true;
-                }
-            }
-            false
-        }
+    match compare(steps, kind, above) {
+        Climb::Whole => true,
+        Climb::Not => false,
+        Climb::Part(rest, up) => one_fits(rest, up),
     }
 }
 
 /// The nodes and tokens of a tree that fit a pattern, in preorder.
 ///
-/// A step after `//` is tried at every node above; a pattern with several of them takes time by the product of these.
+/// Takes, for each node and token, the time of [`fits`]: constant without `//`, else at most its depth times the number of steps.
 pub fn query(
     alloc: Global,
     root: &SyntaxNode,

@@ -1,11 +1,13 @@
 //! Where two trees differ, and whether one is another without some pairs of parentheses.
-ghost use Rattle.std.specs.Prelude.{◌≡◌, ◌↔◌, IsTrue, IsNone, IfSome, []};
+ghost use Rattle.std.specs.Prelude.{◌≡◌, ◌↔◌, IsTrue, IsNone, IfSome, IfOk, OnOk, [], map};
 ghost use Rattle.tree_model.specs.Cursor.{walk_of};
 ghost use Rattle.rust_report.specs.Steps.{is_marked, is_left_out, counts_element, counts, shown, step, steps_of, counted, IsNext, IsFirstDifference};
+ghost use Rattle.rust_report.specs.Differences.{past, levels, AreDifferences, DifferThen};
 
 use lossless_tree::{
     NodeOrToken, PreorderWithTokens, SyntaxElement, SyntaxKind, SyntaxNode, TextSize, WalkEvent,
 };
+use std::alloc::{AllocError, Global};
 
 /// Whether white space and comments count.
 #[derive(Clone, Copy, Debug, PartialEq, Eq)]
@@ -116,6 +118,41 @@ fn is_same_step(a: &WalkEvent<SyntaxElement>, b: &WalkEvent<SyntaxElement>) -> b
     }
 }
 
+// The first difference of what is left of two walks, of which the first is read without what the marks leave out. The walks are then
+// after the events that differ.
+fn next_difference(
+    olds: &mut PreorderWithTokens,
+    marks: &[bool],
+    news: &mut PreorderWithTokens,
+    trivia: Trivia,
+) -> Option<Difference>
+    ensures same { IsNone result ↔ (map step (counted trivia marks.now olds.old) ≡ map step (counted trivia [] news.old)) }
+    ensures first { IfSome result (λ d. DifferThen (counted trivia marks.now olds.old) (counted trivia [] news.old) d (counted trivia marks.now olds.new) (counted trivia [] news.new)) }
+{
+    while let Some(a) = next_counted(olds, trivia, marks) {
+        let Some(b) = next_counted(news, trivia, &[]) else {
+            return Some(Difference {
+                old: Some(a),
+                new: None,
+            });
+        };
+        if is_same_step(&a, &b) {
+            continue;
+        }
+        return Some(Difference {
+            old: Some(a),
+            new: Some(b),
+        });
+    }
+    match next_counted(news, trivia, &[]) {
+        Some(b) => Some(Difference {
+            old: None,
+            new: Some(b),
+        }),
+        None => None,
+    }
+}
+
 /// The first place where two trees differ, read as walks that enter and leave each node and token; `None` where they are the same, by
 /// kinds and by the texts of tokens. The first tree is read without what the marks leave out, as [`is_left_out`] says; with no
 /// marks, as a whole.
@@ -132,26 +169,83 @@ pub fn first_difference(
 {
     let mut olds = old.preorder_with_tokens();
     let mut news = new.preorder_with_tokens();
-    while let Some(a) = next_counted(&mut olds, trivia, marks) {
-        let Some(b) = next_counted(&mut news, trivia, &[]) else {
-            return Some(Difference {
-                old: Some(a),
-                new: None,
-            });
-        };
-        if is_same_step(&a, &b) {
-            continue;
+    next_difference(&mut olds, marks, &mut news, trivia)
+}
+
+// How many ends are passed after a difference in the walk of the first of two events.
+fn levels(own: &Option<WalkEvent<SyntaxElement>>, other: &Option<WalkEvent<SyntaxElement>>) -> usize
+    ensures { result ≡ levels own.now other.now }
+{
+    match own {
+        Some(WalkEvent::Enter(_)) => match other {
+            Some(WalkEvent::Enter(_)) => 1,
+            Some(WalkEvent::Leave(_)) => 2,
+            None => 2,
+        },
+        Some(WalkEvent::Leave(_)) => 0,
+        None => 0,
+    }
+}
+
+// Goes on past the ends of so many nodes and tokens that were entered. No tree in memory has 2^64 levels, so it does not fail.
+fn skip(
+    walk: &mut PreorderWithTokens,
+    marks: &[bool],
+    trivia: Trivia,
+    levels: usize,
+) -> Result<(), AllocError>
+    ensures { OnOk result (counted trivia marks.now walk.new ≡ past levels (counted trivia marks.now walk.old)) }
+{
+    let mut open = levels;
+    while open > 0 {
+        match next_counted(walk, trivia, marks) {
+            Some(WalkEvent::Enter(_)) => match open.checked_add(1) {
+                Some(more) => open = more,
+                None => return Err(AllocError),
+            },
+            Some(WalkEvent::Leave(_)) => open -= 1,
+            None => return Ok(()),
         }
-        return Some(Difference {
-            old: Some(a),
-            new: Some(b),
-        });
     }
-    match next_counted(&mut news, trivia, &[]) {
-        Some(b) => Some(Difference {
-            old: None,
-            new: Some(b),
-        }),
-        None => None,
+    Ok(())
+}
+
+/// The first places where two trees differ, at most `limit`, in order; all of them where there are fewer. As [`first_difference`] for
+/// the first. The walks go on after it: where both enter a node or token there, after both; where one tree has further children and
+/// the other has none, after their parents. So children are compared by their places: where one was put in, those after it are
+/// compared with those of the other tree one place later.
+///
+/// It takes time linear in the two trees.
+pub fn differences(
+    alloc: Global,
+    old: &SyntaxNode,
+    marks: &[bool],
+    new: &SyntaxNode,
+    trivia: Trivia,
+    limit: usize,
+) -> Result<Vec<Difference>, AllocError>
+    ensures { IfOk result (λ found. AreDifferences limit (counted trivia marks.now (walk_of old.now)) (counted trivia [] (walk_of new.now)) found.items) }
+{
+    let mut olds = old.preorder_with_tokens();
+    let mut news = new.preorder_with_tokens();
+    let mut found = Vec::new(alloc);
+    while found.len() < limit {
+        let Some(difference) = next_difference(&mut olds, marks, &mut news, trivia) else {
+            return Ok(found);
+        };
+        skip(
+            &mut olds,
+            marks,
+            trivia,
+            levels(&difference.old, &difference.new),
+        )?;
+        skip(
+            &mut news,
+            &[],
+            trivia,
+            levels(&difference.new, &difference.old),
+        )?;
+        found.push(difference)?;
     }
+    Ok(found)
 }

@@ -1,0 +1,25 @@
+use Rattle.std.proofs.Common.{◌<◌, sym, ap, ◌∙◌, [], refl, arith, length}
+use Rattle.tree_model.specs.Cursor.{walk_of}
+use Rattle.rust_report.specs.Steps.{counted}
+use Rattle.rust_report.specs.Differences.{past}
+use Rattle.rust_report.proofs.StepLemmas.{one_more, no_more, enough}
+use Rattle.rust_report.proofs.same.differences.Goals as goal
+
+pub returns-in_default : goal.returns-in_default
+returns-in_default c =
+    let fewer : length c.loop-trivia.found.items < c.args.limit = omega (arith, c.loop-trivia-test.true, c.len.ensures) in
+    no_more c.args.limit _ _ (counted c.args.trivia c.args.marks.now c.loop-trivia.olds) (counted c.args.trivia [] c.loop-trivia.news) c.loop-trivia.found.items fewer c.loop-trivia.invariant (c.in_default.ensures.same.0 refl)
+
+pub loop-trivia-preserved : goal.loop-trivia-preserved
+loop-trivia-preserved c =
+    let fewer : length c.loop-trivia.found.items < c.args.limit = omega (arith, c.loop-trivia-test.true, c.len.ensures) in
+    one_more c.args.limit _ _ (counted c.args.trivia c.args.marks.now c.loop-trivia.olds) (counted c.args.trivia [] c.loop-trivia.news) c.loop-trivia.found.items c.push.new.self.items c.in-Some.difference
+    (counted c.args.trivia c.args.marks.now c.next_difference.new.olds) (counted c.args.trivia [] c.next_difference.new.news) (counted c.args.trivia c.args.marks.now c.skip.new.walk) (counted c.args.trivia [] c.skip-in-loop-trivia.new.walk)
+    fewer c.loop-trivia.invariant c.in-Some.ensures.first
+    (c.in_ok-skip.ensures ∙ ap (λ n. past n (counted c.args.trivia c.args.marks.now c.next_difference.new.olds)) c.levels.ensures)
+    (c.in_ok-skip-2.ensures ∙ ap (λ n. past n (counted c.args.trivia [] c.next_difference.new.news)) c.levels-in-loop-trivia.ensures)
+    c.in_ok-push.ensures.items
+
+pub returns : goal.returns
+returns c =
+    enough c.args.limit _ _ (counted c.args.trivia c.args.marks.now c.loop-trivia.olds) (counted c.args.trivia [] c.loop-trivia.news) c.loop-trivia.found.items (λ h. omega (arith, c.loop-trivia-test.false, c.len.ensures, h)) c.loop-trivia.invariant
