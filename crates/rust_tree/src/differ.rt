@@ -1,11 +1,11 @@
-//! The command `diff`: the first places where the trees of two files differ.
+//! The command `diff`: the places where the trees of two files differ.
 
 use crate::failure::Failure;
 use crate::names::kind_name;
 use crate::source::{Reading, lines, parsed, spot};
 use line_index::LineIndex;
 use lossless_tree::{NodeOrToken, SyntaxElement, TextSize, WalkEvent};
-use rust_report::{Trivia, first_difference};
+use rust_report::{Trivia, differences};
 use std::alloc::Global;
 use std::io;
 use std::io::Write;
@@ -51,8 +51,17 @@ fn write_side<W: Write>(
     }
 }
 
-/// Writes where two trees begin to differ, by kinds and the texts of tokens: the first node or token of each that the other does not
-/// have there. Whether they differ.
+/// How many places were told, and whether there are more.
+#[derive(Clone, Copy, Debug)]
+pub struct Told {
+    /// The number of places.
+    pub places: usize,
+    /// Whether the trees differ at further places.
+    pub more: bool,
+}
+
+/// Writes where two trees differ, by kinds and the texts of tokens, at most `limit` places: for each the node or token of each tree that
+/// the other does not have there.
 pub fn show<W: Write>(
     alloc: Global,
     out: &mut W,
@@ -60,14 +69,26 @@ pub fn show<W: Write>(
     new: Side<'_>,
     reading: Reading,
     trivia: Trivia,
-) -> Result<bool, Failure> {
+    limit: usize,
+) -> Result<Told, Failure> {
     let old_parse = parsed(alloc, old.text, reading)?;
     let new_parse = parsed(alloc, new.text, reading)?;
-    let found = first_difference(old_parse.root(), &[], new_parse.root(), trivia);
-    let Some(found) = found else {
-        return Ok(false);
-    };
-    write_side(alloc, out, old, &lines(alloc, old.text)?, &found.old)?;
-    write_side(alloc, out, new, &lines(alloc, new.text)?, &found.new)?;
-    Ok(true)
+    let old_lines = lines(alloc, old.text)?;
+    let new_lines = lines(alloc, new.text)?;
+    let (old_root, new_root) = (old_parse.root(), new_parse.root());
+    let wanted = limit.saturating_add(1);
+    let found = differences(alloc, old_root, &[], new_root, trivia, wanted)?;
+    let mut places = 0usize;
+    for difference in &found {
+        if places == limit {
+            return Ok(Told { places, more: true });
+        }
+        write_side(alloc, out, old, &old_lines, &difference.old)?;
+        write_side(alloc, out, new, &new_lines, &difference.new)?;
+        places = places.saturating_add(1);
+    }
+    Ok(Told {
+        places,
+        more: false,
+    })
 }

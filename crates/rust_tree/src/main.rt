@@ -27,7 +27,7 @@ use differ::Side;
 use failure::Failure;
 use inputs::text_of;
 use job::{Job, Task, Then};
-use options::{command, ink, reading, showing};
+use options::{command, ink, limit, reading, showing};
 use rust_report::{PatternError, Trivia, parse_pattern};
 use session::{FOUND, Session, UNREAD, USAGE};
 use std::io::{BufWriter, ErrorKind, IsTerminal, Write};
@@ -124,12 +124,21 @@ fn write_difference<W: Write>(
     } else {
         Trivia::Kept
     };
-    match differ::show(rt.alloc(), out, old, new, reading(matches), trivia) {
-        Ok(true) => {
+    let limit = limit(matches);
+    match differ::show(rt.alloc(), out, old, new, reading(matches), trivia, limit) {
+        Ok(told) => {
             out.flush()?;
-            Ok(FOUND)
+            if told.more {
+                eprintln!(rt;
+                    "rust_tree: the trees differ at further places; --limit N shows more"
+                )?;
+            }
+            Ok(if told.places > 0 || told.more {
+                FOUND
+            } else {
+                0
+            })
         }
-        Ok(false) => Ok(0),
         Err(Failure::Output(error)) => Err(error),
         Err(Failure::File(error)) => Err(error),
         Err(Failure::Text(error)) => {

@@ -233,10 +233,17 @@ fn diff<'a>(alloc: Global) -> Result<Command<'a>, AllocError> {
         .long("no-trivia")
         .action(ArgAction::SetTrue)
         .help("Passes over white space and comments");
+    let limit = Arg::new(alloc, "limit")
+        .long("limit")
+        .value_name("N")
+        .value_parser(value_parser!(u32))
+        .default_value("10")
+        .help("How many places are told");
     let command = Command::new(alloc, "diff")
-        .about("Tells where the trees of two files begin to differ; the status is 1 where they do")
+        .about("Tells where the trees of two files differ; the status is 1 where they do")
         .after_help("Example: rust_tree diff --no-trivia old.rs new.rs")
-        .arg(trivia)?;
+        .arg(trivia)?
+        .arg(limit)?;
     with_named(alloc, command, &["A", "B"])
 }
 
@@ -278,6 +285,14 @@ pub fn reading(matches: &ArgMatches) -> Reading {
         edition: edition_of(matches.get_str("edition")),
         entry: entry_of(matches.get_str("entry")),
         validates: !matches.get_flag("no-validation"),
+    }
+}
+
+/// How many places are told.
+pub fn limit(matches: &ArgMatches) -> usize {
+    match matches.get_one::<u32>("limit") {
+        Some(limit) => limit as usize,
+        None => 10,
     }
 }
 
