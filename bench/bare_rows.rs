@@ -1,7 +1,8 @@
 //! What `preorder_with_tokens` has to do at the least: a plain Rust loop over rows of 16 bytes and a column of parents, as
 //! `lossless_tree` keeps them, that enters and leaves each row. It makes no cursors and hands nothing out. Asked for `counted`, it
 //! hands out a cursor at each step that is counted up and down again, where a full count stays full, as owners of a tree are in
-//! `shared_pointer`. It goes over the same trees as `benches trees` and prints the same lines for that one operation.
+//! `shared_pointer`. Asked for `one-edit`, `column` or `ten-edits`, it looks the starts up as after edits that are not copied into the
+//! rows: past one edited token, the same with the starts in a column of their own, and in a list of ten edits. It goes over the same trees as `benches trees` and prints the same lines for that one operation.
 
 use std::cell::Cell;
 use std::hint::black_box;
@@ -48,14 +49,15 @@ impl Rows {
         self.rows[node].behind = self.rows.len() as u64;
     }
 
-    // How many rows are entered, and the sum of their starts.
-    fn walk(&self) -> (u64, u64) {
-        let (mut count, mut sum) = (1, self.rows[0].start as u64);
+    // How many rows are entered, and the sum of their starts, which `start` looks up.
+    #[inline(always)]
+    fn walk(&self, start: impl Fn(usize) -> u32) -> (u64, u64) {
+        let (mut count, mut sum) = (1, start(0) as u64);
         let (mut next, mut innermost) = (1, 0);
         loop {
             if next < self.rows[innermost].behind as usize {
                 count += 1;
-                sum += self.rows[next].start as u64;
+                sum += start(next) as u64;
                 innermost = next;
                 next += 1;
             } else if innermost == 0 {
@@ -174,13 +176,40 @@ fn chain(depth: u64) -> Rows {
     rows
 }
 
-fn time(counted: bool, name: &str, runs: u32, rows: Rows) {
+// Ways to keep the starts after edits that are not copied into the rows: one edited token, and the starts in a column of their own;
+// or a list of ten edited tokens, searched for each start. Each edit is by 0 bytes, so that the sums stay the same.
+#[derive(Clone, Copy)]
+enum Way {
+    Rows,
+    Counted,
+    OneEdit,
+    Column,
+    TenEdits,
+}
+
+fn walk_by(way: Way, rows: &Rows, starts: &[u32], edits: &[(usize, u32)], owners: &Cell<usize>) -> (u64, u64) {
+    let (at, by) = edits[edits.len() / 2];
+    match way {
+        Way::Rows => rows.walk(|row| rows.rows[row].start),
+        Way::Counted => walk_counted(rows, owners),
+        Way::OneEdit => rows.walk(|row| rows.rows[row].start + if row > at { by } else { 0 }),
+        Way::Column => rows.walk(|row| starts[row] + if row > at { by } else { 0 }),
+        Way::TenEdits => rows.walk(|row| match edits.partition_point(|edit| edit.0 < row) {
+            0 => rows.rows[row].start,
+            passed => rows.rows[row].start + edits[passed - 1].1,
+        }),
+    }
+}
+
+fn time(way: Way, name: &str, runs: u32, rows: Rows) {
     let owners = Cell::new(1);
+    let starts: Vec<u32> = rows.rows.iter().map(|row| row.start).collect();
+    let edits: Vec<(usize, u32)> = (1..=10).map(|edit| (rows.rows.len() * edit / 11, 0)).collect();
     let mut best = u128::MAX;
     let mut seen = (0, 0);
     for _ in 0..runs {
         let start = Instant::now();
-        seen = if counted { walk_counted(black_box(&rows), black_box(&owners)) } else { black_box(&rows).walk() };
+        seen = walk_by(black_box(way), black_box(&rows), black_box(&starts), black_box(&edits), black_box(&owners));
         black_box(seen);
         best = best.min(start.elapsed().as_nanos());
     }
@@ -188,10 +217,16 @@ fn time(counted: bool, name: &str, runs: u32, rows: Rows) {
 }
 
 fn main() {
-    let counted = std::env::args().nth(1).is_some_and(|word| word == "counted");
+    let way = match std::env::args().nth(1).as_deref() {
+        Some("counted") => Way::Counted,
+        Some("one-edit") => Way::OneEdit,
+        Some("column") => Way::Column,
+        Some("ten-edits") => Way::TenEdits,
+        _ => Way::Rows,
+    };
     for (depth, runs) in [(5, 50), (7, 20), (8, 10), (10, 3)] {
-        time(counted, &format!("balanced-4^{depth}"), runs, balanced(depth));
+        time(way, &format!("balanced-4^{depth}"), runs, balanced(depth));
     }
-    time(counted, "wide-100000", 10, wide(100_000));
-    time(counted, "chain-10000", 20, chain(10_000));
+    time(way, "wide-100000", 10, wide(100_000));
+    time(way, "chain-10000", 20, chain(10_000));
 }

@@ -54,7 +54,7 @@ fn read_alone<F: FrontEnd>(
                 at = end;
             }
             Step::Exit => builder.finish_node()?,
-            Step::Error(_message, _position) => {}
+            Step::Error(_position, _message) => {}
         }
     }
     Ok(Some(builder.finish()?.syntax_node()))

@@ -89,7 +89,7 @@ fn dot_in(text: &[u8]) -> Option<usize>
     text.iter().position(|byte| *byte == b'.')
 }
 
-// How many bytes a part has of a number that has so many before its dot.
+// The length in bytes of a part of a number that has `dot` bytes before its dot.
 fn len_of(part: Part, dot: usize) -> TextSize
     ensures { result ≡ len_of_part part dot }
 {
@@ -107,7 +107,7 @@ fn is_node(event: Event) -> bool
     matches!(event, Event::Node { .. })
 }
 
-// The bytes of a token whose first part has so many, and which goes on with these.
+// The length in bytes of a token whose first part has `first` bytes, and which continues with these tokens.
 #[tactic(auto, unfolding(crate::specs::Layout::joined_len))]
 fn joined_len(first: TextSize, tokens: &[Token]) -> TextSize
     ensures { result ≡ joined_len first tokens.now }
@@ -408,7 +408,7 @@ fn walk<'a>(
     Ok(layout)
 }
 
-// The number of the event of the last node: of the outermost, where a parser ends with it.
+// The number of the last event that is a node: the outermost node, if the parser ends with it.
 fn root_of(events: &[Event]) -> usize
     ensures { result ≡ root_of events.now }
 {

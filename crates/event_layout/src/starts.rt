@@ -23,7 +23,7 @@ fn number_at(numbers: &[u32], i: usize) -> u32
     }
 }
 
-// An event that no 32 bits can name begins no node.
+// An event whose number needs more than 32 bits begins no node.
 fn number_of(event: usize) -> u32
     ensures { result ≡ number_of event }
 {

@@ -1,5 +1,6 @@
 -- What a front end answers, without the memory that it takes: steps, whose tokens have lengths, and the lexer's errors.
 use Rattle.std.specs.Prelude.{◌≡◌, ℕ, ◌≤◌, List, [], ◌∷◌, ◌++◌, length, take, drop, option_map, IsUtf8, String, string_bytes, Option}
+use Rattle.std.specs.Box.{box_value}
 use Rattle.syntax_kind.specs.declared.syntax_kind.SyntaxKind.{SyntaxKind}
 use Rattle.tree_model.specs.Events.{Event, enter, leaf, exit}
 use Rattle.ras_front_end.specs.declared.output.Step.{Step}
@@ -21,7 +22,7 @@ abbrev pub front_step : Step → FrontStep
 front_step (Enter k) = begins k
 front_step (Token k n) = takes k n
 front_step Exit = ends
-front_step (Error m p) = reports (string_bytes m) p
+front_step (Error p m) = reports (string_bytes (box_value m)) p
 
 abbrev pub front_steps : List Step → List FrontStep
 front_steps [] = []

@@ -10,4 +10,4 @@ abbrev pub tree_event : Step → Option BuilderEvent
 tree_event (Enter k) = Some (event.Enter k)
 tree_event (Token k n) = Some (event.Token k n)
 tree_event Exit = Some event.Exit
-tree_event (Error m p) = None
+tree_event (Error p m) = None

@@ -1,6 +1,6 @@
 -- When the token that covers an edit is parsed again.
 use Rattle.std.proofs.Common.{◌≡◌, ℕ, List, sym, ap, ◌∙◌, subst, Option, Some, None}
-use Rattle.std.specs.Prelude.{MatchOption, String, string_bytes, option_map}
+use Rattle.std.specs.Prelude.{MatchOption, string_bytes, option_map}
 use Rattle.syntax_kind.specs.declared.syntax_kind.SyntaxKind.{SyntaxKind}
 use Rattle.tree_model.specs.Tree.{Tree, node, token, kind_of, text, IsToken, subtree}
 use Rattle.tree_model.specs.Cursor.{Cursor, IsRoot, focus, range_end}
@@ -14,6 +14,7 @@ use Rattle.ras_front_end.specs.Front.{Front}
 use Rattle.ras_parsing.specs.Edit.{Edit, covered, edited_at}
 use Rattle.ras_parsing.specs.Reparse.{TokenPath, MayBeReread, StaysOneToken, nodes_around}
 use Rattle.ras_parsing.specs.Rereading.{MayStay, IsOneToken, NoOneToken, IsNewToken}
+use Rattle.ras_parsing.specs.declared.reparse.OneToken.{OneToken}
 use Rattle.ras_parsing.proofs.OneToken.{Next, stays, is_one}
 
 -- ---- what covers an edit, from the root
@@ -92,11 +93,11 @@ not_read front edition tree edit d k new next a never fault w =
     never fault (subst (λ j. IsOneToken front edition j new next fault) (sym a.kind_is) (is_one front edition d edit new next fault a.next_is a.text_is s))
 
 -- what `one_token` answered
-abbrev Answered : {Z : Type 0} → Front → Edition → SyntaxKind → List ℕ → Option ℕ → Option (Option (String Z)) → Type 0
-Answered front edition k new next o = MatchOption o (NoOneToken front edition k new next) (λ e. IsOneToken front edition k new next (option_map string_bytes e))
+abbrev Answered : Front → Edition → SyntaxKind → List ℕ → Option ℕ → Option OneToken → Type 0
+Answered front edition k new next o = MatchOption o (NoOneToken front edition k new next) (λ (e : OneToken). IsOneToken front edition k new next (option_map string_bytes e.error))
 
-pub one_is : {Z : Type 0} (front : Front) (edition : Edition) (k : SyntaxKind) (new : List ℕ) (next : Option ℕ) (o : Option (Option (String Z))) (e : Option (String Z)) → Answered front edition k new next o → o ≡ Some e → IsOneToken front edition k new next (option_map string_bytes e)
+pub one_is : (front : Front) (edition : Edition) (k : SyntaxKind) (new : List ℕ) (next : Option ℕ) (o : Option OneToken) (e : OneToken) → Answered front edition k new next o → o ≡ Some e → IsOneToken front edition k new next (option_map string_bytes e.error)
 one_is front edition k new next o e h is = subst (Answered front edition k new next) is h
 
-pub none_is : {Z : Type 0} (front : Front) (edition : Edition) (k : SyntaxKind) (new : List ℕ) (next : Option ℕ) (o : Option (Option (String Z))) → Answered front edition k new next o → o ≡ None → NoOneToken front edition k new next
+pub none_is : (front : Front) (edition : Edition) (k : SyntaxKind) (new : List ℕ) (next : Option ℕ) (o : Option OneToken) → Answered front edition k new next o → o ≡ None → NoOneToken front edition k new next
 none_is front edition k new next o h is = subst (Answered front edition k new next) is h

@@ -42,7 +42,8 @@ pub(crate) fn build_output(alloc: Global, text: &str, output: Output) -> Result<
     let root = tree_over(alloc, text, steps.as_slice())?;
     let mut errors = Vec::new(alloc);
     for step in steps {
-        if let Step::Error(message, position) = step {
+        if let Step::Error(position, message) = step {
+            let message = Box::into_inner(message);
             store(&mut errors, SyntaxError::new_at_offset(message, position))?;
         }
     }

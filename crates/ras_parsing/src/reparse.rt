@@ -299,7 +299,11 @@ fn token_path<F: FrontEnd>(
     let mut text = edited_text(alloc, token.text(), range.start(), delete, insert)?;
     let next = root.text().char_at(range.end());
     match one_token(alloc, front, kind, &mut text, next, edition)? {
-        Some(error) => Ok(Some(NewToken { token, text, error })),
+        Some(one) => Ok(Some(NewToken {
+            token,
+            text,
+            error: one.error,
+        })),
         None => Ok(None),
     }
 }
@@ -341,8 +345,15 @@ fn loses_newline(root: &SyntaxNode, delete: TextRange) -> bool
     root.as_str().as_bytes()[start..end].contains(&b'\n')
 }
 
-// Whether a text is one token of a kind, and no word that is a keyword elsewhere, and none with the next character: the
-// lexer's error, if it has one. The text is longer for a while, and where memory is refused it may stay so.
+// A text that is one token.
+#[derive(Drop)]
+struct OneToken {
+    // the lexer's error, if it has one
+    error: Option<String>,
+}
+
+// Whether a text is one token of a kind, and no word that is a keyword elsewhere, and none with the next character. The text
+// is longer for a while, and may stay so where memory is refused.
 fn one_token<F: FrontEnd>(
     alloc: Global,
     front: &F,
@@ -350,8 +361,8 @@ fn one_token<F: FrontEnd>(
     text: &mut String,
     next: Option<char>,
     edition: Edition,
-) -> Result<Option<Option<String>>, AllocError>
-    ensures answer { IfOk result (λ o. MatchOption o (NoOneToken (F.answers front.now) edition kind (string_bytes text.old) next) (λ e. IsOneToken (F.answers front.now) edition kind (string_bytes text.old) next (option_map string_bytes e))) }
+) -> Result<Option<OneToken>, AllocError>
+    ensures answer { IfOk result (λ o. MatchOption o (NoOneToken (F.answers front.now) edition kind (string_bytes text.old) next) (λ e. IsOneToken (F.answers front.now) edition kind (string_bytes text.old) next (option_map string_bytes e.error))) }
     ensures text { OnOk result (string_bytes text.new ≡ string_bytes text.old) }
 {
     match front.single_token(alloc, text.as_str(), edition)? {
@@ -366,7 +377,7 @@ fn one_token<F: FrontEnd>(
                     return Ok(None);
                 }
             }
-            Ok(Some(error))
+            Ok(Some(OneToken { error }))
         }
         None => Ok(None),
     }

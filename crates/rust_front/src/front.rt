@@ -72,7 +72,7 @@ fn is_short(text: &str) -> bool
     text.len() < 1 << 32
 }
 
-// A text that is too long is not read.
+// The output for a text that is too long.
 fn nothing(alloc: Global) -> Output
     ensures { reading_of result ≡ nothing_read }
 {

@@ -1,4 +1,4 @@
-//! Rust's front end: texts to lossless trees by the whole grammar, with the errors that rust-analyzer tells.
+//! Rust's front end: parses a text by the whole grammar into a lossless tree, with rust-analyzer's error messages.
 #![tactic(auto)]
 
 mod front;

@@ -11,7 +11,7 @@ use syntax_kind::SyntaxKind;
 use text_size::TextRange;
 use token_layout::Token;
 
-// The kind of the next token that is no trivia.
+// The kind of the next token that is not trivia.
 fn next_kind(tokens: &[Token]) -> Option<SyntaxKind>
     ensures { result ≡ next_kind_of tokens.now }
 {
@@ -36,7 +36,7 @@ fn kind_name(kind: Option<SyntaxKind>) -> &'static str
     }
 }
 
-// The text with a name in the place of `%`.
+// The text with a name in place of `%`.
 #[tactic(auto, unfolding(crate::specs::Messages::filled))]
 fn filled(alloc: Global, name: &str, text: &str) -> Result<String, AllocError>
     ensures { IfOk result (λ s. string_bytes s ≡ filled name.now text.now) }

@@ -7,7 +7,7 @@ use rust_grammar::Rule;
 use rust_kinds::kinds;
 use syntax_kind::SyntaxKind;
 
-// What is read again by itself; its place here is the reparser's number.
+// The nodes that can be parsed again by themselves; the index of an entry is its reparser's number.
 const BLOCK_EXPR: u32 = 0;
 
 const RECORD_FIELD_LIST: u32 = 1;
@@ -41,7 +41,7 @@ fn is_braced(first_child: Option<SyntaxKind>) -> bool
     matches!(first_child, Some(SyntaxKind::L_CURLY))
 }
 
-// Kinds without a name of their own.
+// Kinds that have no constant.
 fn other_rule(number: u16) -> Option<u32>
     ensures { result ≡ other_rule_of number }
 {

@@ -21,7 +21,7 @@ fn report(alloc: Global, tokens: &[Token], fault: Fault) -> Result<Step, AllocEr
     ensures { IfOk result (λ s. front_step s ≡ report_by (say_of tokens.now) fault) }
 {
     let message = parser_message(alloc, fault.message, last(tokens, fault.left))?;
-    Ok(Step::Error(message, fault.position))
+    Ok(Step::Error(fault.position, Box::new(alloc, message)?))
 }
 
 #[tactic(auto, using(token_layout::proofs::Push::front_steps_push))]

@@ -15,7 +15,7 @@ pub fn size(text: &str) -> TextSize
     TextSize::new(u32::try_from(text.len()).unwrap_or(u32::MAX))
 }
 
-// Keeps the token if it ends on a character boundary of the text that it begins, and answers what is left of the text.
+// Keeps the token if it ends on a character boundary of the text that it begins, and returns the rest of the text.
 fn keep<'a>(kept: &mut Vec<Token>, token: Token, text: &'a str) -> Result<&'a str, AllocError>
     ensures tokens { OnOk result (kept.new.items ≡ kept.old.items ++ kept_of token text.now) }
     ensures text { IfOk result (λ left. left.now ≡ left_of token text.now) }

@@ -65,9 +65,9 @@ returns-in-Some-2 g c =
       text_is = edited_is c.in-Some.token edit (string_bytes c.in_ok-text.text) c.text.result.now c.start.result c.in_ok-text.ensures c.text.ensures starts;
       next_is = next_is c.text-2.result c.end.result c.in-Some.token c.char_at-next.result (c.text-2.ensures ∙ root_text c.args.root.now c.requires.root ∙ same) (c.end.ensures.value ∙ ap (λ (b : Bounds). b.end) c.text_range-range.ensures) c.char_at-next.ensures;
     } in
-    subst (λ s. IsNewToken (g.F.FrontEnd.answers c.args.front.now) c.args.edition c.args.root.now.tree edit c.in-Some.token s (option_map string_bytes c.in-Some-2.error)) (sym c.in_ok-error.ensures.text)
-    (is_read (g.F.FrontEnd.answers c.args.front.now) c.args.edition c.args.root.now.tree edit c.in-Some.token c.kind-kind.result (string_bytes c.in_ok-text.text) c.char_at-next.result (option_map string_bytes c.in-Some-2.error) a (c.may_be_reread.ensures.0 c.if-not-may_be_reread.false)
-    (one_is (g.F.FrontEnd.answers c.args.front.now) c.args.edition c.kind-kind.result (string_bytes c.in_ok-text.text) c.char_at-next.result c.in_ok-error.field-0 c.in-Some-2.error c.in_ok-error.ensures.answer c.in-Some-2.is))
+    subst (λ s. IsNewToken (g.F.FrontEnd.answers c.args.front.now) c.args.edition c.args.root.now.tree edit c.in-Some.token s (option_map string_bytes c.in-Some-2.one.error)) (sym c.in_ok-one.ensures.text)
+    (is_read (g.F.FrontEnd.answers c.args.front.now) c.args.edition c.args.root.now.tree edit c.in-Some.token c.kind-kind.result (string_bytes c.in_ok-text.text) c.char_at-next.result (option_map string_bytes c.in-Some-2.one.error) a (c.may_be_reread.ensures.0 c.if-not-may_be_reread.false)
+    (one_is (g.F.FrontEnd.answers c.args.front.now) c.args.edition c.kind-kind.result (string_bytes c.in_ok-text.text) c.char_at-next.result c.in_ok-one.field-0 c.in-Some-2.one c.in_ok-one.ensures.answer c.in-Some-2.is))
 
 pub returns-in-None-2 : goal.returns-in-None-2
 returns-in-None-2 g c =
@@ -82,4 +82,4 @@ returns-in-None-2 g c =
       next_is = next_is c.text-2.result c.end.result c.in-Some.token c.char_at-next.result (c.text-2.ensures ∙ root_text c.args.root.now c.requires.root ∙ same) (c.end.ensures.value ∙ ap (λ (b : Bounds). b.end) c.text_range-range.ensures) c.char_at-next.ensures;
     } in
     not_read (g.F.FrontEnd.answers c.args.front.now) c.args.edition c.args.root.now.tree edit c.in-Some.token c.kind-kind.result (string_bytes c.in_ok-text.text) c.char_at-next.result a
-    (none_is (g.F.FrontEnd.answers c.args.front.now) c.args.edition c.kind-kind.result (string_bytes c.in_ok-text.text) c.char_at-next.result c.in_ok-error.field-0 c.in_ok-error.ensures.answer c.in-None-2.is)
+    (none_is (g.F.FrontEnd.answers c.args.front.now) c.args.edition c.kind-kind.result (string_bytes c.in_ok-text.text) c.char_at-next.result c.in_ok-one.field-0 c.in_ok-one.ensures.answer c.in-None-2.is)
