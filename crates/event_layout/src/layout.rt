@@ -128,6 +128,20 @@ fn is_node_at(events: &[Event], i: usize) -> bool
     }
 }
 
+// How many steps the layout makes where no token is split, and one for each error: the room that the list of steps takes once.
+fn room_for(tokens: &[Token], events: &[Event]) -> usize {
+    let mut room = tokens.len().saturating_add(2);
+    for event in events {
+        let more = match event {
+            Event::Node { .. } => 2,
+            Event::Error { .. } => 1,
+            _ => 0,
+        };
+        room = room.saturating_add(more);
+    }
+    room
+}
+
 impl<'a> Layout<'a> {
     fn new(
         alloc: Global,
@@ -137,10 +151,7 @@ impl<'a> Layout<'a> {
     ) -> Result<Layout<'a>, AllocError>
         ensures { IfOk result (λ l. laying_of l ≡ start_of root (given_of plan.now) tokens.now) }
     {
-        let room = tokens
-            .len()
-            .saturating_add(plan.events.len())
-            .saturating_add(2);
+        let room = room_for(tokens, plan.events);
         let mut steps = Vec::with_capacity(alloc, room)?;
         steps.push(Step::Enter(root))?;
         Ok(Layout {
