@@ -464,7 +464,7 @@ class Rule:
             words.fail(f"{word} begins no statement")
 
     def recover(self, text):
-        kinds = self.grammar.kinds_of("'{'")[1] | self.grammar.kinds_of("'}'")[1]
+        kinds = frozenset(self.grammar.texts[brace] for brace in "{}" if brace in self.grammar.texts)
         if self.words.peek() in self.grammar.sets:
             kinds |= self.grammar.sets[self.words.take()][1]
         take, after = Label(), Label()

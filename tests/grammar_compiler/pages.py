@@ -1,4 +1,5 @@
 """The files that a grammar's tables are."""
+import collections
 import json
 import os
 import re
@@ -9,7 +10,7 @@ from .language import ONE, Answered, Flag, GrammarError, Seen
 VIEWS = ["View::One", "View::Two", "View::Three", "View::Word"]
 # How many kinds of tokens syntax_kind names, which come first.
 TOKEN_KINDS = 117
-# The kinds that the sights ask for by name.
+# The kinds that the sights ask for by name, where a grammar has words or shapes.
 NUMBERED = [
     ("IDENT", "an identifier"),
     ("FLOAT_NUMBER", "a number with a dot or an exponent"),
@@ -18,6 +19,11 @@ NUMBERED = [
 ]
 # So many messages make a function of their own.
 MESSAGES_A_PART = 25
+# What the tables name of libraries
+LIBRARIES = [("grammar_machine", ["Level", "Op", "Part", "Test", "View"]), ("rust_kinds", ["kinds"]), ("syntax_kind", ["SyntaxKind"])]
+
+# Where a grammar is: a crate, and the name of the text in the crate's folder
+Source = collections.namedtuple("Source", "crate text")
 
 
 def named_kind(name, library, others):
@@ -76,11 +82,21 @@ def in_lines(items, width):
     return "\n".join(lines + [line])
 
 
-def page(doc, uses, items, ghosts=()):
+def named_in(items):
+    """The imports of what items name of the libraries."""
+    uses = []
+    for library, names in LIBRARIES:
+        names = [name for name in names if any(re.search(rf"\b{name}::", item) for item in items)]
+        if names:
+            uses.append(f"{library}::{names[0]}" if len(names) == 1 else f"{library}::{{{', '.join(names)}}}")
+    return uses
+
+
+def page(source, doc, items, ghosts=(), uses=None):
     """A file of Rattle, with what it imports and its items."""
     ghost = "".join(f"ghost use {use};\n" for use in ghosts)
-    text = "".join(f"use {use};\n" for use in uses)
-    return f"//! {doc} Written by tests/grammar from rust.grammar.\n{ghost}" + (f"\n{text}" if text else "") + "\n" + "\n\n".join(items) + "\n"
+    text = "".join(f"use {use};\n" for use in (named_in(items) if uses is None else uses))
+    return f"//! {doc} Written by tests/grammar from {source.text}.\n{ghost}" + (f"\n{text}" if text else "") + "\n" + "\n\n".join(items) + "\n"
 
 
 def codes(text):
@@ -89,7 +105,8 @@ def codes(text):
 
 
 def static(doc, name, kind, items, width=120):
-    return f"/// {doc}\n#[rattlefmt::skip]\npub(crate) static {name}: [{kind}; {len(items)}] = [\n{in_lines(items, width)}\n];"
+    lines = f"\n{in_lines(items, width)}\n" if items else ""
+    return f"/// {doc}\n#[rattlefmt::skip]\npub(crate) static {name}: [{kind}; {len(items)}] = [{lines}];"
 
 
 def camel(name):
@@ -102,57 +119,63 @@ def arm(number, text):
     return line if len(line) <= 101 else f"        {number} =>\n            {text},\n"
 
 
-def message_pages(messages):
+def message_choice(name, doc, choices):
+    """A choice of texts by a number, as a function and as its definition."""
+    arms = "".join(arm(number, json.dumps(text)) for number, text in choices)
+    code = f"{doc}fn {name}(number: u16) -> &'static str\n    ensures {{ result.now ≡ {name}_of number }}\n{{\n    match number {{\n{arms}        _ => \"\",\n    }}\n}}"
+    lines = "".join(f"    if n == {number} then {codes(text)} else (\n" for number, text in choices)
+    return code, f"abbrev pub {name}_of : ℕ → List ℕ\n{name}_of n =\n{lines}    []" + ")" * len(choices)
+
+
+def message_pages(source, messages):
     """The messages as a function and as its definition, in parts, since a proof about a long choice is expensive."""
     parts = [list(enumerate(messages))[at : at + MESSAGES_A_PART] for at in range(0, len(messages), MESSAGES_A_PART)]
-    code, definitions = [], []
-    for which, part in enumerate(parts):
-        arms = "".join(arm(number, json.dumps(text)) for number, text in part)
-        code.append(f"fn part_{which}(number: u16) -> &'static str\n    ensures {{ result.now ≡ part_{which}_of number }}\n{{\n    match number {{\n{arms}        _ => \"\",\n    }}\n}}")
-        choices = "".join(f"    if n == {number} then {codes(text)} else (\n" for number, text in part)
-        definitions.append(f"abbrev pub part_{which}_of : ℕ → List ℕ\npart_{which}_of n =\n{choices}    []" + ")" * len(part))
-    names = ", ".join(f"part_{which}_of" for which in range(len(parts)))
-    limits = [part[-1][0] + 1 for part in parts[:-1]]
-    choice = "".join(f"if number < {limit} {{\n        part_{which}(number)\n    }} else " for which, limit in enumerate(limits))
-    last = len(parts) - 1
-    body = f"    {choice}{{\n        part_{last}(number)\n    }}" if limits else f"    part_{last}(number)"
-    doc = "/// The message of an error by its number; empty where no error has it. `%` in it stands for the name of the next token's kind."
-    code.append(f"{doc}\npub fn message(number: u16) -> &'static str\n    ensures {{ result.now ≡ message_of number }}\n{{\n{body}\n}}")
-    choices = "".join(f"    if nat_lt n {limit} then part_{which}_of n else (\n" for which, limit in enumerate(limits))
-    definitions.append(f"-- the message of an error by its number; no text where no error has it\nabbrev pub message_of : ℕ → List ℕ\nmessage_of n =\n{choices}    part_{last}_of n" + ")" * len(limits))
-    ghosts = ["Rattle.std.specs.Prelude.{◌≡◌}", f"Rattle.rust_grammar.specs.Messages.{{{names}, message_of}}"]
-    head = (
-        "-- The parser's messages. Written by tests/grammar from rust.grammar.\n"
-        "use Rattle.std.specs.Prelude.{ℕ, ◌==◌, nat_lt, if◌then◌else◌, List, [], ◌∷◌, ◌++◌, codes}\n\n"
-    )
-    return page("The parser's messages.", [], code, ghosts), head + "\n\n".join(definitions) + "\n"
+    doc = "/// The message of an error by its number; empty where no error has it. `%` in it stands for the name of the next token's kind.\npub "
+    comment = "-- the message of an error by its number; no text where no error has it\n"
+    names, words = ["message_of"], ["ℕ", "◌==◌", "if◌then◌else◌", "List", "[]", "◌∷◌", "◌++◌", "codes"]
+    if len(parts) == 1:
+        code, definition = message_choice("message", doc, parts[0])
+        codes_of, definitions = [code], [comment + definition]
+    else:
+        codes_of, definitions = map(list, zip(*(message_choice(f"part_{which}", "", part) for which, part in enumerate(parts))))
+        names, last = [f"part_{which}_of" for which in range(len(parts))] + names, len(parts) - 1
+        limits = [part[-1][0] + 1 for part in parts[:-1]]
+        choice = "".join(f"if number < {limit} {{\n        part_{which}(number)\n    }} else " for which, limit in enumerate(limits))
+        codes_of.append(f"{doc}fn message(number: u16) -> &'static str\n    ensures {{ result.now ≡ message_of number }}\n{{\n    {choice}{{\n        part_{last}(number)\n    }}\n}}")
+        choices = "".join(f"    if nat_lt n {limit} then part_{which}_of n else (\n" for which, limit in enumerate(limits))
+        definitions.append(f"{comment}abbrev pub message_of : ℕ → List ℕ\nmessage_of n =\n{choices}    part_{last}_of n" + ")" * len(limits))
+        words.insert(2, "nat_lt")
+    ghosts = ["Rattle.std.specs.Prelude.{◌≡◌}", f"Rattle.{source.crate}.specs.Messages.{{{', '.join(names)}}}"]
+    head = f"-- The parser's messages. Written by tests/grammar from {source.text}.\nuse Rattle.std.specs.Prelude.{{{', '.join(words)}}}\n\n"
+    return page(source, "The parser's messages.", codes_of, ghosts, []), head + "\n\n".join(definitions) + "\n"
 
 
-def pages(grammar, table, top):
-    """The files that the tables of a grammar make, by their paths in the crate."""
-    kinds = os.path.join(top, "crates", "syntax_kind", "src", "syntax_kind", "all.rt")
-    other_kinds = os.path.join(top, "crates", "rust_kinds", "src", "kinds.rt")
-    library = re.findall(r"^    SyntaxKind::(\w+),$", open(kinds, encoding="utf-8").read(), re.M)
-    others = dict(re.findall(r"^pub const (\w+): SyntaxKind = SyntaxKind::OTHER\((\d+)\);$", open(other_kinds, encoding="utf-8").read(), re.M))
+def joint_page(source, grammar):
+    """The file that says what signs make together."""
     by_kind = {}
     for text, kind in grammar.joint.items():
         by_kind[tuple(grammar.texts[sign] for sign in text)] = kind
-    first, last = min(grammar.texts[s] for s in "".join(grammar.joint)), max(grammar.texts[s] for s in "".join(grammar.joint))
+    signs = {grammar.texts[sign] for sign in "".join(grammar.joint)}
+    first, last = min(signs), max(signs)
+    joints = []
+    for left in range(len(grammar.kinds)):
+        parts = next((signs for signs, kind in by_kind.items() if kind == left), (left,))
+        joints += [str(by_kind.get(parts + (right,), 0)) for right in range(first, last + 1)]
+    return page(
+        source,
+        "What punctuation makes together.",
+        [
+            f"/// The number of the first sign that a joint token may have after its first.\npub(crate) const FIRST_SIGN: u8 = {first};",
+            f"/// How many signs there are from that one on.\npub(crate) const SIGNS: usize = {last - first + 1};",
+            static("The kind that a token makes with a sign after it, or 0: a row of signs for each kind.", "JOINTS", "u8", joints),
+        ],
+    )
 
-    def text_of(name):
-        return named_kind(name, library, others)
 
-    made = {}
-    ops = [op_text(op, table, text_of) for op in table.ops]
-    uses = ["grammar_machine::{Level, Op, Part, Test, View}", "rust_kinds::kinds", "syntax_kind::SyntaxKind"]
-    made["src/tables/op_table.rt"] = page("The operations.", uses, [static("The operations of all rules.", "OPS", "Op", ops, 240)])
-    words = [bits(kind for kind in kinds if kind // 64 == word) >> 64 * word for kinds in table.sets for word in range(4)]
-    made["src/tables/set_table.rt"] = page("The sets of kinds.", [], [static("Four words of 64 bits for each set.", "SETS", "u64", [f"0x{word:x}" for word in words])])
-    made["src/tables/row_table.rt"] = page("The rows of targets.", [], [static(f"A target for each of the {grammar.width} kinds of single tokens, row after row.", "ROWS", "u16", list(map(str, table.rows)), 240)])
-    powers = [grammar.powers.get(kind) for kind in range(len(grammar.kinds))]
-    powers = [f"Some(Power {{ level: {p[0]}, right: {p[1]} }})" if p else "None" for p in powers]
-    made["src/tables/power_table.rt"] = page("How operators bind.", ["grammar_machine::Power"], [static("The powers of operators, by the numbers of kinds.", "POWERS", "Option<Power>", powers)])
-    names = [text_of({"NONE": "ERROR", "EOF": "ERROR", "FLOAT_PAIR": "FLOAT_NUMBER", "FLOAT_DOT": "FLOAT_NUMBER"}.get(name, name)) for name in grammar.kinds]
+def kind_page(source, grammar, library, others):
+    """The file of the kinds and their numbers; tables that would be of zeros alone are left out."""
+    names = {"NONE": "ERROR", "EOF": "ERROR", "FLOAT_PAIR": "FLOAT_NUMBER", "FLOAT_DOT": "FLOAT_NUMBER"}
+    names = [named_kind(names.get(name, name), library, others) for name in grammar.kinds]
     singles, words = set(grammar.kinds[: grammar.width]), {grammar.kinds[kind] for kind in grammar.by_word.values()}
 
     def by_token(names):
@@ -162,48 +185,57 @@ def pages(grammar, table, top):
         numbers = {int(number): grammar.kinds.index(name) for name, number in others.items() if name in names}
         return [str(numbers.get(n, 0)) for n in range(max(numbers, default=0) + 1)]
 
-    joints = []
-    for left in range(len(grammar.kinds)):
-        signs = next((signs for signs, kind in by_kind.items() if kind == left), (left,))
-        joints += [str(by_kind.get(signs + (right,), 0)) for right in range(first, last + 1)]
-    made["src/tables/kind_table.rt"] = page(
-        "The kinds of tokens and their numbers.",
-        ["rust_kinds::kinds", "syntax_kind::SyntaxKind"],
-        [
-            static("The kinds, by their numbers. A finer kind of a number with a dot is that of the number.", "KINDS", "SyntaxKind", names),
-            static("The numbers of the lexer's kinds, by `to_raw`; 0 for what the lexer does not make, and for trivia.", "TOKENS", "u8", by_token(singles)),
-            static("The same of the kinds `OTHER(n)`, by n.", "OTHERS", "u8", by_other(singles)),
-            static("The numbers of the kinds of contextual keywords, by `to_raw`, else 0.", "WORD_TOKENS", "u8", by_token(words)),
-            static("The same of the kinds `OTHER(n)`, by n.", "WORD_OTHERS", "u8", by_other(words)),
-        ]
-        + [f"/// The number of {what}.\npub(crate) const {name}: u8 = {grammar.kinds.index(name)};" for name, what in NUMBERED if name in grammar.kinds],
-    )
-    made["src/tables/joint_table.rt"] = page(
-        "What punctuation makes together.",
-        [],
-        [
-            f"/// The number of the first sign that a joint token may have after its first.\npub(crate) const FIRST_SIGN: u8 = {first};",
-            f"/// How many signs there are from that one on.\npub(crate) const SIGNS: usize = {last - first + 1};",
-            static("The kind that a token makes with a sign after it, or 0: a row of signs for each kind.", "JOINTS", "u8", joints),
-        ],
-    )
-    made["src/tables/messages.rt"], made["specs/Messages.antt"] = message_pages(grammar.messages)
+    items = [
+        static("The kinds, by their numbers. A finer kind of a number with a dot is that of the number.", "KINDS", "SyntaxKind", names),
+        static("The numbers of the lexer's kinds, by `to_raw`; 0 for what the lexer does not make, and for trivia.", "TOKENS", "u8", by_token(singles)),
+    ]
+    if singles & set(others):
+        items.append(static("The same of the kinds `OTHER(n)`, by n.", "OTHERS", "u8", by_other(singles)))
+    if words:
+        items.append(static("The numbers of the kinds of contextual keywords, by `to_raw`, else 0.", "WORD_TOKENS", "u8", by_token(words)))
+        items.append(static("The same of the kinds `OTHER(n)`, by n.", "WORD_OTHERS", "u8", by_other(words)))
+        items += [f"/// The number of {what}.\npub(crate) const {name}: u8 = {grammar.kinds.index(name)};" for name, what in NUMBERED if name in grammar.kinds]
+    return page(source, "The kinds of tokens and their numbers.", items)
+
+
+def pages(source, grammar, table, top):
+    """The files that the tables of a grammar make, by their paths in the crate."""
+    kinds = os.path.join(top, "crates", "syntax_kind", "src", "syntax_kind", "all.rt")
+    other_kinds = os.path.join(top, "crates", "rust_kinds", "src", "kinds.rt")
+    library = re.findall(r"^    SyntaxKind::(\w+),$", open(kinds, encoding="utf-8").read(), re.M)
+    others = dict(re.findall(r"^pub const (\w+): SyntaxKind = SyntaxKind::OTHER\((\d+)\);$", open(other_kinds, encoding="utf-8").read(), re.M))
+    def text_of(name):
+        return named_kind(name, library, others)
+
+    made = {}
+    ops = [op_text(op, table, text_of) for op in table.ops]
+    made["src/tables/op_table.rt"] = page(source, "The operations.", [static("The operations of all rules.", "OPS", "Op", ops, 240)])
+    words = [bits(kind for kind in kinds if kind // 64 == word) >> 64 * word for kinds in table.sets for word in range(4)]
+    made["src/tables/set_table.rt"] = page(source, "The sets of kinds.", [static("Four words of 64 bits for each set.", "SETS", "u64", [f"0x{word:x}" for word in words])])
+    made["src/tables/row_table.rt"] = page(source, "The rows of targets.", [static(f"A target for each of the {grammar.width} kinds of single tokens, row after row.", "ROWS", "u16", list(map(str, table.rows)), 240)])
+    powers = [grammar.powers.get(kind) for kind in range(len(grammar.kinds))]
+    powers = [f"Some(Power {{ level: {p[0]}, right: {p[1]} }})" if p else "None" for p in powers]
+    made["src/tables/power_table.rt"] = page(source, "How operators bind.", [static("The powers of operators, by the numbers of kinds.", "POWERS", "Option<Power>", powers)], uses=["grammar_machine::Power"])
+    made["src/tables/kind_table.rt"] = kind_page(source, grammar, library, others)
+    if grammar.joint:
+        made["src/tables/joint_table.rt"] = joint_page(source, grammar)
+    made["src/tables/messages.rt"], made["specs/Messages.antt"] = message_pages(source, grammar.messages)
     entries = "".join(f"    /// The rule `{name}`.\n    {camel(name)},\n" for name in grammar.entries)
     starts = "".join(f"        Rule::{camel(name)} => {table.start_of[name]},\n" for name in grammar.entries)
     made["src/tables/rules.rt"] = page(
+        source,
         "The rules that a text can be read by.",
-        [],
         [
             f"/// A rule that a text can be read by. The grammar's text says what each one reads.\n#[derive(Clone, Copy, Debug, PartialEq, Eq)]\npub enum Rule {{\n{entries}}}",
             f"/// The number of the rule's first operation.\npub fn rule_of(rule: Rule) -> usize\n    ensures {{ result ≡ first_op rule }}\n{{\n    match rule {{\n{starts}    }}\n}}",
         ],
-        ["Rattle.std.specs.Prelude.{◌≡◌}", "Rattle.rust_grammar.specs.Rules.{first_op}"],
+        ["Rattle.std.specs.Prelude.{◌≡◌}", f"Rattle.{source.crate}.specs.Rules.{{first_op}}"],
     )
     made["specs/Rules.antt"] = (
-        "-- Where the rules begin. Written by tests/grammar from rust.grammar.\n"
+        f"-- Where the rules begin. Written by tests/grammar from {source.text}.\n"
         "use Rattle.std.specs.Prelude.{ℕ}\n"
-        "use Rattle.rust_grammar.specs.declared.tables.rules.Rule.{Rule}\n"
-        "use Rattle.rust_grammar.specs.declared.tables.rules.Rule.TheVariants as rule\n\n"
+        f"use Rattle.{source.crate}.specs.declared.tables.rules.Rule.{{Rule}}\n"
+        f"use Rattle.{source.crate}.specs.declared.tables.rules.Rule.TheVariants as rule\n\n"
         "-- the number of a rule's first operation\nabbrev pub first_op : Rule → ℕ\n"
         + "".join(f"first_op rule.{camel(name)} = {table.start_of[name]}\n" for name in grammar.entries)
     )
