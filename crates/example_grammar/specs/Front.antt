@@ -1,5 +1,5 @@
 -- The front end as functions of its arguments.
-use Rattle.std.specs.Prelude.{ℕ, List, [], ◌∷◌, ◌++◌, map, Option, Some, None, slice_get, if◌then◌else◌}
+use Rattle.std.specs.Prelude.{ℕ, ◌==◌, List, [], ◌∷◌, ◌++◌, map, Option, Some, None, slice_get, if◌then◌else◌}
 use Rattle.syntax_kind.specs.declared.syntax_kind.SyntaxKind.{SyntaxKind}
 use Rattle.syntax_kind.specs.declared.syntax_kind.SyntaxKind.TheVariants.{Token, Node}
 use Rattle.syntax_kind.specs.declared.syntax_kind.token_kind.TokenKind.TheVariants as token
@@ -10,7 +10,7 @@ use Rattle.ras_front_end.specs.declared.edition.Edition.{Edition}
 use Rattle.ras_front_end.specs.declared.edition.Entry.{Entry}
 use Rattle.ras_front_end.specs.declared.edition.Entry.TheVariants.{SourceFile, Expr}
 use Rattle.ras_front_end.specs.Fault.{Fault as StoredFault}
-use Rattle.ras_front_end.specs.Reading.{Reading}
+use Rattle.ras_front_end.specs.Reading.{Reading, FrontStep}
 use Rattle.ras_front_end.specs.Front.{Front}
 use Rattle.token_layout.specs.declared.span.Token.{Token as LexedToken}
 use Rattle.token_layout.specs.Front.{kinds_of, single_with}
@@ -36,50 +36,48 @@ abbrev pub number_in : SyntaxKind → ℕ
 number_in k = number_or_0 (slice_get TOKENS (kind_raw k))
 
 -- a kind that the grammar does not know is seen as an error
-abbrev pub known_or_error : ℕ → ℕ
-known_or_error n = if n == 0 then number_in (Token token.ERROR) else n
-
 abbrev pub number_of : SyntaxKind → ℕ
-number_of k = known_or_error (number_in k)
+number_of k = if number_in k == 0 then number_in (Token token.ERROR) else number_in k
 
-abbrev pub sight_of : LexedToken → Sight
-sight_of t = record { one = number_of t.kind; two = 0; three = 0; word = 0 }
+abbrev pub sight_of : SyntaxKind → Sight
+sight_of k = record { one = number_of k; two = 0; three = 0; word = 0 }
+
+-- trivia are not seen
+abbrev pub seen_of : SyntaxKind → List Sight
+seen_of k = if is_trivia k then [] else sight_of k ∷ []
 
 abbrev pub sights_of : List LexedToken → List Sight
 sights_of [] = []
-sights_of (t ∷ ts) = (if is_trivia t.kind then [] else sight_of t ∷ []) ++ sights_of ts
+sights_of (t ∷ ts) = seen_of t.kind ++ sights_of ts
 
 abbrev pub rule_for : Entry → Rule
 rule_for SourceFile = rule.SourceFile
 rule_for Expr = rule.WholeExpr
 
 -- what the grammar makes of a text's tokens
-abbrev pub made_of : Entry → List LexedToken → List Event
+unfoldable pub made_of : Entry → List LexedToken → List Event
 made_of entry ts = events_of arithmetic_tables (first_op (rule_for entry)) (sights_of ts)
 
 -- the root of an expression is its outermost node, where that is an expression
-abbrev pub root_for : Entry → SyntaxKind → SyntaxKind
+abbrev pub root_for : Entry → Option SyntaxKind → SyntaxKind
 root_for SourceFile top = Node node.SOURCE_FILE
-root_for Expr top = if is_expr top then top else Token token.ERROR
-
-abbrev pub kind_or_error : Option SyntaxKind → SyntaxKind
-kind_or_error None = Token token.ERROR
-kind_or_error (Some k) = k
+root_for Expr None = Token token.ERROR
+root_for Expr (Some k) = if is_expr k then k else Token token.ERROR
 
 abbrev pub say_of : Fault → List ℕ × ℕ
 say_of f = (message_of f.message, f.position)
 
--- the tree's steps, and after them the grammar's errors
-abbrev pub reading_on : List StoredFault → Laying → Reading
-reading_on errors s = record { steps = s.steps ++ map (report_by say_of) s.faults; errors = errors }
+abbrev pub steps_on : Laying → List FrontStep
+steps_on s = s.steps ++ map (report_by say_of) s.faults
 
-abbrev pub reading_with : Entry → List ℕ → List LexedToken → List StoredFault → List Event → Reading
-reading_with entry text ts errors es = reading_on errors (laid_of (root_for entry (kind_or_error (outermost_of es))) [] text ts es)
+-- one tree over the tokens, and after it the grammar's errors
+unfoldable pub steps_of : Entry → List ℕ → List LexedToken → List Event → List FrontStep
+steps_of entry text ts es = steps_on (laid_of (root_for entry (outermost_of es)) [] text ts es)
 
 abbrev pub reading_over : Entry → List ℕ → List LexedToken → List StoredFault → Reading
-reading_over entry text ts errors = reading_with entry text ts errors (made_of entry ts)
+reading_over entry text ts errors = record { steps = steps_of entry text ts (made_of entry ts); errors = errors }
 
-unfoldable pub parsed_of : Entry → Edition → List ℕ → Reading
+abbrev pub parsed_of : Entry → Edition → List ℕ → Reading
 parsed_of entry e text = reading_over entry text (tiny_lexer.tokens e text) (tiny_lexer.errors e text)
 
 abbrev pub arithmetic_front : Front

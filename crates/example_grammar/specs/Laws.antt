@@ -21,7 +21,7 @@ use Rattle.tiny_lexer.proofs.Cutting.{lexed}
 use Rattle.event_layout.specs.Layout.{laid_of, outermost_of}
 use Rattle.event_layout.proofs.Laying.{laid, lie}
 use Rattle.event_layout.proofs.Kept.{kept}
-use Rattle.example_grammar.specs.Front.{made_of, root_for, kind_or_error, say_of, parsed_of, arithmetic_front}
+use Rattle.example_grammar.specs.Front.{made_of, root_for, say_of, steps_of, parsed_of, arithmetic_front}
 
 errors_lie : (n : ℕ) (cs : List Complaint) → All (ComplaintLiesIn n) cs → All (LiesIn n) (map error_of cs)
 errors_lie n [] h = All-nil (LiesIn n)
@@ -34,22 +34,21 @@ expr_or_error : (b : Bool) (k : SyntaxKind) → is_expr k ≡ b → IsRootOf Exp
 expr_or_error true k e = inl e
 expr_or_error false k e = inr refl
 
-is_root : (entry : Entry) (top : SyntaxKind) → IsRootOf entry (root_for entry top)
+is_root : (entry : Entry) (top : Option SyntaxKind) → IsRootOf entry (root_for entry top)
 is_root SourceFile top = refl
-is_root Expr top = expr_or_error (is_expr top) top refl
+is_root Expr None = inr refl
+is_root Expr (Some k) = expr_or_error (is_expr k) k refl
 
 keeps : (entry : Entry) (e : Edition) (text : List ℕ) → IsUtf8 text → length text < 2 ^ 32 → Keeps (IsRootOf entry) text (parsed_of entry e text)
-unfolding parsed_of
+unfolding steps_of
 keeps entry e text u l =
     let x : IsLexed e text = lexed e text u l in
     let ts = tokens_of e text in
     let es = made_of entry ts in
-    let top = kind_or_error (outermost_of es) in
-    let s = laid_of (root_for entry top) [] text ts es in
-    kept say_of (IsRootOf entry) (root_for entry top) s.faults (map error_of (complaints_of e text)) text s.steps (is_root entry top)
-    (laid (root_for entry top) [] text ts es l x.cut)
-    (lie (root_for entry top) [] text ts es l x.cut)
-    (errors_lie (length text) (complaints_of e text) x.lie)
+    let root = root_for entry (outermost_of es) in
+    let s = laid_of root [] text ts es in
+    kept say_of (IsRootOf entry) root s.faults (map error_of (complaints_of e text)) text s.steps (is_root entry (outermost_of es))
+    (laid root [] text ts es l x.cut) (lie root [] text ts es l x.cut) (errors_lie (length text) (complaints_of e text) x.lie)
 
 pub arithmetic_kept : FrontEndKeeps arithmetic_front
 arithmetic_kept = record {

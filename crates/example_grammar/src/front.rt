@@ -1,18 +1,19 @@
 //! The front end: `tiny_lexer`'s tokens, the machine's run over the grammar's tables, and one tree of what it made.
-ghost use Rattle.std.specs.Prelude.{◌≡◌, ◌++◌, ◌∷◌, [], IfOk, OnOk, option_map, string_bytes, map};
+ghost use Rattle.std.specs.Prelude.{◌≡◌, ◌++◌, ◌∷◌, [], IfOk, OnOk, option_map, string_bytes, map, slice_get};
 ghost use Rattle.ras_front_end.specs.Reading.{reading_of, single_of, front_step, front_steps};
 ghost use Rattle.token_layout.specs.Front.{kinds_of, message_with, single_with};
 ghost use Rattle.token_layout.specs.Report.{report_by};
-ghost use Rattle.example_grammar.specs.Front.{number_in, number_of, sights_of, rule_for, root_for, say_of, parsed_of};
+ghost use Rattle.example_grammar.specs.Front.{number_or_0, number_in, number_of, seen_of, sights_of, rule_for, root_for, say_of, made_of, steps_of, parsed_of};
 
 use crate::tables::kind_table::TOKENS;
 use crate::tables::{Rule, grammar, message, rule_of};
 use event_layout::{Fault, lay_out, outermost};
-use grammar_machine::{Sight, run};
-use ra_ap_syntax::{Edition, Entry, FrontEnd, Output, Reparser, Step, SyntaxError, SyntaxKind};
+use grammar_machine::{Event, Sight, run};
+use ras_front_end::{Edition, Entry, FrontEnd, Output, Reparser, Step, SyntaxError};
 use ras_node::KindSet;
 use ras_node::sets::Exprs;
 use std::alloc::{AllocError, Global};
+use syntax_kind::SyntaxKind;
 use tiny_lexer::TinyLexer;
 use token_layout::{Lexer, Token};
 
@@ -20,40 +21,56 @@ use token_layout::{Lexer, Token};
 #[derive(Clone, Copy, Debug, Drop)]
 pub struct Arithmetic;
 
-fn number_in(kind: SyntaxKind) -> u8
-    ensures { result ≡ number_in kind }
+fn number_at(numbers: &[u8], i: usize) -> u8
+    ensures { result ≡ number_or_0 (slice_get numbers.now i) }
 {
-    match TOKENS.get(kind.to_raw() as usize) {
+    match numbers.get(i) {
         None => 0,
         Some(number) => *number,
     }
+}
+
+fn number_in(kind: SyntaxKind) -> u8
+    ensures { result ≡ number_in kind }
+{
+    number_at(&TOKENS, kind.to_raw() as usize)
 }
 
 // The number of a kind in the grammar: that of `ERROR` where the grammar does not know it.
 fn number_of(kind: SyntaxKind) -> u8
     ensures { result ≡ number_of kind }
 {
-    match number_in(kind) {
-        0 => number_in(SyntaxKind::ERROR),
-        number => number,
+    let number = number_in(kind);
+    if number == 0 {
+        number_in(SyntaxKind::ERROR)
+    } else {
+        number
     }
 }
 
-// How the machine sees the tokens that are not white space or comments. None is joined to the next, and no name is a keyword.
+// Trivia are not seen. No token is joined to the next, and no name is a keyword.
+fn see(sights: &mut Vec<Sight>, kind: SyntaxKind) -> Result<(), AllocError>
+    ensures { OnOk result (sights.new.items ≡ sights.old.items ++ seen_of kind) }
+{
+    if !kind.is_trivia() {
+        let (one, two, three, word) = (number_of(kind), 0, 0, 0);
+        sights.push(Sight {
+            one,
+            two,
+            three,
+            word,
+        })?;
+    }
+    Ok(())
+}
+
+// How the machine sees the tokens.
 fn sights(alloc: Global, tokens: &[Token]) -> Result<Vec<Sight>, AllocError>
     ensures { IfOk result (λ v. v.items ≡ sights_of tokens.now) }
 {
     let mut sights = Vec::with_capacity(alloc, tokens.len())?;
     for token in tokens {
-        if !token.kind.is_trivia() {
-            let (one, two, three, word) = (number_of(token.kind), 0, 0, 0);
-            sights.push(Sight {
-                one,
-                two,
-                three,
-                word,
-            })?;
-        }
+        see(&mut sights, token.kind)?;
     }
     Ok(sights)
 }
@@ -68,14 +85,29 @@ fn rule_for(entry: Entry) -> Rule
 }
 
 // The kind of the root, where `top` is that of the outermost node.
-fn root_for(entry: Entry, top: SyntaxKind) -> SyntaxKind
+fn root_for(entry: Entry, top: Option<SyntaxKind>) -> SyntaxKind
     ensures { result ≡ root_for entry top }
 {
-    match entry {
-        Entry::SourceFile => SyntaxKind::SOURCE_FILE,
-        Entry::Expr if Exprs::has(top) => top,
-        Entry::Expr => SyntaxKind::ERROR,
+    match (entry, top) {
+        (Entry::SourceFile, _) => SyntaxKind::SOURCE_FILE,
+        (Entry::Expr, Some(kind)) if Exprs::has(kind) => kind,
+        (Entry::Expr, _) => SyntaxKind::ERROR,
     }
+}
+
+fn report(alloc: Global, fault: Fault) -> Result<Step, AllocError>
+    ensures { IfOk result (λ s. front_step s ≡ report_by say_of fault) }
+{
+    let text = String::from_str(alloc, message(fault.message))?;
+    Ok(Step::Error(text, fault.position))
+}
+
+#[tactic(auto, using(token_layout::proofs::Push::front_steps_push))]
+fn add(steps: &mut Vec<Step>, step: Step) -> Result<(), AllocError>
+    ensures { OnOk result (front_steps steps.new.items ≡ front_steps steps.old.items ++ front_step step ∷ []) }
+{
+    steps.push(step)?;
+    Ok(())
 }
 
 // The steps, and after them the grammar's errors.
@@ -83,10 +115,45 @@ fn reported(alloc: Global, mut steps: Vec<Step>, faults: &[Fault]) -> Result<Vec
     ensures { IfOk result (λ v. front_steps v.items ≡ front_steps steps.items ++ map (report_by say_of) faults.now) }
 {
     for fault in faults {
-        let text = String::from_str(alloc, message(fault.message))?;
-        steps.push(Step::Error(text, fault.position))?;
+        let step = report(alloc, *fault)?;
+        add(&mut steps, step)?;
     }
     Ok(steps)
+}
+
+// What the grammar makes of the tokens.
+#[tactic(auto, unfolding(crate::specs::Front::made_of))]
+fn made(alloc: Global, entry: Entry, tokens: &[Token]) -> Result<Vec<Event>, AllocError>
+    ensures { IfOk result (λ v. v.items ≡ made_of entry tokens.now) }
+{
+    let sights = sights(alloc, tokens)?;
+    run(alloc, &grammar(), rule_of(rule_for(entry)), &sights)
+}
+
+// One tree over the tokens, as steps, and after them the grammar's errors.
+#[tactic(auto, unfolding(crate::specs::Front::steps_of))]
+fn steps(
+    alloc: Global,
+    entry: Entry,
+    text: &str,
+    tokens: &[Token],
+    events: &[Event],
+) -> Result<Vec<Step>, AllocError>
+    ensures { IfOk result (λ v. front_steps v.items ≡ steps_of entry text.now tokens.now events.now) }
+{
+    let root = root_for(entry, outermost(events));
+    let laid = lay_out(alloc, root, &[], text, tokens, events)?;
+    reported(alloc, laid.steps, &laid.faults)
+}
+
+fn kinds(alloc: Global, tokens: &[Token]) -> Result<Vec<SyntaxKind>, AllocError>
+    ensures { IfOk result (λ v. v.items ≡ kinds_of tokens.now) }
+{
+    let mut kinds = Vec::with_capacity(alloc, tokens.len())?;
+    for token in tokens {
+        kinds.push(token.kind)?;
+    }
+    Ok(kinds)
 }
 
 fn first_message(alloc: Global, errors: &[SyntaxError]) -> Result<Option<String>, AllocError>
@@ -113,11 +180,7 @@ impl FrontEnd for Arithmetic {
         edition: Edition,
     ) -> Result<Vec<SyntaxKind>, AllocError> {
         let lexed = TinyLexer.lex(alloc, text, edition)?;
-        let mut kinds = Vec::with_capacity(alloc, lexed.tokens.len())?;
-        for token in &lexed.tokens {
-            kinds.push(token.kind)?;
-        }
-        Ok(kinds)
+        kinds(alloc, &lexed.tokens)
     }
 
     fn parse(
@@ -128,11 +191,8 @@ impl FrontEnd for Arithmetic {
         edition: Edition,
     ) -> Result<Output, AllocError> {
         let lexed = TinyLexer.lex(alloc, text, edition)?;
-        let sights = sights(alloc, &lexed.tokens)?;
-        let events = run(alloc, &grammar(), rule_of(rule_for(entry)), &sights)?;
-        let root = root_for(entry, outermost(&events).unwrap_or(SyntaxKind::ERROR));
-        let laid = lay_out(alloc, root, &[], text, &lexed.tokens, &events)?;
-        let steps = reported(alloc, laid.steps, &laid.faults)?;
+        let events = made(alloc, entry, &lexed.tokens)?;
+        let steps = steps(alloc, entry, text, &lexed.tokens, &events)?;
         Ok(Output {
             steps,
             errors: lexed.errors,

@@ -11,7 +11,7 @@ mod row_table;
 mod rules;
 mod set_table;
 
-use grammar_machine::Grammar;
+use grammar_machine::{Grammar, Op, Power};
 use kind_table::KINDS;
 pub use messages::message;
 use op_table::OPS;
@@ -19,16 +19,48 @@ use power_table::POWERS;
 use row_table::ROWS;
 pub use rules::{Rule, rule_of};
 use set_table::SETS;
+use syntax_kind::SyntaxKind;
+
+fn ops() -> &'static [Op]
+    ensures { result.now ≡ OPS }
+{
+    &OPS
+}
+
+fn sets() -> &'static [u64]
+    ensures { result.now ≡ SETS }
+{
+    &SETS
+}
+
+fn rows() -> &'static [u16]
+    ensures { result.now ≡ ROWS }
+{
+    &ROWS
+}
+
+fn powers() -> &'static [Option<Power>]
+    ensures { result.now ≡ POWERS }
+{
+    &POWERS
+}
+
+fn kinds() -> &'static [SyntaxKind]
+    ensures { result.now ≡ KINDS }
+{
+    &KINDS
+}
 
 /// The grammar of arithmetic.
+#[tactic(auto, unfolding(crate::specs::Tables::arithmetic_tables))]
 pub fn grammar() -> Grammar<'static>
     ensures { tables_of result ≡ arithmetic_tables }
 {
     Grammar {
-        ops: &OPS,
-        sets: &SETS,
-        rows: &ROWS,
-        powers: &POWERS,
-        kinds: &KINDS,
+        ops: ops(),
+        sets: sets(),
+        rows: rows(),
+        powers: powers(),
+        kinds: kinds(),
     }
 }
