@@ -132,7 +132,8 @@ def message_pages(source, messages):
     parts = [list(enumerate(messages))[at : at + MESSAGES_A_PART] for at in range(0, len(messages), MESSAGES_A_PART)]
     doc = "/// The message of an error by its number; empty where no error has it. `%` in it stands for the name of the next token's kind.\npub "
     comment = "-- the message of an error by its number; no text where no error has it\n"
-    names, words = ["message_of"], ["ℕ", "◌==◌", "if◌then◌else◌", "List", "[]", "◌∷◌", "◌++◌", "codes"]
+    limit, joins = ["nat_lt"] if len(parts) > 1 else [], ["◌∷◌", "◌++◌"] if any("\n" in text for text in messages) else []
+    names, words = ["message_of"], ["ℕ", "◌==◌", *limit, "if◌then◌else◌", "List", "[]", *joins, "codes"]
     if len(parts) == 1:
         code, definition = message_choice("message", doc, parts[0])
         codes_of, definitions = [code], [comment + definition]
@@ -144,7 +145,6 @@ def message_pages(source, messages):
         codes_of.append(f"{doc}fn message(number: u16) -> &'static str\n    ensures {{ result.now ≡ message_of number }}\n{{\n    {choice}{{\n        part_{last}(number)\n    }}\n}}")
         choices = "".join(f"    if nat_lt n {limit} then part_{which}_of n else (\n" for which, limit in enumerate(limits))
         definitions.append(f"{comment}abbrev pub message_of : ℕ → List ℕ\nmessage_of n =\n{choices}    part_{last}_of n" + ")" * len(limits))
-        words.insert(2, "nat_lt")
     ghosts = ["Rattle.std.specs.Prelude.{◌≡◌}", f"Rattle.{source.crate}.specs.Messages.{{{', '.join(names)}}}"]
     head = f"-- The parser's messages. Written by tests/grammar from {source.text}.\nuse Rattle.std.specs.Prelude.{{{', '.join(words)}}}\n\n"
     return page(source, "The parser's messages.", codes_of, ghosts, []), head + "\n\n".join(definitions) + "\n"

@@ -1,5 +1,5 @@
 -- The parser's messages. Written by tests/grammar from arithmetic.grammar.
-use Rattle.std.specs.Prelude.{ℕ, ◌==◌, if◌then◌else◌, List, [], ◌∷◌, ◌++◌, codes}
+use Rattle.std.specs.Prelude.{ℕ, ◌==◌, if◌then◌else◌, List, [], codes}
 
 -- the message of an error by its number; no text where no error has it
 abbrev pub message_of : ℕ → List ℕ
