@@ -22,8 +22,16 @@ MESSAGES_A_PART = 25
 # What the tables name of libraries
 LIBRARIES = [("grammar_machine", ["Level", "Op", "Part", "Test", "View"]), ("rust_kinds", ["kinds"]), ("syntax_kind", ["SyntaxKind"])]
 
-# Where a grammar is: a crate, and the name of the text in the crate's folder
-Source = collections.namedtuple("Source", "crate text")
+# Where a grammar is: a crate, and the name of the text in the crate's folder; and what it is, for the tables' documentation
+Source = collections.namedtuple("Source", "crate text title")
+# The tables of a grammar: what lends each out, the type of its items, and the comment above that function
+TABLES = [
+    ("ops", "Op", "The operations of all rules."),
+    ("sets", "u64", "The sets of kinds, as bits."),
+    ("rows", "u16", "The rows of targets."),
+    ("powers", "Option<Power>", "How the operators bind."),
+    ("kinds", "SyntaxKind", "The kinds of tokens, by their numbers."),
+]
 
 
 def named_kind(name, library, others):
@@ -198,6 +206,35 @@ def kind_page(source, grammar, library, others):
     return page(source, "The kinds of tokens and their numbers.", items)
 
 
+def table_pages(source, grammar):
+    """The file that lends the tables out, and the definition that names them."""
+    name = f"{source.text.removesuffix('.grammar')}_tables"
+    modules = [("pub(crate) ", "joint_table")] * bool(grammar.joint) + [("pub(crate) ", "kind_table")]
+    modules += [("", module) for module in ("messages", "op_table", "power_table", "row_table", "rules", "set_table")]
+    lent = "".join(f"// {doc}\nfn {it}() -> &'static [{kind}]\n    ensures {{ result.now ≡ {it.upper()} }}\n{{\n    &{it.upper()}\n}}\n\n" for it, kind, doc in TABLES)
+    code = (
+        f"//! The tables, which `tests/grammar` writes from `{source.text}`, lent out.\n"
+        "ghost use Rattle.std.specs.Prelude.{◌≡◌};\n"
+        "ghost use Rattle.grammar_machine.specs.Running.{tables_of};\n"
+        f"ghost use Rattle.{source.crate}.specs.Tables.{{{name}}};\n\n"
+        + "".join(f"{visible}mod {module};\n" for visible, module in modules)
+        + "\nuse grammar_machine::{Grammar, Op, Power};\nuse kind_table::KINDS;\npub use messages::message;\nuse op_table::OPS;\n"
+        "use power_table::POWERS;\nuse row_table::ROWS;\npub use rules::{Rule, rule_of};\nuse set_table::SETS;\nuse syntax_kind::SyntaxKind;\n\n"
+        + lent
+        + f"/// {source.title}, as the text `{source.text}` of this crate has it.\n///\n/// It costs nothing: the tables are part of the program.\n"
+        f"#[tactic(auto, unfolding(crate::specs::Tables::{name}))]\n"
+        f"pub fn grammar() -> Grammar<'static>\n    ensures {{ tables_of result ≡ {name} }}\n{{\n    Grammar {{\n"
+        + "".join(f"        {it}: {it}(),\n" for it, _, _ in TABLES)
+        + "    }\n}\n"
+    )
+    definition = (
+        "-- The grammar's tables.\nuse Rattle.grammar_machine.specs.Running.{Tables}\n"
+        + "".join(f"use Rattle.{source.crate}.specs.declared.tables.{it.removesuffix('s')}_table.TheConstants.{{{it.upper()}}}\n" for it, _, _ in TABLES)
+        + f"\nunfoldable pub {name} : Tables\n{name} = record {{ {'; '.join(f'{it} = {it.upper()}' for it, _, _ in TABLES)} }}\n"
+    )
+    return code, definition
+
+
 def pages(source, grammar, table, top):
     """The files that the tables of a grammar make, by their paths in the crate."""
     kinds = os.path.join(top, "crates", "syntax_kind", "src", "syntax_kind", "all.rt")
@@ -219,6 +256,7 @@ def pages(source, grammar, table, top):
     made["src/tables/kind_table.rt"] = kind_page(source, grammar, library, others)
     if grammar.joint:
         made["src/tables/joint_table.rt"] = joint_page(source, grammar)
+    made["src/tables.rt"], made["specs/Tables.antt"] = table_pages(source, grammar)
     made["src/tables/messages.rt"], made["specs/Messages.antt"] = message_pages(source, grammar.messages)
     entries = "".join(f"    /// The rule `{name}`.\n    {camel(name)},\n" for name in grammar.entries)
     starts = "".join(f"        Rule::{camel(name)} => {table.start_of[name]},\n" for name in grammar.entries)

@@ -1,9 +1,9 @@
-//! The tables that `tests/grammar` writes from `arithmetic.grammar`, as a grammar for the machine.
+//! The tables, which `tests/grammar` writes from `arithmetic.grammar`, lent out.
 ghost use Rattle.std.specs.Prelude.{◌≡◌};
 ghost use Rattle.grammar_machine.specs.Running.{tables_of};
 ghost use Rattle.example_grammar.specs.Tables.{arithmetic_tables};
 
-pub mod kind_table;
+pub(crate) mod kind_table;
 mod messages;
 mod op_table;
 mod power_table;
@@ -21,37 +21,44 @@ pub use rules::{Rule, rule_of};
 use set_table::SETS;
 use syntax_kind::SyntaxKind;
 
+// The operations of all rules.
 fn ops() -> &'static [Op]
     ensures { result.now ≡ OPS }
 {
     &OPS
 }
 
+// The sets of kinds, as bits.
 fn sets() -> &'static [u64]
     ensures { result.now ≡ SETS }
 {
     &SETS
 }
 
+// The rows of targets.
 fn rows() -> &'static [u16]
     ensures { result.now ≡ ROWS }
 {
     &ROWS
 }
 
+// How the operators bind.
 fn powers() -> &'static [Option<Power>]
     ensures { result.now ≡ POWERS }
 {
     &POWERS
 }
 
+// The kinds of tokens, by their numbers.
 fn kinds() -> &'static [SyntaxKind]
     ensures { result.now ≡ KINDS }
 {
     &KINDS
 }
 
-/// The grammar of arithmetic.
+/// The grammar of arithmetic, as the text `arithmetic.grammar` of this crate has it.
+///
+/// It costs nothing: the tables are part of the program.
 #[tactic(auto, unfolding(crate::specs::Tables::arithmetic_tables))]
 pub fn grammar() -> Grammar<'static>
     ensures { tables_of result ≡ arithmetic_tables }
