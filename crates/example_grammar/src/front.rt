@@ -99,7 +99,7 @@ fn report(alloc: Global, fault: Fault) -> Result<Step, AllocError>
     ensures { IfOk result (λ s. front_step s ≡ report_by say_of fault) }
 {
     let text = String::from_str(alloc, message(fault.message))?;
-    Ok(Step::Error(text, fault.position))
+    Ok(Step::Error(fault.position, Box::new(alloc, text)?))
 }
 
 #[tactic(auto, using(token_layout::proofs::Push::front_steps_push))]
