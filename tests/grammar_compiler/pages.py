@@ -22,8 +22,9 @@ MESSAGES_A_PART = 25
 # What the tables name of libraries
 LIBRARIES = [("grammar_machine", ["Level", "Op", "Part", "Test", "View"]), ("rust_kinds", ["kinds"]), ("syntax_kind", ["SyntaxKind"])]
 
-# Where a grammar is: a crate, and the name of the text in the crate's folder; and what it is, for the tables' documentation
-Source = collections.namedtuple("Source", "crate text title")
+# Where a grammar is: a crate, and the name of the text in the crate's folder; for the documentation what it is, and which kinds of the
+# lexer have no number in it
+Source = collections.namedtuple("Source", "crate text title unknown")
 # The tables of a grammar: what lends each out, the type of its items, and the comment above that function
 TABLES = [
     ("ops", "Op", "The operations of all rules."),
@@ -195,7 +196,7 @@ def kind_page(source, grammar, library, others):
 
     items = [
         static("The kinds, by their numbers. A finer kind of a number with a dot is that of the number.", "KINDS", "SyntaxKind", names),
-        static("The numbers of the lexer's kinds, by `to_raw`; 0 for what the lexer does not make, and for trivia.", "TOKENS", "u8", by_token(singles)),
+        static(f"The numbers of the lexer's kinds, by `to_raw`; 0 for {source.unknown}.", "TOKENS", "u8", by_token(singles)),
     ]
     if singles & set(others):
         items.append(static("The same of the kinds `OTHER(n)`, by n.", "OTHERS", "u8", by_other(singles)))

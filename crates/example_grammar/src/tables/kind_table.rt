@@ -10,7 +10,7 @@ pub(crate) static KINDS: [SyntaxKind; 15] = [
     SyntaxKind::EQ, SyntaxKind::PLUS, SyntaxKind::MINUS, SyntaxKind::STAR, SyntaxKind::SLASH,
 ];
 
-/// The numbers of the lexer's kinds, by `to_raw`; 0 for what the lexer does not make, and for trivia.
+/// The numbers of the lexer's kinds, by `to_raw`; 0 for what the grammar does not know, and for trivia.
 #[rattlefmt::skip]
 pub(crate) static TOKENS: [u8; 117] = [
     0, 0, 0, 0, 2, 3, 0, 4, 0, 0, 0, 0, 0, 0, 9, 8, 6, 7, 0, 0, 0, 0, 0, 0, 0, 0, 0, 0, 0, 0, 0, 11, 13, 14, 0, 0, 0, 0,
