@@ -1,4 +1,6 @@
 pub mod Border
+pub mod Held
+pub mod Live
 pub mod Read
 pub mod Tokens
 pub mod Parens

@@ -9,12 +9,10 @@ ghost use Rattle.tree_model.specs.Edit.{root_of};
 ghost use Rattle.ras_c.specs.Parens.{range_at, needless_of, spans, shows_term, is_term_over, node_over, range_from, ReadsBackAt};
 
 use crate::fill::hand;
-use crate::status::{NO_EDITION, NO_MEMORY, NO_PLACE, NOT_UTF8, OK, TOO_LONG, edition_of};
+use crate::parsed::parsed;
+use crate::status::{NO_MEMORY, NO_PLACE, OK};
 use lossless_tree::{SyntaxNode, TextRange, TextSize};
 use operator_pairs::needless::{is_needless, reads_back};
-use ras_front_end::{Entry, ParseError};
-use ras_parsing::{Parse, read};
-use rust_front::Rust;
 use std::alloc::{AllocError, Global};
 
 /// A range of the text, in bytes.
@@ -49,29 +47,6 @@ fn needless_below(alloc: Global, root: &SyntaxNode) -> Result<Vec<Range>, AllocE
         }
     }
     Ok(found)
-}
-
-// The parse of a text, or the status that says why there is none.
-fn parsed(alloc: Global, text: &[u8], edition: u32) -> Result<Parse<SyntaxNode>, u32>
-    ensures read { IfOk result (λ p. IsReading edition text.now p) }
-    ensures known { IfOk result (λ _. edition_of edition ≡ None → ⊥) }
-    ensures text { IfOk result (λ _. IsUtf8 text.now × (length text.now < 2 ^ 32)) }
-    ensures utf8 { IfErr result (λ s. (s ≡ 1) ↔ (edition_of edition ≡ None → ⊥) × (IsUtf8 text.now → ⊥)) }
-    ensures long { IfErr result (λ s. s ≡ 2 → 2 ^ 32 ≤ length text.now) }
-    ensures edition { IfErr result (λ s. (s ≡ 5) ↔ (edition_of edition ≡ None)) }
-    ensures which { IfErr result (λ s. (s ≡ 1) ⊎ (s ≡ 2) ⊎ (s ≡ 3) ⊎ (s ≡ 5)) }
-{
-    let Some(edition) = edition_of(edition) else {
-        return Err(NO_EDITION);
-    };
-    let Ok(text) = str::from_utf8(text) else {
-        return Err(NOT_UTF8);
-    };
-    match read(alloc, &Rust, Entry::SourceFile, text, edition) {
-        Ok(parse) => Ok(parse),
-        Err(ParseError::TooLong) => Err(TOO_LONG),
-        Err(ParseError::Memory) => Err(NO_MEMORY),
-    }
 }
 
 /// Finds the needless pairs of parentheses of a text, of the edition of a year: the pairs whose inside needs none in their place, in

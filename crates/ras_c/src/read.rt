@@ -7,11 +7,12 @@ ghost use Rattle.ras_c.specs.Border.{edition_of, over};
 ghost use Rattle.ras_c.specs.Read.{error_row, messages_of, told, counted, HasRoom, IsSmall, IsReading, buffers};
 
 use crate::fill::{fill, small};
-use crate::status::{NO_EDITION, NO_MEMORY, NO_ROOM, NOT_UTF8, OK, TOO_LONG, edition_of};
-use lossless_tree::{FlatRow, SyntaxNode};
-use ras_front_end::{Entry, ParseError, SyntaxError};
-use ras_parsing::{Parse, read};
-use rust_front::Rust;
+use crate::parsed::parsed;
+use crate::root::Root;
+use crate::status::{NO_MEMORY, NO_ROOM, OK, TOO_LONG};
+use lossless_tree::FlatRow;
+use ras_front_end::SyntaxError;
+use ras_parsing::Parse;
 use std::alloc::{AllocError, Global};
 
 /// One error: its range in the text, in bytes, and the length of its message.
@@ -89,7 +90,7 @@ fn counts_of(rows: usize, errors: usize, violations: usize, messages: usize) -> 
 }
 
 // Writes the rows of a parse's tree to the front of `rows`, where there is room, and counts them.
-fn write_rows(parse: &Parse<SyntaxNode>, rows: &mut [FlatRow]) -> usize
+fn write_rows(parse: &Parse<Root>, rows: &mut [FlatRow]) -> usize
     ensures count { result ≡ size parse.now.tree }
     ensures written { size parse.now.tree ≤ length rows.old → size parse.now.tree < 2 ^ 32 → rows.new ≡ over (flat_rows parse.now.tree) rows.old }
     ensures unchanged { (length rows.old < size parse.now.tree) ⊎ (2 ^ 32 ≤ size parse.now.tree) → rows.new ≡ rows.old }
@@ -97,7 +98,7 @@ fn write_rows(parse: &Parse<SyntaxNode>, rows: &mut [FlatRow]) -> usize
     parse.root().write_flat_rows(rows)
 }
 
-fn stored_count(parse: &Parse<SyntaxNode>) -> usize
+fn stored_count(parse: &Parse<Root>) -> usize
     ensures { result ≡ length parse.now.errors }
 {
     parse.stored().len()
@@ -106,7 +107,7 @@ fn stored_count(parse: &Parse<SyntaxNode>) -> usize
 /// Tells a parse: its rows, its errors and their messages, and how much all of that is.
 pub(crate) fn tell(
     alloc: Global,
-    parse: &Parse<SyntaxNode>,
+    parse: &Parse<Root>,
     rows: &mut [FlatRow],
     errors: &mut [ErrorRow],
     messages: &mut [u8],
@@ -169,15 +170,8 @@ pub extern "C" fn ras_c_read(
     ensures edition { (result ≡ 5) ↔ (edition_of edition ≡ None) }
     ensures which { result ≤ 5 }
 {
-    let Some(edition) = edition_of(edition) else {
-        return NO_EDITION;
-    };
-    let Ok(text) = str::from_utf8(text) else {
-        return NOT_UTF8;
-    };
-    match read(alloc, &Rust, Entry::SourceFile, text, edition) {
+    match parsed(alloc, text, edition) {
         Ok(parse) => tell(alloc, &parse, rows, errors, messages, counts),
-        Err(ParseError::TooLong) => TOO_LONG,
-        Err(ParseError::Memory) => NO_MEMORY,
+        Err(status) => status,
     }
 }

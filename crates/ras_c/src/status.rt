@@ -18,6 +18,8 @@ pub const NO_ROOM: u32 = 4;
 pub const NO_EDITION: u32 = 5;
 /// There is no such place in the text. Nothing was written.
 pub const NO_PLACE: u32 = 6;
+/// The handle holds no parse. Nothing was written.
+pub const NO_PARSE: u32 = 7;
 
 /// The edition of a year; `None` where there is none.
 pub fn edition_of(year: u32) -> Option<Edition>

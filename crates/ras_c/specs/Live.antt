@@ -1,0 +1,33 @@
+-- What a handle holds after an edit.
+use Rattle.std.specs.Prelude.{◌≡◌, ℕ, List, Option, Some}
+use Rattle.tree_model.specs.Tree.{text}
+use Rattle.ras_front_end.specs.declared.edition.Edition.{Edition}
+use Rattle.ras_front_end.specs.Parsed.{Parsed}
+use Rattle.ras_parsing.specs.Edit.{Edit, IsEditOf, edited}
+use Rattle.ras_parsing.specs.Reparse.{IsReparse}
+use Rattle.rust_front.specs.Front.{rust_front}
+use Rattle.ras_c.specs.Border.{edition_of}
+
+-- the bytes from one place to another go, and others come in their place
+abbrev pub edit_from : ℕ → ℕ → List ℕ → Edit
+edit_from start end insert = record { delete = record { start = start; end = end }; insert = insert }
+
+-- the parse after an edit is what a reparse by the front end for Rust answers, and it has the edited text
+pub record IsEdited (edition : Edition) (edit : Edit) (old new : Parsed) : Type 0 where
+  pub is_edit : IsEditOf (text old.tree) edit
+  pub reparses : IsReparse rust_front edition old edit new
+  pub same_text : text new.tree ≡ edited (text old.tree) edit
+
+-- a handle held a parse, and holds that after an edit, in the edition of the year
+pub record HoldsEdited (year : ℕ) (edit : Edit) (before after : Option Parsed) : Type 0 where
+  pub edition : Edition
+  pub old : Parsed
+  pub new : Parsed
+  pub edition_is : edition_of year ≡ Some edition
+  pub held_before : before ≡ Some old
+  pub held_after : after ≡ Some new
+  pub is_edited : IsEdited edition edit old new
+
+-- a handle holds a parse with a property
+abbrev pub Holds : Option Parsed → (Parsed → Type 0) → Type 0
+Holds held P = (p : Parsed) × (held ≡ Some p) × P p

@@ -1,0 +1,61 @@
+//! A parse that C holds: a box as its pointer.
+ghost use Rattle.std.specs.Prelude.{◌≡◌, Option, None, Some, MatchOption};
+ghost use Rattle.std.specs.Coded.{coded_option};
+ghost use Rattle.ras_front_end.specs.Parsed.{Parsed, parsed_code};
+ghost use Rattle.ras_c.specs.Held.{held};
+
+use crate::loose::Loose;
+use crate::root::Root;
+use ras_parsing::Parse;
+use std::alloc::Global;
+use std::marker::Model;
+
+/// A parse that the library keeps between calls, or none: all zeros is one without a parse.
+///
+/// The fields are the library's own. A copy must not be used after a call that got the other one, and a handle stays on the
+/// thread that it was made on.
+#[repr(C)]
+pub struct Handle {
+    /// Whether there is a parse.
+    full: bool,
+    /// Where it is.
+    at: *mut u8,
+    pub ghost parse: { Option Parsed } by { coded_option parsed_code },
+}
+
+impl Model for Handle {
+    ghost also_owns = { λ h. held h.full h.at h.parse };
+}
+
+/// The handle without a parse.
+pub(crate) fn empty() -> Handle
+    ensures { result.parse ≡ None }
+{
+    Handle {
+        full: false,
+        at: std::ptr::null_mut(),
+    }
+}
+
+pub(crate) fn seal(loose: Loose<Parse<Root>, Global>) -> Handle
+    ensures { result.parse ≡ Some loose.value }
+{
+    let Loose { at, alloc: _ } = loose;
+    Handle {
+        full: true,
+        at: at as *mut u8,
+    }
+}
+
+pub(crate) fn open(alloc: Global, handle: Handle) -> Option<Loose<Parse<Root>, Global>>
+    ensures { MatchOption result (handle.parse ≡ None) (λ l. handle.parse ≡ Some l.value) }
+{
+    let Handle { full, at } = handle;
+    if full {
+        return Some(Loose {
+            at: at as *mut Parse<Root>,
+            alloc,
+        });
+    }
+    None
+}

@@ -1,0 +1,177 @@
+//! Parses that stay, for edits.
+ghost use Rattle.std.specs.Prelude.{◌≡◌, ◌<◌, ◌≤◌, ◌^◌, ◌⊎◌, ◌↔◌, length, IfOk, IfErr, IsUtf8, None, Some};
+ghost use Rattle.tree_model.specs.Tree.{text};
+ghost use Rattle.ras_front_end.specs.Parsed.{Parsed};
+ghost use Rattle.ras_parsing.specs.Edit.{IsEditOf, edited};
+ghost use Rattle.ras_c.specs.Border.{edition_of};
+ghost use Rattle.ras_c.specs.Read.{told, counted, HasRoom, IsSmall, IsReading, buffers};
+ghost use Rattle.ras_c.specs.Live.{edit_from, IsEdited, HoldsEdited, Holds};
+
+use crate::handle::Handle;
+use crate::held::{put, take};
+use crate::parsed::parsed;
+use crate::read::{Counts, ErrorRow, tell};
+use crate::root::Root;
+use crate::status::{
+    NO_EDITION, NO_MEMORY, NO_PARSE, NO_PLACE, NOT_UTF8, OK, TOO_LONG, edition_of,
+};
+use lossless_tree::{FlatRow, TextRange, TextSize};
+use ras_front_end::{Edition, ParseError};
+use ras_parsing::Parse;
+use rust_front::Rust;
+use std::alloc::Global;
+
+/// Reads a text, of the edition of a year, as a Rust file, and keeps the parse in a handle. What the handle held is let go. [`OK`],
+/// [`NOT_UTF8`], [`TOO_LONG`], [`NO_MEMORY`] or [`NO_EDITION`]; where it is not [`OK`], the handle stays as it was.
+#[unsafe(no_mangle)]
+pub extern "C" fn ras_c_parse(alloc: Global, text: &[u8], edition: u32, handle: &mut Handle) -> u32
+    ensures done { result ≡ 0 → Holds handle.new.parse (IsReading edition text.now) }
+    ensures kept { (result ≡ 0 → ⊥) → handle.new.parse ≡ handle.old.parse }
+    ensures utf8 { (result ≡ 1) ↔ (edition_of edition ≡ None → ⊥) × (IsUtf8 text.now → ⊥) }
+    ensures long { result ≡ 2 → 2 ^ 32 ≤ length text.now }
+    ensures edition { (result ≡ 5) ↔ (edition_of edition ≡ None) }
+    ensures which { (result ≤ 3) ⊎ (result ≡ 5) }
+{
+    let parse = match parsed(alloc, text, edition) {
+        Ok(parse) => parse,
+        Err(status) => return status,
+    };
+    match Box::new(alloc, parse) {
+        Ok(parse) => {
+            put(alloc, handle, parse);
+            OK
+        }
+        Err(_) => NO_MEMORY,
+    }
+}
+
+/// Tells the parse of a handle, as `ras_c_read` tells that of a text. [`OK`], [`TOO_LONG`], [`NO_MEMORY`], [`NO_ROOM`], or [`NO_PARSE`]
+/// where the handle holds none. The handle keeps its parse.
+#[unsafe(no_mangle)]
+pub extern "C" fn ras_c_rows(
+    alloc: Global,
+    handle: &mut Handle,
+    rows: &mut [FlatRow],
+    errors: &mut [ErrorRow],
+    messages: &mut [u8],
+    counts: &mut Counts,
+) -> u32
+    ensures done { result ≡ 0 → Holds handle.old.parse (λ p. IsSmall p × HasRoom p (buffers rows.old errors.old messages.old counts.old)
+        × (buffers rows.new errors.new messages.new counts.new ≡ told p (buffers rows.old errors.old messages.old counts.old))) }
+    ensures room { result ≡ 4 → Holds handle.old.parse (λ p. IsSmall p × (HasRoom p (buffers rows.old errors.old messages.old counts.old) → ⊥)
+        × (buffers rows.new errors.new messages.new counts.new ≡ counted p (buffers rows.old errors.old messages.old counts.old))) }
+    ensures kept { (result ≡ 0 → ⊥) → (result ≡ 4 → ⊥) → buffers rows.new errors.new messages.new counts.new ≡ buffers rows.old errors.old messages.old counts.old }
+    ensures long { result ≡ 2 → Holds handle.old.parse (λ p. IsSmall p → ⊥) }
+    ensures empty { (result ≡ 7) ↔ (handle.old.parse ≡ None) }
+    ensures same { handle.new.parse ≡ handle.old.parse }
+    ensures which { (result ≡ 0) ⊎ (2 ≤ result) × (result ≤ 4) ⊎ (result ≡ 7) }
+{
+    let Some(parse) = take(alloc, handle) else {
+        return NO_PARSE;
+    };
+    let status = tell(alloc, &parse, rows, errors, messages, counts);
+    put(alloc, handle, parse);
+    status
+}
+
+// The parse after an edit, or the status that says why there is none.
+fn reparsed(
+    alloc: Global,
+    old: &Parse<Root>,
+    edition: Edition,
+    start: u32,
+    end: u32,
+    insert: &str,
+) -> Result<Parse<Root>, u32>
+    ensures done { IfOk result (IsEdited edition (edit_from start end insert.now) old.now) }
+    ensures place { IfErr result (λ s. (s ≡ 6) ↔ (IsEditOf (text old.now.tree) (edit_from start end insert.now) → ⊥)) }
+    ensures long { IfErr result (λ s. s ≡ 2 → 2 ^ 32 ≤ length (edited (text old.now.tree) (edit_from start end insert.now))) }
+    ensures which { IfErr result (λ s. (s ≡ 2) ⊎ (s ≡ 3) ⊎ (s ≡ 6)) }
+{
+    let text = old.root().as_str();
+    if start > end
+        || !text.is_char_boundary(start as usize)
+        || !text.is_char_boundary(end as usize)
+    {
+        return Err(NO_PLACE);
+    }
+    let delete = TextRange::new(TextSize::new(start), TextSize::new(end));
+    match old.reparse(alloc, &Rust, delete, insert, edition) {
+        Ok(new) => Ok(new),
+        Err(ParseError::TooLong) => Err(TOO_LONG),
+        Err(ParseError::Memory) => Err(NO_MEMORY),
+    }
+}
+
+// The same, in a block of its own.
+fn reparsed_box(
+    alloc: Global,
+    old: &Parse<Root>,
+    edition: Edition,
+    start: u32,
+    end: u32,
+    insert: &str,
+) -> Result<Box<Parse<Root>>, u32>
+    ensures done { IfOk result (λ b. IsEdited edition (edit_from start end insert.now) old.now b.value) }
+    ensures place { IfErr result (λ s. (s ≡ 6) ↔ (IsEditOf (text old.now.tree) (edit_from start end insert.now) → ⊥)) }
+    ensures long { IfErr result (λ s. s ≡ 2 → 2 ^ 32 ≤ length (edited (text old.now.tree) (edit_from start end insert.now))) }
+    ensures which { IfErr result (λ s. (s ≡ 2) ⊎ (s ≡ 3) ⊎ (s ≡ 6)) }
+{
+    let new = reparsed(alloc, old, edition, start, end, insert)?;
+    match Box::new(alloc, new) {
+        Ok(new) => Ok(new),
+        Err(_) => Err(NO_MEMORY),
+    }
+}
+
+/// Edits the text of a handle's parse: the bytes from `start` to `end` go, `insert` comes in their place, and the handle holds the parse
+/// of the new text, of which one token or one block is parsed again where that is enough, else all. [`OK`], [`NOT_UTF8`],
+/// [`TOO_LONG`], [`NO_MEMORY`], [`NO_EDITION`], [`NO_PARSE`] where the handle holds none, or [`NO_PLACE`] where the range is none of the
+/// text or does not end and start between characters; where it is not [`OK`], the handle stays as it was.
+#[unsafe(no_mangle)]
+pub extern "C" fn ras_c_edit(
+    alloc: Global,
+    handle: &mut Handle,
+    edition: u32,
+    start: u32,
+    end: u32,
+    insert: &[u8],
+) -> u32
+    ensures done { result ≡ 0 → HoldsEdited edition (edit_from start end insert.now) handle.old.parse handle.new.parse }
+    ensures kept { (result ≡ 0 → ⊥) → handle.new.parse ≡ handle.old.parse }
+    ensures utf8 { (result ≡ 1) ↔ (edition_of edition ≡ None → ⊥) × (IsUtf8 insert.now → ⊥) }
+    ensures long { result ≡ 2 → Holds handle.old.parse (λ p. 2 ^ 32 ≤ length (edited (text p.tree) (edit_from start end insert.now))) }
+    ensures edition { (result ≡ 5) ↔ (edition_of edition ≡ None) }
+    ensures place { (result ≡ 6) ↔ (edition_of edition ≡ None → ⊥) × IsUtf8 insert.now
+        × Holds handle.old.parse (λ p. IsEditOf (text p.tree) (edit_from start end insert.now) → ⊥) }
+    ensures empty { (result ≡ 7) ↔ (edition_of edition ≡ None → ⊥) × IsUtf8 insert.now × (handle.old.parse ≡ None) }
+    ensures which { (result ≤ 3) ⊎ (5 ≤ result) × (result ≤ 7) }
+{
+    let Some(edition) = edition_of(edition) else {
+        return NO_EDITION;
+    };
+    let Ok(insert) = str::from_utf8(insert) else {
+        return NOT_UTF8;
+    };
+    let Some(old) = take(alloc, handle) else {
+        return NO_PARSE;
+    };
+    match reparsed_box(alloc, &old, edition, start, end, insert) {
+        Ok(new) => {
+            put(alloc, handle, new);
+            OK
+        }
+        Err(status) => {
+            put(alloc, handle, old);
+            status
+        }
+    }
+}
+
+/// Lets the parse of a handle go, if it holds one. The handle is left without a parse, and may be used again.
+#[unsafe(no_mangle)]
+pub extern "C" fn ras_c_free(alloc: Global, handle: &mut Handle)
+    ensures { handle.new.parse ≡ None }
+{
+    let _parse = take(alloc, handle);
+}
