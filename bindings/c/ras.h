@@ -37,6 +37,9 @@ extern "C" {
 /* There is no such place in the text. Nothing was written. */
 #define RAS_NO_PLACE 6u
 
+/* The handle holds no parse. Nothing was written. */
+#define RAS_NO_PARSE 7u
+
 /* One node or token, in 16 bytes. Rows are numbered from 0 in preorder. */
 typedef struct {
     /* The number of its kind; for a token 2^31 more, since ERROR is a kind of both. */
@@ -48,6 +51,19 @@ typedef struct {
     /* The number of its parent's row; the root, row 0, has 0. */
     uint32_t parent;
 } ras_flat_row;
+
+/*
+ * A parse that the library keeps between calls, or none: all zeros is one without a parse.
+ *
+ * The fields are the library's own. A copy must not be used after a call that got the other one, and a handle stays on the
+ * thread that it was made on.
+ */
+typedef struct {
+    /* Whether there is a parse. */
+    bool full;
+    /* Where it is. */
+    void *at;
+} ras_handle;
 
 /* A range of the text, in bytes. */
 typedef struct {
@@ -100,6 +116,48 @@ size_t ras_c_kind_name(
 uint32_t ras_c_kind_of_name(
     const uint8_t *name,
     size_t name_len);
+
+/*
+ * Reads a text, of the edition of a year, as a Rust file, and keeps the parse in a handle. What the handle held is let go. RAS_OK,
+ * RAS_NOT_UTF8, RAS_TOO_LONG, RAS_NO_MEMORY or RAS_NO_EDITION; where it is not RAS_OK, the handle stays as it was.
+ */
+uint32_t ras_c_parse(
+    const uint8_t *text,
+    size_t text_len,
+    uint32_t edition,
+    ras_handle *handle);
+
+/*
+ * Tells the parse of a handle, as ras_c_read tells that of a text. RAS_OK, RAS_TOO_LONG, RAS_NO_MEMORY, RAS_NO_ROOM, or RAS_NO_PARSE
+ * where the handle holds none. The handle keeps its parse.
+ */
+uint32_t ras_c_rows(
+    ras_handle *handle,
+    ras_flat_row *rows,
+    size_t rows_len,
+    ras_error_row *errors,
+    size_t errors_len,
+    uint8_t *messages,
+    size_t messages_len,
+    ras_counts *counts);
+
+/*
+ * Edits the text of a handle's parse: the bytes from start to end go, insert comes in their place, and the handle holds the parse
+ * of the new text, of which one token or one block is parsed again where that is enough, else all. RAS_OK, RAS_NOT_UTF8,
+ * RAS_TOO_LONG, RAS_NO_MEMORY, RAS_NO_EDITION, RAS_NO_PARSE where the handle holds none, or RAS_NO_PLACE where the range is none of the
+ * text or does not end and start between characters; where it is not RAS_OK, the handle stays as it was.
+ */
+uint32_t ras_c_edit(
+    ras_handle *handle,
+    uint32_t edition,
+    uint32_t start,
+    uint32_t end,
+    const uint8_t *insert,
+    size_t insert_len);
+
+/* Lets the parse of a handle go, if it holds one. The handle is left without a parse, and may be used again. */
+void ras_c_free(
+    ras_handle *handle);
 
 /*
  * Finds the needless pairs of parentheses of a text, of the edition of a year: the pairs whose inside needs none in their place, in

@@ -125,6 +125,79 @@ static void tokens_and_parens(void) {
     owes(ras_c_reads_back(BYTES(sum), 2016, 9, 20, &answer) == RAS_NO_EDITION && answer == 1, "a refused text leaves the answer");
 }
 
+static uint32_t rows_of(ras_handle *handle, ras_flat_row *out, size_t room, ras_counts *counts) {
+    return ras_c_rows(handle, out, room, errors, ERRORS, messages, MESSAGES, counts);
+}
+
+/* Whether the handle tells what a text does. */
+static bool tells(ras_handle *handle, const char *text) {
+    static ras_flat_row whole[ROWS];
+    ras_counts counts, wanted;
+    return rows_of(handle, rows, ROWS, &counts) == RAS_OK
+        && ras_c_read(BYTES(text), 2024, whole, ROWS, errors, ERRORS, messages, MESSAGES, &wanted) == RAS_OK
+        && memcmp(&counts, &wanted, sizeof counts) == 0 && memcmp(rows, whole, counts.rows * sizeof *rows) == 0;
+}
+
+static uint32_t edit(ras_handle *handle, uint32_t start, uint32_t end, const char *insert) {
+    return ras_c_edit(handle, 2024, start, end, BYTES(insert));
+}
+
+static const char OLD[] = "fn foo() { let x = 1; }", NEW[] = "fn \xc3\xbc() { let x = { 1 + 2 }; }\nfn g() {}";
+
+static void edits(void) {
+    ras_handle live = {0};
+    ras_counts counts = {9, 9, 9, 9};
+    owes(rows_of(&live, rows, ROWS, &counts) == RAS_NO_PARSE && counts.rows == 9, "an empty handle tells nothing");
+    owes(edit(&live, 0, 0, "a") == RAS_NO_PARSE, "an empty handle has no text");
+    owes(edit(&live, 0, 0, "\xff") == RAS_NOT_UTF8, "a text that is none comes before an empty handle");
+    ras_c_free(&live);
+    owes(ras_c_parse(BYTES("\xff"), 2024, &live) == RAS_NOT_UTF8, "bad UTF-8 is not parsed");
+    owes(ras_c_parse(BYTES("a"), 2016, &live) == RAS_NO_EDITION && held == 0, "there is no edition 2016");
+    owes(ras_c_parse(BYTES("a"), 2024, &live) == RAS_OK, "a text is parsed");
+    owes(ras_c_parse(BYTES(OLD), 2024, &live) == RAS_OK && tells(&live, OLD), "a handle is used again");
+    owes(edit(&live, 3, 6, "\xc3\xbc") == RAS_OK, "a name is edited");
+    owes(edit(&live, 18, 19, "{ 1 + 2 }") == RAS_OK, "a block is edited");
+    owes(edit(&live, 30, 30, "\nfn g() {}") == RAS_OK && tells(&live, NEW), "a text is added to");
+    owes(edit(&live, 4, 5, "u") == RAS_NO_PLACE && edit(&live, 3, 4, "u") == RAS_NO_PLACE, "no range ends inside a character");
+    owes(edit(&live, 3, 2, "") == RAS_NO_PLACE && edit(&live, 0, 99, "") == RAS_NO_PLACE, "no range is backwards, or ends after the text");
+    owes(edit(&live, 99, 99, "") == RAS_NO_PLACE && edit(&live, UINT32_MAX, UINT32_MAX, "") == RAS_NO_PLACE, "no range is after the text");
+    owes(edit(&live, 0, 0, "\xff") == RAS_NOT_UTF8, "bad UTF-8 is not put in");
+    owes(ras_c_edit(&live, 2016, 0, 0, NULL, 0) == RAS_NO_EDITION && tells(&live, NEW), "a refused edit leaves the handle");
+    owes(rows_of(&live, rows, 3, &counts) == RAS_NO_ROOM && counts.rows > 3 && tells(&live, NEW), "a small buffer leaves the handle");
+    owes(ras_c_edit(&live, 2024, 0, strlen(NEW), NULL, 0) == RAS_OK && tells(&live, ""), "all of a text goes");
+    ras_c_free(&live);
+    owes(held == 0 && rows_of(&live, rows, ROWS, &counts) == RAS_NO_PARSE, "a freed handle holds nothing");
+    ras_c_free(&live);
+    owes(held == 0, "a handle is freed once");
+}
+
+/* Edits of a token, of a block and of all, at a heap that may refuse: each is done, or leaves the handle as it was. */
+static void refuses_edits(void) {
+    static const struct { uint32_t start, end; const char *insert, *text; } steps[] = {
+        {3, 6, "bar", "fn bar() { let x = 1; }"},
+        {19, 20, "{ 2 }", "fn bar() { let x = { 2 }; }"},
+        {0, 0, "mod m;", "mod m;fn bar() { let x = { 2 }; }"},
+    };
+    ras_handle live = {0};
+    ras_counts counts = {9, 9, 9, 9};
+    const char *text = OLD;
+    uint32_t status = ras_c_parse(BYTES(text), 2024, &live);
+    owes(status == RAS_OK || status == RAS_NO_MEMORY, "parse is done or refused");
+    owes(rows_of(&live, rows, ROWS, &counts) != RAS_NO_PARSE ? status == RAS_OK : status == RAS_NO_MEMORY && held == 0, "a handle is full where parse is done");
+    for (size_t n = 0; status == RAS_OK && n < sizeof steps / sizeof *steps; n++) {
+        status = edit(&live, steps[n].start, steps[n].end, steps[n].insert);
+        owes(status == RAS_OK || status == RAS_NO_MEMORY, "edit is done or refused");
+        if (status == RAS_OK) text = steps[n].text;
+        /* What the handle holds is told at a heap that refuses nothing. */
+        long left = granted, before = asked;
+        granted = -1;
+        owes(tells(&live, text), "a handle holds what was done last");
+        granted = left, asked = before;
+    }
+    ras_c_free(&live);
+    owes(held == 0, "a handle leaves no block behind");
+}
+
 /* Each call once, at a heap that may refuse: a call is done, or answers that memory ran out and writes nothing. */
 static void refuses(void) {
     ras_counts counts = {9, 9, 9, 9};
@@ -141,12 +214,14 @@ static void refuses(void) {
     owes(status == RAS_OK || (status == RAS_NO_MEMORY && count == 9), "parens is done or refused");
     status = ras_c_reads_back(BYTES(TEXT), 2024, 20, 31, &answer);
     owes(status != RAS_NO_MEMORY ? answer != 9 || status == RAS_NO_PLACE : answer == 9, "reads_back is done or refused");
+    refuses_edits();
 }
 
 int main(void) {
     reads();
     names();
     tokens_and_parens();
+    edits();
     asked = 0;
     refuses();
     long all = asked;

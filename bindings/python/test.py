@@ -1,6 +1,7 @@
 #!/usr/bin/env python3
 """Tests the module: what trees owe whatever the text is, and what some texts give."""
 import doctest
+import random
 import unittest
 
 import ras
@@ -42,6 +43,39 @@ class Trees(unittest.TestCase):
     def test_needless_pairs_are_found(self):
         tree = ras.parse("fn f() { (a * b) + c; (a + b) * c; g((x)) }")
         self.assertEqual([it.text for it in tree.needless_parens()], ["(a * b)", "(x)"])
+
+    def test_each_edit_gives_the_tree_of_the_edited_text(self):
+        text = "use a::{b, c};\nfn f(x: u8) -> u8 {\n    let y = x + 1;\n    g(y, \"s\");\n    y\n}\nmod m { fn h() { i(); } }\n"
+        inserts = {"IDENT": ("x", "größe"), "INT_NUMBER": ("7", "0x1f"), "STRING": ('""', '"{}"'), "LET_STMT": ("let a = |b| { c };", "f();")}
+        inserts["EXPR_STMT"] = ("let a = { b };", "loop { break; }")
+        numbers, live = random.Random(1), ras.Live(text)
+        for _ in range(200):
+            kind = numbers.choice(sorted(inserts))
+            places = list(live.tree().find(kind))
+            if not places:
+                continue
+            place, insert = numbers.choice(places), numbers.choice(inserts[kind])
+            data = live.data[: place.start] + insert.encode() + live.data[place.end :]
+            live.edit(place.start, place.end, insert)
+            self.assertEqual(live.data, data)
+            whole, tree = ras.parse(data), live.tree()
+            self.assertEqual((tree.data, tree.rows.tolist()), (data, whole.rows.tolist()))
+            self.assertEqual((repr(tree.errors), tree.errors), (repr(whole.errors), []))
+
+    def test_a_refused_edit_leaves_all_as_it_was(self):
+        live = ras.Live("fn ü() {}")
+        rows = live.tree().rows.tolist()
+        for start, end in ((4, 5), (3, 4), (0, 11), (5, 4), (-1, 0), (11, 11)):
+            self.assertRaises(ValueError, live.edit, start, end, "x")
+        self.assertRaises(ValueError, live.edit, 0, 0, b"\xff")
+        self.assertEqual((live.text, live.tree().rows.tolist()), ("fn ü() {}", rows))
+        tree = live.tree()
+        live.edit(0, 10, "")
+        self.assertEqual((live.text, len(live.tree()), tree.text), ("", 1, "fn ü() {}"))
+
+    def test_what_is_no_text_is_not_kept(self):
+        self.assertRaises(ValueError, ras.Live, b"\xff")
+        self.assertRaises(ValueError, ras.Live, "", 2016)
 
     def test_kinds_have_names(self):
         for name in ("FN", "WHITESPACE", "VARIANT_LIST"):

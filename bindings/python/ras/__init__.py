@@ -14,10 +14,11 @@ import array
 import ctypes
 import functools
 import os
+import weakref
 
 from . import _raw
 
-__all__ = ["Element", "ParseError", "SyntaxError", "Tree", "kind_name", "kind_of_name", "parse"]
+__all__ = ["Element", "Live", "ParseError", "SyntaxError", "Tree", "kind_name", "kind_of_name", "parse"]
 
 _TOKEN = 1 << 31
 
@@ -48,6 +49,8 @@ _WHY = {
 
 def _had_room(status):
     """Whether a call was done; False where a buffer was too small."""
+    if status == _raw.NOT_UTF8:
+        raise ValueError("the text is not UTF-8")
     if status in _WHY:
         raise (ValueError if status == _raw.NO_EDITION else ParseError)(_WHY[status])
     return status == _raw.OK
@@ -85,25 +88,28 @@ def parse(text, edition=2024):
     return Tree(text, edition)
 
 
+def _bytes_of(text):
+    return text.encode() if isinstance(text, str) else bytes(text)
+
+
 class Tree:
     """A text, its lossless tree, and what is wrong with it."""
 
     def __init__(self, text, edition=2024):
-        self.data = text.encode() if isinstance(text, str) else bytes(text)
-        self.edition = edition
+        data = _bytes_of(text)
+        self._tell(data, edition, functools.partial(_library.ras_c_read, data, len(data), edition))
+
+    def _tell(self, data, edition, call):
+        """Takes what a call writes to its buffers, which is called again where they had too little room."""
+        self.data, self.edition = data, edition
         counts = _raw.Counts()
-        row_room, error_room, message_room = len(self.data) * 3 // 2 + 64, 16, 1024
+        row_room, error_room, message_room = len(data) * 3 // 2 + 64, 16, 1024
         while True:
             rows = array.array("I", bytes(16 * row_room))
             errors = (_raw.ErrorRow * error_room)()
             messages = ctypes.create_string_buffer(message_room)
             at = rows.buffer_info()[0]
-            status = _library.ras_c_read(
-                self.data, len(self.data), edition, at, row_room, errors, error_room, messages, message_room, ctypes.byref(counts)
-            )
-            if status == _raw.NOT_UTF8:
-                raise ValueError("the text is not UTF-8")
-            if _had_room(status):
+            if _had_room(call(at, row_room, errors, error_room, messages, message_room, ctypes.byref(counts))):
                 break
             row_room, error_room, message_room = counts.rows, counts.errors, max(counts.messages, 1)
         # Four numbers a row: the kind, where it starts, the first row after its subtree, its parent's row.
@@ -144,6 +150,50 @@ class Tree:
             pairs = (_raw.Range * count.value)()
         wanted = {(it.start, it.end) for it in pairs[: count.value]}
         return [it for it in self.find("PAREN_EXPR") if (it.start, it.end) in wanted]
+
+
+class Live:
+    """A text that is edited, and its parse, which stays with the library: one token or one block is parsed again where that is enough.
+
+    >>> live = Live("fn f() { a + b }")
+    >>> live.edit(9, 10, "(c * d)")
+    >>> live.text
+    'fn f() { (c * d) + b }'
+    >>> [it.text for it in live.tree().needless_parens()]
+    ['(c * d)']
+
+    It stays on the thread that made it. Its trees may go to others, and later edits leave them as they are.
+    """
+
+    def __init__(self, text, edition=2024):
+        self.data, self.edition, self._handle = _bytes_of(text), edition, _raw.Handle()
+        _had_room(_library.ras_c_parse(self.data, len(self.data), edition, ctypes.byref(self._handle)))
+        weakref.finalize(self, _library.ras_c_free, ctypes.byref(self._handle))
+
+    def edit(self, start, end, insert):
+        """Replaces the bytes from `start` to `end`. Where it raises, the text and its parse stay as they were: ValueError where the range
+        is none of the text, or does not start and end between characters; ParseError where the new text is too long, or memory ran
+        out.
+        """
+        data = _bytes_of(insert)
+        if not 0 <= start <= end <= len(self.data):
+            raise ValueError(f"{start}..{end} is no range of the text, which has {len(self.data)} bytes")
+        status = _library.ras_c_edit(ctypes.byref(self._handle), self.edition, start, end, data, len(data))
+        if status == _raw.NO_PLACE:
+            raise ValueError(f"{start}..{end} does not start and end between characters")
+        _had_room(status)
+        self.data = self.data[:start] + data + self.data[end:]
+
+    @property
+    def text(self):
+        """The text as it is now."""
+        return self.data.decode()
+
+    def tree(self):
+        """The tree of the text as it is now."""
+        tree = Tree.__new__(Tree)
+        tree._tell(self.data, self.edition, functools.partial(_library.ras_c_rows, ctypes.byref(self._handle)))
+        return tree
 
 
 class Element:

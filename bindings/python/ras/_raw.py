@@ -25,6 +25,9 @@ NO_EDITION = 5
 # There is no such place in the text. Nothing was written.
 NO_PLACE = 6
 
+# The handle holds no parse. Nothing was written.
+NO_PARSE = 7
+
 
 class FlatRow(ctypes.Structure):
     """One node or token, in 16 bytes. Rows are numbered from 0 in preorder."""
@@ -34,6 +37,15 @@ class FlatRow(ctypes.Structure):
         ("start", ctypes.c_uint32),
         ("behind", ctypes.c_uint32),
         ("parent", ctypes.c_uint32),
+    ]
+
+
+class Handle(ctypes.Structure):
+    """A parse that the library keeps between calls, or none: all zeros is one without a parse."""
+
+    _fields_ = [
+        ("full", ctypes.c_bool),
+        ("at", ctypes.c_void_p),
     ]
 
 
@@ -82,6 +94,14 @@ def declare(library):
     library.ras_c_kind_name.restype = ctypes.c_size_t
     library.ras_c_kind_of_name.argtypes = [ctypes.c_void_p, ctypes.c_size_t]
     library.ras_c_kind_of_name.restype = ctypes.c_uint32
+    library.ras_c_parse.argtypes = [ctypes.c_void_p, ctypes.c_size_t, ctypes.c_uint32, ctypes.c_void_p]
+    library.ras_c_parse.restype = ctypes.c_uint32
+    library.ras_c_rows.argtypes = [ctypes.c_void_p, ctypes.c_void_p, ctypes.c_size_t, ctypes.c_void_p, ctypes.c_size_t, ctypes.c_void_p, ctypes.c_size_t, ctypes.c_void_p]
+    library.ras_c_rows.restype = ctypes.c_uint32
+    library.ras_c_edit.argtypes = [ctypes.c_void_p, ctypes.c_uint32, ctypes.c_uint32, ctypes.c_uint32, ctypes.c_void_p, ctypes.c_size_t]
+    library.ras_c_edit.restype = ctypes.c_uint32
+    library.ras_c_free.argtypes = [ctypes.c_void_p]
+    library.ras_c_free.restype = None
     library.ras_c_parens.argtypes = [ctypes.c_void_p, ctypes.c_size_t, ctypes.c_uint32, ctypes.c_void_p, ctypes.c_size_t, ctypes.c_void_p]
     library.ras_c_parens.restype = ctypes.c_uint32
     library.ras_c_reads_back.argtypes = [ctypes.c_void_p, ctypes.c_size_t, ctypes.c_uint32, ctypes.c_uint32, ctypes.c_uint32, ctypes.c_void_p]

@@ -14,12 +14,15 @@
 //! # Ok::<(), ras::ParseError>(())
 //! ```
 //!
+//! [`Live`] is a text that is edited.
+//!
 //! What is proved is the library beneath, `crates/ras_c` of the repository: that the rows are those of the tree that the proved
-//! parser makes of the text. This crate, which reads the rows, is tested, not proved.
+//! parser makes of the text, and that an edit is that of `Parse::reparse`. This crate, which reads the rows, is tested, not proved.
 pub mod ast;
 mod heap;
 mod kind;
 mod kinds;
+mod live;
 mod node;
 mod parse;
 mod range;
@@ -27,6 +30,7 @@ mod raw;
 mod tree;
 
 pub use kind::SyntaxKind;
+pub use live::{EditError, Live};
 pub use node::{Children, Descendants, Direction, Node, NodeOrToken, Token};
 pub use range::{TextRange, TextSize};
 pub use raw::FlatRow;

@@ -25,6 +25,9 @@ pub const NO_EDITION: u32 = 5;
 /// There is no such place in the text. Nothing was written.
 pub const NO_PLACE: u32 = 6;
 
+/// The handle holds no parse. Nothing was written.
+pub const NO_PARSE: u32 = 7;
+
 /// One node or token, in 16 bytes. Rows are numbered from 0 in preorder.
 #[repr(C)]
 #[derive(Clone, Copy, Debug, PartialEq, Eq)]
@@ -37,6 +40,19 @@ pub struct FlatRow {
     pub behind: u32,
     /// The number of its parent's row; the root, row 0, has 0.
     pub parent: u32,
+}
+
+/// A parse that the library keeps between calls, or none: all zeros is one without a parse.
+///
+/// The fields are the library's own. A copy must not be used after a call that got the other one, and a handle stays on the
+/// thread that it was made on.
+#[repr(C)]
+#[derive(Debug)]
+pub struct Handle {
+    /// Whether there is a parse.
+    pub full: bool,
+    /// Where it is.
+    pub at: *mut u8,
 }
 
 /// A range of the text, in bytes.
@@ -99,6 +115,46 @@ unsafe extern "C" {
         name: *const u8,
         name_len: usize,
     ) -> u32;
+
+    /// Reads a text, of the edition of a year, as a Rust file, and keeps the parse in a handle. What the handle held is let go. [`OK`],
+    /// [`NOT_UTF8`], [`TOO_LONG`], [`NO_MEMORY`] or [`NO_EDITION`]; where it is not [`OK`], the handle stays as it was.
+    pub fn ras_c_parse(
+        text: *const u8,
+        text_len: usize,
+        edition: u32,
+        handle: *mut Handle,
+    ) -> u32;
+
+    /// Tells the parse of a handle, as `ras_c_read` tells that of a text. [`OK`], [`TOO_LONG`], [`NO_MEMORY`], [`NO_ROOM`], or [`NO_PARSE`]
+    /// where the handle holds none. The handle keeps its parse.
+    pub fn ras_c_rows(
+        handle: *mut Handle,
+        rows: *mut FlatRow,
+        rows_len: usize,
+        errors: *mut ErrorRow,
+        errors_len: usize,
+        messages: *mut u8,
+        messages_len: usize,
+        counts: *mut Counts,
+    ) -> u32;
+
+    /// Edits the text of a handle's parse: the bytes from `start` to `end` go, `insert` comes in their place, and the handle holds the parse
+    /// of the new text, of which one token or one block is parsed again where that is enough, else all. [`OK`], [`NOT_UTF8`],
+    /// [`TOO_LONG`], [`NO_MEMORY`], [`NO_EDITION`], [`NO_PARSE`] where the handle holds none, or [`NO_PLACE`] where the range is none of the
+    /// text or does not end and start between characters; where it is not [`OK`], the handle stays as it was.
+    pub fn ras_c_edit(
+        handle: *mut Handle,
+        edition: u32,
+        start: u32,
+        end: u32,
+        insert: *const u8,
+        insert_len: usize,
+    ) -> u32;
+
+    /// Lets the parse of a handle go, if it holds one. The handle is left without a parse, and may be used again.
+    pub fn ras_c_free(
+        handle: *mut Handle,
+    );
 
     /// Finds the needless pairs of parentheses of a text, of the edition of a year: the pairs whose inside needs none in their place, in
     /// preorder of the tree. [`OK`], [`NOT_UTF8`], [`TOO_LONG`], [`NO_MEMORY`], [`NO_ROOM`] or [`NO_EDITION`].

@@ -117,10 +117,10 @@ pub struct Tree {
 }
 
 // What the library writes for a text.
-struct Room {
-    rows: Vec<FlatRow>,
-    errors: Vec<ErrorRow>,
-    messages: Vec<u8>,
+pub(crate) struct Room {
+    pub(crate) rows: Vec<FlatRow>,
+    pub(crate) errors: Vec<ErrorRow>,
+    pub(crate) messages: Vec<u8>,
 }
 
 impl Room {
@@ -133,26 +133,6 @@ impl Room {
         const ROW: FlatRow = FlatRow { kind: 0, start: 0, behind: 0, parent: 0 };
         const ERROR: ErrorRow = ErrorRow { start: 0, end: 0, message: 0 };
         Room { rows: vec![ROW; rows], errors: vec![ERROR; errors], messages: vec![0; messages] }
-    }
-
-    // Whether there was room.
-    fn read(&mut self, text: &str, edition: Edition, counts: &mut Counts) -> Result<bool, ParseError> {
-        // SAFETY: the text and the three buffers are borrowed for the call, with their lengths, none overlaps another, and the
-        // declaration is made from that of `crates/ras_c`.
-        answered(unsafe {
-            raw::ras_c_read(
-                text.as_ptr(),
-                text.len(),
-                edition.year(),
-                self.rows.as_mut_ptr(),
-                self.rows.len(),
-                self.errors.as_mut_ptr(),
-                self.errors.len(),
-                self.messages.as_mut_ptr(),
-                self.messages.len(),
-                counts,
-            )
-        })
     }
 }
 
@@ -177,10 +157,35 @@ impl Tree {
     ///
     /// It takes time linear in the text: one pass of the parser, and one copy of the rows.
     pub fn parse(text: impl Into<Box<str>>, edition: Edition) -> Result<Tree, ParseError> {
-        let text = text.into();
+        Tree::told(text.into(), edition, |text, room, counts| {
+            // SAFETY: the text and the three buffers are borrowed for the call, with their lengths, none overlaps another, and the
+            // declaration is made from that of `crates/ras_c`.
+            unsafe {
+                raw::ras_c_read(
+                    text.as_ptr(),
+                    text.len(),
+                    edition.year(),
+                    room.rows.as_mut_ptr(),
+                    room.rows.len(),
+                    room.errors.as_mut_ptr(),
+                    room.errors.len(),
+                    room.messages.as_mut_ptr(),
+                    room.messages.len(),
+                    counts,
+                )
+            }
+        })
+    }
+
+    // The tree of a text that a call tells, and tells again where there was too little room.
+    pub(crate) fn told(
+        text: Box<str>,
+        edition: Edition,
+        mut call: impl FnMut(&str, &mut Room, &mut Counts) -> u32,
+    ) -> Result<Tree, ParseError> {
         let mut room = Room::for_text(text.len());
         let mut counts = Counts { rows: 0, errors: 0, violations: 0, messages: 0 };
-        while !room.read(&text, edition, &mut counts)? {
+        while !answered(call(&text, &mut room, &mut counts))? {
             room = Room::of(counts.rows as usize, counts.errors as usize, counts.messages as usize);
         }
         room.rows.truncate(counts.rows as usize);
@@ -251,7 +256,7 @@ fn needless_ranges(text: &str, edition: Edition) -> Result<Vec<Range>, ParseErro
     let mut ranges = vec![Range { start: 0, end: 0 }; 16];
     let mut count = 0;
     loop {
-        // SAFETY: as in `Room::read`.
+        // SAFETY: as in `Tree::parse`.
         let has_room = answered(unsafe {
             raw::ras_c_parens(text.as_ptr(), text.len(), edition.year(), ranges.as_mut_ptr(), ranges.len(), &mut count)
         })?;

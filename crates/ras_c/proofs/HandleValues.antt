@@ -7,7 +7,7 @@ use mir.Val.{Val, vbool, vptr, vstruct, of_list}
 use types.Logic.{Logic, sem}
 use types.Kit.{Item, Goal, Seq, Step, step, given, learn, use1, ‵, ◌$◌, drop, fsplit, fjoin, fpick, fpack, feq_i, feq_l}
 use base.Fml.{ftrue, ffalse}
-use base.Logic.{never, never_e, via, id⊢, fst∗}
+use base.Logic.{never, never_e, fst∗}
 use denote.RattleType.{RattleType, Valss}
 use denote.Builtin.{RawPtr, bool}
 use denote.Memory.{lone}

@@ -1,5 +1,5 @@
 -- What is told of a text: rows, errors and messages in the buffers of the caller, and how much all of that is.
-use Rattle.std.specs.Prelude.{◌≡◌, ℕ, ◌<◌, ◌≤◌, ◌^◌, List, ◌++◌, length, map, Some, None}
+use Rattle.std.specs.Prelude.{◌≡◌, ℕ, ◌<◌, ◌≤◌, ◌^◌, List, length, map, Some}
 use Rattle.std.specs.List.{flat_map}
 use Rattle.tree_model.specs.Tree.{size}
 use Rattle.tree_model.specs.Edit.{root_of}

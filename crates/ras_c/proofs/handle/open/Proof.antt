@@ -1,11 +1,11 @@
 -- `open` gives the pointer its type back, where the handle is full.
-use Rattle.std.proofs.Common.{◌≡◌, List, [], ◌∷◌, ◌++◌, refl, sym, ap, subst, true, false, lit<}
+use Rattle.std.proofs.Common.{◌≡◌, List, [], ◌∷◌, ◌++◌, refl, sym, subst, true, false, lit<}
 use mir.Syntax.{impl, tnil, dnil, ty_ptr}
 use mir.Val.{Val, vbool, vptr, vcons, vnil, has_ty}
 use base.Logic.{SProp, ent, emp, id⊢}
 use base.Fml.{ftrue, fsep}
 use prog.Wp.{WpFn}
-use types.Kit.{‵, raw, ◌⊛◌, at_ret, ◌$◌, ◌∵◌, !, qed, by, move, keep, drop, split, join, fsplit, fjoin, suffices, use0, use1}
+use types.Kit.{‵, raw, ◌⊛◌, at_ret, ◌$◌, ◌∵◌, !, qed, by, move, keep, split, fsplit, fjoin, suffices, use0, use1}
 use types.Run.{stop, fld, of_opd, lit, no_more, and_then, first, branches, skips, exec, returns, returns_within, enter}
 use types.ByLocal.{alloc_all, pass_all, free_all, look_at, get, get_in, sets, env}
 use types.Part.{agg, sub, whole}
@@ -13,8 +13,8 @@ use types.Match.{live}
 use contract.Monad.{fact, fact_i}
 use contract.Running.{tables}
 use denote.Exit.{yes}
-use denote.RattleType.{RattleType, owns}
-use denote.Signature.{types_at, type_at, plain}
+use denote.RattleType.{RattleType}
+use denote.Signature.{type_at, plain}
 use denote.RawPtr.{block_ptr, ptr_val}
 use denote.Steps.{nothing}
 use denote.Param.{layout}

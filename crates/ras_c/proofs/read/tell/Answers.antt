@@ -1,4 +1,4 @@
-use Rattle.std.proofs.Common.{◌≡◌, ◌∙◌, ◌<◌, ◌≤◌, ◌-◌, length, map, refl, ap, arith}
+use Rattle.std.proofs.Common.{◌≡◌, ◌∙◌, ◌≤◌, ◌-◌, length, map, refl, ap, arith}
 use Rattle.tree_model.specs.Tree.{size}
 use Rattle.ras_parsing.specs.AllErrors.{all_errors}
 use Rattle.ras_c.specs.Read.{needed, messages_of, error_row, HasRoom}

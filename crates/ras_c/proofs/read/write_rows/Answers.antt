@@ -1,5 +1,4 @@
-use Rattle.std.proofs.Common.{◌≡◌, ◌∙◌, ◌<◌, ◌≤◌, ◌++◌, length, drop, ap, sym, arith}
-use Rattle.std.specs.Prelude.{◌^◌}
+use Rattle.std.proofs.Common.{◌≡◌, ◌∙◌, ◌++◌, drop, ap, sym, arith}
 use Rattle.tree_model.specs.Tree.{size}
 use Rattle.tree_model.specs.Cursor.{focus}
 use Rattle.tree_rows.specs.Flat.{flat_rows}

@@ -1,0 +1,148 @@
+//! A text that is edited, and its parse.
+use crate::range::TextRange;
+use crate::raw::{self, Handle};
+use crate::tree::{Edition, ParseError, Tree, answered};
+use std::cell::RefCell;
+use std::fmt;
+use std::ptr;
+
+/// A text that is edited, whose parse stays with the library.
+///
+/// After an edit one token or one block is parsed again where that is enough, as rust-analyzer does it; else all of the text is.
+/// The library counts the owners of its parse without a lock, so a `Live` stays on its thread: it is neither `Send` nor `Sync`.
+/// The trees that it gives are both.
+///
+/// ```
+/// use ras::{Edition, Live, TextRange};
+///
+/// let mut live = Live::parse("fn f() { a + b }", Edition::CURRENT)?;
+/// live.edit(TextRange::new(9.into(), 10.into()), "(c * d)")?;
+/// assert_eq!(live.text(), "fn f() { (c * d) + b }");
+/// assert_eq!(live.tree()?.needless_parens()?[0].text(), "(c * d)");
+/// # Ok::<(), Box<dyn std::error::Error>>(())
+/// ```
+///
+/// ```compile_fail
+/// let live = ras::Live::parse("", ras::Edition::CURRENT).unwrap();
+/// std::thread::spawn(move || live.tree());
+/// ```
+pub struct Live {
+    // The library takes the parse out of the handle for each call, and puts it back.
+    handle: RefCell<Handle>,
+    text: String,
+    edition: Edition,
+}
+
+/// Why a text is not edited.
+#[derive(Clone, Copy, Debug, PartialEq, Eq)]
+pub enum EditError {
+    /// The range ends after the text, or starts or ends inside a character.
+    NoPlace,
+    /// The new text has 2^32 bytes or more.
+    TooLong,
+    /// Out of memory.
+    Memory,
+}
+
+impl fmt::Display for EditError {
+    fn fmt(&self, f: &mut fmt::Formatter<'_>) -> fmt::Result {
+        f.write_str(match self {
+            EditError::NoPlace => "the range ends after the text, or starts or ends inside a character",
+            EditError::TooLong => "the new text is too long: it has 4294967296 bytes or more",
+            EditError::Memory => "out of memory",
+        })
+    }
+}
+
+impl std::error::Error for EditError {}
+
+impl Live {
+    /// A text, read as a file.
+    ///
+    /// It takes time linear in the text.
+    pub fn parse(text: impl Into<String>, edition: Edition) -> Result<Live, ParseError> {
+        let text = text.into();
+        let mut live = Live { handle: RefCell::new(Handle { full: false, at: ptr::null_mut() }), text, edition };
+        // SAFETY: the text is borrowed for the call, with its length; the handle is one without a parse.
+        answered(unsafe { raw::ras_c_parse(live.text.as_ptr(), live.text.len(), edition.year(), live.handle.get_mut()) })?;
+        Ok(live)
+    }
+
+    /// Replaces the bytes of a range. Where this is refused, the text and its parse stay as they were.
+    ///
+    /// ```
+    /// use ras::{EditError, Edition, Live, TextRange};
+    ///
+    /// let mut live = Live::parse("fn ü() {}", Edition::CURRENT)?;
+    /// let inside = TextRange::new(4.into(), 5.into());
+    /// assert_eq!(live.edit(inside, "u"), Err(EditError::NoPlace));
+    /// live.edit(TextRange::new(3.into(), 5.into()), "u")?;
+    /// assert_eq!(live.text(), "fn u() {}");
+    /// # Ok::<(), Box<dyn std::error::Error>>(())
+    /// ```
+    ///
+    /// It copies the text, also where one token is parsed again, and so takes time linear in it.
+    pub fn edit(&mut self, delete: TextRange, insert: &str) -> Result<(), EditError> {
+        let (start, end) = (u32::from(delete.start()), u32::from(delete.end()));
+        // SAFETY: the inserted text is borrowed for the call, with its length; the handle is this value's own.
+        match unsafe {
+            raw::ras_c_edit(self.handle.get_mut(), self.edition.year(), start, end, insert.as_ptr(), insert.len())
+        } {
+            raw::OK => {
+                self.text.replace_range(std::ops::Range::from(delete), insert);
+                Ok(())
+            }
+            raw::NO_PLACE => Err(EditError::NoPlace),
+            raw::TOO_LONG => Err(EditError::TooLong),
+            _ => Err(EditError::Memory),
+        }
+    }
+
+    /// The tree of the text as it is now, which later edits leave as it is.
+    ///
+    /// It takes time linear in the text: one copy of the text, and one of the rows. After an edit, the errors that [`Tree::errors`]
+    /// lists are those before it that lie outside of what was parsed again, and then the new ones.
+    pub fn tree(&self) -> Result<Tree, ParseError> {
+        let mut handle = self.handle.borrow_mut();
+        Tree::told(self.text.as_str().into(), self.edition, |_, room, counts| {
+            // SAFETY: the three buffers are borrowed for the call, with their lengths, and none overlaps another; the handle is this
+            // value's own.
+            unsafe {
+                raw::ras_c_rows(
+                    &mut *handle,
+                    room.rows.as_mut_ptr(),
+                    room.rows.len(),
+                    room.errors.as_mut_ptr(),
+                    room.errors.len(),
+                    room.messages.as_mut_ptr(),
+                    room.messages.len(),
+                    counts,
+                )
+            }
+        })
+    }
+
+    /// The text as it is now.
+    pub fn text(&self) -> &str {
+        &self.text
+    }
+
+    /// The edition that the text is read as.
+    pub fn edition(&self) -> Edition {
+        self.edition
+    }
+}
+
+impl Drop for Live {
+    fn drop(&mut self) {
+        // SAFETY: the handle is this value's own.
+        unsafe { raw::ras_c_free(self.handle.get_mut()) }
+    }
+}
+
+impl fmt::Debug for Live {
+    /// The text and its edition.
+    fn fmt(&self, f: &mut fmt::Formatter<'_>) -> fmt::Result {
+        f.debug_struct("Live").field("text", &self.text).field("edition", &self.edition).finish()
+    }
+}
