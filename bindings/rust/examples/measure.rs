@@ -1,5 +1,6 @@
-//! Times the library: the least processor time of some rounds of reading a file, and of a walk over all nodes and tokens of its tree.
-use ras::{Edition, Tree};
+//! Times the library: the least processor time of some rounds of reading a file, of a walk over all nodes and tokens of its tree, of an
+//! edit of the name in its middle, and of copying the tree after it.
+use ras::{Edition, Live, SyntaxKind, Tree};
 use std::hint::black_box;
 use std::time::Duration;
 
@@ -45,5 +46,12 @@ fn main() -> Result<(), Box<dyn std::error::Error>> {
     println!("bytes {bytes} rows {rows} errors {}", tree.errors().len());
     println!("read: {:.2} ns/byte", read.as_nanos() as f64 / bytes.max(1) as f64);
     println!("walk: {:.2} ns/row, {:.2} ns/byte", walk.as_nanos() as f64 / rows as f64, walk.as_nanos() as f64 / bytes.max(1) as f64);
+    let mut names = tree.root().tokens().filter(|it| it.kind() == SyntaxKind::IDENT);
+    if let Some(name) = names.find(|it| usize::from(it.text_range().start()) >= bytes / 2) {
+        let mut live = Live::parse(&*text, Edition::CURRENT)?;
+        let edit = least(rounds, || live.edit(name.text_range(), name.text()));
+        let copy = least(rounds, || live.tree().map(|it| it.rows().len()));
+        println!("edit of a name: {:.1} us, the tree after it: {:.2} ns/byte", edit.as_nanos() as f64 / 1e3, copy.as_nanos() as f64 / bytes as f64);
+    }
     Ok(())
 }

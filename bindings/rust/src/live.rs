@@ -22,7 +22,7 @@ use std::ptr;
 /// # Ok::<(), Box<dyn std::error::Error>>(())
 /// ```
 ///
-/// ```compile_fail
+/// ```compile_fail,E0277
 /// let live = ras::Live::parse("", ras::Edition::CURRENT).unwrap();
 /// std::thread::spawn(move || live.tree());
 /// ```

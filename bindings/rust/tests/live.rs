@@ -50,19 +50,19 @@ fn places(tree: &Tree, kinds: &[SyntaxKind]) -> Vec<TextRange> {
 // Where an edit of the kind that a number names may be, and what may be put there. Such an edit leaves a correct file correct, and
 // gives no comment another neighbour; so the file has one tree, whether a part of it is parsed again or all.
 fn edits(tree: &Tree, which: usize) -> (Vec<TextRange>, &'static [&'static str]) {
-    use SyntaxKind::*;
+    type Kind = SyntaxKind;
     let behind = |it: TextRange| range(it.end().into(), it.end().into());
     let inside = |it: TextRange| range(usize::from(it.start()) + 4, usize::from(it.start()) + 4);
     let at = |kinds: &[SyntaxKind]| places(tree, kinds);
     match which {
-        0 => (at(&[IDENT]), &["x", "value", "größe", "f2"]),
-        1 => (at(&[INT_NUMBER]), &["7", "0x1f", "1_000"]),
-        2 => (at(&[STRING]), &["\"\"", "\"a\\n\"", "\"{}\""]),
-        3 => (at(&[COMMENT]).into_iter().map(inside).collect(), &["so ", "ß"]),
-        4 => (at(&[WHITESPACE]).into_iter().map(behind).collect(), &[" ", "\t "]),
-        5 => (at(&[LET_STMT, EXPR_STMT]), &["", "let a = b;", "h(a, { 1 });"]),
-        6 => (at(&[LET_STMT, EXPR_STMT]).into_iter().map(behind).collect(), &[" let a = |c| c + 1;", " { a }", " loop { break; }"]),
-        _ => (at(&[FN]).into_iter().map(behind).collect(), &[" fn more() -> u8 { let a = 1; a }", "\nfn one() {}"]),
+        0 => (at(&[Kind::IDENT]), &["x", "value", "größe", "f2"]),
+        1 => (at(&[Kind::INT_NUMBER]), &["7", "0x1f", "1_000"]),
+        2 => (at(&[Kind::STRING]), &["\"\"", "\"a\\n\"", "\"{}\""]),
+        3 => (at(&[Kind::COMMENT]).into_iter().map(inside).collect(), &["so ", "ß"]),
+        4 => (at(&[Kind::WHITESPACE]).into_iter().map(behind).collect(), &[" ", "\t "]),
+        5 => (at(&[Kind::LET_STMT, Kind::EXPR_STMT]), &["", "let a = b;", "h(a, { 1 });"]),
+        6 => (at(&[Kind::LET_STMT, Kind::EXPR_STMT]).into_iter().map(behind).collect(), &[" let a = |c| c + 1;", " { a }", " loop { break; }"]),
+        _ => (at(&[Kind::FN]).into_iter().map(behind).collect(), &[" fn more() -> u8 { let a = 1; a }", "\nfn one() {}"]),
     }
 }
 
