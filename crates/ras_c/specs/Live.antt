@@ -1,5 +1,5 @@
 -- What a handle holds after an edit.
-use Rattle.std.specs.Prelude.{◌≡◌, ℕ, List, Option, Some}
+use Rattle.std.specs.Prelude.{◌≡◌, ℕ, ◌<◌, ◌^◌, List, length, Option, Some}
 use Rattle.tree_model.specs.Tree.{text}
 use Rattle.ras_front_end.specs.declared.edition.Edition.{Edition}
 use Rattle.ras_front_end.specs.Parsed.{Parsed}
@@ -12,11 +12,12 @@ use Rattle.ras_c.specs.Border.{edition_of}
 abbrev pub edit_from : ℕ → ℕ → List ℕ → Edit
 edit_from start end insert = record { delete = record { start = start; end = end }; insert = insert }
 
--- the parse after an edit is what a reparse by the front end for Rust answers, and it has the edited text
+-- the parse after an edit is what a reparse by the front end for Rust answers, and it has the edited text, which is short enough
 pub record IsEdited (edition : Edition) (edit : Edit) (old new : Parsed) : Type 0 where
   pub is_edit : IsEditOf (text old.tree) edit
   pub reparses : IsReparse rust_front edition old edit new
   pub same_text : text new.tree ≡ edited (text old.tree) edit
+  pub short : length (edited (text old.tree) edit) < 2 ^ 32
 
 -- a handle held a parse, and holds that after an edit, in the edition of the year
 pub record HoldsEdited (year : ℕ) (edit : Edit) (before after : Option Parsed) : Type 0 where

@@ -28,7 +28,7 @@ pub extern "C" fn ras_c_parse(alloc: Global, text: &[u8], edition: u32, handle: 
     ensures done { result ≡ 0 → Holds handle.new.parse (IsReading edition text.now) }
     ensures kept { (result ≡ 0 → ⊥) → handle.new.parse ≡ handle.old.parse }
     ensures utf8 { (result ≡ 1) ↔ (edition_of edition ≡ None → ⊥) × (IsUtf8 text.now → ⊥) }
-    ensures long { result ≡ 2 → 2 ^ 32 ≤ length text.now }
+    ensures long { (result ≡ 2) ↔ (edition_of edition ≡ None → ⊥) × IsUtf8 text.now × (2 ^ 32 ≤ length text.now) }
     ensures edition { (result ≡ 5) ↔ (edition_of edition ≡ None) }
     ensures which { (result ≤ 3) ⊎ (result ≡ 5) }
 {
@@ -85,7 +85,7 @@ fn reparsed(
 ) -> Result<Parse<Root>, u32>
     ensures done { IfOk result (IsEdited edition (edit_from start end insert.now) old.now) }
     ensures place { IfErr result (λ s. (s ≡ 6) ↔ (IsEditOf (text old.now.tree) (edit_from start end insert.now) → ⊥)) }
-    ensures long { IfErr result (λ s. s ≡ 2 → 2 ^ 32 ≤ length (edited (text old.now.tree) (edit_from start end insert.now))) }
+    ensures long { IfErr result (λ s. (s ≡ 2) ↔ IsEditOf (text old.now.tree) (edit_from start end insert.now) × (2 ^ 32 ≤ length (edited (text old.now.tree) (edit_from start end insert.now)))) }
     ensures which { IfErr result (λ s. (s ≡ 2) ⊎ (s ≡ 3) ⊎ (s ≡ 6)) }
 {
     let text = old.root().as_str();
@@ -114,7 +114,7 @@ fn reparsed_box(
 ) -> Result<Box<Parse<Root>>, u32>
     ensures done { IfOk result (λ b. IsEdited edition (edit_from start end insert.now) old.now b.value) }
     ensures place { IfErr result (λ s. (s ≡ 6) ↔ (IsEditOf (text old.now.tree) (edit_from start end insert.now) → ⊥)) }
-    ensures long { IfErr result (λ s. s ≡ 2 → 2 ^ 32 ≤ length (edited (text old.now.tree) (edit_from start end insert.now))) }
+    ensures long { IfErr result (λ s. (s ≡ 2) ↔ IsEditOf (text old.now.tree) (edit_from start end insert.now) × (2 ^ 32 ≤ length (edited (text old.now.tree) (edit_from start end insert.now)))) }
     ensures which { IfErr result (λ s. (s ≡ 2) ⊎ (s ≡ 3) ⊎ (s ≡ 6)) }
 {
     let new = reparsed(alloc, old, edition, start, end, insert)?;
@@ -140,7 +140,8 @@ pub extern "C" fn ras_c_edit(
     ensures done { result ≡ 0 → HoldsEdited edition (edit_from start end insert.now) handle.old.parse handle.new.parse }
     ensures kept { (result ≡ 0 → ⊥) → handle.new.parse ≡ handle.old.parse }
     ensures utf8 { (result ≡ 1) ↔ (edition_of edition ≡ None → ⊥) × (IsUtf8 insert.now → ⊥) }
-    ensures long { result ≡ 2 → Holds handle.old.parse (λ p. 2 ^ 32 ≤ length (edited (text p.tree) (edit_from start end insert.now))) }
+    ensures long { (result ≡ 2) ↔ (edition_of edition ≡ None → ⊥) × IsUtf8 insert.now
+        × Holds handle.old.parse (λ p. IsEditOf (text p.tree) (edit_from start end insert.now) × (2 ^ 32 ≤ length (edited (text p.tree) (edit_from start end insert.now)))) }
     ensures edition { (result ≡ 5) ↔ (edition_of edition ≡ None) }
     ensures place { (result ≡ 6) ↔ (edition_of edition ≡ None → ⊥) × IsUtf8 insert.now
         × Holds handle.old.parse (λ p. IsEditOf (text p.tree) (edit_from start end insert.now) → ⊥) }

@@ -1,5 +1,5 @@
 //! Parentheses of the expressions of a text.
-ghost use Rattle.std.specs.Prelude.{◌≡◌, ◌<◌, ◌≤◌, ◌^◌, ◌⊎◌, ◌↔◌, ◌==◌, length, map, IfOk, IfErr, IsUtf8, None, Some};
+ghost use Rattle.std.specs.Prelude.{◌≡◌, ◌<◌, ◌≤◌, ◌^◌, ◌⊎◌, ◌↔◌, ◌==◌, length, map, IfOk, IsUtf8, None, Some};
 ghost use Rattle.std.specs.List.{filter};
 ghost use Rattle.ras_front_end.specs.Parsed.{Parsed};
 ghost use Rattle.operator_pairs.specs.Pairs.{is_needless, nodes_below};

@@ -16,7 +16,7 @@ pub(crate) fn parsed(alloc: Global, text: &[u8], edition: u32) -> Result<Parse<R
     ensures known { IfOk result (λ _. edition_of edition ≡ None → ⊥) }
     ensures text { IfOk result (λ _. IsUtf8 text.now × (length text.now < 2 ^ 32)) }
     ensures utf8 { IfErr result (λ s. (s ≡ 1) ↔ (edition_of edition ≡ None → ⊥) × (IsUtf8 text.now → ⊥)) }
-    ensures long { IfErr result (λ s. s ≡ 2 → 2 ^ 32 ≤ length text.now) }
+    ensures long { IfErr result (λ s. (s ≡ 2) ↔ (edition_of edition ≡ None → ⊥) × IsUtf8 text.now × (2 ^ 32 ≤ length text.now)) }
     ensures edition { IfErr result (λ s. (s ≡ 5) ↔ (edition_of edition ≡ None)) }
     ensures which { IfErr result (λ s. (s ≡ 1) ⊎ (s ≡ 2) ⊎ (s ≡ 3) ⊎ (s ≡ 5)) }
 {
