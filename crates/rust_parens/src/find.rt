@@ -6,6 +6,7 @@ ghost use Rattle.rust_parens.specs.Pairs.{may_go, inside_may_go, parens_of};
 
 use lossless_tree::{SyntaxKind, SyntaxNode, TextRange};
 use ras_node::support;
+use ras_node::support::share;
 use ras_prec::rules::needs_parens_in_place_of;
 use ras_prec_walks::parts::first_expr;
 use std::alloc::{AllocError, Global};
@@ -41,6 +42,25 @@ pub fn may_go(node: &SyntaxNode) -> bool
     ensures { result ≡ may_go node.now }
 {
     node.kind() == SyntaxKind::PAREN_EXPR && parens_of(node).is_some() && inside_may_go(node)
+}
+
+// Whether what a pair holds needs parentheses in place of the outermost of the pairs that it is directly in; false for a pair around
+// another one. It only serves guesses.
+pub(crate) fn is_needed_outside(pair: &SyntaxNode) -> bool {
+    let Some(inside) = first_expr(pair) else {
+        return false;
+    };
+    if inside.kind() == SyntaxKind::PAREN_EXPR {
+        return false;
+    }
+    let mut outer = share(pair);
+    for node in pair.ancestors() {
+        if node.kind() != SyntaxKind::PAREN_EXPR {
+            return needs_parens_in_place_of(&inside, &node, &outer);
+        }
+        outer = node;
+    }
+    false
 }
 
 /// The pairs of a tree that may go, in preorder. Where two of them are in one another, not both may.

@@ -2,6 +2,7 @@
 #![tactic(auto)]
 
 mod find;
+mod guess;
 mod needless;
 mod text;
 

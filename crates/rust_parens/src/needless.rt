@@ -1,15 +1,16 @@
 //! The pairs of a text that may go together, and the text without them.
-ghost use Rattle.std.specs.Prelude.{◌≡◌, ◌≤◌, ◌<◌, ◌+◌, ◌↔◌, ◌++◌, map, length, IfOk, OnOk, IsTrue, option_map, string_bytes};
-ghost use Rattle.rust_parens.specs.Needless.{IsMarkedOut, IsAnswer, AreTried, candidates_of, refused_of};
-ghost use Rattle.rust_parens.specs.Runs.{IsRun, as_tried, going, staying};
+ghost use Rattle.std.specs.Prelude.{◌≡◌, not, get_or, false, ◌≤◌, ◌<◌, ◌+◌, ◌↔◌, ◌++◌, map, length, is_some, IfOk, IfSome, OnOk, IsTrue, option_map, string_bytes};
+ghost use Rattle.rust_parens.specs.Needless.{IsMarkedOut, IsAnswer, AreTried, candidates_of, chosen, refused_of};
+ghost use Rattle.rust_parens.specs.Runs.{IsPlan, IsRun, as_tried, going, planned};
 
 use crate::find::pairs;
+use crate::guess::{Guess, note_apart};
 use crate::text::{marks_of, text_without};
 use lossless_tree::SyntaxNode;
 use ras_front_end::{Edition, Entry, FrontEnd, ParseError};
 use ras_node::support::share;
 use ras_parsing::{Parse, read};
-use rust_report::{Trivia, first_difference};
+use rust_report::{Difference, Trivia, first_difference};
 use std::alloc::{AllocError, Global};
 
 /// After so many pairs that stay no further ones are tried: each of them takes at least one parse.
@@ -37,11 +38,19 @@ pub struct Needless {
     pub left: usize,
 }
 
-// Pairs that were tried together beside those that were chosen. They go where there is a text without them all; else it is one pair,
-// and it stays.
+// Pairs that were tried beside those that were chosen, in order, and the text without the chosen ones and without those of them that
+// go; no text if none of them goes.
 #[derive(Drop)]
 struct Run {
-    count: usize,
+    tried: Vec<Tried>,
+    text: Option<String>,
+}
+
+// A guess which of the first pairs of a list stay. The text without the chosen pairs and without the others is confirmed by a parse;
+// there is none if all of them stay.
+#[derive(Drop)]
+struct Plan {
+    stays: Vec<bool>,
     text: Option<String>,
 }
 
@@ -53,7 +62,8 @@ fn is_same(old: &Parse<SyntaxNode>, marks: &[bool], new: &Parse<SyntaxNode>) -> 
         && first_difference(old.root(), marks, new.root(), Trivia::Aside).is_none()
 }
 
-// The text without the pairs of `chosen` and `more`, where these may go.
+// The text without the pairs of `chosen` and `more`, if it parses to the tree without them. If it does not, the first `wanted` places
+// where the trees differ are added to `apart`.
 fn without<F: FrontEnd>(
     alloc: Global,
     front: &F,
@@ -62,6 +72,8 @@ fn without<F: FrontEnd>(
     old: &Parse<SyntaxNode>,
     chosen: &[SyntaxNode],
     more: &[SyntaxNode],
+    wanted: usize,
+    apart: &mut Vec<Difference>,
 ) -> Result<Option<String>, AllocError>
     ensures { IfOk result (λ o. IsAnswer (F.answers front.now) entry edition old.now (chosen.now ++ more.now) (option_map string_bytes o)) }
 {
@@ -73,6 +85,7 @@ fn without<F: FrontEnd>(
             if is_same(old, marks.as_slice(), &new) {
                 Ok(Some(text))
             } else {
+                note_apart(alloc, old, marks.as_slice(), &new, wanted, apart)?;
                 Ok(None)
             }
         }
@@ -81,8 +94,17 @@ fn without<F: FrontEnd>(
     }
 }
 
+// The run of pairs that all go, or of one that stays.
+fn run_of(alloc: Global, pairs: &[SyntaxNode], text: Option<String>) -> Result<Run, AllocError>
+    ensures { IfOk result (λ run. (run.tried.items ≡ map (as_tried (is_some text)) pairs.now) × (run.text ≡ text)) }
+{
+    let mut tried = Vec::new(alloc);
+    note(&mut tried, pairs, text.is_some())?;
+    Ok(Run { tried, text })
+}
+
 // Tries the first pairs that are left beside those that were chosen: at most `step` of them, then by halves, down to one.
-fn next_run<F: FrontEnd>(
+fn halved_run<F: FrontEnd>(
     alloc: Global,
     front: &F,
     entry: Entry,
@@ -95,19 +117,168 @@ fn next_run<F: FrontEnd>(
     requires { 1 ≤ length rest.now }
     ensures { IfOk result (IsRun (F.answers front.now) entry edition old.now chosen.now rest.now) }
 {
+    let mut apart = Vec::new(alloc);
     let mut count = step.min(rest.len());
     while count > 1 {
-        let text = without(alloc, front, entry, edition, old, chosen, &rest[..count])?;
+        let pairs = &rest[..count];
+        let text = without(
+            alloc, front, entry, edition, old, chosen, pairs, 0, &mut apart,
+        )?;
         if text.is_some() {
-            return Ok(Run { count, text });
+            return run_of(alloc, pairs, text);
         }
         count /= 2;
     }
-    let text = without(alloc, front, entry, edition, old, chosen, &rest[..1])?;
-    Ok(Run { count: 1, text })
+    let pairs = &rest[..1];
+    let text = without(
+        alloc, front, entry, edition, old, chosen, pairs, 0, &mut apart,
+    )?;
+    run_of(alloc, pairs, text)
 }
 
-// Adds the pairs of a run to those that were chosen, where they go.
+// The pairs that a plan lets go.
+fn planned(
+    alloc: Global,
+    stays: &[bool],
+    pairs: &[SyntaxNode],
+) -> Result<Vec<SyntaxNode>, AllocError>
+    ensures { IfOk result (λ going. going.items ≡ planned stays.now pairs.now) }
+{
+    let mut going = Vec::new(alloc);
+    let mut marks = stays.iter();
+    for pair in pairs {
+        match marks.next() {
+            None => return Ok(going),
+            Some(stays) => {
+                if !*stays {
+                    going.push(share(pair))?;
+                }
+            }
+        }
+    }
+    Ok(going)
+}
+
+// Guesses which of the pairs that are left stay, until the text without the others parses to the tree without them. After `room` that
+// stay, the plan ends. `None` if a parse shows no further pair that may have to stay.
+fn make_plan<F: FrontEnd>(
+    alloc: Global,
+    front: &F,
+    entry: Entry,
+    edition: Edition,
+    old: &Parse<SyntaxNode>,
+    chosen: &[SyntaxNode],
+    rest: &[SyntaxNode],
+    guess: &mut Guess,
+    room: usize,
+) -> Result<Option<Plan>, AllocError>
+    requires { 1 ≤ length rest.now }
+    ensures { IfOk result (λ plan. IfSome plan (IsPlan (F.answers front.now) entry edition old.now chosen.now rest.now)) }
+{
+    for _turn in 0..=LIMIT {
+        let stays = guess.stays_of(alloc, rest.len(), room)?;
+        let going = planned(alloc, stays.as_slice(), rest)?;
+        if going.is_empty() {
+            return Ok(Some(Plan { stays, text: None }));
+        }
+        let mut apart = Vec::new(alloc);
+        let more = going.as_slice();
+        let wanted = guess.wanted();
+        let text = without(
+            alloc, front, entry, edition, old, chosen, more, wanted, &mut apart,
+        )?;
+        if text.is_some() {
+            return Ok(Some(Plan { stays, text }));
+        }
+        if !guess.learn(rest, apart.as_slice()) {
+            return Ok(None);
+        }
+    }
+    Ok(None)
+}
+
+// Whether a plan lets a pair go.
+fn goes_at(stays: &[bool], at: usize) -> bool
+    requires { at < length stays.now }
+    ensures { result ≡ not (get_or stays.now at false) }
+{
+    !stays[at]
+}
+
+// Tries each pair that stays by a plan, beside those that were chosen and those before it that go, up to one that does not stay.
+fn planned_run<F: FrontEnd>(
+    alloc: Global,
+    front: &F,
+    entry: Entry,
+    edition: Edition,
+    old: &Parse<SyntaxNode>,
+    chosen: &[SyntaxNode],
+    rest: &[SyntaxNode],
+    plan: Plan,
+) -> Result<Run, AllocError>
+    requires { IsPlan (F.answers front.now) entry edition old.now chosen.now rest.now plan }
+    ensures { IfOk result (IsRun (F.answers front.now) entry edition old.now chosen.now rest.now) }
+{
+    let mut before = Vec::new(alloc);
+    add_going(&mut before, chosen, true)?;
+    let mut tried = Vec::new(alloc);
+    let mut apart = Vec::new(alloc);
+    while tried.len() < plan.stays.len() {
+        let at = tried.len();
+        let left = &rest[at..];
+        let pair = &left[..1];
+        let marks = plan.stays.as_slice();
+        let goes = goes_at(marks, at);
+        if !goes {
+            let beside = before.as_slice();
+            let text = without(
+                alloc, front, entry, edition, old, beside, pair, 0, &mut apart,
+            )?;
+            if text.is_some() {
+                note(&mut tried, pair, true)?;
+                return Ok(Run { tried, text });
+            }
+        }
+        add_going(&mut before, pair, goes)?;
+        note(&mut tried, pair, goes)?;
+    }
+    Ok(Run {
+        tried,
+        text: plan.text,
+    })
+}
+
+// Tries the first pairs that are left: by a plan, and by halves where no plan is found, up to a pair that stays.
+fn next_run<F: FrontEnd>(
+    alloc: Global,
+    front: &F,
+    entry: Entry,
+    edition: Edition,
+    old: &Parse<SyntaxNode>,
+    chosen: &[SyntaxNode],
+    rest: &[SyntaxNode],
+    guess: &mut Guess,
+    room: usize,
+) -> Result<Run, AllocError>
+    requires { 1 ≤ length rest.now }
+    ensures { IfOk result (IsRun (F.answers front.now) entry edition old.now chosen.now rest.now) }
+{
+    if guess.is_trusted() {
+        let plan = make_plan(alloc, front, entry, edition, old, chosen, rest, guess, room)?;
+        if let Some(plan) = plan {
+            let count = plan.stays.len();
+            let run = planned_run(alloc, front, entry, edition, old, chosen, rest, plan)?;
+            guess.was_followed(count, run.tried.len());
+            return Ok(run);
+        }
+    }
+    let step = guess.step();
+    let run = halved_run(alloc, front, entry, edition, old, chosen, rest, step)?;
+    guess.was_tried(run.tried.len(), run.text.is_some());
+    Ok(run)
+}
+
+// Adds pairs to those that were chosen, where they go.
 fn add_going(chosen: &mut Vec<SyntaxNode>, run: &[SyntaxNode], goes: bool) -> Result<(), AllocError>
     ensures { OnOk result (chosen.new.items ≡ chosen.old.items ++ going goes run.now) }
 {
@@ -133,19 +304,53 @@ fn note(tried: &mut Vec<Tried>, run: &[SyntaxNode], goes: bool) -> Result<(), Al
     Ok(())
 }
 
-// How many pairs of a run stay.
-fn staying(goes: bool) -> usize
-    ensures { result ≡ staying goes }
+// Adds those pairs that go to those that were chosen.
+fn add_chosen(found: &mut Vec<SyntaxNode>, tried: &[Tried]) -> Result<(), AllocError>
+    ensures { OnOk result (found.new.items ≡ found.old.items ++ chosen tried.now) }
 {
-    if goes { 0 } else { 1 }
+    for one in tried {
+        if one.goes {
+            found.push(share(&one.pair))?;
+        }
+    }
+    Ok(())
+}
+
+// Adds pairs that were tried to others.
+fn add_tried(tried: &mut Vec<Tried>, more: &[Tried]) -> Result<(), AllocError>
+    ensures { OnOk result (tried.new.items ≡ tried.old.items ++ more.now) }
+{
+    for one in more {
+        tried.push(Tried {
+            pair: share(&one.pair),
+            goes: one.goes,
+        })?;
+    }
+    Ok(())
+}
+
+// How many pairs stay.
+fn staying(tried: &[Tried]) -> usize
+    ensures { result ≡ length (refused_of tried.now) }
+{
+    let mut count = 0usize;
+
+    for one in tried {
+        if !one.goes {
+            count += 1;
+        }
+    }
+    count
 }
 
 /// The pairs of parentheses of a text that may go together: those that [`pairs`](crate::pairs) names, one after the other, where the
 /// text without it, and without those before it that go, parses to the same tree without them, white space and comments aside, with
 /// as many errors.
 ///
-/// All are tried at once, and by halves where that fails, so for many pairs that go and few that stay it takes few parses. Once
-/// [`LIMIT`] pairs were tried that stay, the others are not tried.
+/// All pairs are removed at once and the text is parsed. If that fails, the places where the trees differ suggest which pairs stay; one
+/// further parse confirms that the others go together, and one for each pair that stays confirms that it does. Without a suggestion,
+/// runs of pairs are tried and halved. So it usually takes a few parses of the text and one for each pair that stays, in time linear in
+/// the text for each of them. Once [`LIMIT`] pairs were tried that stay, the others are not tried.
 pub fn find_needless<F: FrontEnd>(
     alloc: Global,
     front: &F,
@@ -158,29 +363,23 @@ pub fn find_needless<F: FrontEnd>(
     ensures all { IfOk result (λ n. 0 < n.left → LIMIT ≤ length (refused_of n.tried.items)) }
 {
     let candidates = pairs(alloc, old.root())?;
+    let mut guess = Guess::new(alloc, candidates.as_slice())?;
     let mut found = Vec::new(alloc);
     let mut tried = Vec::new(alloc);
     let mut text = None;
     let mut refused = 0usize;
-    let mut step = candidates.len();
     while tried.len() < candidates.len() && refused < LIMIT {
         let rest = &candidates[tried.len()..];
+        let beside = found.as_slice();
+        let room = LIMIT - refused;
         let run = next_run(
-            alloc,
-            front,
-            entry,
-            edition,
-            old,
-            found.as_slice(),
-            rest,
-            step,
+            alloc, front, entry, edition, old, beside, rest, &mut guess, room,
         )?;
-        let pairs = &rest[..run.count];
-        let goes = run.text.is_some();
-        add_going(&mut found, pairs, goes)?;
-        note(&mut tried, pairs, goes)?;
-        refused += staying(goes);
-        step = if goes { run.count.saturating_mul(2) } else { 1 };
+        let more = run.tried.as_slice();
+        add_chosen(&mut found, more)?;
+        add_tried(&mut tried, more)?;
+        let all = tried.as_slice();
+        refused = staying(all);
         text = run.text.or(text);
     }
     Ok(Needless {
