@@ -30,7 +30,7 @@ int main(int argc, char **argv) {
     for (uint32_t n = 0; n < counts.rows; n++) {
         if (rows[n].kind != name || rows[rows[n].parent].kind != fn) continue;
         for (; at < rows[n].start; at++) line += text[at] == '\n';
-        uint32_t end = rows[n].behind < counts.rows ? rows[rows[n].behind].start : (uint32_t)length;
+        uint32_t end = rows[n].subtree_end < counts.rows ? rows[rows[n].subtree_end].start : (uint32_t)length;
         printf("%u: %.*s\n", line, (int)(end - rows[n].start), text + rows[n].start);
     }
     printf("%u errors\n", counts.errors);

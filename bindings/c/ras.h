@@ -13,28 +13,28 @@
 extern "C" {
 #endif
 
-/* What no kind has as its number. */
+/* A number that no kind has. */
 #define RAS_NO_KIND 4294967295u
 
-/* Done: each buffer has what was asked for, and the counts say how much. */
+/* Success. The buffers and the counts were written. */
 #define RAS_OK 0u
 
 /* The text is not UTF-8. Nothing was written. */
 #define RAS_NOT_UTF8 1u
 
-/* The text has 2^32 bytes or more, or what is to be told of it has 2^32 rows or bytes or more. Nothing was written. */
+/* The text, its rows or its messages have 2^32 bytes or elements or more. Nothing was written. */
 #define RAS_TOO_LONG 2u
 
-/* Memory ran out. Nothing was written. */
+/* Out of memory. Nothing was written. */
 #define RAS_NO_MEMORY 3u
 
-/* A buffer has too little room. The counts say how much is needed, and nothing else was written. */
+/* A buffer is too small. The counts are the sizes that are needed; nothing else was written. */
 #define RAS_NO_ROOM 4u
 
-/* The edition is none of 2015, 2018, 2021 and 2024. Nothing was written. */
+/* The edition is not 2015, 2018, 2021 or 2024. Nothing was written. */
 #define RAS_NO_EDITION 5u
 
-/* There is no such place in the text. Nothing was written. */
+/* The text has no such range. Nothing was written. */
 #define RAS_NO_PLACE 6u
 
 /* The handle holds no parse. Nothing was written. */
@@ -47,16 +47,16 @@ typedef struct {
     /* The byte where its text starts. */
     uint32_t start;
     /* The number of the first row after its subtree. */
-    uint32_t behind;
+    uint32_t subtree_end;
     /* The number of its parent's row; the root, row 0, has 0. */
     uint32_t parent;
 } ras_flat_row;
 
 /*
- * A parse that the library keeps between calls, or none: all zeros is one without a parse.
+ * A parse that is kept between calls, or no parse. A handle of all zeros holds none.
  *
- * The fields are the library's own. A copy must not be used after a call that got the other one, and a handle stays on the
- * thread that it was made on.
+ * The fields are private to the library. Do not use a copy of a handle after a call that changed the original. Use a handle only on
+ * the thread that created it.
  */
 typedef struct {
     /* Whether there is a parse. */
@@ -79,17 +79,17 @@ typedef struct {
     uint32_t start;
     /* The byte where its range ends. */
     uint32_t end;
-    /* How many bytes its message has; the messages follow one another. */
+    /* The length of its message in bytes. The messages are stored one after another. */
     uint32_t message;
 } ras_error_row;
 
-/* How much there is to tell of a text. */
+/* How many rows, errors and bytes of messages a text has. */
 typedef struct {
     /* The nodes and tokens of its tree. */
     uint32_t rows;
     /* Its errors: those of the parser, then those of the lexer, then the violations of rules beyond the grammar. */
     uint32_t errors;
-    /* How many of the errors, the last ones, are such violations. */
+    /* How many of the errors are such violations. They are the last ones. */
     uint32_t violations;
     /* The bytes of all messages. */
     uint32_t messages;
@@ -99,27 +99,28 @@ typedef struct {
 typedef struct {
     /* The number of its kind. */
     uint32_t kind;
-    /* How many bytes its text has. */
+    /* The length of its text in bytes. */
     uint32_t bytes;
 } ras_token_row;
 
 /*
- * Writes the name of the kind with this number, as FN, to the front of name, and answers how many bytes it has: 0 where no kind
- * has the number, or the kind has no name. Where name has fewer, it stays as it was. 64 bytes are enough for each.
+ * Writes the name of the kind with this number, for example FN, to the front of name, and returns the name's length in bytes: 0 if
+ * no kind has the number, or if the kind has no name. If name is shorter than that, it is not changed. 64 bytes are enough for all.
  */
 size_t ras_c_kind_name(
     uint32_t kind,
     uint8_t *name,
     size_t name_len);
 
-/* The number of the kind with this name, as FN; RAS_NO_KIND where none has it. */
+/* The number of the kind with this name, for example FN, or RAS_NO_KIND if there is none. */
 uint32_t ras_c_kind_of_name(
     const uint8_t *name,
     size_t name_len);
 
 /*
- * Reads a text, of the edition of a year, as a Rust file, and keeps the parse in a handle. What the handle held is let go. RAS_OK,
- * RAS_NOT_UTF8, RAS_TOO_LONG, RAS_NO_MEMORY or RAS_NO_EDITION; where it is not RAS_OK, the handle stays as it was.
+ * Parses a text as a Rust file of an edition, such as 2024, and puts the parse into a handle. A parse that the handle held is freed.
+ *
+ * Returns RAS_OK, RAS_NOT_UTF8, RAS_TOO_LONG, RAS_NO_MEMORY or RAS_NO_EDITION. Unless it is RAS_OK, the handle is not changed.
  */
 uint32_t ras_c_parse(
     const uint8_t *text,
@@ -128,8 +129,9 @@ uint32_t ras_c_parse(
     ras_handle *handle);
 
 /*
- * Tells the parse of a handle, as ras_c_read tells that of a text. RAS_OK, RAS_TOO_LONG, RAS_NO_MEMORY, RAS_NO_ROOM, or RAS_NO_PARSE
- * where the handle holds none. The handle keeps its parse.
+ * Writes the rows, errors and messages of a handle's parse, as ras_c_read does for a text. The handle keeps its parse.
+ *
+ * Returns RAS_OK, RAS_TOO_LONG, RAS_NO_MEMORY, RAS_NO_ROOM, or RAS_NO_PARSE if the handle holds no parse.
  */
 uint32_t ras_c_rows(
     ras_handle *handle,
@@ -142,10 +144,11 @@ uint32_t ras_c_rows(
     ras_counts *counts);
 
 /*
- * Edits the text of a handle's parse: the bytes from start to end go, insert comes in their place, and the handle holds the parse
- * of the new text, of which one token or one block is parsed again where that is enough, else all. RAS_OK, RAS_NOT_UTF8,
- * RAS_TOO_LONG, RAS_NO_MEMORY, RAS_NO_EDITION, RAS_NO_PARSE where the handle holds none, or RAS_NO_PLACE where the range is none of the
- * text or does not end and start between characters; where it is not RAS_OK, the handle stays as it was.
+ * Edits the text of a handle's parse: insert replaces the bytes from start to end, and the handle then holds the parse of the new
+ * text. Only one token or one block is parsed again if that is possible, otherwise the whole text.
+ *
+ * Returns RAS_OK, RAS_NOT_UTF8, RAS_TOO_LONG, RAS_NO_MEMORY, RAS_NO_EDITION, RAS_NO_PARSE if the handle holds no parse, or RAS_NO_PLACE
+ * if the range is not in the text or not on character boundaries. Unless it is RAS_OK, the handle is not changed.
  */
 uint32_t ras_c_edit(
     ras_handle *handle,
@@ -155,15 +158,17 @@ uint32_t ras_c_edit(
     const uint8_t *insert,
     size_t insert_len);
 
-/* Lets the parse of a handle go, if it holds one. The handle is left without a parse, and may be used again. */
+/* Frees the parse of a handle, if it holds one. The handle then holds none, and may be used again. */
 void ras_c_free(
     ras_handle *handle);
 
 /*
- * Finds the needless pairs of parentheses of a text, of the edition of a year: the pairs whose inside needs none in their place, in
- * preorder of the tree. RAS_OK, RAS_NOT_UTF8, RAS_TOO_LONG, RAS_NO_MEMORY, RAS_NO_ROOM or RAS_NO_EDITION.
+ * Finds the needless pairs of parentheses of a text of an edition, such as 2024: those whose contents need no parentheses in place of the
+ * pair, in preorder of the tree.
  *
- * A range is that of a PAREN_EXPR, with both parentheses. That several pairs may go at once is not said.
+ * Returns RAS_OK, RAS_NOT_UTF8, RAS_TOO_LONG, RAS_NO_MEMORY, RAS_NO_ROOM or RAS_NO_EDITION. A range is that of a PAREN_EXPR, with both
+ * parentheses. The test is on tokens: removing a pair from the text can join two tokens, as in (1).0. It is on each pair alone: two
+ * pairs may not be removable together.
  */
 uint32_t ras_c_parens(
     const uint8_t *text,
@@ -174,9 +179,10 @@ uint32_t ras_c_parens(
     uint32_t *count);
 
 /*
- * Whether the operator tree with exactly this range of a text, of the edition of a year, is the one reading of its tokens: answer
- * is 1 if so and else 0. RAS_OK, RAS_NOT_UTF8, RAS_TOO_LONG, RAS_NO_MEMORY, RAS_NO_EDITION, or RAS_NO_PLACE where no operator tree
- * has the range. Of several the innermost is asked.
+ * Tests whether the operator tree with exactly this range, in a text of an edition such as 2024, is the one reading of its tokens.
+ * answer is 1 if it is, and 0 if not. If several operator trees have the range, the innermost is tested.
+ *
+ * Returns RAS_OK, RAS_NOT_UTF8, RAS_TOO_LONG, RAS_NO_MEMORY, RAS_NO_EDITION, or RAS_NO_PLACE if no operator tree has the range.
  */
 uint32_t ras_c_reads_back(
     const uint8_t *text,
@@ -187,10 +193,11 @@ uint32_t ras_c_reads_back(
     uint32_t *answer);
 
 /*
- * Reads a text, of the edition of a year, as a Rust file: its tree as rows in preorder, its errors, and their messages one after
- * the other, each at the front of its buffer. RAS_OK, RAS_NOT_UTF8, RAS_TOO_LONG, RAS_NO_MEMORY, RAS_NO_ROOM or RAS_NO_EDITION.
+ * Parses a text as a Rust file of an edition, such as 2024. Writes the tree as rows in preorder, the errors, and their messages one after
+ * another, each to the front of its buffer.
  *
- * Whatever the text is, there is a tree. A text of n bytes seldom has more than 2 n rows.
+ * Returns RAS_OK, RAS_NOT_UTF8, RAS_TOO_LONG, RAS_NO_MEMORY, RAS_NO_ROOM or RAS_NO_EDITION. Text with syntax errors has a tree too. A text
+ * of n bytes seldom has more than 2 n rows.
  */
 uint32_t ras_c_read(
     const uint8_t *text,
@@ -205,10 +212,10 @@ uint32_t ras_c_read(
     ras_counts *counts);
 
 /*
- * Cuts a text, of the edition of a year, into tokens: white space and comments are tokens too, and punctuation is cut into single
- * signs. RAS_OK, RAS_NOT_UTF8, RAS_TOO_LONG, RAS_NO_MEMORY, RAS_NO_ROOM or RAS_NO_EDITION.
+ * Cuts a text of an edition, such as 2024, into tokens. White space and comments are tokens too, and punctuation is cut into single
+ * characters.
  *
- * A text has at most as many tokens as bytes.
+ * Returns RAS_OK, RAS_NOT_UTF8, RAS_TOO_LONG, RAS_NO_MEMORY, RAS_NO_ROOM or RAS_NO_EDITION. A text has at most as many tokens as bytes.
  */
 uint32_t ras_c_tokens(
     const uint8_t *text,

@@ -61,11 +61,11 @@ static uint32_t read_with(size_t row_room, size_t error_room, size_t message_roo
 static void reads(void) {
     ras_counts counts = {0, 0, 0, 0}, none = {0, 0, 0, 0};
     owes(read_with(ROWS, ERRORS, MESSAGES, &counts) == RAS_OK, "a text is read");
-    owes(rows[0].behind == counts.rows && rows[0].parent == 0, "the root's subtree is the tree");
+    owes(rows[0].subtree_end == counts.rows && rows[0].parent == 0, "the root's subtree is the tree");
     for (uint32_t n = 1; n < counts.rows; n++) {
         ras_flat_row parent = rows[rows[n].parent];
-        owes(rows[n].parent < n && rows[n].behind <= parent.behind && rows[n].start >= parent.start, "a row stands in its parent");
-        owes(!(rows[n].kind >> 31) || rows[n].behind == n + 1, "a token has nothing below it");
+        owes(rows[n].parent < n && rows[n].subtree_end <= parent.subtree_end && rows[n].start >= parent.start, "a row stands in its parent");
+        owes(!(rows[n].kind >> 31) || rows[n].subtree_end == n + 1, "a token has nothing below it");
     }
     uint32_t sum = 0;
     for (uint32_t n = 0; n < counts.errors; n++) sum += errors[n].message;

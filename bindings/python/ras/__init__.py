@@ -232,11 +232,11 @@ class Element:
     @property
     def end(self):
         """The byte where its text ends."""
-        behind = self.behind
-        return self.tree.rows[4 * behind + 1] if behind < len(self.tree) else len(self.tree.data)
+        after = self.subtree_end
+        return self.tree.rows[4 * after + 1] if after < len(self.tree) else len(self.tree.data)
 
     @property
-    def behind(self):
+    def subtree_end(self):
         """The first row after its subtree."""
         return self.tree.rows[4 * self.row + 2]
 
@@ -259,11 +259,11 @@ class Element:
 
     def children(self):
         """Its children, nodes and tokens, in order."""
-        row, behind = self.row + 1, self.behind
-        while row < behind:
+        row, after = self.row + 1, self.subtree_end
+        while row < after:
             child = Element(self.tree, row)
             yield child
-            row = child.behind
+            row = child.subtree_end
 
     def child(self, kind):
         """The first child of a kind; None where there is none."""
@@ -271,7 +271,7 @@ class Element:
 
     def descendants(self):
         """It and all nodes and tokens below it, in preorder."""
-        return (Element(self.tree, row) for row in range(self.row, self.behind))
+        return (Element(self.tree, row) for row in range(self.row, self.subtree_end))
 
     def tokens(self):
         """Its tokens, in order; of a token itself."""

@@ -1,28 +1,28 @@
 """The calls of the library, as `crates/ras_c` declares them. Written by bindings/make."""
 import ctypes
 
-# What no kind has as its number.
+# A number that no kind has.
 NO_KIND = 4294967295
 
-# Done: each buffer has what was asked for, and the counts say how much.
+# Success. The buffers and the counts were written.
 OK = 0
 
 # The text is not UTF-8. Nothing was written.
 NOT_UTF8 = 1
 
-# The text has 2^32 bytes or more, or what is to be told of it has 2^32 rows or bytes or more. Nothing was written.
+# The text, its rows or its messages have 2^32 bytes or elements or more. Nothing was written.
 TOO_LONG = 2
 
-# Memory ran out. Nothing was written.
+# Out of memory. Nothing was written.
 NO_MEMORY = 3
 
-# A buffer has too little room. The counts say how much is needed, and nothing else was written.
+# A buffer is too small. The counts are the sizes that are needed; nothing else was written.
 NO_ROOM = 4
 
-# The edition is none of 2015, 2018, 2021 and 2024. Nothing was written.
+# The edition is not 2015, 2018, 2021 or 2024. Nothing was written.
 NO_EDITION = 5
 
-# There is no such place in the text. Nothing was written.
+# The text has no such range. Nothing was written.
 NO_PLACE = 6
 
 # The handle holds no parse. Nothing was written.
@@ -35,13 +35,13 @@ class FlatRow(ctypes.Structure):
     _fields_ = [
         ("kind", ctypes.c_uint32),
         ("start", ctypes.c_uint32),
-        ("behind", ctypes.c_uint32),
+        ("subtree_end", ctypes.c_uint32),
         ("parent", ctypes.c_uint32),
     ]
 
 
 class Handle(ctypes.Structure):
-    """A parse that the library keeps between calls, or none: all zeros is one without a parse."""
+    """A parse that is kept between calls, or no parse. A handle of all zeros holds none."""
 
     _fields_ = [
         ("full", ctypes.c_bool),
@@ -69,7 +69,7 @@ class ErrorRow(ctypes.Structure):
 
 
 class Counts(ctypes.Structure):
-    """How much there is to tell of a text."""
+    """How many rows, errors and bytes of messages a text has."""
 
     _fields_ = [
         ("rows", ctypes.c_uint32),

@@ -36,7 +36,7 @@ impl<'t> Place<'t> {
 
     fn text_range(self) -> TextRange {
         let row = self.row();
-        let end = match self.tree.rows.get(row.behind as usize) {
+        let end = match self.tree.rows.get(row.subtree_end as usize) {
             Some(behind) => behind.start,
             None => self.tree.text().len() as u32,
         };
@@ -52,8 +52,8 @@ impl<'t> Place<'t> {
     }
 
     fn next_sibling_or_token(self) -> Option<NodeOrToken<'t>> {
-        let behind = self.row().behind;
-        (behind < self.parent()?.place.row().behind).then(|| self.at(behind).element())
+        let behind = self.row().subtree_end;
+        (behind < self.parent()?.place.row().subtree_end).then(|| self.at(behind).element())
     }
 
     fn prev_sibling_or_token(self) -> Option<NodeOrToken<'t>> {
@@ -210,12 +210,12 @@ impl<'t> Node<'t> {
     /// The first child, node or token.
     pub fn first_child_or_token(self) -> Option<NodeOrToken<'t>> {
         let first = self.place.row + 1;
-        (first < self.place.row().behind).then(|| self.place.at(first).element())
+        (first < self.place.row().subtree_end).then(|| self.place.at(first).element())
     }
 
     /// The last child, node or token. It climbs from the last row of the subtree, so it takes time in the depth there.
     pub fn last_child_or_token(self) -> Option<NodeOrToken<'t>> {
-        let last = self.place.row().behind - 1;
+        let last = self.place.row().subtree_end - 1;
         (last > self.place.row).then(|| self.place.at(last).up_to_child_of(self.place.row).element())
     }
 
@@ -247,7 +247,7 @@ impl<'t> Node<'t> {
 
     /// The children, nodes and tokens, in order.
     pub fn children_with_tokens(self) -> Children<'t> {
-        Children { place: self.place, next: self.place.row + 1, behind: self.place.row().behind }
+        Children { place: self.place, next: self.place.row + 1, behind: self.place.row().subtree_end }
     }
 
     /// The child nodes, in order.
@@ -257,7 +257,7 @@ impl<'t> Node<'t> {
 
     /// This node and all nodes and tokens below it, in preorder.
     pub fn descendants_with_tokens(self) -> Descendants<'t> {
-        Descendants { place: self.place, next: self.place.row, behind: self.place.row().behind }
+        Descendants { place: self.place, next: self.place.row, behind: self.place.row().subtree_end }
     }
 
     /// This node and all nodes below it, in preorder.
@@ -295,7 +295,7 @@ impl<'t> Node<'t> {
         if !self.text_range().contains_inclusive(offset) {
             return TokenAtOffset::None;
         }
-        let (first, behind) = (self.place.row as usize, self.place.row().behind as usize);
+        let (first, behind) = (self.place.row as usize, self.place.row().subtree_end as usize);
         let rows = &self.place.tree.rows[first..behind];
         let count = rows.partition_point(|row| row.start <= offset.raw());
         let before = Descendants { place: self.place, next: self.place.row, behind: (first + count) as u32 };
@@ -325,7 +325,7 @@ impl<'t> Node<'t> {
 
     // What `{:#?}` writes: a line for each node and token.
     fn dump(self, f: &mut fmt::Formatter<'_>, depth: usize) -> fmt::Result {
-        let mut depths = vec![(self.place.row().behind, depth)];
+        let mut depths = vec![(self.place.row().subtree_end, depth)];
         for element in self.descendants_with_tokens() {
             while depths.last().is_some_and(|(behind, _)| *behind <= element.place().row) {
                 depths.pop();
@@ -337,7 +337,7 @@ impl<'t> Node<'t> {
                 }
                 NodeOrToken::Node(node) => {
                     writeln!(f, "{:1$}{node:?}", "", 2 * (depth + 1))?;
-                    depths.push((node.place.row().behind, depth + 1));
+                    depths.push((node.place.row().subtree_end, depth + 1));
                 }
                 NodeOrToken::Token(token) => writeln!(f, "{:1$}{token:?}", "", 2 * (depth + 1))?,
             }
@@ -462,7 +462,7 @@ impl<'t> Iterator for Children<'t> {
             return None;
         }
         let child = self.place.at(self.next);
-        self.next = child.row().behind;
+        self.next = child.row().subtree_end;
         Some(child.element())
     }
 }

@@ -1,28 +1,28 @@
 //! The calls of the library, as `crates/ras_c` declares them. Written by bindings/make.
 #![allow(dead_code)]
 
-/// What no kind has as its number.
+/// A number that no kind has.
 pub const NO_KIND: u32 = 4294967295;
 
-/// Done: each buffer has what was asked for, and the counts say how much.
+/// Success. The buffers and the counts were written.
 pub const OK: u32 = 0;
 
 /// The text is not UTF-8. Nothing was written.
 pub const NOT_UTF8: u32 = 1;
 
-/// The text has 2^32 bytes or more, or what is to be told of it has 2^32 rows or bytes or more. Nothing was written.
+/// The text, its rows or its messages have 2^32 bytes or elements or more. Nothing was written.
 pub const TOO_LONG: u32 = 2;
 
-/// Memory ran out. Nothing was written.
+/// Out of memory. Nothing was written.
 pub const NO_MEMORY: u32 = 3;
 
-/// A buffer has too little room. The counts say how much is needed, and nothing else was written.
+/// A buffer is too small. The counts are the sizes that are needed; nothing else was written.
 pub const NO_ROOM: u32 = 4;
 
-/// The edition is none of 2015, 2018, 2021 and 2024. Nothing was written.
+/// The edition is not 2015, 2018, 2021 or 2024. Nothing was written.
 pub const NO_EDITION: u32 = 5;
 
-/// There is no such place in the text. Nothing was written.
+/// The text has no such range. Nothing was written.
 pub const NO_PLACE: u32 = 6;
 
 /// The handle holds no parse. Nothing was written.
@@ -37,15 +37,15 @@ pub struct FlatRow {
     /// The byte where its text starts.
     pub start: u32,
     /// The number of the first row after its subtree.
-    pub behind: u32,
+    pub subtree_end: u32,
     /// The number of its parent's row; the root, row 0, has 0.
     pub parent: u32,
 }
 
-/// A parse that the library keeps between calls, or none: all zeros is one without a parse.
+/// A parse that is kept between calls, or no parse. A handle of all zeros holds none.
 ///
-/// The fields are the library's own. A copy must not be used after a call that got the other one, and a handle stays on the
-/// thread that it was made on.
+/// The fields are private to the library. Do not use a copy of a handle after a call that changed the original. Use a handle only on
+/// the thread that created it.
 #[repr(C)]
 #[derive(Debug)]
 pub struct Handle {
@@ -73,11 +73,11 @@ pub struct ErrorRow {
     pub start: u32,
     /// The byte where its range ends.
     pub end: u32,
-    /// How many bytes its message has; the messages follow one another.
+    /// The length of its message in bytes. The messages are stored one after another.
     pub message: u32,
 }
 
-/// How much there is to tell of a text.
+/// How many rows, errors and bytes of messages a text has.
 #[repr(C)]
 #[derive(Clone, Copy, Debug, PartialEq, Eq)]
 pub struct Counts {
@@ -85,7 +85,7 @@ pub struct Counts {
     pub rows: u32,
     /// Its errors: those of the parser, then those of the lexer, then the violations of rules beyond the grammar.
     pub errors: u32,
-    /// How many of the errors, the last ones, are such violations.
+    /// How many of the errors are such violations. They are the last ones.
     pub violations: u32,
     /// The bytes of all messages.
     pub messages: u32,
@@ -97,27 +97,28 @@ pub struct Counts {
 pub struct TokenRow {
     /// The number of its kind.
     pub kind: u32,
-    /// How many bytes its text has.
+    /// The length of its text in bytes.
     pub bytes: u32,
 }
 
 unsafe extern "C" {
-    /// Writes the name of the kind with this number, as `FN`, to the front of `name`, and answers how many bytes it has: 0 where no kind
-    /// has the number, or the kind has no name. Where `name` has fewer, it stays as it was. 64 bytes are enough for each.
+    /// Writes the name of the kind with this number, for example `FN`, to the front of `name`, and returns the name's length in bytes: 0 if
+    /// no kind has the number, or if the kind has no name. If `name` is shorter than that, it is not changed. 64 bytes are enough for all.
     pub fn ras_c_kind_name(
         kind: u32,
         name: *mut u8,
         name_len: usize,
     ) -> usize;
 
-    /// The number of the kind with this name, as `FN`; [`NO_KIND`] where none has it.
+    /// The number of the kind with this name, for example `FN`, or [`NO_KIND`] if there is none.
     pub fn ras_c_kind_of_name(
         name: *const u8,
         name_len: usize,
     ) -> u32;
 
-    /// Reads a text, of the edition of a year, as a Rust file, and keeps the parse in a handle. What the handle held is let go. [`OK`],
-    /// [`NOT_UTF8`], [`TOO_LONG`], [`NO_MEMORY`] or [`NO_EDITION`]; where it is not [`OK`], the handle stays as it was.
+    /// Parses a text as a Rust file of an edition, such as 2024, and puts the parse into a handle. A parse that the handle held is freed.
+    ///
+    /// Returns [`OK`], [`NOT_UTF8`], [`TOO_LONG`], [`NO_MEMORY`] or [`NO_EDITION`]. Unless it is [`OK`], the handle is not changed.
     pub fn ras_c_parse(
         text: *const u8,
         text_len: usize,
@@ -125,8 +126,9 @@ unsafe extern "C" {
         handle: *mut Handle,
     ) -> u32;
 
-    /// Tells the parse of a handle, as `ras_c_read` tells that of a text. [`OK`], [`TOO_LONG`], [`NO_MEMORY`], [`NO_ROOM`], or [`NO_PARSE`]
-    /// where the handle holds none. The handle keeps its parse.
+    /// Writes the rows, errors and messages of a handle's parse, as `ras_c_read` does for a text. The handle keeps its parse.
+    ///
+    /// Returns [`OK`], [`TOO_LONG`], [`NO_MEMORY`], [`NO_ROOM`], or [`NO_PARSE`] if the handle holds no parse.
     pub fn ras_c_rows(
         handle: *mut Handle,
         rows: *mut FlatRow,
@@ -138,10 +140,11 @@ unsafe extern "C" {
         counts: *mut Counts,
     ) -> u32;
 
-    /// Edits the text of a handle's parse: the bytes from `start` to `end` go, `insert` comes in their place, and the handle holds the parse
-    /// of the new text, of which one token or one block is parsed again where that is enough, else all. [`OK`], [`NOT_UTF8`],
-    /// [`TOO_LONG`], [`NO_MEMORY`], [`NO_EDITION`], [`NO_PARSE`] where the handle holds none, or [`NO_PLACE`] where the range is none of the
-    /// text or does not end and start between characters; where it is not [`OK`], the handle stays as it was.
+    /// Edits the text of a handle's parse: `insert` replaces the bytes from `start` to `end`, and the handle then holds the parse of the new
+    /// text. Only one token or one block is parsed again if that is possible, otherwise the whole text.
+    ///
+    /// Returns [`OK`], [`NOT_UTF8`], [`TOO_LONG`], [`NO_MEMORY`], [`NO_EDITION`], [`NO_PARSE`] if the handle holds no parse, or [`NO_PLACE`]
+    /// if the range is not in the text or not on character boundaries. Unless it is [`OK`], the handle is not changed.
     pub fn ras_c_edit(
         handle: *mut Handle,
         edition: u32,
@@ -151,15 +154,17 @@ unsafe extern "C" {
         insert_len: usize,
     ) -> u32;
 
-    /// Lets the parse of a handle go, if it holds one. The handle is left without a parse, and may be used again.
+    /// Frees the parse of a handle, if it holds one. The handle then holds none, and may be used again.
     pub fn ras_c_free(
         handle: *mut Handle,
     );
 
-    /// Finds the needless pairs of parentheses of a text, of the edition of a year: the pairs whose inside needs none in their place, in
-    /// preorder of the tree. [`OK`], [`NOT_UTF8`], [`TOO_LONG`], [`NO_MEMORY`], [`NO_ROOM`] or [`NO_EDITION`].
+    /// Finds the needless pairs of parentheses of a text of an edition, such as 2024: those whose contents need no parentheses in place of the
+    /// pair, in preorder of the tree.
     ///
-    /// A range is that of a `PAREN_EXPR`, with both parentheses. That several pairs may go at once is not said.
+    /// Returns [`OK`], [`NOT_UTF8`], [`TOO_LONG`], [`NO_MEMORY`], [`NO_ROOM`] or [`NO_EDITION`]. A range is that of a `PAREN_EXPR`, with both
+    /// parentheses. The test is on tokens: removing a pair from the text can join two tokens, as in `(1).0`. It is on each pair alone: two
+    /// pairs may not be removable together.
     pub fn ras_c_parens(
         text: *const u8,
         text_len: usize,
@@ -169,9 +174,10 @@ unsafe extern "C" {
         count: *mut u32,
     ) -> u32;
 
-    /// Whether the operator tree with exactly this range of a text, of the edition of a year, is the one reading of its tokens: `answer`
-    /// is 1 if so and else 0. [`OK`], [`NOT_UTF8`], [`TOO_LONG`], [`NO_MEMORY`], [`NO_EDITION`], or [`NO_PLACE`] where no operator tree
-    /// has the range. Of several the innermost is asked.
+    /// Tests whether the operator tree with exactly this range, in a text of an edition such as 2024, is the one reading of its tokens.
+    /// `answer` is 1 if it is, and 0 if not. If several operator trees have the range, the innermost is tested.
+    ///
+    /// Returns [`OK`], [`NOT_UTF8`], [`TOO_LONG`], [`NO_MEMORY`], [`NO_EDITION`], or [`NO_PLACE`] if no operator tree has the range.
     pub fn ras_c_reads_back(
         text: *const u8,
         text_len: usize,
@@ -181,10 +187,11 @@ unsafe extern "C" {
         answer: *mut u32,
     ) -> u32;
 
-    /// Reads a text, of the edition of a year, as a Rust file: its tree as rows in preorder, its errors, and their messages one after
-    /// the other, each at the front of its buffer. [`OK`], [`NOT_UTF8`], [`TOO_LONG`], [`NO_MEMORY`], [`NO_ROOM`] or [`NO_EDITION`].
+    /// Parses a text as a Rust file of an edition, such as 2024. Writes the tree as rows in preorder, the errors, and their messages one after
+    /// another, each to the front of its buffer.
     ///
-    /// Whatever the text is, there is a tree. A text of n bytes seldom has more than 2 n rows.
+    /// Returns [`OK`], [`NOT_UTF8`], [`TOO_LONG`], [`NO_MEMORY`], [`NO_ROOM`] or [`NO_EDITION`]. Text with syntax errors has a tree too. A text
+    /// of n bytes seldom has more than 2 n rows.
     pub fn ras_c_read(
         text: *const u8,
         text_len: usize,
@@ -198,10 +205,10 @@ unsafe extern "C" {
         counts: *mut Counts,
     ) -> u32;
 
-    /// Cuts a text, of the edition of a year, into tokens: white space and comments are tokens too, and punctuation is cut into single
-    /// signs. [`OK`], [`NOT_UTF8`], [`TOO_LONG`], [`NO_MEMORY`], [`NO_ROOM`] or [`NO_EDITION`].
+    /// Cuts a text of an edition, such as 2024, into tokens. White space and comments are tokens too, and punctuation is cut into single
+    /// characters.
     ///
-    /// A text has at most as many tokens as bytes.
+    /// Returns [`OK`], [`NOT_UTF8`], [`TOO_LONG`], [`NO_MEMORY`], [`NO_ROOM`] or [`NO_EDITION`]. A text has at most as many tokens as bytes.
     pub fn ras_c_tokens(
         text: *const u8,
         text_len: usize,

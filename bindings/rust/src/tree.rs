@@ -130,7 +130,7 @@ impl Room {
     }
 
     fn of(rows: usize, errors: usize, messages: usize) -> Room {
-        const ROW: FlatRow = FlatRow { kind: 0, start: 0, behind: 0, parent: 0 };
+        const ROW: FlatRow = FlatRow { kind: 0, start: 0, subtree_end: 0, parent: 0 };
         const ERROR: ErrorRow = ErrorRow { start: 0, end: 0, message: 0 };
         Room { rows: vec![ROW; rows], errors: vec![ERROR; errors], messages: vec![0; messages] }
     }

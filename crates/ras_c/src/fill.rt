@@ -12,14 +12,14 @@ pub fn fill<T: Copy>(values: &[T], out: &mut [T])
     out[..values.len()].copy_from_slice(values);
 }
 
-/// The number as one of 32 bits; `None` where it has more.
+/// The number as a `u32`, or `None` if it does not fit.
 pub fn small(count: usize) -> Option<u32>
     ensures { MatchOption result (2 ^ 32 ≤ count) (λ n. n ≡ count) }
 {
     u32::try_from(count).ok()
 }
 
-/// Writes the values to the front of the buffer, where it has room, and says how many they are.
+/// Writes the values to the front of the buffer if it has room for all of them, and returns their number.
 pub fn hand<T: Copy>(values: &[T], out: &mut [T], count: &mut u32) -> u32
     ensures done { result ≡ 0 → IsHanded values.now out.old out.new count.new }
     ensures room { result ≡ 4 → IsCounted values.now out.old out.new count.new }

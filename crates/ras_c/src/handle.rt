@@ -1,4 +1,4 @@
-//! A parse that C holds: a box as its pointer.
+//! The handle of a parse, which C keeps: a box as its pointer.
 ghost use Rattle.std.specs.Prelude.{◌≡◌, Option, None, Some, MatchOption};
 ghost use Rattle.std.specs.Coded.{coded_option};
 ghost use Rattle.ras_front_end.specs.Parsed.{Parsed, parsed_code};
@@ -10,10 +10,10 @@ use ras_parsing::Parse;
 use std::alloc::Global;
 use std::marker::Model;
 
-/// A parse that the library keeps between calls, or none: all zeros is one without a parse.
+/// A parse that is kept between calls, or no parse. A handle of all zeros holds none.
 ///
-/// The fields are the library's own. A copy must not be used after a call that got the other one, and a handle stays on the
-/// thread that it was made on.
+/// The fields are private to the library. Do not use a copy of a handle after a call that changed the original. Use a handle only on
+/// the thread that created it.
 #[repr(C)]
 pub struct Handle {
     /// Whether there is a parse.
@@ -27,7 +27,7 @@ impl Model for Handle {
     ghost also_owns = { λ h. held h.full h.at h.parse };
 }
 
-/// The handle without a parse.
+/// A handle that holds no parse.
 pub(crate) fn empty() -> Handle
     ensures { result.parse ≡ None }
 {

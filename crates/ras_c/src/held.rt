@@ -1,4 +1,4 @@
-//! Parses into handles, and out of them.
+//! Puts parses into handles, and takes them out.
 ghost use Rattle.std.specs.Prelude.{◌≡◌, None, Some, MatchOption};
 
 use crate::handle::{Handle, empty, open, seal};
@@ -18,7 +18,7 @@ fn unseal(alloc: Global, handle: Handle) -> Option<Box<Parse<Root>>>
     }
 }
 
-/// The parse of a handle, which is left without one.
+/// Takes the parse out of a handle, which then holds none.
 pub(crate) fn take(alloc: Global, handle: &mut Handle) -> Option<Box<Parse<Root>>>
     ensures taken { MatchOption result (handle.old.parse ≡ None) (λ b. handle.old.parse ≡ Some b.value) }
     ensures left { handle.new.parse ≡ None }
@@ -26,7 +26,7 @@ pub(crate) fn take(alloc: Global, handle: &mut Handle) -> Option<Box<Parse<Root>
     unseal(alloc, replace(handle, empty()))
 }
 
-/// Puts a parse into a handle; what it held is let go.
+/// Puts a parse into a handle. A parse that it held is freed.
 pub(crate) fn put(alloc: Global, handle: &mut Handle, parse: Box<Parse<Root>>)
     ensures { handle.new.parse ≡ Some parse.value }
 {

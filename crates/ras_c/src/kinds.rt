@@ -9,11 +9,11 @@ use crate::fill::fill;
 use rust_kinds::{from_name, name_of};
 use syntax_kind::SyntaxKind;
 
-/// What no kind has as its number.
+/// A number that no kind has.
 pub const NO_KIND: u32 = 4_294_967_295;
 
-/// Writes the name of the kind with this number, as `FN`, to the front of `name`, and answers how many bytes it has: 0 where no kind
-/// has the number, or the kind has no name. Where `name` has fewer, it stays as it was. 64 bytes are enough for each.
+/// Writes the name of the kind with this number, for example `FN`, to the front of `name`, and returns the name's length in bytes: 0 if
+/// no kind has the number, or if the kind has no name. If `name` is shorter than that, it is not changed. 64 bytes are enough for all.
 #[unsafe(no_mangle)]
 pub extern "C" fn ras_c_kind_name(kind: u32, name: &mut [u8]) -> usize
     ensures count { (k : SyntaxKind) → IsKind k → kind_raw k ≡ kind → result ≡ length (rust_name k) }
@@ -35,7 +35,7 @@ pub extern "C" fn ras_c_kind_name(kind: u32, name: &mut [u8]) -> usize
     }
 }
 
-/// The number of the kind with this name, as `FN`; [`NO_KIND`] where none has it.
+/// The number of the kind with this name, for example `FN`, or [`NO_KIND`] if there is none.
 #[unsafe(no_mangle)]
 pub extern "C" fn ras_c_kind_of_name(name: &[u8]) -> u32
     ensures exact { (k : SyntaxKind) → IsKind k → (result ≡ kind_raw k) ↔ IsNamed k name.now }

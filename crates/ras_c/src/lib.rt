@@ -1,7 +1,7 @@
 //! The library for C, and for Rust and Python beyond Rattle: texts in, rows of plain numbers out.
 //!
-//! Each call writes to buffers of its caller. Where one of them has too little room, the call says how much is needed, and changes none
-//! of them. What stays between calls is the parse in a handle, which the caller holds.
+//! Each call writes to the caller's buffers. If a buffer is too small, the call returns the sizes that are needed and changes no buffer.
+//! Only the parse in a handle, which the caller owns, is kept between calls.
 #![tactic(auto)]
 
 mod fill;

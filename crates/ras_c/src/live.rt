@@ -1,4 +1,4 @@
-//! Parses that stay, for edits.
+//! Parses that are kept and edited.
 ghost use Rattle.std.specs.Prelude.{◌≡◌, ◌<◌, ◌≤◌, ◌^◌, ◌⊎◌, ◌↔◌, length, IfOk, IfErr, IsUtf8, None, Some};
 ghost use Rattle.tree_model.specs.Tree.{text};
 ghost use Rattle.ras_front_end.specs.Parsed.{Parsed};
@@ -21,8 +21,9 @@ use ras_parsing::Parse;
 use rust_front::Rust;
 use std::alloc::Global;
 
-/// Reads a text, of the edition of a year, as a Rust file, and keeps the parse in a handle. What the handle held is let go. [`OK`],
-/// [`NOT_UTF8`], [`TOO_LONG`], [`NO_MEMORY`] or [`NO_EDITION`]; where it is not [`OK`], the handle stays as it was.
+/// Parses a text as a Rust file of an edition, such as 2024, and puts the parse into a handle. A parse that the handle held is freed.
+///
+/// Returns [`OK`], [`NOT_UTF8`], [`TOO_LONG`], [`NO_MEMORY`] or [`NO_EDITION`]. Unless it is [`OK`], the handle is not changed.
 #[unsafe(no_mangle)]
 pub extern "C" fn ras_c_parse(alloc: Global, text: &[u8], edition: u32, handle: &mut Handle) -> u32
     ensures done { result ≡ 0 → Holds handle.new.parse (IsReading edition text.now) }
@@ -45,8 +46,9 @@ pub extern "C" fn ras_c_parse(alloc: Global, text: &[u8], edition: u32, handle: 
     }
 }
 
-/// Tells the parse of a handle, as `ras_c_read` tells that of a text. [`OK`], [`TOO_LONG`], [`NO_MEMORY`], [`NO_ROOM`], or [`NO_PARSE`]
-/// where the handle holds none. The handle keeps its parse.
+/// Writes the rows, errors and messages of a handle's parse, as `ras_c_read` does for a text. The handle keeps its parse.
+///
+/// Returns [`OK`], [`TOO_LONG`], [`NO_MEMORY`], [`NO_ROOM`], or [`NO_PARSE`] if the handle holds no parse.
 #[unsafe(no_mangle)]
 pub extern "C" fn ras_c_rows(
     alloc: Global,
@@ -124,10 +126,11 @@ fn reparsed_box(
     }
 }
 
-/// Edits the text of a handle's parse: the bytes from `start` to `end` go, `insert` comes in their place, and the handle holds the parse
-/// of the new text, of which one token or one block is parsed again where that is enough, else all. [`OK`], [`NOT_UTF8`],
-/// [`TOO_LONG`], [`NO_MEMORY`], [`NO_EDITION`], [`NO_PARSE`] where the handle holds none, or [`NO_PLACE`] where the range is none of the
-/// text or does not end and start between characters; where it is not [`OK`], the handle stays as it was.
+/// Edits the text of a handle's parse: `insert` replaces the bytes from `start` to `end`, and the handle then holds the parse of the new
+/// text. Only one token or one block is parsed again if that is possible, otherwise the whole text.
+///
+/// Returns [`OK`], [`NOT_UTF8`], [`TOO_LONG`], [`NO_MEMORY`], [`NO_EDITION`], [`NO_PARSE`] if the handle holds no parse, or [`NO_PLACE`]
+/// if the range is not in the text or not on character boundaries. Unless it is [`OK`], the handle is not changed.
 #[unsafe(no_mangle)]
 pub extern "C" fn ras_c_edit(
     alloc: Global,
@@ -169,7 +172,7 @@ pub extern "C" fn ras_c_edit(
     }
 }
 
-/// Lets the parse of a handle go, if it holds one. The handle is left without a parse, and may be used again.
+/// Frees the parse of a handle, if it holds one. The handle then holds none, and may be used again.
 #[unsafe(no_mangle)]
 pub extern "C" fn ras_c_free(alloc: Global, handle: &mut Handle)
     ensures { handle.new.parse ≡ None }

@@ -49,10 +49,12 @@ fn needless_below(alloc: Global, root: &SyntaxNode) -> Result<Vec<Range>, AllocE
     Ok(found)
 }
 
-/// Finds the needless pairs of parentheses of a text, of the edition of a year: the pairs whose inside needs none in their place, in
-/// preorder of the tree. [`OK`], [`NOT_UTF8`], [`TOO_LONG`], [`NO_MEMORY`], [`NO_ROOM`] or [`NO_EDITION`].
+/// Finds the needless pairs of parentheses of a text of an edition, such as 2024: those whose contents need no parentheses in place of the
+/// pair, in preorder of the tree.
 ///
-/// A range is that of a `PAREN_EXPR`, with both parentheses. That several pairs may go at once is not said.
+/// Returns [`OK`], [`NOT_UTF8`], [`TOO_LONG`], [`NO_MEMORY`], [`NO_ROOM`] or [`NO_EDITION`]. A range is that of a `PAREN_EXPR`, with both
+/// parentheses. The test is on tokens: removing a pair from the text can join two tokens, as in `(1).0`. It is on each pair alone: two
+/// pairs may not be removable together.
 #[unsafe(no_mangle)]
 pub extern "C" fn ras_c_parens(
     alloc: Global,
@@ -119,9 +121,10 @@ fn reads_back_at(root: &SyntaxNode, range: TextRange) -> Option<bool>
     }
 }
 
-/// Whether the operator tree with exactly this range of a text, of the edition of a year, is the one reading of its tokens: `answer`
-/// is 1 if so and else 0. [`OK`], [`NOT_UTF8`], [`TOO_LONG`], [`NO_MEMORY`], [`NO_EDITION`], or [`NO_PLACE`] where no operator tree
-/// has the range. Of several the innermost is asked.
+/// Tests whether the operator tree with exactly this range, in a text of an edition such as 2024, is the one reading of its tokens.
+/// `answer` is 1 if it is, and 0 if not. If several operator trees have the range, the innermost is tested.
+///
+/// Returns [`OK`], [`NOT_UTF8`], [`TOO_LONG`], [`NO_MEMORY`], [`NO_EDITION`], or [`NO_PLACE`] if no operator tree has the range.
 #[unsafe(no_mangle)]
 pub extern "C" fn ras_c_reads_back(
     alloc: Global,

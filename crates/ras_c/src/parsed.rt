@@ -10,7 +10,7 @@ use ras_parsing::{Parse, read};
 use rust_front::Rust;
 use std::alloc::Global;
 
-/// The parse of a text, or the status that says why there is none.
+/// The parse of a text, or the status of the refusal.
 pub(crate) fn parsed(alloc: Global, text: &[u8], edition: u32) -> Result<Parse<Root>, u32>
     ensures read { IfOk result (λ p. IsReading edition text.now p) }
     ensures known { IfOk result (λ _. edition_of edition ≡ None → ⊥) }

@@ -1,4 +1,4 @@
-//! A text to rows and errors.
+//! Rows and errors of a text.
 ghost use Rattle.std.specs.Prelude.{◌≡◌, ◌↔◌, ◌≤◌, ◌<◌, ◌^◌, ◌⊎◌, length, map, IfOk, IfSome, IsUtf8, None, string_bytes};
 ghost use Rattle.ras_front_end.specs.Parsed.{Parsed};
 ghost use Rattle.tree_model.specs.Tree.{size};
@@ -23,11 +23,11 @@ pub struct ErrorRow {
     pub start: u32,
     /// The byte where its range ends.
     pub end: u32,
-    /// How many bytes its message has; the messages follow one another.
+    /// The length of its message in bytes. The messages are stored one after another.
     pub message: u32,
 }
 
-/// How much there is to tell of a text.
+/// How many rows, errors and bytes of messages a text has.
 #[repr(C)]
 #[derive(Clone, Copy)]
 pub struct Counts {
@@ -35,7 +35,7 @@ pub struct Counts {
     pub rows: u32,
     /// Its errors: those of the parser, then those of the lexer, then the violations of rules beyond the grammar.
     pub errors: u32,
-    /// How many of the errors, the last ones, are such violations.
+    /// How many of the errors are such violations. They are the last ones.
     pub violations: u32,
     /// The bytes of all messages.
     pub messages: u32,
@@ -104,7 +104,7 @@ fn stored_count(parse: &Parse<Root>) -> usize
     parse.stored().len()
 }
 
-/// Tells a parse: its rows, its errors and their messages, and how much all of that is.
+/// Writes a parse's rows, errors and messages, and their counts.
 pub(crate) fn tell(
     alloc: Global,
     parse: &Parse<Root>,
@@ -146,10 +146,11 @@ pub(crate) fn tell(
     OK
 }
 
-/// Reads a text, of the edition of a year, as a Rust file: its tree as rows in preorder, its errors, and their messages one after
-/// the other, each at the front of its buffer. [`OK`], [`NOT_UTF8`], [`TOO_LONG`], [`NO_MEMORY`], [`NO_ROOM`] or [`NO_EDITION`].
+/// Parses a text as a Rust file of an edition, such as 2024. Writes the tree as rows in preorder, the errors, and their messages one after
+/// another, each to the front of its buffer.
 ///
-/// Whatever the text is, there is a tree. A text of n bytes seldom has more than 2 n rows.
+/// Returns [`OK`], [`NOT_UTF8`], [`TOO_LONG`], [`NO_MEMORY`], [`NO_ROOM`] or [`NO_EDITION`]. Text with syntax errors has a tree too. A text
+/// of n bytes seldom has more than 2 n rows.
 #[unsafe(no_mangle)]
 pub extern "C" fn ras_c_read(
     alloc: Global,

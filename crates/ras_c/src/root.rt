@@ -1,11 +1,11 @@
-//! The root of a tree, of whatever kind.
+//! The root of a tree, of any kind.
 ghost use Rattle.std.specs.Prelude.{◌≡◌, true, refl};
 
 use lossless_tree::{SyntaxKind, SyntaxNode};
 use ras_node::AstNode;
 use ras_parsing::FileView;
 
-/// The view of a root. It is of any kind, so each parse has one, and can be edited.
+/// The view of a root. It accepts every kind, so every parse has one and can be edited.
 #[derive(Drop)]
 pub struct Root {
     syntax: SyntaxNode,

@@ -1,4 +1,4 @@
-//! A text to its tokens.
+//! The tokens of a text.
 ghost use Rattle.std.specs.Prelude.{◌≡◌, ◌≤◌, ◌^◌, ◌⊎◌, ◌↔◌, length, map, IfOk, IsUtf8, None, Some};
 ghost use Rattle.ras_front_end.specs.declared.edition.Edition.{Edition};
 ghost use Rattle.rust_lexer.specs.Lexing.{tokens_of};
@@ -17,7 +17,7 @@ use token_layout::Token;
 pub struct TokenRow {
     /// The number of its kind.
     pub kind: u32,
-    /// How many bytes its text has.
+    /// The length of its text in bytes.
     pub bytes: u32,
 }
 
@@ -40,10 +40,10 @@ fn token_rows(alloc: Global, tokens: &[Token]) -> Result<Vec<TokenRow>, AllocErr
     Ok(rows)
 }
 
-/// Cuts a text, of the edition of a year, into tokens: white space and comments are tokens too, and punctuation is cut into single
-/// signs. [`OK`], [`NOT_UTF8`], [`TOO_LONG`], [`NO_MEMORY`], [`NO_ROOM`] or [`NO_EDITION`].
+/// Cuts a text of an edition, such as 2024, into tokens. White space and comments are tokens too, and punctuation is cut into single
+/// characters.
 ///
-/// A text has at most as many tokens as bytes.
+/// Returns [`OK`], [`NOT_UTF8`], [`TOO_LONG`], [`NO_MEMORY`], [`NO_ROOM`] or [`NO_EDITION`]. A text has at most as many tokens as bytes.
 #[unsafe(no_mangle)]
 pub extern "C" fn ras_c_tokens(
     alloc: Global,

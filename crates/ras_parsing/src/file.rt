@@ -12,7 +12,7 @@ use std::alloc::{AllocError, Global};
 use std::fmt;
 use std::fmt::{Formatter, Write};
 
-/// Marks the root type whose parses can be dumped and re-parsed. Only `SourceFile` implements it.
+/// Marks the view of a file's root. Parses of it can be dumped and re-parsed. `SourceFile` of `ra_ap_syntax` implements it.
 pub trait FileView: AstNode {}
 
 // The dump of a tree, and a line for each error.

@@ -24,7 +24,7 @@ use Rattle.tree_rows.proofs.EditLemmas.{segment, parent_is_earlier}
 
 -- a row and its parent as plain numbers
 abbrev pub flat : Hung → FlatRow
-flat h = record { kind = flat_kind h.row.kind h.row.is_token; start = h.row.start; behind = h.row.end; parent = h.up }
+flat h = record { kind = flat_kind h.row.kind h.row.is_token; start = h.row.start; subtree_end = h.row.end; parent = h.up }
 
 pub flat_forest-hung : (f : Forest) (n b u : ℕ) → flat_forest f n b u ≡ map flat (hung_of f n b u)
 flat_forest-hung nil n b u = refl
@@ -46,7 +46,7 @@ abbrev none : Hung
 none = hung_with no_row 0
 
 abbrev pub flat_by : ℕ → ℕ → ℕ → ℕ → FlatRow
-flat_by k s e p = record { kind = k; start = s; behind = e; parent = p }
+flat_by k s e p = record { kind = k; start = s; subtree_end = e; parent = p }
 
 same_flat : (k k' s s' e e' p p' : ℕ) → k ≡ k' → s ≡ s' → e ≡ e' → p ≡ p' → flat_by k s e p ≡ flat_by k' s' e' p'
 same_flat k k' s s' e e' p p' is_k is_s is_e is_p = cong₂ (λ x y. flat_by x y e p) is_k is_s ∙ cong₂ (λ x y. flat_by k' s' x y) is_e is_p

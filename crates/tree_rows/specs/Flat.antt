@@ -14,10 +14,10 @@ flat_kind k true = kind_raw k + 2 ^ 31
 abbrev pub flat_forest : Forest → ℕ → ℕ → ℕ → List FlatRow
 flat_forest nil n b up = []
 flat_forest (cons (token k t) r) n b up =
-    record { kind = flat_kind k true; start = b; behind = suc n; parent = up }
+    record { kind = flat_kind k true; start = b; subtree_end = suc n; parent = up }
     ∷ flat_forest r (suc n) (b + length t) up
 flat_forest (cons (node k c) r) n b up =
-    record { kind = flat_kind k false; start = b; behind = suc n + forest_size c; parent = up }
+    record { kind = flat_kind k false; start = b; subtree_end = suc n + forest_size c; parent = up }
     ∷ (flat_forest c (suc n) b n ++ flat_forest r (suc n + forest_size c) (b + length (forest_text c)) up)
 
 -- all rows of a tree, in preorder; the root has itself as its parent
@@ -26,4 +26,4 @@ flat_rows tree = flat_forest (cons tree nil) 0 0 0
 
 -- row n of a tree
 abbrev pub flat_row_at : Tree → ℕ → FlatRow
-flat_row_at tree n = get_or (flat_rows tree) n (record { kind = 0; start = 0; behind = 0; parent = 0 })
+flat_row_at tree n = get_or (flat_rows tree) n (record { kind = 0; start = 0; subtree_end = 0; parent = 0 })

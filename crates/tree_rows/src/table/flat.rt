@@ -16,7 +16,7 @@ pub struct FlatRow {
     /// The byte where its text starts.
     pub start: u32,
     /// The number of the first row after its subtree.
-    pub behind: u32,
+    pub subtree_end: u32,
     /// The number of its parent's row; the root, row 0, has 0.
     pub parent: u32,
 }
@@ -47,7 +47,7 @@ impl Table {
         FlatRow {
             kind: kind_number(row.kind, row.is_token),
             start: row.start - start,
-            behind: (row.end - root) as u32,
+            subtree_end: (row.end - root) as u32,
             parent: parent as u32,
         }
     }
