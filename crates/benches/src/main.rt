@@ -4,31 +4,37 @@
 mod fronts;
 mod literals;
 mod operators;
+mod rust;
 mod stopped;
 mod suite;
 mod timing;
 mod trees;
 mod walks;
 
+use rust::time_rust;
 use std::env;
 use std::process::ExitCode;
 use stopped::Stopped;
 use suite::Suite;
 
-// The suite that the first argument names.
-fn wanted(rt: &HostRuntime) -> Option<Suite> {
-    let word = env::args(rt).ok()?.nth(1)?;
-    Suite::from_name(word.as_str())
-}
-
 fn run(rt: &HostRuntime) -> Result<(), Stopped> {
-    match wanted(rt) {
-        Some(suite) => suite.time(rt),
-        None => {
-            println!(rt; "usage: benches trees | fronts | operators | walks | literals")?;
-            Ok(())
+    let words: Vec<String> = env::args(rt)?.collect(rt.alloc())?;
+    let suite = match words.get(1) {
+        Some(word) => Suite::from_name(word.as_str()),
+        None => None,
+    };
+    if let Some(suite) = suite {
+        return suite.time(rt);
+    }
+    if let [_, word, name, rounds] = words.as_slice() {
+        if word.as_str() == "rust" {
+            return time_rust(rt, name.as_str(), rounds.parse::<u32>().unwrap_or(1));
         }
     }
+    println!(rt;
+        "usage: benches trees | fronts | operators | walks | literals | rust FILE ROUNDS"
+    )?;
+    Ok(())
 }
 
 fn main(rt: HostRuntime) -> ExitCode {
