@@ -13,14 +13,11 @@ use std::time::Instant;
 use std::{env, io};
 
 fn edition_of(word: &str) -> Edition {
-    if word == "2015" {
-        Edition::Edition2015
-    } else if word == "2018" {
-        Edition::Edition2018
-    } else if word == "2021" {
-        Edition::Edition2021
-    } else {
-        Edition::Edition2024
+    match word {
+        "2015" => Edition::Edition2015,
+        "2018" => Edition::Edition2018,
+        "2021" => Edition::Edition2021,
+        _ => Edition::Edition2024,
     }
 }
 

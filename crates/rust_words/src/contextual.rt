@@ -1,6 +1,7 @@
 //! The words that are keywords only where the grammar asks for them, by their first letter.
 ghost use Rattle.std.specs.Prelude.{◌≡◌};
-ghost use Rattle.rust_words.specs.Contextual.{contextual_kind_of, contextual_keyword_of, name_a_of, name_b_of, name_c_of, name_d_of, name_f_of, name_g_of, name_i_of, name_l_of, name_m_of, name_n_of, name_o_of, name_p_of, name_r_of, name_s_of, name_u_of, name_y_of};
+ghost use Rattle.rust_words.specs.Keywords.{find};
+ghost use Rattle.rust_words.specs.Contextual.{contextual_kind_of, contextual_keyword_of, names_a, names_b, names_c, names_d, names_f, names_g, names_i, names_l, names_m, names_n, names_o, names_p, names_r, names_s, names_u, names_y};
 
 use crate::keywords::is_2018;
 use ras_front_end::Edition;
@@ -8,194 +9,162 @@ use rust_kinds::kinds;
 use syntax_kind::SyntaxKind;
 
 fn name_a(text: &str) -> Option<SyntaxKind>
-    ensures { result ≡ name_a_of text.now }
+    ensures { result ≡ find names_a text.now }
 {
-    if text == "asm" {
-        Some(kinds::ASM_KW)
-    } else if text == "att_syntax" {
-        Some(kinds::ATT_SYNTAX_KW)
-    } else if text == "auto" {
-        Some(SyntaxKind::AUTO_KW)
-    } else {
-        None
+    match text {
+        "asm" => Some(kinds::ASM_KW),
+        "att_syntax" => Some(kinds::ATT_SYNTAX_KW),
+        "auto" => Some(SyntaxKind::AUTO_KW),
+        _ => None,
     }
 }
 
 fn name_b(text: &str) -> Option<SyntaxKind>
-    ensures { result ≡ name_b_of text.now }
+    ensures { result ≡ find names_b text.now }
 {
-    if text == "bikeshed" {
-        Some(SyntaxKind::BIKESHED_KW)
-    } else if text == "builtin" {
-        Some(SyntaxKind::BUILTIN_KW)
-    } else {
-        None
+    match text {
+        "bikeshed" => Some(SyntaxKind::BIKESHED_KW),
+        "builtin" => Some(SyntaxKind::BUILTIN_KW),
+        _ => None,
     }
 }
 
 fn name_c(text: &str) -> Option<SyntaxKind>
-    ensures { result ≡ name_c_of text.now }
+    ensures { result ≡ find names_c text.now }
 {
-    if text == "cfg" {
-        Some(kinds::CFG_KW)
-    } else if text == "cfg_attr" {
-        Some(kinds::CFG_ATTR_KW)
-    } else if text == "clobber_abi" {
-        Some(kinds::CLOBBER_ABI_KW)
-    } else {
-        None
+    match text {
+        "cfg" => Some(kinds::CFG_KW),
+        "cfg_attr" => Some(kinds::CFG_ATTR_KW),
+        "clobber_abi" => Some(kinds::CLOBBER_ABI_KW),
+        _ => None,
     }
 }
 
 fn name_d(text: &str) -> Option<SyntaxKind>
-    ensures { result ≡ name_d_of text.now }
+    ensures { result ≡ find names_d text.now }
 {
-    if text == "default" {
-        Some(SyntaxKind::DEFAULT_KW)
-    } else {
-        None
+    match text {
+        "default" => Some(SyntaxKind::DEFAULT_KW),
+        _ => None,
     }
 }
 
 fn name_f(text: &str) -> Option<SyntaxKind>
-    ensures { result ≡ name_f_of text.now }
+    ensures { result ≡ find names_f text.now }
 {
-    if text == "format_args" {
-        Some(kinds::FORMAT_ARGS_KW)
-    } else {
-        None
+    match text {
+        "format_args" => Some(kinds::FORMAT_ARGS_KW),
+        _ => None,
     }
 }
 
 fn name_g(text: &str) -> Option<SyntaxKind>
-    ensures { result ≡ name_g_of text.now }
+    ensures { result ≡ find names_g text.now }
 {
-    if text == "global_asm" {
-        Some(kinds::GLOBAL_ASM_KW)
-    } else {
-        None
+    match text {
+        "global_asm" => Some(kinds::GLOBAL_ASM_KW),
+        _ => None,
     }
 }
 
 fn name_i(text: &str) -> Option<SyntaxKind>
-    ensures { result ≡ name_i_of text.now }
+    ensures { result ≡ find names_i text.now }
 {
-    if text == "inlateout" {
-        Some(kinds::INLATEOUT_KW)
-    } else if text == "inout" {
-        Some(kinds::INOUT_KW)
-    } else {
-        None
+    match text {
+        "inlateout" => Some(kinds::INLATEOUT_KW),
+        "inout" => Some(kinds::INOUT_KW),
+        _ => None,
     }
 }
 
 fn name_l(text: &str) -> Option<SyntaxKind>
-    ensures { result ≡ name_l_of text.now }
+    ensures { result ≡ find names_l text.now }
 {
-    if text == "label" {
-        Some(kinds::LABEL_KW)
-    } else if text == "lateout" {
-        Some(kinds::LATEOUT_KW)
-    } else {
-        None
+    match text {
+        "label" => Some(kinds::LABEL_KW),
+        "lateout" => Some(kinds::LATEOUT_KW),
+        _ => None,
     }
 }
 
 fn name_m(text: &str) -> Option<SyntaxKind>
-    ensures { result ≡ name_m_of text.now }
+    ensures { result ≡ find names_m text.now }
 {
-    if text == "macro_rules" {
-        Some(SyntaxKind::MACRO_RULES_KW)
-    } else if text == "may_unwind" {
-        Some(kinds::MAY_UNWIND_KW)
-    } else {
-        None
+    match text {
+        "macro_rules" => Some(SyntaxKind::MACRO_RULES_KW),
+        "may_unwind" => Some(kinds::MAY_UNWIND_KW),
+        _ => None,
     }
 }
 
 fn name_n(text: &str) -> Option<SyntaxKind>
-    ensures { result ≡ name_n_of text.now }
+    ensures { result ≡ find names_n text.now }
 {
-    if text == "naked_asm" {
-        Some(kinds::NAKED_ASM_KW)
-    } else if text == "nomem" {
-        Some(kinds::NOMEM_KW)
-    } else if text == "noreturn" {
-        Some(kinds::NORETURN_KW)
-    } else if text == "nostack" {
-        Some(kinds::NOSTACK_KW)
-    } else {
-        None
+    match text {
+        "naked_asm" => Some(kinds::NAKED_ASM_KW),
+        "nomem" => Some(kinds::NOMEM_KW),
+        "noreturn" => Some(kinds::NORETURN_KW),
+        "nostack" => Some(kinds::NOSTACK_KW),
+        _ => None,
     }
 }
 
 fn name_o(text: &str) -> Option<SyntaxKind>
-    ensures { result ≡ name_o_of text.now }
+    ensures { result ≡ find names_o text.now }
 {
-    if text == "offset_of" {
-        Some(kinds::OFFSET_OF_KW)
-    } else if text == "options" {
-        Some(kinds::OPTIONS_KW)
-    } else if text == "out" {
-        Some(kinds::OUT_KW)
-    } else {
-        None
+    match text {
+        "offset_of" => Some(kinds::OFFSET_OF_KW),
+        "options" => Some(kinds::OPTIONS_KW),
+        "out" => Some(kinds::OUT_KW),
+        _ => None,
     }
 }
 
 fn name_p(text: &str) -> Option<SyntaxKind>
-    ensures { result ≡ name_p_of text.now }
+    ensures { result ≡ find names_p text.now }
 {
-    if text == "preserves_flags" {
-        Some(kinds::PRESERVES_FLAGS_KW)
-    } else if text == "pure" {
-        Some(kinds::PURE_KW)
-    } else {
-        None
+    match text {
+        "preserves_flags" => Some(kinds::PRESERVES_FLAGS_KW),
+        "pure" => Some(kinds::PURE_KW),
+        _ => None,
     }
 }
 
 fn name_r(text: &str) -> Option<SyntaxKind>
-    ensures { result ≡ name_r_of text.now }
+    ensures { result ≡ find names_r text.now }
 {
-    if text == "raw" {
-        Some(kinds::RAW_KW)
-    } else if text == "readonly" {
-        Some(kinds::READONLY_KW)
-    } else {
-        None
+    match text {
+        "raw" => Some(kinds::RAW_KW),
+        "readonly" => Some(kinds::READONLY_KW),
+        _ => None,
     }
 }
 
 fn name_s(text: &str) -> Option<SyntaxKind>
-    ensures { result ≡ name_s_of text.now }
+    ensures { result ≡ find names_s text.now }
 {
-    if text == "safe" {
-        Some(kinds::SAFE_KW)
-    } else if text == "sym" {
-        Some(kinds::SYM_KW)
-    } else {
-        None
+    match text {
+        "safe" => Some(kinds::SAFE_KW),
+        "sym" => Some(kinds::SYM_KW),
+        _ => None,
     }
 }
 
 fn name_u(text: &str) -> Option<SyntaxKind>
-    ensures { result ≡ name_u_of text.now }
+    ensures { result ≡ find names_u text.now }
 {
-    if text == "union" {
-        Some(SyntaxKind::UNION_KW)
-    } else {
-        None
+    match text {
+        "union" => Some(SyntaxKind::UNION_KW),
+        _ => None,
     }
 }
 
 fn name_y(text: &str) -> Option<SyntaxKind>
-    ensures { result ≡ name_y_of text.now }
+    ensures { result ≡ find names_y text.now }
 {
-    if text == "yeet" {
-        Some(SyntaxKind::YEET_KW)
-    } else {
-        None
+    match text {
+        "yeet" => Some(SyntaxKind::YEET_KW),
+        _ => None,
     }
 }
 

@@ -1,6 +1,6 @@
 //! The words that are keywords everywhere in an edition, by their first letter.
 ghost use Rattle.std.specs.Prelude.{◌≡◌};
-ghost use Rattle.rust_words.specs.Keywords.{is_2018_of, is_2024_of, keyword_of, word_upper_s_of, word_a_of, word_b_of, word_c_of, word_d_of, word_e_of, word_f_of, word_g_of, word_i_of, word_l_of, word_m_of, word_o_of, word_p_of, word_r_of, word_s_of, word_t_of, word_u_of, word_v_of, word_w_of, word_y_of};
+ghost use Rattle.rust_words.specs.Keywords.{find, is_2018_of, is_2024_of, keyword_of, words_upper_s, words_a, words_b, words_c, words_d, words_e, words_f, words_g, words_i, words_l, words_m, words_o, words_p, words_r, words_s, words_t, words_u, words_v, words_w, words_y};
 
 use ras_front_end::Edition;
 use rust_kinds::kinds;
@@ -21,266 +21,214 @@ pub(crate) fn is_2024(edition: Edition) -> bool
 }
 
 fn word_upper_s(text: &str) -> Option<SyntaxKind>
-    ensures { result ≡ word_upper_s_of text.now }
+    ensures { result ≡ find words_upper_s text.now }
 {
-    if text == "Self" {
-        Some(SyntaxKind::SELF_TYPE_KW)
-    } else {
-        None
+    match text {
+        "Self" => Some(SyntaxKind::SELF_TYPE_KW),
+        _ => None,
     }
 }
 
 fn word_a(text: &str, edition: Edition) -> Option<SyntaxKind>
-    ensures { result ≡ word_a_of edition text.now }
+    ensures { result ≡ find (words_a edition) text.now }
 {
-    if text == "abstract" {
-        Some(kinds::ABSTRACT_KW)
-    } else if text == "as" {
-        Some(SyntaxKind::AS_KW)
-    } else if text == "async" && is_2018(edition) {
-        Some(SyntaxKind::ASYNC_KW)
-    } else if text == "await" && is_2018(edition) {
-        Some(SyntaxKind::AWAIT_KW)
-    } else {
-        None
+    match text {
+        "abstract" => Some(kinds::ABSTRACT_KW),
+        "as" => Some(SyntaxKind::AS_KW),
+        "async" if is_2018(edition) => Some(SyntaxKind::ASYNC_KW),
+        "await" if is_2018(edition) => Some(SyntaxKind::AWAIT_KW),
+        _ => None,
     }
 }
 
 fn word_b(text: &str) -> Option<SyntaxKind>
-    ensures { result ≡ word_b_of text.now }
+    ensures { result ≡ find words_b text.now }
 {
-    if text == "become" {
-        Some(SyntaxKind::BECOME_KW)
-    } else if text == "box" {
-        Some(kinds::BOX_KW)
-    } else if text == "break" {
-        Some(SyntaxKind::BREAK_KW)
-    } else {
-        None
+    match text {
+        "become" => Some(SyntaxKind::BECOME_KW),
+        "box" => Some(kinds::BOX_KW),
+        "break" => Some(SyntaxKind::BREAK_KW),
+        _ => None,
     }
 }
 
 fn word_c(text: &str) -> Option<SyntaxKind>
-    ensures { result ≡ word_c_of text.now }
+    ensures { result ≡ find words_c text.now }
 {
-    if text == "const" {
-        Some(SyntaxKind::CONST_KW)
-    } else if text == "continue" {
-        Some(SyntaxKind::CONTINUE_KW)
-    } else if text == "crate" {
-        Some(SyntaxKind::CRATE_KW)
-    } else {
-        None
+    match text {
+        "const" => Some(SyntaxKind::CONST_KW),
+        "continue" => Some(SyntaxKind::CONTINUE_KW),
+        "crate" => Some(SyntaxKind::CRATE_KW),
+        _ => None,
     }
 }
 
 fn word_d(text: &str, edition: Edition) -> Option<SyntaxKind>
-    ensures { result ≡ word_d_of edition text.now }
+    ensures { result ≡ find (words_d edition) text.now }
 {
-    if text == "do" {
-        Some(SyntaxKind::DO_KW)
-    } else if text == "dyn" && is_2018(edition) {
-        Some(SyntaxKind::DYN_KW)
-    } else {
-        None
+    match text {
+        "do" => Some(SyntaxKind::DO_KW),
+        "dyn" if is_2018(edition) => Some(SyntaxKind::DYN_KW),
+        _ => None,
     }
 }
 
 fn word_e(text: &str) -> Option<SyntaxKind>
-    ensures { result ≡ word_e_of text.now }
+    ensures { result ≡ find words_e text.now }
 {
-    if text == "else" {
-        Some(SyntaxKind::ELSE_KW)
-    } else if text == "enum" {
-        Some(SyntaxKind::ENUM_KW)
-    } else if text == "extern" {
-        Some(SyntaxKind::EXTERN_KW)
-    } else {
-        None
+    match text {
+        "else" => Some(SyntaxKind::ELSE_KW),
+        "enum" => Some(SyntaxKind::ENUM_KW),
+        "extern" => Some(SyntaxKind::EXTERN_KW),
+        _ => None,
     }
 }
 
 fn word_f(text: &str) -> Option<SyntaxKind>
-    ensures { result ≡ word_f_of text.now }
+    ensures { result ≡ find words_f text.now }
 {
-    if text == "false" {
-        Some(SyntaxKind::FALSE_KW)
-    } else if text == "final" {
-        Some(kinds::FINAL_KW)
-    } else if text == "fn" {
-        Some(SyntaxKind::FN_KW)
-    } else if text == "for" {
-        Some(SyntaxKind::FOR_KW)
-    } else {
-        None
+    match text {
+        "false" => Some(SyntaxKind::FALSE_KW),
+        "final" => Some(kinds::FINAL_KW),
+        "fn" => Some(SyntaxKind::FN_KW),
+        "for" => Some(SyntaxKind::FOR_KW),
+        _ => None,
     }
 }
 
 fn word_g(text: &str, edition: Edition) -> Option<SyntaxKind>
-    ensures { result ≡ word_g_of edition text.now }
+    ensures { result ≡ find (words_g edition) text.now }
 {
-    if text == "gen" && is_2024(edition) {
-        Some(SyntaxKind::GEN_KW)
-    } else {
-        None
+    match text {
+        "gen" if is_2024(edition) => Some(SyntaxKind::GEN_KW),
+        _ => None,
     }
 }
 
 fn word_i(text: &str) -> Option<SyntaxKind>
-    ensures { result ≡ word_i_of text.now }
+    ensures { result ≡ find words_i text.now }
 {
-    if text == "if" {
-        Some(SyntaxKind::IF_KW)
-    } else if text == "impl" {
-        Some(SyntaxKind::IMPL_KW)
-    } else if text == "in" {
-        Some(SyntaxKind::IN_KW)
-    } else {
-        None
+    match text {
+        "if" => Some(SyntaxKind::IF_KW),
+        "impl" => Some(SyntaxKind::IMPL_KW),
+        "in" => Some(SyntaxKind::IN_KW),
+        _ => None,
     }
 }
 
 fn word_l(text: &str) -> Option<SyntaxKind>
-    ensures { result ≡ word_l_of text.now }
+    ensures { result ≡ find words_l text.now }
 {
-    if text == "let" {
-        Some(SyntaxKind::LET_KW)
-    } else if text == "loop" {
-        Some(SyntaxKind::LOOP_KW)
-    } else {
-        None
+    match text {
+        "let" => Some(SyntaxKind::LET_KW),
+        "loop" => Some(SyntaxKind::LOOP_KW),
+        _ => None,
     }
 }
 
 fn word_m(text: &str) -> Option<SyntaxKind>
-    ensures { result ≡ word_m_of text.now }
+    ensures { result ≡ find words_m text.now }
 {
-    if text == "macro" {
-        Some(SyntaxKind::MACRO_KW)
-    } else if text == "match" {
-        Some(SyntaxKind::MATCH_KW)
-    } else if text == "mod" {
-        Some(SyntaxKind::MOD_KW)
-    } else if text == "move" {
-        Some(SyntaxKind::MOVE_KW)
-    } else if text == "mut" {
-        Some(SyntaxKind::MUT_KW)
-    } else {
-        None
+    match text {
+        "macro" => Some(SyntaxKind::MACRO_KW),
+        "match" => Some(SyntaxKind::MATCH_KW),
+        "mod" => Some(SyntaxKind::MOD_KW),
+        "move" => Some(SyntaxKind::MOVE_KW),
+        "mut" => Some(SyntaxKind::MUT_KW),
+        _ => None,
     }
 }
 
 fn word_o(text: &str) -> Option<SyntaxKind>
-    ensures { result ≡ word_o_of text.now }
+    ensures { result ≡ find words_o text.now }
 {
-    if text == "override" {
-        Some(kinds::OVERRIDE_KW)
-    } else {
-        None
+    match text {
+        "override" => Some(kinds::OVERRIDE_KW),
+        _ => None,
     }
 }
 
 fn word_p(text: &str) -> Option<SyntaxKind>
-    ensures { result ≡ word_p_of text.now }
+    ensures { result ≡ find words_p text.now }
 {
-    if text == "priv" {
-        Some(kinds::PRIV_KW)
-    } else if text == "pub" {
-        Some(SyntaxKind::PUB_KW)
-    } else {
-        None
+    match text {
+        "priv" => Some(kinds::PRIV_KW),
+        "pub" => Some(SyntaxKind::PUB_KW),
+        _ => None,
     }
 }
 
 fn word_r(text: &str) -> Option<SyntaxKind>
-    ensures { result ≡ word_r_of text.now }
+    ensures { result ≡ find words_r text.now }
 {
-    if text == "ref" {
-        Some(SyntaxKind::REF_KW)
-    } else if text == "return" {
-        Some(SyntaxKind::RETURN_KW)
-    } else {
-        None
+    match text {
+        "ref" => Some(SyntaxKind::REF_KW),
+        "return" => Some(SyntaxKind::RETURN_KW),
+        _ => None,
     }
 }
 
 fn word_s(text: &str) -> Option<SyntaxKind>
-    ensures { result ≡ word_s_of text.now }
+    ensures { result ≡ find words_s text.now }
 {
-    if text == "self" {
-        Some(SyntaxKind::SELF_KW)
-    } else if text == "static" {
-        Some(SyntaxKind::STATIC_KW)
-    } else if text == "struct" {
-        Some(SyntaxKind::STRUCT_KW)
-    } else if text == "super" {
-        Some(SyntaxKind::SUPER_KW)
-    } else {
-        None
+    match text {
+        "self" => Some(SyntaxKind::SELF_KW),
+        "static" => Some(SyntaxKind::STATIC_KW),
+        "struct" => Some(SyntaxKind::STRUCT_KW),
+        "super" => Some(SyntaxKind::SUPER_KW),
+        _ => None,
     }
 }
 
 fn word_t(text: &str, edition: Edition) -> Option<SyntaxKind>
-    ensures { result ≡ word_t_of edition text.now }
+    ensures { result ≡ find (words_t edition) text.now }
 {
-    if text == "trait" {
-        Some(SyntaxKind::TRAIT_KW)
-    } else if text == "true" {
-        Some(SyntaxKind::TRUE_KW)
-    } else if text == "try" && is_2018(edition) {
-        Some(SyntaxKind::TRY_KW)
-    } else if text == "type" {
-        Some(SyntaxKind::TYPE_KW)
-    } else if text == "typeof" {
-        Some(kinds::TYPEOF_KW)
-    } else {
-        None
+    match text {
+        "trait" => Some(SyntaxKind::TRAIT_KW),
+        "true" => Some(SyntaxKind::TRUE_KW),
+        "try" if is_2018(edition) => Some(SyntaxKind::TRY_KW),
+        "type" => Some(SyntaxKind::TYPE_KW),
+        "typeof" => Some(kinds::TYPEOF_KW),
+        _ => None,
     }
 }
 
 fn word_u(text: &str) -> Option<SyntaxKind>
-    ensures { result ≡ word_u_of text.now }
+    ensures { result ≡ find words_u text.now }
 {
-    if text == "unsafe" {
-        Some(SyntaxKind::UNSAFE_KW)
-    } else if text == "unsized" {
-        Some(kinds::UNSIZED_KW)
-    } else if text == "use" {
-        Some(SyntaxKind::USE_KW)
-    } else {
-        None
+    match text {
+        "unsafe" => Some(SyntaxKind::UNSAFE_KW),
+        "unsized" => Some(kinds::UNSIZED_KW),
+        "use" => Some(SyntaxKind::USE_KW),
+        _ => None,
     }
 }
 
 fn word_v(text: &str) -> Option<SyntaxKind>
-    ensures { result ≡ word_v_of text.now }
+    ensures { result ≡ find words_v text.now }
 {
-    if text == "virtual" {
-        Some(kinds::VIRTUAL_KW)
-    } else {
-        None
+    match text {
+        "virtual" => Some(kinds::VIRTUAL_KW),
+        _ => None,
     }
 }
 
 fn word_w(text: &str) -> Option<SyntaxKind>
-    ensures { result ≡ word_w_of text.now }
+    ensures { result ≡ find words_w text.now }
 {
-    if text == "where" {
-        Some(SyntaxKind::WHERE_KW)
-    } else if text == "while" {
-        Some(SyntaxKind::WHILE_KW)
-    } else {
-        None
+    match text {
+        "where" => Some(SyntaxKind::WHERE_KW),
+        "while" => Some(SyntaxKind::WHILE_KW),
+        _ => None,
     }
 }
 
 fn word_y(text: &str) -> Option<SyntaxKind>
-    ensures { result ≡ word_y_of text.now }
+    ensures { result ≡ find words_y text.now }
 {
-    if text == "yield" {
-        Some(SyntaxKind::YIELD_KW)
-    } else {
-        None
+    match text {
+        "yield" => Some(SyntaxKind::YIELD_KW),
+        _ => None,
     }
 }
 

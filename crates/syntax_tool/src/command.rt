@@ -20,16 +20,12 @@ impl Command {
     pub fn named(name: &str) -> Option<Command>
         ensures { result ≡ command_of name.now }
     {
-        if name == "events" {
-            Some(Command::Events)
-        } else if name == "dump" {
-            Some(Command::Dump)
-        } else if name == "parens" {
-            Some(Command::Parens)
-        } else if name == "reparse" {
-            Some(Command::Reparse)
-        } else {
-            None
+        match name {
+            "events" => Some(Command::Events),
+            "dump" => Some(Command::Dump),
+            "parens" => Some(Command::Parens),
+            "reparse" => Some(Command::Reparse),
+            _ => None,
         }
     }
 }

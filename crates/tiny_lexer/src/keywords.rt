@@ -18,30 +18,19 @@ fn has_await(edition: Edition) -> bool
 pub fn keyword(text: &str, edition: Edition) -> Option<SyntaxKind>
     ensures { result ≡ keyword_of edition text.now }
 {
-    if text == "fn" {
-        Some(SyntaxKind::FN_KW)
-    } else if text == "let" {
-        Some(SyntaxKind::LET_KW)
-    } else if text == "mut" {
-        Some(SyntaxKind::MUT_KW)
-    } else if text == "true" {
-        Some(SyntaxKind::TRUE_KW)
-    } else if text == "false" {
-        Some(SyntaxKind::FALSE_KW)
-    } else if text == "as" {
-        Some(SyntaxKind::AS_KW)
-    } else if text == "crate" {
-        Some(SyntaxKind::CRATE_KW)
-    } else if text == "self" {
-        Some(SyntaxKind::SELF_KW)
-    } else if text == "super" {
-        Some(SyntaxKind::SUPER_KW)
-    } else if text == "Self" {
-        Some(SyntaxKind::SELF_TYPE_KW)
-    } else if text == "await" && has_await(edition) {
-        Some(SyntaxKind::AWAIT_KW)
-    } else {
-        None
+    match text {
+        "fn" => Some(SyntaxKind::FN_KW),
+        "let" => Some(SyntaxKind::LET_KW),
+        "mut" => Some(SyntaxKind::MUT_KW),
+        "true" => Some(SyntaxKind::TRUE_KW),
+        "false" => Some(SyntaxKind::FALSE_KW),
+        "as" => Some(SyntaxKind::AS_KW),
+        "crate" => Some(SyntaxKind::CRATE_KW),
+        "self" => Some(SyntaxKind::SELF_KW),
+        "super" => Some(SyntaxKind::SUPER_KW),
+        "Self" => Some(SyntaxKind::SELF_TYPE_KW),
+        "await" if has_await(edition) => Some(SyntaxKind::AWAIT_KW),
+        _ => None,
     }
 }
 

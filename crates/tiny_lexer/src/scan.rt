@@ -69,64 +69,36 @@ fn is_digit(c: char) -> bool
 fn begin_mark(c: char) -> Scan
     ensures { result ≡ begin_mark_of c }
 {
-    if c == '"' {
-        Scan::Text
-    } else if c == ';' {
-        Scan::Single(SyntaxKind::SEMICOLON)
-    } else if c == ',' {
-        Scan::Single(SyntaxKind::COMMA)
-    } else if c == '(' {
-        Scan::Single(SyntaxKind::L_PAREN)
-    } else if c == ')' {
-        Scan::Single(SyntaxKind::R_PAREN)
-    } else if c == '{' {
-        Scan::Single(SyntaxKind::L_CURLY)
-    } else if c == '}' {
-        Scan::Single(SyntaxKind::R_CURLY)
-    } else if c == '[' {
-        Scan::Single(SyntaxKind::L_BRACK)
-    } else if c == ']' {
-        Scan::Single(SyntaxKind::R_BRACK)
-    } else if c == '@' {
-        Scan::Single(SyntaxKind::AT)
-    } else if c == '#' {
-        Scan::Single(SyntaxKind::POUND)
-    } else if c == '$' {
-        Scan::Single(SyntaxKind::DOLLAR)
-    } else if c == '~' {
-        Scan::Single(SyntaxKind::TILDE)
-    } else if c == '?' {
-        Scan::Single(SyntaxKind::QUESTION)
-    } else if c == ':' {
-        Scan::Colon
-    } else if c == '-' {
-        Scan::Minus
-    } else if c == '=' {
-        Scan::Equals
-    } else if c == '!' {
-        Scan::Bang
-    } else if c == '.' {
-        Scan::Dot
-    } else if c == '<' {
-        Scan::Less
-    } else if c == '>' {
-        Scan::Greater
-    } else if c == '&' {
-        Scan::Amp
-    } else if c == '|' {
-        Scan::Pipe
-    } else if c == '+' {
-        Scan::Plus
-    } else if c == '*' {
-        Scan::Star
-    } else if c == '/' {
-        Scan::Slash
-    } else if c == '^' {
-        Scan::Caret
-    } else if c == '%' {
-        Scan::Percent
-    } else {
-        Scan::Unknown
+    match c {
+        '"' => Scan::Text,
+        ';' => Scan::Single(SyntaxKind::SEMICOLON),
+        ',' => Scan::Single(SyntaxKind::COMMA),
+        '(' => Scan::Single(SyntaxKind::L_PAREN),
+        ')' => Scan::Single(SyntaxKind::R_PAREN),
+        '{' => Scan::Single(SyntaxKind::L_CURLY),
+        '}' => Scan::Single(SyntaxKind::R_CURLY),
+        '[' => Scan::Single(SyntaxKind::L_BRACK),
+        ']' => Scan::Single(SyntaxKind::R_BRACK),
+        '@' => Scan::Single(SyntaxKind::AT),
+        '#' => Scan::Single(SyntaxKind::POUND),
+        '$' => Scan::Single(SyntaxKind::DOLLAR),
+        '~' => Scan::Single(SyntaxKind::TILDE),
+        '?' => Scan::Single(SyntaxKind::QUESTION),
+        ':' => Scan::Colon,
+        '-' => Scan::Minus,
+        '=' => Scan::Equals,
+        '!' => Scan::Bang,
+        '.' => Scan::Dot,
+        '<' => Scan::Less,
+        '>' => Scan::Greater,
+        '&' => Scan::Amp,
+        '|' => Scan::Pipe,
+        '+' => Scan::Plus,
+        '*' => Scan::Star,
+        '/' => Scan::Slash,
+        '^' => Scan::Caret,
+        '%' => Scan::Percent,
+        _ => Scan::Unknown,
     }
 }
 
