@@ -13,14 +13,14 @@ use syntax_kind::SyntaxKind;
 use text_size::TextSize;
 use token_layout::Token;
 
-/// A parser's error.
+/// An error of a parser.
 #[derive(Clone, Copy, Debug, PartialEq, Eq)]
 pub struct Fault {
     /// The number of its message.
     pub message: u16,
-    /// Where it is in the text, in bytes.
+    /// Its position in the text, in bytes.
     pub position: TextSize,
-    /// How many of the lexer's tokens follow it. White space and comments before the next token may be among them.
+    /// The number of the lexer's tokens after it, counting white space and comments.
     pub left: usize,
 }
 
@@ -48,12 +48,12 @@ struct Plan<'a> {
 struct Layout<'a> {
     // the number of the next event
     next: usize,
-    // the node that is entered before it; as in `Starts`
+    // the node that is entered before it, as in `Starts`
     entering: u32,
-    // the tokens that are left, and how many bytes of the first of them are in the tree
+    // the tokens that are left, and how many bytes of the first of them are in the tree already
     rest: &'a [Token],
     cut: TextSize,
-    // how many bytes are in the tree
+    // how many bytes are in the tree already
     position: TextSize,
     // how many nodes are open in the root
     depth: usize,
@@ -89,7 +89,7 @@ fn dot_in(text: &[u8]) -> Option<usize>
     text.iter().position(|byte| *byte == b'.')
 }
 
-// The length in bytes of a part of a number that has `dot` bytes before its dot.
+// The length in bytes of a part of a number with `dot` bytes before its dot.
 fn len_of(part: Part, dot: usize) -> TextSize
     ensures { result ≡ len_of_part part dot }
 {
@@ -107,7 +107,7 @@ fn is_node(event: Event) -> bool
     matches!(event, Event::Node { .. })
 }
 
-// The length in bytes of a token whose first part has `first` bytes, and which continues with these tokens.
+// The length in bytes of a token whose first part has `first` bytes and whose other parts are these tokens.
 #[tactic(auto, unfolding(crate::specs::Layout::joined_len))]
 fn joined_len(first: TextSize, tokens: &[Token]) -> TextSize
     ensures { result ≡ joined_len first tokens.now }
@@ -128,18 +128,14 @@ fn is_node_at(events: &[Event], i: usize) -> bool
     }
 }
 
-// How many steps the layout makes where no token is split, and one for each error: the room that the list of steps takes once.
+// An upper bound of the number of steps, with those of the errors: two for each event, one for each token, two for the root. The list
+// of steps takes this room once. Pages that it does not fill are never touched.
 fn room_for(tokens: &[Token], events: &[Event]) -> usize {
-    let mut room = tokens.len().saturating_add(2);
-    for event in events {
-        let more = match event {
-            Event::Node { .. } => 2,
-            Event::Error { .. } => 1,
-            _ => 0,
-        };
-        room = room.saturating_add(more);
-    }
-    room
+    events
+        .len()
+        .saturating_mul(2)
+        .saturating_add(tokens.len())
+        .saturating_add(2)
 }
 
 impl<'a> Layout<'a> {
@@ -215,7 +211,7 @@ impl<'a> Layout<'a> {
         self.pass_all(count)
     }
 
-    // A token that is made of so many more than the first.
+    // A token that is made of the next token of the lexer and `more` after it.
     fn join(&mut self, kind: SyntaxKind, more: u8) -> Result<(), AllocError>
         ensures { OnOk result (laying_of self.new ≡ join_of kind more (laying_of self.old)) }
     {
@@ -433,7 +429,7 @@ fn root_of(events: &[Event]) -> usize
     events.len()
 }
 
-/// The kind of the node that ends last: the outermost, of a parser that makes one node of all.
+/// The kind of the node that ends last. This is the outermost node if the parser puts one node over everything.
 pub fn outermost(events: &[Event]) -> Option<SyntaxKind>
     ensures { result ≡ outermost_of events.now }
 {
@@ -471,11 +467,11 @@ fn lay(
 
 /// The steps of one node of the kind `root` over all tokens, and in it of the nodes of the events.
 ///
-/// The node that ends last is the root, whatever its kind; `root` is in its place. White space and comments go out as late as
-/// they can: before the next token, or before a node that is entered, into the node around it. Into a node of one of the kinds
-/// `attaching` go the comments before it, from the last blank line on, and what white space follows them.
+/// The node that ends last becomes the root, with the kind `root` in place of its own. White space and comments are put in as late
+/// as possible: before the next token, or before the next node, in the node around it. A node of one of the kinds `attaching` takes
+/// the comments before it, from the last blank line on, and the white space after them.
 ///
-/// Where nodes don't nest, where there are more tokens than the events take, or fewer, the steps still build one tree over the whole
+/// If nodes do not nest, or if the events take more or fewer tokens than there are, the steps still build one tree over the whole
 /// text. It takes time and memory linear in the tokens and events, if `attaching` has few kinds.
 pub fn lay_out(
     alloc: Global,

@@ -1,16 +1,16 @@
-//! Which nodes begin at an event.
+//! The nodes that begin at an event.
 ghost use Rattle.std.specs.Prelude.{◌≡◌, IfOk, OnOk, slice_set};
 ghost use Rattle.event_layout.specs.Starts.{links_of, number_at, number_of, passed_by, begun, linked, starts_of};
 
 use grammar_machine::Event;
 use std::alloc::{AllocError, Global};
 
-/// The nodes by the events that they begin with. A node goes by one more than the number of its event; 0 is none.
+/// The nodes by the events that they begin with. The number of a node is that of its event plus 1; 0 stands for none.
 #[derive(Drop)]
 pub struct Starts {
-    /// Of each event, the last node that begins with it.
+    /// For each event, the last node that begins with it.
     pub last: Vec<u32>,
-    /// Of each node, the one before it that begins with the same event.
+    /// For each node's event, the node before it that begins with the same event.
     pub before: Vec<u32>,
 }
 
@@ -23,7 +23,7 @@ fn number_at(numbers: &[u32], i: usize) -> u32
     }
 }
 
-// An event whose number needs more than 32 bits begins no node.
+// An event whose number has more than 32 bits begins no node.
 fn number_of(event: usize) -> u32
     ensures { result ≡ number_of event }
 {
@@ -89,7 +89,7 @@ impl Starts {
     }
 }
 
-/// All nodes but that of the event `root`.
+/// The starts of all nodes except that of the event `root`.
 #[tactic(auto, unfolding(crate::specs::Starts::starts_of))]
 pub fn find_starts(alloc: Global, root: usize, events: &[Event]) -> Result<Starts, AllocError>
     ensures { IfOk result (λ s. links_of s ≡ starts_of root events.now) }

@@ -1,4 +1,4 @@
-//! White space and comments: how many come next, and which of them go into the node that follows.
+//! White space and comments: how many come next, and which of them go into the next node.
 ghost use Rattle.std.specs.Prelude.{◌≡◌, ◌+◌, ◌-◌, fold, take, drop, length, slice_get};
 ghost use Rattle.event_layout.specs.Trivia.{lead, later_of, part_of, newlines_after, has_blank_line, attached_after, attached, attaches_of, kept_of, outside_of};
 
@@ -6,7 +6,7 @@ use syntax_kind::SyntaxKind;
 use text_size::TextSize;
 use token_layout::Token;
 
-/// How many of the tokens are trivia, up to the first that is none.
+/// The number of trivia at the front of the tokens.
 pub fn lead(tokens: &[Token]) -> usize
     ensures { result ≡ lead tokens.now }
 {
@@ -18,14 +18,14 @@ pub fn lead(tokens: &[Token]) -> usize
     tokens.len()
 }
 
-/// The size of both, at most 4,294,967,295.
+/// The sum of both, or 4,294,967,295 if it is larger.
 pub fn later(start: TextSize, len: TextSize) -> TextSize
     ensures { result ≡ later_of start len }
 {
     TextSize::new(start.raw().saturating_add(len.raw()))
 }
 
-/// At most `len` bytes from the byte `start` on.
+/// The `len` bytes from the byte `start` on, or fewer if the text ends before.
 pub fn part(bytes: &[u8], start: TextSize, len: TextSize) -> &[u8]
     ensures { result.now ≡ part_of bytes.now start len }
 {
@@ -48,7 +48,7 @@ fn newlines_after(count: u8, byte: u8) -> u8
     }
 }
 
-// Whether two line feeds follow one another.
+// Whether there are two line feeds with nothing between them.
 #[tactic(auto, unfolding(crate::specs::Trivia::has_blank_line))]
 fn has_blank_line(bytes: &[u8]) -> bool
     ensures { result ≡ has_blank_line bytes.now }
@@ -60,7 +60,7 @@ fn has_blank_line(bytes: &[u8]) -> bool
     newlines == 2
 }
 
-// How many of the trivia that were read go into the node, and where the next one starts.
+// How many of the trivia read so far go into the node, and where the next one starts.
 #[derive(Clone, Copy)]
 struct Keep {
     kept: usize,
@@ -92,7 +92,8 @@ fn attached_after(bytes: &[u8], token: Token, before: Keep) -> Keep
     }
 }
 
-// Of the trivia, which start at `start`: the comments from the last blank line on, and the white space after them.
+// The number of trivia that go into the node: the comments from the last blank line on, and the white space after them. The first of
+// the trivia starts at `start`.
 #[tactic(auto, unfolding(crate::specs::Trivia::attached))]
 fn attached(bytes: &[u8], start: TextSize, trivia: &[Token]) -> usize
     ensures { result ≡ attached bytes.now start trivia.now }
@@ -110,7 +111,7 @@ fn attaches(kinds: &[SyntaxKind], kind: SyntaxKind) -> bool
     kinds.iter().any(|other| other.to_raw() == kind.to_raw())
 }
 
-/// How many of the `count` trivia that come next stay outside of a node of the kind.
+/// How many of the next `count` trivia stay outside of a node of the kind.
 pub fn outside(
     bytes: &[u8],
     attaching: &[SyntaxKind],
@@ -128,14 +129,14 @@ pub fn outside(
     }
 }
 
-/// The first `count` tokens; all where there are fewer.
+/// The first `count` tokens, or all if there are fewer.
 pub fn first(tokens: &[Token], count: usize) -> &[Token]
     ensures { result.now ≡ take count tokens.now }
 {
     &tokens[..count.min(tokens.len())]
 }
 
-/// The tokens after the first `count`; none where there are fewer.
+/// The tokens after the first `count`, or none if there are fewer.
 pub fn behind(tokens: &[Token], count: usize) -> &[Token]
     ensures { result.now ≡ drop count tokens.now }
 {

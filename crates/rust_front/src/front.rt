@@ -36,7 +36,7 @@ fn kinds(alloc: Global, tokens: &[Token]) -> Result<Vec<SyntaxKind>, AllocError>
     Ok(kinds)
 }
 
-// What the grammar makes of the tokens.
+// The events that the grammar makes of the tokens.
 fn events(
     alloc: Global,
     rule: Rule,
@@ -72,7 +72,7 @@ fn is_short(text: &str) -> bool
     text.len() < 1 << 32
 }
 
-// The output for a text that is too long.
+// The output for a text of 4 GiB or more: no steps and no errors.
 fn nothing(alloc: Global) -> Output
     ensures { reading_of result ≡ nothing_read }
 {

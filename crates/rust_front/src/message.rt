@@ -11,7 +11,7 @@ use syntax_kind::SyntaxKind;
 use text_size::TextRange;
 use token_layout::Token;
 
-// The kind of the next token that is not trivia.
+// The kind of the first token that is not trivia.
 fn next_kind(tokens: &[Token]) -> Option<SyntaxKind>
     ensures { result ≡ next_kind_of tokens.now }
 {
@@ -23,7 +23,7 @@ fn next_kind(tokens: &[Token]) -> Option<SyntaxKind>
     None
 }
 
-// The name of a kind; `EOF` where there is no token.
+// The name of a kind, or `EOF` if there is no token.
 fn kind_name(kind: Option<SyntaxKind>) -> &'static str
     ensures { result.now ≡ kind_name_of kind }
 {
@@ -52,7 +52,8 @@ fn filled(alloc: Global, name: &str, text: &str) -> Result<String, AllocError>
     Ok(out)
 }
 
-/// The parser's message of a number. In the place of `%` is the name of the kind of the first of the tokens.
+/// The parser's message with this number. A `%` in it is replaced by the name of the kind of the next token, which is the first of
+/// `tokens` that is not trivia.
 pub fn parser_message(alloc: Global, number: u16, tokens: &[Token]) -> Result<String, AllocError>
     ensures { IfOk result (λ s. string_bytes s ≡ parser_message_of number tokens.now) }
 {
@@ -88,7 +89,7 @@ fn piece(text: &str, range: TextRange) -> &str
     )
 }
 
-/// The lexer's message, of a token with this text.
+/// The lexer's message for a token with this text.
 pub fn lexer_message(alloc: Global, problem: Problem, token: &str) -> Result<String, AllocError>
     ensures { IfOk result (λ s. string_bytes s ≡ lexer_message_of problem token.now) }
 {
@@ -108,7 +109,7 @@ fn lexer_error(alloc: Global, text: &str, error: LexError) -> Result<SyntaxError
     Ok(SyntaxError::new(message, error.range))
 }
 
-/// The lexer's errors.
+/// The lexer's errors, with their messages.
 pub fn lexer_errors(
     alloc: Global,
     text: &str,

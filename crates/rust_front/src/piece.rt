@@ -1,4 +1,4 @@
-//! The nodes that may be read again by themselves.
+//! The nodes that can be parsed again by themselves.
 ghost use Rattle.std.specs.Prelude.{◌≡◌};
 ghost use Rattle.rust_front.specs.Pieces.{has_assoc_items_of, is_braced_of, other_rule_of, number_of, chosen_of, rule_by_number};
 
@@ -73,7 +73,7 @@ fn number_of(
     }
 }
 
-/// How a node may be read again by itself.
+/// The reparser of a node, or `None` if it cannot be parsed again by itself.
 pub fn reparser_of(
     kind: SyntaxKind,
     first_child: Option<SyntaxKind>,
@@ -87,7 +87,7 @@ pub fn reparser_of(
     }
 }
 
-/// The rule by which a reparser reads.
+/// The grammar's rule for a reparser.
 pub fn rule_by(number: u32) -> Rule
     ensures { result ≡ rule_by_number number }
 {

@@ -1,4 +1,4 @@
-//! The parser's errors, as steps.
+//! The parser's errors as steps.
 ghost use Rattle.std.specs.Prelude.{◌≡◌, ◌++◌, ◌∷◌, [], IfOk, OnOk, map};
 ghost use Rattle.ras_front_end.specs.Reading.{front_step, front_steps};
 ghost use Rattle.token_layout.specs.Report.{report_by};
@@ -10,7 +10,7 @@ use ras_front_end::Step;
 use std::alloc::{AllocError, Global};
 use token_layout::Token;
 
-// The last tokens.
+// The last `count` tokens.
 fn last(tokens: &[Token], count: usize) -> &[Token]
     ensures { result.now ≡ last_of tokens.now count }
 {
@@ -32,7 +32,7 @@ fn add(steps: &mut Vec<Step>, step: Step) -> Result<(), AllocError>
     Ok(())
 }
 
-/// The steps, and after them the errors.
+/// The steps, followed by a step for each error.
 pub fn reported(
     alloc: Global,
     tokens: &[Token],

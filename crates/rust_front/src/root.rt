@@ -60,7 +60,7 @@ fn expr_or_error(top: Option<SyntaxKind>) -> SyntaxKind
     }
 }
 
-/// The kind of the root, where `top` is that of the outermost node.
+/// The kind of the root. `top` is the kind of the outermost node.
 pub fn root_kind(entry: Entry, top: Option<SyntaxKind>) -> SyntaxKind
     ensures { result ≡ root_kind_of entry top }
 {

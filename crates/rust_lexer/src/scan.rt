@@ -52,12 +52,10 @@ fn after_raw_quote(hashes: usize) -> Scan
 fn comment(depth: u32, byte: u8) -> Scan
     ensures { result ≡ comment_of depth byte }
 {
-    if byte == b'/' {
-        Scan::CommentSlash(depth)
-    } else if byte == b'*' {
-        Scan::CommentStar(depth)
-    } else {
-        Scan::Comment(depth)
+    match byte {
+        b'/' => Scan::CommentSlash(depth),
+        b'*' => Scan::CommentStar(depth),
+        _ => Scan::Comment(depth),
     }
 }
 
@@ -65,12 +63,10 @@ fn comment(depth: u32, byte: u8) -> Scan
 fn text(byte: u8) -> Scan
     ensures { result ≡ text_of byte }
 {
-    if byte == b'"' {
-        Scan::Closed
-    } else if byte == b'\\' {
-        Scan::TextEscape
-    } else {
-        Scan::Text
+    match byte {
+        b'"' => Scan::Closed,
+        b'\\' => Scan::TextEscape,
+        _ => Scan::Text,
     }
 }
 
@@ -78,16 +74,12 @@ fn text(byte: u8) -> Scan
 fn quote(byte: u8) -> Option<Scan>
     ensures { result ≡ quote_of byte }
 {
-    if byte == b'\'' {
-        Some(Scan::Closed)
-    } else if byte == b'\\' {
-        Some(Scan::QuoteEscape)
-    } else if byte == b'\n' {
-        Some(Scan::QuoteLine)
-    } else if byte == b'/' {
-        None
-    } else {
-        Some(Scan::Quote)
+    match byte {
+        b'\'' => Some(Scan::Closed),
+        b'\\' => Some(Scan::QuoteEscape),
+        b'\n' => Some(Scan::QuoteLine),
+        b'/' => None,
+        _ => Some(Scan::Quote),
     }
 }
 

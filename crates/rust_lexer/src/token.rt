@@ -125,14 +125,11 @@ fn letter_c(text: &str, rest: &[u8], edition: Edition) -> Shape
 fn letter(first: u8, text: &str, rest: &[u8], edition: Edition) -> Shape
     ensures { result ≡ letter_of edition first text.now rest.now }
 {
-    if first == b'r' {
-        letter_r(text, rest, edition)
-    } else if first == b'b' {
-        letter_b(text, rest, edition)
-    } else if first == b'c' {
-        letter_c(text, rest, edition)
-    } else {
-        name(text, edition)
+    match first {
+        b'r' => letter_r(text, rest, edition),
+        b'b' => letter_b(text, rest, edition),
+        b'c' => letter_c(text, rest, edition),
+        _ => name(text, edition),
     }
 }
 
@@ -157,16 +154,12 @@ fn beyond(text: &str, edition: Edition) -> Shape
 fn mark(first: u8, rest: &[u8], edition: Edition) -> Shape
     ensures { result ≡ mark_of edition first rest.now }
 {
-    if first == b'/' {
-        slash(rest)
-    } else if first == b'"' {
-        string(Mode::Str, rest)
-    } else if first == b'\'' {
-        character_or_lifetime(rest)
-    } else if first == b'#' {
-        pound(rest, edition)
-    } else {
-        sign(first, rest)
+    match first {
+        b'/' => slash(rest),
+        b'"' => string(Mode::Str, rest),
+        b'\'' => character_or_lifetime(rest),
+        b'#' => pound(rest, edition),
+        _ => sign(first, rest),
     }
 }
 
