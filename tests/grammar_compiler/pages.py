@@ -139,7 +139,7 @@ def message_choice(name, doc, choices):
 def message_pages(source, messages):
     """The messages as a function and as its definition, in parts, since a proof about a long choice is expensive."""
     parts = [list(enumerate(messages))[at : at + MESSAGES_A_PART] for at in range(0, len(messages), MESSAGES_A_PART)]
-    doc = "/// The message of an error by its number; empty where no error has it. `%` in it stands for the name of the next token's kind.\npub "
+    doc = "/// The message of the error with this number, or an empty text if there is none. A `%` stands for the name of the next token's kind.\npub "
     comment = "-- the message of an error by its number; no text where no error has it\n"
     limit, joins = ["nat_lt"] if len(parts) > 1 else [], ["◌∷◌", "◌++◌"] if any("\n" in text for text in messages) else []
     names, words = ["message_of"], ["ℕ", "◌==◌", *limit, "if◌then◌else◌", "List", "[]", *joins, "codes"]

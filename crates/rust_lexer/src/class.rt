@@ -141,7 +141,7 @@ pub fn first_byte(bytes: &[u8]) -> Option<u8>
     bytes.first().copied()
 }
 
-/// What follows so many bytes.
+/// The bytes after the first `count`.
 #[inline]
 pub fn after(bytes: &[u8], count: usize) -> &[u8]
     ensures { result.now ≡ drop count bytes.now }
@@ -209,7 +209,7 @@ pub fn begins(byte: u8, bytes: &[u8]) -> bool
     }
 }
 
-/// Whether the first byte is none of ASCII.
+/// Whether the first byte is not ASCII.
 #[inline]
 pub fn begins_beyond(bytes: &[u8]) -> bool
     ensures { result ≡ begins_beyond_of bytes.now }

@@ -7,7 +7,7 @@ use crate::class::{Class, skip};
 use crate::problem::Problem;
 use literal_escape::{EscapeError, MixedUnit, Mode, unescape_unit};
 
-/// Whether nothing can be wrong with the content: it is a string's, and each character stands for itself.
+/// Whether the content can have no problem: it is that of a string, without escapes and characters that need one.
 pub fn is_plain(mode: Mode, content: &str) -> bool
     ensures { result ≡ is_plain_of mode content.now }
 {

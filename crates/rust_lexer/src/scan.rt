@@ -1,11 +1,11 @@
-//! What the bytes so far make of a token that ends with a mark of its own.
+//! The state of a scan for the end of a token that ends with a mark, such as a comment or a string.
 ghost use Rattle.std.specs.Prelude.{◌≡◌, Some};
 ghost use Rattle.rust_lexer.specs.Scans.{after_raw_quote_of, comment_of, comment_slash_of, comment_star_of, text_of, quote_of, quote_line_of, raw_of, raw_hashes_of, seek_of, seek_second_of, matter_of, fence_of, next_of, run_of};
 
-/// What is being read, and how far.
+/// What is being read, and how far the scan is.
 #[derive(Clone, Copy, PartialEq, Eq)]
 pub enum Scan {
-    /// A block comment, in so many others.
+    /// A block comment that is nested in this many others.
     Comment(u32),
     /// The same after a `/` that may open one.
     CommentSlash(u32),
@@ -21,15 +21,15 @@ pub enum Scan {
     QuoteEscape,
     /// The same after a newline.
     QuoteLine,
-    /// A raw string with so many `#`.
+    /// A raw string with this many `#`.
     Raw(usize),
-    /// The same after a quote, with this many `#` to come, and in all.
+    /// The same after a quote: how many `#` are still needed, and how many in all.
     RawHashes(usize, usize),
-    /// A front matter with a fence of so many `-`.
+    /// A front matter with a fence of this many `-`.
     Matter(usize),
-    /// The same at the start of a line, with this many `-` to come, and in all.
+    /// The same at the start of a line: how many `-` are still needed, and how many in all.
     Fence(usize, usize),
-    /// This byte and that are sought, one after the other.
+    /// A search for the first byte followed by the second.
     Seek(u8, u8),
     /// The same after the first.
     SeekSecond(u8, u8),

@@ -9,14 +9,14 @@ use syntax_kind::SyntaxKind;
 /// What may be wrong with a token.
 #[derive(Clone, Copy)]
 pub enum Fault {
-    /// Nothing.
+    /// No problem.
     No,
-    /// This.
+    /// This problem.
     Is(Problem),
-    /// It is a prefix that no literal has.
+    /// A prefix that no literal has.
     Prefix,
-    /// What is wrong with the content of a literal of this mode. The content follows so many bytes, and so many of the text
-    /// follow it.
+    /// The problems of the content of a literal of this mode. The numbers are the bytes of the token before the content, and the bytes
+    /// of the text after it.
     Content(Mode, usize, usize),
 }
 
@@ -25,7 +25,7 @@ pub enum Fault {
 pub struct Shape {
     /// Its kind.
     pub kind: SyntaxKind,
-    /// How many bytes of the text follow it.
+    /// The number of bytes of the text after it.
     pub left: usize,
     /// What may be wrong with it.
     pub fault: Fault,

@@ -22,7 +22,7 @@ pub fn record_expr_fields(it: &RecordExprFieldList) -> AstChildren<ast::RecordEx
     support::children(it.syntax())
 }
 
-/// The first child that is an expression, if there is one: the base of `..base`. A field is none.
+/// The first child that is an expression: the base of `..base`. `None` if there is none. A field is not an expression.
 pub fn record_expr_spread(it: &RecordExprFieldList) -> Option<ast::Expr>
     ensures { IsFirstChild ⟦<ast::Expr as AstNode>⟧ (⟦<RecordExprFieldList as AstNode>⟧.node it.now) result }
 {

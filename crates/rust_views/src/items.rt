@@ -57,7 +57,7 @@ pub fn rename_as_token(it: &Rename) -> Option<SyntaxToken>
     support::token(it.syntax(), SyntaxKind::AS_KW)
 }
 
-/// The items that a macro stands for, in order.
+/// The items that a macro expands to, in order.
 pub fn macro_items(it: &MacroItems) -> AstChildren<ast::Item>
     ensures { result ≡ typed_children ⟦<ast::Item as AstNode>⟧.casts (⟦<MacroItems as AstNode>⟧.node it.now) }
 {

@@ -1,8 +1,8 @@
 //! Views of the nodes of Rust's trees for whose kinds `SyntaxKind` has no constant, and the lookups that lead to them and on from them.
 //!
-//! All other views are those of `ra_ap_syntax`. The lookups here are functions, since the views that they are asked of are there:
-//! `variant_list(&it)` is rust-analyzer's `it.variant_list()`. A call takes time linear in the children that it passes, and no
-//! memory.
+//! All other views are in `ra_ap_syntax`. The lookups here are functions and not methods, because the views that they take are from
+//! there: `variant_list(&it)` is rust-analyzer's `it.variant_list()`. A call takes time linear in the children that it passes, and
+//! allocates nothing.
 #![tactic(auto)]
 
 pub mod exprs;
@@ -29,7 +29,7 @@ pub type VariantList = Typed<{ raw::VARIANT_LIST }>;
 /// The new name of what is used: `as a`, `as _`.
 pub type Rename = Typed<{ raw::RENAME }>;
 
-/// The items that a macro stands for.
+/// The items that a macro expands to.
 pub type MacroItems = Typed<{ raw::MACRO_ITEMS }>;
 
 /// The fields of a record with their braces: `{ a: 1, ..b }`.

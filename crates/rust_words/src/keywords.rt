@@ -232,10 +232,10 @@ fn word_y(text: &str) -> Option<SyntaxKind>
     }
 }
 
-/// The kind of the keyword that the text is, or `None` if it is not one in the edition. Reserved words are keywords too,
-/// as `abstract`; words that are keywords only in some places are none, as `union`.
+/// The kind of a keyword, or `None` if the text is not a keyword in the edition. Reserved words such as `abstract` are keywords. Words
+/// that are keywords only in some places, such as `union`, are not.
 ///
-/// It compares the text with at most six words.
+/// It compares the text with at most five words.
 pub fn keyword(text: &str, edition: Edition) -> Option<SyntaxKind>
     ensures { result ≡ keyword_of edition text.now }
 {

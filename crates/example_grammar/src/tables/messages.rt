@@ -2,7 +2,7 @@
 ghost use Rattle.std.specs.Prelude.{◌≡◌};
 ghost use Rattle.example_grammar.specs.Messages.{message_of};
 
-/// The message of an error by its number; empty where no error has it. `%` in it stands for the name of the next token's kind.
+/// The message of the error with this number, or an empty text if there is none. A `%` stands for the name of the next token's kind.
 pub fn message(number: u16) -> &'static str
     ensures { result.now ≡ message_of number }
 {
