@@ -3,3 +3,7 @@ pub mod Kept
 pub mod StepLemmas
 pub mod PatternLemmas
 pub mod WordLemmas
+pub mod TextsLemmas
+pub mod EscapesLemmas
+pub mod AskedLemmas
+pub mod ChangesLemmas

@@ -5,3 +5,7 @@ pub mod Patterns
 pub mod Climbs
 pub mod Words
 pub mod Differences
+pub mod Texts
+pub mod Escapes
+pub mod Asked
+pub mod Changes

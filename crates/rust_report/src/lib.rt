@@ -1,14 +1,22 @@
 //! What the program on files of Rust tells of a text and its tree: places, outlines, what fits a pattern, and differences.
 #![tactic(auto)]
 
+mod asked;
+mod changes;
+mod escapes;
 mod items;
 mod pattern;
 mod place;
 mod same;
+mod texts;
 mod words;
 
+pub use asked::{place_of, range_of};
+pub use changes::{lines_of, other_front, same_front};
+pub use escapes::{InHtml, InWorkflow};
 pub use items::{Row, is_listed, outline};
 pub use pattern::{Link, Step, fits, query};
 pub use place::{Spot, offset_of, spot_at};
 pub use same::{Difference, Trivia, differences, first_difference, is_left_out};
+pub use texts::{first_line, line_at, width};
 pub use words::{PatternError, kind_named, parse_pattern};

@@ -7,7 +7,7 @@ use crate::source::{Reading, lines, parsed, spot};
 use crate::style::Style;
 use line_index::LineIndex;
 use ras_front_end::SyntaxError;
-use rust_report::Spot;
+use rust_report::{InWorkflow, line_at, width};
 use serde::Serialize;
 use std::alloc::Global;
 use std::io;
@@ -37,18 +37,6 @@ struct Finding<'a> {
     message: &'a str,
 }
 
-// The line of a text that a place is in, without its line feed.
-fn line_at<'a>(text: &'a str, lines: &LineIndex<'_>, spot: Spot) -> &'a str {
-    let number = u32::try_from(spot.line.saturating_sub(1)).unwrap_or(0);
-    let Some(range) = lines.line(number) else {
-        return "";
-    };
-    let line = text
-        .get(range.start().raw() as usize..range.end().raw() as usize)
-        .unwrap_or("");
-    line.trim_end_matches(['\n', '\r'])
-}
-
 fn write_many<W: Write>(out: &mut W, sign: &str, count: u64) -> io::Result<()> {
     for _i in 0..count {
         out.write_all(sign.as_bytes())?;
@@ -69,16 +57,6 @@ fn write_blanks<W: Write>(out: &mut W, line: &str, column: u64) -> io::Result<()
     Ok(())
 }
 
-// How many columns of a line are marked: those of the range that are in the line, at least one.
-fn width(line: &str, from: Spot, to: Spot) -> u64 {
-    let end = if to.line == from.line {
-        to.column
-    } else {
-        (line.chars().count() as u64).saturating_add(1)
-    };
-    end.saturating_sub(from.column).max(1)
-}
-
 fn write_text<W: Write>(
     out: &mut W,
     name: &str,
@@ -89,7 +67,7 @@ fn write_text<W: Write>(
 ) -> io::Result<()> {
     let from = spot(lines, error.range().start());
     let to = spot(lines, error.range().end());
-    let line = line_at(text, lines, from);
+    let line = line_at(text, lines, error.range().start());
     let (bold, red, plain) = (style.bold(), style.red(), style.plain());
     writeln!(
         out,
@@ -128,21 +106,6 @@ fn write_json<W: Write>(
     write_line(alloc, out, &finding)
 }
 
-// A text in the form that a workflow command wants: the signs that end a value are written as numbers.
-fn write_escaped<W: Write>(out: &mut W, text: &str) -> io::Result<()> {
-    for sign in text.chars() {
-        match sign {
-            '%' => write!(out, "%25")?,
-            '\r' => write!(out, "%0D")?,
-            '\n' => write!(out, "%0A")?,
-            ':' => write!(out, "%3A")?,
-            ',' => write!(out, "%2C")?,
-            _ => write!(out, "{sign}")?,
-        }
-    }
-    Ok(())
-}
-
 fn write_github<W: Write>(
     out: &mut W,
     name: &str,
@@ -151,15 +114,12 @@ fn write_github<W: Write>(
 ) -> io::Result<()> {
     let from = spot(lines, error.range().start());
     let to = spot(lines, error.range().end());
-    write!(out, "::error file=")?;
-    write_escaped(out, name)?;
-    write!(
+    let (name, message) = (InWorkflow(name), InWorkflow(error.message()));
+    writeln!(
         out,
-        ",line={},col={},endLine={},endColumn={}::",
+        "::error file={name},line={},col={},endLine={},endColumn={}::{message}",
         from.line, from.column, to.line, to.column
-    )?;
-    write_escaped(out, error.message())?;
-    writeln!(out)
+    )
 }
 
 fn write_all<W: Write>(

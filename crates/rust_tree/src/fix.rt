@@ -1,18 +1,11 @@
 //! Patches, and files that are given another text.
 
 use crate::failure::Failure;
-use std::alloc::{AllocError, Global};
+use rust_report::{lines_of, other_front, same_front};
+use std::alloc::Global;
 use std::fs::File;
 use std::io::{ErrorKind, Write};
 use std::{fs, io};
-
-fn lines_of(alloc: Global, text: &str) -> Result<Vec<&str>, AllocError> {
-    let mut lines = Vec::new(alloc);
-    for line in text.split_inclusive('\n') {
-        lines.push(line)?;
-    }
-    Ok(lines)
-}
 
 fn write_lines<W: Write>(out: &mut W, sign: &str, lines: &[&str]) -> io::Result<()> {
     for line in lines {
@@ -24,40 +17,16 @@ fn write_lines<W: Write>(out: &mut W, sign: &str, lines: &[&str]) -> io::Result<
     Ok(())
 }
 
-// How many lines are alike from the start of both on.
-fn alike(old: &[&str], new: &[&str]) -> usize {
-    let mut count = 0usize;
-    for (a, b) in old.iter().zip(new.iter()) {
-        if *a != *b {
-            break;
-        }
-        count = count.saturating_add(1);
-    }
-    count
-}
-
-// How many lines differ from the start of both on.
-fn unlike(old: &[&str], new: &[&str]) -> usize {
-    let mut count = 0usize;
-    for (a, b) in old.iter().zip(new.iter()) {
-        if *a == *b {
-            break;
-        }
-        count = count.saturating_add(1);
-    }
-    count
-}
-
 // Writes a change for each run of lines that differ, without lines around it. The texts have as many lines.
 fn write_changes<W: Write>(out: &mut W, old: &[&str], new: &[&str]) -> io::Result<()> {
     let (mut old, mut new) = (old, new);
     let mut at = 1usize;
     for _turn in 0..old.len() {
-        let same = alike(old, new);
+        let same = same_front(old, new);
         old = old.get(same..).unwrap_or(&[]);
         new = new.get(same..).unwrap_or(&[]);
         at = at.saturating_add(same);
-        let other = unlike(old, new);
+        let other = other_front(old, new);
         if other == 0 {
             break;
         }

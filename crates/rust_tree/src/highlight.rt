@@ -1,9 +1,10 @@
 //! The command `highlight`: a text with its words marked by what they are, as a page of HTML or with the colours of a terminal.
 
 use crate::failure::Failure;
-use crate::html::{write_escaped, write_head};
+use crate::html::write_head;
 use crate::source::{Reading, parsed};
 use lossless_tree::{NodeOrToken, SyntaxKind, SyntaxNode, SyntaxToken};
+use rust_report::InHtml;
 use std::alloc::Global;
 use std::io;
 use std::io::Write;
@@ -239,13 +240,12 @@ fn role_of(token: &SyntaxToken) -> Role {
 }
 
 fn write_html<W: Write>(out: &mut W, role: Role, text: &str) -> io::Result<()> {
-    let class = role.class();
+    let (class, text) = (role.class(), InHtml(text));
     if class.is_empty() {
-        return write_escaped(out, text);
+        write!(out, "{text}")
+    } else {
+        write!(out, "<span class=\"{class}\">{text}</span>")
     }
-    write!(out, "<span class=\"{class}\">")?;
-    write_escaped(out, text)?;
-    out.write_all(b"</span>")
 }
 
 // A text in a colour, which ends and begins again at each end of a line.

@@ -4,9 +4,8 @@ use crate::highlight::Ink;
 use crate::source::Reading;
 use crate::tree::{Drawing, Part, Showing};
 use clap::{Arg, ArgAction, ArgMatches, Command, value_parser};
-use line_index::WideLineCol;
-use lossless_tree::{TextRange, TextSize};
 use ras_front_end::{Edition, Entry};
+use rust_report::{place_of, range_of};
 use std::alloc::{AllocError, Global};
 
 static EDITIONS: [&str; 4] = ["2015", "2018", "2021", "2024"];
@@ -311,25 +310,6 @@ pub fn form_of(matches: &ArgMatches) -> Form {
         Some("github") => Form::Github,
         _ => Form::Text,
     }
-}
-
-// A line and a column, counted from 1 as in `3:14`; counted from 0 then.
-fn place_of(text: &str) -> Option<WideLineCol> {
-    let (line, column) = text.split_once(':')?;
-    let line = line.parse::<u32>().ok()?.checked_sub(1)?;
-    let col = column.parse::<u32>().ok()?.checked_sub(1)?;
-    Some(WideLineCol { line, col })
-}
-
-// A range of bytes, as `3..14`.
-fn range_of(text: &str) -> Option<TextRange> {
-    let (start, end) = text.split_once("..")?;
-    let start = start.parse::<u32>().ok()?;
-    let end = end.parse::<u32>().ok()?;
-    if end < start {
-        return None;
-    }
-    Some(TextRange::new(TextSize::new(start), TextSize::new(end)))
 }
 
 // The part of a tree that is meant; `None` where the words of the command line name none.

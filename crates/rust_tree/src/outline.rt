@@ -6,7 +6,7 @@ use crate::options::Form;
 use crate::source::{Reading, lines, parsed, spot};
 use line_index::LineIndex;
 use lossless_tree::{SyntaxKind, SyntaxNode};
-use rust_report::{Row, outline};
+use rust_report::{Row, first_line, outline};
 use serde::Serialize;
 use std::alloc::Global;
 use std::io;
@@ -62,11 +62,6 @@ fn label(row: &Row) -> Option<SyntaxNode> {
             )
         }),
     }
-}
-
-// The first line of a text.
-fn first_line(text: &str) -> &str {
-    text.lines().next().unwrap_or("")
 }
 
 // The text of an item from its label on: of an `impl`, up to its items.

@@ -2,11 +2,12 @@
 //! pointer is over in one is marked in the other.
 
 use crate::failure::Failure;
-use crate::html::{write_escaped, write_head};
+use crate::html::write_head;
 use crate::names::kind_name;
 use crate::tree::{Showing, is_shown};
 use lossless_tree::{NodeOrToken, SyntaxElement, SyntaxNode, WalkEvent};
 use ras_front_end::SyntaxError;
+use rust_report::InHtml;
 use std::alloc::Global;
 use std::io;
 use std::io::Write;
@@ -100,13 +101,8 @@ tree.addEventListener('click', event => {
 fn write_tokens<W: Write>(out: &mut W, root: &SyntaxNode) -> io::Result<()> {
     for element in root.descendants_with_tokens() {
         if let NodeOrToken::Token(token) = &element {
-            write!(
-                out,
-                "<span data-s=\"{}\">",
-                token.text_range().start().raw()
-            )?;
-            write_escaped(out, token.text())?;
-            out.write_all(b"</span>")?;
+            let (start, text) = (token.text_range().start().raw(), InHtml(token.text()));
+            write!(out, "<span data-s=\"{start}\">{text}</span>")?;
         }
     }
     out.write_all(b"</pre>\n<div id=\"tree\">\n")
@@ -131,9 +127,7 @@ fn write_row<W: Write>(
     )?;
     if let NodeOrToken::Token(token) = element {
         let quoted = format!(in alloc; "{:?}", token.text())?;
-        out.write_all(b" <b>")?;
-        write_escaped(out, quoted.as_str())?;
-        out.write_all(b"</b>")?;
+        write!(out, " <b>{}</b>", InHtml(quoted.as_str()))?;
     }
     out.write_all(b"</div>\n")
 }
@@ -162,12 +156,11 @@ fn write_rows<W: Write>(
 fn write_errors<W: Write>(out: &mut W, errors: &[SyntaxError]) -> io::Result<()> {
     for error in errors {
         let (start, end) = (error.range().start().raw(), error.range().end().raw());
-        write!(
+        let message = InHtml(error.message());
+        writeln!(
             out,
-            "<div class=\"e\" style=\"--d:0\" data-d=\"0\" data-s=\"{start}\" data-e=\"{end}\">error {start}..{end}: "
+            "<div class=\"e\" style=\"--d:0\" data-d=\"0\" data-s=\"{start}\" data-e=\"{end}\">error {start}..{end}: {message}</div>"
         )?;
-        write_escaped(out, error.message())?;
-        out.write_all(b"</div>\n")?;
     }
     Ok(())
 }

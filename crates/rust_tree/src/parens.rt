@@ -10,6 +10,7 @@ use ras_front_end::ParseError;
 use ras_parsing::read;
 use rust_front::Rust;
 use rust_parens::{Needless, find_needless};
+use rust_report::first_line;
 use serde::Serialize;
 use std::alloc::Global;
 use std::io;
@@ -31,11 +32,6 @@ struct Pair<'a> {
 pub fn needless(alloc: Global, text: &str, reading: Reading) -> Result<Needless, ParseError> {
     let parse = read(alloc, &Rust, reading.entry, text, reading.edition)?;
     Ok(find_needless(alloc, &Rust, reading.entry, reading.edition, &parse)?)
-}
-
-// The first line of a text.
-fn first_line(text: &str) -> &str {
-    text.lines().next().unwrap_or("")
 }
 
 fn write_pair<W: Write>(

@@ -7,7 +7,7 @@ use crate::options::Form;
 use crate::source::{Reading, lines, parsed, spot};
 use line_index::LineIndex;
 use lossless_tree::SyntaxElement;
-use rust_report::{Step, query};
+use rust_report::{Step, first_line, query};
 use serde::Serialize;
 use std::alloc::Global;
 use std::io;
@@ -51,7 +51,7 @@ fn write_match<W: Write>(
             write_line(alloc, out, &found)
         }
         Form::Text | Form::Github => {
-            let shown = element.text().lines().next().unwrap_or("");
+            let shown = first_line(element.text());
             writeln!(out, "{path}:{at}: {shown}")
         }
     }
