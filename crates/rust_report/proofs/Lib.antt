@@ -7,3 +7,4 @@ pub mod TextsLemmas
 pub mod EscapesLemmas
 pub mod AskedLemmas
 pub mod ChangesLemmas
+pub mod RolesLemmas

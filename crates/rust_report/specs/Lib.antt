@@ -9,3 +9,5 @@ pub mod Texts
 pub mod Escapes
 pub mod Asked
 pub mod Changes
+pub mod Roles
+pub mod Counts

@@ -3,10 +3,11 @@ ghost use Rattle.std.specs.Prelude.{◌≡◌, IfOk, map, length, drop};
 ghost use Rattle.std.specs.List.{filter};
 ghost use Rattle.tree_model.specs.Cursor.{at_node, descendants_of, ancestors_of};
 ghost use Rattle.ras_node.specs.Nodes.{typed_child, has_kind_in};
-ghost use Rattle.rust_report.specs.Outlines.{is_listed, is_name, depth_of, row_of};
+ghost use Rattle.rust_report.specs.Outlines.{is_listed, is_name, is_label, word_of, label_of, depth_of, row_of};
 
 use lossless_tree::{SyntaxKind, SyntaxNode};
 use ras_node::KindSet;
+use ras_node::support::share;
 use std::alloc::{AllocError, Global};
 
 /// An item, its name, and how deep it is.
@@ -53,6 +54,57 @@ pub fn is_listed(kind: SyntaxKind) -> bool
             | SyntaxKind::UNION
             | SyntaxKind::USE
     )
+}
+
+/// The kinds of the children that can tell an item without a name from others.
+enum Labels {}
+
+impl KindSet for Labels {
+    ghost kinds = { is_label };
+
+    fn has(kind: SyntaxKind) -> bool {
+        !matches!(
+            kind,
+            SyntaxKind::ATTR
+                | SyntaxKind::DOC_COMMENT
+                | SyntaxKind::VISIBILITY
+                | SyntaxKind::GENERIC_PARAM_LIST
+        )
+    }
+}
+
+/// The words that an item of this kind begins with, after its attributes and modifiers, as `extern crate`. `kind` is one that is listed.
+pub fn word_of(kind: SyntaxKind) -> &'static str
+    ensures { result.now ≡ word_of kind }
+{
+    match kind {
+        SyntaxKind::CONST => "const",
+        SyntaxKind::ENUM => "enum",
+        SyntaxKind::EXTERN_BLOCK => "extern",
+        SyntaxKind::EXTERN_CRATE => "extern crate",
+        SyntaxKind::FN => "fn",
+        SyntaxKind::IMPL => "impl",
+        SyntaxKind::MACRO_DEF => "macro",
+        SyntaxKind::MACRO_RULES => "macro_rules!",
+        SyntaxKind::MODULE => "mod",
+        SyntaxKind::STATIC => "static",
+        SyntaxKind::STRUCT => "struct",
+        SyntaxKind::TRAIT => "trait",
+        SyntaxKind::TYPE_ALIAS => "type",
+        SyntaxKind::UNION => "union",
+        _ => "use",
+    }
+}
+
+/// The node that tells an item from others: its name, or if it has none the first of its child nodes that is no attribute, documentation,
+/// visibility or list of parameters: the path of a `use`, the type of an `impl`.
+pub fn label_of(row: &Row) -> Option<SyntaxNode>
+    ensures { result ≡ label_of row.now }
+{
+    match &row.name {
+        Some(name) => Some(share(name)),
+        None => ras_node::first_node::<Labels>(row.item.children_with_tokens()),
+    }
 }
 
 fn name_of(item: &SyntaxNode) -> Option<SyntaxNode>

@@ -3,20 +3,24 @@
 
 mod asked;
 mod changes;
+mod counts;
 mod escapes;
 mod items;
 mod pattern;
 mod place;
+mod roles;
 mod same;
 mod texts;
 mod words;
 
 pub use asked::{place_of, range_of};
 pub use changes::{lines_of, other_front, same_front};
+pub use counts::{Counts, count};
 pub use escapes::{InHtml, InWorkflow};
-pub use items::{Row, is_listed, outline};
+pub use items::{Row, is_listed, label_of, outline, word_of};
 pub use pattern::{Link, Step, fits, query};
 pub use place::{Spot, offset_of, spot_at};
+pub use roles::{Role, role_of};
 pub use same::{Difference, Trivia, differences, first_difference, is_left_out};
 pub use texts::{first_line, line_at, width};
 pub use words::{PatternError, kind_named, parse_pattern};

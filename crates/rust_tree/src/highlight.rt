@@ -3,8 +3,8 @@
 use crate::failure::Failure;
 use crate::html::write_head;
 use crate::source::{Reading, parsed};
-use lossless_tree::{NodeOrToken, SyntaxKind, SyntaxNode, SyntaxToken};
-use rust_report::InHtml;
+use lossless_tree::NodeOrToken;
+use rust_report::{InHtml, Role, role_of};
 use std::alloc::Global;
 use std::io;
 use std::io::Write;
@@ -18,58 +18,39 @@ pub enum Ink {
     Ansi,
 }
 
-// What a token is, as far as colours tell it.
-#[derive(Clone, Copy, Debug, PartialEq, Eq)]
-enum Role {
-    Plain,
-    Comment,
-    Keyword,
-    Text,
-    Number,
-    Lifetime,
-    Function,
-    Type,
-    Field,
-    Macro,
-    Attribute,
-    Error,
+// The name of a role's class in a page.
+fn class_of(role: Role) -> &'static str {
+    match role {
+        Role::Plain => "",
+        Role::Comment => "comment",
+        Role::Keyword => "keyword",
+        Role::Text => "string",
+        Role::Number => "number",
+        Role::Lifetime => "lifetime",
+        Role::Function => "function",
+        Role::Type => "type",
+        Role::Field => "field",
+        Role::Macro => "macro",
+        Role::Attribute => "attribute",
+        Role::Error => "error",
+    }
 }
 
-impl Role {
-    // The name of its class in a page.
-    fn class(self) -> &'static str {
-        match self {
-            Role::Plain => "",
-            Role::Comment => "comment",
-            Role::Keyword => "keyword",
-            Role::Text => "string",
-            Role::Number => "number",
-            Role::Lifetime => "lifetime",
-            Role::Function => "function",
-            Role::Type => "type",
-            Role::Field => "field",
-            Role::Macro => "macro",
-            Role::Attribute => "attribute",
-            Role::Error => "error",
-        }
-    }
-
-    // Its colour in a terminal.
-    fn escape(self) -> &'static str {
-        match self {
-            Role::Plain => "",
-            Role::Comment => "\u{1b}[90m",
-            Role::Keyword => "\u{1b}[35m",
-            Role::Text => "\u{1b}[32m",
-            Role::Number => "\u{1b}[36m",
-            Role::Lifetime => "\u{1b}[33m",
-            Role::Function => "\u{1b}[34m",
-            Role::Type => "\u{1b}[33m",
-            Role::Field => "\u{1b}[36m",
-            Role::Macro => "\u{1b}[1;34m",
-            Role::Attribute => "\u{1b}[90m",
-            Role::Error => "\u{1b}[1;31m",
-        }
+// A role's colour in a terminal.
+fn escape_of(role: Role) -> &'static str {
+    match role {
+        Role::Plain => "",
+        Role::Comment => "\u{1b}[90m",
+        Role::Keyword => "\u{1b}[35m",
+        Role::Text => "\u{1b}[32m",
+        Role::Number => "\u{1b}[36m",
+        Role::Lifetime => "\u{1b}[33m",
+        Role::Function => "\u{1b}[34m",
+        Role::Type => "\u{1b}[33m",
+        Role::Field => "\u{1b}[36m",
+        Role::Macro => "\u{1b}[1;34m",
+        Role::Attribute => "\u{1b}[90m",
+        Role::Error => "\u{1b}[1;31m",
     }
 }
 
@@ -99,148 +80,8 @@ body { background: #0d1117; color: #e6edf3 }
 <pre>
 ";
 
-fn is_text(kind: SyntaxKind) -> bool {
-    matches!(
-        kind,
-        SyntaxKind::STRING
-            | SyntaxKind::BYTE_STRING
-            | SyntaxKind::C_STRING
-            | SyntaxKind::CHAR
-            | SyntaxKind::BYTE
-    )
-}
-
-// A word is a keyword where its kind is none of identifiers and literals.
-fn is_word(text: &str) -> bool {
-    text.as_bytes()
-        .first()
-        .is_some_and(|byte| byte.is_ascii_alphabetic() || *byte == b'_')
-}
-
-// A comment, also of documentation: no other token begins so.
-fn is_comment(text: &str) -> bool {
-    text.starts_with("//") || text.starts_with("/*")
-}
-
-fn role_of_token(token: &SyntaxToken) -> Role {
-    match token.kind() {
-        SyntaxKind::INT_NUMBER | SyntaxKind::FLOAT_NUMBER => Role::Number,
-        SyntaxKind::LIFETIME_IDENT => Role::Lifetime,
-        SyntaxKind::ERROR => Role::Error,
-        SyntaxKind::IDENT | SyntaxKind::WHITESPACE => Role::Plain,
-        kind => {
-            if is_text(kind) {
-                Role::Text
-            } else if is_comment(token.text()) {
-                Role::Comment
-            } else if is_word(token.text()) {
-                Role::Keyword
-            } else {
-                Role::Plain
-            }
-        }
-    }
-}
-
-// What a node NAME names, by the item round it.
-fn role_of_name(item: SyntaxKind) -> Role {
-    match item {
-        SyntaxKind::FN => Role::Function,
-        SyntaxKind::STRUCT
-        | SyntaxKind::ENUM
-        | SyntaxKind::UNION
-        | SyntaxKind::TRAIT
-        | SyntaxKind::TYPE_ALIAS
-        | SyntaxKind::TYPE_PARAM
-        | SyntaxKind::VARIANT => Role::Type,
-        SyntaxKind::RECORD_FIELD => Role::Field,
-        SyntaxKind::MACRO_RULES | SyntaxKind::MACRO_DEF => Role::Macro,
-        _ => Role::Plain,
-    }
-}
-
-// What a path is the name of, by the node round it.
-fn role_of_path(path: &SyntaxNode) -> Role {
-    let Some(around) = path.parent() else {
-        return Role::Plain;
-    };
-    match around.kind() {
-        SyntaxKind::PATH_TYPE => Role::Type,
-        SyntaxKind::MACRO_CALL => Role::Macro,
-        SyntaxKind::RECORD_EXPR | SyntaxKind::RECORD_PAT | SyntaxKind::TUPLE_STRUCT_PAT => {
-            Role::Type
-        }
-        SyntaxKind::PATH_EXPR => match around.parent() {
-            Some(call) => {
-                if call.kind() == SyntaxKind::CALL_EXPR {
-                    Role::Function
-                } else {
-                    Role::Plain
-                }
-            }
-            None => Role::Plain,
-        },
-        _ => Role::Plain,
-    }
-}
-
-// What a node NAME_REF refers to, by the node round it.
-fn role_of_use(around: &SyntaxNode) -> Role {
-    match around.kind() {
-        SyntaxKind::METHOD_CALL_EXPR => Role::Function,
-        SyntaxKind::FIELD_EXPR | SyntaxKind::RECORD_EXPR_FIELD | SyntaxKind::RECORD_PAT_FIELD =>
-            Role::Field,
-        SyntaxKind::PATH_SEGMENT => match around.parent() {
-            Some(path) => role_of_path(&path),
-            None => Role::Plain,
-        },
-        _ => Role::Plain,
-    }
-}
-
-// What an identifier is, by the nodes round it.
-fn role_of_word(token: &SyntaxToken) -> Role {
-    let Some(name) = token.parent() else {
-        return Role::Plain;
-    };
-    let Some(around) = name.parent() else {
-        return Role::Plain;
-    };
-    match name.kind() {
-        SyntaxKind::NAME => role_of_name(around.kind()),
-        SyntaxKind::NAME_REF => role_of_use(&around),
-        _ => Role::Plain,
-    }
-}
-
-// Whether a token is one of an attribute, or of the path of what it says: a name is four nodes below that.
-fn is_of_attribute(token: &SyntaxToken) -> bool {
-    match token.parent() {
-        Some(parent) => {
-            parent.kind() == SyntaxKind::ATTR
-                || parent
-                    .ancestors()
-                    .take(5)
-                    .any(|above| above.kind() == SyntaxKind::ATTR)
-        }
-        None => false,
-    }
-}
-
-fn role_of(token: &SyntaxToken) -> Role {
-    let role = match token.kind() {
-        SyntaxKind::IDENT => role_of_word(token),
-        _ => role_of_token(token),
-    };
-    if role == Role::Plain && is_of_attribute(token) {
-        Role::Attribute
-    } else {
-        role
-    }
-}
-
 fn write_html<W: Write>(out: &mut W, role: Role, text: &str) -> io::Result<()> {
-    let (class, text) = (role.class(), InHtml(text));
+    let (class, text) = (class_of(role), InHtml(text));
     if class.is_empty() {
         write!(out, "{text}")
     } else {
@@ -250,7 +91,7 @@ fn write_html<W: Write>(out: &mut W, role: Role, text: &str) -> io::Result<()> {
 
 // A text in a colour, which ends and begins again at each end of a line.
 fn write_ansi<W: Write>(out: &mut W, role: Role, text: &str) -> io::Result<()> {
-    let escape = role.escape();
+    let escape = escape_of(role);
     if escape.is_empty() {
         return out.write_all(text.as_bytes());
     }

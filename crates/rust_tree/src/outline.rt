@@ -6,7 +6,7 @@ use crate::options::Form;
 use crate::source::{Reading, lines, parsed, spot};
 use line_index::LineIndex;
 use lossless_tree::{SyntaxKind, SyntaxNode};
-use rust_report::{Row, first_line, outline};
+use rust_report::{Row, first_line, label_of, outline, word_of};
 use serde::Serialize;
 use std::alloc::Global;
 use std::io;
@@ -24,44 +24,6 @@ struct Item<'a> {
     depth: usize,
     start: u32,
     end: u32,
-}
-
-// The words that an item of a kind is written with.
-fn word(kind: SyntaxKind) -> &'static str {
-    match kind {
-        SyntaxKind::CONST => "const",
-        SyntaxKind::ENUM => "enum",
-        SyntaxKind::EXTERN_BLOCK => "extern",
-        SyntaxKind::EXTERN_CRATE => "extern crate",
-        SyntaxKind::FN => "fn",
-        SyntaxKind::IMPL => "impl",
-        SyntaxKind::MACRO_DEF => "macro",
-        SyntaxKind::MACRO_RULES => "macro_rules!",
-        SyntaxKind::MODULE => "mod",
-        SyntaxKind::STATIC => "static",
-        SyntaxKind::STRUCT => "struct",
-        SyntaxKind::TRAIT => "trait",
-        SyntaxKind::TYPE_ALIAS => "type",
-        SyntaxKind::UNION => "union",
-        _ => "use",
-    }
-}
-
-// The node that tells an item from others: its name, or else the first of its children that is no attribute, documentation or
-// visibility: the path of a `use`, the type of an `impl`.
-fn label(row: &Row) -> Option<SyntaxNode> {
-    match &row.name {
-        Some(name) => Some(ras_node::support::share(name)),
-        None => row.item.children().find(|child| {
-            !matches!(
-                child.kind(),
-                SyntaxKind::ATTR
-                    | SyntaxKind::DOC_COMMENT
-                    | SyntaxKind::VISIBILITY
-                    | SyntaxKind::GENERIC_PARAM_LIST
-            )
-        }),
-    }
 }
 
 // The text of an item from its label on: of an `impl`, up to its items.
@@ -86,14 +48,14 @@ fn write_row<W: Write>(
     row: &Row,
     format: Form,
 ) -> io::Result<()> {
-    let label = label(row);
+    let label = label_of(row);
     let range = row.item.text_range();
     let start = match &label {
         Some(label) => label.text_range().start(),
         None => range.start(),
     };
     let at = spot(lines, start);
-    let kind = word(row.item.kind());
+    let kind = word_of(row.item.kind());
     let shown = match &label {
         Some(label) => shown(row, label),
         None => "",

@@ -8,7 +8,7 @@ use line_index::WideLineCol;
 use lossless_tree::{NodeOrToken, SyntaxElement, SyntaxNode, TextRange, TextSize, WalkEvent};
 use ras_front_end::SyntaxError;
 use ras_node::support::share;
-use rust_report::offset_of;
+use rust_report::{Counts, count, offset_of};
 use std::alloc::{AllocError, Global};
 use std::io;
 use std::io::Write;
@@ -50,14 +50,6 @@ pub struct Showing {
     pub depth: usize,
     /// Whether counts are shown in place of the tree.
     pub stats: bool,
-}
-
-// How many nodes, tokens and levels a tree has.
-#[derive(Clone, Copy)]
-struct Counts {
-    nodes: u64,
-    tokens: u64,
-    depth: usize,
 }
 
 /// Whether a node or token so many levels below the top is shown.
@@ -232,27 +224,19 @@ fn write_part<W: Write>(
     }
 }
 
-fn count(root: &SyntaxNode) -> Counts {
-    let mut counts = Counts {
-        nodes: 0,
-        tokens: 0,
-        depth: 0,
-    };
-    let mut level = 0usize;
+// How many levels a tree has.
+fn depth_of(root: &SyntaxNode) -> usize {
+    let (mut level, mut depth) = (0usize, 0usize);
     for event in root.preorder_with_tokens() {
         match event {
-            WalkEvent::Enter(element) => {
+            WalkEvent::Enter(_) => {
                 level = level.saturating_add(1);
-                counts.depth = counts.depth.max(level);
-                match element {
-                    NodeOrToken::Node(_) => counts.nodes = counts.nodes.saturating_add(1),
-                    NodeOrToken::Token(_) => counts.tokens = counts.tokens.saturating_add(1),
-                }
+                depth = depth.max(level);
             }
             WalkEvent::Leave(_) => level = level.saturating_sub(1),
         }
     }
-    counts
+    depth
 }
 
 fn write_errors<W: Write>(out: &mut W, errors: &[SyntaxError]) -> io::Result<()> {
@@ -268,12 +252,8 @@ fn write_stats<W: Write>(
     root: &SyntaxNode,
     errors: usize,
 ) -> io::Result<()> {
-    let Counts {
-        nodes,
-        tokens,
-        depth,
-    } = count(root);
-    let bytes = text.len();
+    let Counts { nodes, tokens } = count(root);
+    let (bytes, depth) = (text.len(), depth_of(root));
     writeln!(
         out,
         "{bytes} bytes, {nodes} nodes, {tokens} tokens, {depth} levels, {errors} errors"

@@ -1,0 +1,204 @@
+//! What the tokens of Rust are, as highlighting shows them.
+ghost use Rattle.std.specs.Prelude.{◌≡◌};
+ghost use Rattle.syntax_kind.specs.declared.syntax_kind.TheConstants.SyntaxKind.{ATTR};
+ghost use Rattle.ras_node.specs.Nodes.{is_of_kind};
+ghost use Rattle.rust_report.specs.Roles.{begins_word, role_of_token, role_of_name, role_of_callee, role_of_path, role_of_use, role_of_word, in_attribute, role_of};
+
+use lossless_tree::{SyntaxKind, SyntaxNode, SyntaxToken};
+
+/// What a token is.
+#[derive(Clone, Copy, Debug, PartialEq, Eq)]
+pub enum Role {
+    /// White space, punctuation, and a name of which the tree does not say what it is.
+    Plain,
+    /// A comment, also of documentation.
+    Comment,
+    /// A keyword.
+    Keyword,
+    /// A string, a character or a byte.
+    Text,
+    /// A number.
+    Number,
+    /// A lifetime.
+    Lifetime,
+    /// The name of a function.
+    Function,
+    /// The name of a type.
+    Type,
+    /// The name of a field.
+    Field,
+    /// The name of a macro.
+    Macro,
+    /// A part of an attribute that is none of these.
+    Attribute,
+    /// Characters that are no token.
+    Error,
+}
+
+// Whether a text begins as a word does.
+fn begins_word(text: &str) -> bool
+    ensures { result ≡ begins_word text.now }
+{
+    match text.as_bytes().first() {
+        Some(byte) => byte.is_ascii_alphabetic() || *byte == b'_',
+        None => false,
+    }
+}
+
+// What a token with this kind and text is; an identifier is plain. A word is a keyword if it is no identifier and no literal.
+fn role_of_token(kind: SyntaxKind, text: &str) -> Role
+    ensures { result ≡ role_of_token kind text.now }
+{
+    match kind {
+        SyntaxKind::INT_NUMBER | SyntaxKind::FLOAT_NUMBER => Role::Number,
+        SyntaxKind::LIFETIME_IDENT => Role::Lifetime,
+        SyntaxKind::ERROR => Role::Error,
+        SyntaxKind::IDENT | SyntaxKind::WHITESPACE => Role::Plain,
+        SyntaxKind::STRING
+        | SyntaxKind::BYTE_STRING
+        | SyntaxKind::C_STRING
+        | SyntaxKind::CHAR
+        | SyntaxKind::BYTE => Role::Text,
+        SyntaxKind::COMMENT | SyntaxKind::INNER_DOC_COMMENT | SyntaxKind::OUTER_DOC_COMMENT =>
+            Role::Comment,
+        _ => {
+            if begins_word(text) {
+                Role::Keyword
+            } else {
+                Role::Plain
+            }
+        }
+    }
+}
+
+// What a node NAME names, by the item around it.
+fn role_of_name(item: SyntaxKind) -> Role
+    ensures { result ≡ role_of_name item }
+{
+    match item {
+        SyntaxKind::FN => Role::Function,
+        SyntaxKind::STRUCT
+        | SyntaxKind::ENUM
+        | SyntaxKind::UNION
+        | SyntaxKind::TRAIT
+        | SyntaxKind::TYPE_ALIAS
+        | SyntaxKind::TYPE_PARAM
+        | SyntaxKind::VARIANT => Role::Type,
+        SyntaxKind::RECORD_FIELD => Role::Field,
+        SyntaxKind::MACRO_RULES | SyntaxKind::MACRO_DEF => Role::Macro,
+        _ => Role::Plain,
+    }
+}
+
+// What a path that is an expression names, by the node around that.
+fn role_of_callee(around: Option<SyntaxNode>) -> Role
+    ensures { result ≡ role_of_callee around }
+{
+    match around {
+        Some(call) => {
+            if call.kind() == SyntaxKind::CALL_EXPR {
+                Role::Function
+            } else {
+                Role::Plain
+            }
+        }
+        None => Role::Plain,
+    }
+}
+
+// What a path names, by the node around it.
+fn role_of_path(around: Option<SyntaxNode>) -> Role
+    ensures { result ≡ role_of_path around }
+{
+    let Some(around) = around else {
+        return Role::Plain;
+    };
+    match around.kind() {
+        SyntaxKind::PATH_TYPE
+        | SyntaxKind::RECORD_EXPR
+        | SyntaxKind::RECORD_PAT
+        | SyntaxKind::TUPLE_STRUCT_PAT => Role::Type,
+        SyntaxKind::MACRO_CALL => Role::Macro,
+        SyntaxKind::PATH_EXPR => role_of_callee(around.parent()),
+        _ => Role::Plain,
+    }
+}
+
+// What a node NAME_REF refers to, by the node around it.
+fn role_of_use(around: &SyntaxNode) -> Role
+    ensures { result ≡ role_of_use around.now }
+{
+    match around.kind() {
+        SyntaxKind::METHOD_CALL_EXPR => Role::Function,
+        SyntaxKind::FIELD_EXPR | SyntaxKind::RECORD_EXPR_FIELD | SyntaxKind::RECORD_PAT_FIELD =>
+            Role::Field,
+        SyntaxKind::PATH_SEGMENT => match around.parent() {
+            Some(path) => role_of_path(path.parent()),
+            None => Role::Plain,
+        },
+        _ => Role::Plain,
+    }
+}
+
+// What an identifier is, by the node that it is in and the node around that.
+fn role_of_word(name: Option<SyntaxNode>) -> Role
+    ensures { result ≡ role_of_word name }
+{
+    let Some(name) = name else {
+        return Role::Plain;
+    };
+    let Some(around) = name.parent() else {
+        return Role::Plain;
+    };
+    match name.kind() {
+        SyntaxKind::NAME => role_of_name(around.kind()),
+        SyntaxKind::NAME_REF => role_of_use(&around),
+        _ => Role::Plain,
+    }
+}
+
+fn is_attribute(node: &SyntaxNode) -> bool
+    ensures { result ≡ is_of_kind ATTR node.now }
+{
+    node.kind() == SyntaxKind::ATTR
+}
+
+// Whether one of the five innermost nodes is an attribute: a name in the path of what an attribute says is four nodes below it.
+fn in_attribute(parent: Option<SyntaxNode>) -> bool
+    ensures { result ≡ in_attribute parent }
+{
+    let mut next = parent;
+    let mut left = 5usize;
+    while left > 0 {
+        let Some(node) = next else {
+            return false;
+        };
+        if is_attribute(&node) {
+            return true;
+        }
+        next = node.parent();
+        left -= 1;
+    }
+    false
+}
+
+/// What a token of a tree is: by its kind, and for an identifier by the nodes around it. What is plain by itself is a part of an attribute
+/// if one of the five innermost nodes around it is one.
+pub fn role_of(token: &SyntaxToken) -> Role
+    ensures { result ≡ role_of token.now }
+{
+    let role = match token.kind() {
+        SyntaxKind::IDENT => role_of_word(token.parent()),
+        kind => role_of_token(kind, token.text()),
+    };
+    match role {
+        Role::Plain => {
+            if in_attribute(token.parent()) {
+                Role::Attribute
+            } else {
+                Role::Plain
+            }
+        }
+        role => role,
+    }
+}
