@@ -1,4 +1,4 @@
-//! Pairs of parentheses that may go.
+//! Pairs of parentheses that are needless by the tests of operators and statements.
 ghost use Rattle.std.specs.Prelude.{◌≡◌, IfOk};
 ghost use Rattle.std.specs.List.{filter};
 ghost use Rattle.tree_model.specs.Cursor.{at_node, descendants_of};
@@ -11,7 +11,7 @@ use ras_prec::rules::needs_parens_in_place_of;
 use ras_prec_walks::parts::first_expr;
 use std::alloc::{AllocError, Global};
 
-/// The ranges of the `(` and of the `)` of a pair; `None` where one is missing.
+/// The ranges of the `(` and of the `)` of a pair. Returns `None` if one is missing.
 pub fn parens_of(pair: &SyntaxNode) -> Option<(TextRange, TextRange)>
     ensures { result ≡ parens_of pair.now }
 {
@@ -20,7 +20,7 @@ pub fn parens_of(pair: &SyntaxNode) -> Option<(TextRange, TextRange)>
     Some((open.text_range(), close.text_range()))
 }
 
-// What the pair holds needs no parentheses in its place.
+// Whether the contents of a pair need no parentheses in its place.
 fn inside_may_go(pair: &SyntaxNode) -> bool
     ensures { result ≡ inside_may_go pair.now }
 {
@@ -33,19 +33,19 @@ fn inside_may_go(pair: &SyntaxNode) -> bool
     }
 }
 
-/// Whether a node is a pair of parentheses, both there, round an expression that needs none in its place, as
-/// [`needs_parens_in_place_of`] answers.
+/// Whether a node is a pair of parentheses, with both parentheses, around an expression for which [`needs_parens_in_place_of`] returns
+/// false.
 ///
-/// The test is one of operators and statements. Where the pair is in something else, as in the arm of a `match`, the text has to be
-/// read again without it to be sure.
+/// That test covers operators and statements. If the pair is in something else, such as the arm of a `match`, only a parse of the text
+/// without the pair shows that it is needless.
 pub fn may_go(node: &SyntaxNode) -> bool
     ensures { result ≡ may_go node.now }
 {
     node.kind() == SyntaxKind::PAREN_EXPR && parens_of(node).is_some() && inside_may_go(node)
 }
 
-// Whether what a pair holds needs parentheses in place of the outermost of the pairs that it is directly in; false for a pair around
-// another one. It only serves guesses.
+// Whether the contents of a pair need parentheses in place of the outermost of the pairs directly around it; false for a pair around
+// another pair. It is used for guesses only.
 pub(crate) fn is_needed_outside(pair: &SyntaxNode) -> bool {
     let Some(inside) = first_expr(pair) else {
         return false;
@@ -63,7 +63,11 @@ pub(crate) fn is_needed_outside(pair: &SyntaxNode) -> bool {
     false
 }
 
-/// The pairs of a tree that may go, in preorder. Where two of them are in one another, not both may.
+/// The needless pairs of a tree by this test, in preorder. If one of them is in another, possibly only one of the two can be removed.
+///
+/// # Errors
+///
+/// `AllocError` if memory runs out.
 pub fn pairs(alloc: Global, root: &SyntaxNode) -> Result<Vec<SyntaxNode>, AllocError>
     ensures { IfOk result (λ found. found.items ≡ filter may_go (filter at_node (descendants_of root.now))) }
 {

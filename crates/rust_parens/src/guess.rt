@@ -8,7 +8,7 @@ use ras_parsing::Parse;
 use rust_report::{Difference, Trivia, differences};
 use std::alloc::{AllocError, Global};
 
-// How many differences of two trees are looked at, until a guess was wrong.
+// How many differences of two trees are used, until a guess was wrong.
 const WANTED: usize = 200;
 
 /// Which pairs of a list are guessed to stay.
@@ -18,7 +18,7 @@ pub(crate) struct Guess {
     needed: Vec<bool>,
     // One for each pair: whether a difference of two trees led to it.
     seen: Vec<bool>,
-    // How many differences are looked at after a parse.
+    // How many differences are used after a parse.
     wanted: usize,
     // How many pairs are tried at once without a plan; 0 with one.
     step: usize,
@@ -43,7 +43,7 @@ impl Guess {
         matches!(self.needed.get(at), Some(true)) || matches!(self.seen.get(at), Some(true))
     }
 
-    /// For each of the last `len` pairs whether it stays, up to the `room`-th that does.
+    /// For each of the last `len` pairs whether it is guessed to stay, up to the `room`-th that is.
     pub(crate) fn stays_of(
         &self,
         alloc: Global,
@@ -71,7 +71,7 @@ impl Guess {
         Ok(stays)
     }
 
-    /// How many differences of two trees are looked at.
+    /// How many differences of two trees are used.
     pub(crate) fn wanted(&self) -> usize {
         self.wanted
     }
@@ -86,8 +86,8 @@ impl Guess {
         self.step.max(1)
     }
 
-    /// Takes in where the trees differ without the pairs that were guessed to go, of the last pairs `rest`. The result is whether a pair
-    /// is guessed to stay that was not before.
+    /// Learns from the differences of the trees without the pairs that were guessed to be removable, of the last pairs `rest`. Returns
+    /// whether a further pair is now guessed to stay.
     pub(crate) fn learn(&mut self, rest: &[SyntaxNode], apart: &[Difference]) -> bool {
         let first = self.needed.len().saturating_sub(rest.len());
         let mut is_new = false;
@@ -107,7 +107,8 @@ impl Guess {
         is_new
     }
 
-    /// A plan for `planned` pairs was followed for the first `tried` of them; if not for all, a pair went that was guessed to stay.
+    /// Notes that a plan for `planned` pairs was followed for the first `tried`. If these are not all, a pair that was guessed to stay
+    /// could be removed.
     pub(crate) fn was_followed(&mut self, planned: usize, tried: usize) {
         if tried < planned {
             self.wanted = 1;
@@ -115,7 +116,7 @@ impl Guess {
         }
     }
 
-    /// So many pairs were tried at once, without a plan.
+    /// Notes how many pairs were tried at once, without a plan.
     pub(crate) fn was_tried(&mut self, count: usize, goes: bool) {
         self.step = if goes { count.saturating_mul(2) } else { 0 };
     }
@@ -150,7 +151,7 @@ fn count_before(pairs: &[SyntaxNode], offset: TextSize) -> usize {
     low
 }
 
-// Where an element starts, or the pair that it is directly in.
+// The start of an element, or of the pair directly around it.
 fn start_of(element: &SyntaxElement) -> TextSize {
     match element.parent() {
         Some(parent) => {
@@ -164,7 +165,7 @@ fn start_of(element: &SyntaxElement) -> TextSize {
     }
 }
 
-// The number of the pair that may cause a difference: the one around the expression that the other tree does not have there, or the
+// The number of the pair that may cause a difference: the one around the expression that the other tree lacks at this place, or the
 // first one after its start; at the end of a node, the last one that starts before.
 fn suspect(pairs: &[SyntaxNode], difference: &Difference) -> Option<usize> {
     match &difference.old {

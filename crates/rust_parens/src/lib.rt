@@ -1,4 +1,4 @@
-//! Pairs of parentheses of a tree that may go: by the tests of operators and statements, and by the parse of the text without them.
+//! Needless pairs of parentheses of a tree: by the tests of operators and statements, and by the parse of the text without them.
 #![tactic(auto)]
 
 mod find;

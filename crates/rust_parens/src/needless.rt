@@ -1,4 +1,4 @@
-//! The pairs of a text that may go together, and the text without them.
+//! The pairs of a text that can be removed together, and the text without them.
 ghost use Rattle.std.specs.Prelude.{◌≡◌, not, get_or, false, ◌≤◌, ◌<◌, ◌+◌, ◌↔◌, ◌++◌, map, length, is_some, IfOk, IfSome, OnOk, IsTrue, option_map, string_bytes};
 ghost use Rattle.rust_parens.specs.Needless.{IsMarkedOut, IsAnswer, AreTried, candidates_of, chosen, refused_of};
 ghost use Rattle.rust_parens.specs.Runs.{IsPlan, IsRun, as_tried, going, planned};
@@ -13,7 +13,7 @@ use ras_parsing::{Parse, read};
 use rust_report::{Difference, Trivia, first_difference};
 use std::alloc::{AllocError, Global};
 
-/// After so many pairs that stay no further ones are tried: each of them takes at least one parse.
+/// After this many pairs that stay, no further pairs are tried: each of them takes at least one parse.
 pub const LIMIT: usize = 200;
 
 /// A pair that was tried.
@@ -21,40 +21,40 @@ pub const LIMIT: usize = 200;
 pub struct Tried {
     /// The pair.
     pub pair: SyntaxNode,
-    /// Whether it goes.
+    /// Whether it can be removed, together with those before it that can.
     pub goes: bool,
 }
 
-/// The pairs of a text that may go, all of them together.
+/// The pairs of a text that can all be removed together.
 #[derive(Drop)]
 pub struct Needless {
     /// The pairs, in preorder.
     pub pairs: Vec<SyntaxNode>,
-    /// The text without them; `None` where there is none.
+    /// The text without them; `None` if there are no such pairs.
     pub text: Option<String>,
-    /// The pairs that were tried, in preorder: those that go, and those that stay.
+    /// All pairs that were tried, in preorder: those that can be removed, and those that stay.
     pub tried: Vec<Tried>,
     /// How many further pairs were not tried.
     pub left: usize,
 }
 
-// Pairs that were tried beside those that were chosen, in order, and the text without the chosen ones and without those of them that
-// go; no text if none of them goes.
+// Pairs that were tried beside the chosen ones, in order, and the text without the chosen pairs and without those of the tried ones that
+// can be removed; no text if none can.
 #[derive(Drop)]
 struct Run {
     tried: Vec<Tried>,
     text: Option<String>,
 }
 
-// A guess which of the first pairs of a list stay. The text without the chosen pairs and without the others is confirmed by a parse;
-// there is none if all of them stay.
+// A guess which of the first pairs of a list stay, and the text without the chosen pairs and without the others, which a parse has
+// confirmed. There is no text if all of them stay.
 #[derive(Drop)]
 struct Plan {
     stays: Vec<bool>,
     text: Option<String>,
 }
 
-// Whether a parse is the old one without what the marks leave out, with as many errors.
+// Whether a parse is the old one without what the marks leave out, with the same number of errors.
 fn is_same(old: &Parse<SyntaxNode>, marks: &[bool], new: &Parse<SyntaxNode>) -> bool
     ensures { IsTrue result ↔ IsMarkedOut old.now marks.now new.now }
 {
@@ -94,7 +94,7 @@ fn without<F: FrontEnd>(
     }
 }
 
-// The run of pairs that all go, or of one that stays.
+// A run of pairs that can all be removed, or one that stays.
 fn run_of(alloc: Global, pairs: &[SyntaxNode], text: Option<String>) -> Result<Run, AllocError>
     ensures { IfOk result (λ run. (run.tried.items ≡ map (as_tried (is_some text)) pairs.now) × (run.text ≡ text)) }
 {
@@ -103,7 +103,7 @@ fn run_of(alloc: Global, pairs: &[SyntaxNode], text: Option<String>) -> Result<R
     Ok(Run { tried, text })
 }
 
-// Tries the first pairs that are left beside those that were chosen: at most `step` of them, then by halves, down to one.
+// Tries to remove the first pairs that are left beside the chosen ones: at most `step` of them, then half of these, down to one.
 fn halved_run<F: FrontEnd>(
     alloc: Global,
     front: &F,
@@ -136,7 +136,7 @@ fn halved_run<F: FrontEnd>(
     run_of(alloc, pairs, text)
 }
 
-// The pairs that a plan lets go.
+// The pairs that a plan removes.
 fn planned(
     alloc: Global,
     stays: &[bool],
@@ -159,8 +159,8 @@ fn planned(
     Ok(going)
 }
 
-// Guesses which of the pairs that are left stay, until the text without the others parses to the tree without them. After `room` that
-// stay, the plan ends. `None` if a parse shows no further pair that may have to stay.
+// Guesses which of the pairs that are left stay, until the text without the others parses to the tree without them. The plan ends after
+// `room` pairs that stay. Returns `None` if a parse suggests no further pair that may have to stay.
 fn make_plan<F: FrontEnd>(
     alloc: Global,
     front: &F,
@@ -197,7 +197,7 @@ fn make_plan<F: FrontEnd>(
     Ok(None)
 }
 
-// Whether a plan lets a pair go.
+// Whether a plan removes a pair.
 fn goes_at(stays: &[bool], at: usize) -> bool
     requires { at < length stays.now }
     ensures { result ≡ not (get_or stays.now at false) }
@@ -205,7 +205,8 @@ fn goes_at(stays: &[bool], at: usize) -> bool
     !stays[at]
 }
 
-// Tries each pair that stays by a plan, beside those that were chosen and those before it that go, up to one that does not stay.
+// Tries to remove each pair that stays by a plan, beside the chosen ones and those before it that the plan removes, until one can be
+// removed.
 fn planned_run<F: FrontEnd>(
     alloc: Global,
     front: &F,
@@ -248,7 +249,7 @@ fn planned_run<F: FrontEnd>(
     })
 }
 
-// Tries the first pairs that are left: by a plan, and by halves where no plan is found, up to a pair that stays.
+// Tries the first pairs that are left: by a plan, or by halves if there is no plan, up to a pair that stays.
 fn next_run<F: FrontEnd>(
     alloc: Global,
     front: &F,
@@ -278,7 +279,7 @@ fn next_run<F: FrontEnd>(
     Ok(run)
 }
 
-// Adds pairs to those that were chosen, where they go.
+// Adds pairs to the chosen ones if they can be removed.
 fn add_going(chosen: &mut Vec<SyntaxNode>, run: &[SyntaxNode], goes: bool) -> Result<(), AllocError>
     ensures { OnOk result (chosen.new.items ≡ chosen.old.items ++ going goes run.now) }
 {
@@ -291,7 +292,7 @@ fn add_going(chosen: &mut Vec<SyntaxNode>, run: &[SyntaxNode], goes: bool) -> Re
     Ok(())
 }
 
-// Notes that pairs were tried, and whether they go.
+// Notes that pairs were tried, and whether they can be removed.
 fn note(tried: &mut Vec<Tried>, run: &[SyntaxNode], goes: bool) -> Result<(), AllocError>
     ensures { OnOk result (tried.new.items ≡ tried.old.items ++ map (as_tried goes) run.now) }
 {
@@ -304,7 +305,7 @@ fn note(tried: &mut Vec<Tried>, run: &[SyntaxNode], goes: bool) -> Result<(), Al
     Ok(())
 }
 
-// Adds those pairs that go to those that were chosen.
+// Adds the pairs that can be removed to the chosen ones.
 fn add_chosen(found: &mut Vec<SyntaxNode>, tried: &[Tried]) -> Result<(), AllocError>
     ensures { OnOk result (found.new.items ≡ found.old.items ++ chosen tried.now) }
 {
@@ -343,14 +344,14 @@ fn staying(tried: &[Tried]) -> usize
     count
 }
 
-/// The pairs of parentheses of a text that may go together: those that [`pairs`](crate::pairs) names, one after the other, where the
-/// text without it, and without those before it that go, parses to the same tree without them, white space and comments aside, with
-/// as many errors.
+/// The pairs of parentheses of a text that can be removed together. The pairs that [`pairs`](crate::pairs) returns are decided one after
+/// the other: a pair can be removed if the text without it, and without those before it that can, parses to the same tree without these
+/// pairs, apart from white space and comments, and with the same number of errors.
 ///
 /// All pairs are removed at once and the text is parsed. If that fails, the places where the trees differ suggest which pairs stay; one
 /// further parse confirms that the others go together, and one for each pair that stays confirms that it does. Without a suggestion,
 /// runs of pairs are tried and halved. So it usually takes a few parses of the text and one for each pair that stays, in time linear in
-/// the text for each of them. Once [`LIMIT`] pairs were tried that stay, the others are not tried.
+/// the text for each of them. After [`LIMIT`] pairs that stay, the others are not tried.
 pub fn find_needless<F: FrontEnd>(
     alloc: Global,
     front: &F,

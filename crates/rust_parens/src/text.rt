@@ -32,7 +32,7 @@ fn mark(marks: &mut [bool], pairs: &[SyntaxNode])
     }
 }
 
-/// The marks of the parentheses of pairs, those of `chosen` and of `more`, in a text of so many bytes.
+/// Marks the parentheses of the pairs of `chosen` and `more`, in a text of `len` bytes.
 #[tactic(auto, using(crate::proofs::MarkLemmas::both_marked))]
 pub(crate) fn marks_of(
     alloc: Global,
@@ -49,7 +49,7 @@ pub(crate) fn marks_of(
     Ok(marks)
 }
 
-// A byte of a word: a letter, a digit, `_`, and each one beyond ASCII.
+// Whether a byte belongs to a word: a letter, a digit, `_`, and each byte that is not ASCII.
 fn is_word(byte: u8) -> bool
     ensures { result ≡ is_word byte }
 {
@@ -58,14 +58,14 @@ fn is_word(byte: u8) -> bool
             || ((97 <= byte && byte <= 122) || (byte == b'_' || 128 <= byte)))
 }
 
-// A byte that a word takes in, as `"` after `b`.
+// Whether a byte continues a word, such as `"` after `b`.
 fn is_taken(byte: u8) -> bool
     ensures { result ≡ is_taken byte }
 {
     is_word(byte) || (byte == b'"' || (byte == b'\'' || byte == b'#'))
 }
 
-// Two bytes that are one sign, or begin or end a comment.
+// Whether two bytes are one sign, or begin or end a comment.
 fn is_sign(a: u8, b: u8) -> bool
     ensures { result ≡ is_sign a b }
 {
@@ -79,7 +79,7 @@ fn is_sign(a: u8, b: u8) -> bool
                     || ((a == b'/' && b == b'*') || (a == b'*' && b == b'/')))))
 }
 
-// A byte that is one sign with `=` after.
+// Whether a byte is one sign with a `=` behind it.
 fn takes_equals(a: u8) -> bool
     ensures { result ≡ takes_equals a }
 {
@@ -89,7 +89,7 @@ fn takes_equals(a: u8) -> bool
     )
 }
 
-// What ends with one byte and what begins with the other would grow together.
+// Whether a token that ends with one byte and a token that begins with the other would be joined.
 fn grow(a: u8, b: u8) -> bool
     ensures { result ≡ grow a b }
 {
@@ -108,14 +108,14 @@ fn grow_at(a: Option<u8>, b: Option<u8>) -> bool
     }
 }
 
-// A blank where it is asked for.
+// A blank if `apart` is true.
 fn blank(apart: bool) -> &'static str
     ensures { result.now ≡ blank apart }
 {
     if apart { " " } else { "" }
 }
 
-// Puts a token after a text; where something was left out between, with a blank if they would grow together.
+// Appends a token to a text; if something was left out between them, with a blank if they would be joined.
 #[tactic(auto, using(crate::proofs::MarkLemmas::put_both))]
 fn put(out: &mut String, gap: bool, token: &str) -> Result<(), AllocError>
     ensures { OnOk result (string_bytes out.new ≡ put gap (string_bytes out.old) token.now) }
@@ -126,7 +126,7 @@ fn put(out: &mut String, gap: bool, token: &str) -> Result<(), AllocError>
     out.push_str(token)
 }
 
-// Puts a node or token after a text: a token that the marks leave out leaves a gap. The answer is whether there is a gap after it.
+// Appends a token to a text, unless the marks leave it out; a node adds nothing. Returns whether something was left out before what follows.
 fn push_element(
     out: &mut String,
     gap: bool,
@@ -145,10 +145,13 @@ fn push_element(
     Ok(false)
 }
 
-/// The text of a tree without the parentheses that marks leave out, with a blank in the place of some where the tokens beside them
-/// would grow together.
+/// The text of a tree without the parentheses that marks leave out, with a blank in place of those whose neighbours would be joined.
 ///
-/// It takes time linear in the tree.
+/// Takes time linear in the tree.
+///
+/// # Errors
+///
+/// `AllocError` if memory runs out.
 #[tactic(auto, using(crate::proofs::MarkLemmas::stepped, crate::proofs::MarkLemmas::ended))]
 pub fn text_without(alloc: Global, root: &SyntaxNode, marks: &[bool]) -> Result<String, AllocError>
     ensures { IfOk result (λ s. string_bytes s ≡ text_without marks.now root.now) }

@@ -1,5 +1,5 @@
 -- The innermost nodes around a token.
-use Rattle.std.proofs.Common.{◌≡◌, ℕ, zero, suc, ◌-◌, ◌<◌, ◌≤◌, Bool, true, false, ◌||◌, List, [], ◌∷◌, take, Option, Some, None, refl, ap, sym, ◌∙◌, arith}
+use Rattle.std.proofs.Common.{◌≡◌, ℕ, zero, suc, ◌-◌, ◌<◌, ◌≤◌, Bool, true, false, ◌||◌, take, Option, Some, None, refl, ap, sym, ◌∙◌, arith}
 use Rattle.std.specs.List.{list_any}
 use Rattle.tree_model.specs.Cursor.{Cursor, parent_of, ancestors_from}
 use Rattle.tree_model.proofs.AncestorLemmas.{ancestors_from-step}

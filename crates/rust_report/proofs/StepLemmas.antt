@@ -1,5 +1,5 @@
 -- Two lists of events that begin alike.
-use Rattle.std.proofs.Common.{◌≡◌, ◌↔◌, ℕ, nat_eq, Bool, List, [], ◌∷◌, ◌++◌, map, Option, Some, None, IsTrue, eq-eqb, refl, sym, ap, subst, ◌∙◌, ◌+◌, ◌-◌, ◌≤◌, ◌<◌, suc, length, drop, arith}
+use Rattle.std.proofs.Common.{◌≡◌, ◌↔◌, ℕ, nat_eq, Bool, List, [], ◌∷◌, ◌++◌, map, Option, Some, None, IsTrue, eq-eqb, refl, sym, ap, subst, ◌∙◌, ◌+◌, ◌-◌, ◌<◌, suc, length, drop, arith}
 use Rattle.syntax_kind.specs.declared.syntax_kind.SyntaxKind.{SyntaxKind}
 use Rattle.syntax_kind.specs.Kinds.{kind_raw, is_same_kind}
 use Rattle.syntax_kind.specs.KindLaws.{is_same_kind-equal}

@@ -17,7 +17,13 @@ fn first_end(text: &str) -> usize
     }
 }
 
-/// The lines of a text, each with the line feed at its end, which the last line may lack. Their concatenation is the text.
+/// The lines of a text, each with the line feed at its end; the last line may have none. Their concatenation is the text.
+///
+/// Takes time linear in the text.
+///
+/// # Errors
+///
+/// `AllocError` if memory runs out.
 pub fn lines_of(alloc: Global, text: &str) -> Result<Vec<&str>, AllocError>
     ensures { IfOk result (λ lines. map (λ line. line.now) lines.items ≡ lines_of text.now) }
 {
@@ -45,7 +51,7 @@ pub fn same_front(old: &[&str], new: &[&str]) -> usize
     count
 }
 
-/// How many lines at the start of both lists differ, each from the line at its place in the other list.
+/// How many lines at the start of both lists differ from the line at the same place of the other list.
 pub fn other_front(old: &[&str], new: &[&str]) -> usize
     ensures { result ≡ common_prefix_len is_other old.now new.now }
 {

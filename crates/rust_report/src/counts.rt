@@ -13,9 +13,9 @@ pub struct Counts {
     pub tokens: u64,
 }
 
-/// How many nodes and tokens are in the tree at a node, which counts too.
+/// Counts the nodes and tokens of a tree, the root included. A number past 2^64 - 1 is returned as 2^64 - 1.
 ///
-/// Takes time linear in the tree. Each number stops at 2^64 - 1.
+/// Takes time linear in the tree.
 pub fn count(root: &SyntaxNode) -> Counts
     ensures { result ≡ counts_of root.now }
 {

@@ -1,4 +1,4 @@
-//! Texts in forms where some characters have a meaning of their own: pages of HTML, and commands of a workflow on GitHub.
+//! Escapes of texts in pages of HTML, and in commands of a workflow on GitHub.
 ghost use Rattle.std.specs.Prelude.{◌≡◌};
 ghost use Rattle.std.specs.List.{flat_map};
 ghost use Rattle.std.specs.Str.{chars};
@@ -8,8 +8,8 @@ ghost use Rattle.rust_report.specs.Escapes.{in_html, in_workflow, picture};
 use std::fmt;
 use std::fmt::{Formatter, Write};
 
-/// A text that prints so that a browser shows it: `&`, `<`, `>`, `"` and `'` by their names, and control characters other than tabs and
-/// line feeds as their pictures, such as `␍`.
+/// Prints a text so that a browser shows it: `&`, `<`, `>`, `"` and `'` as character references, and control characters other than tabs
+/// and line feeds as their pictures, such as `␍`.
 #[derive(Clone, Copy, Debug)]
 pub struct InHtml<'a>(pub &'a str);
 
@@ -35,7 +35,7 @@ fn write_in_html<W: Write>(f: &mut Formatter<W>, text: &str) -> fmt::Result
     Ok(())
 }
 
-// The picture of a control character, as U+240D of a carriage return; other characters stay.
+// The picture of a control character, such as U+240D of a carriage return. Other characters are returned as they are.
 fn picture(c: char) -> char
     ensures { result ≡ picture c }
 {
@@ -66,7 +66,7 @@ fn write_char_in_html<W: Write>(f: &mut Formatter<W>, c: char) -> fmt::Result
     }
 }
 
-/// A text that prints as a value in a command of a workflow: the characters that end a value are written as numbers, such as `%0A`.
+/// Prints a text as a value in a workflow command: `%`, `:`, `,`, line feeds and carriage returns as `%` and their codes, such as `%0A`.
 #[derive(Clone, Copy, Debug)]
 pub struct InWorkflow<'a>(pub &'a str);
 

@@ -15,9 +15,9 @@ use std::alloc::{AllocError, Global};
 pub struct Row {
     /// The item.
     pub item: SyntaxNode,
-    /// The node `NAME` of the item; `None` for an `impl`, a `use` and what else has no name of its own.
+    /// The node `NAME` of the item; `None` for an `impl`, a `use` and every other item without a name of its own.
     pub name: Option<SyntaxNode>,
-    /// How many items are around it, as far as a `usize` counts.
+    /// How many items are around it, at most `usize::MAX`.
     pub depth: usize,
 }
 
@@ -56,7 +56,7 @@ pub fn is_listed(kind: SyntaxKind) -> bool
     )
 }
 
-/// The kinds of the children that can tell an item without a name from others.
+/// The kinds of the child nodes that can label an item without a name.
 enum Labels {}
 
 impl KindSet for Labels {
@@ -73,7 +73,8 @@ impl KindSet for Labels {
     }
 }
 
-/// The words that an item of this kind begins with, after its attributes and modifiers, as `extern crate`. `kind` is one that is listed.
+/// The words that an item of this kind begins with, after its attributes and modifiers, such as `extern crate`. `kind` is one for which
+/// [`is_listed`] returns true.
 pub fn word_of(kind: SyntaxKind) -> &'static str
     ensures { result.now ≡ word_of kind }
 {
@@ -96,8 +97,8 @@ pub fn word_of(kind: SyntaxKind) -> &'static str
     }
 }
 
-/// The node that tells an item from others: its name, or if it has none the first of its child nodes that is no attribute, documentation,
-/// visibility or list of parameters: the path of a `use`, the type of an `impl`.
+/// The node that labels an item: its name, or if it has none its first child node that is no attribute, documentation, visibility or list
+/// of generic parameters, such as the path of a `use` or the type of an `impl`. Returns `None` if there is no such node.
 pub fn label_of(row: &Row) -> Option<SyntaxNode>
     ensures { result ≡ label_of row.now }
 {
@@ -113,7 +114,7 @@ fn name_of(item: &SyntaxNode) -> Option<SyntaxNode>
     ras_node::first_node::<Names>(item.children_with_tokens())
 }
 
-// It counts no further than a `usize` does.
+// How many items are around an item, at most `usize::MAX`.
 fn depth_of(item: &SyntaxNode) -> usize
     ensures { result ≡ depth_of item.now }
 {
@@ -136,9 +137,13 @@ fn row_of(item: SyntaxNode) -> Row
     Row { item, name, depth }
 }
 
-/// The items of a tree in the order of the text, each before those that it holds.
+/// The items of a tree in the order of the text, each before the items in it.
 ///
-/// It takes time linear in the tree, and for each item linear in its children and its depth in the tree.
+/// Takes time linear in the tree, and for each item linear in its children and its depth in the tree.
+///
+/// # Errors
+///
+/// `AllocError` if memory runs out.
 pub fn outline(alloc: Global, root: &SyntaxNode) -> Result<Vec<Row>, AllocError>
     ensures { IfOk result (λ rows. rows.items ≡ map row_of (filter (has_kind_in is_listed) (filter at_node (descendants_of root.now)))) }
 {

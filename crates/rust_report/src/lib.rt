@@ -1,4 +1,5 @@
-//! What the program on files of Rust tells of a text and its tree: places, outlines, what fits a pattern, and differences.
+//! Reports on a text and its tree, as the program on files of Rust prints them: lines and places, outlines, matches of patterns, roles of
+//! tokens, and differences.
 #![tactic(auto)]
 
 mod asked;

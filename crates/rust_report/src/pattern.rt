@@ -1,4 +1,4 @@
-//! Patterns of kinds, and what they find in a tree.
+//! Patterns of kinds, and their matches in a tree.
 ghost use Rattle.std.specs.Prelude.{◌≡◌, IfOk, map};
 ghost use Rattle.std.specs.List.{filter};
 ghost use Rattle.tree_model.specs.Cursor.{descendants_of};
@@ -9,21 +9,21 @@ ghost use Rattle.rust_report.specs.Climbs.{IsClimb, one_fits};
 use lossless_tree::{SyntaxElement, SyntaxKind, SyntaxNode};
 use std::alloc::{AllocError, Global};
 
-/// How what a step of a pattern stands for is related to what is before it in the pattern.
+/// How a match of a step is related to the match of the step before it.
 #[derive(Clone, Copy, Debug, PartialEq, Eq)]
 pub enum Link {
-    /// It is a child of it: `>`.
+    /// It is a child of that: `>`.
     Child,
-    /// It is below it, at any depth: `//`.
+    /// It is a descendant of that, at any depth: `//`.
     Within,
 }
 
 /// A step of a pattern.
 #[derive(Clone, Copy, Debug)]
 pub struct Step {
-    /// How it is related to the step before it; of no meaning in the first one.
+    /// How it is related to the step before it; not used in the first step.
     pub link: Link,
-    /// The kind; `None` for any: `*`.
+    /// The kind; `None` for any kind, which is written `*`.
     pub kind: Option<SyntaxKind>,
 }
 
@@ -36,18 +36,18 @@ fn allows(step: Step, kind: SyntaxKind) -> bool
     }
 }
 
-// What the steps of a pattern up to the first `//` say of a node or token.
+// The result of comparing a node or token with the steps of a pattern up to the first `//`.
 #[derive(Drop)]
 enum Climb<'a> {
-    // All steps fit, and none is left.
+    // All steps match, and none is left.
     Whole,
-    // One does not fit.
+    // A step does not match.
     Not,
-    // They fit, and these steps are left for this node and those above it.
+    // They match, and these steps are left for this node and its ancestors.
     Part(&'a [Step], Option<SyntaxNode>),
 }
 
-// Compares a node or token and the nodes above it with the steps up to the first `//`.
+// Compares a node or token and its ancestors with the steps up to the first `//`.
 fn compare<'a>(steps: &'a [Step], kind: SyntaxKind, above: Option<SyntaxNode>) -> Climb<'a>
     ensures { IsClimb steps.now kind above result }
 {
@@ -76,8 +76,8 @@ fn compare<'a>(steps: &'a [Step], kind: SyntaxKind, above: Option<SyntaxNode>) -
     Climb::Whole
 }
 
-// Whether a node fits the steps, or one above it does. Where the steps up to a `//` fit a node, they need not be tried at those above
-// it: what the steps after the `//` find above those, they find above this one too.
+// Whether a node or one of its ancestors matches the steps. If the steps up to a `//` match a node, they need not be tried at its
+// ancestors: a match of the steps after the `//` above an ancestor is above this node too.
 fn one_fits(steps: &[Step], first: Option<SyntaxNode>) -> bool
     ensures { result ≡ one_fits steps.now first }
 {
@@ -96,11 +96,10 @@ fn one_fits(steps: &[Step], first: Option<SyntaxNode>) -> bool
     false
 }
 
-/// Whether a node or token of a kind, below a parent if there is one, fits the steps of a pattern, the last one first.
+/// Whether a node or token of a kind with a parent, if it has one, matches the steps of a pattern, which are given last step first.
 ///
-/// Takes constant time for each step after `>`. For a step after `//` it looks at each node above at most once, or, where `n` steps after
-/// `>` follow before the next `//`, at most `n + 1` times. So the time is at most the depth times the number of steps, however many `//`
-/// there are.
+/// Takes constant time for each step after `>`. For a step after `//` it visits each ancestor at most once, or at most `n + 1` times if `n`
+/// steps after `>` follow before the next `//`. So the time is at most the depth times the number of steps, however many `//` there are.
 pub fn fits(steps: &[Step], kind: SyntaxKind, above: Option<SyntaxNode>) -> bool
     ensures { result ≡ fits steps.now kind above }
 {
@@ -111,9 +110,13 @@ pub fn fits(steps: &[Step], kind: SyntaxKind, above: Option<SyntaxNode>) -> bool
     }
 }
 
-/// The nodes and tokens of a tree that fit a pattern, in preorder.
+/// The nodes and tokens of a tree that match a pattern, in preorder. The steps are given last step first.
 ///
 /// Takes, for each node and token, the time of [`fits`]: constant without `//`, else at most its depth times the number of steps.
+///
+/// # Errors
+///
+/// `AllocError` if memory runs out.
 pub fn query(
     alloc: Global,
     root: &SyntaxNode,

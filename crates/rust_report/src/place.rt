@@ -1,4 +1,4 @@
-//! Places of a text as people count them.
+//! Places of a text by line and column, counted from 1.
 ghost use Rattle.std.specs.Prelude.{ℕ, MatchOption, IfSome, IsSome};
 ghost use Rattle.rust_report.specs.Spots.{IsSpot, NoSpot, spot_of};
 
@@ -11,7 +11,7 @@ use text_size::TextSize;
 pub struct Spot {
     /// The number of the line.
     pub line: u64,
-    /// How many characters of the line end at or before the place, and one more.
+    /// One more than the number of characters of the line before the place.
     pub column: u64,
 }
 
@@ -21,7 +21,7 @@ impl fmt::Display for Spot {
     }
 }
 
-/// The line and the column of an offset; `None` past the end of the text and inside a character.
+/// The line and the column of an offset. Returns `None` if the offset is past the end of the text or inside a character.
 ///
 /// Takes time linear in the column, and logarithmic in the number of lines.
 pub fn spot_at(lines: &LineIndex<'_>, offset: TextSize) -> Option<Spot>
@@ -35,7 +35,7 @@ pub fn spot_at(lines: &LineIndex<'_>, offset: TextSize) -> Option<Spot>
     })
 }
 
-/// An offset with this line and column, both counted from 0, the column in characters; `None` where the text has no such place.
+/// The offset with this line and column, both counted from 0, the column in characters. Returns `None` if the text has no such place.
 ///
 /// Takes time linear in the column.
 pub fn offset_of(lines: &LineIndex<'_>, at: WideLineCol) -> Option<TextSize>

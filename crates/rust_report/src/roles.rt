@@ -1,4 +1,4 @@
-//! What the tokens of Rust are, as highlighting shows them.
+//! Roles of the tokens of Rust, for highlighting.
 ghost use Rattle.std.specs.Prelude.{◌≡◌};
 ghost use Rattle.syntax_kind.specs.declared.syntax_kind.TheConstants.SyntaxKind.{ATTR};
 ghost use Rattle.ras_node.specs.Nodes.{is_of_kind};
@@ -6,16 +6,16 @@ ghost use Rattle.rust_report.specs.Roles.{begins_word, role_of_token, role_of_na
 
 use lossless_tree::{SyntaxKind, SyntaxNode, SyntaxToken};
 
-/// What a token is.
+/// The role of a token.
 #[derive(Clone, Copy, Debug, PartialEq, Eq)]
 pub enum Role {
-    /// White space, punctuation, and a name of which the tree does not say what it is.
+    /// White space, punctuation, and a name that is none of the others.
     Plain,
-    /// A comment, also of documentation.
+    /// A comment or a documentation comment.
     Comment,
     /// A keyword.
     Keyword,
-    /// A string, a character or a byte.
+    /// A string, character or byte literal.
     Text,
     /// A number.
     Number,
@@ -29,13 +29,13 @@ pub enum Role {
     Field,
     /// The name of a macro.
     Macro,
-    /// A part of an attribute that is none of these.
+    /// A token in an attribute that is otherwise plain.
     Attribute,
-    /// Characters that are no token.
+    /// Characters that form no token.
     Error,
 }
 
-// Whether a text begins as a word does.
+// Whether a text begins with an ASCII letter or `_`.
 fn begins_word(text: &str) -> bool
     ensures { result ≡ begins_word text.now }
 {
@@ -45,7 +45,7 @@ fn begins_word(text: &str) -> bool
     }
 }
 
-// What a token with this kind and text is; an identifier is plain. A word is a keyword if it is no identifier and no literal.
+// The role of a token by its kind and text; an identifier is plain. A word is a keyword if it is no identifier and no literal.
 fn role_of_token(kind: SyntaxKind, text: &str) -> Role
     ensures { result ≡ role_of_token kind text.now }
 {
@@ -71,7 +71,7 @@ fn role_of_token(kind: SyntaxKind, text: &str) -> Role
     }
 }
 
-// What a node NAME names, by the item around it.
+// The role of a NAME, by the kind of the item around it.
 fn role_of_name(item: SyntaxKind) -> Role
     ensures { result ≡ role_of_name item }
 {
@@ -90,7 +90,7 @@ fn role_of_name(item: SyntaxKind) -> Role
     }
 }
 
-// What a path that is an expression names, by the node around that.
+// The role of a path that is an expression, by the node around the expression.
 fn role_of_callee(around: Option<SyntaxNode>) -> Role
     ensures { result ≡ role_of_callee around }
 {
@@ -106,7 +106,7 @@ fn role_of_callee(around: Option<SyntaxNode>) -> Role
     }
 }
 
-// What a path names, by the node around it.
+// The role of a path, by the node around it.
 fn role_of_path(around: Option<SyntaxNode>) -> Role
     ensures { result ≡ role_of_path around }
 {
@@ -124,7 +124,7 @@ fn role_of_path(around: Option<SyntaxNode>) -> Role
     }
 }
 
-// What a node NAME_REF refers to, by the node around it.
+// The role of a NAME_REF, by the node around it.
 fn role_of_use(around: &SyntaxNode) -> Role
     ensures { result ≡ role_of_use around.now }
 {
@@ -140,7 +140,7 @@ fn role_of_use(around: &SyntaxNode) -> Role
     }
 }
 
-// What an identifier is, by the node that it is in and the node around that.
+// The role of an identifier, by the node that it is in and the node around that.
 fn role_of_word(name: Option<SyntaxNode>) -> Role
     ensures { result ≡ role_of_word name }
 {
@@ -163,7 +163,7 @@ fn is_attribute(node: &SyntaxNode) -> bool
     node.kind() == SyntaxKind::ATTR
 }
 
-// Whether one of the five innermost nodes is an attribute: a name in the path of what an attribute says is four nodes below it.
+// Whether one of five nodes, this one and its ancestors, is an attribute. A name in the path of an attribute is four nodes below it.
 fn in_attribute(parent: Option<SyntaxNode>) -> bool
     ensures { result ≡ in_attribute parent }
 {
@@ -182,8 +182,8 @@ fn in_attribute(parent: Option<SyntaxNode>) -> bool
     false
 }
 
-/// What a token of a tree is: by its kind, and for an identifier by the nodes around it. What is plain by itself is a part of an attribute
-/// if one of the five innermost nodes around it is one.
+/// The role of a token of a tree: by its kind, and for an identifier by the nodes around it. A token that is plain by this rule has the
+/// role `Attribute` if one of the five innermost nodes around it is an attribute.
 pub fn role_of(token: &SyntaxToken) -> Role
     ensures { result ≡ role_of token.now }
 {

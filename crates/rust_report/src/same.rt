@@ -1,4 +1,4 @@
-//! Where two trees differ, and whether one is another without some pairs of parentheses.
+//! Where two trees differ, also with some pairs of parentheses left out of the first.
 ghost use Rattle.std.specs.Prelude.{◌≡◌, ◌↔◌, IsTrue, IsNone, IfSome, IfOk, OnOk, [], map};
 ghost use Rattle.tree_model.specs.Cursor.{walk_of};
 ghost use Rattle.rust_report.specs.Steps.{is_marked, is_left_out, counts_element, counts, shown, step, steps_of, counted, IsNext, IsFirstDifference};
@@ -9,25 +9,25 @@ use lossless_tree::{
 };
 use std::alloc::{AllocError, Global};
 
-/// Whether white space and comments count.
+/// Whether white space and comments are compared.
 #[derive(Clone, Copy, Debug, PartialEq, Eq)]
 pub enum Trivia {
-    /// They do.
+    /// They are compared.
     Kept,
-    /// They are passed over.
+    /// They are skipped.
     Aside,
 }
 
-/// The first steps at which the walks of two trees differ; `None` where the walk of a tree has ended.
+/// The first events at which the walks of two trees differ; `None` if the walk of a tree has ended.
 #[derive(Drop)]
 pub struct Difference {
-    /// That of the first tree.
+    /// The event of the first tree.
     pub old: Option<WalkEvent<SyntaxElement>>,
-    /// That of the second tree.
+    /// The event of the second tree.
     pub new: Option<WalkEvent<SyntaxElement>>,
 }
 
-// The mark of an offset; none where there are fewer marks.
+// The mark of an offset; false if there are fewer marks.
 fn is_marked(marks: &[bool], offset: TextSize) -> bool
     ensures { result ≡ is_marked marks.now offset }
 {
@@ -37,8 +37,8 @@ fn is_marked(marks: &[bool], offset: TextSize) -> bool
     }
 }
 
-/// Whether a node or token is left out by marks, one for each byte of the text: a node `PAREN_EXPR` that starts at a marked byte, or
-/// a parenthesis that does.
+/// Whether marks, one for each byte of the text, leave out a node or token: a node `PAREN_EXPR` or a parenthesis that starts at a marked
+/// byte.
 pub fn is_left_out(marks: &[bool], element: &SyntaxElement) -> bool
     ensures { result ≡ is_left_out marks.now element.now }
 {
@@ -73,7 +73,7 @@ fn counts(trivia: Trivia, marks: &[bool], event: &WalkEvent<SyntaxElement>) -> b
     }
 }
 
-// The next event of a walk that counts.
+// The next event of a walk that is compared.
 fn next_counted(
     walk: &mut PreorderWithTokens,
     trivia: Trivia,
@@ -95,7 +95,7 @@ fn is_same_text(a: &str, b: &str) -> bool
     a == b
 }
 
-// Nodes of one kind, or tokens of one kind and one text.
+// Whether both are nodes of one kind, or tokens of one kind with one text.
 fn is_same_element(a: &SyntaxElement, b: &SyntaxElement) -> bool
     ensures { IsTrue result ↔ (shown a.now ≡ shown b.now) }
 {
@@ -118,8 +118,8 @@ fn is_same_step(a: &WalkEvent<SyntaxElement>, b: &WalkEvent<SyntaxElement>) -> b
     }
 }
 
-// The first difference of what is left of two walks, of which the first is read without what the marks leave out. The walks are then
-// after the events that differ.
+// The first difference in the rest of two walks, the first of them without what the marks leave out. Afterwards the walks are behind the
+// events that differ.
 fn next_difference(
     olds: &mut PreorderWithTokens,
     marks: &[bool],
@@ -153,11 +153,11 @@ fn next_difference(
     }
 }
 
-/// The first place where two trees differ, read as walks that enter and leave each node and token; `None` where they are the same, by
-/// kinds and by the texts of tokens. The first tree is read without what the marks leave out, as [`is_left_out`] says; with no
-/// marks, as a whole.
+/// The first place where two trees differ, as walks that enter and leave each node and token. Returns `None` if the trees are the same by
+/// kinds and by the texts of tokens. The nodes and tokens of the first tree for which [`is_left_out`] returns true are skipped; without
+/// marks none is.
 ///
-/// It takes time linear in the two trees up to that place, and no memory.
+/// Takes time linear in the two trees up to that place, and no memory.
 pub fn first_difference(
     old: &SyntaxNode,
     marks: &[bool],
@@ -172,7 +172,7 @@ pub fn first_difference(
     next_difference(&mut olds, marks, &mut news, trivia)
 }
 
-// How many ends are passed after a difference in the walk of the first of two events.
+// How many ends are skipped after a difference, in the walk of the first of two events.
 fn levels(own: &Option<WalkEvent<SyntaxElement>>, other: &Option<WalkEvent<SyntaxElement>>) -> usize
     ensures { result ≡ levels own.now other.now }
 {
@@ -187,7 +187,7 @@ fn levels(own: &Option<WalkEvent<SyntaxElement>>, other: &Option<WalkEvent<Synta
     }
 }
 
-// Goes on past the ends of so many nodes and tokens that were entered. No tree in memory has 2^64 levels, so it does not fail.
+// Skips the ends of this many nodes and tokens that were entered. No tree in memory has 2^64 levels, so it does not fail.
 fn skip(
     walk: &mut PreorderWithTokens,
     marks: &[bool],
@@ -210,12 +210,16 @@ fn skip(
     Ok(())
 }
 
-/// The first places where two trees differ, at most `limit`, in order; all of them where there are fewer. As [`first_difference`] for
-/// the first. The walks go on after it: where both enter a node or token there, after both; where one tree has further children and
-/// the other has none, after their parents. So children are compared by their places: where one was put in, those after it are
-/// compared with those of the other tree one place later.
+/// The first places where two trees differ, at most `limit`, in order; all of them if there are fewer. The first is that of
+/// [`first_difference`]. After a difference the walks continue: after both nodes or tokens if both walks enter one there; after the parents
+/// if one tree has further children and the other has none. So children are compared by their places: after an inserted child, each
+/// later one is compared with the child of the other tree one place before.
 ///
-/// It takes time linear in the two trees.
+/// Takes time linear in the two trees.
+///
+/// # Errors
+///
+/// `AllocError` if memory runs out.
 pub fn differences(
     alloc: Global,
     old: &SyntaxNode,

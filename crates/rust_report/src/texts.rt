@@ -7,7 +7,7 @@ use crate::place::Spot;
 use line_index::LineIndex;
 use text_size::TextSize;
 
-/// The first line of a text, without the line feed at its end and a carriage return before that. A text without a line feed is one line.
+/// The first line of a text, without its line feed and one carriage return before that. Returns all of a text without a line feed.
 pub fn first_line(text: &str) -> &str
     ensures { result.now ≡ first_line text.now }
 {
@@ -47,8 +47,8 @@ fn shown_line(line: &str) -> &str
     &line[..end]
 }
 
-/// The line that an offset of a text is in, without the line feed and carriage returns at its end; no text if the offset is past the end
-/// of the text. `lines` is the index of this text.
+/// The line of a text that an offset is in, without the line feed and carriage returns at its end. Returns an empty text if the offset is
+/// past the end. `lines` is the index of `text`.
 ///
 /// Takes time logarithmic in the number of lines.
 pub fn line_at<'a>(text: &'a str, lines: &LineIndex<'_>, offset: TextSize) -> &'a str
@@ -66,7 +66,7 @@ pub fn line_at<'a>(text: &'a str, lines: &LineIndex<'_>, offset: TextSize) -> &'
     }
 }
 
-// The column where a range ends in the line that it starts in: its own end, or the end of the line.
+// The column where a range ends in the line that it starts in: the column of its end, or the one behind the line.
 fn end_column(line: &str, from: Spot, to: Spot) -> u64
     ensures { result ≡ end_column line.now from to }
 {
@@ -77,7 +77,8 @@ fn end_column(line: &str, from: Spot, to: Spot) -> u64
     }
 }
 
-/// How many columns a range covers in the line that it starts in, at least one. `line` is that line, `from` and `to` are the range's ends.
+/// How many columns a range covers in the line where it starts, at least one. `line` is that line; `from` and `to` are the start and the
+/// end of the range.
 pub fn width(line: &str, from: Spot, to: Spot) -> u64
     ensures { result ≡ width line.now from to }
 {

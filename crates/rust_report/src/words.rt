@@ -12,13 +12,13 @@ use lossless_tree::SyntaxKind;
 use rust_kinds::from_name;
 use std::alloc::{AllocError, AllocFailed, Global};
 
-/// Why a text is no pattern.
+/// Why a text is not a pattern.
 #[derive(Debug, Drop, thiserror::Error)]
 pub enum PatternError {
-    /// Where a kind should be there is none: at the start, at the end, or between two signs.
+    /// A kind is missing at the start, at the end, or between two signs.
     #[error("a kind is missing")]
     NoKind,
-    /// A word is the name of no kind.
+    /// No kind has this name.
     #[error("no kind is named `{0}`")]
     UnknownKind(String),
     /// Out of memory.
@@ -48,7 +48,7 @@ impl<T: Drop> From<AllocFailed<T>> for PatternError {
     }
 }
 
-/// The kind with this name, also one of the table of `rust_kinds`; `None` where there is none.
+/// The kind with this name, also one of the table of `rust_kinds`. Returns `None` if no kind has it.
 pub fn kind_named(name: &str) -> Option<SyntaxKind>
     ensures exact { (k : SyntaxKind) → IsKind k → (result ≡ Some k) ↔ IsNamed k name.now }
     ensures kind { IfSome result IsKind }
@@ -56,7 +56,7 @@ pub fn kind_named(name: &str) -> Option<SyntaxKind>
     from_name(name)
 }
 
-// What a word of a pattern means: a kind, or any.
+// The kind that a word of a pattern names; `None` for any kind.
 fn kind_of_word(alloc: Global, word: &str) -> Result<Option<SyntaxKind>, PatternError>
     ensures { MatchResult result (Means word.now) (Fails word.now) }
 {
@@ -83,7 +83,7 @@ fn width(link: Link) -> usize
     }
 }
 
-// The sign that a byte begins, with those after it.
+// The sign that starts with a byte and the bytes behind it.
 fn sign_at(first: u8, behind: &[u8]) -> Option<Link>
     ensures { result ≡ sign_at first behind.now }
 {
@@ -105,7 +105,7 @@ fn is_slash(text: &[u8]) -> bool
     }
 }
 
-// Where the first word of a text ends, and the link that the sign there says; `None` where the text is one word.
+// Where the first word of a text ends, and the link of the sign there. Returns `None` if the text is one word.
 fn first_sign(text: &[u8]) -> Option<(usize, Link)>
     ensures { IsFirstSign text.now result }
 {
@@ -133,13 +133,15 @@ fn push_step(
     Ok(())
 }
 
-/// The steps of a pattern, as `FN > NAME` or `CALL_EXPR//PAREN_EXPR`, the last one first: that of the nodes and tokens that are looked
-/// for.
+/// Parses a pattern such as `FN > NAME` or `CALL_EXPR//PAREN_EXPR` into its steps, the last one first: the step of the nodes and tokens that
+/// are searched.
 ///
-/// A step is the name of a kind, or `*` for any. After `>` is a child, after `//` what is below at any depth. White space around a step
-/// means nothing. `///` is `//` and a word that begins with `/`.
+/// A step is the name of a kind, or `*` for any kind. `>` is before a child, `//` before a descendant at any depth. White space around a
+/// step is ignored. `///` is `//` and a word that begins with `/`.
 ///
-/// The error is that of the first word that is no step: `NoKind` if it is empty, else `UnknownKind` with the word.
+/// # Errors
+///
+/// The error of the first word that is no step: `NoKind` if it is empty, else `UnknownKind` with the word; `Memory` if memory runs out.
 pub fn parse_pattern(alloc: Global, text: &str) -> Result<Vec<Step>, PatternError>
     ensures { MatchResult result (λ steps. AreSteps (words Child text.now) (reverse steps.items)) (IsRefused (words Child text.now)) }
 {

@@ -1,4 +1,3 @@
-use Rattle.std.proofs.Common.{Some}
 use Rattle.rust_report.proofs.AskedLemmas.{no_cut, no_line, no_column, is_place}
 use Rattle.rust_report.proofs.asked.place_of.Goals as goal
 

@@ -1,5 +1,4 @@
-use Rattle.std.proofs.Common.{Some}
-use Rattle.rust_report.proofs.AskedLemmas.{no_dots, no_start, no_end, backwards, is_range}
+use Rattle.rust_report.proofs.AskedLemmas.{no_dots, no_start, no_end, backwards}
 use Rattle.rust_report.proofs.asked.range_of.Goals as goal
 
 pub returns-in_err-start : goal.returns-in_err-start

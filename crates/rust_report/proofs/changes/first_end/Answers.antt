@@ -1,4 +1,4 @@
-use Rattle.std.proofs.Common.{Some, None, ◌≡◌, ◌+◌, ◌-◌, length, refl, sym, subst, arith}
+use Rattle.std.proofs.Common.{Some, None, ◌≡◌, ◌+◌, ◌-◌, length, refl, subst, arith}
 use Rattle.std.proofs.lemmas.Str.{IsCharBoundary-after_ascii, IsCharBoundary-end}
 use Rattle.std.proofs.lemmas.Str.Pattern.{split_parts}
 use Rattle.std.specs.Str.{IsCharBoundary}

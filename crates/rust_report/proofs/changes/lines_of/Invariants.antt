@@ -1,4 +1,4 @@
-use Rattle.std.proofs.Common.{◌≡◌, ◌++◌, map, length, drop, ℕ}
+use Rattle.std.proofs.Common.{◌≡◌, ◌++◌, map, length}
 use Rattle.std.specs.Str.{IsUtf8}
 use Rattle.rust_report.specs.Changes.{lines_of}
 use Rattle.rust_report.proofs.changes.lines_of.Given as goal

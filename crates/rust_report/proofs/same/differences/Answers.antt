@@ -1,5 +1,4 @@
-use Rattle.std.proofs.Common.{◌<◌, sym, ap, ◌∙◌, [], refl, arith, length}
-use Rattle.tree_model.specs.Cursor.{walk_of}
+use Rattle.std.proofs.Common.{◌<◌, ap, ◌∙◌, [], refl, arith, length}
 use Rattle.rust_report.specs.Steps.{counted}
 use Rattle.rust_report.specs.Differences.{past}
 use Rattle.rust_report.proofs.StepLemmas.{one_more, no_more, enough}

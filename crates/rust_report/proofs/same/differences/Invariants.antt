@@ -1,4 +1,4 @@
-use Rattle.std.proofs.Common.{◌≤◌, ◌-◌, [], length}
+use Rattle.std.proofs.Common.{◌-◌, [], length}
 use Rattle.tree_model.specs.Cursor.{walk_of}
 use Rattle.rust_report.specs.Steps.{counted}
 use Rattle.rust_report.proofs.StepLemmas.{Continues}

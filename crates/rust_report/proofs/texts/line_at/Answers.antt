@@ -1,4 +1,4 @@
-use Rattle.std.proofs.Common.{◌≤◌, subst, sym, ◌∙◌, ap, arith}
+use Rattle.std.proofs.Common.{◌∙◌}
 use Rattle.rust_report.proofs.TextsLemmas.{past, no_such, shows, never}
 use Rattle.rust_report.proofs.texts.line_at.Goals as goal
 

@@ -1,4 +1,4 @@
-use Rattle.std.proofs.Common.{sym, ◌∙◌, ap}
+use Rattle.std.proofs.Common.{sym, ◌∙◌}
 use Rattle.rust_report.proofs.WordLemmas.{one_more, cut_here}
 use Rattle.rust_report.proofs.words.first_sign.Goals as goal
 

@@ -1,4 +1,4 @@
-use Rattle.std.proofs.Common.{length, ◌≤◌}
+use Rattle.std.proofs.Common.{length}
 use Rattle.rust_report.proofs.WordLemmas.{IsPassed}
 use Rattle.rust_report.proofs.words.first_sign.Given as goal
 
