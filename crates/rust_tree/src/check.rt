@@ -1,4 +1,4 @@
-//! The command `check`: what is wrong with a text.
+//! The command `check`: the errors of a text.
 
 use crate::failure::Failure;
 use crate::json::write_line;
@@ -13,14 +13,14 @@ use std::alloc::Global;
 use std::io;
 use std::io::Write;
 
-/// What is checked, and how it is told.
+/// Options of the check and of its report.
 #[derive(Clone, Copy)]
 pub struct Checking {
-    /// How a text is read.
+    /// How a text is parsed.
     pub reading: Reading,
-    /// The form of a line.
+    /// The form of the report.
     pub format: Form,
-    /// Whether the text has colours.
+    /// Whether the report has colours.
     pub style: Style,
 }
 
@@ -44,7 +44,7 @@ fn write_many<W: Write>(out: &mut W, sign: &str, count: u64) -> io::Result<()> {
     Ok(())
 }
 
-// White space as wide as what precedes a column.
+// Writes white space as wide as the part of a line before a column; tabs stay tabs.
 fn write_blanks<W: Write>(out: &mut W, line: &str, column: u64) -> io::Result<()> {
     let mut at = 1u64;
     for sign in line.chars() {
@@ -141,7 +141,7 @@ fn write_all<W: Write>(
     Ok(errors.len() as u64)
 }
 
-/// Writes what is wrong with a text; how much that is.
+/// Writes the errors of a text. Returns their number.
 pub fn check<W: Write>(
     alloc: Global,
     out: &mut W,

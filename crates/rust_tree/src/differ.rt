@@ -19,7 +19,7 @@ pub struct Side<'a> {
     pub text: &'a str,
 }
 
-// What the walk of a tree comes to: a node or a token with its text, or the end of a node; where the walk has ended, the end.
+// Writes the event of one tree: a node, a token with its text, or the end of a node; the end of the text if the walk has ended.
 fn write_side<W: Write>(
     alloc: Global,
     out: &mut W,
@@ -51,7 +51,7 @@ fn write_side<W: Write>(
     }
 }
 
-/// How many places were told, and whether there are more.
+/// How many places were printed, and whether there are more.
 #[derive(Clone, Copy, Debug)]
 pub struct Told {
     /// The number of places.
@@ -60,8 +60,7 @@ pub struct Told {
     pub more: bool,
 }
 
-/// Writes where two trees differ, by kinds and the texts of tokens, at most `limit` places: for each the node or token of each tree that
-/// the other does not have there.
+/// Writes at most `limit` places where two trees differ by kinds or by the texts of tokens: for each place the node or token of each tree.
 pub fn show<W: Write>(
     alloc: Global,
     out: &mut W,

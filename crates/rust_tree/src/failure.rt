@@ -1,17 +1,17 @@
-//! Why a file's report ends early.
+//! Errors that end the report on a file.
 
 use ras_front_end::ParseError;
 use std::alloc::AllocError;
 use std::io;
 
-/// Why a file's report ends early.
+/// An error that ends the report on a file.
 #[derive(Drop)]
 pub enum Failure {
-    /// The output takes no more: nothing can be told of the other files either.
+    /// The output cannot be written, so the run ends.
     Output(io::Error),
-    /// The text is not read.
+    /// The text cannot be parsed.
     Text(ParseError),
-    /// The file is not written.
+    /// The file cannot be written.
     File(io::Error),
 }
 

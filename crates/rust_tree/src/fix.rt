@@ -1,4 +1,4 @@
-//! Patches, and files that are given another text.
+//! Patches, and replacing the text of files.
 
 use crate::failure::Failure;
 use rust_report::{lines_of, other_front, same_front};
@@ -17,7 +17,7 @@ fn write_lines<W: Write>(out: &mut W, sign: &str, lines: &[&str]) -> io::Result<
     Ok(())
 }
 
-// Writes a change for each run of lines that differ, without lines around it. The texts have as many lines.
+// Writes a hunk for each run of lines that differ, without context lines. Both texts have the same number of lines.
 fn write_changes<W: Write>(out: &mut W, old: &[&str], new: &[&str]) -> io::Result<()> {
     let (mut old, mut new) = (old, new);
     let mut at = 1usize;
@@ -40,7 +40,7 @@ fn write_changes<W: Write>(out: &mut W, old: &[&str], new: &[&str]) -> io::Resul
     Ok(())
 }
 
-/// Writes how a file changes, as a patch.
+/// Writes the change of a file as a patch.
 pub fn diff<W: Write>(
     alloc: Global,
     out: &mut W,
@@ -53,7 +53,7 @@ pub fn diff<W: Write>(
     Ok(write_changes(out, old.as_slice(), new.as_slice())?)
 }
 
-// A new file beside another; how its name ends, from `.0.new` on, is that of no file yet.
+// Creates a file in the folder of another. Its name is that file's name with the first of `.0.new`, `.1.new`, .. that is free.
 fn new_beside(rt: &HostRuntime, path: &str) -> io::Result<(File, String)> {
     for number in 0..100 {
         let name = format!(in rt.alloc(); "{path}.{number}.new")?;
@@ -69,7 +69,7 @@ fn new_beside(rt: &HostRuntime, path: &str) -> io::Result<(File, String)> {
     Err(io::Error::from(ErrorKind::AlreadyExists))
 }
 
-// Writes the text of a new file, and gives it the permissions of the old one and then its name.
+// Writes the text to a new file, gives it the permissions of the old file, and renames it to the old file's name.
 fn write_new(rt: &HostRuntime, mut file: File, new: &str, old: &str, text: &str) -> io::Result<()> {
     file.write_all(text.as_bytes())?;
     file.set_permissions(fs::metadata(rt, old)?.permissions())?;
@@ -77,8 +77,8 @@ fn write_new(rt: &HostRuntime, mut file: File, new: &str, old: &str, text: &str)
     fs::rename(rt, new, old)
 }
 
-// Puts a text in place of a file's, by a new file beside it, so that at each moment the file has the old text or the new one, whole.
-// Of a link, the file that it leads to is replaced.
+// Replaces the text of a file by writing a new file and renaming it, so that at every moment the file has the old text or the new one.
+// If the name is that of a link, its target is replaced.
 fn replace(rt: &HostRuntime, name: &str, text: &str) -> io::Result<()> {
     let path = fs::canonicalize(rt, name)?;
     let (file, new) = new_beside(rt, path.as_str())?;
@@ -89,7 +89,7 @@ fn replace(rt: &HostRuntime, name: &str, text: &str) -> io::Result<()> {
     done
 }
 
-/// Gives a file another text, and tells how many pairs were removed; of standard input, writes the text to the output.
+/// Replaces the text of a file, and writes how many pairs were removed. For standard input, writes the text to the output.
 pub fn fix<W: Write>(
     rt: &HostRuntime,
     out: &mut W,

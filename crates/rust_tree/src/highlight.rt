@@ -1,4 +1,4 @@
-//! The command `highlight`: a text with its words marked by what they are, as a page of HTML or with the colours of a terminal.
+//! The command `highlight`: a text with its tokens coloured by their roles, as a page of HTML or with the colours of a terminal.
 
 use crate::failure::Failure;
 use crate::html::write_head;
@@ -9,16 +9,16 @@ use std::alloc::Global;
 use std::io;
 use std::io::Write;
 
-/// The form of a text that is highlighted.
+/// The output of `highlight`.
 #[derive(Clone, Copy, Debug)]
 pub enum Ink {
     /// A page of HTML.
     Html,
-    /// The escapes of a terminal.
+    /// Escapes of a terminal.
     Ansi,
 }
 
-// The name of a role's class in a page.
+// The class of a role in a page; empty for plain tokens.
 fn class_of(role: Role) -> &'static str {
     match role {
         Role::Plain => "",
@@ -36,7 +36,7 @@ fn class_of(role: Role) -> &'static str {
     }
 }
 
-// A role's colour in a terminal.
+// The escape that begins the colour of a role in a terminal; empty for plain tokens.
 fn escape_of(role: Role) -> &'static str {
     match role {
         Role::Plain => "",
@@ -89,7 +89,7 @@ fn write_html<W: Write>(out: &mut W, role: Role, text: &str) -> io::Result<()> {
     }
 }
 
-// A text in a colour, which ends and begins again at each end of a line.
+// Writes a text in the colour of a role, which ends before each line feed and begins again after it.
 fn write_ansi<W: Write>(out: &mut W, role: Role, text: &str) -> io::Result<()> {
     let escape = escape_of(role);
     if escape.is_empty() {
@@ -103,7 +103,7 @@ fn write_ansi<W: Write>(out: &mut W, role: Role, text: &str) -> io::Result<()> {
     Ok(())
 }
 
-/// Writes a text with its words marked. Nothing counts as found.
+/// Writes a text with its tokens coloured. Returns 0: nothing counts as found.
 pub fn show<W: Write>(
     alloc: Global,
     out: &mut W,

@@ -1,10 +1,10 @@
-//! What pages of HTML are made of.
+//! The head of a page of HTML.
 
 use rust_report::InHtml;
 use std::io;
 use std::io::Write;
 
-/// Writes the head of a page up to its style, which is to follow, and its title.
+/// Writes the head of a page, with its title, up to the style.
 pub fn write_head<W: Write>(out: &mut W, title: &str) -> io::Result<()> {
     let title = InHtml(title);
     writeln!(

@@ -13,7 +13,7 @@ pub struct Source {
     pub text: String,
 }
 
-/// Reads a file, or standard input for `-`. It fails where the bytes are no UTF-8.
+/// Reads a file, or standard input for `-`. It is an error if the bytes are not UTF-8.
 pub fn text_of(rt: &HostRuntime, name: &str) -> io::Result<String> {
     if name == "-" {
         io::read_to_string(rt.alloc(), rt.reader())
@@ -26,7 +26,7 @@ fn is_rust(path: Path<'_>) -> bool {
     path.extension().is_some_and(|extension| extension == "rs")
 }
 
-// Lists a folder: its files of Rust, and the folders in it. Links to folders are not followed.
+// Adds the `.rs` files of a folder to `files`, and the folders in it to `folders`. Links to folders are not followed.
 fn list(
     rt: &HostRuntime,
     folder: &str,
@@ -46,7 +46,8 @@ fn list(
     Ok(())
 }
 
-/// The files of Rust below a folder, sorted by their paths. A folder that cannot be read is named on standard error and counted.
+/// The `.rs` files below a folder, sorted by their paths. A folder that cannot be read is reported on standard error and counted in
+/// `lost`.
 pub fn files_below(rt: &HostRuntime, folder: &str, lost: &mut u64) -> io::Result<Vec<String>> {
     let mut files = Vec::new(rt.alloc());
     let mut folders = Vec::new(rt.alloc());
@@ -64,7 +65,7 @@ pub fn files_below(rt: &HostRuntime, folder: &str, lost: &mut u64) -> io::Result
     Ok(files)
 }
 
-/// Whether a name is that of a folder.
+/// Whether this is the name of a folder.
 pub fn is_folder(rt: &HostRuntime, name: &str) -> bool {
     name != "-" && fs::metadata(rt, name).is_ok_and(|found| found.is_dir())
 }

@@ -1,4 +1,4 @@
-//! What a command does with each file.
+//! The commands on files, and their run over all files.
 
 use crate::check::{Checking, check};
 use crate::failure::Failure;
@@ -19,9 +19,9 @@ use std::time::Instant;
 /// A command with its options.
 #[derive(Drop)]
 pub enum Task {
-    /// Prints trees; whether each has its file's name before it.
+    /// Prints trees, each after its file's name if `named` is true.
     Tree { named: bool, showing: Showing },
-    /// Tells what is wrong.
+    /// Prints errors.
     Check { style: Style },
     /// Lists items.
     Outline,
@@ -31,16 +31,16 @@ pub enum Task {
     Tokens,
     /// Finds nodes and tokens.
     Query { steps: Vec<Step> },
-    /// Marks words by what they are.
+    /// Prints texts with their tokens coloured.
     Highlight { ink: Ink },
 }
 
 /// What is done with pairs of parentheses.
 #[derive(Clone, Copy, Debug)]
 pub enum Then {
-    /// They are named.
+    /// They are listed.
     List,
-    /// How a file would change without them is printed.
+    /// A patch that removes them is printed.
     Diff,
     /// They are removed from the file.
     Fix,
@@ -49,9 +49,9 @@ pub enum Then {
 /// A task for a list of files.
 #[derive(Drop)]
 pub struct Job {
-    /// What is done.
+    /// The command.
     pub task: Task,
-    /// How a text is read.
+    /// How a text is parsed.
     pub reading: Reading,
     /// The form of the report.
     pub format: Form,
@@ -67,7 +67,7 @@ impl Job {
         }
     }
 
-    // What the totals count.
+    // The word for what was found, in the totals.
     fn counts(&self) -> &'static str {
         match &self.task {
             Task::Tree { .. } | Task::Outline | Task::Highlight { ink: _ } => "found",
@@ -77,7 +77,7 @@ impl Job {
         }
     }
 
-    // Writes the report on a text; how much was found.
+    // Writes the report on a text. Returns how much was found.
     fn report<W: Write>(
         &self,
         rt: &HostRuntime,
@@ -112,7 +112,7 @@ impl Job {
         }
     }
 
-    // What is done with the pairs of a text; how many count as found: none where they were removed.
+    // Lists or removes the pairs of a text. Returns how many count as found: none if they were removed.
     fn parens<W: Write>(
         &self,
         rt: &HostRuntime,
@@ -154,7 +154,7 @@ impl Job {
         Ok(count as u64)
     }
 
-    // The report on a file. An error of the output ends the run; what is wrong with the file is told, and counted.
+    // Writes the report on a file. An error of the output ends the run; an error of the file is reported and counted.
     fn file<W: Write>(
         &self,
         rt: &HostRuntime,
@@ -188,7 +188,7 @@ impl Job {
         }
     }
 
-    // The reports on all files of a folder.
+    // Writes the reports on all files of a folder.
     fn folder<W: Write>(
         &self,
         rt: &HostRuntime,
@@ -206,7 +206,7 @@ impl Job {
         Ok(())
     }
 
-    /// The reports on all files, and the totals.
+    /// Writes the reports on all files, and the totals.
     pub fn run<W: Write>(
         &self,
         rt: &HostRuntime,

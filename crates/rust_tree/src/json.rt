@@ -1,11 +1,11 @@
-//! Values of JSON, one object a line.
+//! JSON, one object on each line.
 
 use serde::Serialize;
 use std::alloc::Global;
 use std::io;
 use std::io::Write;
 
-/// Writes a value and a line feed.
+/// Writes a value as JSON, and a line feed.
 pub fn write_line<W: Write, T: Serialize>(alloc: Global, out: &mut W, value: &T) -> io::Result<()> {
     match serde_json::to_string(alloc, value) {
         Ok(text) => writeln!(out, "{text}"),

@@ -1,4 +1,4 @@
-//! The program `rust_tree`: reads Rust and prints what the library makes of it.
+//! The program `rust_tree`: parses Rust files and prints errors, items, tokens, trees and differences.
 #![tactic(auto)]
 
 mod check;
@@ -49,7 +49,7 @@ fn style_of(rt: &HostRuntime, matches: &ArgMatches) -> Style {
     }
 }
 
-// What a command is to do; `None` where its words make no sense, which is told then.
+// The task of a command with its options. Returns `None` after reporting an error if the arguments are invalid.
 fn task(rt: &HostRuntime, name: &str, matches: &ArgMatches) -> io::Result<Option<Task>> {
     Ok(Some(match name {
         "tree" => match showing(matches) {
@@ -101,7 +101,7 @@ fn run_job(rt: &HostRuntime, job: &Job, matches: &ArgMatches) -> io::Result<Sess
     }
 }
 
-// The text of a file; `None` where it is not read, which is told then.
+// The text of a file. Returns `None` after reporting the error if it cannot be read.
 fn text_or_tell(rt: &HostRuntime, name: &str) -> io::Result<Option<String>> {
     match text_of(rt, name) {
         Ok(text) => Ok(Some(text)),
@@ -148,7 +148,7 @@ fn write_difference<W: Write>(
     }
 }
 
-// The command `diff`; the status.
+// Runs `diff`. Returns the exit status.
 fn run_diff(rt: &HostRuntime, matches: &ArgMatches) -> io::Result<u8> {
     let old_name = matches.get_str("A").unwrap_or("-");
     let new_name = matches.get_str("B").unwrap_or("-");
@@ -173,7 +173,7 @@ fn run_diff(rt: &HostRuntime, matches: &ArgMatches) -> io::Result<u8> {
     write_difference(rt, &mut out, old, new, matches)
 }
 
-// Does what a command on files says; the status.
+// Runs a command on files. Returns the exit status.
 fn run_on_files(rt: &HostRuntime, name: &str, matches: &ArgMatches) -> io::Result<u8> {
     let Some(task) = task(rt, name, matches)? else {
         return Ok(USAGE);
@@ -182,7 +182,7 @@ fn run_on_files(rt: &HostRuntime, name: &str, matches: &ArgMatches) -> io::Resul
     Ok(run_job(rt, &job, matches)?.status())
 }
 
-// Does what a command says. An output that nobody reads any more ends the run without a word.
+// Runs a command. If nobody reads the output any more, the run ends without a message.
 fn run_command(rt: &HostRuntime, name: &str, matches: &ArgMatches) -> anyhow::Result<ExitCode> {
     let done = match name {
         "diff" => run_diff(rt, matches),
@@ -199,7 +199,7 @@ fn run_command(rt: &HostRuntime, name: &str, matches: &ArgMatches) -> anyhow::Re
     }
 }
 
-// Does what the words of the command line say.
+// Runs the command of the command line.
 fn run(rt: &HostRuntime, words: &[String]) -> anyhow::Result<ExitCode> {
     let matches = match command(rt.alloc())?.try_get_matches_from(words) {
         Ok(matches) => matches,

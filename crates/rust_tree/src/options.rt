@@ -27,9 +27,9 @@ static INKS: [&str; 2] = ["html", "ansi"];
 pub enum Form {
     /// Lines of text.
     Text,
-    /// An object of JSON a line.
+    /// A JSON object on each line.
     Json,
-    /// Lines that a workflow on GitHub shows beside the code.
+    /// Lines that a workflow on GitHub shows as annotations.
     Github,
 }
 
@@ -86,7 +86,7 @@ fn format<'a>(alloc: Global, formats: &'a [&'a str]) -> Arg<'a> {
         .help("The form of the output; json: an object a line")
 }
 
-// With the options that every command has, and the files.
+// Adds the options that every command has, and the files.
 fn with_common<'a>(alloc: Global, command: Command<'a>) -> Result<Command<'a>, AllocError> {
     command
         .arg(edition(alloc))?
@@ -95,7 +95,7 @@ fn with_common<'a>(alloc: Global, command: Command<'a>) -> Result<Command<'a>, A
         .arg(files(alloc))
 }
 
-// With the options that every command on one or two files has, and the files, of which there are as many as names.
+// Adds the options of commands on one or two files, and an argument for each name.
 fn with_named<'a>(
     alloc: Global,
     command: Command<'a>,
@@ -114,7 +114,7 @@ fn with_named<'a>(
     Ok(command)
 }
 
-// The options that say what is shown of a tree.
+// Adds the options that select what is shown of a tree.
 fn with_parts<'a>(alloc: Global, command: Command<'a>) -> Result<Command<'a>, AllocError> {
     let at = Arg::new(alloc, "at")
         .long("at")
@@ -278,7 +278,7 @@ fn entry_of(name: Option<&str>) -> Entry {
     }
 }
 
-/// How a command reads.
+/// How a command parses its files.
 pub fn reading(matches: &ArgMatches) -> Reading {
     Reading {
         edition: edition_of(matches.get_str("edition")),
@@ -287,7 +287,7 @@ pub fn reading(matches: &ArgMatches) -> Reading {
     }
 }
 
-/// How many places are told.
+/// The most places that are printed.
 pub fn limit(matches: &ArgMatches) -> usize {
     match matches.get_one::<u32>("limit") {
         Some(limit) => limit as usize,
@@ -295,7 +295,7 @@ pub fn limit(matches: &ArgMatches) -> usize {
     }
 }
 
-/// The form of a text that is highlighted.
+/// The output of `highlight`.
 pub fn ink(matches: &ArgMatches) -> Ink {
     match matches.get_str("format") {
         Some("html") => Ink::Html,
@@ -303,7 +303,7 @@ pub fn ink(matches: &ArgMatches) -> Ink {
     }
 }
 
-/// The form of a command's report.
+/// The form of the report of a command.
 pub fn form_of(matches: &ArgMatches) -> Form {
     match matches.get_str("format") {
         Some("json") => Form::Json,
@@ -312,7 +312,7 @@ pub fn form_of(matches: &ArgMatches) -> Form {
     }
 }
 
-// The part of a tree that is meant; `None` where the words of the command line name none.
+// The part of a tree that the options select. Returns `None` if a place or a range is invalid.
 fn part_of(matches: &ArgMatches) -> Option<Part> {
     if let Some(text) = matches.get_str("at") {
         return Some(Part::At(place_of(text)?));
@@ -323,7 +323,7 @@ fn part_of(matches: &ArgMatches) -> Option<Part> {
     }
 }
 
-/// What is shown of a tree; `None` where a place or a range is no such thing.
+/// What is shown of a tree, and how. Returns `None` if a place or a range is invalid.
 pub fn showing(matches: &ArgMatches) -> Option<Showing> {
     let part = part_of(matches)?;
     let drawing = match matches.get_str("format") {

@@ -12,8 +12,9 @@ use std::alloc::Global;
 use std::io;
 use std::io::Write;
 
-// An item as an object of JSON. Lines and columns count from 1, columns in characters, and are those of the name where there is one;
-// `start` and `end` are the item's offsets in bytes, with its attributes and documentation. What has no name has an empty one.
+// An item as an object of JSON. The line and the column count from 1, the column in characters, and are those of the item's label, if it
+// has one. `start` and `end` are the item's offsets in bytes, with its attributes and documentation. An item without a label has an empty
+// name.
 #[derive(Drop, Serialize)]
 struct Item<'a> {
     path: &'a str,
@@ -26,7 +27,7 @@ struct Item<'a> {
     end: u32,
 }
 
-// The text of an item from its label on: of an `impl`, up to its items.
+// The first line of an item's label; for an `impl`, its text from the label up to the `{`.
 fn shown<'a>(row: &'a Row, label: &'a SyntaxNode) -> &'a str {
     if row.item.kind() != SyntaxKind::IMPL {
         return first_line(label.as_str());
@@ -89,7 +90,7 @@ fn write_row<W: Write>(
     }
 }
 
-/// Writes the items of a text. Nothing counts as found.
+/// Writes the items of a text. Returns 0: nothing counts as found.
 pub fn show<W: Write>(
     alloc: Global,
     out: &mut W,

@@ -1,5 +1,5 @@
-//! The tree of a text as a page of HTML, which needs nothing else: the text and the tree side by side. A node folds, and what the
-//! pointer is over in one is marked in the other.
+//! The tree of a text as a self-contained page of HTML: the text and the tree side by side. A click folds a node, and what is under the
+//! pointer in one of the two is highlighted in the other.
 
 use crate::failure::Failure;
 use crate::html::write_head;
@@ -37,7 +37,7 @@ body { background: #0d1117; color: #e6edf3 } #tree { border-color: #30363d } #tr
 <pre id=\"text\">
 ";
 
-// What the page does: marks, folds, and finds the row of a token by its start.
+// The script of the page: it highlights, folds, and finds the row of a token by its start.
 static SCRIPT: &str = "</div>
 <script>
 'use strict';
@@ -97,7 +97,7 @@ tree.addEventListener('click', event => {
 </html>
 ";
 
-// The text, token by token, each with the offset at which it starts.
+// Writes the text, token by token, each with the offset where it starts.
 fn write_tokens<W: Write>(out: &mut W, root: &SyntaxNode) -> io::Result<()> {
     for element in root.descendants_with_tokens() {
         if let NodeOrToken::Token(token) = &element {
@@ -108,7 +108,7 @@ fn write_tokens<W: Write>(out: &mut W, root: &SyntaxNode) -> io::Result<()> {
     out.write_all(b"</pre>\n<div id=\"tree\">\n")
 }
 
-// A row of the tree: a node, or a token with its text.
+// Writes a row of the tree: a node, or a token with its text.
 fn write_row<W: Write>(
     alloc: Global,
     out: &mut W,
@@ -165,7 +165,7 @@ fn write_errors<W: Write>(out: &mut W, errors: &[SyntaxError]) -> io::Result<()>
     Ok(())
 }
 
-/// Writes the page of a node and the errors of its text.
+/// Writes the page of a node, with the errors of its text.
 pub fn show<W: Write>(
     alloc: Global,
     out: &mut W,

@@ -28,7 +28,7 @@ struct Pair<'a> {
     text: &'a str,
 }
 
-/// The pairs of a text that may go, all of them together.
+/// The pairs of a text that can all be removed together.
 pub fn needless(alloc: Global, text: &str, reading: Reading) -> Result<Needless, ParseError> {
     let parse = read(alloc, &Rust, reading.entry, text, reading.edition)?;
     Ok(find_needless(alloc, &Rust, reading.entry, reading.edition, &parse)?)
@@ -63,7 +63,7 @@ fn write_pair<W: Write>(
     }
 }
 
-/// Names pairs of a text.
+/// Lists pairs of a text.
 pub fn list<W: Write>(
     alloc: Global,
     out: &mut W,

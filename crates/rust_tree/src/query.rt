@@ -57,7 +57,7 @@ fn write_match<W: Write>(
     }
 }
 
-/// Writes what fits the steps of a pattern; how much that is.
+/// Writes the nodes and tokens that match a pattern. Returns their number.
 pub fn show<W: Write>(
     alloc: Global,
     out: &mut W,

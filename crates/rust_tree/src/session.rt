@@ -1,22 +1,23 @@
-//! What a run has seen, and the status that it ends with.
+//! Counts of a run, and its exit status.
 
 use std::io;
 use std::io::IsTerminal;
 use std::time::Instant;
 
-/// Something was found: an error, a difference, a pair of parentheses.
+/// The exit status if something was found: an error, a difference, a pair of parentheses.
 pub const FOUND: u8 = 1;
-/// The words of the command line make no sense.
+/// The exit status if the command line is invalid.
 pub const USAGE: u8 = 2;
-/// A file was not read, or memory ran out.
+/// The exit status if a file could not be read or written, or memory ran out.
 pub const UNREAD: u8 = 3;
 
-// From so many files on a run tells its totals.
+// From this number of files on, a run prints its totals.
 const MANY: u64 = 100;
 
-// After so many files each a terminal shows how many there were, and after so many another standard error has a line.
+// A terminal shows the number of files each time that this many were read.
 const SHOWN: u64 = 50;
 
+// If standard error is no terminal, it gets a line each time that this many were read.
 const NOTED: u64 = 1000;
 
 /// Counts of a run.
@@ -47,7 +48,7 @@ fn write_number(rt: &HostRuntime, number: u64) -> io::Result<()> {
 }
 
 impl Session {
-    /// Nothing was seen yet.
+    /// The counts before the first file.
     pub fn new(rt: &HostRuntime) -> Session {
         Session {
             is_terminal: rt.stderr().is_terminal(),
@@ -58,19 +59,19 @@ impl Session {
         }
     }
 
-    /// A file was read, and so much was found in it.
+    /// Counts a file that was read, its bytes, and what was found in it.
     pub fn read(&mut self, bytes: usize, found: u64) {
         self.files = self.files.saturating_add(1);
         self.bytes = self.bytes.saturating_add(bytes as u64);
         self.found = self.found.saturating_add(found);
     }
 
-    /// A file was not read.
+    /// Counts a file that was not read or written.
     pub fn lost(&mut self) {
         self.unread = self.unread.saturating_add(1);
     }
 
-    /// The status: a file that was not read counts more than what was found.
+    /// The exit status. That of a file that was not read takes precedence over that of something found.
     pub fn status(&self) -> u8 {
         if self.unread > 0 {
             UNREAD
@@ -81,7 +82,7 @@ impl Session {
         }
     }
 
-    /// Shows how many files there were, each time that so many were read.
+    /// Prints the number of files read so far to standard error, if it is due.
     pub fn show_progress(&self, rt: &HostRuntime) -> io::Result<()> {
         if self.is_terminal && self.files % SHOWN == 0 {
             eprint!(rt; "\r")?;
@@ -95,7 +96,7 @@ impl Session {
         }
     }
 
-    /// Writes the totals to standard error, if there were many files, or several before a terminal.
+    /// Prints the totals to standard error, if there were many files, or several on a terminal.
     pub fn tell(&self, rt: &HostRuntime, what: &str, start: Instant) -> io::Result<()> {
         if self.files < MANY && !(self.is_terminal && self.files > 1) {
             return Ok(());

@@ -1,4 +1,4 @@
-//! A text that is read, with its tree and its lines.
+//! The parse and the lines of a text.
 
 use line_index::LineIndex;
 use lossless_tree::{SyntaxNode, TextSize};
@@ -8,14 +8,14 @@ use rust_front::Rust;
 use rust_report::{Spot, spot_at};
 use std::alloc::{AllocError, Global};
 
-/// How a text is read.
+/// How a text is parsed.
 #[derive(Clone, Copy, Debug)]
 pub struct Reading {
-    /// The edition of its words.
+    /// The edition of its keywords.
     pub edition: Edition,
-    /// What it is read as.
+    /// What it is parsed as.
     pub entry: Entry,
-    /// Whether the tree is validated too.
+    /// Whether the tree is validated.
     pub validates: bool,
 }
 
@@ -36,7 +36,7 @@ pub fn lines(alloc: Global, text: &str) -> Result<LineIndex<'_>, ParseError> {
     Ok(LineIndex::new(alloc, text)?)
 }
 
-/// The line and the column of an offset; those of the text's start where it has none, which no offset of a tree does.
+/// The line and the column of an offset. Returns those of the text's start if the offset has none; an offset of a tree always has them.
 pub fn spot(lines: &LineIndex<'_>, offset: TextSize) -> Spot {
     spot_at(lines, offset).unwrap_or(Spot { line: 1, column: 1 })
 }

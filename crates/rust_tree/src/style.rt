@@ -1,16 +1,16 @@
 //! Colours of a terminal.
 
-/// Whether what is written has colours.
+/// Whether the output has colours.
 #[derive(Clone, Copy, Debug)]
 pub enum Style {
-    /// Text alone.
+    /// No colours.
     Plain,
-    /// With the escapes of a terminal.
+    /// Escapes of a terminal.
     Colours,
 }
 
 impl Style {
-    // The escape, where there are colours.
+    // The escape, or nothing without colours.
     fn pick(self, escape: &'static str) -> &'static str {
         match self {
             Style::Plain => "",

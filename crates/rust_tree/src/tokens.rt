@@ -63,7 +63,7 @@ fn write_token<W: Write>(
     }
 }
 
-/// Writes the tokens of a text, and in the form of text the lexer's errors after them; how many errors there are.
+/// Writes the tokens of a text and, in the form of text, the lexer's errors after them. Returns the number of errors.
 pub fn show<W: Write>(
     alloc: Global,
     out: &mut W,

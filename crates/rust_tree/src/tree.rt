@@ -1,7 +1,7 @@
-//! The command `tree`: the tree of a text, with its errors. It goes out as it is walked.
+//! The command `tree`: the tree of a text, with its errors, printed during a walk.
 
 use crate::failure::Failure;
-use crate::names::{kind_name, with_names};
+use crate::names::kind_name;
 use crate::page;
 use crate::source::{Reading, lines, parsed};
 use line_index::WideLineCol;
@@ -26,14 +26,14 @@ pub enum Drawing {
     Html,
 }
 
-/// Where the part of a tree that is shown is.
+/// The part of a tree that is shown.
 #[derive(Clone, Copy, Debug)]
 pub enum Part {
     /// The whole tree.
     Whole,
-    /// The deepest node or token round a place.
+    /// The deepest node or token at a place.
     At(WideLineCol),
-    /// The deepest node or token round a range of bytes.
+    /// The deepest node or token around a range of bytes.
     Range(TextRange),
 }
 
@@ -48,11 +48,11 @@ pub struct Showing {
     pub trivia: bool,
     /// How many levels are shown.
     pub depth: usize,
-    /// Whether counts are shown in place of the tree.
+    /// Whether counts are shown instead of the tree.
     pub stats: bool,
 }
 
-/// Whether a node or token so many levels below the top is shown.
+/// Whether a node or token at this many levels below the top is shown.
 pub fn is_shown(showing: &Showing, level: usize, element: &SyntaxElement) -> bool {
     level < showing.depth && (showing.trivia || !element.is_trivia())
 }
@@ -77,8 +77,9 @@ fn write_text<W: Write>(
             writeln!(out, "{kind}@{}", node.text_range())
         }
         NodeOrToken::Token(token) => {
-            let line = token.dump(alloc)?;
-            out.write_all(with_names(alloc, line.as_str())?.as_bytes())
+            let (kind, line) = (kind_name(alloc, token.kind())?, token.dump(alloc)?);
+            let (_, shown) = line.as_str().split_once('@').unwrap_or(("", ""));
+            write!(out, "{kind}@{shown}")
         }
     }
 }
@@ -118,7 +119,7 @@ fn write_sexp<W: Write>(alloc: Global, out: &mut W, element: &SyntaxElement) -> 
     }
 }
 
-// What precedes an element: a line feed and an indentation, or a comma between two.
+// Writes what precedes an element: a line feed and an indentation, or a comma between two.
 fn write_before<W: Write>(
     out: &mut W,
     drawing: Drawing,
@@ -143,7 +144,7 @@ fn write_before<W: Write>(
     }
 }
 
-// What follows what an element holds.
+// Writes what follows the contents of an element.
 fn write_behind<W: Write>(
     out: &mut W,
     drawing: Drawing,
@@ -260,7 +261,7 @@ fn write_stats<W: Write>(
     )
 }
 
-// The part of a tree; the whole of it where the text has no such place.
+// The part of a tree; the whole tree if the text has no such place.
 fn part_of(
     alloc: Global,
     text: &str,
@@ -287,7 +288,7 @@ fn part_of(
     })
 }
 
-// The node that a page is of: the part, or the node that a token is in.
+// The node that a page shows: the part itself, or the parent of a token.
 fn node_of(root: &SyntaxNode, part: &SyntaxElement) -> SyntaxNode {
     match part {
         NodeOrToken::Node(node) => share(node),
@@ -295,7 +296,7 @@ fn node_of(root: &SyntaxNode, part: &SyntaxElement) -> SyntaxNode {
     }
 }
 
-/// Writes the tree of a text, and in the form of text a line for each error. Nothing counts as found.
+/// Writes the tree of a text and, in the form of text, a line for each error. Returns 0: nothing counts as found.
 pub fn show<W: Write>(
     alloc: Global,
     out: &mut W,
