@@ -39,6 +39,9 @@ fn list(
         let path = String::from_str(rt.alloc(), entry.path().as_str())?;
         if kind.is_dir() {
             folders.push(path)?;
+        } else if !kind.is_file() && !kind.is_symlink() {
+            // A pipe or a device: to read it may take for ever.
+            continue;
         } else if is_rust(entry.path()) {
             files.push(path)?;
         }

@@ -25,7 +25,7 @@ mod tree;
 use clap::ArgMatches;
 use differ::Side;
 use failure::Failure;
-use inputs::text_of;
+use inputs::{is_folder, text_of};
 use job::{Job, Task, Then};
 use options::{command, ink, limit, reading, showing};
 use rust_report::{PatternError, Trivia, parse_pattern};
@@ -49,12 +49,20 @@ fn style_of(rt: &HostRuntime, matches: &ArgMatches) -> Style {
     }
 }
 
+// Whether the command line names more than one file, or a folder.
+fn has_several(rt: &HostRuntime, matches: &ArgMatches) -> bool {
+    match matches.get_strs("FILE").unwrap_or(&[]) {
+        [name] => is_folder(rt, name),
+        _ => true,
+    }
+}
+
 // The task of a command with its options. Returns `None` after reporting an error if the arguments are invalid.
 fn task(rt: &HostRuntime, name: &str, matches: &ArgMatches) -> io::Result<Option<Task>> {
     Ok(Some(match name {
         "tree" => match showing(matches) {
             Some(showing) => Task::Tree {
-                named: matches.get_raw("FILE").is_some_and(|names| names.len() > 1),
+                named: has_several(rt, matches),
                 showing,
             },
             None => {

@@ -87,7 +87,7 @@ impl Session {
         if self.is_terminal && self.files % SHOWN == 0 {
             eprint!(rt; "\r")?;
             write_number(rt, self.files)?;
-            eprint!(rt; " files")
+            eprint!(rt; " files\r")
         } else if !self.is_terminal && self.files % NOTED == 0 {
             write_number(rt, self.files)?;
             eprintln!(rt; " files so far")
