@@ -55,19 +55,29 @@ fn entry<'a>(alloc: Global) -> Arg<'a> {
         .help("What the text is read as")
 }
 
-fn no_validation<'a>(alloc: Global) -> Arg<'a> {
-    Arg::new(alloc, "no-validation")
-        .long("no-validation")
+// An option without a value.
+fn flag<'a>(alloc: Global, name: &'a str, help: &'a str) -> Arg<'a> {
+    Arg::new(alloc, name)
+        .long(name)
         .action(ArgAction::SetTrue)
-        .help("Only the errors of the lexer and the parser")
+        .help(help)
+}
+
+fn no_validation<'a>(alloc: Global) -> Arg<'a> {
+    flag(
+        alloc,
+        "no-validation",
+        "Only the errors of the lexer and the parser",
+    )
 }
 
 fn quiet<'a>(alloc: Global) -> Arg<'a> {
-    Arg::new(alloc, "quiet")
-        .short('q')
-        .long("quiet")
-        .action(ArgAction::SetTrue)
-        .help("Writes nothing to standard output; the status tells")
+    flag(
+        alloc,
+        "quiet",
+        "Writes nothing to standard output; the status tells",
+    )
+    .short('q')
 }
 
 fn color<'a>(alloc: Global) -> Arg<'a> {
@@ -95,6 +105,18 @@ fn with_common<'a>(alloc: Global, command: Command<'a>) -> Result<Command<'a>, A
         .arg(files(alloc))
 }
 
+// Adds the options of commands that parse files and validate them.
+fn with_reading<'a>(
+    alloc: Global,
+    command: Command<'a>,
+    formats: &'a [&'a str],
+) -> Result<Command<'a>, AllocError> {
+    command
+        .arg(format(alloc, formats))?
+        .arg(entry(alloc))?
+        .arg(no_validation(alloc))
+}
+
 // Adds the options of commands on one or two files, and an argument for each name.
 fn with_named<'a>(
     alloc: Global,
@@ -114,54 +136,62 @@ fn with_named<'a>(
     Ok(command)
 }
 
-// Adds the options that select what is shown of a tree.
-fn with_parts<'a>(alloc: Global, command: Command<'a>) -> Result<Command<'a>, AllocError> {
-    let at = Arg::new(alloc, "at")
+fn at<'a>(alloc: Global) -> Arg<'a> {
+    Arg::new(alloc, "at")
         .long("at")
         .value_name("LINE:COLUMN")
-        .help("Only the token at this place, both counted from 1");
-    let range = Arg::new(alloc, "range")
+        .help("Only the token at this place, both counted from 1")
+}
+
+fn range<'a>(alloc: Global) -> Arg<'a> {
+    Arg::new(alloc, "range")
         .long("range")
         .value_name("START..END")
-        .help("Only the deepest node or token round this range of bytes");
-    let depth = Arg::new(alloc, "depth")
+        .help("Only the deepest node or token round this range of bytes")
+}
+
+fn depth<'a>(alloc: Global) -> Arg<'a> {
+    Arg::new(alloc, "depth")
         .long("depth")
         .value_parser(value_parser!(u32))
-        .help("How many levels are shown");
-    let trivia = Arg::new(alloc, "no-trivia")
-        .long("no-trivia")
-        .action(ArgAction::SetTrue)
-        .help("Without white space and comments");
-    let stats = Arg::new(alloc, "stats")
-        .long("stats")
-        .action(ArgAction::SetTrue)
-        .help("Counts of nodes, tokens, levels and errors in place of the tree");
+        .help("How many levels are shown")
+}
+
+fn stats<'a>(alloc: Global) -> Arg<'a> {
+    flag(
+        alloc,
+        "stats",
+        "Counts of nodes, tokens, levels and errors in place of the tree",
+    )
+}
+
+// Adds the options that select what is shown of a tree. Each argument is made in its own call: a check takes far longer where several
+// of them are live at once.
+fn with_parts<'a>(alloc: Global, command: Command<'a>) -> Result<Command<'a>, AllocError> {
     command
-        .arg(at)?
-        .arg(range)?
-        .arg(depth)?
-        .arg(trivia)?
-        .arg(stats)
+        .arg(at(alloc))?
+        .arg(range(alloc))?
+        .arg(depth(alloc))?
+        .arg(flag(alloc, "no-trivia", "Without white space and comments"))?
+        .arg(stats(alloc))
 }
 
 fn tree<'a>(alloc: Global) -> Result<Command<'a>, AllocError> {
     let command = Command::new(alloc, "tree")
         .about("Prints the tree of each file, and its errors")
-        .after_help("Example: rust_tree tree --no-trivia --depth 3 src/main.rs")
-        .arg(format(alloc, DRAWINGS.as_slice()))?
-        .arg(entry(alloc))?
-        .arg(no_validation(alloc))?;
+        .after_help("Example: rust_tree tree --no-trivia --depth 3 src/main.rs");
+    let command = with_reading(alloc, command, DRAWINGS.as_slice())?;
     with_common(alloc, with_parts(alloc, command)?)
 }
 
 fn check<'a>(alloc: Global) -> Result<Command<'a>, AllocError> {
     let command = Command::new(alloc, "check")
         .about("Tells what is wrong with each file; the status is 1 where something is")
-        .after_help("Example: rust_tree check --format json src")
-        .arg(format(alloc, CHECK_FORMATS.as_slice()))?
-        .arg(entry(alloc))?
-        .arg(no_validation(alloc))?;
-    with_common(alloc, command)
+        .after_help("Example: rust_tree check --format json src");
+    with_common(
+        alloc,
+        with_reading(alloc, command, CHECK_FORMATS.as_slice())?,
+    )
 }
 
 fn outline<'a>(alloc: Global) -> Result<Command<'a>, AllocError> {
@@ -173,22 +203,14 @@ fn outline<'a>(alloc: Global) -> Result<Command<'a>, AllocError> {
 }
 
 fn parens<'a>(alloc: Global) -> Result<Command<'a>, AllocError> {
-    let diff = Arg::new(alloc, "diff")
-        .long("diff")
-        .action(ArgAction::SetTrue)
-        .help("Prints how each file would change");
-    let fix = Arg::new(alloc, "fix")
-        .long("fix")
-        .action(ArgAction::SetTrue)
-        .help("Writes each file anew without the pairs");
     let command = Command::new(alloc, "parens")
         .about(
             "Names the pairs of parentheses without which a file parses to the same tree; the status is 1 where there is one",
         )
         .after_help("Example: rust_tree parens --diff src")
         .arg(format(alloc, FORMATS.as_slice()))?
-        .arg(diff)?
-        .arg(fix)?;
+        .arg(flag(alloc, "diff", "Prints how each file would change"))?
+        .arg(flag(alloc, "fix", "Writes each file anew without the pairs"))?;
     with_common(alloc, command)
 }
 
@@ -200,66 +222,82 @@ fn tokens<'a>(alloc: Global) -> Result<Command<'a>, AllocError> {
     with_common(alloc, command)
 }
 
-fn query<'a>(alloc: Global) -> Result<Command<'a>, AllocError> {
-    let pattern = Arg::new(alloc, "PATTERN").required(true).help(
+fn pattern<'a>(alloc: Global) -> Arg<'a> {
+    Arg::new(alloc, "PATTERN").required(true).help(
         "Names of kinds; behind `>` a child, behind `//` what stands below; `*` is any kind",
-    );
+    )
+}
+
+fn query<'a>(alloc: Global) -> Result<Command<'a>, AllocError> {
     let command = Command::new(alloc, "query")
         .about(
             "Finds nodes and tokens by their kinds and places; the status is 1 where there is one",
         )
         .after_help("Example: rust_tree query 'FN > NAME' src")
         .arg(format(alloc, FORMATS.as_slice()))?
-        .arg(pattern)?;
+        .arg(pattern(alloc))?;
     with_common(alloc, command)
 }
 
-fn highlight<'a>(alloc: Global) -> Result<Command<'a>, AllocError> {
-    let format = Arg::new(alloc, "format")
+fn ink_format<'a>(alloc: Global) -> Arg<'a> {
+    Arg::new(alloc, "format")
         .long("format")
         .value_parser(INKS.as_slice())
         .default_value("ansi")
-        .help("A page of HTML, or the colours of a terminal");
+        .help("A page of HTML, or the colours of a terminal")
+}
+
+fn highlight<'a>(alloc: Global) -> Result<Command<'a>, AllocError> {
     let command = Command::new(alloc, "highlight")
         .about("Prints a file with its words marked by what they are")
         .after_help("Example: rust_tree highlight --format html src/main.rs > main.html")
-        .arg(format)?;
+        .arg(ink_format(alloc))?;
     with_named(alloc, command, &["FILE"])
 }
 
-fn diff<'a>(alloc: Global) -> Result<Command<'a>, AllocError> {
-    let trivia = Arg::new(alloc, "no-trivia")
-        .long("no-trivia")
-        .action(ArgAction::SetTrue)
-        .help("Passes over white space and comments");
-    let limit = Arg::new(alloc, "limit")
+fn limit_arg<'a>(alloc: Global) -> Arg<'a> {
+    Arg::new(alloc, "limit")
         .long("limit")
         .value_name("N")
         .value_parser(value_parser!(u32))
         .default_value("10")
-        .help("How many places are told");
+        .help("How many places are told")
+}
+
+fn diff<'a>(alloc: Global) -> Result<Command<'a>, AllocError> {
     let command = Command::new(alloc, "diff")
         .about("Tells where the trees of two files differ; the status is 1 where they do")
         .after_help("Example: rust_tree diff --no-trivia old.rs new.rs")
-        .arg(trivia)?
-        .arg(limit)?;
+        .arg(flag(alloc, "no-trivia", "Passes over white space and comments"))?
+        .arg(limit_arg(alloc))?;
     with_named(alloc, command, &["A", "B"])
 }
 
-/// The commands and their options.
-pub fn command<'a>(alloc: Global) -> Result<Command<'a>, AllocError> {
-    Command::new(alloc, "rust_tree")
-        .about("Reads Rust without losing a byte")
-        .version("0.1.0 (rattle-kit-13f)")
-        .subcommand_required(true)
+// Adds the commands that print errors, items, pairs of parentheses and trees.
+fn with_prints<'a>(alloc: Global, program: Command<'a>) -> Result<Command<'a>, AllocError> {
+    program
         .subcommand(tree(alloc)?)?
         .subcommand(check(alloc)?)?
         .subcommand(outline(alloc)?)?
-        .subcommand(parens(alloc)?)?
+        .subcommand(parens(alloc)?)
+}
+
+// Adds the commands that print tokens, matches, colours and differences.
+fn with_finds<'a>(alloc: Global, program: Command<'a>) -> Result<Command<'a>, AllocError> {
+    program
         .subcommand(tokens(alloc)?)?
         .subcommand(query(alloc)?)?
         .subcommand(highlight(alloc)?)?
         .subcommand(diff(alloc)?)
+}
+
+/// The commands and their options.
+pub fn command<'a>(alloc: Global) -> Result<Command<'a>, AllocError> {
+    let program = Command::new(alloc, "rust_tree")
+        .about("Reads Rust without losing a byte")
+        .version("0.1.0 (rattle-kit-13f)")
+        .subcommand_required(true);
+    with_finds(alloc, with_prints(alloc, program)?)
 }
 
 fn edition_of(name: Option<&str>) -> Edition {
