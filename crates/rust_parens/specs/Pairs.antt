@@ -7,21 +7,22 @@ use Rattle.tree_model.specs.Cursor.{Cursor, parent_of, range_of}
 use Rattle.ras_node.specs.Nodes.{is_of_kind, typed_child, token_child}
 use Rattle.ras_node.specs.Sets.{is_expr}
 use Rattle.ras_prec.specs.Rules.{asks}
+use Rattle.rust_parens.specs.Rustc.{is_needed_by_rustc}
 
 -- the ranges of `(` and of `)`, where the node has both
 abbrev pub parens_of : Cursor → Option (Bounds × Bounds)
 parens_of c =
     option_and_then (λ first. option_map (λ second. (range_of first, range_of second)) (token_child R_PAREN c)) (token_child L_PAREN c)
 
--- the expression needs no parentheses in place of the pair, below the pair's parent
+-- the expression needs no parentheses in place of the pair, below the pair's parent, and is not one that rustc may read otherwise
 abbrev pub may_go_from : Option Cursor → Option Cursor → Cursor → Bool
 may_go_from None parent pair = false
 may_go_from (Some inside) None pair = false
-may_go_from (Some inside) (Some parent) pair = not (asks inside parent pair)
+may_go_from (Some inside) (Some parent) pair = not (asks inside parent pair) && not (is_needed_by_rustc inside parent pair)
 
 abbrev pub inside_may_go : Cursor → Bool
 inside_may_go pair = may_go_from (typed_child is_expr pair) (parent_of pair) pair
 
--- a pair, with both its parentheses, round an expression that needs none in its place
+-- a pair, with both its parentheses, around such an expression
 abbrev pub may_go : Cursor → Bool
 may_go c = is_of_kind PAREN_EXPR c && (is_some (parens_of c) && inside_may_go c)

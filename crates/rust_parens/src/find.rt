@@ -4,6 +4,7 @@ ghost use Rattle.std.specs.List.{filter};
 ghost use Rattle.tree_model.specs.Cursor.{at_node, descendants_of};
 ghost use Rattle.rust_parens.specs.Pairs.{may_go, inside_may_go, parens_of};
 
+use crate::rustc::is_needed_by_rustc;
 use lossless_tree::{SyntaxKind, SyntaxNode, TextRange};
 use ras_node::support;
 use ras_node::support::share;
@@ -28,13 +29,16 @@ fn inside_may_go(pair: &SyntaxNode) -> bool
         None => false,
         Some(inside) => match pair.parent() {
             None => false,
-            Some(parent) => !needs_parens_in_place_of(&inside, &parent, pair),
+            Some(parent) => {
+                !needs_parens_in_place_of(&inside, &parent, pair)
+                    && !is_needed_by_rustc(&inside, &parent, pair)
+            }
         },
     }
 }
 
 /// Whether a node is a pair of parentheses, with both parentheses, around an expression for which [`needs_parens_in_place_of`] returns
-/// false.
+/// false, and that [`is_needed_by_rustc`] does not keep.
 ///
 /// That test covers operators and statements. If the pair is in something else, such as the arm of a `match`, only a parse of the text
 /// without the pair shows that it is needless.

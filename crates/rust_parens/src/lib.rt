@@ -4,8 +4,10 @@
 mod find;
 mod guess;
 mod needless;
+mod rustc;
 mod text;
 
 pub use find::{may_go, pairs, parens_of};
 pub use needless::{LIMIT, Needless, Tried, find_needless};
+pub use rustc::is_needed_by_rustc;
 pub use text::text_without;

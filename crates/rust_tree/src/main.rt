@@ -223,6 +223,10 @@ fn run(rt: &HostRuntime, words: &[String]) -> anyhow::Result<ExitCode> {
 }
 
 fn main(rt: HostRuntime) -> anyhow::Result<ExitCode> {
-    let words: Vec<String> = env::args(&rt)?.collect(rt.alloc())?;
+    let Ok(args) = env::args(&rt) else {
+        eprintln!(rt; "rust_tree: an argument is not valid UTF-8")?;
+        return Ok(ExitCode::from(USAGE));
+    };
+    let words: Vec<String> = args.collect(rt.alloc())?;
     run(&rt, words.as_slice())
 }
