@@ -2,14 +2,14 @@
 -- invocation expressions", "Closure expressions", "Destructuring assignment" and "let statements".
 use Rattle.std.specs.Prelude.{Bool, true, false, not, ◌&&◌, ◌||◌, Option, Some, None, is_none}
 use Rattle.std.specs.List.{find}
-use Rattle.syntax_kind.specs.declared.syntax_kind.TheConstants.SyntaxKind.{MACRO_EXPR, EXPR_STMT, STMT_LIST, CONTINUE_EXPR, UNDERSCORE_EXPR, RANGE_EXPR, BLOCK_EXPR, CLOSURE_EXPR, ARG_LIST, LET_STMT, LET_ELSE}
+use Rattle.syntax_kind.specs.declared.syntax_kind.TheConstants.SyntaxKind.{MACRO_EXPR, EXPR_STMT, STMT_LIST, PAREN_EXPR, CONTINUE_EXPR, UNDERSCORE_EXPR, RANGE_EXPR, BLOCK_EXPR, CLOSURE_EXPR, ARG_LIST, LET_STMT, LET_ELSE}
 use Rattle.tree_model.specs.Cursor.{Cursor, at_node, following_of}
 use Rattle.ras_node.specs.Nodes.{is_of_kind, typed_child}
 use Rattle.ras_node.specs.Sets.{is_expr}
 
--- statements, and the last expression of a block, are in these
+-- statements, and the last expression of a block, are in these, or in further pairs
 abbrev pub holds_statement : Cursor → Bool
-holds_statement parent = is_of_kind EXPR_STMT parent || is_of_kind STMT_LIST parent
+holds_statement parent = is_of_kind EXPR_STMT parent || (is_of_kind STMT_LIST parent || is_of_kind PAREN_EXPR parent)
 
 -- a macro call as a statement or at the end of a block
 abbrev pub is_statement_macro : Cursor → Cursor → Bool

@@ -12,10 +12,13 @@ fn is_a(node: &SyntaxNode, kind: SyntaxKind) -> bool
     node.kind().to_raw() == kind.to_raw()
 }
 
+// Of pairs around a macro call the innermost stays, since the others may go.
 fn holds_statement(parent: &SyntaxNode) -> bool
     ensures { result ≡ holds_statement parent.now }
 {
-    is_a(parent, SyntaxKind::EXPR_STMT) || is_a(parent, SyntaxKind::STMT_LIST)
+    is_a(parent, SyntaxKind::EXPR_STMT)
+        || is_a(parent, SyntaxKind::STMT_LIST)
+        || is_a(parent, SyntaxKind::PAREN_EXPR)
 }
 
 // `(m! {});` is an expression; `m! {}` as a statement or at the end of a block is the statements that it expands to.
