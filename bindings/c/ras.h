@@ -168,7 +168,7 @@ void ras_c_free(
  *
  * Returns RAS_OK, RAS_NOT_UTF8, RAS_TOO_LONG, RAS_NO_MEMORY, RAS_NO_ROOM or RAS_NO_EDITION. A range is that of a PAREN_EXPR, with both
  * parentheses. The test is on tokens: removing a pair from the text can join two tokens, as in (1).0. It is on each pair alone: two
- * pairs may not be removable together.
+ * pairs may not be removable together. rustc needs some of these pairs, for example around a macro call that is a statement.
  */
 uint32_t ras_c_parens(
     const uint8_t *text,

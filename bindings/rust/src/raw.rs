@@ -164,7 +164,7 @@ unsafe extern "C" {
     ///
     /// Returns [`OK`], [`NOT_UTF8`], [`TOO_LONG`], [`NO_MEMORY`], [`NO_ROOM`] or [`NO_EDITION`]. A range is that of a `PAREN_EXPR`, with both
     /// parentheses. The test is on tokens: removing a pair from the text can join two tokens, as in `(1).0`. It is on each pair alone: two
-    /// pairs may not be removable together.
+    /// pairs may not be removable together. rustc needs some of these pairs, for example around a macro call that is a statement.
     pub fn ras_c_parens(
         text: *const u8,
         text_len: usize,

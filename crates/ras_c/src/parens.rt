@@ -54,7 +54,7 @@ fn needless_below(alloc: Global, root: &SyntaxNode) -> Result<Vec<Range>, AllocE
 ///
 /// Returns [`OK`], [`NOT_UTF8`], [`TOO_LONG`], [`NO_MEMORY`], [`NO_ROOM`] or [`NO_EDITION`]. A range is that of a `PAREN_EXPR`, with both
 /// parentheses. The test is on tokens: removing a pair from the text can join two tokens, as in `(1).0`. It is on each pair alone: two
-/// pairs may not be removable together.
+/// pairs may not be removable together. rustc needs some of these pairs, for example around a macro call that is a statement.
 #[unsafe(no_mangle)]
 pub extern "C" fn ras_c_parens(
     alloc: Global,
