@@ -84,7 +84,7 @@ number ds = fold (λ n d. n * 16 + digit_value d) 0 ds
 abbrev pub is_surrogate : ℕ → Bool
 is_surrogate n = nat_le 0xD800 n && nat_le n 0xDFFF
 
--- what \u{..} with this many digits that write n means: what is asked at the closing brace, in this order
+-- the meaning of \u{..} with this many digits that write n: the checks at the closing brace, in this order
 abbrev pub code : Mode → ℕ → ℕ → Result MixedUnit EscapeError
 code mode count n =
     if nat_lt 6 count then Err OverlongUnicodeEscape

@@ -11,7 +11,7 @@ use Rattle.literal_escape.specs.declared.mode.MixedUnit.{MixedUnit}
 use Rattle.literal_escape.specs.declared.reader.Report.{Report}
 use Rattle.literal_escape.specs.Literal.{is_warning, is_string, meaning, plain, is_simple, simple, is_hex, hex, unicode, is_blank}
 
--- the front of an escape that is not whole: \, \x, \x and a digit, \u, \u{, and \u{ with a digit and what follows it
+-- the prefix of an escape that is not whole: \, \x, \x and a digit, \u, \u{, and \u{ with a digit and what follows it
 pub data Begun : Type 0 where
   slash : Begun
   slash_x : Begun
@@ -20,8 +20,8 @@ pub data Begun : Type 0 where
   slash_u_brace : Begun
   slash_u_digits : ℕ → List ℕ → Begun
 
--- a character for itself; an escape of two characters; \x with two digits; \u{..}; a front of an escape with the
--- character that shows the fault, or none at the content's end; a continuation with the blanks that it skips
+-- a character for itself; an escape of two characters; \x with two digits; \u{..}; a prefix of an escape with the character
+-- that shows the fault, or without one at the content's end; a continuation with the blanks that it skips
 pub data Piece : Type 0 where
   character : ℕ → Piece
   letter : ℕ → Piece
@@ -30,7 +30,7 @@ pub data Piece : Type 0 where
   faulty : Begun → Option ℕ → Piece
   continuation : List ℕ → Piece
 
--- the characters of the front: 92 is \, 120 is x, 117 is u, 123 and 125 are the braces
+-- the characters of the prefix: 92 is \, 120 is x, 117 is u, 123 and 125 are the braces
 abbrev pub front : Begun → List ℕ
 front slash = 92 ∷ []
 front slash_x = 92 ∷ 120 ∷ []
@@ -65,7 +65,7 @@ IsBegun slash_u = Unit {0}
 IsBegun slash_u_brace = Unit {0}
 IsBegun (slash_u_digits first more) = (is_hex first ≡ true) × (list_all is_inside more ≡ true)
 
--- whether the character after the front makes neither a longer front nor an escape
+-- whether the character after the prefix makes neither a longer prefix nor an escape
 abbrev pub shows_fault : Mode → Begun → ℕ → Bool
 shows_fault mode slash c = not (is_simple c || c == 120 || c == 117 || (is_string mode && c == 10))
 shows_fault mode slash_x c = not (is_hex c)
@@ -90,7 +90,7 @@ IsPiece mode (faulty begun None) rest = IsBegun begun × (rest ≡ [])
 IsPiece mode (faulty begun (Some c)) rest = IsBegun begun × (shows_fault mode begun c ≡ true)
 IsPiece mode (continuation blanks) rest = (is_string mode ≡ true) × (list_all is_blank blanks ≡ true) × StartsWithNoBlank rest
 
--- The pieces cut the content: each character lies in one of them, in order.
+-- The pieces cut the content: each character is in one of them, in order.
 abbrev pub IsCut : Mode → List ℕ → List Piece → Type 0
 IsCut mode content [] = content ≡ []
 IsCut mode content (p ∷ ps) = (rest : List ℕ) × (content ≡ spelling p ++ rest) × IsPiece mode p rest × IsCut mode rest ps
@@ -99,7 +99,7 @@ IsCut mode content (p ∷ ps) = (rest : List ℕ) × (content ≡ spelling p ++ 
 abbrev pub HasOneCut : Mode → List ℕ → Type 0
 HasOneCut mode content = (pieces : List Piece) × IsCut mode content pieces × ((others : List Piece) → IsCut mode content others → others ≡ pieces)
 
--- the fault of a front, by the character that shows it
+-- the fault of a prefix, by the character that shows it
 abbrev pub fault : Begun → Option ℕ → EscapeError
 fault slash None = LoneSlash
 fault slash (Some c) = InvalidEscape
@@ -157,7 +157,7 @@ CalledOnEach view step old new reports = FoldsTo (λ f r g. step f (range_of r) 
 abbrev pub OfReports : Mode → List ℕ → (List Report → Type 0) → Type 0
 OfReports mode content P = (pieces : List Piece) × IsCut mode content pieces × P (reports_from mode 0 pieces)
 
--- the answer for a literal of one unit: the unit's meaning or fault, but a good one must be the last
+-- the result for a literal of one unit: the unit's meaning or fault, but a good one must be the last
 abbrev pub alone : Result MixedUnit EscapeError → Result MixedUnit EscapeError
 alone (Ok unit) = Err MoreThanOneChar
 alone (Err e) = Err e
@@ -171,7 +171,7 @@ single (r ∷ s ∷ more) = alone r.unit
 abbrev pub IsOffset : List ℕ → ℕ → Type 0
 IsOffset content n = (before : List ℕ) × (behind : List ℕ) × (content ≡ before ++ behind) × (n ≡ size before)
 
--- a report lies in a content of so many bytes
+-- a report is within a content of that many bytes
 abbrev pub IsWithin : ℕ → Report → Type 0
 IsWithin len r = (r.start ≤ len) × (r.end ≤ len)
 

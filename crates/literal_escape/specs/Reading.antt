@@ -1,5 +1,5 @@
--- What the reader's private functions answer, by the state that they are in. Of these, public clauses cite
--- to_come, reports_in and Gives alone: the pieces are in Pieces.
+-- The results of the reader's private functions, by its state. Public clauses cite only to_come, reports_in and Gives of
+-- these: the pieces are in Pieces.
 use Rattle.std.specs.Prelude.{◌≡◌, ℕ, ◌+◌, ◌-◌, ◌*◌, ◌^◌, min, Bool, false, not, ◌==◌, ◌&&◌, ◌||◌, if◌then◌else◌, Option, Some, None, Result, Err, List, [], ◌∷◌}
 use Rattle.std.specs.Char.{digit_value, len_utf8, is_whitespace}
 use Rattle.std.specs.Str.{chars}
@@ -23,7 +23,7 @@ simple_code c = if is_simple c then Some (simple c) else None
 abbrev pub pair_value : ℕ → ℕ → Option ℕ
 pair_value a b = if is_hex a && is_hex b then Some (digit_value a * 16 + digit_value b) else None
 
--- one more digit, as far as 32 bits and 8 bits reach
+-- one more digit, saturating: the number at 32 bits, the count at 8 bits
 abbrev pub longer_code : ℕ → ℕ → ℕ
 longer_code n d = min (min (n * 16) (2 ^ 32 - 1) + d) (2 ^ 32 - 1)
 
@@ -55,7 +55,7 @@ after_digits mode n count c =
     else (if c == 125 then Ends (code mode count n)
     else Ends (Err InvalidCharInUnicodeEscape)))
 
--- what a character does after a front
+-- the effect of a character after a prefix
 unfoldable pub step_of : Mode → State → ℕ → Step
 step_of mode states.Start c = if c == 92 then Go states.Backslash else Ends (plain mode c)
 step_of mode states.Backslash c = after_backslash mode c
@@ -66,7 +66,7 @@ step_of mode states.Brace c = after_brace c
 step_of mode (states.Digits n count) c = after_digits mode n count c
 step_of mode (states.Continuation lines) c = Go (states.Continuation (lines || c == 10))
 
--- what the content's end does
+-- the effect of the content's end
 abbrev pub end_fault_of : State → Option EscapeError
 end_fault_of states.Start = None
 end_fault_of states.Backslash = Some LoneSlash
@@ -77,7 +77,7 @@ end_fault_of states.Brace = Some UnclosedUnicodeEscape
 end_fault_of (states.Digits n count) = Some UnclosedUnicodeEscape
 end_fault_of (states.Continuation lines) = if lines then Some MultipleSkippedLinesWarning else None
 
--- a continuation of which the next character is no part
+-- a continuation that ends before the next character
 abbrev pub is_over : State → ℕ → Bool
 is_over (states.Continuation lines) c = not (is_blank c)
 is_over _ c = false

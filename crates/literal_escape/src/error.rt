@@ -19,9 +19,9 @@ pub enum EscapeError {
     LoneSlash,
     /// A backslash before a character that begins no escape.
     InvalidEscape,
-    /// A carriage return that stands for itself, also before a newline.
+    /// A bare carriage return, also before a newline.
     BareCarriageReturn,
-    /// A carriage return in a raw string. No call of this crate answers it.
+    /// A carriage return in a raw string. No call of this crate returns it.
     BareCarriageReturnInRawString,
     /// A character that must be escaped in this literal: `"` in the strings; `'`, newline and
     /// tab in a character or byte.
@@ -54,7 +54,7 @@ pub enum EscapeError {
     NonAsciiCharInByte,
     /// The character 0 in a C string, however it is written.
     NulInCStr,
-    /// A warning: what a continuation skips holds a second newline.
+    /// A warning: a continuation skips a second newline.
     MultipleSkippedLinesWarning,
     /// A warning: white space that is not skipped follows a continuation.
     UnskippedWhitespaceWarning,

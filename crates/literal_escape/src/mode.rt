@@ -1,8 +1,8 @@
-// The literals, and what their units mean.
+// The kinds of literals, and what their units mean.
 ghost use Rattle.std.specs.Prelude.{◌≡◌, ◌<◌};
 ghost use Rattle.literal_escape.specs.Literal.{number_of};
 
-/// Which literal a content is of.
+/// The kind of literal that a content belongs to.
 #[derive(Clone, Copy, Debug, PartialEq, Eq)]
 pub enum Mode {
     /// `'a'`
@@ -17,17 +17,17 @@ pub enum Mode {
     CStr,
 }
 
-/// What a unit means: a byte from 80 on that `\x` names is a `HighByte`, all else a `Char`.
+/// The meaning of a unit: `HighByte` for a byte from 80 (hexadecimal) on that is written with `\x`, otherwise `Char`.
 #[derive(Clone, Copy, Debug, PartialEq, Eq)]
 pub enum MixedUnit {
-    /// A character, which stands for its UTF-8.
+    /// A character, encoded as UTF-8.
     Char(char),
-    /// A byte from 80 to FF, which `\x` names and which stands for itself.
+    /// A byte from 80 to FF (hexadecimal), written with `\x`. It is not a character's UTF-8.
     HighByte(u8),
 }
 
 impl MixedUnit {
-    /// The character, or that of the byte's number.
+    /// The character, or the one whose code is the byte.
     pub(crate) fn as_char(self) -> char
         ensures { result ≡ number_of self }
     {
@@ -37,7 +37,7 @@ impl MixedUnit {
         }
     }
 
-    /// The byte, or the character's number.
+    /// The byte, or the character's code.
     pub(crate) fn as_byte(self) -> u8
         requires { number_of self < 256 }
         ensures { result ≡ number_of self }

@@ -21,13 +21,13 @@ pub enum State {
     Unicode,
     /// `\u{`
     Brace,
-    /// `\u{`, digits and underscores: the number so far and how many digits, as far as they fit.
+    /// `\u{`, digits and underscores: the number so far and how many digits, both saturating.
     Digits { code: u32, count: u8 },
-    /// A backslash, a newline and blanks. `lines`: among these is a newline that wants a warning.
+    /// A backslash, a newline and blanks. `lines`: there is a second newline among them, which needs a warning.
     Continuation { lines: bool },
 }
 
-/// What a character does to a piece: it goes on, or it is a unit that ends here.
+/// The effect of a character on a piece: the piece goes on, or it is a unit that ends here.
 #[derive(Clone, Copy)]
 pub enum Step {
     Go(State),
@@ -191,7 +191,7 @@ fn digits(mode: Mode, code: u32, count: u8, c: char) -> Step
     }
 }
 
-/// What the character after the state's front does. After a continuation it is a blank.
+/// The effect of the next character on the state. After a continuation it is a blank.
 #[tactic(auto, unfolding(crate::specs::Reading::step_of))]
 pub fn advance(mode: Mode, state: State, c: char) -> Step
     ensures { result ≡ step_of mode state c }

@@ -1,4 +1,4 @@
-// Reports, and how far the reading is.
+// Reports, and the state of the reader.
 ghost use Rattle.std.specs.Prelude.{◌≡◌, ◌<◌, ◌+◌, ◌^◌, MatchOption};
 ghost use Rattle.std.specs.Result.{ForOk};
 ghost use Rattle.std.specs.Char.{len_utf8};
@@ -44,8 +44,7 @@ impl Report {
     }
 }
 
-/// How far the reading is: `at` is the offset of the next character, `start` that of the piece
-/// that is being read.
+/// The state of the reader: `at` is the offset of the next character, `start` that of the piece that is being read.
 #[derive(Clone, Copy)]
 pub struct Reader {
     pub mode: Mode,
@@ -70,7 +69,7 @@ impl Reader {
         report
     }
 
-    /// The next warning of a continuation that is over before this character.
+    /// The next warning of a continuation that ends before this character.
     #[tactic(auto, unfolding(crate::specs::Reading::warning_of, crate::specs::Reading::warned_of))]
     pub fn warn(&mut self, c: char) -> Option<Report>
         requires { self.old.at + len_utf8 c < 2 ^ 64 }
@@ -99,7 +98,7 @@ impl Reader {
         }
     }
 
-    /// Reads one character. The report of the piece that it ends, if it ends one.
+    /// Reads one character. Returns the report of the piece that it ends, if it ends one.
     #[tactic(auto, unfolding(crate::specs::Reading::read_report_of, crate::specs::Reading::read_of))]
     pub fn read(&mut self, c: char) -> Option<Report>
         requires { self.old.at + len_utf8 c < 2 ^ 64 }

@@ -20,7 +20,7 @@ impl<'a> Units<'a> {
     ghost use Rattle.literal_escape.specs.Pieces.{OfReports, IsWithin};
     ghost use Rattle.literal_escape.specs.Reading.{to_come, reports_in, Gives};
 
-    /// The reports of this content, of which none is given yet.
+    /// An iterator over the reports of this content, at the first one.
     pub fn new(mode: Mode, content: &'a str) -> Units<'a>
         ensures reports { OfReports mode (chars content.now) (λ reports. to_come result ≡ reports) }
         ensures read { to_come result ≡ reports_in mode (chars content.now) }
@@ -37,7 +37,7 @@ impl<'a> Units<'a> {
         }
     }
 
-    /// The next report. After the last one it is None, again and again.
+    /// The next report, or `None` after the last one, also in all later calls.
     pub fn next(&mut self) -> Option<Report>
         ensures { Gives (to_come self.old) result (to_come self.new) }
     {

@@ -28,13 +28,13 @@ escaped c =
 abbrev pub is_plain : ℕ → Bool
 is_plain c = nat_le 32 c && not (c == 34) && not (c == 92) && not (c == 127)
 
--- the shortest front of some characters that has at least n bytes
+-- the shortest prefix of some characters that has at least n bytes
 abbrev pub shortest_front : ℕ → List ℕ → List ℕ
 shortest_front n [] = []
 shortest_front n (c ∷ cs) = if n == 0 then [] else (c ∷ shortest_front (n - len_utf8 c) cs)
 
--- what is shown of a text: all of one of fewer than 25 bytes; of a longer one what ends at the first character boundary
--- from byte 21 on, and three dots
+-- the part of a text that is shown: all of one of fewer than 25 bytes; of a longer one the prefix that ends at the first
+-- character boundary from byte 21 on, and three dots
 abbrev pub shown : List ℕ → List ℕ
 shown t =
     if nat_lt (length t) 25 then flat_map escaped (chars t)
@@ -56,7 +56,7 @@ span_text c = kind_name (kind_of (focus c)) ++ codes "@" ++ range_text (range_of
 abbrev pub token_line : Cursor → List ℕ
 token_line c = span_text c ++ codes " " ++ quoted (text (focus c))
 
--- the line of a node or token, so many levels below the one that is dumped
+-- the line of a node or token at a level below the one that is dumped
 abbrev pub dump_line : ℕ → Cursor → List ℕ
 dump_line level c = replicate (2 * level) 32 ++ span_text c ++ shown_text (focus c) ++ codes "\n"
 

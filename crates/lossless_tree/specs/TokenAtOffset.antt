@@ -26,7 +26,7 @@ Each P at.None = ⊤
 Each P (at.Single t) = P t
 Each P (at.Between l r) = P l × P r
 
--- as many are found, and each stands for its token by R
+-- both have the same number of tokens, and R relates them one by one
 abbrev pub EachBecomes : {T U : Type 0} → (T → U → Type 0) → TokenAtOffset T → TokenAtOffset U → Type 0
 EachBecomes {U} R at.None found = found ≡ at.None
 EachBecomes {U} R (at.Single t) found = (u : U) × (found ≡ at.Single u) × R t u

@@ -1,4 +1,4 @@
-//! Events to a tree.
+//! Builds trees from events.
 ghost use Rattle.std.specs.Prelude.{◌≡◌, [], ◌∷◌, ◌++◌, OnOk, OnErr, IfOk, IfErr, None};
 ghost use Rattle.tree_model.specs.Events.{enter, leaf, exit, BuildsNode, IsAccepted, IsFirstRefusal, first_refusal, refusal_of, text_len};
 ghost use Rattle.tree_model.specs.Cursor.{IsRoot};
@@ -87,14 +87,14 @@ impl TreeBuilder {
         Ok(())
     }
 
-    /// How many bytes the tokens have that came so far. It takes constant time.
+    /// The length of all tokens so far, in bytes. Takes constant time.
     pub fn text_len(&self) -> usize
         ensures { result ≡ text_len self.now }
     {
         self.text.as_str().len()
     }
 
-    /// The refusal that [`TreeBuilder::finish`] would answer now, other than `Memory`, or `None` if the events build a tree.
+    /// The error that [`TreeBuilder::finish`] would return now, other than `Memory`, or `None` if the events build a tree.
     /// It takes no memory, and time linear in the number of events.
     pub fn refusal(&self) -> Option<FinishError>
         ensures { result ≡ first_refusal self.now }

@@ -63,7 +63,7 @@ fn write_text<W: Write>(f: &mut Formatter<W>, table: &Table, row: usize) -> fmt:
     Ok(())
 }
 
-// Two spaces a level, sixteen at a time as far as that goes.
+// Two spaces a level, in pieces of sixteen while there are eight levels or more.
 fn write_indent<W: Write>(f: &mut Formatter<W>, level: usize) -> fmt::Result
     ensures { WritesOnOk W.write_str_gives f.old result (replicate (2 * level) 32) f.new }
 {
@@ -76,7 +76,7 @@ fn write_indent<W: Write>(f: &mut Formatter<W>, level: usize) -> fmt::Result
     Ok(())
 }
 
-// The line of a row, so many levels below the one that is dumped.
+// The line of a row at a level below the one that is dumped.
 fn write_line<W: Write>(
     f: &mut Formatter<W>,
     level: usize,

@@ -1,4 +1,4 @@
-//! A tree over a text that is there as a whole.
+//! Builds a tree over a complete text.
 ghost use Rattle.std.specs.Prelude.{◌<◌, ◌^◌, length, filter_map, IfOk};
 ghost use Rattle.tree_model.specs.Events.{BuildsNode};
 ghost use Rattle.tree_model.specs.Cursor.{IsRoot};

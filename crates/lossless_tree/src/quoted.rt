@@ -11,7 +11,7 @@ use std::fmt::{Formatter, Write};
 // A text of fewer bytes is shown whole.
 const WHOLE_BELOW: usize = 25;
 
-// Of a longer one so many bytes are shown, and what is left of the last character.
+// Of a longer one, this many bytes are shown, up to the next character boundary.
 const SHOWN: usize = 21;
 
 // A text that prints between quotes, cut to fit a line.
@@ -67,7 +67,7 @@ fn is_plain(c: char) -> bool
     c >= ' ' && c != '"' && c != '\\' && c != '\u{7f}'
 }
 
-// The shortest front of whole characters that has at least so many bytes, or all of them.
+// The shortest prefix of whole characters that has at least this many bytes, or the whole text.
 fn write_front<W: Write>(f: &mut Formatter<W>, text: &str, bytes: usize) -> fmt::Result
     ensures { WritesOnOk W.write_str_gives f.old result (flat_map escaped (shortest_front bytes (chars text.now))) f.new }
 {

@@ -9,8 +9,8 @@ use syntax_kind::SyntaxKind;
 use text_size::TextSize;
 use tree_rows::Table;
 
-/// Some children of a node that are left to read, from one on to the last: for readers that go over a tree in order and look
-/// at a few siblings at once. A clause sees a forest and the byte where its first tree starts.
+/// The children of a node from one on to the last, for readers that go over a tree in order and look at a few siblings at
+/// once. A clause sees a forest and the byte where its first tree starts.
 ///
 /// No call takes memory, and each takes constant time but for `without_trivia`. A value is never changed: `rest` and `inside`
 /// give new ones. Where nothing is left, the kind is `OTHER(0)`, the text is empty, and `rest` and `inside` have nothing.
@@ -133,8 +133,8 @@ impl<'t> SiblingsLeft<'t> {
         }
     }
 
-    /// What is left from the first on that is not trivia: no token of white space or a comment. It takes time linear in the
-    /// trivia that it passes.
+    /// The siblings left, from the first on that is not trivia (white space or a comment). Takes time linear in the trivia
+    /// that it passes.
     pub fn without_trivia(&self) -> SiblingsLeft<'t>
         ensures { result ≡ without_trivia self.now }
     {

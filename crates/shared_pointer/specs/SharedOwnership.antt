@@ -33,7 +33,7 @@ pub record Marks : Type 0 where
   pub alive : ℕ
   -- a lifetime that ends once the count is full
   pub counting : ℕ
-  -- a name that tells where the value lies, and which it is
+  -- a name for the address of the value together with the value
   pub name : GName
 
 -- The invariant's key. It names no place: so two invariants of one place could be open together, which no memory
@@ -153,7 +153,7 @@ module _ (Z R : RattleType) where
   abbrev pub freed_by : (Z.Denot → Ty → Ptr → Fml) → Ptr → Z.Denot → Fml
   freed_by holds c h = fsep (lies_at Z full_share (c +ₚ allocator_offset) h) (fsep (holds h block_type c) (rejoin c))
 
--- an owner that points to c, where the value x lies
+-- an owner that points to c, where the value x is
 module _ (Z : RattleType) (holds : Z.Denot → Ty → Ptr → Fml) (R : RattleType) (c : Ptr) (x : R.Denot) where
   -- what the last owner gets: the value, and what frees the block
   abbrev pub contents_of : Fml

@@ -1,4 +1,4 @@
--- Where the value of a `Shared` lies.
+-- The place of the value of a `Shared`.
 use denote.RawPtr.{Ptr}
 use Rattle.shared_pointer.specs.declared.shared.Shared.{Shared}
 

@@ -11,17 +11,16 @@ use std_alloc::room::Vacant;
 
 mod count;
 
-/// One of the owners of a value on the heap, in one thread.
+/// A reference-counted pointer to a value on the heap, for one thread, like `Rc`.
 ///
-/// The owners are counted. Another owner takes no memory, and making one always succeeds: a count
-/// that has reached `usize::MAX` stays there for good. Below that, the value is dropped and its
-/// block freed with the last owner; once the count is full, the value is never freed.
+/// Cloning takes no memory and always succeeds: a count that has reached `usize::MAX` stays there. Below that, the value is
+/// dropped and its block freed with the last owner; once the count is full, the value is never freed.
 pub struct Shared<T, A: Allocator = Global> {
     ptr: *const Block<T, A>,
     pub ghost value: { T },
 }
 
-// What an owner points to. `count` is the number of owners, from 1 on.
+// The block that owners point to. `count` is the number of owners, at least 1.
 struct Block<T, A> {
     count: usize,
     alloc: A,
@@ -35,8 +34,7 @@ impl<T, A: Allocator> Model for Shared<T, A> {
 }
 
 impl<T, A: Allocator> Shared<T, A> {
-    /// The first owner of `value`, which moves to the heap. Where there is no memory for it, the
-    /// error hands it back.
+    /// Moves `value` to the heap and returns its first owner. If memory runs out, the error contains the value.
     pub fn new(alloc: A, value: T) -> Result<Shared<T, A>, AllocFailed<T>>
         ensures ok { IfOk result (λ s. s.value ≡ value) }
         ensures value_returned { IfErr result (λ e. e.value ≡ value) }
@@ -55,11 +53,11 @@ impl<T, A: Allocator> Shared<T, A> {
     }
 }
 
-// As for `Box::leak`, `T` is to be `Drop`, since a value with that many owners is never dropped.
+// `T` must be `Drop`, as for `Box::leak`, since a value whose count is full is never dropped.
 impl<T: Drop, A: Allocator> Shared<T, A> {
     ghost use Rattle.shared_pointer.specs.SharedPlace.{place_of};
 
-    /// One more owner of the value. It takes no memory, and always succeeds.
+    /// Another owner of the value. It takes no memory, and always succeeds.
     pub fn share(&self) -> Shared<T, A>
         ensures value { result.value ≡ self.now.value }
         ensures place { place_of result ≡ place_of self.now }
@@ -77,7 +75,7 @@ impl<T: Drop, A: Allocator> Drop for Shared<T, A> {
     }
 }
 
-// The last owner gives the value and its block back.
+// The last owner drops the value and frees its block.
 #[cold]
 #[inline(never)]
 fn free_last<T: Drop, A: Allocator>(value: T, block: Vacant<Block<T, A>, A>) {

@@ -75,7 +75,7 @@ kinds =
     Node node.WHERE_CLAUSE ∷ Node node.WHERE_PRED ∷ Node node.VISIBILITY ∷ Node node.VISIBILITY_INNER ∷ Node node.TOKEN_TREE ∷
     Node node.MACRO_STMTS ∷ []
 
--- each is there at its number
+-- each kind is at the index of its number
 token_listed : (t : TokenKind) (d : SyntaxKind) → slice_index_or kinds (kind_raw (Token t)) d ≡ Token t
 unfolding kinds
 token_listed token.WHITESPACE d = refl

@@ -1,8 +1,8 @@
-//! The raw numbers of the kinds of nodes, and of the kinds of tokens that have a view, by their names: those that
-//! [`SyntaxKind::to_raw`](crate::SyntaxKind::to_raw) gives. A view knows its kind by such a number.
+//! The raw numbers, as [`SyntaxKind::to_raw`](crate::SyntaxKind::to_raw) returns them, of the kinds of nodes and of the
+//! kinds of tokens that have a view. Each constant has the name of its kind. A view knows its kind by such a number.
 use crate::{NodeKind, TokenKind};
 
-// The number of the first kind of node: those of the kinds of tokens come before it.
+// The number of the first kind of node; all kinds of tokens have smaller numbers.
 const FIRST_NODE: u32 = 117;
 
 pub const ARRAY_EXPR: u32 = FIRST_NODE + NodeKind::ARRAY_EXPR as u32;

@@ -32,14 +32,14 @@ pub enum SyntaxKind {
 }
 
 impl SyntaxKind {
-    /// White space and comments that document nothing: `WHITESPACE` and `COMMENT`.
+    /// Whether the kind is `WHITESPACE` or `COMMENT` (a comment that is not documentation).
     pub fn is_trivia(self) -> bool
         ensures { result ≡ is_trivia self }
     {
         matches!(self, SyntaxKind::WHITESPACE | SyntaxKind::COMMENT)
     }
 
-    /// The number that stands for the kind: its place in `KINDS`, and 65,536 + n for `OTHER(n)`.
+    /// The raw number of the kind: its index in `KINDS`, or 65,536 + n for `OTHER(n)`.
     pub fn to_raw(self) -> u32
         ensures { result ≡ kind_raw self }
     {
@@ -75,9 +75,8 @@ impl SyntaxKind {
 
     /// The kind that prints as `name`, if there is one.
     ///
-    /// A name is matched by its very bytes. The number of `OTHER(n)` is decimal, from 0 to 65535,
-    /// with no sign and no leading zero. It reads `name` a fixed number of times,
-    /// whatever the kind.
+    /// The name must match exactly. The number of `OTHER(n)` is decimal, from 0 to 65535, with no sign and no leading zero.
+    /// Takes time linear in `name`, whatever the kind.
     pub fn from_name(name: &str) -> Option<SyntaxKind>
         ensures exact { (k : SyntaxKind) → IsKind k → (result ≡ Some k) ↔ (kind_name k ≡ name.now) }
         ensures kind { IfSome result IsKind }

@@ -7,9 +7,9 @@ use crate::size::TextSize;
 use std::fmt;
 use std::marker::Model;
 
-/// The bytes of a text from `start` up to and without `end`.
+/// A range of bytes of a text: `start` is included, `end` is not.
 ///
-/// It has the name, and calls, of the type in the crate `text-size`. It prints as `start..end`.
+/// It has the name and the calls of the type in the crate `text-size`. It prints as `start..end`.
 #[derive(Clone, Copy, PartialEq, Eq, Hash)]
 pub struct TextRange {
     start: TextSize,
@@ -27,7 +27,7 @@ impl Model for TextRange {
 }
 
 impl TextRange {
-    /// The range between two offsets, of which the first is not past the second.
+    /// The range `start..end`; `start` must not be greater than `end`.
     pub fn new(start: TextSize, end: TextSize) -> TextRange
         requires { start ≤ end }
         ensures { result ≡ record { start = start; end = end } }
@@ -35,7 +35,7 @@ impl TextRange {
         TextRange { start, end }
     }
 
-    /// The range of no bytes at `offset`.
+    /// The empty range at `offset`.
     pub fn empty(offset: TextSize) -> TextRange
         ensures { result ≡ record { start = offset; end = offset } }
     {
@@ -45,7 +45,7 @@ impl TextRange {
         }
     }
 
-    /// The range of `len` bytes from `offset` on, which ends within 32 bits.
+    /// The range of `len` bytes that starts at `offset`. Its end must fit in 32 bits.
     pub fn at(offset: TextSize, len: TextSize) -> TextRange
         requires { offset + len < 2 ^ 32 }
         ensures { result ≡ record { start = offset; end = offset + len } }
@@ -56,7 +56,7 @@ impl TextRange {
         }
     }
 
-    /// The range of the bytes before `end`.
+    /// The range `0..end`.
     pub fn up_to(end: TextSize) -> TextRange
         ensures { result ≡ record { start = 0; end = end } }
     {
@@ -96,7 +96,7 @@ impl TextRange {
         self.len().raw() == 0
     }
 
-    /// Whether `other` lies within this range, its ends included.
+    /// Whether this range contains `other`; they may have the same start or end.
     pub fn contains_range(self, other: TextRange) -> bool
         ensures { IsTrue result ↔ (self.start ≤ other.start) × (other.end ≤ self.end) }
     {

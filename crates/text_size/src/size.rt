@@ -5,9 +5,9 @@ ghost use Rattle.std.specs.Option.{SomeIff};
 use std::fmt;
 use std::marker::Model;
 
-/// An offset into a text or the length of a text, in bytes: a number of 32 bits.
+/// An offset into a text or the length of a text, in bytes, as a 32-bit number.
 ///
-/// It has the name, and calls, of the type in the crate `text-size`.
+/// It has the name and the calls of the type in the crate `text-size`.
 #[derive(Clone, Copy, PartialEq, Eq, PartialOrd, Ord, Hash)]
 pub struct TextSize {
     raw: u32,
@@ -29,7 +29,7 @@ impl TextSize {
         TextSize { raw }
     }
 
-    /// The length of a text, or `None` if that takes more than 32 bits.
+    /// The length of a text, or `None` if it does not fit in 32 bits.
     pub fn of(text: &str) -> Option<TextSize>
         ensures { SomeIff result (length text.now < 2 ^ 32) (length text.now) }
     {

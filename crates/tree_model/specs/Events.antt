@@ -38,7 +38,7 @@ texts (enter k ∷ es) = texts es
 texts (leaf k t ∷ es) = t ++ texts es
 texts (exit ∷ es) = texts es
 
--- how many nodes are open after the events, where d are open before them; None where some front has more exits than that
+-- how many nodes are open after the events, if d are open before them; None if some prefix has more exits than that
 abbrev pub open_after : ℕ → List Event → Option ℕ
 open_after d [] = Some d
 open_after d (enter k ∷ es) = open_after (suc d) es
@@ -69,7 +69,7 @@ abbrev pub append_forest : Forest → Forest → Forest
 append_forest nil g = g
 append_forest (cons t r) g = cons t (append_forest r g)
 
--- the refusals of balanced events look at the top elements
+-- the errors of balanced events depend on the top elements
 abbrev pub root_refusal : Forest → Option FinishError
 root_refusal nil = Some Empty
 root_refusal (cons (token k t) nil) = Some TokenRoot
@@ -81,11 +81,11 @@ balance_refusal None es = Some OverClosed
 balance_refusal (Some (suc d)) es = Some Unclosed
 balance_refusal (Some zero) es = root_refusal (forest_of es)
 
--- the first refusal that holds of the events, other than want of memory
+-- the first error that applies to the events, other than out of memory
 abbrev pub first_refusal : List Event → Option FinishError
 first_refusal es = if nat_lt (text_len es) (2 ^ 32) then balance_refusal (open_after 0 es) es else Some TooLong
 
--- the refusal that an error names; want of memory is none of them
+-- the refusal that an error names; out of memory is not one of them
 abbrev pub refusal_of : FinishError → Option FinishError
 refusal_of TooLong = Some TooLong
 refusal_of OverClosed = Some OverClosed
@@ -113,7 +113,7 @@ exits (enter k ∷ es) = exits es
 exits (leaf k t ∷ es) = exits es
 exits (exit ∷ es) = suc (exits es)
 
--- some front of the events has more exits than enters, where d nodes are open before them
+-- some prefix of the events has more exits than enters, if d nodes are open before them
 pub record HasOverClosedFront (d : ℕ) (es : List Event) : Type 0 where
   pub front : List Event
   pub rest : List Event
@@ -133,7 +133,8 @@ pub record BuildsToken (es : List Event) : Type 0 where
   pub its_text : List ℕ
   pub builds : Builds es (cons (token kind its_text) nil)
 
--- what each refusal says of the events: an error past the text is never said of them alone, and memory may want with any
+-- what each error means for the events: an error past the text never applies to events alone, and memory can run out with
+-- any
 abbrev pub Holds : FinishError → List Event → Type 0
 Holds TooLong es = 2 ^ 32 ≤ text_len es
 Holds OverClosed es = HasOverClosedFront 0 es
@@ -144,7 +145,7 @@ Holds TokenRoot es = BuildsToken es
 Holds ErrorPastText es = ⊥
 Holds Memory es = ⊤
 
--- the order in which the refusals are looked at
+-- the order in which the errors are checked
 abbrev pub refusal_number : FinishError → ℕ
 refusal_number TooLong = 1
 refusal_number OverClosed = 2
@@ -155,7 +156,7 @@ refusal_number TokenRoot = 6
 refusal_number ErrorPastText = 7
 refusal_number Memory = 8
 
--- the refusal holds, and none before it: so want of memory comes only where no other refusal holds
+-- the error applies, and none before it: so out of memory is returned only if no other error applies
 pub record IsFirstRefusal (es : List Event) (e : FinishError) : Type 0 where
   pub holds : Holds e es
   pub first : (d : FinishError) → refusal_number d < refusal_number e → Holds d es → ⊥
@@ -166,8 +167,8 @@ pub record IsAccepted (es : List Event) : Type 0 where
   pub root : Tree
   pub builds : BuildsNode es root
 
--- what `first_refusal` computes is the first refusal that holds: over-closed and unclosed events are told by counts of
--- enters and exits over fronts of the list, the others by what the events build
+-- what `first_refusal` computes is the first error that applies: over-closed and unclosed events are defined by counts of
+-- enters and exits in prefixes of the list, the others by what the events build
 abbrev pub RefusalsHold : Type 0
 RefusalsHold = (es : List Event) → MatchOption (first_refusal es) (IsAccepted es) (IsFirstRefusal es)
 
@@ -175,6 +176,6 @@ RefusalsHold = (es : List Event) → MatchOption (first_refusal es) (IsAccepted 
 abbrev pub TextsAreBuilt : Type 0
 TextsAreBuilt = (es : List Event) (f : Forest) → Builds es f → forest_text f ≡ texts es
 
--- events that build one node of a text shorter than 2^32 meet no refusal
+-- events that build one node of a text shorter than 2^32 have no error
 abbrev pub NodesAreAccepted : Type 0
 NodesAreAccepted = (es : List Event) (t : Tree) → BuildsNode es t → length (text t) < 2 ^ 32 → first_refusal es ≡ None

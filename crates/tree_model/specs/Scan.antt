@@ -1,10 +1,10 @@
--- Refusals 2 to 6, read from left to right.
+-- Errors 2 to 6, by a scan from left to right.
 use Rattle.std.specs.Prelude.{ℕ, zero, suc, List, [], ◌∷◌, Bool, true, false, Option, None, Some}
 use Rattle.tree_model.specs.declared.error.FinishError.{FinishError}
 use Rattle.tree_model.specs.declared.error.FinishError.TheVariants.{TooLong, OverClosed, Unclosed, Empty, ManyRoots, TokenRoot, ErrorPastText, Memory}
 use Rattle.tree_model.specs.Events.{Event, enter, leaf, exit}
 
--- the refusal for the top elements so far, after one more
+-- the error of the top elements so far, after one more
 abbrev pub after_top : Option FinishError → Bool → Option FinishError
 after_top (Some Empty) true = Some TokenRoot
 after_top (Some Empty) false = None
@@ -17,7 +17,7 @@ after_top (Some ErrorPastText) b = Some ManyRoots
 after_top (Some Memory) b = Some ManyRoots
 after_top None b = Some ManyRoots
 
--- d nodes are open, and r is the refusal for the top elements so far
+-- d nodes are open, and r is the error of the top elements so far
 abbrev pub scan : ℕ → Option FinishError → List Event → Option FinishError
 scan zero r [] = r
 scan (suc d) r [] = Some Unclosed

@@ -64,7 +64,7 @@ abbrev pub places : Tree → List Place
 places (node k c) = [] ∷ places_from 0 c
 places (token k t) = [] ∷ []
 
--- what is where there is no tree
+-- the tree at a place that does not exist
 abbrev pub no_tree : Tree
 no_tree = node (OTHER 0) nil
 

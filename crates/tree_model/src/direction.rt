@@ -1,10 +1,10 @@
 //! Forwards or backwards.
 
-/// Which way a call goes among siblings or tokens.
+/// The direction of a search among siblings or tokens.
 #[derive(Clone, Copy, PartialEq, Eq, Debug, Hash)]
 pub enum Direction {
-    /// In the order of the text.
+    /// Towards the end of the text.
     Next,
-    /// Against it.
+    /// Towards the start of the text.
     Prev,
 }

@@ -1,16 +1,16 @@
-//! Why `finish` and `replace_with` refuse.
+//! The errors of `finish` and `replace_with`.
 ghost use Rattle.std.specs.Prelude.{◌≡◌};
 ghost use Rattle.tree_model.specs.declared.error.ReplaceError.TheVariants.{Memory};
 
 use std::alloc::AllocError;
 
-/// Why a builder's events make no tree. `finish` looks at all of them, in this order.
+/// Why a builder's events do not build a tree. If several variants apply, `finish` returns the first of them.
 #[derive(Clone, Copy, Debug, PartialEq, Eq, Hash, thiserror::Error)]
 pub enum FinishError {
     /// The text is longer than 4,294,967,295 bytes.
     #[error("the text is longer than 4294967295 bytes")]
     TooLong,
-    /// Some front of the events has more exits than enters.
+    /// Some prefix of the events has more exits than enters.
     #[error("more nodes are left than were entered")]
     OverClosed,
     /// There are more enters than exits in all.
@@ -25,21 +25,22 @@ pub enum FinishError {
     /// The one top element is a token.
     #[error("the root is a token")]
     TokenRoot,
-    /// An error's position is past the text. Only a builder that takes errors refuses so; `TreeBuilder` never does.
+    /// The position of an error is past the end of the text. Only a builder that takes errors returns this; `TreeBuilder`
+    /// never does.
     #[error("an error is past the text")]
     ErrorPastText,
-    /// Want of memory. It comes after every other refusal.
+    /// Out of memory. All other variants take precedence.
     #[error("out of memory")]
     Memory,
 }
 
-/// Why no tree is made with a piece replaced.
+/// Why a node or token could not be replaced.
 #[derive(Clone, Copy, Debug, PartialEq, Eq, Hash, thiserror::Error)]
 pub enum ReplaceError {
     /// The new tree's text would be longer than 4,294,967,295 bytes.
     #[error("the text is longer than 4294967295 bytes")]
     TooLong,
-    /// Want of memory. It comes after the other refusal.
+    /// Out of memory. The other variant takes precedence.
     #[error("out of memory")]
     Memory,
 }

@@ -4,19 +4,19 @@ ghost use Rattle.tree_model.specs.Edit.{PlacesAreReached, PlacesEndWithin, RootI
 ghost use Rattle.tree_model.specs.Every.{EveryIsDescendants};
 ghost use Rattle.tree_model.specs.Events.{RefusalsHold, TextsAreBuilt, NodesAreAccepted};
 
-/// The refusal that a reading of the events from left to right finds is the first that holds: a text that is too long,
-/// then some front of the events with more exits than enters, then more enters than exits in all, then what the
-/// balanced events build. Where it finds none, the events build one node of a text that is not too long.
+/// The error that a scan of the events from left to right finds is the first that applies: the text is too long, then some
+/// prefix of the events has more exits than enters, then there are more enters than exits in all, then the errors of the
+/// trees that balanced events build. If it finds none, the events build one node whose text is not too long.
 pub fn refusals_hold()
     ensures { RefusalsHold }
 {}
 
-/// The text of what events build is the texts of their tokens, joined.
+/// The text of the trees that events build is the texts of the tokens, joined.
 pub fn texts_are_built()
     ensures { TextsAreBuilt }
 {}
 
-/// Events that build one node of a text of fewer than 2^32 bytes meet no refusal.
+/// Events that build one node whose text has fewer than 2^32 bytes have no error.
 pub fn nodes_are_accepted()
     ensures { NodesAreAccepted }
 {}
@@ -62,7 +62,7 @@ pub fn equality_is_sameness()
     ensures { EqualityIsSameness }
 {}
 
-/// Equal cursors feed a hasher alike.
+/// Equal cursors hash alike.
 pub fn equal_cursors_hash_alike()
     ensures { EqualCursorsHashAlike }
 {}

@@ -1,6 +1,6 @@
-//! Trees as contracts see them: the definitions that contracts on trees cite, and laws on them.
+//! The logical model of trees: the definitions that contracts on trees use, and laws about them.
 //!
-//! `tree_rows` keeps a tree, and `lossless_tree` has its cursors; who reads trees uses those.
+//! `tree_rows` stores trees, and `lossless_tree` has the cursors that programs use.
 #![tactic(auto)]
 
 mod direction;

@@ -54,11 +54,11 @@ moved_subtree tree n m b up = record {
   parents = up ∷ (moved (shift_from n m (start_at tree n) b) (rows_between tree (n + 1) (n + size (tree_at tree n)))).parents;
 }
 
--- the rows before the subtree at row n, when others of so many rows take its place
+-- the rows before the subtree at row n, if a number of other rows replaces it
 abbrev pub moved_before : Tree → ℕ → ℕ → Columns
 moved_before tree n count = moved (shift_from (n + size (tree_at tree n)) (n + count) 0 0) (rows_between tree 0 n)
 
--- the rows after it, when others of so many rows and bytes take its place
+-- the rows after it, if a number of other rows and bytes replaces it
 abbrev pub moved_behind : Tree → ℕ → ℕ → ℕ → Columns
 moved_behind tree n count bytes =
     moved (shift_from (n + size (tree_at tree n)) (n + count) (end_at tree n) (start_at tree n + bytes)) (rows_between tree (n + size (tree_at tree n)) (size tree))

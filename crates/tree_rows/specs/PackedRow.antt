@@ -7,7 +7,7 @@ use Rattle.tree_rows.specs.declared.rows.PackedRow.{PackedRow}
 use Rattle.tree_rows.specs.Rows.{Columns}
 use Rattle.tree_model.specs.TreeCode.{kind_code}
 
--- the row that is kept so
+-- the row that is stored
 abbrev pub unpacked : PackedRow → Row
 unpacked p = record {
   kind = p.kind;
@@ -16,7 +16,7 @@ unpacked p = record {
   end = if nat_lt p.behind (2 ^ 63) then p.behind else p.behind - 2 ^ 63;
 }
 
--- the rows that are kept so, and their parents
+-- the rows that are stored, and their parents
 abbrev pub rows_kept : List PackedRow → List ℕ → Columns
 rows_kept ps parents = record { rows = map unpacked ps; parents = parents }
 

@@ -1,4 +1,4 @@
--- What row calls on steps answer, in rows. No contract outside this crate names these.
+-- The results of row calls on steps, as rows. No contract outside this crate names these.
 use Rattle.std.specs.Prelude.{◌≡◌, ℕ, ◌+◌, ◌-◌, ◌<◌, ◌≤◌, List, Option, MatchOption, ◌↔◌}
 use Rattle.std.specs.List.{filter}
 use Rattle.tree_model.specs.Tree.{Tree, size, IsToken, IsNode}

@@ -19,7 +19,7 @@ rows_of (cons (node k c) r) n b =
     row_of (node k c) n b
     ∷ (rows_of c (suc n) b ++ rows_of r (suc n + forest_size c) (b + length (forest_text c)))
 
--- what is read past the last row
+-- the row that is read past the last one
 abbrev pub no_row : Row
 no_row = record { kind = OTHER 0; is_token = false; start = 0; end = 0 }
 
@@ -28,7 +28,8 @@ abbrev pub nearest_reaching : List Row → ℕ → ℕ → ℕ
 nearest_reaching rows n zero = 0
 nearest_reaching rows n (suc m) = if nat_lt n (get_or rows m no_row).end then m else nearest_reaching rows n m
 
--- the parent of row n is the nearest earlier row whose subtree reaches past it; the root has none, and answers 0, itself
+-- the parent of row n is the nearest earlier row whose subtree reaches past it; for the root, which has none, it is 0,
+-- itself
 abbrev pub parent_of : List Row → ℕ → ℕ
 parent_of rows n = nearest_reaching rows n n
 

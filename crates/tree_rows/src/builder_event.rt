@@ -3,7 +3,7 @@ ghost use Rattle.std.specs.Prelude.{◌≡◌, Option};
 
 use syntax_kind::SyntaxKind;
 
-/// An event without its text, which is with that of the others in one string.
+/// An event without its text; the texts of all events are in one string.
 #[derive(Clone, Copy)]
 pub enum BuilderEvent {
     /// A node begins.
@@ -14,11 +14,11 @@ pub enum BuilderEvent {
     Exit,
 }
 
-/// A step from which a tree is built where it is: rows are made of a list of such steps, and no list of events is.
+/// A step that may be an event. Rows are built from a list of such steps directly, without a list of events.
 pub trait TreeStep {
     ghost use Rattle.tree_rows.specs.declared.builder_event.BuilderEvent.{BuilderEvent};
 
-    // The event that the step is; `None` where it is none.
+    // The event that the step is, or `None` if it is not one.
     ghost step_event: { Self → Option BuilderEvent };
 
     /// The event that the step is, or `None` if it has nothing to do with the tree.

@@ -1,4 +1,4 @@
-//! What `finish` does with the steps.
+//! From the steps of a builder to rows.
 ghost use Rattle.std.specs.Prelude.{◌≡◌, ◌<◌, ◌^◌, [], Some, map, filter_map, length, IfOk};
 ghost use Rattle.tree_model.specs.declared.error.FinishError.TheVariants.{Empty};
 ghost use Rattle.tree_model.specs.Tree.{Forest};
@@ -14,7 +14,7 @@ use crate::rows::{Row, Rows};
 use std::alloc::{AllocError, Global};
 use tree_model::FinishError;
 
-// The refusal for the top elements, after one more.
+// The error of the top elements, after one more.
 fn after_top(root: Option<FinishError>, is_token: bool) -> Option<FinishError>
     ensures { result ≡ after_top root is_token }
 {
@@ -30,7 +30,7 @@ fn after_top(root: Option<FinishError>, is_token: bool) -> Option<FinishError>
     }
 }
 
-/// The first refusal that holds, lengths and memory aside.
+/// The first error that applies, other than `TooLong` and `Memory`.
 pub fn first_refusal(steps: &[BuilderEvent]) -> Option<FinishError>
     ensures { result ≡ scan 0 (Some Empty) (events_from steps.now []) }
 {
@@ -109,7 +109,7 @@ pub fn build_rows<S: TreeStep>(alloc: Global, steps: &[S]) -> Result<Kept, Alloc
                 at += len as u32;
             }
             Some(BuilderEvent::Exit) => {
-                // Of steps that close no more than they open, each finds its node.
+                // No prefix of the steps has more exits than enters, so an exit always finds its node.
                 let row = innermost;
                 if row < rows.len() {
                     let end = rows.len();

@@ -1,4 +1,4 @@
-//! Rows that trees share: those after one of them may start elsewhere than they are kept.
+//! Rows that several trees share. The starts of all rows after one of them can be shifted.
 ghost use Rattle.std.specs.Prelude.{◌≡◌, ◌<◌, ◌≤◌, ◌^◌, length, get_or, IfOk, IfSome, OnOk};
 ghost use Rattle.std.specs.Cmp.Lexicographic.{pointwise};
 ghost use Rattle.tree_rows.specs.Rows.{no_row, joined};
@@ -16,11 +16,11 @@ use std::marker::Model;
 #[derive(Drop)]
 pub struct Kept {
     rows: Shared<Rows>,
-    /// The rows after this one start elsewhere.
+    /// The starts of the rows after this one are shifted.
     at: usize,
-    /// From this byte on they are kept,
+    /// A stored start of `from + k`
     from: usize,
-    /// and from that byte on they are.
+    /// means the start `to + k`.
     to: usize,
 }
 
@@ -39,7 +39,7 @@ impl Model for Kept {
 }
 
 impl Kept {
-    /// These rows, as they are.
+    /// These rows, without a shift.
     pub fn new(alloc: Global, rows: Rows) -> Result<Kept, AllocError>
         ensures { IfOk result (λ kept. kept ≡ rows) }
     {
@@ -81,7 +81,7 @@ impl Kept {
         }
     }
 
-    /// The number that is beside row `n`.
+    /// The stored number of the parent of row `n`.
     pub(crate) fn parent(&self, n: usize) -> usize
         requires { n < length self.now.rows }
         ensures { result ≡ get_or self.now.parents n 0 }
@@ -89,8 +89,8 @@ impl Kept {
         self.rows.as_ref().parent(n)
     }
 
-    /// The same rows, where those after row `n`, which start at `from` or after it, start so much later as `to` is after that.
-    /// They are shared. `None` where others start elsewhere already.
+    /// The same rows, shared, with the starts of all rows after row `n` (at least `from`) shifted by `to - from`. Returns
+    /// `None` if the starts after another row are shifted already.
     pub(crate) fn restarted(&self, n: usize, from: usize, to: usize) -> Option<Kept>
         requires is_row { n < length self.now.rows }
         requires fits { StartsFit n from to self.now }
@@ -117,7 +117,7 @@ impl Kept {
         None
     }
 
-    /// The rows `first..end` after these.
+    /// Appends the rows `first..end` of these to `rows`.
     pub(crate) fn copy_to(
         &self,
         rows: &mut Rows,

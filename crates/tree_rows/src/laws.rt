@@ -6,18 +6,18 @@ ghost use Rattle.tree_model.specs.Pointer.{PointersResolve};
 ghost use Rattle.tree_model.specs.TokenSearch.{AtMostTwo};
 ghost use Rattle.tree_rows.specs.RowSteps.{ParentsAreNearest};
 
-/// At most two tokens of a node that have a text touch one offset.
+/// At most two non-empty tokens of a node touch the same offset.
 pub fn at_most_two_tokens()
     ensures { AtMostTwo }
 {}
 
-/// A pointer resolves to the node that it was made of, where that has a text and no node above it has its kind and range.
+/// A pointer resolves to the node that it was made from, if that is not empty and no ancestor has its kind and range.
 pub fn pointers_resolve()
     ensures { PointersResolve }
 {}
 
-/// What covers a range is a place of the tree; its range holds the range where that of the node does from which it was
-/// sought, and so do the ranges of all nodes above it.
+/// The element that covers a range is a place of the tree. If the range of the node that the search starts from contains
+/// the range, so does the range of that element, and of every node above it.
 pub fn covering_holds()
     ensures { CoveringHolds }
 {}

@@ -1,6 +1,6 @@
 //! The table of rows that holds a tree: one text, and one row for each place in preorder.
 //!
-//! `lossless_tree` is its cursors on it; who reads trees uses those.
+//! Programs use the cursors of `lossless_tree`.
 #![tactic(auto)]
 
 mod builder_event;

@@ -24,12 +24,12 @@ pub(crate) struct Row {
     pub end: usize,
 }
 
-/// How a row is kept: the highest bit of `behind` says whether it is a token.
+/// A row as stored: the highest bit of `behind` is set for a token.
 #[derive(Clone, Copy)]
 pub struct PackedRow {
     kind: SyntaxKind,
     start: u32,
-    /// The number of the first row after the subtree, and `TOKEN` more for a token.
+    /// The number of the first row after the subtree, plus `TOKEN` for a token.
     behind: usize,
 }
 
@@ -52,7 +52,7 @@ impl PackedRow {
         }
     }
 
-    /// The row that is kept so.
+    /// The row that is stored.
     pub(crate) fn row(self) -> Row
         ensures value { result ≡ unpacked self }
         ensures fits { result.end < 2 ^ 63 }
@@ -104,7 +104,7 @@ impl Model for Rows {
 }
 
 impl Rows {
-    /// No rows, with room for this many.
+    /// An empty list with room for this many rows.
     pub fn with_capacity(alloc: Global, count: usize) -> Result<Rows, AllocError>
         ensures empty { IfOk result (λ rows. rows ≡ no_rows) }
         ensures fits { OnOk result (count < 2 ^ 63) }
@@ -132,7 +132,7 @@ impl Rows {
         self.packed[n].row()
     }
 
-    /// The number that is beside row `n`.
+    /// The stored number of the parent of row `n`.
     pub(crate) fn parent(&self, n: usize) -> usize
         requires { n < length self.now.rows }
         ensures { result ≡ get_or self.now.parents n 0 }
@@ -140,7 +140,7 @@ impl Rows {
         self.parents[n]
     }
 
-    /// One more row at the end, and the number of its parent; if there is no memory for them, nothing is changed.
+    /// Appends a row and the number of its parent; if memory runs out, nothing is changed.
     pub(crate) fn push(&mut self, row: Row, parent: usize) -> Result<(), AllocError>
         requires { row.end < 2 ^ 63 }
         ensures ok { OnOk result (self.new ≡ joined self.old (one_row row parent)) }
@@ -156,7 +156,7 @@ impl Rows {
         }
     }
 
-    /// Row `n` with another end.
+    /// Sets the end of row `n`.
     pub(crate) fn set_end(&mut self, n: usize, end: usize)
         requires is_row { n < length self.old.rows }
         requires fits { end < 2 ^ 63 }
@@ -165,7 +165,7 @@ impl Rows {
         self.packed[n].set_end(end);
     }
 
-    /// The rows `first..end` of other ones after these; if there is no memory for them, nothing is changed.
+    /// Appends the rows `first..end` of another list; if memory runs out, nothing is changed.
     pub(crate) fn extend_from(
         &mut self,
         other: &Rows,

@@ -6,8 +6,8 @@ ghost use Rattle.tree_rows.specs.MovedRows.{moved_number, moved_row, MoveFits, N
 
 use crate::rows::{PackedRow, Row};
 
-/// How rows move: the row numbers from `from_row` on become those from `to_row` on, and the bytes from `from_byte` on those from
-/// `to_byte` on. Row numbers before `from_row` stay, as those of the nodes around a piece.
+/// How rows move: row number `from_row + k` becomes `to_row + k`, and byte `from_byte + k` becomes `to_byte + k`. Row
+/// numbers before `from_row` stay, such as those of the nodes around a piece.
 #[derive(Clone, Copy)]
 pub struct Shift {
     pub from_row: usize,

@@ -68,7 +68,7 @@ impl Table {
         self.rows.get(n)
     }
 
-    // The number of the row that is the parent of row `n`; the root answers its own.
+    // The number of the row that is the parent of row `n`; for the root, its own number.
     fn parent(&self, n: usize) -> usize
         requires { n < size self.now }
         ensures { result ≡ parent_at self.now n }
@@ -92,7 +92,7 @@ impl Table {
         self.row(n).is_token
     }
 
-    /// The row of the place after the subtree at row `n`: as many rows on as are there.
+    /// The first row after the subtree at row `n`: `n` plus the number of rows of the subtree.
     pub fn row_behind(&self, n: usize) -> usize
         requires { n < size self.now }
         ensures { result ≡ n + size (tree_at self.now n) }
@@ -110,7 +110,7 @@ impl Table {
         n + 1
     }
 
-    /// The rows of the places below row `n`: the first, and that after the last.
+    /// The rows of the descendants of row `n`: the first row, and the row after the last one.
     pub fn rows_below(&self, n: usize) -> (usize, usize)
         requires { n < size self.now }
         ensures first { result.0 ≡ n + 1 }
@@ -128,7 +128,7 @@ impl Table {
         self.row(n).start
     }
 
-    /// How many nodes and tokens are at row `n` and below.
+    /// The number of nodes and tokens of the subtree at row `n`.
     pub fn size_at(&self, n: usize) -> usize
         requires { n < size self.now }
         ensures { result ≡ size (tree_at self.now n) }

@@ -78,7 +78,7 @@ impl<N, T> NodeOrToken<N, T> {
 }
 
 impl NodeOrToken<SyntaxNode, SyntaxToken> {
-    /// The kind, as of the node or token.
+    /// The kind of the node or token.
     pub fn kind(&self) -> SyntaxKind
         ensures { result ≡ kind_of (focus (cursor_of self.now)) }
     {

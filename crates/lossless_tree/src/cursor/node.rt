@@ -392,13 +392,13 @@ impl SyntaxNode {
         }
     }
 
-    /// The node or token that covers a range of the whole tree's text: down from this node while there is a child to go
-    /// to.
+    /// The node or token that covers a range of the whole tree's text. From this node, it goes down to a child as long as
+    /// there is one to go to.
     ///
-    /// For a range that is not empty that is the child whose range contains it. For an empty range it is the child that has
-    /// its offset strictly inside, otherwise the last child that ends at or before it, otherwise the first child. So a range
-    /// that is not empty and that no child contains, as one outside of this node, gives this node, and an empty one always
-    /// gives a token or a node without children. The time grows with the logarithm of the size of the tree and with its
+    /// For a non-empty range, that is the child whose range contains it. For an empty range, it is the child that has its
+    /// offset strictly inside, otherwise the last child that ends at or before it, otherwise the first child. So the result
+    /// is this node for a non-empty range that no child contains, for example one outside this node; for an empty range it
+    /// is always a token or a node without children. The time grows with the logarithm of the size of the tree and with its
     /// depth.
     pub fn covering_element(&self, range: TextRange) -> SyntaxElement
         ensures { result ≡ element_of (covering_of self.now range) }
@@ -478,7 +478,7 @@ impl Clone for SyntaxNode {
     }
 }
 
-/// Equal where both are at the same place in equal trees. Of cursors of one tree it takes constant time.
+/// Equal where both are at the same place in equal trees. Takes constant time for cursors of one tree.
 impl PartialEq for SyntaxNode {
     ghost use Rattle.tree_model.specs.Equality.{is_same_cursor};
     ghost use Rattle.tree_model.specs.EqualityLaws.{cursor_equivalence};

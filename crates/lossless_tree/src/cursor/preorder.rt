@@ -16,9 +16,9 @@ use tree_rows::Table;
 /// What a walk does at an element: it enters it, walks what is below, and leaves it.
 #[derive(Clone, PartialEq, Eq, Hash, Drop)]
 pub enum WalkEvent<T> {
-    /// It is entered, before what is below.
+    /// Entered, before its descendants.
     Enter(T),
-    /// It is left, after what is below.
+    /// Left, after its descendants.
     Leave(T),
 }
 

@@ -231,7 +231,7 @@ impl Clone for SyntaxToken {
     }
 }
 
-/// Equal where both are at the same place in equal trees. Of cursors of one tree it takes constant time.
+/// Equal where both are at the same place in equal trees. Takes constant time for cursors of one tree.
 impl PartialEq for SyntaxToken {
     ghost use Rattle.tree_model.specs.Equality.{is_same_cursor};
     ghost use Rattle.tree_model.specs.EqualityLaws.{cursor_equivalence};

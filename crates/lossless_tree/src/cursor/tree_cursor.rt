@@ -1,4 +1,4 @@
-//! What a node and a token have in common: a place in a tree, and what it says of either.
+//! The common part of nodes and tokens: a place in a tree, and its properties.
 ghost use Rattle.std.specs.Prelude.{◌≡◌, option_map, IfOk, string_bytes};
 ghost use Rattle.std.specs.List.{find};
 ghost use Rattle.tree_model.specs.Tree.{text, kind_of};
@@ -119,8 +119,8 @@ impl<'t> TreeCursor<'t> {
     }
 }
 
-// Equal where both are at the same place in equal trees. Of one shared table it takes constant time; of two, where the
-// row numbers are equal, it compares texts and rows.
+// Equal where both are at the same place in equal trees. Takes constant time if they share one table; otherwise, if the row
+// numbers are equal, it compares texts and rows.
 impl<'t> PartialEq for TreeCursor<'t> {
     ghost use Rattle.tree_model.specs.Equality.{is_same_cursor};
     ghost use Rattle.tree_model.specs.EqualityLaws.{cursor_equivalence};

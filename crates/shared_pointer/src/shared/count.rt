@@ -1,4 +1,4 @@
-//! What owners do with the count.
+//! Operations on the count.
 ghost use Rattle.std.specs.Prelude.{◌≡◌, ◌↔◌, IsTrue, IfSome};
 
 use super::{Block, Shared};
@@ -23,14 +23,14 @@ impl<T, A: Allocator> Shared<T, A> {
         Shared { ptr }
     }
 
-    /// The value, which every owner sees.
+    /// The value that all owners share.
     pub(super) fn value(&self) -> &T
         ensures { result.now ≡ self.now.value }
     {
         unsafe { &(*self.ptr).value }
     }
 
-    /// One more owner. A full count stays as it is.
+    /// Adds an owner. A full count stays as it is.
     pub(super) fn add_owner(&self) -> Shared<T, A>
         ensures value { result.value ≡ self.now.value }
         ensures place { place_of result ≡ place_of self.now }
@@ -45,7 +45,7 @@ impl<T, A: Allocator> Shared<T, A> {
         Shared { ptr }
     }
 
-    /// One owner less. The last one gets the value and its block; a full count stays as it is.
+    /// Removes an owner. The last one gets the value and its block; a full count stays as it is.
     pub(super) fn remove_owner(self) -> Option<(T, Vacant<Block<T, A>, A>)>
         ensures { IfSome result (λ last. last.0 ≡ self.value) }
     {
@@ -66,10 +66,10 @@ impl<T, A: Allocator> Shared<T, A> {
         }
     }
 
-    // Pointers into two different blocks may not be compared. So this lowers the count through the
-    // first owner for a moment, and looks for that through the second.
-    /// Whether both own one value at one place, as with `Rc::ptr_eq`. It takes constant time, so it
-    /// is a fast first test of equality.
+    // Pointers into two different blocks may not be compared. So this decrements the count through the first owner for a
+    // moment, and checks whether the second one sees that.
+    /// Whether both point to the same value, like `Rc::ptr_eq`. Takes constant time, so it is a fast first test of
+    /// equality.
     pub fn ptr_eq(this: &Shared<T, A>, other: &Shared<T, A>) -> bool
         ensures place { IsTrue result ↔ (place_of this.now ≡ place_of other.now) }
         ensures value { IsTrue result → (this.now.value ≡ other.now.value) }

@@ -18,7 +18,7 @@ pub(super) fn find(name: &str) -> Option<SyntaxKind>
     }
 }
 
-/// The one kind that may have this name, `OTHER` apart.
+/// The only kind, `OTHER` apart, that can have this name.
 fn candidate(name: &str) -> Option<SyntaxKind>
     ensures { (k : SyntaxKind) → kind_raw k < 264 → kind_name k ≡ name.now → result ≡ Some k }
 {
@@ -28,7 +28,7 @@ fn candidate(name: &str) -> Option<SyntaxKind>
     SyntaxKind::from_raw(NUMBERS[slot as usize] as u32)
 }
 
-/// The hash by which a name's place in the table is found.
+/// The hash of a name, which selects its slot in the table.
 fn hash_of(name: &[u8]) -> u32
     ensures { result ≡ hash_of name.now }
 {
@@ -50,14 +50,14 @@ fn is_named(kind: SyntaxKind, name: &str) -> bool
     }
 }
 
-/// The number `n` where `name` is `OTHER(n)`.
+/// The number `n` if `name` is `OTHER(n)`, otherwise `None`.
 pub(super) fn other_number(name: &str) -> Option<u16>
     ensures { (n : ℕ) → n < 65536 → (result ≡ Some n) ↔ (kind_name (SyntaxKind.OTHER n) ≡ name.now) }
 {
     decimal_number(name.strip_prefix("OTHER(")?.strip_suffix(')')?)
 }
 
-/// The number that `text` is the decimal form of, without a sign or leading zeros.
+/// The value of `text` as a decimal number without a sign or leading zeros, or `None` if it is not such a number.
 fn decimal_number(text: &str) -> Option<u16>
     ensures { (n : ℕ) → n < 65536 → (result ≡ Some n) ↔ (decimal n ≡ text.now) }
 {

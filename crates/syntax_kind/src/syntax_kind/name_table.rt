@@ -1,4 +1,4 @@
-//! Where the number of a name is: a perfect hash by "hash and displace".
+//! A perfect hash table from names to raw numbers, by "hash and displace".
 //!
 //! A name's hash picks a shift, and hash and shift together pick a slot. The shifts are chosen so
 //! that no two names share a slot; the check computes this for all 264 names.
@@ -12,7 +12,7 @@ pub(super) static SHIFTS: [u8; 128] = [
     6, 7, 0, 11, 95, 4, 11, 1, 0, 4, 12, 0, 0, 10, 1, 0, 2, 0, 4,
 ];
 
-/// The raw number of the one kind whose name may have the slot.
+/// The raw number of the only kind whose name can be in the slot.
 pub(super) static NUMBERS: [u16; 264] = [
     235, 141, 84, 243, 25, 43, 24, 133, 45, 189, 108, 23, 83, 34, 82, 247, 195, 146, 252, 147, 174,
     85, 143, 53, 66, 58, 32, 224, 94, 193, 116, 151, 134, 248, 244, 171, 144, 149, 117, 150, 57,

@@ -11,7 +11,7 @@ use syntax_kind::SyntaxKind;
 #[repr(C)]
 #[derive(Clone, Copy)]
 pub struct FlatRow {
-    /// The number of its kind; for a token 2^31 more, since ERROR is a kind of both.
+    /// The number of its kind, plus 2^31 for a token, since ERROR is a kind of both.
     pub kind: u32,
     /// The byte where its text starts.
     pub start: u32,
@@ -52,8 +52,8 @@ impl Table {
         }
     }
 
-    /// Writes the rows of the node at row `n`, as the root of a tree of its own, to the front of `out`, and answers how many
-    /// they are. Where that is more than `out` has, or 2^32 or more, `out` is unchanged.
+    /// Writes the rows of the node at row `n`, as the root of a tree of its own, to the start of `out`, and returns their
+    /// number. If that is more than `out.len()`, or 2^32 or more, `out` is unchanged.
     pub fn write_flat_rows(&self, n: usize, out: &mut [FlatRow]) -> usize
         requires is_row { n < size self.now }
         requires is_node { IsNode (tree_at self.now n) }

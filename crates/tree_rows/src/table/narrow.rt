@@ -1,12 +1,12 @@
-//! A search of rows by offset begins with a guess: starts mostly rise evenly with the row numbers, so the row that starts at
-//! an offset is mostly about as far along between two rows as the offset is between their starts.
+//! Interpolation search: starts mostly rise evenly with the row numbers, so a search of rows by offset first guesses the
+//! row by linear interpolation.
 ghost use Rattle.std.specs.Prelude.{◌≤◌, ◌<◌, ◌-◌};
 ghost use Rattle.tree_model.specs.Tree.{size};
 ghost use Rattle.tree_rows.specs.RowSearch.{IsNarrowed};
 
 use super::Table;
 
-// A stretch that is no longer is left to halving.
+// Stretches of at most this many rows are left to binary search.
 const SHORT: usize = 64;
 
 /// The rows `low..high`.
@@ -17,8 +17,8 @@ pub struct Stretch {
 }
 
 impl Table {
-    // A part of a stretch that has the first row that starts at `offset` or after it, or ends right before that. It goes from one
-    // guess in steps that grow, so a search takes no more time than by halves alone, but for a constant.
+    // A part of a stretch that contains the first row that starts at or after `offset`, or ends right before it. It starts
+    // at a guess and takes growing steps, so a search costs at most a constant factor more than binary search alone.
     pub(super) fn narrowed(&self, whole: Stretch, offset: usize) -> Stretch
         requires ordered { whole.low ≤ whole.high }
         requires in_range { whole.high ≤ size self.now }
@@ -36,7 +36,7 @@ impl Table {
         near
     }
 
-    // What the row in the middle says.
+    // The half of a stretch that is left after a look at the row in its middle.
     pub(super) fn halved(&self, whole: Stretch, offset: usize) -> Stretch
         requires some { whole.low < whole.high }
         requires in_range { whole.high ≤ size self.now }
@@ -57,7 +57,8 @@ impl Table {
         }
     }
 
-    // What two rows say, so far before the guess and after it, or the nearest that the stretch has.
+    // The part of a stretch that is left after a look at the rows `reach` before and after the guess, clamped to the
+    // stretch.
     fn narrower(&self, whole: Stretch, guess: usize, offset: usize, reach: usize) -> Stretch
         requires some { whole.low < whole.high }
         requires in_range { whole.high ≤ size self.now }
@@ -85,7 +86,8 @@ impl Table {
         }
     }
 
-    // The row that is as far along from `first` to `last` as `offset` is between their starts. Any row would do.
+    // Linear interpolation: the row as far along from `first` to `last` as `offset` is between their starts. Any row would
+    // do.
     fn guess(&self, first: usize, last: usize, offset: usize) -> usize
         requires ordered { first ≤ last }
         requires in_range { last < size self.now }

@@ -1,4 +1,4 @@
-//! The table of a text that is there as a whole.
+//! The table of a tree over a complete text.
 ghost use Rattle.std.specs.Prelude.{◌≡◌, ◌<◌, ◌^◌, length, filter_map, IfOk};
 ghost use Rattle.tree_model.specs.Events.{BuildsNode};
 ghost use Rattle.tree_rows.specs.Builder.{events_from, IsOneTree};

@@ -1,4 +1,4 @@
-//! Searches of rows by offset: the starts of rows don't decrease with their numbers, so they go by halves, after a guess.
+//! Searches of rows by offset. The starts of rows are sorted, so they are binary searches, after a guess.
 ghost use Rattle.std.specs.Prelude.{◌≡◌, ◌+◌, ◌≤◌, ◌<◌, ◌^◌, ◌++◌, nat_lt, length, map, option_map, IfSome, IsTrue, ◌↔◌};
 ghost use Rattle.std.specs.Option.{option_to_list};
 ghost use Rattle.tree_model.specs.Tree.{nil, cons, size};
@@ -35,8 +35,8 @@ impl Table {
         near.low
     }
 
-    /// The tokens in the subtree at row `n` that have a text and touch the offset: one that starts before it, and one
-    /// that starts at it.
+    /// The non-empty tokens in the subtree at row `n` that touch the offset: one that starts before it, and one that starts
+    /// at it.
     pub fn tokens_at(&self, n: usize, offset: usize) -> (Option<usize>, Option<usize>)
         requires is_row { n < size self.now }
         requires fits { offset < 2 ^ 32 }
@@ -98,7 +98,7 @@ impl Table {
         }
     }
 
-    // The lowest row in the subtree at row `n` that holds a range; row `n` itself, where none of its children does.
+    // The lowest row in the subtree at row `n` whose range contains a range; row `n` itself if none of its children does.
     fn holding_row(&self, n: usize, range: TextRange) -> usize
         requires { n < size self.now }
         ensures holding { IsHolding self.now n range result }

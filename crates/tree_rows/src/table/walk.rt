@@ -6,7 +6,7 @@ ghost use Rattle.tree_rows.specs.Walks.{walk_left, IsWalk, MovesLevel};
 
 use super::Table;
 
-/// One step of a walk: the row that is entered or left, and where the walk is then.
+/// One step of a walk: the row that is entered or left, and the state of the walk after that.
 #[derive(Clone, Copy)]
 pub struct WalkStep {
     /// Whether the row is entered; otherwise it is left.

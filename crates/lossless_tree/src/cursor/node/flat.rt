@@ -8,9 +8,9 @@ use super::SyntaxNode;
 use tree_rows::FlatRow;
 
 impl SyntaxNode {
-    /// Writes the rows of this node's subtree, as a tree of its own, to the front of `out`, and answers how many they are: one
-    /// for each node and token, in preorder. Where that is more than `out` has, or 2^32 or more, `out` is unchanged; so a call
-    /// with an empty slice counts.
+    /// Writes the rows of this node's subtree, as a tree of its own, to the start of `out`, and returns their number: one
+    /// for each node and token, in preorder. If that is more than `out.len()`, or 2^32 or more, `out` is unchanged; so a
+    /// call with an empty slice counts.
     ///
     /// It takes time linear in the subtree, and no memory.
     pub fn write_flat_rows(&self, out: &mut [FlatRow]) -> usize
