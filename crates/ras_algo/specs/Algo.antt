@@ -1,4 +1,4 @@
--- What the functions of `algo` answer: walks and chains of ancestors, filtered.
+-- The results of the functions of `algo`: walks and chains of ancestors, filtered.
 -- (Upstream: rust-analyzer's `algo`. That the left chain comes first at equal lengths is a rule of this crate.)
 use Rattle.std.specs.Prelude.{◌≡◌, ◌==◌, ℕ, Contains, List, [], ◌∷◌, ◌++◌, length, take, drop, reverse, Bool, true, false, not, nat_lt, if◌then◌else◌, Option, None, Some}
 use Rattle.std.specs.Option.{option_and_then}
@@ -21,7 +21,7 @@ abbrev pub siblings_beyond : Direction → Cursor → List Cursor
 siblings_beyond Next c = following_of c
 siblings_beyond Prev c = preceding_of c
 
--- the token, and those of the whole tree beyond it
+-- the token, and the tokens of the whole tree after it in a direction
 abbrev pub tokens_from : Direction → Cursor → List Cursor
 tokens_from d c = c ∷ tokens_beyond d c
 
@@ -39,7 +39,7 @@ abbrev pub last_token_of : NodeOrToken Cursor Cursor → Option Cursor
 last_token_of (Node c) = find at_token (reverse (descendants_of c))
 last_token_of (Token c) = Some c
 
--- of the node or token at a cursor: its kind is no trivia; is not WHITESPACE; is ERROR
+-- tests of the node or token at a cursor: its kind is not trivia; it is not WHITESPACE; it is ERROR
 abbrev pub has_no_trivia_kind : Cursor → Bool
 has_no_trivia_kind c = not (is_trivia (kind_at c))
 
@@ -49,17 +49,18 @@ is_no_whitespace c = not (is_of_kind WHITESPACE c)
 abbrev pub is_error : Cursor → Bool
 is_error c = is_of_kind ERROR c
 
--- the longest common front of two places
+-- the longest common prefix of two places
 abbrev pub common_front : Place → Place → Place
 common_front [] q = []
 common_front (i ∷ p) [] = []
 common_front (i ∷ p) (j ∷ q) = if i == j then i ∷ common_front p q else []
 
--- the deepest node that is an ancestor of two nodes of equal trees, each counted as its own; of unequal trees there is none
+-- the deepest node that is an ancestor of two nodes of equal trees, each counted as its own ancestor; there is no such node
+-- in unequal trees
 abbrev pub common_ancestor : Cursor → Cursor → Option Cursor
 common_ancestor u v = if is_same_tree u.tree v.tree then Some (at_place u (common_front u.place v.place)) else None
 
--- what is found is an ancestor of both, and each ancestor of both is one of its own ancestors
+-- the result is an ancestor of both, and each ancestor of both is one of its own ancestors
 abbrev pub CommonAncestorIsDeepest : Type 0
 CommonAncestorIsDeepest =
     (u v d : Cursor) → common_ancestor u v ≡ Some d
@@ -78,7 +79,7 @@ common_ancestor_of_elements u v = option_and_then (λ a. option_and_then (common
 abbrev pub is_shorter : Cursor → Cursor → Bool
 is_shorter c d = nat_lt (length (text (focus c))) (length (text (focus d)))
 
--- how many of a list come before a cursor: from its first on, those that are shorter
+-- the number of leading cursors of a list that are shorter than a cursor
 abbrev pub shorter_count : Cursor → List Cursor → ℕ
 shorter_count c right = prefix_len (λ d. is_shorter d c) right
 

@@ -73,8 +73,8 @@ fn is_right_next(left: &Option<SyntaxNode>, right: &Option<SyntaxNode>) -> bool
 
 /// The nodes above the tokens at an offset, by the length of their text, the shortest first.
 ///
-/// Between two tokens there are two chains of nodes, of which the left one comes first at equal lengths; a node above
-/// both tokens comes twice. Where no token has a text at the offset there is none. The tokens are found in time that
+/// Between two tokens there are two chains of nodes, and the left one comes first at equal lengths; a node above both
+/// tokens comes twice. The result is empty if no non-empty token touches the offset. The tokens are found in time that
 /// grows with the logarithm of the size of the tree; each node takes constant time.
 pub fn ancestors_at_offset(node: &SyntaxNode, offset: TextSize) -> AncestorsAtOffset
     ensures { result ≡ ancestors_at node.now offset }
@@ -87,7 +87,7 @@ pub fn ancestors_at_offset(node: &SyntaxNode, offset: TextSize) -> AncestorsAtOf
     AncestorsAtOffset { left, right }
 }
 
-/// The first that can be cast to this view of the nodes above the tokens at an offset, the shortest first, or `None` if
+/// The first of the nodes above the tokens at an offset, the shortest first, that can be cast to this view, or `None` if
 /// there is none. It takes the time of `ancestors_at_offset` and of the nodes that it passes.
 pub fn find_node_at_offset<N: AstNode>(syntax: &SyntaxNode, offset: TextSize) -> Option<N>
     ensures { option_map N.node result ≡ find (has_kind_in N.casts) (ancestors_at syntax.now offset) }
@@ -96,8 +96,8 @@ pub fn find_node_at_offset<N: AstNode>(syntax: &SyntaxNode, offset: TextSize) ->
     N::cast(nodes.find(|node| N::can_cast(node.kind()))?)
 }
 
-/// The first that can be cast to this view of what covers a range and the nodes above it, or `None` if there is none. It
-/// takes the time of `SyntaxNode::covering_element`.
+/// The element that covers a range, or else the nearest node above it, that can be cast to this view, or `None` if there is
+/// none. It takes the time of `SyntaxNode::covering_element`.
 pub fn find_node_at_range<N: AstNode>(syntax: &SyntaxNode, range: TextRange) -> Option<N>
     ensures { option_map N.node result ≡ find (has_kind_in N.casts) (ancestors_of_element (element_of (covering_of syntax.now range))) }
 {
@@ -143,15 +143,16 @@ pub fn neighbor<T: AstNode>(me: &T, direction: Direction) -> Option<T>
     ensures { option_map T.node result ≡ find (has_kind_in T.casts) (filter at_node (siblings_beyond direction (T.node me.now))) }
 {
     let node = me.syntax();
-    // It is at a node, so it is the first of its sibling nodes.
+    // The iterator starts at the node itself, the first of its sibling nodes.
     node_is_placed(node);
     let mut siblings = node.siblings(direction).skip(1);
     T::cast(siblings.find(|node| T::can_cast(node.kind()))?)
 }
 
-/// The deepest node that is an ancestor of both, where a node counts as its own, or `None` if their trees are unequal.
+/// The deepest node that is an ancestor of both, where a node counts as its own ancestor, or `None` if their trees are
+/// unequal.
 ///
-/// Of nodes of one tree it takes time linear in their depths; of two it also compares the trees, at most twice.
+/// Takes time linear in the depths for nodes of one tree; for nodes of two trees it also compares the trees, at most twice.
 pub fn least_common_ancestor(u: &SyntaxNode, v: &SyntaxNode) -> Option<SyntaxNode>
     ensures { result ≡ common_ancestor u.now v.now }
 {
@@ -178,8 +179,8 @@ fn ancestors_from_depth(node: &SyntaxNode, other: &SyntaxNode) -> Ancestors
     ancestors
 }
 
-/// The deepest node that is an ancestor of both, where a node counts as its own and a token's nearest is its parent, or
-/// `None` if their trees are unequal.
+/// The deepest node that is an ancestor of both, where a node counts as its own ancestor, or `None` if their trees are
+/// unequal. The nearest ancestor of a token is its parent.
 ///
 /// It takes the time of `least_common_ancestor`.
 pub fn least_common_ancestor_element(u: SyntaxElement, v: SyntaxElement) -> Option<SyntaxNode>
@@ -188,7 +189,7 @@ pub fn least_common_ancestor_element(u: SyntaxElement, v: SyntaxElement) -> Opti
     least_common_ancestor(&u.ancestors().next()?, &v.ancestors().next()?)
 }
 
-/// Whether a child node is of kind `ERROR`. It passes over the children before it, and looks into none of them.
+/// Whether a child node is of kind `ERROR`. Only children are tested, not deeper descendants.
 pub fn has_errors(node: &SyntaxNode) -> bool
     ensures { result ≡ list_any is_error (filter at_node (children_of node.now)) }
 {
@@ -241,7 +242,7 @@ fn non_trivia_beyond(token: &SyntaxToken, direction: Direction) -> Option<Syntax
     }
 }
 
-// A token and those beyond it in a direction. A clause sees the cursors that are left.
+// A token and the tokens after it in a direction. A clause sees the cursors that are left.
 #[derive(Drop)]
 struct Tokens {
     next: Option<SyntaxToken>,
@@ -262,7 +263,7 @@ impl Model for Tokens {
 }
 
 impl Tokens {
-    // The token and those beyond it.
+    // The token and the tokens after it.
     fn from(token: SyntaxToken, direction: Direction) -> Self
         ensures { result ≡ tokens_from direction token }
     {
@@ -272,7 +273,7 @@ impl Tokens {
         }
     }
 
-    // Those beyond the token.
+    // The tokens after the token.
     fn beyond(token: &SyntaxToken, direction: Direction) -> Self
         ensures { result ≡ tokens_beyond direction token.now }
     {

@@ -44,8 +44,8 @@ impl<N: AstNode> AstPtr<N> {
         AstPtr::of(SyntaxNodePtr::new(node.syntax()))
     }
 
-    /// The view of the node that `SyntaxNodePtr::to_node` finds, or `None` if that finds none, or if a node of this kind
-    /// can't be cast to this view.
+    /// The view of the node that `SyntaxNodePtr::to_node` returns, or `None` if that returns `None`, or if a node of this
+    /// kind can't be cast to this view.
     pub fn to_node(&self, root: &SyntaxNode) -> Option<N>
         ensures found { IsTrue (N.casts self.now.kind) → Finds self.now root.now (option_map N.node result) }
         ensures other { IsFalse (N.casts self.now.kind) → result ≡ None }
@@ -53,7 +53,7 @@ impl<N: AstNode> AstPtr<N> {
         N::cast(self.raw.to_node(root)?)
     }
 
-    /// The same without what the node is viewed as.
+    /// The pointer without the type of its view.
     pub fn syntax_node_ptr(&self) -> SyntaxNodePtr
         ensures { result ≡ self.now }
     {
@@ -81,7 +81,7 @@ impl<N: AstNode> AstPtr<N> {
         AstPtr::try_from_raw(self.raw)
     }
 
-    /// The same node as an `M`, into which each `N` can be made.
+    /// The same node viewed as an `M`, into which each `N` can be converted.
     pub fn upcast<M: AstNode>(self) -> AstPtr<M>
     where
         N: Into<M>,
@@ -110,7 +110,7 @@ impl<N: AstNode> AstPtr<N> {
         AstPtr::of(self.raw)
     }
 
-    /// The same node viewed as one of two; where the left can view it too, as that.
+    /// The same node viewed as one of two types: as the left one, if that can view it.
     pub fn wrap_right<L>(self) -> AstPtr<Either<L, N>>
     where
         Either<L, N>: AstNode,

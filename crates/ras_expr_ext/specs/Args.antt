@@ -24,12 +24,12 @@ abbrev pub is_comma : NodeOrToken Cursor Cursor → Bool
 is_comma (Node c) = is_same_kind (kind_at c) (kinds.Token token.ERROR) && begins_with_comma c
 is_comma (Token c) = is_same_kind (kind_at c) (kinds.Token token.COMMA)
 
--- what an element gives that is no comma: of a node the argument, if it is of the kinds, and of a token nothing
+-- the result for an element that is not a comma: for a node the argument, if it is of the kinds; nothing for a token
 abbrev pub argument : (SyntaxKind → Bool) → NodeOrToken Cursor Cursor → Option (Option Cursor)
 argument args (Node c) = Some (if_of args c)
 argument args (Token c) = None
 
--- what an element gives, where `after` says that an argument came since the last comma
+-- the result for an element, where `after` says that an argument came since the last comma
 abbrev pub given : (SyntaxKind → Bool) → Bool → NodeOrToken Cursor Cursor → Option (Option Cursor)
 given args after e = if is_comma e then (if after then None else Some None) else argument args e
 
@@ -37,7 +37,7 @@ abbrev pub is_argument : (SyntaxKind → Bool) → NodeOrToken Cursor Cursor →
 is_argument args (Node c) = args (kind_at c)
 is_argument args (Token c) = false
 
--- and what it leaves of `after`
+-- and the new value of `after`
 abbrev pub is_after : (SyntaxKind → Bool) → Bool → NodeOrToken Cursor Cursor → Bool
 is_after args after e = if is_comma e then false else (after || is_argument args e)
 
@@ -45,8 +45,8 @@ abbrev pub given_first : Option (Option Cursor) → List (Option Cursor) → Lis
 given_first None l = l
 given_first (Some a) l = a ∷ l
 
--- the arguments among some elements: for one of the kinds that one, for another node none, and none for a comma where no
--- argument came since the comma before it
+-- the arguments among some elements: a node of the kinds is one, another node is a missing one, and so is a comma with no
+-- argument since the comma before it
 abbrev pub arguments : (SyntaxKind → Bool) → Bool → List (NodeOrToken Cursor Cursor) → List (Option Cursor)
 arguments args after [] = []
 arguments args after (e ∷ l) = given_first (given args after e) (arguments args (is_after args after e) l)

@@ -1,4 +1,5 @@
--- The parts of expressions that are more than the first child of a kind: cursors among the children of a node, and above it.
+-- The parts of expressions that need more than a search for the first child of a kind: cursors among the children of a
+-- node, and above it.
 -- (Upstream: `ast::expr_ext` of rust-analyzer's `syntax`.)
 use Rattle.std.specs.Prelude.{Bool, true, false, ◌||◌, Option, Some, None, option_map, is_some, if◌then◌else◌}
 use Rattle.std.specs.List.{find, slice_get}
@@ -38,7 +39,7 @@ binary_operator c = first_token is_binary_operator (children_of c)
 abbrev pub range_operator : Cursor → Option Cursor
 range_operator c = first_token is_range_operator (children_of c)
 
--- the first bound before the operator, where there is one; all children are before it where there is none
+-- the first bound before the operator, if there is one; all children count as before it if there is no operator
 abbrev pub bound_before : (SyntaxKind → Bool) → Cursor → Option Cursor
 bound_before bounds c = first_node bounds (before is_range_operator (children_of c))
 
@@ -49,7 +50,7 @@ range_start_of bounds c = option_and_then (λ _. bound_before bounds c) (range_o
 abbrev pub range_end_of : (SyntaxKind → Bool) → Cursor → Option Cursor
 range_end_of bounds c = first_node bounds (behind is_range_operator (children_of c))
 
--- the literal's token: the first child that is no attribute, documentation comment or trivia, if that is a token
+-- the literal's token: the first child that is not an attribute, documentation comment or trivia, if that is a token
 abbrev pub literal_token : Cursor → Option Cursor
 literal_token c = option_and_then token_part (option_map element_of (find (has_other_kind is_before_literal) (children_of c)))
 
@@ -57,8 +58,8 @@ literal_token c = option_and_then token_part (option_map element_of (find (has_o
 abbrev pub index_token : Cursor → Option Cursor
 index_token c = option_and_then token_part (option_map element_of (find (has_other_kind is_before_index) (children_of c)))
 
--- a block is no part of what it is in: in a `for` or an `if` it is the first expression, or there is none; it is never so as
--- the `else` of a `let`, the body of a function or a loop, or a constant pattern
+-- a block is not a part of its parent: in a `for` or an `if` it is the first expression, or there is none; it is always a
+-- part as the `else` of a `let`, the body of a function or a loop, or a constant pattern
 abbrev pub is_standalone_in : (SyntaxKind → Bool) → Cursor → SyntaxKind → Cursor → Bool
 is_standalone_in exprs c (Node kind.FOR_EXPR) p = option_map_or (λ e. is_same_cursor e c) (typed_child exprs p) true
 is_standalone_in exprs c (Node kind.IF_EXPR) p = option_map_or (λ e. is_same_cursor e c) (typed_child exprs p) true
@@ -72,7 +73,7 @@ is_standalone_in exprs c _ p = true
 abbrev pub is_standalone : (SyntaxKind → Bool) → Cursor → Bool
 is_standalone exprs c = option_map_or (λ p. is_standalone_in exprs c (kind_at p) p) (parent_of c) true
 
--- the name of a field in a record expression: its own, or that of the one-name path which stands for both
+-- the name of a field in a record expression: its own, or in the short form the name in its path
 abbrev pub shorthand_name : (paths segments names : SyntaxKind → Bool) → Cursor → Option Cursor
 shorthand_name paths segments names path =
     if is_some (typed_child paths path) then None else option_and_then (typed_child names) (typed_child segments path)
@@ -86,6 +87,6 @@ record_field_name exprs path_exprs paths segments names c =
 abbrev pub record_field_around : (SyntaxKind → Bool) → Cursor → Option Cursor
 record_field_around fields c = option_or (view_in fields (parent_of c)) (view_in fields (option_and_then grandparent_of (grandparent_of c)))
 
--- what is found, if the part of it is this cursor
+-- the owner, if its part is this cursor
 abbrev pub if_part_is : Cursor → (Cursor → Option Cursor) → Cursor → Option Cursor
 if_part_is c part found = option_and_then (λ p. if is_same_cursor p c then Some found else None) (part found)

@@ -9,7 +9,7 @@ use lossless_tree::{NodeOrToken, SyntaxElement, SyntaxElementChildren, SyntaxKin
 use ras_node::{AstNode, support};
 use std::marker::{Model, PhantomData};
 
-// The first token in it, at any depth, is a comma.
+// Whether its first token, at any depth, is a comma.
 fn begins_with_comma(node: &SyntaxNode) -> bool
     ensures { result ≡ begins_with_comma node.now }
 {
@@ -52,9 +52,9 @@ fn given<N: AstNode>(after: bool, element: SyntaxElement) -> Option<Option<N>>
     }
 }
 
-/// The arguments of a call, in order, where one may be missing: those that can be viewed as an `N`, `None` for each other node,
-/// and `None` for a comma with no argument before it, since the last comma or the start. An `ERROR` whose first token is a
-/// comma counts as one. A clause sees those that are left.
+/// The arguments of a call, in order, with `None` where one is missing. Each child node that can be viewed as an `N` is an
+/// argument; any other node gives `None`, and so does a comma that follows no argument since the last comma or the start.
+/// An `ERROR` whose first token is a comma counts as a comma. A clause sees the arguments that are left.
 #[derive(Drop)]
 pub struct ArgsMaybeEmpty<N: AstNode> {
     left: SyntaxElementChildren,

@@ -1,4 +1,4 @@
-//! Blocks: what precedes them, and where they are.
+//! The modifiers of blocks, and standalone blocks.
 ghost use Rattle.std.specs.Prelude.{◌≡◌, option_map, true};
 ghost use Rattle.std.specs.Option.{option_map_or};
 ghost use Rattle.tree_model.specs.Equality.{is_same_cursor};
@@ -9,7 +9,7 @@ ghost use Rattle.ras_expr_ext.specs.Modifiers.{modifier_shape, block_modifier};
 use lossless_tree::{SyntaxKind, SyntaxNode, SyntaxToken};
 use ras_node::{AstNode, support};
 
-/// What precedes a block.
+/// The modifier of a block.
 #[derive(Drop)]
 pub enum BlockModifier<T, L> {
     Async(SyntaxToken),
@@ -25,8 +25,8 @@ pub enum BlockModifier<T, L> {
     Label(L),
 }
 
-/// The first that there is of `gen` with or without `async`, `async`, `unsafe`, `try` (a child that can be viewed as an `M` holds
-/// it), `const` and a label.
+/// The first of these that the block has: `gen` with or without `async`, `async`, `unsafe`, `try` (in a child that can be
+/// viewed as an `M`), `const`, a label.
 pub fn block_modifier<M: AstNode + Drop, T: AstNode + Drop, L: AstNode + Drop>(
     block: &SyntaxNode,
 ) -> Option<BlockModifier<T, L>>
@@ -61,9 +61,10 @@ pub fn block_modifier<M: AstNode + Drop, T: AstNode + Drop, L: AstNode + Drop>(
     Some(BlockModifier::Label(support::child(block)?))
 }
 
-/// Whether a block is no part of what it is in, as the body of a function is one: it has no parent; or its parent is a `for`
-/// or an `if`, and it is the first child there that can be viewed as an `N`, or there is none; or its parent is neither of these,
-/// and no `let` with `else`, function, `while`, `loop` or constant pattern.
+/// Whether a block is an expression of its own, and not a part of its parent as the body of a function is. It is if it has
+/// no parent; if the parent is a `for` or an `if` and the block is the first child that can be viewed as an `N`, or there
+/// is no such child; and if the parent is any node except a `for`, `if`, `let` with `else`, function, `while`, `loop` or
+/// constant pattern.
 pub fn is_standalone<N: AstNode + Drop>(block: &SyntaxNode) -> bool
     ensures { result ≡ is_standalone N.casts block.now }
 {
@@ -73,7 +74,7 @@ pub fn is_standalone<N: AstNode + Drop>(block: &SyntaxNode) -> bool
     }
 }
 
-// It is the first child there that can be viewed as an `N`, or there is none.
+// Whether the block is the first child of the parent that can be viewed as an `N`, or there is no such child.
 fn is_first<N: AstNode + Drop>(block: &SyntaxNode, parent: &SyntaxNode) -> bool
     ensures { result ≡ option_map_or (λ e. is_same_cursor e block.now) (typed_child N.casts parent.now) true }
 {

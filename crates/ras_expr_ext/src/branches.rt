@@ -31,8 +31,8 @@ pub fn third_as<N: AstNode + Drop, M: AstNode>(parent: &SyntaxNode) -> Option<M>
     support::recast(support::third_child::<N>(parent))
 }
 
-/// The body of a loop: of a `loop` the first child that can be viewed as an `N`. The first block of a `for` or a `while` may be
-/// what it goes over or its condition, so their body is the second, or the first if there is only one, if there is any.
+/// The body of a loop. For a `loop` it is the first child that can be viewed as an `N`. The first block of a `for` or a
+/// `while` may be its iterator or condition, so there it is the second such child, or the first if there is only one.
 pub fn loop_body<N: AstNode + Drop>(node: &SyntaxNode) -> Option<N>
     ensures { option_map N.node result ≡ loop_body N.casts node.now }
 {

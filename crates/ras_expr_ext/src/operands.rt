@@ -35,7 +35,7 @@ pub fn range_start<N: AstNode>(parent: &SyntaxNode) -> Option<N>
     start_or_first(parent)
 }
 
-/// The first end before the operator; without operator the first of all.
+/// The first end before the operator; without an operator, the first of all.
 pub fn start_or_first<N: AstNode>(parent: &SyntaxNode) -> Option<N>
     ensures { option_map N.node result ≡ bound_before N.casts parent.now }
 {

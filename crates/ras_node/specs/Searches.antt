@@ -12,7 +12,7 @@ use Rattle.ras_node.specs.Nodes.{kind_at, has_kind_in}
 abbrev pub is_token_in : (SyntaxKind → Bool) → Cursor → Bool
 is_token_in kinds c = at_token c && kinds (kind_at c)
 
--- its kind is none of the set
+-- its kind is not in the set
 abbrev pub has_other_kind : (SyntaxKind → Bool) → Cursor → Bool
 has_other_kind kinds c = not (kinds (kind_at c))
 
@@ -28,19 +28,19 @@ is_token_among kinds (Token c) = kinds (kind_at c)
 abbrev pub is_other : (SyntaxKind → Bool) → NodeOrToken Cursor Cursor → Bool
 is_other kinds e = not (kinds (kind_at (cursor_of e)))
 
--- of a list of cursors, the first node, and the first token, with a kind of the set
+-- the first node of a list of cursors with a kind of the set, and the first such token
 abbrev pub first_node : (SyntaxKind → Bool) → List Cursor → Option Cursor
 first_node kinds l = find (has_kind_in kinds) (filter at_node l)
 
 abbrev pub first_token : (SyntaxKind → Bool) → List Cursor → Option Cursor
 first_token kinds l = find (has_kind_in kinds) (filter at_token l)
 
--- of a list of cursors, those after the first token with a kind of the set; none where there is no such token
+-- the cursors of a list after the first token with a kind of the set; the empty list if there is no such token
 abbrev pub behind : (SyntaxKind → Bool) → List Cursor → List Cursor
 behind kinds [] = []
 behind kinds (c ∷ l) = if is_token_in kinds c then l else behind kinds l
 
--- those before it; all where there is none
+-- the cursors before it; all if there is no such token
 abbrev pub before : (SyntaxKind → Bool) → List Cursor → List Cursor
 before kinds [] = []
 before kinds (c ∷ l) = if is_token_in kinds c then [] else c ∷ before kinds l

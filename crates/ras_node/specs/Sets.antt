@@ -1,4 +1,4 @@
--- The kinds that each enum of views is of.
+-- The kinds of each enum of views.
 use Rattle.std.specs.Prelude.{Bool, true, false, ◌||◌}
 use Rattle.syntax_kind.specs.declared.syntax_kind.SyntaxKind.{SyntaxKind}
 use Rattle.syntax_kind.specs.declared.syntax_kind.SyntaxKind.TheVariants.{Node, Token}
@@ -199,7 +199,7 @@ is_pat (Node node.TUPLE_STRUCT_PAT) = true
 is_pat (Node node.WILDCARD_PAT) = true
 is_pat _ = false
 
--- the kinds of statements that are no items
+-- the kinds of statements that are not items
 abbrev pub is_own_stmt : SyntaxKind → Bool
 is_own_stmt (Node node.EXPR_STMT) = true
 is_own_stmt (Node node.LET_STMT) = true

@@ -8,7 +8,7 @@ use crate::AstToken;
 use either::Either;
 use lossless_tree::{SyntaxKind, SyntaxToken};
 
-/// Of the kinds of both; a token that can be viewed as either is viewed as the left one.
+/// A view of the kinds of both types; a token that can be viewed as either is viewed as the left one.
 impl<L: AstToken, R: AstToken> AstToken for Either<L, R> {
     ghost casts = { λ kind. L.casts kind || R.casts kind };
 

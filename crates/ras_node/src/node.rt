@@ -1,4 +1,4 @@
-//! What every view of a node is.
+//! The trait of views of nodes.
 ghost use Rattle.std.specs.Prelude.{◌≡◌, ◌↔◌, Bool, true, IsTrue, IfSome, IfOk, is_some};
 ghost use Rattle.syntax_kind.specs.declared.syntax_kind.SyntaxKind.{SyntaxKind};
 ghost use Rattle.tree_model.specs.Cursor.{Cursor, focus};

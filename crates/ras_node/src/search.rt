@@ -1,4 +1,4 @@
-//! The first of some children, by their kinds.
+//! Searches in the children that are left, by their kinds.
 ghost use Rattle.std.specs.Prelude.{◌≡◌, option_map};
 ghost use Rattle.std.specs.List.{find};
 ghost use Rattle.lossless_tree.specs.Element.{element_of};
@@ -7,7 +7,7 @@ ghost use Rattle.ras_node.specs.Searches.{is_node_among, is_token_among, is_othe
 use crate::sets::KindSet;
 use lossless_tree::{NodeOrToken, SyntaxElement, SyntaxElementChildren, SyntaxNode, SyntaxToken};
 
-// Whether an element is a node, or a token, with a kind of the set; whether its kind is none of it.
+// Whether an element is a node, or a token, with a kind of the set; whether its kind is not in the set.
 fn is_node_among<S: KindSet>(element: &SyntaxElement) -> bool
     ensures { result ≡ is_node_among S.kinds element.now }
 {
@@ -32,7 +32,7 @@ fn is_other<S: KindSet>(element: &SyntaxElement) -> bool
     !S::has(element.kind())
 }
 
-/// What is left after the first token with a kind of the set.
+/// The children after the first token with a kind of the set.
 pub fn behind<T: KindSet>(left: SyntaxElementChildren) -> SyntaxElementChildren
     ensures { result ≡ behind T.kinds left }
 {

@@ -1,4 +1,4 @@
-//! Sets of kinds, as types: those of which each enum of views is.
+//! Sets of kinds, as types: one for each enum of views.
 ghost use Rattle.std.specs.Prelude.{◌≡◌, Bool};
 ghost use Rattle.syntax_kind.specs.declared.syntax_kind.SyntaxKind.{SyntaxKind};
 ghost use Rattle.ras_node.specs.Sets.{is_adt, is_any_attr, is_any_comment, is_any_string, is_assoc_item, is_callable_expr, is_else_branch, is_expr, is_extern_item, is_generic_arg, is_generic_param, is_item, is_macro, is_meta, is_name_like, is_name_or_name_ref, is_pat, is_stmt, is_ty, is_type_or_const_param};
@@ -15,10 +15,10 @@ pub use parts::{
 
 /// A set of kinds.
 pub trait KindSet {
-    /// The kinds of the set.
+    /// The membership test of the set.
     ghost kinds: { SyntaxKind → Bool };
 
-    /// Whether a kind is one of the set.
+    /// Whether a kind is in the set.
     fn has(kind: SyntaxKind) -> bool
         ensures { result ≡ kinds kind };
 }

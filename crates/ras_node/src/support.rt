@@ -1,4 +1,4 @@
-//! What the lookups in a node are made of.
+//! Lookups of the children and ancestors of a node.
 ghost use Rattle.std.specs.Prelude.{◌≡◌, drop, option_map};
 ghost use Rattle.std.specs.List.{find, slice_get};
 ghost use Rattle.syntax_kind.specs.declared.syntax_kind.SyntaxKind.{SyntaxKind};
@@ -80,7 +80,7 @@ pub fn second_child<N: AstNode + Drop>(parent: &SyntaxNode) -> Option<N>
     all.next()
 }
 
-/// The last child that can be viewed as an `N`. It goes over all of them.
+/// The last child that can be viewed as an `N`. Takes time linear in the number of children.
 pub fn last_child<N: AstNode + Drop>(parent: &SyntaxNode) -> Option<N>
     ensures { option_map N.node result ≡ last_typed_child N.casts parent.now }
 {
@@ -107,7 +107,7 @@ pub fn first<N: AstNode>(left: SyntaxElementChildren) -> Option<N>
     N::cast(search::first_node::<KindsOf<N>>(left)?)
 }
 
-/// The first of them before the first token with a kind of the set.
+/// The first of some children that can be viewed as an `N`, if it is before the first token with a kind of the set.
 pub fn first_before<N: AstNode, T: KindSet>(left: SyntaxElementChildren) -> Option<N>
     ensures { option_map N.node result ≡ first_node N.casts (before T.kinds left) }
 {

@@ -1,4 +1,4 @@
-//! What every view of a token is.
+//! The trait of views of tokens.
 ghost use Rattle.std.specs.Prelude.{◌≡◌, Bool, true, IfSome, is_some};
 ghost use Rattle.syntax_kind.specs.declared.syntax_kind.SyntaxKind.{SyntaxKind};
 ghost use Rattle.tree_model.specs.Tree.{text};

@@ -47,7 +47,7 @@ impl<S: KindSet> Model for TokenChildren<S> {
 }
 
 impl<S: KindSet> TokenChildren<S> {
-    /// Those of a node.
+    /// The tokens of the set among the children of a node.
     pub fn new(parent: &SyntaxNode) -> TokenChildren<S>
         ensures { result ≡ tokens_among S.kinds (map element_of (children_of parent.now)) }
     {

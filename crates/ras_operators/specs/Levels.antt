@@ -1,4 +1,4 @@
--- The precedence of an expression node, and what else is told by its kind and its first expression.
+-- The precedence of an expression node, and other properties that depend on its kind and its first expression.
 -- (Rust Reference, "Expression precedence". Upstream: `ast::prec` of rust-analyzer's `syntax`.)
 use Rattle.std.specs.Prelude.{Bool, true, false, not, Option, Some, None, is_some}
 use Rattle.syntax_kind.specs.declared.syntax_kind.SyntaxKind.{SyntaxKind}

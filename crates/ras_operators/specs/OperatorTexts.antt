@@ -1,4 +1,4 @@
--- The operators of the language by their tokens, and how they are written (Rust Reference, "Operator expressions").
+-- The operators of the language: their tokens and their texts (Rust Reference, "Operator expressions").
 use Rattle.std.specs.Prelude.{true, false, Option, Some, None, List, ℕ, codes, ◌++◌}
 use Rattle.syntax_kind.specs.declared.syntax_kind.SyntaxKind.{SyntaxKind}
 use Rattle.syntax_kind.specs.declared.syntax_kind.SyntaxKind.TheVariants.{Token}
@@ -63,7 +63,7 @@ binary_op (Token token.PIPEEQ) = Some (op.Assignment (Some arith.BitOr))
 binary_op (Token token.AMPEQ) = Some (op.Assignment (Some arith.BitAnd))
 binary_op _ = None
 
--- how each is written
+-- the text of each
 abbrev pub logic_text : LogicOp → List ℕ
 logic_text logic.And = codes "&&"
 logic_text logic.Or = codes "||"
@@ -88,7 +88,7 @@ cmp_text (cmp.Ord ordering.Less true) = codes "<"
 cmp_text (cmp.Ord ordering.Greater false) = codes ">="
 cmp_text (cmp.Ord ordering.Greater true) = codes ">"
 
--- an assignment is written `=`, after its operator where it has one
+-- the text of an assignment: `=`, after its operator if it has one
 abbrev pub binary_text : BinaryOp → List ℕ
 binary_text (op.LogicOp o) = logic_text o
 binary_text (op.ArithOp o) = arith_text o

@@ -3,7 +3,7 @@ ghost use Rattle.std.specs.Prelude.{◌≡◌};
 ghost use Rattle.operator_terms.specs.Precedence.{needs_parentheses_in};
 ghost use Rattle.ras_operators.specs.Levels.{as_precedence};
 
-/// How strongly an expression binds, rising.
+/// How strongly an expression binds, from weakest to strongest.
 ///
 /// (Rust Reference, "Expression precedence"; upstream's `ast::prec::ExprPrecedence`.)
 #[derive(Debug, Clone, Copy, PartialEq, PartialOrd)]
@@ -38,11 +38,11 @@ pub enum ExprPrecedence {
     Prefix,
     /// A call, an index, a field, `?`, `.await`.
     Postfix,
-    /// A path, a literal, a block, a loop, what is in delimiters.
+    /// A path, a literal, a block, a loop, an expression in delimiters.
     Unambiguous,
 }
 
-/// To which side operators of one precedence group. No call answers it; it is there for those who write their own tests.
+/// The associativity of the operators of one precedence. No call returns it; callers can use it in tests of their own.
 #[derive(Debug, PartialEq)]
 pub enum Fixity {
     /// `a - b - c` is `(a - b) - c`.
@@ -54,10 +54,11 @@ pub enum Fixity {
 }
 
 impl ExprPrecedence {
-    /// Whether an expression of this precedence needs parentheses in one of the other, by precedences alone: sides don't count,
-    /// and so it mostly asks for more than are needed; but it knows no context, and asks for none where a field is called, where a
-    /// cast's name precedes `<` or `<<`, or where a record is in a condition. In what is unambiguous none are needed; in a postfix
-    /// where it binds less; in a prefix likewise, though a jump needs none; otherwise unless it binds more.
+    /// Whether an expression of this precedence needs parentheses in one of precedence `other`, by precedences alone. It
+    /// ignores on which side the expression is, so it often asks for parentheses that are not needed. It knows no context,
+    /// so it asks for none in three cases that need them: a field that is called, a cast's name before `<` or `<<`, and a
+    /// record in a condition. In an unambiguous expression none are needed; in a postfix expression if this one binds less;
+    /// in a prefix expression too, unless this is a jump; in any other unless this one binds more.
     pub fn needs_parentheses_in(self, other: ExprPrecedence) -> bool
         ensures { result ≡ needs_parentheses_in (as_precedence self) (as_precedence other) }
     {

@@ -1,4 +1,4 @@
-//! The operators of expressions and patterns, by their tokens, and as they are written.
+//! The operators of expressions and patterns: their tokens and their texts.
 ghost use Rattle.std.specs.Prelude.{◌≡◌, Some};
 ghost use Rattle.ras_operators.specs.OperatorTexts.{unary_op, range_op, binary_op, logic_text, arith_text, cmp_text, binary_text};
 
@@ -59,7 +59,7 @@ pub enum ArithOp {
     BitAnd,
 }
 
-/// Which side of a comparison is to be the greater one.
+/// Which side of a comparison is the greater one.
 #[derive(Clone, Copy, Debug, PartialEq, Eq, Hash)]
 pub enum Ordering {
     /// The left operand is less.
@@ -181,7 +181,7 @@ pub fn binary_op(kind: SyntaxKind) -> Option<BinaryOp>
 }
 
 impl LogicOp {
-    // How it is written.
+    // The text of the operator.
     fn text(self) -> &'static str
         ensures { result.now ≡ logic_text self }
     {
@@ -193,7 +193,7 @@ impl LogicOp {
 }
 
 impl ArithOp {
-    // How it is written.
+    // The text of the operator.
     fn text(self) -> &'static str
         ensures { result.now ≡ arith_text self }
     {
@@ -211,7 +211,7 @@ impl ArithOp {
         }
     }
 
-    // How it is written with an assignment.
+    // The text of the operator with an assignment.
     fn assigning(self) -> &'static str
         ensures { result.now ≡ binary_text (BinaryOp.Assignment (Some self)) }
     {
@@ -231,7 +231,7 @@ impl ArithOp {
 }
 
 impl CmpOp {
-    // How it is written.
+    // The text of the operator.
     fn text(self) -> &'static str
         ensures { result.now ≡ cmp_text self }
     {
@@ -259,7 +259,7 @@ impl CmpOp {
 }
 
 impl BinaryOp {
-    // How it is written.
+    // The text of the operator.
     fn text(self) -> &'static str
         ensures { result.now ≡ binary_text self }
     {

@@ -42,13 +42,13 @@ abbrev pub prefix_of : CommentShape → Option AttrKind → List ℕ
 prefix_of Line doc = line_prefix doc
 prefix_of Block doc = block_prefix doc
 
--- what follows the opening marker, of a block without its closing marker
+-- the text after the opening marker, for a block without its closing marker
 abbrev pub without_closing : CommentShape → List ℕ → Option (List ℕ)
 without_closing shape behind = if is_block_shape shape && ends_with nat_eq behind (codes "*/") then part behind 0 (length behind - 2) else Some behind
 
 abbrev pub comment_text : ℕ → List ℕ → Option (List ℕ)
 comment_text marker text = option_and_then (without_closing (shape_of text)) (part text marker (length text))
 
--- two newlines at least
+-- at least two newlines
 abbrev pub spans_lines : List ℕ → Bool
 spans_lines text = nat_le 2 (count_by (λ b. b == 10) text)

@@ -24,7 +24,7 @@ without_quote behind = if ends_with nat_eq behind (codes "'") then part behind 0
 abbrev pub unquoted : List ℕ → List ℕ → Option (List ℕ)
 unquoted marker text = if starts_with nat_eq text marker then option_and_then without_quote (part text (length marker) (length text)) else None
 
--- the value of a character or a byte: that of its content; without the opening marker there is nothing
+-- the value of a character or a byte: that of its content; an error without the opening marker
 abbrev pub unit_value : Mode → Option (List ℕ) → Result ℕ EscapeError
 unit_value mode None = Err ZeroChars
 unit_value mode (Some content) = numbered (single (reports_in mode (chars content)))
@@ -37,7 +37,7 @@ byte_value text = unit_value modes.Byte (unquoted (codes "b'") text)
 
 -- ---- strings
 
--- where the first and the last `"` (34) are; nothing where there are not two
+-- the offsets of the first and the last `"` (34); None if there are not two
 abbrev pub quote_places : List ℕ → Option (ℕ × ℕ)
 quote_places text =
     option_and_then (λ first. option_and_then (λ last. if nat_lt first last then Some (first, last) else None) (last_place 34 0 None text)) (first_place 34 0 text)
@@ -54,7 +54,7 @@ abbrev pub fatal : Result MixedUnit EscapeError → Option EscapeError
 fatal (Ok unit) = None
 fatal (Err e) = if is_warning e then None else Some e
 
--- the last fatal fault of some reports, where one came before them or not
+-- the last fatal fault of some reports, given the one that came before them, if any
 abbrev pub newer : Option EscapeError → Option EscapeError → Option EscapeError
 newer last None = last
 newer last (Some e) = Some e
@@ -67,7 +67,8 @@ last_fault_after last (r ∷ rs) = last_fault_after (newer last (fatal r.unit)) 
 abbrev pub last_fault : Mode → List ℕ → Option EscapeError
 last_fault mode content = last_fault_after None (reports_in mode (chars content))
 
--- the bytes that a unit means: a character its UTF-8, a byte from 80 on itself; a fault or a warning none
+-- the bytes that a unit means: the UTF-8 of a character, a byte from 80 (hexadecimal) on itself, no bytes for a fault or a
+-- warning
 abbrev pub unit_bytes : Result MixedUnit EscapeError → List ℕ
 unit_bytes (Ok (units.Char c)) = encode_utf8 c
 unit_bytes (Ok (units.HighByte b)) = b ∷ []
@@ -96,8 +97,8 @@ string_meanings content = flat_map report_text (reports_in modes.Str (chars cont
 abbrev pub has_backslash : List ℕ → Bool
 has_backslash content = list_any (λ b. b == 92) content
 
--- the value of a content that is not raw: its last fatal fault; else its meanings joined where it has a backslash, and
--- itself where it has none
+-- the value of a content that is not raw: its last fatal fault, if it has one; otherwise its meanings joined if it has a
+-- backslash, and the content itself if not
 abbrev pub unless_fault : Option EscapeError → List ℕ → Result (List ℕ) EscapeError
 unless_fault (Some e) value = Err e
 unless_fault None value = Ok value
@@ -105,7 +106,7 @@ unless_fault None value = Ok value
 abbrev pub content_value : (List ℕ → List ℕ) → Mode → List ℕ → Result (List ℕ) EscapeError
 content_value joined mode content = unless_fault (last_fault mode content) (if has_backslash content then joined content else content)
 
--- the value of a literal by its text: of a raw one the content
+-- the value of a literal by its text: for a raw one the content
 abbrev pub quoted_value : (List ℕ → List ℕ) → Mode → Bool → List ℕ → Result (List ℕ) EscapeError
 quoted_value joined mode raw content = if raw then Ok content else content_value joined mode content
 
@@ -116,7 +117,7 @@ literal_value joined mode prefix text = option_map_or (quoted_value joined mode 
 abbrev pub can_borrow : List ℕ → List ℕ → Bool
 can_borrow prefix text = is_raw prefix text || not (option_map_or has_backslash (content_of text) false)
 
--- bytes as a text: what is no UTF-8 is none
+-- bytes as a text: an error if they are not UTF-8
 abbrev pub as_text : List ℕ → Result (List ℕ) EscapeError
 as_text bytes = if is_utf8 bytes then Ok bytes else Err NonAsciiCharInByte
 

@@ -24,7 +24,7 @@ base_of Octal = 8
 base_of Decimal = 10
 base_of Hexadecimal = 16
 
--- how long the prefix is that names the radix
+-- the length of the prefix that names the radix
 abbrev pub prefix_len : Radix → ℕ
 prefix_len Decimal = 0
 prefix_len _ = 2
@@ -83,7 +83,7 @@ number_of base text =
 abbrev pub int_value : List ℕ → Result ℕ IntError
 int_value text = number_of (base_of (radix_of text)) (int_digits text)
 
--- the same read from the left: with one more byte, and with all bytes of a text
+-- the same by a scan from the left: with one more byte, and with all bytes of a text
 abbrev pub appended : ℕ → ℕ → ℕ → Option ℕ
 appended base n b = if b == 95 then Some n else option_and_then (λ d. if_small (n * base + d)) (digit_of base b)
 

@@ -1,4 +1,4 @@
--- Where the quotes and the content of a string are in the text of a whole tree.
+-- The quotes and the content of a string as ranges of the text of a whole tree.
 use Rattle.std.specs.Prelude.{ℕ, ◌+◌, ◌-◌, nat_le, List, length, Option, Some, None, option_map, if◌then◌else◌}
 use Rattle.text_size.specs.TextRange.{Bounds}
 use Rattle.ras_token_ext.specs.declared.quotes.QuoteOffsets.{QuoteOffsets}
@@ -7,7 +7,7 @@ use Rattle.ras_token_ext.specs.Literals.{quote_places}
 abbrev pub bounds : ℕ → ℕ → Bounds
 bounds start end = record { start = start; end = end }
 
--- of a string that starts at an offset, by the places of its first and last `"`
+-- the ranges of a string that starts at an offset, by the offsets of its first and last `"`
 abbrev pub offsets_at : ℕ → ℕ → ℕ × ℕ → QuoteOffsets
 offsets_at start len places = record {
   quotes = (bounds start (start + places.0 + 1), bounds (start + places.1) (start + len));

@@ -10,12 +10,12 @@ is_boundary text at = if nat_lt at (length text) then (nat_lt (slice_index text 
 abbrev pub part : List ℕ → ℕ → ℕ → Option (List ℕ)
 part text from to = if nat_le from to && is_boundary text from && is_boundary text to then Some (slice_range text from to) else None
 
--- where a byte is first, in a text that starts at a place
+-- the offset of the first such byte, in a text that starts at an offset
 abbrev pub first_place : ℕ → ℕ → List ℕ → Option ℕ
 first_place byte at [] = None
 first_place byte at (b ∷ text) = if b == byte then Some at else first_place byte (suc at) text
 
--- where a byte is last, in a text that starts at a place, where it was found before or not
+-- the offset of the last such byte, in a text that starts at an offset, given the last one found before it, if any
 abbrev pub last_place : ℕ → ℕ → Option ℕ → List ℕ → Option ℕ
 last_place byte at found [] = found
 last_place byte at found (b ∷ text) = last_place byte (suc at) (if b == byte then Some at else found) text

@@ -1,4 +1,4 @@
--- What a callback gets of the units of a string's content. (Upstream: rust-analyzer's `IsString`.)
+-- The calls of a callback for the units of a string's content. (Upstream: rust-analyzer's `IsString`.)
 use Rattle.std.specs.Prelude.{ℕ, ◌+◌, Bool, List, [], ◌∷◌, map, Option, option_map, Result, Ok, if◌then◌else◌}
 use Rattle.std.specs.Char.{len_utf8}
 use Rattle.std.specs.Option.{option_and_then, option_map_or}
@@ -14,7 +14,7 @@ use Rattle.literal_escape.specs.declared.reader.Report.{Report}
 use Rattle.ras_token_ext.specs.Literals.{quote_places, between}
 use Rattle.ras_token_ext.specs.Quotes.{bounds}
 
--- a unit as a character: a byte as that of its number; each unit of a C string as `_` (95), also one with a fault
+-- a unit as a character: a byte as the character with that code; each unit of a C string as `_` (95), also one with a fault
 abbrev pub shown : Mode → Result MixedUnit EscapeError → Result ℕ EscapeError
 shown modes.CStr unit = Ok 95
 shown _ unit = numbered unit
@@ -34,13 +34,13 @@ char_calls at (c ∷ cs) = (bounds at (at + len_utf8 c), Ok c) ∷ char_calls (a
 abbrev pub content_calls : Mode → Bool → ℕ → List ℕ → List (Bounds × Result ℕ EscapeError)
 content_calls mode raw offset content = if raw then char_calls offset (chars content) else unit_calls mode offset content
 
--- the content of a literal's text, and where it starts; nothing without two quotes
+-- the content of a literal's text, and its offset; None without two quotes
 abbrev pub content_at : List ℕ → ℕ × ℕ → Option (ℕ × List ℕ)
 content_at text places = option_map (λ content. (places.0 + 1, content)) (between text places)
 
 abbrev pub placed_content : List ℕ → Option (ℕ × List ℕ)
 placed_content text = option_and_then (content_at text) (quote_places text)
 
--- the calls for the text of a literal: none without two quotes
+-- the calls for the text of a literal: the empty list without two quotes
 abbrev pub literal_calls : Mode → Bool → List ℕ → List (Bounds × Result ℕ EscapeError)
 literal_calls mode raw text = option_map_or (λ p. content_calls mode raw p.0 p.1) (placed_content text) []

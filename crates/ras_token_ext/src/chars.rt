@@ -5,7 +5,7 @@ ghost use Rattle.ras_token_ext.specs.Literals.{unquoted, char_value, byte_value}
 use crate::parts::{begins_with, cut, ends_with};
 use literal_escape::{EscapeError, unescape_byte, unescape_char};
 
-// What follows an opening marker, without a closing quote, if there is one; `None` without the marker.
+// The text after an opening marker, without a closing quote, if it has one; `None` if the marker is missing.
 fn unquoted<'t>(text: &'t str, marker: &str) -> Option<&'t str>
     ensures { option_map (λ s. s.now) result ≡ unquoted marker.now text.now }
 {

@@ -32,7 +32,7 @@ impl CommentShape {
         matches!(self, CommentShape::Line)
     }
 
-    /// Whether it is closed by a mark of its own: `/* */`.
+    /// Whether it ends with a closing marker: `/* */`.
     pub fn is_block(self) -> bool
         ensures { result ≡ is_block_shape self }
     {
@@ -43,21 +43,21 @@ impl CommentShape {
 /// What an attribute or a doc comment belongs to.
 #[derive(Clone, Copy, Debug, PartialEq, Eq)]
 pub enum AttrKind {
-    /// What it is in: `#![a]`, `//! a`.
+    /// The item that it is inside: `#![a]`, `//! a`.
     Inner,
-    /// What it precedes: `#[a]`, `/// a`.
+    /// The item that follows: `#[a]`, `/// a`.
     Outer,
 }
 
 impl AttrKind {
-    /// Whether it belongs to what it is in.
+    /// Whether it belongs to the item that it is inside.
     pub fn is_inner(&self) -> bool
         ensures { result ≡ is_inner_kind self.now }
     {
         matches!(self, AttrKind::Inner)
     }
 
-    /// Whether it belongs to what it precedes.
+    /// Whether it belongs to the item that follows.
     pub fn is_outer(&self) -> bool
         ensures { result ≡ is_outer_kind self.now }
     {
@@ -73,7 +73,7 @@ pub struct CommentKind {
 }
 
 impl CommentKind {
-    /// The marker that such a comment begins with.
+    /// The opening marker of such a comment.
     pub fn prefix(&self) -> &'static str
         ensures { result.now ≡ prefix_of self.now.shape self.now.doc }
     {
@@ -88,9 +88,9 @@ impl CommentKind {
     }
 }
 
-/// The text of a comment after an opening marker of so many bytes, of a block without the closing `*/`, if it has one.
+/// The text of a comment after an opening marker of `marker_len` bytes; for a block without the closing `*/`, if it has one.
 ///
-/// `None` where the text is shorter than the marker, and where a character is across the marker's end.
+/// Returns `None` if the text is shorter than the marker, or if the marker's end is not a character boundary.
 pub fn comment_text(text: &str, marker_len: usize) -> Option<&str>
     ensures { option_map (λ s. s.now) result ≡ comment_text marker_len text.now }
 {
@@ -102,7 +102,7 @@ pub fn comment_text(text: &str, marker_len: usize) -> Option<&str>
     }
 }
 
-/// Whether a text has two newlines at least.
+/// Whether a text has at least two newlines.
 pub fn spans_multiple_lines(text: &str) -> bool
     ensures { result ≡ spans_lines text.now }
 {

@@ -1,7 +1,7 @@
 //! The numbers that name the fields of tuples.
 ghost use Rattle.ras_token_ext.specs.Fields.{IsTupleField};
 
-/// The number that a text is, as std reads a `usize`: in decimal digits, after a `+` or without one. `None` of other texts,
+/// The text as a number, in decimal digits, with or without a `+` in front, as std parses a `usize`; `None` for other texts
 /// and past 64 bits.
 pub fn tuple_field(text: &str) -> Option<usize>
     ensures { IsTupleField text.now result }

@@ -7,7 +7,7 @@ ghost use Rattle.ras_token_ext.specs.Numbers.{radix_of, base_of, prefix_len, sta
 
 use std::alloc::{AllocError, Global};
 
-/// The base that an integer is written in. Its number as an `as` cast is the base: `Radix::Octal as u32` is 8.
+/// The base that an integer is written in. An `as` cast to a number gives the base: `Radix::Octal as u32` is 8.
 #[derive(Clone, Copy, Debug, PartialEq, Eq)]
 pub enum Radix {
     Binary = 2,
@@ -81,7 +81,7 @@ fn starts_suffix(radix: Radix, byte: u8) -> bool
     }
 }
 
-// Where the suffix begins after a prefix; the length where there is none.
+// The offset of the suffix after a prefix; the length of the text if there is no suffix.
 fn suffix_place(text: &str, radix: Radix) -> usize
     ensures value { result ≡ position_or_len (starts_suffix radix) text.now }
     ensures boundary { IsCharBoundary text.now result }
@@ -107,7 +107,7 @@ pub fn split_int(text: &str) -> (&str, &str, &str)
     (prefix, digits, suffix)
 }
 
-// Where the first ASCII letter is; the length where there is none.
+// The offset of the first ASCII letter; the length of the text if there is none.
 fn first_letter(text: &str) -> usize
     ensures value { result ≡ first_letter text.now }
     ensures boundary { IsCharBoundary text.now result }
@@ -123,7 +123,7 @@ fn is_exponent(byte: u8) -> bool
     byte == b'e' || byte == b'E'
 }
 
-// How long the digits of a floating point number are: up to its suffix.
+// The length of the digits of a floating point number: up to its suffix.
 fn float_len(text: &str) -> usize
     ensures value { result ≡ float_len text.now }
     ensures boundary { IsCharBoundary text.now result }
@@ -148,7 +148,7 @@ pub fn split_float(text: &str) -> (&str, &str)
     (digits, suffix)
 }
 
-// A text; `None` where it is empty.
+// The text, or `None` if it is empty.
 fn if_any(text: &str) -> Option<&str>
     ensures { option_map (λ s. s.now) result ≡ if_any text.now }
 {
@@ -171,7 +171,7 @@ pub fn float_suffix(text: &str) -> Option<&str>
     if_any(suffix)
 }
 
-/// Why an integer has no value. The first that holds is answered, in this order.
+/// Why an integer has no value. The first variant that applies is returned.
 #[derive(Clone, Copy, Debug, PartialEq, Eq)]
 pub enum IntError {
     /// It has no digit: nothing but underscores between the prefix and the suffix.
@@ -182,14 +182,14 @@ pub enum IntError {
     TooLarge,
 }
 
-// Whether a text has another character than underscores.
+// Whether a text has a character other than underscores.
 fn has_digits(text: &str) -> bool
     ensures { result ≡ list_any is_no_underscore text.now }
 {
     text.as_bytes().iter().any(|byte| *byte != b'_')
 }
 
-// The digit that a byte writes in a base.
+// The value of a byte as a digit in a base.
 fn digit(byte: u8, base: u32) -> Option<u32>
     requires most { base ≤ 36 }
     requires least { 2 ≤ base }
@@ -213,7 +213,7 @@ fn are_digits(text: &str, base: u32) -> bool
     true
 }
 
-// A number with one more digit; `None` where it has more than 128 bits.
+// A number with one more digit; `None` if it has more than 128 bits.
 fn longer(number: u128, digit: u32, base: u32) -> Option<u128>
     requires { base ≤ 36 }
     ensures { result ≡ if_small (number * base + digit) }
@@ -233,7 +233,7 @@ fn appended(number: u128, byte: u8, base: u32) -> Option<u128>
     longer(number, digit(byte, base)?, base)
 }
 
-// The number that digits write, underscores left out; `None` where it has more than 128 bits.
+// The value of digits, without the underscores; `None` if it has more than 128 bits.
 fn number(text: &str, base: u32) -> Option<u128>
     requires most { base ≤ 36 }
     requires least { 2 ≤ base }
@@ -250,7 +250,8 @@ fn number(text: &str, base: u32) -> Option<u128>
     Some(number)
 }
 
-/// The value of an integer: of its digits between the prefix and the suffix, without the underscores. It takes no memory.
+/// The value of an integer: the value of its digits between the prefix and the suffix, without the underscores. It takes no
+/// memory.
 pub fn int_value(text: &str) -> Result<u128, IntError>
     ensures { result ≡ int_value text.now }
 {

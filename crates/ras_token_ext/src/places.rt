@@ -1,8 +1,8 @@
-//! Where a byte is in a text.
+//! Searches for a byte in a text.
 ghost use Rattle.std.specs.Prelude.{◌≡◌, ◌<◌, length, None, IfSome};
 ghost use Rattle.ras_token_ext.specs.Texts.{first_place, last_place};
 
-/// Where a byte is first, or `None` if it is nowhere.
+/// The offset of the first such byte, or `None` if there is none.
 pub fn first_place(text: &str, byte: u8) -> Option<usize>
     ensures { result ≡ first_place byte 0 text.now }
 {
@@ -15,7 +15,7 @@ pub fn first_place(text: &str, byte: u8) -> Option<usize>
     None
 }
 
-/// Where a byte is last, or `None` if it is nowhere.
+/// The offset of the last such byte, or `None` if there is none.
 pub fn last_place(text: &str, byte: u8) -> Option<usize>
     ensures value { result ≡ last_place byte 0 None text.now }
     ensures within { IfSome result (λ place. place < length text.now) }

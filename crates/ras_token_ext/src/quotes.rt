@@ -1,11 +1,11 @@
-//! Where the quotes and the content of a string are in the text of a whole tree.
+//! The ranges of the quotes and of the content of a string in the text of a whole tree.
 ghost use Rattle.std.specs.Prelude.{◌≡◌, ◌+◌, ◌<◌, ◌^◌, length};
 ghost use Rattle.ras_token_ext.specs.Quotes.{quote_offsets, range_up, offset_down};
 
 use crate::strings::quote_places;
 use text_size::{TextRange, TextSize};
 
-/// The ranges of a string's quotes, with what is outside of them, and of its content.
+/// The ranges of a string's quotes, each with the text outside the quote, and of its content.
 #[derive(Clone, Copy, Debug, PartialEq, Eq)]
 pub struct QuoteOffsets {
     /// From the token's start up to the content, and from the content up to the token's end.
@@ -14,7 +14,7 @@ pub struct QuoteOffsets {
     pub contents: TextRange,
 }
 
-/// The ranges of a string that starts at an offset, or `None` if it has no two quotes.
+/// The ranges of a string that starts at an offset, or `None` if it does not have two quotes.
 pub fn quote_offsets(text: &str, start: TextSize) -> Option<QuoteOffsets>
     requires { start + length text.now < 2 ^ 32 }
     ensures { result ≡ quote_offsets start text.now }
@@ -40,7 +40,8 @@ pub fn range_up(contents: TextRange, range: TextRange) -> Option<TextRange>
     }
 }
 
-/// An offset of the whole text as one of a content, also past its end, or `None` if it lies before it.
+/// An offset of the whole text as an offset of the content, or `None` if it is before the content. It can be past the
+/// content's end.
 pub fn offset_down(contents: TextRange, offset: TextSize) -> Option<TextSize>
     ensures { result ≡ offset_down contents offset }
 {

@@ -7,7 +7,7 @@ use crate::parts::cut;
 use crate::places::{first_place, last_place};
 use literal_escape::{EscapeError, MixedUnit, Mode, Units};
 
-/// Where the first and the last `"` of a text are, or `None` if there are not two.
+/// The offsets of the first and the last `"` of a text, or `None` if there are not two.
 pub fn quote_places(text: &str) -> Option<(usize, usize)>
     ensures value { result ≡ quote_places text.now }
     ensures order { IfSome result (λ p. p.0 < p.1) }
@@ -22,7 +22,7 @@ pub fn quote_places(text: &str) -> Option<(usize, usize)>
     }
 }
 
-/// What is between the first and the last `"` of a text, or `None` if there are not two.
+/// The text between the first and the last `"`, or `None` if there are not two.
 pub fn string_content(text: &str) -> Option<&str>
     ensures { option_map (λ s. s.now) result ≡ content_of text.now }
 {

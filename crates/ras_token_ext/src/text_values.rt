@@ -9,7 +9,7 @@ use literal_escape::{EscapeError, Mode};
 use std::alloc::Global;
 use std::borrow::{CowSlice, CowStr};
 
-// What bytes that are no UTF-8 are.
+// The error for bytes that are not UTF-8.
 const NO_TEXT: ValueError = ValueError::Escape(EscapeError::NonAsciiCharInByte);
 
 // Bytes as a text.
@@ -30,9 +30,10 @@ fn bytes_text(bytes: CowSlice<'_, u8, Global>) -> Result<CowStr<'_, Global>, Val
     }
 }
 
-/// The value of a byte string or a C string, as [`bytes_value`], as a text.
+/// The value of a byte string or a C string as a text; the rest is as in [`bytes_value`].
 ///
-/// Bytes that are no UTF-8 are `Escape(NonAsciiCharInByte)`; where memory runs out before they are known, it is `Memory`.
+/// Bytes that are not UTF-8 are `Escape(NonAsciiCharInByte)`; if memory runs out before the bytes are known, the result is
+/// `Memory`.
 pub fn text_value<'t>(
     alloc: Global,
     mode: Mode,

@@ -1,4 +1,4 @@
-//! The units of a string's content, one by one, for who marks or maps them.
+//! Callbacks for the units of a string's content, one by one.
 ghost use Rattle.std.specs.Prelude.{◌≡◌, ◌+◌, ◌<◌, ◌≤◌, ◌^◌, length, option_map, IfSome};
 ghost use Rattle.std.specs.List.{FoldsTo};
 ghost use Rattle.std.specs.Str.{chars};
@@ -13,7 +13,7 @@ use literal_escape::{EscapeError, MixedUnit, Mode, Units};
 use std::ops::Range;
 use text_size::{TextRange, TextSize};
 
-// A unit as a character: a byte as that of its number; of a C string always `_`, also for a fault.
+// A unit as a character: a byte as the character with that code; each unit of a C string as `_`, also a fault.
 fn shown(mode: Mode, unit: Result<MixedUnit, EscapeError>) -> Result<char, EscapeError>
     ensures { result ≡ shown mode unit }
 {
@@ -30,7 +30,7 @@ fn shown(mode: Mode, unit: Result<MixedUnit, EscapeError>) -> Result<char, Escap
 /// Calls `callback` on each unit of a content, in order: where it is, in bytes from the content's start, and its character
 /// or its fault, warnings too. A byte comes as the character of its number, and each unit of a C string as `_`, without faults.
 ///
-/// Gives the callback back, as the last call left it.
+/// Returns the callback in the state that the last call left.
 pub fn unescape<F: FnMut(Range<usize>, Result<char, EscapeError>)>(
     mode: Mode,
     content: &str,
@@ -86,7 +86,7 @@ fn call_on_chars<F: FnMut(TextRange, Result<char, EscapeError>)>(
     callback
 }
 
-// The content of a literal, and where it starts; `None` where the text has no two quotes.
+// The content of a literal and its offset; `None` if the text does not have two quotes.
 fn placed_content(text: &str) -> Option<(usize, &str)>
     ensures value { option_map (λ p. (p.0, p.1.now)) result ≡ placed_content text.now }
     ensures within { IfSome result (λ p. p.0 + length p.1.now ≤ length text.now) }
@@ -96,11 +96,11 @@ fn placed_content(text: &str) -> Option<(usize, &str)>
     Some((first + 1, content))
 }
 
-/// Calls `callback` on each unit of a literal's content, as [`unescape`], or on each character of a raw one, with its range
-/// from the start of the literal's text; on nothing where the text has no two quotes. A literal that begins with `prefix` is
-/// raw.
+/// Calls `callback` on each unit of a literal's content, like [`unescape`], or on each character of a raw one, with its
+/// range from the start of the literal's text. It makes no call if the text does not have two quotes. A literal that begins
+/// with `prefix` is raw.
 ///
-/// Gives the callback back, as the last call left it.
+/// Returns the callback in the state that the last call left.
 pub fn escaped_char_ranges<F: FnMut(TextRange, Result<char, EscapeError>)>(
     mode: Mode,
     prefix: &str,

@@ -26,7 +26,7 @@ fn has_backslash(content: &str) -> bool
     content.as_bytes().iter().any(|byte| *byte == b'\\')
 }
 
-// Adds what a unit means.
+// Appends the meaning of a unit.
 fn add_bytes(value: &mut Vec<u8>, unit: Result<MixedUnit, EscapeError>) -> Result<(), AllocError>
     ensures { OnOk result (value.new.items ≡ value.old.items ++ unit_bytes unit) }
 {
@@ -43,7 +43,7 @@ fn add_bytes(value: &mut Vec<u8>, unit: Result<MixedUnit, EscapeError>) -> Resul
     }
 }
 
-// The meanings of a content joined.
+// The meanings of a content's units, joined.
 fn meanings(alloc: Global, mode: Mode, content: &str) -> Result<Vec<u8>, AllocError>
     ensures { IfOk result (λ value. value.items ≡ meanings mode content.now) }
 {
@@ -76,11 +76,11 @@ fn content_bytes(
     }
 }
 
-/// The value of a byte string or a C string: the content of a raw one, which begins with `prefix`, otherwise the meanings
-/// of its units joined.
+/// The value of a byte string or a C string: the content if it is raw, that is, begins with `prefix`; otherwise the
+/// meanings of its units, joined.
 ///
-/// Without two quotes it is `Escape(LoneSlash)`, otherwise the last fatal fault refuses it; warnings pass. A content that is
-/// raw or has no backslash is borrowed, and takes no memory.
+/// Without two quotes the result is `Escape(LoneSlash)`, otherwise the last fatal fault, if there is one; warnings are
+/// ignored. A content that is raw or has no backslash is borrowed, and takes no memory.
 pub fn bytes_value<'t>(
     alloc: Global,
     mode: Mode,
@@ -99,7 +99,7 @@ pub fn bytes_value<'t>(
     content_bytes(alloc, mode, content)
 }
 
-// Adds what a unit of a string means.
+// Appends the meaning of a unit of a string.
 fn add_text(value: &mut String, unit: Result<MixedUnit, EscapeError>) -> Result<(), AllocError>
     ensures { OnOk result (string_bytes value.new ≡ string_bytes value.old ++ unit_text unit) }
 {
@@ -109,7 +109,7 @@ fn add_text(value: &mut String, unit: Result<MixedUnit, EscapeError>) -> Result<
     Ok(())
 }
 
-// The meanings of a string's content joined.
+// The meanings of the units of a string's content, joined.
 fn string_meanings(alloc: Global, content: &str) -> Result<String, AllocError>
     ensures { IfOk result (λ value. string_bytes value ≡ string_meanings content.now) }
 {
@@ -138,7 +138,7 @@ fn content_text(alloc: Global, content: &str) -> Result<CowStr<'_, Global>, Valu
     }
 }
 
-/// The value of a string, as [`bytes_value`].
+/// The value of a string; the rest is as in [`bytes_value`].
 pub fn string_value(alloc: Global, text: &str) -> Result<CowStr<'_, Global>, ValueError>
     ensures value { IsValueOf cow_str_bytes (literal_value string_meanings modes.Str (codes "r") text.now) result }
     ensures borrowed { can_borrow (codes "r") text.now ≡ true → TakesNoMemory IsBorrowedStr result }

@@ -9,7 +9,7 @@ use Rattle.ras_token_ext.specs.Answered.{IsValueOf, IsTextOf}
 use Rattle.ras_tokens.specs.declared.token_ext.AnyString.{AnyString}
 use Rattle.ras_tokens.specs.declared.token_ext.AnyString.TheVariants.{ByteString, CString, String}
 
--- a string's value is a text; that of a byte string or C string may be none
+-- a string's value is a text; that of a byte string or C string may not be one
 abbrev pub IsAnyStringValue : {V : Type 0} → (V → List ℕ) → AnyString → Result V ValueError → Type 0
 IsAnyStringValue bytes (ByteString it) result = IsTextOf bytes (literal_value (meanings modes.ByteStr) modes.ByteStr (codes "br") (text (focus it.syntax))) result
 IsAnyStringValue bytes (CString it) result = IsTextOf bytes (literal_value (meanings modes.CStr) modes.CStr (codes "cr") (text (focus it.syntax))) result

@@ -1,4 +1,4 @@
-//! Typed views of tokens, what their texts mean, and what a literal is by its token.
+//! Typed views of tokens, the values of their texts, and the kind of a literal by its token.
 #![tactic(auto)]
 
 pub mod laws;

@@ -1,4 +1,4 @@
-//! What a literal is, by its token.
+//! The kind of a literal, by its token.
 ghost use Rattle.std.specs.Prelude.{◌≡◌, option_map};
 ghost use Rattle.ras_node.specs.Nodes.{kind_at};
 ghost use Rattle.ras_tokens.specs.LiteralShapes.{literal_shape, literal_by};
@@ -8,7 +8,7 @@ use crate::typed::TypedToken;
 use lossless_tree::{SyntaxKind, SyntaxToken};
 use std::hash::Hash;
 
-/// What a literal is, with its token.
+/// The kind of a literal, with its token.
 #[derive(Clone, PartialEq, Eq, Hash, Drop)]
 pub enum LiteralKind {
     String(tokens::String),
@@ -22,7 +22,7 @@ pub enum LiteralKind {
 }
 
 impl LiteralKind {
-    /// What a token is as a literal, or `None` if it is of no literal's kind.
+    /// The kind of literal that a token is, or `None` if its kind is not that of a literal.
     pub fn of_token(syntax: SyntaxToken) -> Option<LiteralKind>
         ensures { option_map literal_shape result ≡ literal_by (kind_at syntax) syntax }
     {

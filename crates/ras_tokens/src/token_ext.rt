@@ -1,4 +1,4 @@
-//! Tokens under one name.
+//! Views of tokens of several kinds.
 ghost use Rattle.std.specs.Prelude.{◌≡◌, Some, true, ⊤};
 ghost use Rattle.std.specs.Cmp.{partial_equiv_from_equiv, on_equiv};
 ghost use Rattle.tree_model.specs.Tree.{text};
@@ -25,7 +25,7 @@ use std::alloc::AllocError;
 use std::fmt;
 use std::hash::{Hash, Hasher};
 
-/// A comment, of documentation too.
+/// A comment, which may be a documentation comment.
 #[derive(Drop)]
 pub struct AnyComment {
     pub(crate) syntax: SyntaxToken,

@@ -5,7 +5,7 @@ use syntax_kind::raw;
 /// White space.
 pub type Whitespace = TypedToken<{ raw::WHITESPACE }>;
 
-/// A comment that documents nothing.
+/// A comment that is not documentation.
 pub type Comment = TypedToken<{ raw::COMMENT }>;
 
 /// A string literal.

@@ -1,10 +1,10 @@
-//! The kinds of the nodes in which something of one type may be.
+//! The kinds of the nodes that can have attributes or generic parameters.
 ghost use Rattle.ras_node.specs.Sets.{has_attrs, has_generic_params};
 
 use super::{Exprs, GenericParams, Items, KindSet};
 use lossless_tree::SyntaxKind;
 
-/// The kinds of what can have attributes.
+/// The kinds of the nodes that can have attributes.
 pub enum AttrHolders {}
 
 impl KindSet for AttrHolders {
@@ -35,7 +35,7 @@ impl KindSet for AttrHolders {
     }
 }
 
-/// The kinds of what can have generic parameters.
+/// The kinds of the nodes that can have generic parameters.
 pub enum GenericParamHolders {}
 
 impl KindSet for GenericParamHolders {

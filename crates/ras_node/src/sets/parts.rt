@@ -1,4 +1,4 @@
-//! Sets of kinds that no enum has: operators, and what precedes a part that is looked for.
+//! Sets of kinds that no enum has: operators, and kinds that may precede a part that is searched for.
 ghost use Rattle.ras_node.specs.PartSets.{is_range_operator, is_binary_operator, is_before_literal, is_before_index, is_path, is_path_segment, is_bang, is_inner_doc, is_comma};
 
 use crate::sets::KindSet;
@@ -57,7 +57,7 @@ impl KindSet for BinaryOperators {
     }
 }
 
-/// The kinds of what may precede a literal's token: attributes, documentation comments, white space and comments.
+/// The kinds that may precede the token of a literal: attributes, documentation comments, white space and comments.
 pub enum BeforeLiteral {}
 
 impl KindSet for BeforeLiteral {
@@ -74,7 +74,7 @@ impl KindSet for BeforeLiteral {
     }
 }
 
-/// The kinds of what may precede the number of a tuple's field: all but those of numbers.
+/// The kinds that may precede the number of a tuple's field: all except numbers.
 pub enum BeforeIndex {}
 
 impl KindSet for BeforeIndex {

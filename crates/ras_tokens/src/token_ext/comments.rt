@@ -19,8 +19,8 @@ impl tokens::Comment {
         CommentShape::from_text(self.syntax.text())
     }
 
-    /// The text without the markers `//`, or `/*` and `*/`, of which the last may be missing, or `None` if the text has no
-    /// two bytes, or a character is across their end.
+    /// The text without the markers `//`, or `/*` and `*/`, of which the last may be missing. Returns `None` if the text is shorter
+    /// than two bytes, or if byte 2 is not a character boundary.
     pub fn text_without_markers(&self) -> Option<&str>
         ensures { option_map (λ s. s.now) result ≡ comment_text 2 (text (focus self.now.syntax)) }
     {
@@ -65,7 +65,7 @@ impl AnyComment {
         self.kind().prefix()
     }
 
-    /// Whether it documents what it is in.
+    /// Whether it documents the item that it is inside.
     pub fn is_inner(&self) -> bool
         ensures { result ≡ option_map_or is_inner_kind (doc_kind_of (kind_at self.now.syntax)) false }
     {
@@ -75,7 +75,7 @@ impl AnyComment {
         }
     }
 
-    /// Whether it documents what it precedes.
+    /// Whether it documents the item that follows.
     pub fn is_outer(&self) -> bool
         ensures { result ≡ option_map_or is_outer_kind (doc_kind_of (kind_at self.now.syntax)) false }
     {
@@ -92,8 +92,8 @@ impl AnyComment {
         self.syntax.text()
     }
 
-    /// The text without the markers, of which the closing one may be missing, or `None` if the text is shorter than its
-    /// opening marker, or a character is across that marker's end.
+    /// The text without the markers, of which the closing one may be missing. Returns `None` if the text is shorter than
+    /// its opening marker, or if that marker's end is not a character boundary.
     pub fn text(&self) -> Option<&str>
         ensures { option_map (λ s. s.now) result ≡ comment_text (marker_len (doc_kind_of (kind_at self.now.syntax))) (text (focus self.now.syntax)) }
     {
@@ -106,7 +106,7 @@ impl AnyComment {
 }
 
 impl tokens::Whitespace {
-    /// Whether it has two newlines at least.
+    /// Whether it has at least two newlines.
     pub fn spans_multiple_lines(&self) -> bool
         ensures { result ≡ spans_lines (text (focus self.now.syntax)) }
     {

@@ -1,4 +1,4 @@
-//! What string literals of each kind have.
+//! The trait of string literals.
 ghost use Rattle.std.specs.Prelude.{◌≡◌, List, ℕ, codes, option_map, unwrap_or};
 ghost use Rattle.std.specs.List.{FoldsTo};
 ghost use Rattle.std.specs.Option.{option_and_then};
@@ -22,26 +22,26 @@ use ras_node::AstToken;
 use ras_token_ext::QuoteOffsets;
 use std::ops::Range;
 
-/// A string literal: its content lies between the first and the last `"` of its text. Ranges and offsets are those of the
-/// whole tree where a call doesn't say another start. No call takes memory; each takes time linear in the token's text.
+/// A string literal: its content is between the first and the last `"` of its text. Ranges and offsets are those of the
+/// whole tree unless a call says otherwise. No call takes memory; each takes time linear in the token's text.
 pub trait IsString: AstToken {
     /// The prefix of raw strings of the kind.
     ghost prefix: { Self → List ℕ };
 
-    /// Which literal a content is of.
+    /// The mode of the kind's contents.
     ghost literal: { Self → Mode };
 
     /// The prefix of raw strings of the kind: `r`, `br` or `cr`.
     fn raw_prefix(&self) -> &'static str
         ensures { result.now ≡ prefix self.now };
 
-    /// Which literal the content is of.
+    /// The mode in which the content is unescaped.
     fn mode(&self) -> Mode
         ensures { result ≡ literal self.now };
 
-    /// Calls `callback` on each unit of a content of the kind, in order: where it is, in bytes from the content's start, and
-    /// its character or its fault, warnings too. A byte comes as the character of its number, and each unit of a C string as
-    /// `_`, without faults. Gives the callback back, as the last call left it.
+    /// Calls `callback` on each unit of a content of the kind, in order, with its range in bytes from the content's start,
+    /// and its character or fault, warnings too. A byte is passed as the character with that code, and each unit of a C
+    /// string as `_`, without faults. Returns the callback in the state that the last call left.
     final fn unescape<F: FnMut(Range<usize>, Result<char, EscapeError>)>(
         &self,
         content: &str,
@@ -60,7 +60,7 @@ pub trait IsString: AstToken {
         ras_token_ext::is_raw(self.text(), self.raw_prefix())
     }
 
-    /// The ranges of the quotes and of the content, or `None` if the text has no two quotes.
+    /// The ranges of the quotes and of the content, or `None` if the text does not have two quotes.
     final fn quote_offsets(&self) -> Option<QuoteOffsets>
         ensures { result ≡ quote_offsets (range_start (Self.token self.now)) (text (focus (Self.token self.now))) }
     {
@@ -75,7 +75,7 @@ pub trait IsString: AstToken {
         Some(offsets.contents)
     }
 
-    /// The content; the whole text if it has no two quotes.
+    /// The content; the whole text if it does not have two quotes.
     final fn text_without_quotes(&self) -> &str
         ensures { result.now ≡ unwrap_or (content_of (text (focus (Self.token self.now)))) (text (focus (Self.token self.now))) }
     {
@@ -102,8 +102,9 @@ pub trait IsString: AstToken {
         Some(offsets.quotes.1)
     }
 
-    /// Calls `callback` on each unit of the content, as [`IsString::unescape`], or on each character of a raw one, with its range
-    /// from the token's start; on nothing without two quotes. Gives the callback back, as the last call left it.
+    /// Calls `callback` on each unit of the content, like [`IsString::unescape`], or on each character of a raw one, with
+    /// its range from the token's start. It makes no call if there are not two quotes. Returns the callback in the state
+    /// that the last call left.
     final fn escaped_char_ranges<F: FnMut(TextRange, Result<char, EscapeError>)>(
         &self,
         callback: F,
@@ -125,8 +126,8 @@ pub trait IsString: AstToken {
         ras_token_ext::range_up(offsets.contents, range)
     }
 
-    /// An offset of the whole tree as one of the content, or `None` if it lies before the content, or if there are not two
-    /// quotes.
+    /// An offset of the whole tree as an offset of the content, or `None` if it is before the content, or if there are not
+    /// two quotes.
     final fn map_offset_down(&self, offset: TextSize) -> Option<TextSize>
         ensures { result ≡ option_and_then (λ q. offset_down q.contents offset) (quote_offsets (range_start (Self.token self.now)) (text (focus (Self.token self.now)))) }
     {

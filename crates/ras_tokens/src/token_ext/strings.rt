@@ -15,10 +15,10 @@ use std::alloc::Global;
 use std::borrow::{CowSlice, CowStr};
 
 impl tokens::String {
-    /// The value: the content of a raw string, otherwise the meanings of its units joined.
+    /// The value: the content of a raw string, otherwise the meanings of its units, joined.
     ///
-    /// Without two quotes it is `Escape(LoneSlash)`, otherwise the last fatal fault refuses it; warnings pass. A content that
-    /// is raw or has no backslash is borrowed, and takes no memory.
+    /// Without two quotes the result is `Escape(LoneSlash)`, otherwise the last fatal fault, if there is one; warnings are
+    /// ignored. A content that is raw or has no backslash is borrowed, and takes no memory.
     pub fn value(&self, alloc: Global) -> Result<CowStr<'_, Global>, ValueError>
         ensures value { IsValueOf cow_str_bytes (literal_value string_meanings modes.Str (codes "r") (text (focus self.now.syntax))) result }
         ensures borrowed { can_borrow (codes "r") (text (focus self.now.syntax)) ≡ true → TakesNoMemory IsBorrowedStr result }
@@ -28,7 +28,7 @@ impl tokens::String {
 }
 
 impl tokens::ByteString {
-    /// The bytes, as the value of a string.
+    /// The value in bytes. Errors and memory are as for a string.
     pub fn value(&self, alloc: Global) -> Result<CowSlice<'_, u8, Global>, ValueError>
         ensures value { IsValueOf cow_slice_items (literal_value (meanings modes.ByteStr) modes.ByteStr (codes "br") (text (focus self.now.syntax))) result }
         ensures borrowed { can_borrow (codes "br") (text (focus self.now.syntax)) ≡ true → TakesNoMemory IsBorrowedSlice result }
@@ -38,7 +38,7 @@ impl tokens::ByteString {
 }
 
 impl tokens::CString {
-    /// The bytes without the closing NUL, as the value of a string: a character stands for its UTF-8.
+    /// The value in bytes, without the closing NUL; characters are encoded as UTF-8. Errors and memory are as for a string.
     pub fn value(&self, alloc: Global) -> Result<CowSlice<'_, u8, Global>, ValueError>
         ensures value { IsValueOf cow_slice_items (literal_value (meanings modes.CStr) modes.CStr (codes "cr") (text (focus self.now.syntax))) result }
         ensures borrowed { can_borrow (codes "cr") (text (focus self.now.syntax)) ≡ true → TakesNoMemory IsBorrowedSlice result }
@@ -48,9 +48,10 @@ impl tokens::CString {
 }
 
 impl AnyString {
-    /// The value as a text, as that of the string, byte string or C string.
+    /// The value as a text. Errors and memory are as for the `value` of the string, byte string or C string.
     ///
-    /// Bytes that are no UTF-8 are `Escape(NonAsciiCharInByte)`. Where memory runs out before that is known, it is `Memory`.
+    /// Bytes that are not UTF-8 are `Escape(NonAsciiCharInByte)`. If memory runs out before that is known, the result is
+    /// `Memory`.
     pub fn value(&self, alloc: Global) -> Result<CowStr<'_, Global>, ValueError>
         ensures value { IsAnyStringValue cow_str_bytes self.now result }
         ensures borrowed { any_string_can_borrow self.now ≡ true → TakesNoMemory IsBorrowedStr result }
