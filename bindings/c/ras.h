@@ -42,7 +42,7 @@ extern "C" {
 
 /* One node or token, in 16 bytes. Rows are numbered from 0 in preorder. */
 typedef struct {
-    /* The number of its kind; for a token 2^31 more, since ERROR is a kind of both. */
+    /* The number of its kind, plus 2^31 for a token, since ERROR is a kind of both. */
     uint32_t kind;
     /* The byte where its text starts. */
     uint32_t start;

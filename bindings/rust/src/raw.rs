@@ -32,7 +32,7 @@ pub const NO_PARSE: u32 = 7;
 #[repr(C)]
 #[derive(Clone, Copy, Debug, PartialEq, Eq)]
 pub struct FlatRow {
-    /// The number of its kind; for a token 2^31 more, since ERROR is a kind of both.
+    /// The number of its kind, plus 2^31 for a token, since ERROR is a kind of both.
     pub kind: u32,
     /// The byte where its text starts.
     pub start: u32,

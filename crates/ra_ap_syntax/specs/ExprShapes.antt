@@ -1,4 +1,4 @@
--- The variants of answers about expressions, with cursors in the place of views.
+-- The variants of the results about expressions, with cursors in the place of views.
 use Rattle.std.specs.Prelude.{Bool, List, Option, Some, None, option_map, is_some, if◌then◌else◌}
 use Rattle.std.specs.Option.{option_and_then, option_or}
 use Rattle.syntax_kind.specs.declared.syntax_kind.SyntaxKind.{SyntaxKind}
@@ -14,7 +14,7 @@ use Rattle.ra_ap_syntax.specs.declared.ast.expr_ext.field.FieldKind.TheVariants 
 use Rattle.ra_ap_syntax.specs.ExprCases.{expr_node}
 use Rattle.ras_expr_ext.specs.ExprParts.{index_token}
 
--- an array: one value and how often it comes, or a list of values
+-- an array: one value and the number of repetitions, or a list of values
 pub data ArrayShape : Type 0 where
   repeat : Option Cursor → Option Cursor → ArrayShape
   elements : List Cursor → ArrayShape
@@ -23,7 +23,7 @@ abbrev pub array_shape : ArrayExprKind → ArrayShape
 array_shape (array.Repeat initializer count) = repeat (option_map expr_node initializer) (option_map expr_node count)
 array_shape (array.ElementList list) = elements list
 
--- a `;` parts the value from the number
+-- a `;` separates the value from the number
 abbrev pub array_kind : (SyntaxKind → Bool) → Cursor → ArrayShape
 array_kind exprs c =
     if is_some (token_child (Token token.SEMICOLON) c) then repeat (typed_child exprs c) (second_typed_child exprs c) else elements (typed_children exprs c)

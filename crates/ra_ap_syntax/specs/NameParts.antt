@@ -1,4 +1,4 @@
--- Of a name in any role, what it is in one of them.
+-- A name in any role, seen in one of them.
 use Rattle.std.specs.Prelude.{Option, Some, None}
 use Rattle.tree_model.specs.Cursor.{Cursor}
 use Rattle.ra_ap_syntax.specs.declared.ast.views.name_like.NameLike.{NameLike}

@@ -1,4 +1,4 @@
--- The variants of answers about items, patterns, types and paths, with cursors in the place of views.
+-- The variants of the results about items, patterns, types and paths, with cursors in the place of views.
 use Rattle.std.specs.Prelude.{Bool, Option, Some, None, option_map, is_some, if◌then◌else◌}
 use Rattle.std.specs.Option.{option_or, option_map_or}
 use Rattle.syntax_kind.specs.declared.syntax_kind.SyntaxKind.{SyntaxKind}
@@ -41,7 +41,7 @@ abbrev pub fields_or : Option Cursor → StructShape → StructShape
 fields_or (Some l) other = record_fields l
 fields_or None other = other
 
--- the list of named fields, or else of numbered ones, or none
+-- the list of named fields, or else of numbered ones, or no fields
 abbrev pub struct_kind : (records tuples : SyntaxKind → Bool) → Cursor → StructShape
 struct_kind records tuples c = fields_or (typed_child records c) (tuple_or_none (typed_child tuples c))
 
@@ -49,7 +49,7 @@ struct_kind records tuples c = fields_or (typed_child records c) (tuple_or_none 
 abbrev pub self_param_kind : Cursor → SelfParamKind
 self_param_kind c = if has_token (Token token.AMP) c then (if has_token (Token token.MUT_KW) c then self_param.MutRef else self_param.Ref) else self_param.Owned
 
--- how far something may be seen
+-- the scope of a visibility
 pub data VisibilityShape : Type 0 where
   in_path : Cursor → VisibilityShape
   in_crate : VisibilityShape
@@ -81,7 +81,7 @@ inner_visibility paths segments names c = option_map_or (seen_in_path paths segm
 abbrev pub visibility_kind : (inners paths segments name_refs : SyntaxKind → Bool) → Cursor → VisibilityShape
 visibility_kind inners paths segments names c = option_map_or (inner_visibility paths segments names) (typed_child inners c) everywhere
 
--- a bound: a trait by its path, with a binder; what it captures; a lifetime
+-- a bound: a trait by its path, with a binder; captured parameters; a lifetime
 pub data BoundShape : Type 0 where
   by_path : Option Cursor → Cursor → BoundShape
   by_use : Cursor → BoundShape
@@ -92,7 +92,7 @@ bound_shape (bound.PathType b p) = by_path (option_map (λ f. f.syntax) b) p.syn
 bound_shape (bound.Use u) = by_use u.syntax
 bound_shape (bound.Lifetime l) = by_lifetime l.syntax
 
--- of a `for` type its own type, if that is a path type
+-- the type of a `for` type, if that is a path type
 abbrev pub bound_of_for : (types path_types binders : SyntaxKind → Bool) → Cursor → Option BoundShape
 bound_of_for types path_types binders f = option_map (by_path (typed_child binders f)) (view_in path_types (typed_child types f))
 
@@ -125,7 +125,7 @@ name_by_kind (Token token.SUPER_KW) n = word (Token token.SUPER_KW)
 name_by_kind (Token token.CRATE_KW) n = word (Token token.CRATE_KW)
 name_by_kind _ n = named n
 
--- of the anchor `<T as U>` the first type, and the second if it is a path type
+-- the first type of the anchor `<T as U>`, and the second if it is a path type
 abbrev pub anchored : (types path_types : SyntaxKind → Bool) → Cursor → SegmentShape
 anchored types path_types a = typed (typed_child types a) (view_in path_types (second_typed_child types a))
 

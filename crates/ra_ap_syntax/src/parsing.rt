@@ -1,4 +1,4 @@
-//! Texts to typed trees.
+//! Parses texts to typed trees.
 ghost use Rattle.std.specs.Prelude.{◌≡◌, ◌<◌, ◌≤◌, ◌^◌, ◌↔◌, length, IfOk, IfErr, OnOk};
 ghost use Rattle.tree_model.specs.Tree.{kind_of};
 ghost use Rattle.ras_front_end.specs.declared.edition.Entry.TheVariants as entry;

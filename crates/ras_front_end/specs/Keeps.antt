@@ -1,4 +1,4 @@
--- What each reading of a front end keeps.
+-- The properties of each reading of a front end.
 use Rattle.std.specs.Prelude.{◌≡◌, ◌⊎◌, ℕ, List, length, All, IsTrue}
 use Rattle.syntax_kind.specs.declared.syntax_kind.SyntaxKind.{SyntaxKind}
 use Rattle.syntax_kind.specs.declared.syntax_kind.SyntaxKind.TheVariants.{Token, Node}
@@ -20,7 +20,7 @@ pub record Keeps (is_root : SyntaxKind → Type 0) (input : List ℕ) (r : Readi
   pub root : is_root (kind_of tree)
   pub in_text : All (LiesIn (length input)) (stored_faults r)
 
--- the kinds that a root may have: a file's own, and those of the views of `Expr`, or ERROR where no expression was read
+-- the kinds that a root may have: a file's own, and those of the views of `Expr`, or ERROR if the text is not an expression
 abbrev pub IsRootOf : Entry → SyntaxKind → Type 0
 IsRootOf SourceFile k = k ≡ Node kind.SOURCE_FILE
 IsRootOf Expr k = IsTrue (is_expr k) ⊎ (k ≡ Token token.ERROR)

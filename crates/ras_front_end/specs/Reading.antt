@@ -1,4 +1,4 @@
--- What a front end answers, without the memory that it takes: steps, whose tokens have lengths, and the lexer's errors.
+-- The results of a front end, without the memory that they take: steps, whose tokens have lengths, and the lexer's errors.
 use Rattle.std.specs.Prelude.{◌≡◌, ℕ, ◌≤◌, List, [], ◌∷◌, ◌++◌, length, take, drop, option_map, IsUtf8, String, string_bytes, Option}
 use Rattle.std.specs.Box.{box_value}
 use Rattle.syntax_kind.specs.declared.syntax_kind.SyntaxKind.{SyntaxKind}
@@ -28,7 +28,7 @@ abbrev pub front_steps : List Step → List FrontStep
 front_steps [] = []
 front_steps (s ∷ ss) = front_step s ∷ front_steps ss
 
--- what an output says
+-- the reading of an output
 abbrev pub reading_of : Output → Reading
 reading_of o = record { steps = front_steps o.steps.items; errors = o.errors.items }
 

@@ -5,7 +5,7 @@ use Rattle.tree_rows.specs.declared.builder_event.BuilderEvent.TheVariants as ev
 use Rattle.ras_front_end.specs.declared.output.Step.{Step}
 use Rattle.ras_front_end.specs.declared.output.Step.TheVariants.{Enter, Token, Exit, Error}
 
--- the event that a step is; an error is none
+-- the event of a step; an error has none
 abbrev pub tree_event : Step → Option BuilderEvent
 tree_event (Enter k) = Some (event.Enter k)
 tree_event (Token k n) = Some (event.Token k n)

@@ -1,13 +1,13 @@
-//! What a front end is asked for.
+//! The arguments of a front end: entries, editions and reparsers.
 
 use syntax_kind::SyntaxKind;
 
-/// What a text is read as.
+/// The grammar rule that parses a whole text.
 #[derive(Clone, Copy, Debug, PartialEq, Eq, Hash)]
 pub enum Entry {
     /// A file: the root is a `SOURCE_FILE`.
     SourceFile,
-    /// An expression: the root is a node of an expression, or `ERROR` where the text is none.
+    /// An expression: the root is a node of an expression, or `ERROR` if the text is not an expression.
     Expr,
 }
 
@@ -29,10 +29,10 @@ impl Edition {
     pub const CURRENT: Edition = Edition::Edition2024;
 }
 
-/// How a node may be read again by itself, as [`FrontEnd::reparser`](crate::FrontEnd::reparser) answers it.
+/// A way to re-parse a node by itself, as returned by [`FrontEnd::reparser`](crate::FrontEnd::reparser).
 #[derive(Clone, Copy, Debug, PartialEq, Eq, Hash)]
 pub struct Reparser {
-    /// The kind of the node, which is also that of the node parsed again.
+    /// The kind of the node, before and after the re-parse.
     pub kind: SyntaxKind,
     /// Opaque to everyone but the front end: which grammar rule re-parses the node.
     pub number: u32,

@@ -25,7 +25,7 @@ pub trait FrontEnd {
     ) -> Result<Vec<SyntaxKind>, AllocError>
         ensures { IfOk result (λ kinds. kinds.items ≡ (answers self.now).lexed edition text.now) };
 
-    /// The reading of a text. For one longer than 4,294,967,295 bytes it may be anything.
+    /// Parses a text. The result is arbitrary if the text is longer than 4,294,967,295 bytes.
     fn parse(
         &self,
         alloc: Global,
@@ -35,7 +35,7 @@ pub trait FrontEnd {
     ) -> Result<Output, AllocError>
         ensures { IfOk result (λ output. reading_of output ≡ (answers self.now).parsed entry edition text.now) };
 
-    /// The kind of the one token that the text is, and the lexer's error, or `None` if it is not one token.
+    /// The kind of a text that is exactly one token, with the lexer's error if there is one; `None` if it is not one token.
     fn single_token(
         &self,
         alloc: Global,
@@ -44,8 +44,8 @@ pub trait FrontEnd {
     ) -> Result<Option<(SyntaxKind, Option<String>)>, AllocError>
         ensures { IfOk result (λ token. option_map single_of token ≡ (answers self.now).single edition text.now) };
 
-    /// How a node of this kind may be read by itself, or `None` if it may not. `first_child` is the kind of its first child, node
-    /// or token, and `parent` that of its parent.
+    /// The rule by which a node of this kind can be re-parsed by itself, or `None` if it cannot be. `first_child` is the
+    /// kind of its first child, node or token, and `parent` that of its parent.
     fn reparser(
         &self,
         kind: SyntaxKind,
@@ -54,8 +54,8 @@ pub trait FrontEnd {
     ) -> Option<Reparser>
         ensures { result ≡ (answers self.now).chosen kind first_child parent };
 
-    /// The reading of a piece by a reparser that [`FrontEnd::reparser`] answers: a text that begins with `{`, ends with `}` and
-    /// whose braces balance between. For any other, or one longer than 4,294,967,295 bytes, it may be anything.
+    /// Parses a piece by a reparser that [`FrontEnd::reparser`] returned. The text begins with `{`, ends with `}`, and the
+    /// braces between balance. The result is arbitrary for any other text, and for one longer than 4,294,967,295 bytes.
     fn parse_piece(
         &self,
         alloc: Global,
@@ -65,11 +65,11 @@ pub trait FrontEnd {
     ) -> Result<Output, AllocError>
         ensures { IfOk result (λ output. reading_of output ≡ (answers self.now).piece reparser edition text.now) };
 
-    /// The kind of the keyword that the text is, or `None` if it is not one in the edition.
+    /// The kind of a text that is a keyword in the edition, or `None` if it is not one.
     fn keyword(&self, text: &str, edition: Edition) -> Option<SyntaxKind>
         ensures { result ≡ (answers self.now).word edition text.now };
 
-    /// Whether a kind is that of a strict keyword: a word that is an identifier only after `r#`.
+    /// Whether a kind is that of a strict keyword: a word that can be an identifier only after `r#`.
     fn is_strict_keyword(&self, kind: SyntaxKind, edition: Edition) -> bool
         ensures { result ≡ (answers self.now).is_strict edition kind };
 

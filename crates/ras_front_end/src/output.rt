@@ -1,15 +1,15 @@
-//! What a front end answers.
+//! The output of a front end.
 
 use crate::syntax_error::SyntaxError;
 use syntax_kind::SyntaxKind;
 use text_size::TextSize;
 
-/// A step of a reading. The tokens cover the text, one after another.
+/// A step of a parse. The tokens cover the text, one after another.
 #[derive(Drop)]
 pub enum Step {
     /// Enters a node.
     Enter(SyntaxKind),
-    /// A token of this many bytes: those of the text that follow the tokens before it.
+    /// A token of this many bytes, which follow the tokens before it.
     Token(SyntaxKind, TextSize),
     /// Leaves the node that was entered last and is still open.
     Exit,
@@ -18,10 +18,10 @@ pub enum Step {
     Error(TextSize, Box<String>),
 }
 
-/// A reading of a text.
+/// The result of parsing a text.
 #[derive(Drop)]
 pub struct Output {
-    /// The nodes and tokens, and among them the parser's errors, in order.
+    /// The nodes and tokens, in order, and between them the parser's errors.
     pub steps: Vec<Step>,
     /// The lexer's errors, each at the range of its token. They are stored after the parser's.
     pub errors: Vec<SyntaxError>,

@@ -1,4 +1,4 @@
-//! Why a text is not read.
+//! The error of a failed parse.
 
 use std::alloc::AllocError;
 

@@ -8,7 +8,7 @@ use std::hash::{Hash, Hasher};
 use std::marker::Model;
 use text_size::{TextRange, TextSize};
 
-/// What is wrong with a text, at a range of it. A clause sees the message's bytes and the range.
+/// An error message and the range of the text that it is about. A clause sees the message's bytes and the range.
 ///
 /// Two are equal where message and range are. It prints as its message.
 #[derive(Debug, Drop)]
@@ -60,7 +60,7 @@ impl SyntaxError {
         self.range
     }
 
-    /// The same message at another range.
+    /// The error with another range.
     pub fn with_range(self, range: TextRange) -> SyntaxError
         ensures { result ≡ record { message = self.message; range = range } }
     {

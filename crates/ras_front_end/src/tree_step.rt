@@ -1,4 +1,4 @@
-//! The steps of a reading, as those from which a tree is built.
+//! Steps of a parse as steps of a tree builder.
 ghost use Rattle.ras_front_end.specs.TreeEvent.{tree_event};
 
 use crate::output::Step;

@@ -1,5 +1,5 @@
--- The attributes and documentation comments of a node, and the node that holds its inner ones.
--- (Rust Reference, "Attributes": an inner attribute, `#![..]`, is of what it is in, an outer one of what follows it.)
+-- The attributes and documentation comments of a node, and the node that holds its inner ones. (Rust Reference,
+-- "Attributes": an inner attribute, `#![..]`, applies to the item that it is in, an outer one to the item that follows it.)
 use Rattle.std.specs.Prelude.{Bool, true, false, not, ◌||◌, List, [], ◌++◌, Option, Some, None, is_some, if◌then◌else◌}
 use Rattle.std.specs.Option.{option_and_then, option_map_or}
 use Rattle.std.specs.List.{filter, find}
@@ -19,15 +19,15 @@ is_inner_by _ c = false
 abbrev pub is_inner : Cursor → Bool
 is_inner c = is_inner_by (kind_at c) c
 
--- the inner ones, or the others, of some
+-- the inner nodes of some, or the others
 abbrev pub stands : Bool → Cursor → Bool
 stands inner c = if inner then is_inner c else not (is_inner c)
 
--- those among the children of a node that can be viewed as attributes
+-- the nodes among the children of a node that can be viewed as attributes
 abbrev pub attrs_of : (SyntaxKind → Bool) → Bool → Cursor → List Cursor
 attrs_of attrs inner c = filter (stands inner) (typed_children attrs c)
 
--- the outer ones of an owner, and then the inner ones of the node that holds them, if there is one
+-- the outer nodes of an owner, and then the inner ones of the node that holds them, if there is one
 abbrev pub attrs_with_inner : (SyntaxKind → Bool) → Cursor → Option Cursor → List Cursor
 attrs_with_inner attrs owner holder = attrs_of attrs false owner ++ option_map_or (attrs_of attrs true) holder []
 
@@ -39,8 +39,9 @@ node_child k c = find (is_of_kind k) (filter at_node (children_of c))
 abbrev pub may_carry_attributes : Cursor → Bool
 may_carry_attributes c = option_map_or (λ p. is_of_kind (Node kind.BLOCK_EXPR) p || is_of_kind (Node kind.EXPR_STMT) p) (parent_of c) false
 
--- the node in which the inner attributes of an owner are: a file itself, and a block where it may have them; of a function the
--- statements of its body; of an extern block, a `match`, an implementation, a trait and a module the list in it
+-- the node that holds the inner attributes of an owner: a file itself, and a block itself if it can have some; for a
+-- function the statement list of its body; for an extern block, a `match`, an implementation, a trait and a module the list
+-- in it
 abbrev pub inner_holder_by : SyntaxKind → Cursor → Option Cursor
 inner_holder_by (Node kind.SOURCE_FILE) c = Some c
 inner_holder_by (Node kind.EXTERN_BLOCK) c = node_child (Node kind.EXTERN_ITEM_LIST) c

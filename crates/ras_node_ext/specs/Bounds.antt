@@ -8,10 +8,10 @@ use Rattle.syntax_kind.specs.declared.syntax_kind.token_kind.TokenKind.TheVarian
 use Rattle.tree_model.specs.Cursor.{Cursor}
 use Rattle.ras_node.specs.Nodes.{token_child, typed_child, typed_children}
 
--- the word of the lifetime that a bound is, if it is one
+-- the token of a lifetime that is a bound, if it is one
 abbrev pub lifetime_word : (lifetimes : SyntaxKind → Bool) → Cursor → Option Cursor
 lifetime_word lifetimes bound = option_and_then (token_child (Token LIFETIME_IDENT)) (typed_child lifetimes bound)
 
--- those of the bounds in a list, in order; none where there is no list
+-- the lifetimes of the bounds in a list, in order; the empty list if there is no list
 abbrev pub lifetime_bounds : (bounds lifetimes : SyntaxKind → Bool) → Option Cursor → List Cursor
 lifetime_bounds bounds lifetimes list = option_map_or (λ l. filter_map (lifetime_word lifetimes) (typed_children bounds l)) list []

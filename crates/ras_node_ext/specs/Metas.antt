@@ -1,4 +1,4 @@
--- What an attribute says, where `cfg_attr` and `unsafe` are around it.
+-- The metas of attributes, through `cfg_attr` and `unsafe`.
 -- (Rust Reference, "The `cfg_attr` attribute": it is the attributes that it lists, which may be `cfg_attr`s again.)
 use Rattle.std.specs.Prelude.{◌≡◌, ℕ, Bool, true, false, not, ◌&&◌, ◌||◌, List, [], ◌∷◌, Option, Some, None, option_map, is_some, codes, drop, if◌then◌else◌}
 use Rattle.std.specs.Option.{option_and_then}
@@ -19,39 +19,39 @@ abbrev pub reaches : Cursor → List Cursor → Bool
 reaches top [] = false
 reaches top (a ∷ above) = is_cfg_attr a && (is_same_cursor a top || reaches top above)
 
--- a meta that is no `cfg_attr`, and is `top`, or is in `cfg_attr`s alone up to it
+-- a meta that is not a `cfg_attr`, and is `top`, or has only `cfg_attr`s around it up to `top`
 abbrev pub is_opened : (metas : SyntaxKind → Bool) → Cursor → Cursor → Bool
 is_opened metas top c =
     metas (kind_at c) && (not (is_cfg_attr c) && (is_same_cursor c top || reaches top (drop 1 (ancestors_of c))))
 
--- what `top` becomes where each `cfg_attr` gives way to the metas in it: those in the order of the text
+-- `top` with each `cfg_attr` replaced by the metas in it, in the order of the text
 abbrev pub opened : (metas : SyntaxKind → Bool) → Cursor → List Cursor
 opened metas top = filter (is_opened metas top) (filter at_node (descendants_of top))
 
 abbrev pub is_unsafe : Cursor → Bool
 is_unsafe c = is_of_kind (Node kind.UNSAFE_META) c
 
--- d is what is in the `unsafe`s around c: c itself where it is none; none, where an `unsafe` has no meta in it
+-- d is the meta inside the `unsafe`s around c: c itself if it is not one; None if an `unsafe` has no meta in it
 pub data IsInnermost (metas : SyntaxKind → Bool) : Cursor → Option Cursor → Type 0 where
   itself : {c : Cursor} → is_unsafe c ≡ false → IsInnermost metas c (Some c)
   empty : {c : Cursor} → is_unsafe c ≡ true → typed_child metas c ≡ None → IsInnermost metas c None
   within : {c m : Cursor} {d : Option Cursor} → is_unsafe c ≡ true → typed_child metas c ≡ Some m → IsInnermost metas m d → IsInnermost metas c d
 
--- the path of a meta that is no `unsafe`; `cfg` and `cfg_attr` have none
+-- the path of a meta that is not an `unsafe`; `cfg` and `cfg_attr` have none
 abbrev pub own_path : (paths : SyntaxKind → Bool) → Cursor → Option Cursor
 own_path paths c = if is_cfg_attr c || is_of_kind (Node kind.CFG_META) c then None else typed_child paths c
 
--- r is the path of what is in the `unsafe`s around c
+-- r is the path of the meta inside the `unsafe`s around c
 abbrev pub IsMetaPath : (metas paths : SyntaxKind → Bool) → Cursor → Option Cursor → Type 0
 IsMetaPath metas paths c r = (d : Option Cursor) × IsInnermost metas c d × (r ≡ option_and_then (own_path paths) d)
 
--- the first word of a path of one segment
+-- the first word of a path that has only one segment
 abbrev pub path_word : (paths segments : SyntaxKind → Bool) → Cursor → Option (List ℕ)
 path_word paths segments p =
     if is_some (typed_child paths p) then None
     else option_map (λ t. text (focus t)) (option_and_then (λ s. find at_token (descendants_of s)) (typed_child segments p))
 
--- name is the word by which an attribute is known: that of its path, and of `cfg` and `cfg_attr` these
+-- name is the name of an attribute: the word of its path, or `cfg` or `cfg_attr`
 pub data IsMetaName (metas paths segments : SyntaxKind → Bool) : Cursor → Option (List ℕ) → Type 0 where
   by_cfg_attr : {c : Cursor} → is_cfg_attr c ≡ true → IsMetaName metas paths segments c (Some (codes "cfg_attr"))
   by_cfg : {c : Cursor} → is_cfg_attr c ≡ false → is_of_kind (Node kind.CFG_META) c ≡ true → IsMetaName metas paths segments c (Some (codes "cfg"))

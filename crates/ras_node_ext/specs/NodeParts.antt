@@ -1,5 +1,5 @@
--- The parts of items, patterns, types, names and paths that are more than the first child of a kind: cursors among the children
--- of a node, and above it. (Upstream: `ast::node_ext` of rust-analyzer's `syntax`.)
+-- The parts of items, patterns, types, names and paths that need more than a search for the first child of a kind: cursors
+-- among the children of a node, and above it. (Upstream: `ast::node_ext` of rust-analyzer's `syntax`.)
 use Rattle.std.specs.Prelude.{Bool, true, false, not, ◌&&◌, List, [], ◌∷◌, Option, Some, None, option_map, is_some, nat_lt, nat_eq, drop, if◌then◌else◌}
 use Rattle.std.specs.List.{find, slice_get}
 use Rattle.std.specs.Option.{option_and_then, option_or, option_map_or}
@@ -18,8 +18,8 @@ use Rattle.ras_node.specs.Nodes.{kind_at, is_of_kind, has_kind_in, typed_child, 
 abbrev pub if_kind : SyntaxKind → Cursor → Option Cursor
 if_kind kind c = if is_of_kind kind c then Some c else None
 
--- an impl's trait, by its `for` and its types: the first type where it starts before the `for`; the type that it is for: the one
--- after the trait, and without a trait the first
+-- an impl's trait, by its `for` and its types: the first type if it starts before the `for`; and the type that it is for:
+-- the one after the trait, or without a trait the first
 abbrev pub impl_trait : Option Cursor → List Cursor → Option Cursor
 impl_trait None types = None
 impl_trait (Some f) [] = None
@@ -42,14 +42,14 @@ impl_around impls types c =
     option_and_then (λ i. option_and_then (λ t. if nat_eq (range_start t) (range_start c) then Some i else None) (trait_of types i))
     (find (has_kind_in impls) (drop 1 (ancestors_of c)))
 
--- of two token trees the first, and the second; of one alone, that is the second
+-- the first of two token trees, and the second; if there is only one, that counts as the second
 abbrev pub macro_args : (SyntaxKind → Bool) → Cursor → Option Cursor
 macro_args trees c = option_and_then (λ first. option_map (λ _. first) (second_typed_child trees c)) (typed_child trees c)
 
 abbrev pub macro_body : (SyntaxKind → Bool) → Cursor → Option Cursor
 macro_body trees c = option_or (second_typed_child trees c) (typed_child trees c)
 
--- the first child that is no white space or comment, if it is a `|`
+-- the first child that is not white space or a comment, if it is a `|`
 abbrev pub leading_pipe : Cursor → Option Cursor
 leading_pipe c = option_and_then (if_kind (Token token.PIPE)) (option_and_then token_part (option_map element_of (find is_no_trivia (children_of c))))
 
@@ -69,15 +69,15 @@ bound_name names pats p = bound_by_kind names pats (kind_at p) p
 abbrev pub pat_field_name : (name_refs names pats : SyntaxKind → Bool) → Cursor → Option Cursor
 pat_field_name name_refs names pats c = option_or (typed_child name_refs c) (option_and_then (bound_name names pats) (typed_child pats c))
 
--- what is found, if the part of it is this cursor
+-- the owner, if its part is this cursor
 abbrev pub if_its_part_is : Cursor → (Cursor → Option Cursor) → Cursor → Option Cursor
 if_its_part_is c part found = option_and_then (λ p. if is_same_cursor p c then Some found else None) (part found)
 
--- a generic parameter list of what may have one
+-- the generic parameter list of a node that may have one
 abbrev pub generic_params_of : (holders lists : SyntaxKind → Bool) → Cursor → Option Cursor
 generic_params_of holders lists c = if holders (kind_at c) then typed_child lists c else None
 
--- the generic arguments of a path type: those of its path's segment
+-- the generic arguments of a path type, which are in its path's segment
 abbrev pub generic_args_of : (path_types paths segments lists : SyntaxKind → Bool) → Cursor → Option Cursor
 generic_args_of path_types paths segments lists c =
     if path_types (kind_at c) then option_and_then (typed_child lists) (option_and_then (typed_child segments) (typed_child paths c)) else None
@@ -86,7 +86,7 @@ generic_args_of path_types paths segments lists c =
 abbrev pub has_token : SyntaxKind → Cursor → Bool
 has_token kind c = is_some (token_child kind c)
 
--- a pattern that is a name alone
+-- a pattern that is only a name
 abbrev pub is_simple_ident : (SyntaxKind → Bool) → Cursor → Bool
 is_simple_ident pats c =
     not (has_token (Token token.AT) c) && (not (has_token (Token token.MUT_KW) c) && (not (has_token (Token token.REF_KW) c) && not (is_some (typed_child pats c))))
@@ -98,7 +98,7 @@ is_glob lists c = has_token (Token token.STAR) c && not (is_some (typed_child li
 abbrev pub is_simple_path : (SyntaxKind → Bool) → Cursor → Bool
 is_simple_path lists c = not (has_token (Token token.STAR) c) && not (is_some (typed_child lists c))
 
--- the kind of the first token, and `ERROR` where there is none
+-- the kind of the first token, and `ERROR` if there is none
 abbrev pub first_token_kind : Cursor → SyntaxKind
 first_token_kind c = option_map_or kind_at (find at_token (descendants_of c)) (Token token.ERROR)
 

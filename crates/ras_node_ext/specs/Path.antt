@@ -8,12 +8,12 @@ use Rattle.tree_model.specs.Tree.{size}
 use Rattle.tree_model.specs.Cursor.{Cursor, focus, range_start, range_end, range_of, ancestors_of}
 use Rattle.ras_node.specs.Nodes.{kind_at, typed_child}
 
--- d is the node or token at the end of the chain of qualifiers of c: of the first children that are paths
+-- d is the end of the chain of qualifiers of c, a node or token: each is the first child that is a path
 pub data IsFirstQualifier (paths : SyntaxKind → Bool) : Cursor → Cursor → Type 0 where
   here : {c : Cursor} → typed_child paths c ≡ None → IsFirstQualifier paths c c
   below : {c q d : Cursor} → typed_child paths c ≡ Some q → IsFirstQualifier paths q d → IsFirstQualifier paths c d
 
--- the end of that chain below c, where it has a qualifier at all
+-- the end of that chain below c, if c has a qualifier
 abbrev pub IsQualifierEnd : (SyntaxKind → Bool) → Cursor → Option Cursor → Type 0
 IsQualifierEnd paths c None = typed_child paths c ≡ None
 IsQualifierEnd paths c (Some d) = (q : Cursor) × (typed_child paths c ≡ Some q) × IsFirstQualifier paths q d
@@ -22,11 +22,11 @@ IsQualifierEnd paths c (Some d) = (q : Cursor) × (typed_child paths c ≡ Some 
 abbrev pub IsFirstSegment : (paths segments : SyntaxKind → Bool) → Cursor → Option Cursor → Type 0
 IsFirstSegment paths segments c s = (first : Cursor) × IsFirstQualifier paths c first × (s ≡ typed_child segments first)
 
--- a path whose text lies in a range
+-- a path whose text is within a range
 abbrev pub is_path_within : (SyntaxKind → Bool) → Bounds → Cursor → Bool
 is_path_within paths range c = paths (kind_at c) && (nat_le range.start (range_start c) && nat_le (range_end c) range.end)
 
--- the item and then the rest; nothing without an item
+-- the item followed by the rest; the empty list without an item
 abbrev pub then_rest : Option Cursor → List Cursor → List Cursor
 then_rest None rest = []
 then_rest (Some c) rest = c ∷ rest
@@ -37,30 +37,30 @@ outward paths segments range [] = []
 outward paths segments range (p ∷ ps) =
     if is_path_within paths range p then then_rest (typed_child segments p) (outward paths segments range ps) else []
 
--- the segments of a path: from its first qualifier's outwards, while the path around lies in the path's own range
+-- the segments of a path, from that of its deepest qualifier outwards, while the path around is within the path's own range
 abbrev pub AreSegments : (paths segments : SyntaxKind → Bool) → Cursor → List Cursor → Type 0
 AreSegments paths segments c l =
     (first : Cursor) × IsFirstQualifier paths c first × (l ≡ outward paths segments (range_of c) (ancestors_of first))
 
--- the last of the paths above a path, going up while there are such; the path itself where there is none
+-- the outermost path that a path is a qualifier of, directly or not; the path itself if it is not a qualifier
 abbrev pub top_from : (SyntaxKind → Bool) → Cursor → List Cursor → Cursor
 top_from paths top [] = top
 top_from paths top (a ∷ above) = if paths (kind_at a) then top_from paths a above else top
 
--- the same over use trees, whose parents are lists
+-- the same for use trees, whose parents are lists
 abbrev pub top_tree_from : (lists trees : SyntaxKind → Bool) → Cursor → List Cursor → Cursor
 top_tree_from lists trees top [] = top
 top_tree_from lists trees top (l ∷ []) = top
 top_tree_from lists trees top (l ∷ t ∷ above) =
     if lists (kind_at l) && trees (kind_at t) then top_tree_from lists trees t above else top
 
--- the paths from one on, each the qualifier of the one before it, at most so many
+-- at most n paths from one on, each the qualifier of the one before it
 abbrev pub down : (SyntaxKind → Bool) → ℕ → Option Cursor → List Cursor
 down paths zero o = []
 down paths (suc n) None = []
 down paths (suc n) (Some c) = c ∷ down paths n (typed_child paths c)
 
--- all of them: a qualifier is smaller than its path, so they are no more than the nodes and tokens of the first
+-- all of them: a qualifier is smaller than its path, so there are at most as many as nodes and tokens of the first
 abbrev pub chain_length : Option Cursor → ℕ
 chain_length o = option_map_or (λ c. size (focus c)) o 0
 

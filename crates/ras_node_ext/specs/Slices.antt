@@ -8,7 +8,7 @@ use Rattle.syntax_kind.specs.declared.syntax_kind.node_kind.NodeKind.TheVariants
 use Rattle.tree_model.specs.Cursor.{Cursor}
 use Rattle.ras_node.specs.Nodes.{is_of_kind, typed_child}
 
--- `..`, also bound by a name
+-- a pattern `..`, also bound by a name
 abbrev pub is_dots : Cursor → Bool
 is_dots c = is_of_kind (Node kind.REST_PAT) c
 
@@ -20,7 +20,7 @@ abbrev pub is_rest : (pats : SyntaxKind → Bool) → Cursor → Bool
 is_rest pats c =
     is_bound_dots pats c || (is_of_kind (Node kind.REF_PAT) c && option_map_or (is_bound_dots pats) (typed_child pats c) false)
 
--- those before the first of these, all where there is none; and those after it
+-- the patterns before the first of these, all if there is none; and the patterns after it
 abbrev pub before_rest : (pats : SyntaxKind → Bool) → List Cursor → List Cursor
 before_rest pats [] = []
 before_rest pats (c ∷ l) = if is_rest pats c then [] else c ∷ before_rest pats l

@@ -21,7 +21,7 @@ pub fn is_inner(node: &SyntaxNode) -> bool
     }
 }
 
-// Whether it is one of those that are wanted.
+// Whether the node is of the wanted style: inner or outer.
 fn stands(inner: bool, node: &SyntaxNode) -> bool
     ensures { result ≡ stands inner node.now }
 {
@@ -33,7 +33,7 @@ fn stands(inner: bool, node: &SyntaxNode) -> bool
 }
 
 /// The inner attributes and documentation comments among the children of a node, or the outer ones, in order. A clause sees
-/// those that are left.
+/// the nodes that are left.
 #[derive(Drop)]
 pub struct AttrNodes<A: AstNode> {
     left: AstChildren<A>,
@@ -55,7 +55,7 @@ impl<A: AstNode> Model for AttrNodes<A> {
 }
 
 impl<A: AstNode> AttrNodes<A> {
-    /// Those of a node.
+    /// The inner or outer attributes and documentation comments of a node.
     pub fn new(node: &SyntaxNode, inner: bool) -> AttrNodes<A>
         ensures { result ≡ attrs_of A.casts inner node.now }
     {
@@ -98,8 +98,8 @@ impl<A: AstNode + Drop> Iterator for AttrNodes<A> {
     }
 }
 
-/// The outer attributes and documentation comments of an owner, and then the inner ones, in order. A clause sees those that
-/// are left.
+/// The outer attributes and documentation comments of an owner, and then the inner ones, in order. A clause sees the nodes
+/// that are left.
 #[derive(Drop)]
 pub struct AttrsWithDoc<A: AstNode> {
     outer: AttrNodes<A>,
@@ -119,7 +119,7 @@ impl<A: AstNode> Model for AttrsWithDoc<A> {
 }
 
 impl<A: AstNode> AttrsWithDoc<A> {
-    /// Those of an owner, and of the node that holds its inner ones.
+    /// The attributes and documentation comments of an owner, and of the node that holds its inner ones.
     pub fn new(owner: &SyntaxNode, holder: Option<SyntaxNode>) -> AttrsWithDoc<A>
         ensures { result ≡ attrs_with_inner A.casts owner.now holder }
     {
@@ -167,7 +167,7 @@ impl<A: AstNode + Drop> Iterator for AttrsWithDoc<A> {
     }
 }
 
-/// Those of the attributes and documentation comments of an owner that can be viewed as a `T`, in order. A clause sees those
+/// The attributes and documentation comments of an owner that can be viewed as a `T`, in order. A clause sees the nodes
 /// that are left.
 #[derive(Drop)]
 pub struct AttrsIter<A: AstNode, T: AstNode> {
@@ -190,7 +190,7 @@ impl<A: AstNode, T: AstNode> Model for AttrsIter<A, T> {
 }
 
 impl<A: AstNode, T: AstNode> AttrsIter<A, T> {
-    /// Those among the ones that are left.
+    /// The nodes left in `inner` that can be viewed as a `T`.
     pub fn new(inner: AttrsWithDoc<A>) -> AttrsIter<A, T>
         ensures { result ≡ filter (has_kind_in T.casts) inner }
     {

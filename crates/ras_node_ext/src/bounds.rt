@@ -16,7 +16,7 @@ fn lifetime_word<L: AstNode + Drop>(bound: &SyntaxNode) -> Option<SyntaxToken>
     support::token(lifetime.syntax(), SyntaxKind::LIFETIME_IDENT)
 }
 
-// Those among the bounds of one list.
+// The lifetimes among the bounds in one list.
 #[derive(Drop)]
 struct InList<B: AstNode, L: AstNode> {
     left: AstChildren<B>,
@@ -73,7 +73,7 @@ impl<B: AstNode, L: AstNode> Model for LifetimeBounds<B, L> {
 }
 
 impl<B: AstNode, L: AstNode> LifetimeBounds<B, L> {
-    /// Those of a list of bounds; none if there is no list.
+    /// The lifetimes among the bounds in a list; the result is empty if there is no list.
     pub fn new<T: AstNode + Drop>(list: Option<T>) -> LifetimeBounds<B, L>
         ensures { result ≡ lifetime_bounds B.casts L.casts (option_map T.node list) }
     {

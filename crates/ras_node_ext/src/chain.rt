@@ -1,4 +1,4 @@
-//! Down the qualifiers of a path, and up the paths around it.
+//! Searches down the qualifiers of a path, and up the paths around it.
 ghost use Rattle.std.specs.Prelude.{◌≡◌, drop, option_map, Some, None, ◌&&◌, if◌then◌else◌};
 ghost use Rattle.std.specs.Option.{option_and_then};
 ghost use Rattle.ras_node.specs.Nodes.{kind_at};
@@ -29,7 +29,7 @@ pub fn first_qualifier<P: AstNode + Drop>(path: &P) -> Option<P>
     }
 }
 
-/// The last of the paths above a path, going up while there are such; the path itself where there is none.
+/// The outermost path that a path is a qualifier of, directly or not; the path itself if it is not a qualifier.
 pub fn top_path<P: AstNode + Drop>(path: P) -> P
     ensures { P.node result ≡ top_from P.casts (P.node path) (drop 1 (ancestors_of (P.node path))) }
 {
@@ -45,7 +45,7 @@ pub fn top_path<P: AstNode + Drop>(path: P) -> P
     top
 }
 
-// The tree that a list is of, if it is one.
+// The use tree that a list belongs to, if its parent is one.
 fn tree_of<L: AstNode, T: AstNode>(list: &SyntaxNode, tree: Option<SyntaxNode>) -> Option<T>
     ensures { option_map T.node result ≡ option_and_then (λ t. if L.casts (kind_at list.now) && T.casts (kind_at t) then Some t else None) tree }
 {

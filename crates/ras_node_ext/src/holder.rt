@@ -1,4 +1,4 @@
-//! Where the inner attributes of a node are.
+//! The nodes that hold the inner attributes of other nodes.
 ghost use Rattle.std.specs.Prelude.{◌≡◌};
 ghost use Rattle.ras_node_ext.specs.Attrs.{node_child, may_carry_attributes, inner_holder};
 ghost use Rattle.ras_node.specs.Nodes.{is_of_kind};
@@ -39,9 +39,9 @@ pub fn may_carry_attributes(block: &SyntaxNode) -> bool
     }
 }
 
-/// The node in which the inner attributes of another are: a file itself; a block itself, where it may have them; of a
-/// function the statements of its body; of an extern block, a `match`, an implementation, a trait and a module the list in
-/// it. `None` for other nodes, and where that part is missing.
+/// The node that holds the inner attributes of `owner`. A file holds its own, and so does a block that can have some. For a
+/// function it is the statement list of its body; for an extern block, a `match`, an implementation, a trait and a module
+/// it is the list in it. `None` for other nodes, and if that part is missing.
 pub fn inner_attributes_node(owner: &SyntaxNode) -> Option<SyntaxNode>
     ensures { result ≡ inner_holder owner.now }
 {

@@ -19,8 +19,8 @@ pub fn trait_of<N: AstNode + Drop>(parent: &SyntaxNode) -> Option<N>
     }
 }
 
-/// The type that an impl is for: of the children that can be viewed as an `N` the second, where the first starts before the
-/// `for`, otherwise the first.
+/// The type that an impl is for. Among the children that can be viewed as an `N`, it is the second if the first starts
+/// before the `for`, otherwise the first.
 pub fn self_type_of<N: AstNode + Drop>(parent: &SyntaxNode) -> Option<N>
     ensures { option_map N.node result ≡ self_type_of N.casts parent.now }
 {

@@ -1,4 +1,4 @@
-//! What an attribute says, where `cfg_attr` and `unsafe` are around it.
+//! The metas of attributes, through `cfg_attr` and `unsafe`.
 ghost use Rattle.std.specs.Prelude.{◌≡◌, ◌++◌, ◌∷◌, [], OnOk, map, option_map, is_some, string_bytes, IfOk};
 ghost use Rattle.std.specs.Option.{option_and_then};
 ghost use Rattle.std.specs.List.{find, filter};
@@ -18,7 +18,7 @@ fn is_cfg_attr(node: &SyntaxNode) -> bool
     node.kind() == SyntaxKind::CFG_ATTR_META
 }
 
-// Adds the view of a node, where it has one.
+// Appends the view of a node, if it can be cast.
 fn add_view<M: AstNode + Drop>(views: &mut Vec<M>, node: SyntaxNode) -> Result<(), AllocError>
     ensures { OnOk result (map M.node views.new.items ≡ map M.node views.old.items ++ filter (has_kind_in M.casts) (node ∷ [])) }
 {
@@ -28,15 +28,15 @@ fn add_view<M: AstNode + Drop>(views: &mut Vec<M>, node: SyntaxNode) -> Result<(
     Ok(())
 }
 
-/// The meta itself, or, of a `cfg_attr`, the metas in it, in order, where each that is a `cfg_attr` again gives way to those
-/// in it.
+/// The meta itself, unless it is a `cfg_attr`: then the metas in it, in order, with every nested `cfg_attr` replaced by the
+/// metas in it.
 ///
-/// It takes memory for the answer alone, and time linear in the nodes and tokens of the meta.
+/// Takes memory for the result only, and time linear in the nodes and tokens of the meta.
 pub fn skip_cfg_attrs<M: AstNode + Drop>(alloc: Global, meta: M) -> Result<Vec<M>, AllocError>
     ensures { IfOk result (λ metas. map M.node metas.items ≡ opened M.casts (M.node meta)) }
 {
-    // The walk comes to a node only where all above it, up to the meta, are `cfg_attr`s: what is below another node is
-    // passed over, up to where that is left.
+    // The walk visits a node only if all nodes above it, up to the meta, are `cfg_attr`s: the subtrees of other nodes are
+    // skipped.
     let mut metas = Vec::new(alloc);
     let mut events = meta.syntax().preorder();
     let mut past: Option<SyntaxNode> = None;
@@ -66,8 +66,8 @@ fn is_unsafe(node: &SyntaxNode) -> bool
     node.kind() == SyntaxKind::UNSAFE_META
 }
 
-/// The meta in the `unsafe`s around it: itself if it is not `unsafe(..)`, or `None` if one of these has no meta in it.
-/// Takes time linear in their number.
+/// The meta inside any number of `unsafe(..)`: the meta itself if it is not `unsafe(..)`, or `None` if one of these has no
+/// meta in it. Takes time linear in their number.
 pub fn innermost_meta<M: AstNode + Drop>(meta: M) -> Option<M>
     ensures { IsInnermost M.casts (M.node meta) (option_map M.node result) }
 {
@@ -96,8 +96,8 @@ fn own_path<P: AstNode>(meta: &SyntaxNode) -> Option<P>
     support::child(meta)
 }
 
-/// The path of a meta, of an `unsafe(..)` that of the meta in it; `None` of a `cfg` and a `cfg_attr`. Takes time linear in
-/// the number of `unsafe`s.
+/// The path of a meta, or of the meta inside an `unsafe(..)`; `None` for a `cfg` and a `cfg_attr`. Takes time linear in the
+/// number of `unsafe`s.
 pub fn meta_path<M: AstNode + Drop, P: AstNode>(meta: M) -> Option<P>
     ensures { IsMetaPath M.casts P.casts (M.node meta) (option_map P.node result) }
 {
@@ -107,7 +107,7 @@ pub fn meta_path<M: AstNode + Drop, P: AstNode>(meta: M) -> Option<P>
     }
 }
 
-/// A text of its own with these bytes, if there is a text.
+/// An owned copy of a text, if there is a text.
 pub fn owned(alloc: Global, text: Option<&str>) -> Result<Option<String>, AllocError>
     ensures { IfOk result (λ copy. option_map (λ t. string_bytes t) copy ≡ option_map (λ s. s.now) text.entry) }
 {
@@ -117,7 +117,7 @@ pub fn owned(alloc: Global, text: Option<&str>) -> Result<Option<String>, AllocE
     }
 }
 
-// The first word of a path of one segment.
+// The first word of a path, if that has only one segment.
 fn path_word<P: AstNode + Drop, S: AstNode + Drop>(
     alloc: Global,
     path: &P,
@@ -148,9 +148,9 @@ fn first_token_in<N: AstNode + Drop>(parent: &SyntaxNode) -> Option<SyntaxToken>
     support::child::<N>(parent)?.syntax().first_token()
 }
 
-/// The word by which an attribute is known: `cfg`, `cfg_attr`, and of others that of their path, where this is one segment.
+/// The name of an attribute: `cfg`, `cfg_attr`, or for others the first word of their path, if that has only one segment.
 ///
-/// It takes memory for the word.
+/// Takes memory for the name.
 pub fn meta_name<M: AstNode + Drop, P: AstNode + Drop, S: AstNode + Drop>(
     alloc: Global,
     meta: &M,

@@ -8,14 +8,14 @@ use lossless_tree::{SyntaxKind, SyntaxNode};
 use ras_node::{AstChildren, AstNode, support};
 use std::alloc::{AllocError, Global};
 
-/// The patterns in a slice pattern, by its first rest pattern: `..`, `rest @ ..`, `&..` and `&rest @ ..`.
+/// The patterns in a slice pattern, split at its first rest pattern: `..`, `rest @ ..`, `&..` or `&rest @ ..`.
 #[derive(Drop)]
 pub struct SliceComponents<P: AstNode> {
-    /// Those before it; all, where there is none.
+    /// The patterns before the rest pattern; all patterns if there is none.
     pub prefix: Vec<P>,
     /// The rest pattern.
     pub slice: Option<P>,
-    /// Those after it.
+    /// The patterns after the rest pattern.
     pub suffix: Vec<P>,
 }
 
@@ -25,7 +25,7 @@ fn is_dots(pat: &SyntaxNode) -> bool
     pat.kind() == SyntaxKind::REST_PAT
 }
 
-// Whether it is `..`, also bound by a name.
+// Whether a pattern is `..`, also bound by a name.
 fn is_bound_dots<P: AstNode + Drop>(pat: &SyntaxNode) -> bool
     ensures { result ≡ is_bound_dots P.casts pat.now }
 {
@@ -41,7 +41,7 @@ fn is_bound_dots<P: AstNode + Drop>(pat: &SyntaxNode) -> bool
     }
 }
 
-// The same, also after `&`.
+// Whether a pattern is `..`, also bound by a name or after `&`.
 fn is_rest<P: AstNode + Drop>(pat: &SyntaxNode) -> bool
     ensures { result ≡ is_rest P.casts pat.now }
 {
@@ -57,7 +57,7 @@ fn is_rest<P: AstNode + Drop>(pat: &SyntaxNode) -> bool
     }
 }
 
-// Takes those before the first rest pattern, and that one.
+// Takes the patterns before the first rest pattern, and the rest pattern.
 fn take_through_rest<P: AstNode + Drop>(
     alloc: Global,
     left: &mut AstChildren<P>,
@@ -89,7 +89,7 @@ fn take_all<P: AstNode + Drop>(alloc: Global, left: AstChildren<P>) -> Result<Ve
 
 /// The patterns among the children of a slice pattern: those before the first rest pattern, that one, and those after it.
 ///
-/// It takes memory for its two lists.
+/// Takes memory for the two lists.
 pub fn slice_components<P: AstNode + Drop>(
     alloc: Global,
     slice: &SyntaxNode,

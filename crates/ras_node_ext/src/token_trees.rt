@@ -28,7 +28,7 @@ fn tree_or_token<T: AstNode>(element: SyntaxElement) -> Option<NodeOrToken<T, Sy
     }
 }
 
-// White space, a comment, or a closing delimiter.
+// Whether it is white space, a comment, or a closing delimiter.
 fn is_passed_over(kind: SyntaxKind) -> bool
     ensures { result ≡ is_passed_over kind }
 {
@@ -57,7 +57,7 @@ fn inner_part<T: AstNode>(element: SyntaxElement) -> Option<NodeOrToken<T, Synta
     }
 }
 
-/// The children of a token tree that are token trees or tokens, in order. A clause sees those that are left.
+/// The children of a token tree that are token trees or tokens, in order. A clause sees the children that are left.
 #[derive(Drop)]
 pub struct TokenTreesAndTokens<T: AstNode> {
     left: SyntaxElementChildren,
@@ -81,7 +81,7 @@ impl<T: AstNode> Model for TokenTreesAndTokens<T> {
 }
 
 impl<T: AstNode> TokenTreesAndTokens<T> {
-    /// Those of a token tree.
+    /// The token trees and tokens among the children of a token tree.
     pub fn new(tree: &SyntaxNode) -> TokenTreesAndTokens<T>
         ensures { result ≡ trees_and_tokens T.casts (map element_of (children_of tree.now)) }
     {
@@ -109,8 +109,8 @@ impl<T: AstNode> Iterator for TokenTreesAndTokens<T> {
     }
 }
 
-/// What is in a token tree: its children without the first, whatever that is, that are token trees or tokens, in order,
-/// without white space, comments and closing delimiters. A clause sees those that are left.
+/// The contents of a token tree: its children that are token trees or tokens, in order, without the first child, whatever
+/// it is, and without white space, comments and closing delimiters. A clause sees the children that are left.
 #[derive(Drop)]
 pub struct TokenTreeChildren<T: AstNode> {
     left: SyntaxElementChildren,
@@ -135,7 +135,7 @@ impl<T: AstNode> Model for TokenTreeChildren<T> {
 }
 
 impl<T: AstNode> TokenTreeChildren<T> {
-    /// What is in a token tree.
+    /// The contents of a token tree.
     pub fn new(tree: &T) -> TokenTreeChildren<T>
         ensures { result ≡ inner_parts T.casts (map element_of (children_of (T.node tree.now))) }
     {

@@ -15,7 +15,7 @@ abbrev pub begins_name : List ℕ → Bool
 begins_name [] = false
 begins_name (c ∷ cs) = starts_name c
 
--- the first character begins a name, and the others go on with it, as the first then does too
+-- the first character can begin a name, and the others can continue it, as the first then can too
 abbrev pub is_word : List ℕ → Bool
 is_word s = begins_name (chars s) && list_all is_xid_continue (chars s)
 

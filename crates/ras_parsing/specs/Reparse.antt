@@ -1,4 +1,4 @@
--- When one token or one block is parsed again after an edit, what the tree is then, and the errors.
+-- When one token or one block is re-parsed after an edit, and the tree and the errors of the result.
 -- (Upstream: `incremental_reparse` of rust-analyzer's `parsing/reparsing.rs`.)
 use Rattle.std.specs.Prelude.{◌≡◌, ◌⊎◌, ℕ, ◌+◌, ◌-◌, List, [], ◌∷◌, ◌++◌, map, length, take, drop, Option, Some, None, option_map, Bool, true, false, nat_le, if◌then◌else◌, IsTrue, Contains, codes}
 use Rattle.std.specs.Char.{encode_utf8}
@@ -26,12 +26,12 @@ use Rattle.ras_parsing.specs.Edit.{Edit, edited, covered, edited_at}
 abbrev pub moved : ℕ → Fault → Fault
 moved by f = record { message = f.message; range = record { start = f.range.start + by; end = f.range.end + by } }
 
--- the error goes with the text after the edit
+-- the error moves with the text after the edit
 abbrev pub shifted : Edit → ℕ → ℕ
 shifted edit at = (at + length edit.insert) - (edit.delete.end - edit.delete.start)
 
--- an old error that ends at or before the replaced range's start stays; of the others one that starts at or after its end
--- goes with the text; the rest go
+-- an old error that ends at or before the replaced range's start stays; of the others, one that starts at or after its end
+-- moves with the text; the rest are removed
 abbrev pub kept_fault : Bounds → Edit → Fault → List Fault
 kept_fault replaced edit f =
     if nat_le f.range.end replaced.start then f ∷ []
@@ -43,13 +43,13 @@ abbrev pub kept_faults : Bounds → Edit → List Fault → List Fault
 kept_faults replaced edit [] = []
 kept_faults replaced edit (f ∷ fs) = kept_fault replaced edit f ++ kept_faults replaced edit fs
 
--- the old errors that are left, and then the new ones, which count from the replaced range's start
+-- the old errors that are kept, and then the new ones, whose offsets count from the replaced range's start
 abbrev pub merged : List Fault → List Fault → Bounds → Edit → List Fault
 merged old new replaced edit = kept_faults replaced edit old ++ map (moved replaced.start) new
 
 -- ---- one token
 
--- the kinds of tokens that are parsed again by themselves
+-- the kinds of tokens that may be re-parsed by themselves
 abbrev pub is_token_kind : SyntaxKind → Bool
 is_token_kind (Token kind.WHITESPACE) = true
 is_token_kind (Token kind.COMMENT) = true
@@ -59,7 +59,7 @@ is_token_kind (Token kind.BYTE_STRING) = true
 is_token_kind (Token kind.C_STRING) = true
 is_token_kind _ = false
 
--- the token may be parsed again: it is one, of such a kind, and loses no newline where it is white space or a comment
+-- the token may be re-parsed: it is one, of such a kind, and loses no newline if it is white space or a comment
 pub record MayBeReread (c : Cursor) (edit : Edit) : Type 0 where
   pub is_token : IsToken (focus c)
   pub kind : IsTrue (is_token_kind (kind_of (focus c)))
@@ -69,14 +69,14 @@ pub record MayBeReread (c : Cursor) (edit : Edit) : Type 0 where
 abbrev pub IsContextualWord : List ℕ → Type 0
 IsContextualWord s = (s ≡ codes "auto") ⊎ ((s ≡ codes "default") ⊎ (s ≡ codes "union"))
 
--- the new text of the token is one token of its kind and no word that is a keyword elsewhere, and it is none with the
--- character that follows the token in the whole text
+-- the new text of the token is one token of its kind and no word that is a keyword elsewhere, and it is not one token
+-- together with the character that follows it in the whole text
 pub record StaysOneToken (front : Front) (edition : Edition) (c : Cursor) (edit : Edit) (fault : Option (List ℕ)) : Type 0 where
   pub same_kind : front.single edition (edited_at c edit) ≡ Some (kind_of (focus c), fault)
   pub no_word : kind_of (focus c) ≡ Token kind.IDENT → IsContextualWord (edited_at c edit) → ⊥
   pub alone : (next : ℕ) → StartsAt (text c.tree) (range_end c) next → front.single edition (edited_at c edit ++ encode_utf8 next) ≡ None
 
--- the token that covers the edit is parsed again, with this error of the lexer
+-- the token that covers the edit is re-parsed, with this error of the lexer
 abbrev pub TokenPath : Front → Edition → Tree → Edit → Option (List ℕ) → Type 0
 TokenPath front edition tree edit fault = MayBeReread (covered tree edit) edit × StaysOneToken front edition (covered tree edit) edit fault
 
@@ -85,7 +85,7 @@ TokenPath front edition tree edit fault = MayBeReread (covered tree edit) edit �
 abbrev pub kind_at : Cursor → SyntaxKind
 kind_at c = kind_of (focus c)
 
--- what the front end answers of a node
+-- the front end's reparser for a node
 abbrev pub reparser_of : Front → Cursor → Option Reparser
 reparser_of front c = front.chosen (kind_at c) (option_map kind_at (first_child_of c)) (option_map kind_at (parent_of c))
 
@@ -102,7 +102,7 @@ first_reparsable front (c ∷ cs) = or_later c (reparser_of front c) (first_repa
 abbrev pub nodes_around : Tree → Edit → List Cursor
 nodes_around tree edit = ancestors_of_element (element_of (covered tree edit))
 
--- the nearest node around the edit that has a reparser is parsed again: the braces of its new text balance
+-- the nearest node around the edit that has a reparser is re-parsed: the braces of its new text balance
 pub record BlockPath (front : Front) (edition : Edition) (tree : Tree) (edit : Edit) (c : Cursor) (r : Reparser) : Type 0 where
   pub is_nearest : first_reparsable front (nodes_around tree edit) ≡ Some (c, r)
   pub balanced : IsBalanced (front.lexed edition (edited_at c edit))
@@ -144,7 +144,7 @@ pub record ByBlock (front : Front) (edition : Edition) (old : Parsed) (edit : Ed
   pub is : new ≡ with_piece old edit block piece
   pub range_is : range ≡ range_of block
 
--- what `incremental_reparse` answers
+-- the result of `incremental_reparse`
 abbrev pub IsIncremental : Front → Edition → Parsed → Edit → Option (Parsed × Bounds) → Type 0
 IsIncremental front edition old edit None = NoTokenPath front edition old.tree edit × NoBlockPath front edition old.tree edit
 IsIncremental front edition old edit (Some (new, range)) = ByToken front edition old edit new range ⊎ ByBlock front edition old edit new range
@@ -154,7 +154,7 @@ pub record ByWhole (front : Front) (edition : Edition) (old : Parsed) (edit : Ed
   pub no_block : NoBlockPath front edition old.tree edit
   pub is : IsParseOf (edited (text old.tree) edit) (front.parsed SourceFile edition (edited (text old.tree) edit)) new
 
--- what `reparse` answers: one piece is parsed again, or all
+-- the result of `reparse`: one piece is re-parsed, or the whole text
 abbrev pub IsReparse : Front → Edition → Parsed → Edit → Parsed → Type 0
 IsReparse front edition old edit new =
     ((range : Bounds) × (ByToken front edition old edit new range ⊎ ByBlock front edition old edit new range)) ⊎ ByWhole front edition old edit new

@@ -1,4 +1,4 @@
--- What the steps of a reparse find, for the proofs.
+-- The results of the steps of a re-parse, for the proofs.
 use Rattle.std.specs.Prelude.{◌≡◌, ℕ, ◌-◌, ◌≤◌, List, length, take, drop, Option, Some, None, IfSome, Contains, ◌++◌, IsTrue}
 use Rattle.std.specs.Char.{encode_utf8}
 use Rattle.text_size.specs.TextRange.{Bounds}
@@ -18,11 +18,11 @@ use Rattle.ras_parsing.specs.Reparse.{is_token_kind, IsContextualWord, TokenPath
 abbrev pub LosesNewline : List ℕ → Bounds → Type 0
 LosesNewline s r = Contains (take (r.end - r.start) (drop r.start s)) 10
 
--- a token of a kind may be parsed again when these bytes of the text go from it
+-- a token of a kind may be re-parsed if these bytes of the text are deleted from it
 abbrev pub MayStay : SyntaxKind → List ℕ → Bounds → Type 0
 MayStay k s r = IsTrue (is_token_kind k) × (IsTrue (is_trivia k) → LosesNewline s r → ⊥)
 
--- a text is one token of a kind, with this error, and none with the next character
+-- a text is one token of a kind, with this error, and not one token together with the next character
 pub record IsOneToken (front : Front) (edition : Edition) (k : SyntaxKind) (new : List ℕ) (next : Option ℕ) (fault : Option (List ℕ)) : Type 0 where
   pub same_kind : front.single edition new ≡ Some (k, fault)
   pub no_word : k ≡ Token kind.IDENT → IsContextualWord new → ⊥
@@ -46,7 +46,7 @@ pub record IsBlockOf (front : Front) (edition : Edition) (old : Parsed) (edit : 
   pub is_parse : IsParseOf (edited_at c edit) (front.piece r edition (edited_at c edit)) piece
   pub is : new ≡ with_piece old edit c piece
 
--- the edit lies inside of the node or token at a place
+-- the edit is inside of the node or token at a place
 pub record IsAround (c : Cursor) (edit : Edit) : Type 0 where
   pub is_place : IsPlace c.tree c.place
   pub begun : range_start c ≤ edit.delete.start

@@ -1,4 +1,4 @@
-//! Whether braces balance.
+//! A test for balanced braces.
 ghost use Rattle.std.specs.Prelude.{◌≡◌, ◌↔◌, IsTrue, Some};
 ghost use Rattle.ras_front_end.specs.Balanced.{opens_brace, closes_brace, open_after, IsBalanced};
 
@@ -16,7 +16,7 @@ fn closes_brace(kind: SyntaxKind) -> bool
     matches!(kind, SyntaxKind::R_CURLY)
 }
 
-// Whether as many braces close as open, and never more.
+// Whether the braces balance: as many close as open, and no prefix closes more than it opens.
 fn balances(kinds: &[SyntaxKind]) -> bool
     ensures { IsTrue result ↔ (open_after 0 kinds.now ≡ Some 0) }
 {

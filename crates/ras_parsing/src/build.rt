@@ -1,4 +1,4 @@
-//! Steps to a tree.
+//! From steps to a tree.
 ghost use Rattle.std.specs.Prelude.{◌≡◌, ◌<◌, ◌^◌, length, IfOk, OnOk, ⊤, ◌++◌, ◌∷◌, []};
 ghost use Rattle.tree_model.specs.Cursor.{IsRoot};
 ghost use Rattle.ras_front_end.specs.Parsed.{IsParseOf, ErrorsLieIn};
@@ -14,7 +14,7 @@ use std::alloc::{AllocError, Global};
 pub(crate) struct Built {
     /// The root.
     pub root: SyntaxNode,
-    /// The errors, the parser's in the order of the steps and then the lexer's.
+    /// The errors: the parser's in the order of the steps, and then the lexer's.
     pub errors: Vec<SyntaxError>,
 }
 
@@ -25,7 +25,7 @@ fn store(errors: &mut Vec<SyntaxError>, error: SyntaxError) -> Result<(), AllocE
     Ok(())
 }
 
-/// The tree of an output whose steps build one over the text, and its errors.
+/// The tree of an output whose steps build one tree over the text, and its errors.
 ///
 /// It takes time linear in the text and the steps.
 pub(crate) fn build_output(alloc: Global, text: &str, output: Output) -> Result<Built, AllocError>

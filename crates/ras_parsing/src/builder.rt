@@ -1,4 +1,4 @@
-//! Events and errors to a parse.
+//! From events and errors to a parse.
 ghost use Rattle.std.specs.Prelude.{◌≡◌, [], ◌∷◌, ◌++◌, OnOk, OnErr, IfOk, IfErr, None, string_bytes};
 ghost use Rattle.std.specs.List.{list_any};
 ghost use Rattle.tree_model.specs.Events.{enter, leaf, exit, BuildsNode, refusal_of};
@@ -18,7 +18,7 @@ use text_size::TextSize;
 
 /// Builds a parse: a tree by the calls of `TreeBuilder`, and errors. A clause sees the list of events and that of errors.
 ///
-/// A call that is refused leaves the builder as it was.
+/// A call that fails leaves the builder unchanged.
 #[derive(Drop)]
 pub struct SyntaxTreeBuilder {
     alloc: Global,
@@ -74,8 +74,8 @@ impl SyntaxTreeBuilder {
         self.tree.finish_node()
     }
 
-    /// An error at a position of the text, in bytes from its start. Errors keep the order of these calls; where among the
-    /// events they come makes no difference. A position past the text is refused by `finish`.
+    /// Adds an error at a position of the text, in bytes from its start. Errors keep the order of these calls; their
+    /// position among the events does not matter. `finish` fails if a position is past the end of the text.
     pub fn error(&mut self, message: String, position: TextSize) -> Result<(), AllocError>
         ensures ok { OnOk result (self.new ≡ record { events = self.old.events; faults = self.old.faults ++ fault_at (string_bytes message) position ∷ [] }) }
         ensures err { OnErr result (self.new ≡ self.old) }
@@ -127,7 +127,7 @@ impl SyntaxTreeBuilder {
     }
 }
 
-// Whether an error ends past a text of so many bytes.
+// Whether an error ends past a text of that many bytes.
 fn has_error_past(errors: &[SyntaxError], len: usize) -> bool
     ensures { result ≡ list_any (is_past len) errors.now }
 {

@@ -1,4 +1,4 @@
-//! Old and new errors, after a piece is parsed again.
+//! Merges old and new errors after a re-parse of a piece.
 ghost use Rattle.std.specs.Prelude.{◌≡◌, ◌+◌, ◌-◌, ◌<◌, ◌≤◌, ◌^◌, length, IfOk, OnOk, All, ◌++◌};
 ghost use Rattle.ras_parsing.specs.Reparse.{shifted, moved, kept_fault, merged};
 
@@ -6,7 +6,7 @@ use ras_front_end::SyntaxError;
 use std::alloc::{AllocError, Global};
 use text_size::{TextRange, TextSize};
 
-// The offset after an edit of a byte after it.
+// The new offset, after an edit, of a byte that follows it.
 fn shifted(offset: TextSize, delete: TextRange, insert: &str) -> TextSize
     requires behind { delete.end ≤ offset }
     requires short { shifted (record { delete = delete; insert = insert.now }) offset < 2 ^ 32 }
@@ -16,7 +16,7 @@ fn shifted(offset: TextSize, delete: TextRange, insert: &str) -> TextSize
     TextSize::new((kept + insert.len()) as u32)
 }
 
-// Stores an old error where it stays or goes with its text.
+// Appends an old error if it is kept, with its range shifted if it is after the piece.
 fn keep(
     kept: &mut Vec<SyntaxError>,
     error: &SyntaxError,
@@ -50,7 +50,7 @@ fn moved(error: SyntaxError, by: TextSize) -> SyntaxError
     error.with_range(TextRange::new(start, end))
 }
 
-// The old errors that are left after an edit inside of what was replaced, and then those of the new piece.
+// The old errors that are kept after an edit inside of the replaced piece, and then the errors of the new piece.
 pub(crate) fn merge(
     alloc: Global,
     old: &[SyntaxError],

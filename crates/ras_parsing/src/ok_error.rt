@@ -1,4 +1,4 @@
-//! Why a parse gives no tree without errors.
+//! The error of `Parse::ok`.
 
 use crate::parse::Parse;
 use ras_front_end::SyntaxError;

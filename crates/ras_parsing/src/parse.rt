@@ -1,4 +1,4 @@
-//! A tree with errors, and what its root is viewed as.
+//! A tree with errors, and the view that its root should be.
 ghost use Rattle.std.specs.Prelude.{◌≡◌, [], ◌<◌, ◌≤◌, ◌^◌, ◌↔◌, length, IfOk, IfErr, IfSome, OnOk, Some, None, is_some, if◌then◌else◌};
 ghost use Rattle.tree_model.specs.Tree.{kind_of};
 ghost use Rattle.tree_model.specs.Cursor.{IsRoot};
@@ -22,7 +22,7 @@ use std::marker::{Model, PhantomData};
 /// The result of parsing: a tree, whose root should be a `T`, and the errors that were found as it was made.
 ///
 /// There is a tree whatever the text is. Cloning a parse takes no memory and always succeeds. A clause sees the tree and
-/// the stored errors, which lie in its text.
+/// the stored errors, whose ranges are in its text.
 #[derive(Drop)]
 pub struct Parse<T> {
     root: SyntaxNode,
@@ -62,7 +62,7 @@ impl<T> Parse<T> {
         })
     }
 
-    // The same parse, whose root is meant to be a `U`.
+    // The same parse, whose root should be a `U`.
     fn viewed<U>(self) -> Parse<U>
         ensures { result ≡ self }
     {
@@ -116,7 +116,7 @@ impl<T> Parse<T> {
         push_violations(alloc, stored, &self.root)
     }
 
-    /// The same parse, whose root is meant to be any node.
+    /// The same parse, whose root can be any node.
     pub fn to_syntax(self) -> Parse<SyntaxNode>
         ensures { result ≡ self }
     {
@@ -125,7 +125,7 @@ impl<T> Parse<T> {
 }
 
 impl<T: AstNode> Parse<T> {
-    /// The root as a `T`, or `None` if it is of another kind, as an `ERROR`.
+    /// The root as a `T`, or `None` if it is of another kind, such as `ERROR`.
     pub fn tree(&self) -> Option<T>
         ensures exact { is_some result ≡ T.casts (kind_of self.now.tree) }
         ensures same { IfSome result (λ it. T.node it ≡ root_of self.now.tree) }
@@ -133,11 +133,11 @@ impl<T: AstNode> Parse<T> {
         T::cast(self.syntax_node())
     }
 
-    /// The root as a `T`, where the text has no errors at all.
+    /// The root as a `T`, if the text has no errors at all.
     ///
-    /// Otherwise, [`OkError::Errors`] with all errors, if there are any; then [`OkError::OtherRoot`], if the root is of
-    /// another kind. Each gives the parse back, and so does [`OkError::Memory`], which is returned as soon as memory runs
-    /// out.
+    /// Otherwise the result is [`OkError::Errors`] with all errors, if there are any; then [`OkError::OtherRoot`], if the
+    /// root is of another kind. Each contains the parse, and so does [`OkError::Memory`], which is returned as soon as
+    /// memory runs out.
     pub fn ok(self, alloc: Global) -> Result<T, OkError<T>>
         ensures free { OnOk result (all_errors self ≡ []) }
         ensures same { IfOk result (λ it. T.node it ≡ root_of self.tree) }
@@ -158,7 +158,7 @@ impl<T: AstNode> Parse<T> {
 }
 
 impl Parse<SyntaxNode> {
-    /// The same parse, whose root is meant to be an `N`, or `None` if it is of another kind, and then the parse is gone.
+    /// The same parse, whose root should be an `N`, or `None` if the root is of another kind; the parse is then dropped.
     pub fn cast<N: AstNode>(self) -> Option<Parse<N>>
         ensures { result ≡ (if N.casts (kind_of self.tree) then Some self else None) }
     {
@@ -205,7 +205,7 @@ impl<T> Eq for Parse<T> {
     ghost laws = { parsed_equivalence };
 }
 
-/// The parse of a text by a front end, with a root that is meant to be a `T`.
+/// Parses a text with a front end. The root should be a `T`.
 ///
 /// Returns `TooLong` if the text is longer than 4,294,967,295 bytes; this is checked first. Takes the time of the front
 /// end, and time linear in the text.

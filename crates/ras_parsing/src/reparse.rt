@@ -1,4 +1,4 @@
-//! Edits of a parse: one token or one block is parsed again, or all.
+//! Edits of a parse: re-parses one token, one block or the whole text.
 ghost use Rattle.std.specs.Prelude.{◌≡◌, ◌↔◌, ◌+◌, ◌-◌, ◌<◌, ◌≤◌, ◌^◌, length, IfOk, IfErr, OnOk, IfSome, All, IsTrue, IsFalse, None, MatchOption, option_map, string_bytes, take, drop, Contains, ◌++◌, IsCharBoundary};
 ghost use Rattle.std.specs.Char.{encode_utf8};
 ghost use Rattle.tree_model.specs.Tree.{text};
@@ -25,8 +25,8 @@ use ras_front_end::{Edition, Entry, FrontEnd, ParseError, Reparser, SyntaxError}
 use std::alloc::{AllocError, Global};
 
 impl<T: FileView> Parse<T> {
-    /// The parse after an edit that replaces the bytes in `delete` by `insert`. Only one token or one block is parsed again
-    /// if that is possible, otherwise the whole text. The old parse is unchanged.
+    /// The parse after an edit that replaces the bytes in `delete` by `insert`. Only one token or one block is re-parsed if
+    /// that is possible, otherwise the whole text. The old parse is unchanged.
     ///
     /// The range must be in the text, on character boundaries. Returns `TooLong` if the new text is longer than 4,294,967,295
     /// bytes; this is checked first.
@@ -51,7 +51,7 @@ impl<T: FileView> Parse<T> {
         }
     }
 
-    /// The parse after an edit, where all of the new text is parsed as a file: what [`Parse::reparse`] returns where
+    /// The parse after an edit, where all of the new text is parsed as a file: the result of [`Parse::reparse`] if
     /// [`Parse::incremental_reparse`] returns `None`. The old parse is unchanged.
     ///
     /// The range must be in the text, on character boundaries. Returns `TooLong` if the new text is longer than 4,294,967,295
@@ -84,20 +84,20 @@ impl<T: FileView> Parse<T> {
         read(alloc, front, Entry::SourceFile, text.as_str(), edition)
     }
 
-    /// The parse after an edit, where one token or one block is parsed again, and the range in the old text that was replaced,
-    /// or `None` if the whole text has to be. The old parse is unchanged.
+    /// The parse after an edit, if only one token or one block needs a re-parse, and the range in the old text that was
+    /// replaced; `None` if the whole text has to be re-parsed. The old parse is unchanged.
     ///
-    /// *One token* is parsed again where the smallest element that covers the deleted range is a token of white space, a comment,
-    /// a name, or a string (plain, byte or C); white space and comments must not lose a newline. The token's new text must be
-    /// one token of the same kind to the front end, must not become one with the character after it, and a name must not
-    /// become `auto`, `default` or `union`.
+    /// *One token* is re-parsed if the smallest element that covers the deleted range is a token of white space, a comment,
+    /// a name, or a string (plain, byte or C); white space and comments must not lose a newline. The front end must see the
+    /// token's new text as one token of the same kind, and not as one token together with the character after it, and a
+    /// name must not become `auto`, `default` or `union`.
     ///
-    /// *One block* is parsed again otherwise, where a node around the edit has a reparser; the nearest one is taken. The braces
-    /// of its new text must balance: it begins with `{`, and the last token is the `}` that closes it.
+    /// *One block* is re-parsed otherwise, if a node around the edit has a reparser; the nearest one is used. The braces of
+    /// its new text must balance: it begins with `{`, and the last token is the `}` that closes it.
     ///
-    /// The range must be in the text, on character boundaries. Returns `TooLong` if the new text is longer than 4,294,967,295
-    /// bytes; this is checked first. The text is copied once. If one token is parsed again, the nodes are shared with the old
-    /// tree as in `SyntaxToken::replace_with`; if one block is parsed again, they are copied.
+    /// The range must be in the text, on character boundaries. Returns `TooLong` if the new text is longer than
+    /// 4,294,967,295 bytes; this is checked first. The text is copied once. If one token is re-parsed, the nodes are shared
+    /// with the old tree as in `SyntaxToken::replace_with`; if one block is re-parsed, they are copied.
     pub fn incremental_reparse<F: FrontEnd>(
         &self,
         alloc: Global,
@@ -162,7 +162,7 @@ fn with_token<T>(
     spliced(alloc, old, root, errors, range, delete, insert)
 }
 
-// The parse with a block that is parsed again in place of the old one.
+// The parse with a re-parsed block in place of the old one.
 fn with_block<T, F: FrontEnd>(
     alloc: Global,
     old: &Parse<T>,
@@ -230,7 +230,7 @@ struct NewToken {
     error: Option<String>,
 }
 
-// A node with its new text, and how that is read.
+// A node with its new text, and its reparser.
 #[derive(Drop)]
 struct NewBlock {
     node: SyntaxNode,
@@ -247,7 +247,7 @@ fn is_too_long(root: &SyntaxNode, delete: TextRange, insert: &str) -> bool
     kept + insert.len() > u32::MAX as usize
 }
 
-// A text that starts at a byte of the whole text, after an edit of the whole text inside of it.
+// The text of a node or token that starts at a byte of the whole text, after an edit of the whole text inside of it.
 fn edited_text(
     alloc: Global,
     piece: &str,
@@ -273,7 +273,7 @@ fn edited_text(
     Ok(edited)
 }
 
-// The token that covers an edit, with its new text, where it may be parsed again by itself.
+// The token that covers an edit, with its new text, if it may be re-parsed by itself.
 fn token_path<F: FrontEnd>(
     alloc: Global,
     root: &SyntaxNode,
@@ -308,7 +308,7 @@ fn token_path<F: FrontEnd>(
     }
 }
 
-// The kinds of tokens that are parsed again by themselves.
+// The kinds of tokens that may be re-parsed by themselves.
 fn is_token_kind(kind: SyntaxKind) -> bool
     ensures { result ≡ is_token_kind kind }
 {
@@ -323,7 +323,7 @@ fn is_token_kind(kind: SyntaxKind) -> bool
     )
 }
 
-// Whether a token of a kind may be parsed again when these bytes of the tree's text go from it.
+// Whether a token of a kind may be re-parsed if these bytes of the tree's text are deleted from it.
 fn may_be_reread(kind: SyntaxKind, root: &SyntaxNode, delete: TextRange) -> bool
     requires root { IsRoot root.now }
     requires within { delete.end ≤ length (text root.now.tree) }
@@ -348,12 +348,12 @@ fn loses_newline(root: &SyntaxNode, delete: TextRange) -> bool
 // A text that is one token.
 #[derive(Drop)]
 struct OneToken {
-    // the lexer's error, if it has one
+    // the lexer's error, if there is one
     error: Option<String>,
 }
 
-// Whether a text is one token of a kind, and no word that is a keyword elsewhere, and none with the next character. The text
-// is longer for a while, and may stay so where memory is refused.
+// Whether a text is one token of a kind, is not a word that is a keyword elsewhere, and is not one token together with the
+// next character. The next character is appended to the text and removed again; if memory runs out, it may stay.
 fn one_token<F: FrontEnd>(
     alloc: Global,
     front: &F,
@@ -395,8 +395,8 @@ fn is_contextual_word(text: &str) -> bool
     *text == *"auto" || *text == *"default" || *text == *"union"
 }
 
-// Whether a text and the character after it are one token. The character is added to the text and taken off again; where memory
-// is refused it may stay.
+// Whether a text and the character after it are one token. The character is appended to the text and removed again; if
+// memory runs out, it may stay.
 fn is_token_with<F: FrontEnd>(
     alloc: Global,
     front: &F,
@@ -414,7 +414,7 @@ fn is_token_with<F: FrontEnd>(
     Ok(is_token)
 }
 
-// The nearest node around an edit that may be read by itself, with its new text, where the braces in that balance.
+// The nearest node around an edit that has a reparser, with its new text, if the braces in that balance.
 fn block_path<F: FrontEnd>(
     alloc: Global,
     root: &SyntaxNode,
@@ -446,7 +446,7 @@ fn block_path<F: FrontEnd>(
     }))
 }
 
-// The first of the nodes that may be read by itself.
+// The first of the nodes that has a reparser.
 fn first_reparsable<F: FrontEnd>(nodes: Ancestors, front: &F) -> Option<(SyntaxNode, Reparser)>
     ensures { result ≡ first_reparsable (F.answers front.now) nodes }
 {
@@ -458,7 +458,7 @@ fn first_reparsable<F: FrontEnd>(nodes: Ancestors, front: &F) -> Option<(SyntaxN
     None
 }
 
-// How the front end reads a node by itself.
+// The front end's reparser for a node.
 fn reparser_of<F: FrontEnd>(node: &SyntaxNode, front: &F) -> Option<Reparser>
     ensures { result ≡ reparser_of (F.answers front.now) node.now }
 {

@@ -1,4 +1,4 @@
-//! Questions on names.
+//! Tests of names.
 ghost use Rattle.std.specs.Prelude.{◌≡◌, IsTrue, Bool};
 ghost use Rattle.std.specs.Str.{chars};
 ghost use Rattle.std.specs.List.{list_all};
@@ -23,7 +23,7 @@ fn begins_name(text: &str) -> bool
     }
 }
 
-// Whether every character goes on with a name. One that begins a name does so too.
+// Whether every character can continue a name. A character that can begin a name can continue one too.
 fn goes_on(text: &str) -> bool
     ensures { result ≡ list_all is_xid_continue (chars text.now) }
 {

@@ -1,4 +1,4 @@
--- Kinds that the rules ask for.
+-- Sets of kinds that the rules use.
 use Rattle.std.specs.Prelude.{Bool, true, false}
 use Rattle.syntax_kind.specs.declared.syntax_kind.SyntaxKind.{SyntaxKind}
 use Rattle.syntax_kind.specs.declared.syntax_kind.SyntaxKind.TheVariants.{Node, Token}
@@ -19,7 +19,7 @@ takes_inner_attributes (Node node.ARRAY_EXPR) = true
 takes_inner_attributes (Node node.ARG_LIST) = true
 takes_inner_attributes _ = false
 
--- the items of an implementation of which a visibility is judged
+-- the items of an implementation whose visibility is checked
 abbrev pub is_member : SyntaxKind → Bool
 is_member (Node node.FN) = true
 is_member (Node node.CONST) = true

@@ -1,4 +1,4 @@
--- What the rules look up below and above a node. (Upstream: the accessors of rust-analyzer's `ast` of these names.)
+-- Lookups of the rules below and above a node. (Upstream: the accessors of rust-analyzer's `ast` of these names.)
 use Rattle.std.specs.Prelude.{Bool, true, false, not, ◌&&◌, ◌||◌, List, [], ◌∷◌, Option, Some, None, option_map, is_some, nat_lt, if◌then◌else◌}
 use Rattle.std.specs.List.{filter, find}
 use Rattle.std.specs.Option.{option_and_then, option_map_or}
@@ -35,11 +35,11 @@ token_before c = find has_no_trivia_kind (tokens_beyond Prev c)
 abbrev pub token_behind : Cursor → Option Cursor
 token_behind c = find has_no_trivia_kind (tokens_beyond Next c)
 
--- the token of a literal: the first child that is no attribute, doc comment or trivia, if that is a token
+-- the token of a literal: the first child that is not an attribute, doc comment or trivia, if that is a token
 abbrev pub literal_token : Cursor → Option Cursor
 literal_token c = option_and_then token_part (option_map element_of (find (has_other_kind is_before_literal) (children_of c)))
 
--- of a range, the operator and the expression after it
+-- the operator of a range, and the expression after it
 abbrev pub range_operator : Cursor → Option Cursor
 range_operator c = first_token is_range_operator (children_of c)
 
@@ -50,7 +50,7 @@ range_end_expr c = first_node is_expr (behind is_range_operator (children_of c))
 abbrev pub binary_operator : Cursor → Option Cursor
 binary_operator c = first_token is_binary_operator (children_of c)
 
--- a path without qualifier is its segment alone; the name in that
+-- the segment of a path without qualifier; and the name in that
 abbrev pub single_name : Cursor → Option Cursor
 single_name path =
     if is_some (node_child (Node node.PATH) path) then None
@@ -60,7 +60,7 @@ single_name path =
 abbrev pub segment_keyword : SyntaxKind → Cursor → Option Cursor
 segment_keyword kind segment = option_and_then (token_child kind) (node_child (Node node.NAME_REF) segment)
 
--- the path that a segment or a path lies in
+-- the path that a segment or a path is in
 abbrev pub path_around : Cursor → Option Cursor
 path_around c = option_and_then (if_kind (Node node.PATH)) (parent_of c)
 
@@ -68,7 +68,7 @@ path_around c = option_and_then (if_kind (Node node.PATH)) (parent_of c)
 abbrev pub starts_path : Cursor → Cursor → Bool
 starts_path segment path = not (is_some (token_child (Token token.COLON2) segment)) && not (is_some (node_child (Node node.PATH) path))
 
--- an implementation is of a trait: it has a `for`, and its first type starts before that
+-- an implementation implements a trait: it has a `for`, and its first type starts before that
 abbrev pub is_before : Cursor → Cursor → Bool
 is_before c d = nat_lt (range_start c) (range_start d)
 
@@ -80,7 +80,7 @@ has_trait c =
 abbrev pub is_inner_attribute : Cursor → Bool
 is_inner_attribute c = is_of_kind (Node node.ATTR) c && is_some (token_child (Token token.BANG) c)
 
--- two of some nodes are bounds, or one where another came before
+-- at least two of some nodes are bounds, or at least one if another came before
 abbrev pub has_two_bounds : Bool → List Cursor → Bool
 has_two_bounds one [] = false
 has_two_bounds one (c ∷ l) = if is_of_kind (Node node.TYPE_BOUND) c then (one || has_two_bounds true l) else has_two_bounds one l

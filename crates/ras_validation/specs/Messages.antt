@@ -1,4 +1,4 @@
--- What is said of each violation. (Upstream: rust-analyzer's validation.)
+-- The message of each violation. (Upstream: rust-analyzer's validation.)
 use Rattle.std.specs.Prelude.{ℕ, List, codes}
 use Rattle.literal_escape.specs.Messages.{message_of}
 use Rattle.ras_validation.specs.declared.violation.ViolationMessage.{ViolationMessage}

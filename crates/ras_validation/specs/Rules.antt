@@ -19,7 +19,7 @@ use Rattle.ras_validation.specs.Lookups.{node_child, if_kind, type_child, token_
 abbrev pub mutable_const : Cursor → Option Cursor
 mutable_const c = option_and_then (λ keyword. option_and_then (if_kind (Token token.MUT_KW)) (token_behind keyword)) (token_child (Token token.CONST_KW) c)
 
--- the statement list of a block that may have no inner attributes where it is
+-- the statement list of a block that may not have inner attributes
 abbrev pub bare_statements : Cursor → Option Cursor
 bare_statements c =
     if option_map_or (λ p. takes_inner_attributes (kind_at p)) (parent_of c) false then None
@@ -39,7 +39,7 @@ first_token_in c = option_and_then token_part (option_map element_of (first_chil
 abbrev pub numeric_name : Cursor → Option Cursor
 numeric_name c = option_and_then if_not_decimal (option_and_then first_token_in (node_child (Node node.NAME_REF) c))
 
--- a visibility of which the path is one identifier, without `in`
+-- a visibility whose path is one identifier, without `in`
 abbrev pub names_identifier : Cursor → Bool
 names_identifier inner =
     not (is_some (token_child (Token token.IN_KW) inner))
@@ -66,13 +66,13 @@ abbrev pub range_without_end : Cursor → Option Cursor
 range_without_end c =
     option_and_then (λ operator. if is_of_kind (Token token.DOT2EQ) operator && not (is_some (range_end_expr c)) then Some c else None) (range_operator c)
 
--- `self` neither at the start nor at the end of the path that its segment lies in
+-- `self` neither at the start nor at the end of the path of its segment
 abbrev pub self_in_path : Cursor → Option Cursor
 self_in_path c =
     option_and_then (λ path. if not (starts_path c path) && is_some (path_around path) then segment_keyword (Token token.SELF_KW) c else None) (path_around c)
 
--- what one node above a path says of it, where `last` is the last path passed: it is under a use prefix, it does
--- not, or what is above decides
+-- the verdict of one node above a path, where `last` is the last path passed: it is under a use prefix, it is not, or the
+-- nodes above decide
 abbrev pub prefix_verdict : Cursor → SyntaxKind → Cursor → Option Bool
 prefix_verdict last (Node node.USE_TREE) a = option_and_then (λ path. if is_same_cursor path last then None else Some true) (node_child (Node node.PATH) a)
 prefix_verdict last (Node node.USE_TREE_LIST) a = None
@@ -105,7 +105,7 @@ bounded_keyword (Node node.DYN_TRAIT_TYPE) c = token_child (Token token.DYN_KW) 
 bounded_keyword (Node node.IMPL_TRAIT_TYPE) c = token_child (Token token.IMPL_KW) c
 bounded_keyword _ c = None
 
--- a `dyn` or `impl` type with two bounds or more, where a token precedes its keyword that is none of `(`, `<` and `=`
+-- a `dyn` or `impl` type with two bounds or more, where a token other than `(`, `<` and `=` precedes its keyword
 abbrev pub ambiguous_plus : Cursor → Option Cursor
 ambiguous_plus c =
     option_and_then (λ keyword. option_and_then (λ before. option_and_then (λ list. if has_two_bounds false (filter at_node (children_of list)) && not (delimits_type (kind_at before)) then Some c else None)
@@ -113,14 +113,14 @@ ambiguous_plus c =
     (token_before keyword))
     (bounded_keyword (kind_at c) c)
 
--- the same of the type after a `&` or a `*`, and of the type that a function pointer returns
+-- the same for the type after a `&` or a `*`, and for the type that a function pointer returns
 abbrev pub ambiguous_target : Cursor → Option Cursor
 ambiguous_target c = option_and_then ambiguous_plus (type_child c)
 
 abbrev pub ambiguous_return : Cursor → Option Cursor
 ambiguous_return c = option_and_then ambiguous_target (node_child (Node node.RET_TYPE) c)
 
--- a `dyn` or `impl` type with a list of bounds of which none has a type
+-- a `dyn` or `impl` type with a list of bounds in which no bound has a type
 abbrev pub without_trait : Cursor → Option Cursor
 without_trait c = option_and_then (λ list. if list_any is_typed_bound (filter at_node (children_of list)) then None else Some c) (node_child (Node node.TYPE_BOUND_LIST) c)
 
@@ -128,7 +128,7 @@ without_trait c = option_and_then (λ list. if list_any is_typed_bound (filter a
 abbrev pub macro_rules_visibility : Cursor → Option Cursor
 macro_rules_visibility c = node_child (Node node.VISIBILITY) c
 
--- what one node above a `let` says of it: it is part of a condition, it is not, or what is above decides
+-- the verdict of one node above a `let`: it is part of a condition, it is not, or the nodes above decide
 abbrev pub is_and : Cursor → Bool
 is_and c = option_map_or (is_of_kind (Token token.AMP2)) (binary_operator c) false
 

@@ -27,7 +27,7 @@ use Rattle.ras_validation.specs.declared.literals.LiteralForm.{LiteralForm}
 use Rattle.ras_validation.specs.Lookups.{literal_token}
 use Rattle.ras_validation.specs.Rules.{mutable_const, bare_statements, inner_attribute, numeric_name, visibility_path, visibility_in_trait, range_without_end, self_in_path, crate_in_path, ambiguous_target, ambiguous_return, without_trait, macro_rules_visibility, misplaced_let}
 
--- the violation at a range, if there is one; the same of the piece that breaks a rule
+-- the violation at a range, if there is one; the same for a range that breaks a rule
 abbrev pub named_at : ViolationMessage → Option Bounds → List Violation
 named_at message None = []
 named_at message (Some range) = (record { message = message; range = range }) ∷ []
@@ -45,14 +45,14 @@ fault_at at (Err e) = if is_warning e then [] else ((record { message = messages
 abbrev pub report_fault : ℕ → Report → List Violation
 report_fault start r = fault_at (start + r.start) r.unit
 
--- the faults of a content that starts at an offset: in a string of each unit, where the unit starts; of a character or a
--- byte the one that it has as a whole
+-- the faults of a content that starts at an offset: for a string the fault of each unit, at the unit's start; for a
+-- character or a byte the fault of the whole
 abbrev pub content_faults : Mode → ℕ → List ℕ → List Violation
 content_faults mode start content =
     if is_string mode then flat_map (report_fault start) (reports_in mode (chars content)) else fault_at start (single (reports_in mode (chars content)))
 
--- a literal of which the content is read, by the kind and the text of its token: where the content starts, and the quote
--- before which it ends; none of a raw string
+-- a literal whose content is checked, by the kind and the text of its token: the offset of the content, and the quote that
+-- ends it; None for a raw string
 abbrev pub unless_raw : List ℕ → List ℕ → LiteralForm → Option LiteralForm
 unless_raw prefix text form = if is_raw prefix text then None else Some form
 
@@ -79,7 +79,7 @@ literal_faults c = option_map_or token_faults (literal_token c) []
 
 -- ---- the list
 
--- the inner attributes of a block that may have none
+-- the inner attributes of a block that may not have any
 abbrev pub attribute_at : Cursor → List Violation
 attribute_at c = named messages.InnerAttribute (inner_attribute c)
 

@@ -17,7 +17,7 @@ use ras_node::KindSet;
 use std::alloc::{AllocError, Global};
 use text_size::TextRange;
 
-// Adds the violation at a range, if there is one.
+// Appends the violation at a range, if there is one.
 fn add(
     found: &mut Vec<Violation>,
     message: ViolationMessage,
@@ -42,7 +42,7 @@ fn inner_attribute(node: &SyntaxNode) -> Option<TextRange>
     }
 }
 
-// The statement list of a block that may have no inner attributes where it is.
+// The statement list of a block that may not have inner attributes.
 fn bare_statements(block: &SyntaxNode) -> Option<SyntaxNode>
     ensures { result ≡ bare_statements block.now }
 {
@@ -54,7 +54,7 @@ fn bare_statements(block: &SyntaxNode) -> Option<SyntaxNode>
     node_child(block, SyntaxKind::STMT_LIST)
 }
 
-// Adds the inner attributes of a list.
+// Appends the inner attributes of a list.
 fn add_attributes_in(found: &mut Vec<Violation>, list: &SyntaxNode) -> Result<(), AllocError>
     ensures { OnOk result (found.new.items ≡ found.old.items ++ attributes_in list.now) }
 {
@@ -69,8 +69,7 @@ fn add_attributes_in(found: &mut Vec<Violation>, list: &SyntaxNode) -> Result<()
     Ok(())
 }
 
-// Adds the inner attributes of a `BLOCK_EXPR` that may have none where it is. Where memory is refused some of them may be
-// missing.
+// Appends the inner attributes of a `BLOCK_EXPR` that may not have any. If memory runs out, some of them may be missing.
 fn add_block_attributes(found: &mut Vec<Violation>, block: &SyntaxNode) -> Result<(), AllocError>
     ensures { OnOk result (found.new.items ≡ found.old.items ++ block_attributes block.now) }
 {
@@ -102,7 +101,7 @@ fn add_at_segment(found: &mut Vec<Violation>, node: &SyntaxNode) -> Result<(), A
     add(found, ViolationMessage::CrateInPath, crate_in_path(node))
 }
 
-// Adds the violations at one node, by its kind: those below it are none of them. Where memory is refused some of them may be
+// Appends the violations at one node, by its kind, without those at nodes below it. If memory runs out, some of them may be
 // missing.
 fn add_violations_at(found: &mut Vec<Violation>, node: &SyntaxNode) -> Result<(), AllocError>
     ensures { OnOk result (found.new.items ≡ found.old.items ++ violations_at node.now) }
@@ -137,11 +136,11 @@ fn add_violations_at(found: &mut Vec<Violation>, node: &SyntaxNode) -> Result<()
     }
 }
 
-/// The violations of a tree, in preorder of its nodes; those of one node by its rules, those of one rule in the order of the
-/// text.
+/// The violations of a tree, in preorder of its nodes; for one node in the order of its rules, and for one rule in the
+/// order of the text.
 ///
-/// It takes time linear in the tree and its literals, but for the segments of a path, a `let`, and a visibility in an
-/// implementation, which each look at the nodes around, and memory for the list alone.
+/// Takes memory for the list only, and time linear in the tree and its literals, plus the nodes around that are looked at
+/// for each segment of a path, each `let`, and each visibility in an implementation.
 pub fn violations(alloc: Global, root: &SyntaxNode) -> Result<Vec<Violation>, AllocError>
     ensures { IfOk result (λ found. found.items ≡ violations_of root.now) }
 {

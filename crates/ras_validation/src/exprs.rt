@@ -10,7 +10,7 @@ use crate::lookups::{binary_operator, node_child, range_end, range_operator};
 use lossless_tree::{SyntaxKind, SyntaxNode, SyntaxToken};
 use text_size::TextRange;
 
-// Whether a text has another character than a decimal digit.
+// Whether a text has a character other than decimal digits.
 fn has_other_than_digits(text: &str) -> bool
     ensures { result ≡ list_any (λ b. not (is_ascii_digit b)) text.now }
 {
@@ -56,7 +56,7 @@ fn is_and(expr: &SyntaxNode) -> bool
     binary_operator(expr).is_some_and(|operator| operator.kind() == SyntaxKind::AMP2)
 }
 
-// What one node above a `let` says of it: whether it is part of a condition, or `None` where what is above decides.
+// The verdict of one node above a `let`: whether the `let` is part of a condition, or `None` if the nodes above decide.
 fn let_verdict(above: &SyntaxNode) -> Option<bool>
     ensures { result ≡ let_verdict (kind_at above.now) above.now }
 {
@@ -68,7 +68,7 @@ fn let_verdict(above: &SyntaxNode) -> Option<bool>
     }
 }
 
-// Whether the walk up from a node, through parentheses and `&&` alone, meets an `if`, a `while` or the guard of a match.
+// Whether the walk up from a node, through parentheses and `&&` only, meets an `if`, a `while` or the guard of a match.
 fn is_in_condition(node: &SyntaxNode) -> bool
     ensures { result ≡ in_condition (drop 1 (ancestors_of node.now)) }
 {
@@ -82,8 +82,8 @@ fn is_in_condition(node: &SyntaxNode) -> bool
     false
 }
 
-/// A `LET_EXPR` that is no part of a condition: of an `if`, a `while` or the guard of a match, through parentheses and `&&`
-/// alone. It takes time linear in how many of these are around it.
+/// A `LET_EXPR` that is not part of a condition: of an `if`, a `while` or the guard of a match, through parentheses and
+/// `&&` only. Takes time linear in the number of parentheses and `&&` around it.
 pub fn misplaced_let(expr: &SyntaxNode) -> Option<TextRange>
     ensures { result ≡ option_map range_of (misplaced_let expr.now) }
 {

@@ -22,7 +22,7 @@ pub fn mutable_const(item: &SyntaxNode) -> Option<TextRange>
     }
 }
 
-// Whether what is in the parentheses of a visibility is a path of one identifier, without `in`.
+// Whether the part of a visibility in parentheses is a path of one identifier, without `in`.
 fn names_identifier(inner: &SyntaxNode) -> bool
     ensures { result ≡ names_identifier inner.now }
 {
@@ -38,7 +38,7 @@ fn names_identifier(inner: &SyntaxNode) -> bool
     support::token(&name, SyntaxKind::IDENT).is_some()
 }
 
-/// A `VISIBILITY` of which the path is one identifier, without `in`.
+/// A `VISIBILITY` whose path is one identifier, without `in`.
 pub fn visibility_path(visibility: &SyntaxNode) -> Option<TextRange>
     ensures { result ≡ option_map range_of (visibility_path visibility.now) }
 {
@@ -57,7 +57,7 @@ fn is_trait_impl(item: &SyntaxNode) -> bool
     item.kind() == SyntaxKind::IMPL && has_trait(item)
 }
 
-// Whether it is, and has no attribute.
+// Whether an item is the implementation of a trait, and has no attribute.
 fn is_plain_trait_impl(item: &SyntaxNode) -> bool
     ensures { result ≡ is_plain_trait_impl item.now }
 {

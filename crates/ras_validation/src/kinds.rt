@@ -1,4 +1,4 @@
-//! Sets of kinds that the rules ask for.
+//! Sets of kinds that the rules use.
 ghost use Rattle.std.specs.Prelude.{◌≡◌};
 ghost use Rattle.ras_validation.specs.Kinds.{takes_inner_attributes, is_member, delimits_type};
 
@@ -28,7 +28,7 @@ impl KindSet for TakesInnerAttributes {
     }
 }
 
-/// The items of an implementation of which a visibility is judged.
+/// The items of an implementation whose visibility is checked.
 pub enum Members {}
 
 impl KindSet for Members {

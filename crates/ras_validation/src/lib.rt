@@ -1,6 +1,6 @@
-//! What is wrong with a tree beyond its shape: rules that a grammar does not say, and that a diagnostic names.
+//! Validation: the errors in a tree that a grammar does not rule out, each with the message of a diagnostic.
 //!
-//! `violations` lists them for a whole tree; each rule is a function of its own, on a node of the kind that it names.
+//! `violations` lists them for a whole tree; each rule is also a function, for a node of the kind in its documentation.
 #![tactic(auto)]
 
 pub mod collect;

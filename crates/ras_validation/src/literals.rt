@@ -15,7 +15,7 @@ use ras_token_ext::{cut, is_raw, last_place};
 use std::alloc::AllocError;
 use text_size::{TextRange, TextSize};
 
-// A literal of which the content is read: what it is of, where the content starts, and the quote before which it ends.
+// A literal whose content is checked: its mode, the offset of the content, and the quote that ends it.
 #[derive(Clone, Copy)]
 pub struct LiteralForm {
     pub mode: Mode,
@@ -23,7 +23,7 @@ pub struct LiteralForm {
     pub quote: u8,
 }
 
-// The form of a token by its kind and text; `None` of what is no such literal, and of a raw string.
+// The form of a token by its kind and text; `None` for a token that is no such literal, and for a raw string.
 fn form(kind: SyntaxKind, text: &str) -> Option<LiteralForm>
     ensures { result ≡ form_of kind text.now }
 {
@@ -38,7 +38,7 @@ fn form(kind: SyntaxKind, text: &str) -> Option<LiteralForm>
     Some(LiteralForm { mode, start, quote })
 }
 
-// The content of a literal of the form; `None` where the text does not have the form.
+// The content of a literal of the form; `None` if the text does not have the form.
 fn content(form: LiteralForm, text: &str) -> Option<&str>
     ensures value { option_map (λ s. s.now) result ≡ content_of form text.now }
     ensures within { IfSome result (λ s. form.start + length s.now ≤ length text.now) }
@@ -47,7 +47,7 @@ fn content(form: LiteralForm, text: &str) -> Option<&str>
     cut(text, form.start, end)
 }
 
-// Adds the violation of a unit that starts at an offset, if it has a fatal fault.
+// Appends the violation of a unit that starts at an offset, if it has a fatal fault.
 fn add_fault(
     found: &mut Vec<Violation>,
     at: TextSize,
@@ -66,7 +66,7 @@ fn add_fault(
     Ok(())
 }
 
-// Adds the faults of the units of a string's content that starts at an offset.
+// Appends the faults of the units of a string's content that starts at an offset.
 fn add_unit_faults(
     found: &mut Vec<Violation>,
     mode: Mode,
@@ -84,7 +84,7 @@ fn add_unit_faults(
     Ok(())
 }
 
-// Adds the faults of a content that starts at an offset.
+// Appends the faults of a content that starts at an offset.
 fn add_content_faults(
     found: &mut Vec<Violation>,
     mode: Mode,
@@ -104,7 +104,7 @@ fn add_content_faults(
     }
 }
 
-// Adds the faults of a token.
+// Appends the faults of a token.
 fn add_token_faults(found: &mut Vec<Violation>, token: &SyntaxToken) -> Result<(), AllocError>
     ensures { OnOk result (found.new.items ≡ found.old.items ++ token_faults token.now) }
 {
@@ -119,9 +119,8 @@ fn add_token_faults(found: &mut Vec<Violation>, token: &SyntaxToken) -> Result<(
     add_content_faults(found, form.mode, start, content)
 }
 
-// Adds the faults of the token of a `LITERAL`: of a string, byte string or C string that is not raw each unit that has a
-// fatal fault, in order; of a character or a byte the first thing that is wrong with it. Where memory is refused some of them
-// may be missing.
+// Appends the faults of the token of a `LITERAL`: for a string, byte string or C string that is not raw each unit with a
+// fatal fault, in order; for a character or a byte the first fault. If memory runs out, some of them may be missing.
 pub(crate) fn add_literal_faults(
     found: &mut Vec<Violation>,
     literal: &SyntaxNode,

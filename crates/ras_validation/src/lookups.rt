@@ -1,4 +1,4 @@
-//! What the rules look up below and above a node.
+//! Lookups of the rules below and above a node.
 ghost use Rattle.std.specs.Prelude.{◌≡◌, false};
 ghost use Rattle.std.specs.List.{filter, list_any};
 ghost use Rattle.tree_model.specs.Cursor.{children_of, at_node};
@@ -98,7 +98,7 @@ pub fn segment_keyword(segment: &SyntaxNode, kind: SyntaxKind) -> Option<SyntaxT
     support::token(&name, kind)
 }
 
-/// The path that a segment or a path lies in.
+/// The path that a segment or a path is in.
 pub fn path_around(node: &SyntaxNode) -> Option<SyntaxNode>
     ensures { result ≡ path_around node.now }
 {
@@ -118,7 +118,7 @@ pub fn starts_path(segment: &SyntaxNode, path: &SyntaxNode) -> bool
         && node_child(path, SyntaxKind::PATH).is_none()
 }
 
-/// Whether an implementation is of a trait.
+/// Whether an implementation implements a trait.
 pub fn has_trait(item: &SyntaxNode) -> bool
     ensures { result ≡ has_trait item.now }
 {
@@ -138,7 +138,7 @@ pub fn is_inner_attribute(node: &SyntaxNode) -> bool
     node.kind() == SyntaxKind::ATTR && support::token(node, SyntaxKind::BANG).is_some()
 }
 
-/// Whether a list of bounds has two at least.
+/// Whether a list of bounds has at least two bounds.
 pub fn has_two_bounds(list: &SyntaxNode) -> bool
     ensures { result ≡ has_two_bounds false (filter at_node (children_of list.now)) }
 {
@@ -162,7 +162,7 @@ fn is_typed_bound(node: &SyntaxNode) -> bool
     node.kind() == SyntaxKind::TYPE_BOUND && type_child(node).is_some()
 }
 
-/// Whether a list of bounds has one with a type.
+/// Whether a list of bounds has a bound with a type.
 pub fn has_typed_bound(list: &SyntaxNode) -> bool
     ensures { result ≡ list_any is_typed_bound (filter at_node (children_of list.now)) }
 {

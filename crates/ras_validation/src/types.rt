@@ -36,7 +36,7 @@ pub fn ambiguous_plus(ty: &SyntaxNode) -> Option<TextRange>
     }
 }
 
-/// The same of the type after the `&` of a `REF_TYPE` or the `*` of a `PTR_TYPE`.
+/// The same for the type after the `&` of a `REF_TYPE` or the `*` of a `PTR_TYPE`.
 pub fn ambiguous_target(ty: &SyntaxNode) -> Option<TextRange>
     ensures { result ≡ option_map range_of (ambiguous_target ty.now) }
 {
@@ -44,7 +44,7 @@ pub fn ambiguous_target(ty: &SyntaxNode) -> Option<TextRange>
     ambiguous_plus(&target)
 }
 
-/// The same of the type that an `FN_PTR_TYPE` returns.
+/// The same for the type that an `FN_PTR_TYPE` returns.
 pub fn ambiguous_return(ty: &SyntaxNode) -> Option<TextRange>
     ensures { result ≡ option_map range_of (ambiguous_return ty.now) }
 {
@@ -52,7 +52,7 @@ pub fn ambiguous_return(ty: &SyntaxNode) -> Option<TextRange>
     ambiguous_target(&returned)
 }
 
-/// A `DYN_TRAIT_TYPE` or `IMPL_TRAIT_TYPE` with a list of bounds of which none has a type.
+/// A `DYN_TRAIT_TYPE` or `IMPL_TRAIT_TYPE` with a list of bounds in which no bound has a type.
 pub fn without_trait(ty: &SyntaxNode) -> Option<TextRange>
     ensures { result ≡ option_map range_of (without_trait ty.now) }
 {

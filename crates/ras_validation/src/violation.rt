@@ -9,12 +9,12 @@ use text_size::TextRange;
 /// Which rule is broken. It prints as the message of a diagnostic.
 #[derive(Clone, Copy, Debug, PartialEq, Eq)]
 pub enum ViolationMessage {
-    /// A unit of a literal has a fatal fault. The range is empty, at the start of the unit; of a character or a byte at the
-    /// start of the content.
+    /// A unit of a literal has a fatal fault. The range is empty: at the start of the unit, or for a character or a byte at
+    /// the start of the content.
     Escape(EscapeError),
     /// A `const` is followed by `mut`: the range is that of the `mut`.
     MutableConst,
-    /// An inner attribute of a block is where the block may have none: the attribute's range.
+    /// An inner attribute is in a block that may not have any: the attribute's range.
     InnerAttribute,
     /// A field is named by a number with underscores, a base or a suffix: the number's range.
     NumericName,
@@ -29,19 +29,20 @@ pub enum ViolationMessage {
     SelfInPath,
     /// `crate` does not begin its path, or the path is under a prefix of a `use`: the keyword's range.
     CrateInPath,
-    /// A `dyn` or `impl` type with two bounds or more is that to which a reference or a raw pointer leads, or that which a function
-    /// pointer returns, and the token before its keyword is not one of `(`, `<` and `=`: the range of the `dyn` or `impl` type.
+    /// A `dyn` or `impl` type with two bounds or more is the target of a reference or a raw pointer, or the return type of
+    /// a function pointer, and the token before its keyword is not one of `(`, `<` and `=`: the range of the `dyn` or
+    /// `impl` type.
     AmbiguousPlus,
-    /// A `dyn` or `impl` has a list of bounds, and none of these has a type: the range of the `dyn` or `impl` type.
+    /// A `dyn` or `impl` has a list of bounds in which no bound has a type: the range of the `dyn` or `impl` type.
     NoTrait,
     /// A `macro_rules!` has a visibility: the visibility's range.
     MacroRulesVisibility,
-    /// A `let` is no part of a condition: the range of the whole expression.
+    /// A `let` is not part of a condition: the range of the whole expression.
     MisplacedLet,
 }
 
 impl ViolationMessage {
-    /// The message of a diagnostic. That of a bare carriage return quotes it raw (byte 0D).
+    /// The message of a diagnostic. The message about a bare carriage return contains one (byte 0D).
     pub fn text(self) -> &'static str
         ensures { result.now ≡ text_of self }
     {
@@ -82,12 +83,12 @@ impl fmt::Display for ViolationMessage {
     }
 }
 
-/// A broken rule, and the range of the piece of the text that breaks it.
+/// A broken rule, and the range of the text that breaks it.
 #[derive(Clone, Copy, Debug, PartialEq, Eq)]
 pub struct Violation {
-    /// Which rule is broken, of a literal also how.
+    /// The rule that is broken; for a literal also how.
     pub message: ViolationMessage,
-    /// The piece that breaks it: which one, `ViolationMessage` says of each rule.
+    /// The range that breaks it, as documented for each variant of `ViolationMessage`.
     pub range: TextRange,
 }
 

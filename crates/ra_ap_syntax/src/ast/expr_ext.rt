@@ -1,4 +1,4 @@
-//! The rules of expressions and their parts.
+//! Accessors of expressions and their parts.
 mod args;
 mod array;
 mod block;

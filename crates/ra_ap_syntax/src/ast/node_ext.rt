@@ -1,4 +1,4 @@
-//! The rules of what is in items, patterns, types, paths, names and attributes.
+//! Accessors of items, patterns, types, paths, names and attributes.
 mod attrs;
 mod block;
 mod holders;

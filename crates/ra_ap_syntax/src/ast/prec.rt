@@ -21,8 +21,8 @@ use lossless_tree::SyntaxNode;
 pub use ras_operators::{ExprPrecedence, Fixity};
 use std::alloc::{AllocError, Global};
 
-/// The precedence of an expression: of a binary operator by its token, of a closure without a return type that of a jump. It takes
-/// time linear in the children.
+/// The precedence of an expression. That of a binary expression depends on its operator's token; a closure without a return
+/// type has that of a jump. Takes time linear in the children.
 pub fn precedence(expr: &ast::Expr) -> ExprPrecedence
     ensures { result ≡ precedence_of (expr_node expr.now) }
 {
@@ -94,11 +94,11 @@ impl ast::Type {
     }
 }
 
-/// Whether the expression is a reading of its own tokens, or `None` if it shows no term.
+/// Whether the tokens of the expression, read as an operator term, give the expression back; `None` if it shows no term.
 ///
-/// It is one exactly where every operand fits its place; and, unless it ends in a cast's name and `<` or `<<` follows, exactly
-/// where no operand below it needs parentheses in its own parent, as [`ast::Expr::needs_parens_in`] answers it. It takes no memory,
-/// and time linear in the expression.
+/// This is true exactly if every operand fits its place. If the expression does not end in a cast's name that `<` or `<<`
+/// follows, it is also true exactly if no operand below it needs parentheses in its own parent, by
+/// [`ast::Expr::needs_parens_in`]. Takes no memory, and time linear in the expression.
 pub fn reads_back(expr: &ast::Expr) -> Option<bool>
     ensures reads { ReadsBack result (shown (focus (expr_node expr.now))) }
     ensures fits { IfSome result (λ b. (t : Term) → meaning (focus (expr_node expr.now)) ≡ IsTerm t → b ≡ true ↔ ((q : List ℕ) → Fits t q)) }

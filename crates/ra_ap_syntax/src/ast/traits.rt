@@ -1,5 +1,5 @@
-//! The shared traits that have rules beside lookups. A call takes time linear in the children that it passes, and no
-//! memory.
+//! The shared traits that need more than lookups. Each call takes time linear in the number of children that it passes, and
+//! no memory.
 ghost use Rattle.std.specs.Prelude.{◌≡◌};
 ghost use Rattle.ras_node.specs.Lookups.{IsFirstChild, IsViewOf, loop_body};
 ghost use Rattle.std.specs.List.{filter};
@@ -11,8 +11,8 @@ use lossless_tree::SyntaxNode;
 
 /// A loop.
 pub trait HasLoopBody: AstNode {
-    /// The body: of a `loop` the first block among the children. The first block of a `for` or a `while` may be what it goes
-    /// over or its condition, so their body is the second, or the first if there is only one, if there is any.
+    /// The body. For a `loop` it is the first block among the children. The first block of a `for` or a `while` may be its
+    /// iterator or condition, so there the body is the second block, or the first if there is only one.
     final fn loop_body(&self) -> Option<ast::BlockExpr>
         ensures { IsViewOf ⟦<ast::BlockExpr as AstNode>⟧ (loop_body ⟦<ast::BlockExpr as AstNode>⟧.casts (Self.node self.now)) result }
     {
@@ -27,7 +27,7 @@ pub trait HasLoopBody: AstNode {
     }
 }
 
-/// What may have attributes and documentation.
+/// Nodes that can have attributes and documentation.
 pub trait HasAttrs: AstNode {
     /// The children that are attributes, in order.
     final fn attrs(&self) -> AstChildren<ast::Attr>
@@ -50,9 +50,9 @@ pub trait HasAttrs: AstNode {
         support::children(self.syntax())
     }
 
-    /// The node in which its inner attributes are: a file itself; a block itself, where it may have them; of a function the
-    /// statements of its body; of an extern block, a `match`, an implementation, a trait and a module the list in it. `None`
-    /// of others, and where that part is missing.
+    /// The node that holds its inner attributes. A file holds its own, and so does a block that can have some. For a
+    /// function it is the statement list of its body; for an extern block, a `match`, an implementation, a trait and a
+    /// module it is the list in it. `None` for other nodes, and if that part is missing.
     final fn inner_attributes_node(&self) -> Option<SyntaxNode>
         ensures { result ≡ inner_holder (Self.node self.now) }
     {

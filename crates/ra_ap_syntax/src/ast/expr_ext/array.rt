@@ -1,11 +1,11 @@
-//! Arrays, and places in them.
+//! Array and index expressions.
 ghost use Rattle.std.specs.Prelude.{◌≡◌};
 ghost use Rattle.ras_node.specs.Lookups.{IsFirstChild, IsViewOf, second_typed_child};
 ghost use Rattle.ra_ap_syntax.specs.ExprShapes.{array_shape, array_kind};
 
 use crate::ast::{self, AstChildren, AstNode, support};
 
-/// How an array is written.
+/// The form of an array expression.
 #[derive(Clone, Drop)]
 pub enum ArrayExprKind {
     /// `[initializer; repeat]`
@@ -18,8 +18,8 @@ pub enum ArrayExprKind {
 }
 
 impl ast::ArrayExpr {
-    /// One value with a number, the first and the second expression, where a `;` is a child; otherwise the list of the
-    /// expressions.
+    /// If a `;` is a child, the repeated value and the number, which are the first and the second expression; otherwise the
+    /// list of the expressions.
     pub fn kind(&self) -> ArrayExprKind
         ensures { array_shape result ≡ array_kind ⟦<ast::Expr as AstNode>⟧.casts self.now.syntax }
     {
@@ -34,14 +34,14 @@ impl ast::ArrayExpr {
 }
 
 impl ast::IndexExpr {
-    /// What has the places: the first expression, if there is one.
+    /// The indexed expression: the first expression, if there is one.
     pub fn base(&self) -> Option<ast::Expr>
         ensures { IsFirstChild ⟦<ast::Expr as AstNode>⟧ self.now.syntax result }
     {
         support::child(&self.syntax)
     }
 
-    /// The place: the second expression, if there is one.
+    /// The index: the second expression, if there is one.
     pub fn index(&self) -> Option<ast::Expr>
         ensures { IsViewOf ⟦<ast::Expr as AstNode>⟧ (second_typed_child ⟦<ast::Expr as AstNode>⟧.casts self.now.syntax) result }
     {

@@ -1,4 +1,4 @@
-//! Blocks: what precedes them, and where they are.
+//! The modifiers of blocks, and standalone blocks.
 ghost use Rattle.std.specs.Prelude.{◌≡◌, option_map};
 ghost use Rattle.ras_node_ext.specs.Attrs.{may_carry_attributes};
 ghost use Rattle.ras_expr_ext.specs.ExprParts.{is_standalone};
@@ -6,11 +6,11 @@ ghost use Rattle.ras_expr_ext.specs.Modifiers.{modifier_shape, block_modifier};
 
 use crate::ast::{self, AstNode};
 
-/// What precedes a block.
+/// The modifier of a block.
 pub type BlockModifier = ras_expr_ext::BlockModifier<ast::Type, ast::Label>;
 
 impl ast::BlockExpr {
-    /// The first that there is of `gen` with or without `async`, `async`, `unsafe`, `try`, `const` and a label.
+    /// The first of these that the block has: `gen` with or without `async`, `async`, `unsafe`, `try`, `const`, a label.
     pub fn modifier(&self) -> Option<BlockModifier>
         ensures { option_map (modifier_shape ⟦<ast::Type as AstNode>⟧.node ⟦<ast::Label as AstNode>⟧.node) result ≡ block_modifier ⟦<ast::TryBlockModifier as AstNode>⟧.casts ⟦<ast::Type as AstNode>⟧.casts ⟦<ast::Label as AstNode>⟧.casts self.now.syntax }
     {

@@ -50,7 +50,7 @@ impl ast::WhileExpr {
 }
 
 impl ast::ForExpr {
-    /// What the loop goes over: the first expression; if that is a block, only if there is another one.
+    /// The iterated expression of the loop: the first expression; if that is a block, only if there is another one.
     pub fn iterable(&self) -> Option<ast::Expr>
         ensures { IsViewOf ⟦<ast::Expr as AstNode>⟧ (unless_lone_block ⟦<ast::Expr as AstNode>⟧.casts self.now.syntax) result }
     {

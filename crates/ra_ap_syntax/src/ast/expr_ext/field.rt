@@ -1,4 +1,4 @@
-//! Fields, where they are read and where a record is made.
+//! Fields in field accesses and in record expressions.
 ghost use Rattle.std.specs.Prelude.{◌≡◌, option_map, drop};
 ghost use Rattle.std.specs.List.{find};
 ghost use Rattle.std.specs.Option.{option_and_then};
@@ -12,7 +12,7 @@ use crate::ast::{self, AstNode, support};
 use lossless_tree::SyntaxToken;
 use ras_node::sets::BeforeIndex;
 
-/// How a field is named.
+/// The name or number of a field.
 #[derive(Clone, PartialEq, Eq, Drop)]
 pub enum FieldKind {
     /// `a.f`
@@ -40,7 +40,7 @@ impl ast::FieldExpr {
     }
 }
 
-// The name of a path that is one name alone.
+// The name of a path that is only one name.
 fn shorthand_name(path: &ast::Path) -> Option<ast::NameRef>
     ensures { IsViewOf ⟦<ast::NameRef as AstNode>⟧ (shorthand_name ⟦<ast::Path as AstNode>⟧.casts ⟦<ast::PathSegment as AstNode>⟧.casts ⟦<ast::NameRef as AstNode>⟧.casts path.now.syntax) result }
 {

@@ -21,7 +21,7 @@ impl ast::PrefixExpr {
         ras_expr_ext::first_child_token(&self.syntax)
     }
 
-    /// What that token is, or `None` if it is not a prefix operator.
+    /// The prefix operator of that token, or `None` if it is not one.
     pub fn op_kind(&self) -> Option<UnaryOp>
         ensures { result ≡ option_and_then (λ t. unary_op (kind_at t)) (first_child_token self.now.syntax) }
     {
@@ -30,7 +30,7 @@ impl ast::PrefixExpr {
 }
 
 impl ast::BinExpr {
-    /// The first token that is a binary operator, and what it is.
+    /// The first token that is a binary operator, and the operator.
     pub fn op_details(&self) -> Option<(SyntaxToken, BinaryOp)>
         ensures { result ≡ option_and_then (λ t. option_map (λ o. (t, o)) (binary_op (kind_at t))) (binary_operator self.now.syntax) }
     {
@@ -39,7 +39,7 @@ impl ast::BinExpr {
         Some((token, operator))
     }
 
-    /// What the first token that is a binary operator is.
+    /// The operator of the first token that is a binary operator.
     pub fn op_kind(&self) -> Option<BinaryOp>
         ensures { result ≡ option_and_then (λ t. binary_op (kind_at t)) (binary_operator self.now.syntax) }
     {
@@ -67,7 +67,7 @@ impl ast::BinExpr {
         support::second_child(&self.syntax)
     }
 
-    /// The first and the second expression, where there are such.
+    /// The first and the second expression, each if there is one.
     pub fn sub_exprs(&self) -> (Option<ast::Expr>, Option<ast::Expr>)
         ensures left { option_map expr_node result.0 ≡ typed_child ⟦<ast::Expr as AstNode>⟧.casts self.now.syntax }
         ensures right { option_map expr_node result.1 ≡ second_typed_child ⟦<ast::Expr as AstNode>⟧.casts self.now.syntax }
@@ -78,13 +78,13 @@ impl ast::BinExpr {
 
 /// A range, of expressions or of patterns.
 pub trait RangeItem {
-    /// The node or token at its ends.
+    /// The type of its ends.
     type Bound: AstNode;
 
     /// The node of the range.
     ghost range: { Self → Cursor };
 
-    /// The end before the operator, by the kinds that ends are of: each kind of range has a rule of its own.
+    /// The end before the operator, by the kinds of the ends: the rule depends on the kind of range.
     ghost start_by: { (SyntaxKind → Bool) → Cursor → Option Cursor };
 
     /// The end before the operator, if there is one.
@@ -95,7 +95,7 @@ pub trait RangeItem {
     fn end(&self) -> Option<Self::Bound>
         ensures { option_map Self.Bound.node result ≡ range_end_of Self.Bound.casts (range self.now) };
 
-    /// What the operator is, or `None` if there is none.
+    /// The operator, or `None` if there is none.
     fn op_kind(&self) -> Option<RangeOp>
         ensures { result ≡ option_and_then (λ t. range_op (kind_at t)) (range_operator (range self.now)) };
 
@@ -137,7 +137,7 @@ impl RangeItem for ast::RangePat {
 
     ghost start_by = { bound_before };
 
-    /// The first pattern before the operator; without operator the first pattern.
+    /// The first pattern before the operator; without an operator, the first pattern.
     fn start(&self) -> Option<ast::Pat> {
         ras_expr_ext::start_or_first(&self.syntax)
     }
@@ -156,7 +156,7 @@ impl RangeItem for ast::RangePat {
     }
 }
 
-// No child can be viewed as an `N`.
+// Whether no child can be viewed as an `N`.
 fn has_no_child<N: AstNode + Drop>(parent: &SyntaxNode) -> bool
     ensures { result ≡ not (is_some (typed_child N.casts parent.now)) }
 {

@@ -17,13 +17,13 @@ use crate::ast::{self, AnyAttr, AnyComment, AstNode, AstToken, support};
 use lossless_tree::{SyntaxKind, SyntaxToken};
 use ras_token_ext::{AttrKind, CommentShape};
 
-/// The attributes and documentation comments of what has them, inner ones too, in order.
+/// The attributes and documentation comments of a node that can have some, inner ones too, in order.
 pub type AttrsWithDoc = ras_node_ext::AttrsWithDoc<AnyAttr>;
 
 /// The attributes among these, in order.
 pub type AttrsIter = ras_node_ext::AttrsIter<AnyAttr, ast::Attr>;
 
-/// The token trees and tokens in a token tree, in order: without its first child, whatever that is, closing delimiters, white
+/// The token trees and tokens in a token tree, in order, without its first child, whatever it is, closing delimiters, white
 /// space and comments.
 pub type TokenTreeChildren = ras_node_ext::TokenTreeChildren<ast::TokenTree>;
 
@@ -50,7 +50,7 @@ impl ast::Attr {
 }
 
 impl ast::DocComment {
-    /// How many bytes the opening marker of a documentation comment has.
+    /// The length of the opening marker of a documentation comment, in bytes.
     pub const PREFIX_LEN: usize = 3;
 
     /// Inner if it has an inner comment token, otherwise outer.
@@ -81,8 +81,8 @@ impl ast::DocComment {
         self.syntax.child_text(0)
     }
 
-    /// The text of the first child without the markers, of which the closing one may be missing, or `None` if that is not a
-    /// token, has no three bytes, or a character is across their end.
+    /// The text of the first child without the markers, of which the closing one may be missing. Returns `None` if that is
+    /// not a token, is shorter than three bytes, or if byte 3 is not a character boundary.
     pub fn text(&self) -> Option<&str>
         ensures { option_map (λ s. s.now) result ≡ doc_text self.now.syntax }
     {
@@ -111,7 +111,7 @@ pub enum CfgAtomKey {
 }
 
 impl ast::CfgAtom {
-    /// The first that there is of `true`, `false` and a name.
+    /// The first of these that it has: `true`, `false`, a name.
     pub fn key(&self) -> Option<CfgAtomKey>
         ensures { option_map atom_shape result ≡ atom_key self.now.syntax }
     {
@@ -155,7 +155,7 @@ impl ast::TokenTree {
         TokenTreesAndTokens::new(&self.syntax)
     }
 
-    /// The meta that it is in: the parent, if that is one.
+    /// The meta that it is in: the parent, if that is a meta.
     pub fn parent_meta(&self) -> Option<ast::Meta>
         ensures { IsViewOf ⟦<ast::Meta as AstNode>⟧ (view_in ⟦<ast::Meta as AstNode>⟧.casts (parent_of self.now.syntax)) result }
     {

@@ -41,7 +41,7 @@ impl Iterator for Statements {
 }
 
 impl ast::BlockExpr {
-    /// The statements of its list, in order; none if it has no list.
+    /// The statements of its list, in order; the result is empty if it has no list.
     pub fn statements(&self) -> Statements
         ensures { result ≡ typed_children_in ⟦<ast::StmtList as AstNode>⟧.casts ⟦<ast::Stmt as AstNode>⟧.casts self.now.syntax }
     {

@@ -1,4 +1,4 @@
-//! Items and what is in them.
+//! Items and their parts.
 ghost use Rattle.std.specs.Prelude.{◌≡◌, option_map, is_some, ◌||◌, not};
 ghost use Rattle.std.specs.Option.{option_and_then};
 ghost use Rattle.ras_node.specs.Lookups.{IsViewOf, IsFirstChild, grandparent_of, view_in};
@@ -12,7 +12,7 @@ use crate::ast::{self, AnyHasGenericParams, AstNode, AstToken, support};
 use lossless_tree::{SyntaxKind, SyntaxNode};
 
 impl ast::MacroDef {
-    /// Of two token trees the first, or `None` if there is one alone or none.
+    /// The first of two token trees, or `None` if there are fewer than two.
     pub fn args(&self) -> Option<ast::TokenTree>
         ensures { IsViewOf ⟦<ast::TokenTree as AstNode>⟧ (macro_args ⟦<ast::TokenTree as AstNode>⟧.casts self.now.syntax) result }
     {
@@ -62,7 +62,7 @@ impl ast::Impl {
 }
 
 impl ast::Item {
-    /// The list of generic parameters, of the items that may have one.
+    /// The list of generic parameters of an item, if it has one.
     pub fn generic_param_list(&self) -> Option<ast::GenericParamList>
         ensures { IsViewOf ⟦<ast::GenericParamList as AstNode>⟧ (generic_params_of ⟦<AnyHasGenericParams as AstNode>⟧.casts ⟦<ast::GenericParamList as AstNode>⟧.casts (item_node self.now)) result }
     {
@@ -90,11 +90,11 @@ pub enum StructKind {
     Record(ast::RecordFieldList),
     /// `(T)`
     Tuple(ast::TupleFieldList),
-    /// None.
+    /// No fields.
     Unit,
 }
 
-// The list of named fields, or else of numbered ones, or none.
+// The list of named fields, or else of numbered ones, or no fields.
 fn struct_kind(node: &SyntaxNode) -> StructKind
     ensures { struct_shape result ≡ struct_kind ⟦<ast::RecordFieldList as AstNode>⟧.casts ⟦<ast::TupleFieldList as AstNode>⟧.casts node.now }
 {
@@ -108,7 +108,7 @@ fn struct_kind(node: &SyntaxNode) -> StructKind
 }
 
 impl ast::Struct {
-    /// Its fields: named ones, otherwise numbered ones, or none.
+    /// Its fields: named ones, otherwise numbered ones, or no fields.
     pub fn kind(&self) -> StructKind
         ensures { struct_shape result ≡ struct_kind ⟦<ast::RecordFieldList as AstNode>⟧.casts ⟦<ast::TupleFieldList as AstNode>⟧.casts self.now.syntax }
     {
@@ -117,7 +117,7 @@ impl ast::Struct {
 }
 
 impl ast::Union {
-    /// Its fields: named ones, otherwise numbered ones, or none.
+    /// Its fields: named ones, otherwise numbered ones, or no fields.
     pub fn kind(&self) -> StructKind
         ensures { struct_shape result ≡ struct_kind ⟦<ast::RecordFieldList as AstNode>⟧.casts ⟦<ast::TupleFieldList as AstNode>⟧.casts self.now.syntax }
     {
@@ -126,7 +126,7 @@ impl ast::Union {
 }
 
 impl ast::Variant {
-    /// Its fields: named ones, otherwise numbered ones, or none.
+    /// Its fields: named ones, otherwise numbered ones, or no fields.
     pub fn kind(&self) -> StructKind
         ensures { struct_shape result ≡ struct_kind ⟦<ast::RecordFieldList as AstNode>⟧.casts ⟦<ast::TupleFieldList as AstNode>⟧.casts self.now.syntax }
     {
@@ -171,7 +171,7 @@ pub enum SelfParamKind {
 }
 
 impl ast::SelfParam {
-    /// Without `&` owned; with `mut` a mutable borrow, otherwise a shared one.
+    /// Owned if there is no `&`; otherwise a mutable borrow if there is a `mut`, or else a shared one.
     pub fn kind(&self) -> SelfParamKind
         ensures { result ≡ self_param_kind self.now.syntax }
     {
@@ -187,7 +187,7 @@ impl ast::SelfParam {
     }
 }
 
-/// How far something may be seen.
+/// The scope of a visibility.
 #[derive(Clone, Drop)]
 pub enum VisibilityKind {
     /// `pub(in a::b)`, and any path that is not one of the words below.
@@ -202,7 +202,7 @@ pub enum VisibilityKind {
     Pub,
 }
 
-// By the words in the one segment of the path.
+// The scope by the words in a path of one segment.
 fn seen_by_words(segment: &ast::PathSegment, path: ast::Path) -> VisibilityKind
     ensures { visibility_shape result ≡ seen_by_words ⟦<ast::NameRef as AstNode>⟧.casts segment.now.syntax (in_path path.syntax) }
 {
@@ -231,7 +231,7 @@ fn seen_in_path(path: ast::Path) -> VisibilityKind
 }
 
 impl ast::VisibilityInner {
-    /// `crate`, `super` or `self` where the path is that one segment without `::`; any other path; all, if there is no path.
+    /// `crate`, `super` or `self` if the path is that one segment without `::`; any other path; public if there is no path.
     pub fn kind(&self) -> VisibilityKind
         ensures { visibility_shape result ≡ inner_visibility ⟦<ast::Path as AstNode>⟧.casts ⟦<ast::PathSegment as AstNode>⟧.casts ⟦<ast::NameRef as AstNode>⟧.casts self.now.syntax }
     {
@@ -243,7 +243,7 @@ impl ast::VisibilityInner {
 }
 
 impl ast::Visibility {
-    /// What its part in parentheses says; all, if it has none.
+    /// The scope by its part in parentheses; public if it has none.
     pub fn kind(&self) -> VisibilityKind
         ensures { visibility_shape result ≡ visibility_kind ⟦<ast::VisibilityInner as AstNode>⟧.casts ⟦<ast::Path as AstNode>⟧.casts ⟦<ast::PathSegment as AstNode>⟧.casts ⟦<ast::NameRef as AstNode>⟧.casts self.now.syntax }
     {

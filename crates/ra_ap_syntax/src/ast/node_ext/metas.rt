@@ -1,4 +1,4 @@
-//! What attributes say.
+//! Attributes and their metas.
 ghost use Rattle.std.specs.Prelude.{◌≡◌, ℕ, List, Option, Some, None, [], map, option_map, drop, string_bytes, IfOk};
 ghost use Rattle.std.specs.List.{find};
 ghost use Rattle.std.specs.Option.{option_and_then, option_map_or};
@@ -13,7 +13,7 @@ use crate::ast::{self, AstNode, Meta, support};
 use lossless_tree::{SyntaxKind, SyntaxNode};
 use std::alloc::{AllocError, Global};
 
-// The text of the one name of a path.
+// The text of a path that is only one name.
 fn atom_of(alloc: Global, path: Option<ast::Path>) -> Result<Option<String>, AllocError>
     ensures { IfOk result (λ atom. option_map (λ t. string_bytes t) atom ≡ option_and_then (atom_of ⟦<ast::Path as AstNode>⟧.casts ⟦<ast::PathSegment as AstNode>⟧.casts ⟦<ast::NameRef as AstNode>⟧.casts) (option_map (λ it. it.syntax) path)) }
 {
@@ -35,7 +35,7 @@ fn with_tree(name: Option<String>, tree: ast::TokenTree) -> Option<(String, ast:
     }
 }
 
-// The one name of a meta, with its arguments.
+// The name of a meta that is one name with arguments, and the arguments.
 fn call_in(
     alloc: Global,
     meta: &SyntaxNode,
@@ -48,14 +48,14 @@ fn call_in(
 }
 
 impl Meta {
-    /// Its path, of an `unsafe(..)` that of the meta in it; `None` of a `cfg` and a `cfg_attr`.
+    /// Its path, or the path of the meta inside an `unsafe(..)`; `None` for a `cfg` and a `cfg_attr`.
     pub fn path(&self) -> Option<ast::Path>
         ensures { IsMetaPath ⟦<ast::Meta as AstNode>⟧.casts ⟦<ast::Path as AstNode>⟧.casts (meta_node self.now) (option_map (λ it. it.syntax) result) }
     {
         ras_node_ext::meta_path::<Meta, ast::Path>(support::copy(self))
     }
 
-    /// The path of a meta that is a path alone, as `a::b`; `None` of others.
+    /// The path of a meta that is only a path, as `a::b`; `None` for others.
     pub fn as_simple_path(&self) -> Option<ast::Path>
         ensures { IsViewOf ⟦<ast::Path as AstNode>⟧ (simple_path ⟦<ast::Path as AstNode>⟧.casts (meta_node self.now)) result }
     {
@@ -65,14 +65,14 @@ impl Meta {
         support::child(self.syntax())
     }
 
-    /// The text of a meta that is one name, as `a`; `None` of others. It takes memory for the text.
+    /// The text of a meta that is one name, as `a`; `None` for others. Takes memory for the text.
     pub fn as_simple_atom(&self, alloc: Global) -> Result<Option<String>, AllocError>
         ensures { IfOk result (λ atom. option_map (λ t. string_bytes t) atom ≡ simple_atom ⟦<ast::Path as AstNode>⟧.casts ⟦<ast::PathSegment as AstNode>⟧.casts ⟦<ast::NameRef as AstNode>⟧.casts (meta_node self.now)) }
     {
         atom_of(alloc, self.as_simple_path())
     }
 
-    /// The name and the arguments of a meta that is one name with arguments, as `a(..)`; `None` of others. It takes memory
+    /// The name and the arguments of a meta that is one name with arguments, as `a(..)`; `None` for others. Takes memory
     /// for the name.
     pub fn as_simple_call(
         &self,
@@ -89,8 +89,8 @@ impl Meta {
         call_in(alloc, self.syntax(), tree)
     }
 
-    /// The word by which it is known: `cfg`, `cfg_attr`, and of others the first token of their path, where this is one
-    /// segment. It takes memory for the word.
+    /// The name of the attribute: `cfg`, `cfg_attr`, or for others the first token of their path, if that has only one
+    /// segment. Takes memory for the name.
     pub fn simple_name(&self, alloc: Global) -> Result<Option<String>, AllocError>
         ensures { IfOk result (λ name. IsMetaName ⟦<ast::Meta as AstNode>⟧.casts ⟦<ast::Path as AstNode>⟧.casts ⟦<ast::PathSegment as AstNode>⟧.casts (meta_node self.now) (option_map (λ t. string_bytes t) name)) }
     {
@@ -124,14 +124,14 @@ impl ast::Attr {
         self.meta()?.path()
     }
 
-    /// The path of its meta, if that is a path alone.
+    /// The path of its meta, if that is only a path.
     pub fn as_simple_path(&self) -> Option<ast::Path>
         ensures { IsViewOf ⟦<ast::Path as AstNode>⟧ (option_and_then (simple_path ⟦<ast::Path as AstNode>⟧.casts) (typed_child ⟦<ast::Meta as AstNode>⟧.casts self.now.syntax)) result }
     {
         self.meta()?.as_simple_path()
     }
 
-    /// The text of its meta, if that is one name. It takes memory for the text.
+    /// The text of its meta, if that is one name. Takes memory for the text.
     pub fn as_simple_atom(&self, alloc: Global) -> Result<Option<String>, AllocError>
         ensures { IfOk result (λ atom. option_map (λ t. string_bytes t) atom ≡ option_and_then (simple_atom ⟦<ast::Path as AstNode>⟧.casts ⟦<ast::PathSegment as AstNode>⟧.casts ⟦<ast::NameRef as AstNode>⟧.casts) (typed_child ⟦<ast::Meta as AstNode>⟧.casts self.now.syntax)) }
     {
@@ -141,7 +141,7 @@ impl ast::Attr {
         }
     }
 
-    /// The name and the arguments of its meta, if that is one name with arguments. It takes memory for the name.
+    /// The name and the arguments of its meta, if that is one name with arguments. Takes memory for the name.
     pub fn as_simple_call(
         &self,
         alloc: Global,
@@ -154,7 +154,7 @@ impl ast::Attr {
         }
     }
 
-    /// The word by which its meta is known. It takes memory for the word.
+    /// The name of its meta, as returned by `Meta`. Takes memory for the name.
     pub fn simple_name(&self, alloc: Global) -> Result<Option<String>, AllocError>
         ensures meta { (meta : Cursor) → typed_child ⟦<ast::Meta as AstNode>⟧.casts self.now.syntax ≡ Some meta → IfOk result (λ name. IsMetaName ⟦<ast::Meta as AstNode>⟧.casts ⟦<ast::Path as AstNode>⟧.casts ⟦<ast::PathSegment as AstNode>⟧.casts meta (option_map (λ t. string_bytes t) name)) }
         ensures none { typed_child ⟦<ast::Meta as AstNode>⟧.casts self.now.syntax ≡ None → IfOk result (λ name. name ≡ None) }
@@ -165,9 +165,10 @@ impl ast::Attr {
         }
     }
 
-    /// Its meta, or, of a `cfg_attr`, the metas in it, as `Meta::skip_cfg_attrs` has them; none without a meta.
+    /// Its meta, as a list; for a `cfg_attr` the metas in it, as in `Meta::skip_cfg_attrs`. The list is empty without a
+    /// meta.
     ///
-    /// It takes memory for the answer, and time linear in the nodes and tokens of the meta.
+    /// Takes memory for the result, and time linear in the nodes and tokens of the meta.
     pub fn skip_cfg_attrs(&self, alloc: Global) -> Result<Vec<Meta>, AllocError>
         ensures { IfOk result (λ metas. map meta_node metas.items ≡ option_map_or (opened ⟦<ast::Meta as AstNode>⟧.casts) (typed_child ⟦<ast::Meta as AstNode>⟧.casts self.now.syntax) []) }
     {

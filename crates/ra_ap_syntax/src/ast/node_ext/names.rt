@@ -28,7 +28,7 @@ impl ast::NameRef {
         self.syntax.child_text(0)
     }
 
-    /// The number that the text is, where it names a field of a tuple, as std reads a `usize`; `None` of other texts.
+    /// The text as the number of a tuple's field, as std parses a `usize`; `None` for other texts.
     pub fn as_tuple_field(&self) -> Option<usize>
         ensures text { (name : List ℕ) → child_text (focus self.now.syntax) 0 ≡ Some name → IsTupleField name result }
         ensures none { child_text (focus self.now.syntax) 0 ≡ None → result ≡ None }

@@ -18,8 +18,8 @@ pub type Segments = ras_node_ext::Segments<ast::Path, ast::PathSegment>;
 pub type Qualifiers = ras_node_ext::Qualifiers<ast::Path>;
 
 impl ast::Path {
-    /// The segments, from that of the deepest qualifier outwards, through the paths around that lie in this one's range: to its own.
-    /// A path without a segment ends them.
+    /// The segments, from that of the deepest qualifier outwards to its own, through the paths that are within this one's
+    /// range. They end at a path without a segment.
     pub fn segments(&self) -> Segments
         ensures { AreSegments ⟦<ast::Path as AstNode>⟧.casts ⟦<ast::PathSegment as AstNode>⟧.casts self.now.syntax result }
     {
@@ -33,8 +33,8 @@ impl ast::Path {
         Qualifiers::new(self)
     }
 
-    /// The end of the chain of qualifiers: `a` of `a::b::c`. `None` where the path has no qualifier. Takes time linear in their
-    /// number.
+    /// The end of the chain of qualifiers: `a` of `a::b::c`. Returns `None` if the path has no qualifier. Takes time linear
+    /// in their number.
     pub fn first_qualifier(&self) -> Option<ast::Path>
         ensures { IsQualifierEnd ⟦<ast::Path as AstNode>⟧.casts self.now.syntax (option_map (λ it. it.syntax) result) }
     {
@@ -88,7 +88,7 @@ impl ast::Path {
     }
 }
 
-/// What a segment of a path is.
+/// The kind of a segment of a path.
 #[derive(Clone, PartialEq, Eq, Drop)]
 pub enum PathSegmentKind {
     /// A name, with or without generic arguments.
@@ -108,7 +108,7 @@ pub enum PathSegmentKind {
     CrateKw,
 }
 
-// What a segment with a name is, by the name's first token.
+// The kind of a segment with a name, by the name's first token.
 fn name_by_kind(name: ast::NameRef) -> PathSegmentKind
     ensures { segment_shape result ≡ name_by_kind (first_token_kind name.syntax) name.syntax }
 {
@@ -132,7 +132,8 @@ fn anchored(anchor: &SyntaxNode) -> PathSegmentKind
 }
 
 impl ast::PathSegment {
-    /// What it is, by the first token of its name; without a name by its anchor `<T as U>`. `None` if it has neither.
+    /// The kind of segment, by the first token of its name; without a name, by its anchor `<T as U>`. `None` if it has
+    /// neither.
     pub fn kind(&self) -> Option<PathSegmentKind>
         ensures { option_map segment_shape result ≡ segment_kind ⟦<ast::NameRef as AstNode>⟧.casts ⟦<ast::TypeAnchor as AstNode>⟧.casts ⟦<ast::Type as AstNode>⟧.casts ⟦<ast::PathType as AstNode>⟧.casts self.now.syntax }
     {

@@ -45,7 +45,7 @@ impl ast::SlicePat {
 }
 
 impl ast::IdentPat {
-    /// Whether it is a name alone: it has no `@`, `mut`, `ref` and no pattern after an `@`.
+    /// Whether it is only a name: it has no `@`, `mut` or `ref`, and no pattern after an `@`.
     pub fn is_simple_ident(&self) -> bool
         ensures { result ≡ is_simple_ident ⟦<ast::Pat as AstNode>⟧.casts self.now.syntax }
     {
@@ -59,7 +59,7 @@ impl ast::IdentPat {
     }
 }
 
-// No child can be viewed as an `N`.
+// Whether no child can be viewed as an `N`.
 fn has_no_pattern<N: AstNode + Drop>(parent: &SyntaxNode) -> bool
     ensures { result ≡ not (is_some (typed_child N.casts parent.now)) }
 {
@@ -69,7 +69,7 @@ fn has_no_pattern<N: AstNode + Drop>(parent: &SyntaxNode) -> bool
     }
 }
 
-// The name that the pattern in a `box` pattern is, where it is a name.
+// The name in a `box` pattern whose pattern is a name.
 fn bound_in_box<N: AstNode + Drop>(boxed: &SyntaxNode) -> Option<ast::Name>
     ensures { IsViewOf ⟦<ast::Name as AstNode>⟧ (bound_in_box ⟦<ast::Name as AstNode>⟧.casts N.casts boxed.now) result }
 {

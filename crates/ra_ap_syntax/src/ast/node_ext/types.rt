@@ -10,12 +10,12 @@ ghost use Rattle.ra_ap_syntax.specs.NodeShapes.{bound_shape, bound_kind, bound_o
 use crate::ast::{self, AstChildren, AstNode, HasGenericArgs, HasTypeBounds, support};
 use lossless_tree::SyntaxNode;
 
-/// What a bound asks for.
+/// The form of a bound.
 #[derive(Clone, PartialEq, Eq, Hash, Drop)]
 pub enum TypeBoundKind {
     /// A trait: `Trait`, `for<'a> Trait`.
     PathType(Option<ast::ForBinder>, ast::PathType),
-    /// What is captured: `use<'a, T>`.
+    /// Captured parameters: `use<'a, T>`.
     Use(ast::UseBoundGenericArgs),
     /// A lifetime: `'a`.
     Lifetime(ast::Lifetime),
@@ -29,7 +29,7 @@ fn bound_of_for(for_type: &ast::ForType) -> Option<TypeBoundKind>
     Some(TypeBoundKind::PathType(for_type.for_binder(), path))
 }
 
-// What a bound without a path is.
+// The form of a bound without a path.
 fn bound_without_path(bound: &ast::TypeBound) -> Option<TypeBoundKind>
     ensures { option_map bound_shape result ≡ bound_without_path ⟦<ast::UseBoundGenericArgs as AstNode>⟧.casts ⟦<ast::Lifetime as AstNode>⟧.casts bound.now.syntax }
 {
@@ -68,8 +68,8 @@ impl ast::Type {
         path.segment()?.generic_arg_list()
     }
 
-    /// Whether the type needs angle brackets where it begins a path, as in `<[T]>::len`: it is no path type, or it has generic
-    /// arguments.
+    /// Whether the type needs angle brackets where it begins a path, as in `<[T]>::len`: it is not a path type, or it has
+    /// generic arguments.
     pub fn needs_angles_in_path(&self) -> bool
         ensures { result ≡ (not (⟦<ast::PathType as AstNode>⟧.casts (kind_at (ty_node self.now))) || is_some (generic_args_of ⟦<ast::PathType as AstNode>⟧.casts ⟦<ast::Path as AstNode>⟧.casts ⟦<ast::PathSegment as AstNode>⟧.casts ⟦<ast::GenericArgList as AstNode>⟧.casts (ty_node self.now))) }
     {

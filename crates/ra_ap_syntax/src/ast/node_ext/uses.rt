@@ -20,7 +20,7 @@ use ras_node::sets::CommaTokens;
 /// The commas in a list, in order.
 pub type Commas = TokenChildren<CommaTokens>;
 
-// It has a `*`, and no list.
+// Whether a use tree has a `*`, and no list.
 fn is_glob(tree: &ast::UseTree) -> bool
     ensures { result ≡ is_glob ⟦<ast::UseTreeList as AstNode>⟧.casts tree.now.syntax }
 {
@@ -61,7 +61,7 @@ impl ast::UseTree {
         ras_node_ext::top_use_tree::<ast::UseTreeList, ast::UseTree>(support::copy(self))
     }
 
-    /// The list that it is in: the parent, if that is one.
+    /// The list that it is in: the parent, if that is a list.
     pub fn parent_use_tree_list(&self) -> Option<ast::UseTreeList>
         ensures { IsViewOf ⟦<ast::UseTreeList as AstNode>⟧ (view_in ⟦<ast::UseTreeList as AstNode>⟧.casts (parent_of self.now.syntax)) result }
     {
@@ -70,7 +70,7 @@ impl ast::UseTree {
 }
 
 impl ast::UseTreeList {
-    /// The tree that it is the list of: the parent, if that is one.
+    /// The use tree of the list: the parent, if that is a use tree.
     pub fn parent_use_tree(&self) -> Option<ast::UseTree>
         ensures { IsViewOf ⟦<ast::UseTree as AstNode>⟧ (view_in ⟦<ast::UseTree as AstNode>⟧.casts (parent_of self.now.syntax)) result }
     {

@@ -1,5 +1,5 @@
 //! The lookups that several types share. Made by `tests/views` from `views.txt`.
-//! A call takes time in the children that it passes, and no memory.
+//! Each call takes time linear in the number of children that it passes, and no memory.
 ghost use Rattle.std.specs.Prelude.{◌≡◌};
 ghost use Rattle.ras_node.specs.Lookups.{IsFirstChild};
 ghost use Rattle.ras_node.specs.Nodes.{token_child, typed_children};

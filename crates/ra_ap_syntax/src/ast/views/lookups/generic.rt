@@ -1,5 +1,6 @@
 //! Lookups in generic parameters and arguments, bounds and where clauses. Made by `tests/views` from `views.txt`.
-//! A call takes time in the children that it passes, and no memory. The names are those of rust-analyzer.
+//! Each call takes time linear in the number of children that it passes, and no memory.
+//! The names are those of rust-analyzer.
 ghost use Rattle.std.specs.Prelude.{◌≡◌};
 ghost use Rattle.ras_node.specs.Lookups.{IsFirstChild};
 ghost use Rattle.ras_node.specs.Nodes.{typed_children};
