@@ -24,7 +24,7 @@ escaped c =
     else (if nat_lt c 32 || (c == 127) then codes "\\u{" ++ digits 16 false c ++ codes "}"
     else encode_utf8 c))))))
 
--- a character that stands for itself between the quotes
+-- a character that needs no escape between the quotes
 abbrev pub is_plain : ℕ → Bool
 is_plain c = nat_le 32 c && not (c == 34) && not (c == 92) && not (c == 127)
 

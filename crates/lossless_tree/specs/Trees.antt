@@ -34,7 +34,7 @@ behind_first s = record { trees = rest_of s.trees; start = s.start + length (tex
 abbrev pub inside_first : Siblings → Siblings
 inside_first s = record { trees = forest_of_children (first_of s.trees); start = s.start }
 
--- what is left from the first tree on that is no trivia
+-- the siblings left, from the first on that is not trivia
 abbrev pub past_trivia : Forest → ℕ → Siblings
 past_trivia nil b = record { trees = nil; start = b }
 past_trivia (cons t r) b = if is_trivia_token t then past_trivia r (b + length (text t)) else record { trees = cons t r; start = b }

@@ -60,7 +60,7 @@ fn is_all_plain(text: &str) -> bool
     text.chars().all(|c| is_plain(c))
 }
 
-// Whether a character stands for itself between quotes.
+// Whether a character needs no escape between quotes.
 fn is_plain(c: char) -> bool
     ensures { result ≡ is_plain c }
 {

@@ -46,7 +46,7 @@ pub use views::traits::{
 };
 pub use views::ty::Type;
 pub use views::type_or_const_param::TypeOrConstParam;
-// Of so many names the formatter would write one a line.
+// The formatter would write this many names one per line.
 #[rattlefmt::skip]
 pub use node_ext::{
     AttrsIter, AttrsWithDoc, CfgAtomKey, Commas, LifetimeArgs, LifetimeBounds, LifetimeParams,
@@ -54,7 +54,7 @@ pub use node_ext::{
     StructKind, TokenTreeChildren, TokenTreesAndTokens, TypeBoundKind, TypeOrConstParams,
     VisibilityKind,
 };
-// Of so many names the formatter would write one a line.
+// The formatter would write this many names one per line.
 #[rattlefmt::skip]
 pub use views::kinds::{
     Abi, ArgList, ArrayExpr, ArrayType, AsmExpr, AssocItemList, AssocTypeArg, Attr, AwaitExpr,

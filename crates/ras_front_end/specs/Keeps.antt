@@ -12,7 +12,7 @@ use Rattle.ras_front_end.specs.declared.edition.Entry.TheVariants.{SourceFile, E
 use Rattle.ras_front_end.specs.Fault.{LiesIn}
 use Rattle.ras_front_end.specs.Reading.{Reading, events_from, Cuts, stored_faults}
 
--- the steps cut the whole text and build one tree, whose root has such a kind; the errors lie in the text
+-- the steps cut the whole text and build one tree, whose root has such a kind; the errors are within the text
 pub record Keeps (is_root : SyntaxKind → Type 0) (input : List ℕ) (r : Reading) : Type 0 where
   pub tree : Tree
   pub cuts : Cuts r.steps input

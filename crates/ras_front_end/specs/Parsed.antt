@@ -21,6 +21,6 @@ pub record IsParseOf (input : List ℕ) (r : Reading) (p : Parsed) : Type 0 wher
   pub text_is : text p.tree ≡ input
   pub errors_are : p.errors ≡ stored_faults r
 
--- the stored errors lie in the text
+-- the ranges of the stored errors are within the text
 abbrev pub ErrorsLieIn : Parsed → Type 0
 ErrorsLieIn p = All (LiesIn (length (text p.tree))) p.errors

@@ -13,7 +13,7 @@ use syntax_kind::SyntaxKind;
 /// An implementation proves the law `kept`: for a text of at most 4,294,967,295 bytes the steps build one tree over the whole
 /// text, whose root is of the entry's kind, and the errors are in the text; the same holds for a piece that is parsed again.
 pub trait FrontEnd {
-    // The answers, as functions of the arguments.
+    // The results, as functions of the arguments.
     ghost answers: { Self → Front };
 
     /// The kinds of the text's tokens, in order.

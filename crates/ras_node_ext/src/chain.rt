@@ -55,8 +55,7 @@ fn tree_of<L: AstNode, T: AstNode>(list: &SyntaxNode, tree: Option<SyntaxNode>) 
     support::view(tree)
 }
 
-/// The outermost of the use trees around a use tree, going up by lists while there are such; the tree itself if it is in no
-/// list of a tree.
+/// The outermost use tree around a use tree, through lists of use trees; the tree itself if it is not in such a list.
 pub fn top_use_tree<L: AstNode, T: AstNode + Drop>(tree: T) -> T
     ensures { T.node result ≡ top_tree_from L.casts T.casts (T.node tree) (drop 1 (ancestors_of (T.node tree))) }
 {

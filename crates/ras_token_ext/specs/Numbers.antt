@@ -29,7 +29,7 @@ abbrev pub prefix_len : Radix → ℕ
 prefix_len Decimal = 0
 prefix_len _ = 2
 
--- the suffix begins at the first ASCII letter after the prefix, in hexadecimal at the first that is no digit
+-- the suffix begins at the first ASCII letter after the prefix, in hexadecimal at the first one that is not a digit
 abbrev pub is_letter_past_f : ℕ → Bool
 is_letter_past_f b = (nat_le 103 b && nat_le b 122) || (nat_le 71 b && nat_le b 90)
 

@@ -176,7 +176,7 @@ pub fn float_suffix(text: &str) -> Option<&str>
 pub enum IntError {
     /// It has no digit: nothing but underscores between the prefix and the suffix.
     Empty,
-    /// It has a character that is no digit of its radix.
+    /// It has a character that is not a digit of its radix.
     InvalidDigit,
     /// It is 2 to the power of 128 or more.
     TooLarge,

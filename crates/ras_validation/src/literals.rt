@@ -23,7 +23,7 @@ pub struct LiteralForm {
     pub quote: u8,
 }
 
-// The form of a token by its kind and text; `None` for a token that is no such literal, and for a raw string.
+// The form of a token by its kind and text; `None` for a token that is not such a literal, and for a raw string.
 fn form(kind: SyntaxKind, text: &str) -> Option<LiteralForm>
     ensures { result ≡ form_of kind text.now }
 {

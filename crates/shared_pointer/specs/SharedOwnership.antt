@@ -105,7 +105,7 @@ module _ (count : ℕ → Fml) (contents : Fml) where
 
 -- `tag` is the code of the place and the value, and `view` is what a `&` to the value holds
 module _ (count : ℕ → Fml) (contents : Fml) (tag : Gv) (view : Lft → Fml) where
-  -- what every owner sees: which value the name tells, and the value
+  -- the fact that every owner has: which value the name is for, and the value
   abbrev pub shown : Marks → Lft → Fml
   shown a = beside (λ _. fres a.name tag) view
 

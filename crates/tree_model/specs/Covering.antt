@@ -11,7 +11,7 @@ abbrev pub child_ranges : Forest → ℕ → List Bounds
 child_ranges nil b = []
 child_ranges (cons t f) b = record { start = b; end = b + length (text t) } ∷ child_ranges f (b + length (text t))
 
--- a range that is not empty lies within a child's range; an empty one lies strictly inside it
+-- a range that is not empty is within a child's range; an empty one is strictly inside it
 abbrev pub holds : Bounds → Bounds → Bool
 holds asked child =
     if nat_lt asked.start asked.end
@@ -54,8 +54,8 @@ covering_place asked (node k c) b = below (child_towards asked (child_ranges c b
 abbrev pub covering_of : Cursor → Bounds → Cursor
 covering_of c asked = at_place c (c.place ++ covering_place asked (focus c) (range_start c))
 
--- what covers a range is a place of the tree, and where the range lies in that of the cursor from which it was sought, it
--- lies in the range of what covers it and of each node above that
+-- the element that covers a range is a place of the tree; if the range of the cursor that the search starts from contains
+-- the range, so do the ranges of that element and of each node above it
 abbrev pub CoveringHolds : Type 0
 CoveringHolds =
     (c : Cursor) (asked : Bounds) → IsPlace c.tree c.place → asked.start ≤ asked.end

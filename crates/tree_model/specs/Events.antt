@@ -85,7 +85,7 @@ balance_refusal (Some zero) es = root_refusal (forest_of es)
 abbrev pub first_refusal : List Event → Option FinishError
 first_refusal es = if nat_lt (text_len es) (2 ^ 32) then balance_refusal (open_after 0 es) es else Some TooLong
 
--- the refusal that an error names; out of memory is not one of them
+-- the error itself, or None for out of memory
 abbrev pub refusal_of : FinishError → Option FinishError
 refusal_of TooLong = Some TooLong
 refusal_of OverClosed = Some OverClosed

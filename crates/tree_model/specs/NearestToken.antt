@@ -19,6 +19,6 @@ abbrev pub is_trivia_token : Tree → Bool
 is_trivia_token (node k c) = false
 is_trivia_token (token k t) = is_trivia k
 
--- the node or token at a cursor is no trivia
+-- the node or token at a cursor is not trivia
 abbrev pub is_no_trivia : Cursor → Bool
 is_no_trivia c = not (is_trivia_token (focus c))

@@ -9,7 +9,7 @@ abbrev pub is_token_with_text : Tree → Bool
 is_token_with_text (node k c) = false
 is_token_with_text (token k t) = nat_lt 0 (length t)
 
--- the offset lies in the cursor's range, whose ends count as in it
+-- the cursor's range contains the offset, both ends included
 abbrev pub touches : ℕ → Cursor → Bool
 touches offset c = nat_le (range_start c) offset && nat_le offset (range_end c)
 

@@ -5,7 +5,7 @@ use Rattle.tree_rows.specs.Rows.{Columns}
 use Rattle.std.specs.Cmp.Lexicographic.{pointwise}
 use Rattle.syntax_kind.specs.Kinds.{is_same_kind}
 
--- the same answer
+-- the same truth value
 abbrev pub is_same_bool : Bool → Bool → Bool
 is_same_bool true b = b
 is_same_bool false true = false

@@ -35,7 +35,7 @@ OpenAt tree start next None = (next ≡ start) ⊎ (next ≡ start + size (tree_
 OpenAt tree start next (Some o) =
     (start ≤ o) × (o < next) × (next ≤ o + size (tree_at tree o)) × ((k : ℕ) → o < k → k < next → (row_at tree k).end ≤ next)
 
--- a step that enters a row opens it, so many levels below the start as were open before; one that leaves a row closes it
+-- a step that enters a row opens it, at the depth of the rows that were open before; a step that leaves a row closes it
 abbrev pub MovesLevel : Tree → ℕ → Option ℕ → Bool → ℕ → Option ℕ → Type 0
 MovesLevel tree start o enters row after =
     (enters ≡ true → (open_count tree start after ≡ open_count tree start o + 1) × (level_below (cursor_at tree start) (cursor_at tree row) ≡ open_count tree start o))

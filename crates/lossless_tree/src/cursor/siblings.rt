@@ -67,7 +67,7 @@ impl Iterator for SyntaxElementSiblings {
     }
 }
 
-// The first that is no trivia: no token of white space or a comment.
+// The first sibling that is not trivia (white space or a comment).
 pub(crate) fn first_no_trivia(elements: SyntaxElementSiblings) -> Option<SyntaxElement>
     ensures { result ≡ option_map element_of (find is_no_trivia elements) }
 {

@@ -4,7 +4,7 @@ ghost use Rattle.syntax_kind.specs.Kinds.{kind_raw};
 
 use crate::{SyntaxKind, raw};
 
-/// A type that stands for a number.
+/// A type that represents a number.
 pub trait Numbered {
     /// The number.
     ghost number: { ℕ };

@@ -156,7 +156,7 @@ pub(super) fn same_kind(kind: SyntaxKind, other: SyntaxKind) -> bool
     kind.to_raw() == other.to_raw()
 }
 
-// Whether a range that is not empty lies in another, or an empty one strictly inside it.
+// Whether a range that is not empty is within another, or an empty one is strictly inside it.
 fn holds(asked: TextRange, range: TextRange) -> bool
     ensures { result ≡ holds asked range }
 {

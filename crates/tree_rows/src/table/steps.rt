@@ -146,7 +146,7 @@ impl Table {
         self.last_token_row(0, n)
     }
 
-    // Whether the node or token at row `n` is a token that is no trivia. It reads the row once.
+    // Whether the node or token at row `n` is a token that is not trivia. It reads the row once.
     fn is_no_trivia_token_at(&self, n: usize) -> bool
         requires { n < size self.now }
         ensures { result ≡ (at_token (cursor_at self.now n) && is_no_trivia (cursor_at self.now n)) }
@@ -155,7 +155,7 @@ impl Table {
         row.is_token && !row.kind.is_trivia()
     }
 
-    // The first token among the rows `from..to` that is no trivia.
+    // The first token among the rows `from..to` that is not trivia.
     fn first_no_trivia_token_row(&self, from: usize, to: usize) -> Option<usize>
         requires { to ≤ size self.now }
         ensures found { option_map (cursor_at self.now) result ≡ find is_no_trivia (tokens_among self.now from to) }
@@ -170,7 +170,7 @@ impl Table {
         None
     }
 
-    // The last token among the rows `from..to` that is no trivia.
+    // The last token among the rows `from..to` that is not trivia.
     fn last_no_trivia_token_row(&self, from: usize, to: usize) -> Option<usize>
         requires { to ≤ size self.now }
         ensures found { option_map (cursor_at self.now) result ≡ find is_no_trivia (reverse (tokens_among self.now from to)) }

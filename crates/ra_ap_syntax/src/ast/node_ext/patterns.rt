@@ -14,7 +14,7 @@ use lossless_tree::{SyntaxKind, SyntaxNode, SyntaxToken};
 use std::alloc::{AllocError, Global};
 
 impl ast::OrPat {
-    /// The first child that is no white space or comment, if it is a `|`.
+    /// The first child that is not white space or a comment, if it is a `|`.
     pub fn leading_pipe(&self) -> Option<SyntaxToken>
         ensures { result ≡ leading_pipe self.now.syntax }
     {

@@ -53,8 +53,8 @@ impl ast::UseTree {
         self.star_token().is_none()
     }
 
-    /// The outermost of the use trees around it, going up by lists while there are such; this tree if it is in no list of a
-    /// tree. Takes time linear in their number.
+    /// The outermost use tree around it, through lists of use trees; this tree if it is not in such a list. Takes time
+    /// linear in the number of trees between.
     pub fn top_use_tree(&self) -> ast::UseTree
         ensures { result.syntax ≡ top_tree_from ⟦<ast::UseTreeList as AstNode>⟧.casts ⟦<ast::UseTree as AstNode>⟧.casts self.now.syntax (drop 1 (ancestors_of self.now.syntax)) }
     {
