@@ -79,8 +79,8 @@ abbrev pub StartsWithNoBlank : List ℕ → Type 0
 StartsWithNoBlank [] = Unit {0}
 StartsWithNoBlank (c ∷ cs) = is_blank c ≡ false
 
--- the row of each piece, before what follows it in the content: a fault without a character is at the end,
--- and a continuation skips each blank that there is
+-- the row of each piece, before the rest of the content: a fault without a character is at the end, and a continuation
+-- skips all blanks
 abbrev pub IsPiece : Mode → Piece → List ℕ → Type 0
 IsPiece mode (character c) rest = (c == 92) ≡ false
 IsPiece mode (letter c) rest = is_simple c ≡ true
@@ -121,7 +121,7 @@ size cs = sum_by len_utf8 cs
 abbrev pub unit_at : ℕ → List ℕ → Result MixedUnit EscapeError → List Report
 unit_at at text unit = (record { start = at; end = at + size text; unit = unit }) ∷ []
 
--- the warning where what is skipped after the first newline holds another one
+-- the warning if the text that is skipped after the first newline contains another one
 abbrev pub lines_warning : ℕ → List ℕ → List Report
 lines_warning at blanks = if list_any (λ c. c == 10) blanks then unit_at at (92 ∷ 10 ∷ blanks) (Err MultipleSkippedLinesWarning) else []
 

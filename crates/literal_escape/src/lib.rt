@@ -1,10 +1,9 @@
-//! What the text of a Rust literal means: characters, bytes, strings, byte strings and C strings.
+//! The values of Rust literals: characters, bytes, strings, byte strings and C strings.
 //!
-//! A *content* is what is between the quotes of a literal that is not raw. It is cut into
-//! pieces: a character for itself, an escape, a faulty piece, or a continuation, which is a
-//! backslash before a newline with the blanks after it. A string's continuation means nothing;
-//! each other piece is a *unit*, with a meaning or a fault. All places are byte offsets into the
-//! content. No call takes memory, and each reads the content once.
+//! A *content* is the text between the quotes of a literal that is not raw. It is cut into pieces: a plain character, an
+//! escape, a faulty piece, or a continuation, which is a backslash before a newline with the blanks after it. A
+//! continuation in a string has no value; each other piece is a *unit*, with a meaning or a fault. All positions are byte
+//! offsets into the content. No call takes memory, and each reads the content once.
 //!
 //! Source: the Rust Reference, "Tokens", its section on character and string literals.
 #![tactic(auto)]

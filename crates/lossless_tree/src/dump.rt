@@ -34,7 +34,7 @@ impl<'t> Model for Dump<'t> {
 }
 
 impl<'t> Dump<'t> {
-    // The dump of what is at a row.
+    // The dump of the node or token at a row.
     pub(crate) fn at(table: &'t Shared<Table>, row: usize) -> Self
         requires { IsRow table.now.value row }
         ensures { result ≡ cursor_at table.now.value row }

@@ -1,4 +1,4 @@
-//! Typed syntax trees of Rust: views of the nodes and tokens of `lossless_tree` by what they are.
+//! Typed syntax trees of Rust: views of the nodes and tokens of `lossless_tree`, by their kinds.
 #![tactic(auto)]
 
 pub mod ast;

@@ -88,7 +88,7 @@ abbrev pub merged : List Cursor → List Cursor → List Cursor
 merged [] right = right
 merged (c ∷ left) right = take (shorter_count c right) right ++ c ∷ merged left (drop (shorter_count c right) right)
 
--- the right one of two chains gives the next: where it is shorter, and where the left one has ended
+-- the next node is from the right one of two chains: if it is shorter, and if the left one has ended
 abbrev pub takes_right : Option Cursor → Option Cursor → Bool
 takes_right None right = true
 takes_right (Some c) None = false

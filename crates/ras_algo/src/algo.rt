@@ -60,7 +60,7 @@ impl Iterator for AncestorsAtOffset {
     }
 }
 
-// Whether the right one of two chains gives the next node: where it is shorter, and where the left chain has ended.
+// Whether the next node is from the right one of two chains: if it is shorter, and if the left chain has ended.
 fn is_right_next(left: &Option<SyntaxNode>, right: &Option<SyntaxNode>) -> bool
     ensures { result ≡ takes_right left.now right.now }
 {

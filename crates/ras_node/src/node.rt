@@ -55,7 +55,7 @@ pub trait AstNode: Sized {
     ghost castable: { (it : Self) → casts (kind_at (node it)) ≡ true };
 }
 
-/// The view of a node that stays where it is, or `None` if it is of another kind. It takes no memory.
+/// Like [`AstNode::cast`], but borrows the node: its view, or `None` if it is of another kind. It takes no memory.
 pub fn cast_ref<N: AstNode>(syntax: &SyntaxNode) -> Option<N>
     ensures exact { is_some result ≡ N.casts (kind_at syntax.now) }
     ensures same { IfSome result (λ it. N.node it ≡ syntax.now) }

@@ -27,8 +27,9 @@ fn shown(mode: Mode, unit: Result<MixedUnit, EscapeError>) -> Result<char, Escap
     }
 }
 
-/// Calls `callback` on each unit of a content, in order: where it is, in bytes from the content's start, and its character
-/// or its fault, warnings too. A byte comes as the character of its number, and each unit of a C string as `_`, without faults.
+/// Calls `callback` on each unit of a content, in order, with its range in bytes from the content's start, and its
+/// character or fault, warnings too. A byte is passed as the character with that code, and each unit of a C string as `_`,
+/// without faults.
 ///
 /// Returns the callback in the state that the last call left.
 pub fn unescape<F: FnMut(Range<usize>, Result<char, EscapeError>)>(

@@ -11,8 +11,8 @@ pub data Event : Type 0 where
   leaf : SyntaxKind → List ℕ → Event
   exit : Event
 
--- what events build, by cases: no events build no trees; a token stands for itself; what is between entering a node
--- and leaving it builds the node's children
+-- the forest that events build, by cases: no events build no trees; a token event builds a token; the events between
+-- entering a node and leaving it build the node's children
 pub data Builds : List Event → Forest → Type 0 where
   nothing : Builds [] nil
   token_then : {k : SyntaxKind} {t : List ℕ} {rest : List Event} {f : Forest} → Builds rest f → Builds (leaf k t ∷ rest) (cons (token k t) f)

@@ -5,7 +5,7 @@ use Rattle.text_size.specs.TextRange.{Bounds}
 use Rattle.tree_model.specs.Tree.{IsNode, IsPlace, kind_of, text}
 use Rattle.tree_model.specs.Cursor.{Cursor, focus, range_of, IsRoot, at_place, ancestors_of, descendants_of}
 
--- what is kept of a node
+-- a pointer: the kind and the range of a node
 pub record Pointer : Type 0 where
   pub kind : SyntaxKind
   pub range : Bounds

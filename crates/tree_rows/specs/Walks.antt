@@ -15,7 +15,7 @@ siblings_left tree n stop = if nat_lt n stop then siblings_in Next (cursor_at tr
 abbrev pub HaveParentEnd : Tree → ℕ → ℕ → Type 0
 HaveParentEnd tree n stop = n < stop → (0 < n) × (n < size tree) × ((row_at tree (parent_at tree n)).end ≡ stop)
 
--- what is left of the siblings in a direction, from the row that is next
+-- the siblings left in a direction, from the row that is next
 abbrev pub siblings_from : Direction → Tree → Option ℕ → List Cursor
 siblings_from d tree None = []
 siblings_from d tree (Some n) = siblings_in d (cursor_at tree n)
@@ -25,7 +25,7 @@ abbrev pub open_count : Tree → ℕ → Option ℕ → ℕ
 open_count tree start None = 0
 open_count tree start (Some o) = length (place_at tree o) + 1 - length (place_at tree start)
 
--- what is left of the walk from row start on, when the rows before next have been entered
+-- the steps left of the walk from row start on, when the rows before next have been entered
 abbrev pub walk_left : Tree → ℕ → ℕ → Option ℕ → List (Bool × Cursor)
 walk_left tree start next o = drop ((next - start) + (next - start) - open_count tree start o) (walk_of (cursor_at tree start))
 

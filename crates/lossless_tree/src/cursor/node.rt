@@ -161,8 +161,8 @@ impl SyntaxNode {
 }
 
 impl SyntaxNode {
-    /// The place of a node is one of its tree's, and what is there is a node. It does nothing: an upper crate calls it to
-    /// have the two facts.
+    /// A law: the place of the node is in its tree, and has a node. The function does nothing; other crates call it for
+    /// these facts.
     pub fn placed(&self)
         ensures placed { IsPlaced self.now }
         ensures node { IsNode (focus self.now) }

@@ -13,7 +13,7 @@ use shared_pointer::Shared;
 use std::marker::Model;
 use tree_rows::Table;
 
-/// What a walk does at an element: it enters it, walks what is below, and leaves it.
+/// A step of a walk, which enters an element, walks its children, and leaves it.
 #[derive(Clone, PartialEq, Eq, Hash, Drop)]
 pub enum WalkEvent<T> {
     /// Entered, before its descendants.
@@ -22,7 +22,7 @@ pub enum WalkEvent<T> {
     Leave(T),
 }
 
-/// The walk of a subtree. A clause sees what is left: cursors that are entered (true) or left (false).
+/// The walk of a subtree. A clause sees the steps that are left: cursors that are entered (true) or left (false).
 #[derive(Clone, Drop)]
 pub struct PreorderWithTokens {
     table: Shared<Table>,
@@ -80,7 +80,8 @@ impl Iterator for PreorderWithTokens {
     }
 }
 
-/// The walk of the nodes of a subtree. A clause sees what is left: cursors that are entered (true) or left (false).
+/// The walk of the nodes of a subtree. A clause sees the steps that are left: cursors that are entered (true) or left
+/// (false).
 #[derive(Clone, Drop)]
 pub struct Preorder {
     events: PreorderWithTokens,

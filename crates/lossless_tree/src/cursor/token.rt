@@ -94,8 +94,8 @@ impl SyntaxToken {
 }
 
 impl SyntaxToken {
-    /// The place of a token is one of its tree's, and what is there is a token. It does nothing: an upper crate calls it to
-    /// have the two facts.
+    /// A law: the place of the token is in its tree, and has a token. The function does nothing; other crates call it for
+    /// these facts.
     pub fn placed(&self)
         ensures placed { IsPlaced self.now }
         ensures token { IsToken (focus self.now) }

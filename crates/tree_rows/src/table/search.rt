@@ -114,7 +114,7 @@ impl Table {
         row
     }
 
-    // The row that covers an empty range in the subtree at row `n`, of which no child holds it.
+    // The row that covers an empty range in the subtree at row `n`, if the range is strictly inside no child.
     fn row_by_empty_range(&self, n: usize, range: TextRange) -> usize
         requires is_row { n < size self.now }
         requires empty { range.start ≡ range.end }
