@@ -1,4 +1,4 @@
--- Which pairs may go: as the code asks of cursors, and over terms.
+-- Which pairs may go: over cursors, as the code tests it, and over terms.
 use Rattle.std.specs.Prelude.{◌≡◌, ℕ, List, ◌∷◌, ◌++◌, Bool, true, false, not, ◌&&◌, cond, map, drop, Option, Some, None}
 use Rattle.std.specs.List.{filter, find}
 use Rattle.tree_model.specs.Cursor.{Cursor, focus, at_place, at_node, children_of, descendants_of, parent_of}
@@ -23,7 +23,7 @@ operand_cursor r t q = at_place r (r.place ++ operand_place q (focus r) t)
 abbrev pub angle_behind : Cursor → Term → List ℕ → Bool
 angle_behind r t q = begins_with_angle (tokens_behind q t ++ leaves_behind r.tree r.place)
 
--- what is asked of `own` in place of the node or token at `place`, below its own parent
+-- the test for `own` in place of the node or token at `place`, below the place's own parent
 abbrev pub asks : (own parent place : Cursor) → Bool
 asks own parent place = cond (is_arguments (form_at parent)) false (operators_ask own parent place (begins_with_angle (leaves_behind place.tree place.place)))
 
@@ -51,7 +51,7 @@ abbrev pub part_fits : Bool → Option Part → Bool
 part_fits angle (Some p) = inside_fits p.demand angle p.term
 part_fits angle None = false
 
--- a pair is at the place, and what it holds fits there, before the tokens that follow the whole
+-- a pair is at the place, and its contents fit there, before the tokens that follow the whole
 abbrev pub may_go : List Token → Term → List ℕ → Bool
 may_go following t q = part_fits (begins_with_angle (tokens_behind q t ++ following)) (operand t q)
 
@@ -81,7 +81,7 @@ AskedNowhere r t =
 abbrev pub needless_pairs : Cursor → Term → List Cursor
 needless_pairs r t = map (operand_cursor r t) (filter (may_go (leaves_behind r.tree r.place) t) (below t))
 
--- those without which the tokens read
+-- the pairs without which the tokens read as the term without the pair
 abbrev pub pairs_read_without : Cursor → Term → List Cursor
 pairs_read_without r t = map (operand_cursor r t) (filter (reads_without t) (below t))
 
@@ -89,7 +89,7 @@ pairs_read_without r t = map (operand_cursor r t) (filter (reads_without t) (bel
 abbrev pub nodes_below : Cursor → List Cursor
 nodes_below c = drop 1 (filter at_node (descendants_of c))
 
--- what `needless_parens` answers for the term that is shown, if one is
+-- the result of `needless_parens` for the term that is shown, if one is
 abbrev pub AreNeedless : Cursor → List Cursor → Term → Type 0
 AreNeedless r pairs t =
     Reads 0 (tokens t) t × (pairs ≡ needless_pairs r t)

@@ -33,8 +33,8 @@ fn kind_in(element: &SyntaxElement) -> Option<SyntaxKind>
     }
 }
 
-// What one step on, to the next sibling or the parent, tells: the kind that was looked for, where to go on from, or that nothing
-// is left.
+// The result of one step, to the next sibling or the parent: the kind that was looked for, where to continue, or that nothing is
+// left.
 #[derive(Drop)]
 enum Step {
     Found(SyntaxKind),

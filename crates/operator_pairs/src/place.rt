@@ -39,9 +39,8 @@ fn is_before_angle(node: &SyntaxNode) -> bool
 
 /// Whether an expression of an operator tree needs parentheses in place of the node or token at `place`, whose parent is `parent`.
 ///
-/// At a part of a node that shows a term, asked with the part's own parent, the answer for what shows a term is the test over
-/// terms. It is false where `parent` is not the place's own parent, if it is a list of arguments, and of what has no form of an
-/// operator tree.
+/// If `own` and `parent` show terms, and `place` is a part of `parent`, the result is that of the test over terms. Returns false
+/// if `parent` is not the parent of `place`, if it is a list of arguments, or if `own` has no form of an operator tree.
 pub fn needs_parens_in_place_of(own: &SyntaxNode, parent: &SyntaxNode, place: &SyntaxNode) -> bool
     ensures everywhere { result ≡ asks_below own.now parent.now place.now (begins_with_angle (leaves_behind place.now.tree place.now.place)) }
     ensures direct { (s t : Term) (i : ℕ) (p : Part) → meaning (focus own.now) ≡ IsTerm s → meaning (focus parent.now) ≡ IsTerm t

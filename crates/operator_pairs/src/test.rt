@@ -13,7 +13,7 @@ ghost use Rattle.operator_pairs.specs.Pairs.{operand_cursor, angle_behind, asks,
 use crate::place;
 use lossless_tree::SyntaxNode;
 
-// The test of `place`, and what it asks at the place's own parent.
+// `place::needs_parens_in_place_of`, and its result for the place's own parent.
 fn is_asked(own: &SyntaxNode, parent: &SyntaxNode, place: &SyntaxNode) -> bool
     ensures everywhere { result ≡ asks_below own.now parent.now place.now (begins_with_angle (leaves_behind place.now.tree place.now.place)) }
     ensures asks { parent_of place.now ≡ Some parent.now → is_foreign (form_at own.now) ≡ false → result ≡ asks own.now parent.now place.now }
@@ -23,12 +23,12 @@ fn is_asked(own: &SyntaxNode, parent: &SyntaxNode, place: &SyntaxNode) -> bool
 
 /// Whether an expression of an operator tree needs parentheses in place of the node or token at `place`, whose parent is `parent`.
 ///
-/// At an operand below the root of an operator tree, asked with the operand's own parent node (for an argument that is the list
-/// of arguments), it answers false exactly where the expression fits there, before the tokens that follow the operand in the
-/// whole tree. Of a pair's inside in place of the pair, where the tree reads back and neither `<` nor `<<` follows it, this is:
-/// exactly where the tokens without the pair read as the term without it; and then no other term reads them.
+/// For an operand below the root of an operator tree and its own parent node (for an argument, the list of arguments), it returns
+/// false exactly if the expression fits there, before the tokens that follow the operand in the whole tree. For the contents of a
+/// pair in place of the pair, in a tree that reads back and is not followed by `<` or `<<`, it returns false exactly if the tokens
+/// without the pair read as the term without it; then they read as no other term.
 ///
-/// It is false where `parent` is not the place's own parent, if it is a list of arguments, and of what has no form of an operator
+/// Returns false if `parent` is not the parent of `place`, if it is a list of arguments, or if `own` has no form of an operator
 /// tree.
 pub fn needs_parens_in_place_of(own: &SyntaxNode, parent: &SyntaxNode, place: &SyntaxNode) -> bool
     ensures everywhere { result ≡ asks_below own.now parent.now place.now (begins_with_angle (leaves_behind place.now.tree place.now.place)) }

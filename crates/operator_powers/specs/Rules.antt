@@ -89,7 +89,7 @@ abbrev pub powers_or : Option (ℕ × SyntaxKind) → Powers
 powers_or None = pow 0 0
 powers_or (Some x) = kind_powers x.1
 
--- the powers of a node of a form; of those forms alone that a term has
+-- the powers of a node of a form, for the forms that a term can have
 abbrev pub form_powers : Form → Forest → ℕ → Powers
 form_powers form.Prefix c b = pow 0 27
 form_powers form.Borrow c b = pow 0 27
@@ -166,8 +166,8 @@ abbrev pub is_own_parent : Cursor → Option Cursor → Bool
 is_own_parent parent None = false
 is_own_parent parent (Some above) = is_same_cursor above parent
 
--- Whether `own` needs a pair below a parent: never in a list of arguments, never where it has no form of an operator tree,
--- and else as the rules above say.
+-- Whether `own` needs a pair below a parent: never in a list of arguments, never if it has no form of an operator tree,
+-- otherwise by the rules above.
 abbrev pub asks_under : (own parent place : Cursor) → (angle : Bool) → Bool
 asks_under own parent place angle = not (is_arguments (form_at parent)) && (not (is_foreign (form_at own)) && operators_ask own parent place angle)
 

@@ -98,8 +98,8 @@ fn operators_ask(own: &SyntaxNode, parent: &SyntaxNode, place: &SyntaxNode, angl
     is_cut_off(own, angle) || asks_at(own, parent, place)
 }
 
-// What the place's own parent asks. What has no form of an operator tree is asked for no pair here: the rules outside operator trees
-// are no part of this test.
+// The test at the place's own parent. An expression that has no form of an operator tree needs no pair here: the rules for other
+// expressions are not part of this test.
 fn needs_parens_below(
     own: &SyntaxNode,
     parent: &SyntaxNode,
@@ -117,10 +117,10 @@ fn needs_parens_below(
     operators_ask(own, parent, place, angle)
 }
 
-/// Whether an expression of an operator tree needs parentheses in place of the node or token at `place`, whose parent is `parent`. The flag
-/// says whether `<` or `<<` follows after the parent's child there.
+/// Whether an expression of an operator tree needs parentheses in place of the node or token at `place`, whose parent is `parent`. `angle`
+/// says whether `<` or `<<` follows the parent's child there.
 ///
-/// It is false where `parent` is not the place's own parent, if it is a list of arguments, and of what has no form of an operator
+/// Returns false if `parent` is not the parent of `place`, if it is a list of arguments, or if `own` has no form of an operator
 /// tree.
 pub fn needs_parens_before(
     own: &SyntaxNode,

@@ -32,7 +32,7 @@ pub fn is_name(kind: SyntaxKind) -> bool
     matches!(kind, SyntaxKind::IDENT)
 }
 
-/// `<` or `<<`, which go on a type where they follow a cast's name.
+/// `<` or `<<`, which after a cast's name would be read as generic arguments of the type.
 pub fn is_angle(kind: SyntaxKind) -> bool
     ensures { result ≡ is_angle kind }
 {

@@ -8,7 +8,7 @@ use crate::powers::kind_powers;
 use lossless_tree::SiblingsLeft;
 use syntax_kind::SyntaxKind;
 
-/// The token that an operator's start is looked for by.
+/// Which child token marks the start of an operator.
 #[derive(Clone, Copy)]
 pub enum Wanted {
     Dot,

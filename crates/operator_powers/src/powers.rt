@@ -20,7 +20,7 @@ const fn binding(left: u8, right: u8) -> Strength
     Strength { left, right }
 }
 
-/// The powers of an operator by its token's kind; zeros for what is none.
+/// The powers of an operator by its token's kind; zeros if it is not an operator.
 pub fn kind_powers(kind: SyntaxKind) -> Strength
     ensures { pow result.left result.right ≡ kind_powers kind }
 {

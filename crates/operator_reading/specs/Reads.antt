@@ -53,7 +53,7 @@ abbrev pub element_fits : NodeOrToken Cursor Cursor → Bool
 element_fits (Node c) = node_fits (focus c)
 element_fits (Token c) = true
 
--- ---- what `reads_back` answers for the term that is shown, if one is
+-- ---- the result of `reads_back` for the term that is shown, if one is
 abbrev pub IsAnswer : Bool → Term → Type 0
 IsAnswer b t =
     (b ≡ true ↔ Reads 0 (tokens t) t)

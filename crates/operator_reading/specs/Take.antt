@@ -41,7 +41,7 @@ is_what what.AList (IsArguments args) = true
 is_what w (IsSign s) = is_sign w s
 is_what _ _ = false
 
--- the first is this: what follows it
+-- the meanings after the first, if the first is as expected
 abbrev pub take : What → List Meaning → Option (List Meaning)
 take w [] = None
 take w (m ∷ ms) = cond (is_what w m) (Some ms) None

@@ -14,7 +14,7 @@ use operator_powers::node::{form_powers, is_call_form, is_field_form};
 use operator_powers::powers::{Strength, by_power};
 use operator_trees::{Form, form_of};
 
-// The powers of a node of a form; where it starts is of no matter.
+// The powers of a node of a form. They do not depend on where it starts.
 fn powers_of(form: Form, trees: &SiblingsLeft<'_>) -> Strength
     ensures { pow result.left result.right ≡ form_powers form trees.now.trees 0 }
 {
@@ -37,7 +37,7 @@ fn part_asks(
     by_power(powers_of(own, own_trees), parent, before)
 }
 
-// So does the first of the siblings.
+// The first of the siblings asks for a pair.
 fn child_asks(left: &SiblingsLeft<'_>, form: Form, parent: Strength, before: bool) -> bool
     ensures { result ≡ child_asks form (pow parent.left parent.right) before (first_of left.now.trees) }
 {

@@ -5,7 +5,7 @@ use Rattle.operator_terms.specs.Term.{Term, Literal, Name, Paren, Field, Await, 
 use Rattle.operator_terms.specs.Reading.{no_cast_before_angle}
 use Rattle.operator_terms.specs.Places.{AtLeast, Callee, meets}
 
--- The form's own parts meet their demands. Arguments, what is in parentheses and what is in brackets may be any.
+-- The form's direct parts meet their demands. Arguments, and the contents of parentheses and brackets, may be any terms.
 abbrev pub parts_meet : Term → Bool
 parts_meet (Field e n) = meets (AtLeast 13) e
 parts_meet (Await e) = meets (AtLeast 13) e

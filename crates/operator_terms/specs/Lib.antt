@@ -14,7 +14,7 @@ pub mod Powers
 pub mod Precedence
 -- the theorem
 pub mod Headline
--- what a token may be
+-- the signs of tokens
 pub mod Sign
 -- worked terms
 pub mod Notation

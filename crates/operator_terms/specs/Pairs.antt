@@ -18,9 +18,9 @@ abbrev pub is_angle_operator : Operator → Bool
 is_angle_operator op = is_angle (OfToken (operator_kind op))
 
 -- The term with a pair round each operand that doesn't fit, at every depth at once. The flag says whether `<` or `<<`
--- follows the term in the whole term as it was given: it is handed on to the last part of a form, and the flag of a left
--- operand says whether the form's own operator is `<` or `<<`. Each operand is judged where it was before any pair was
--- put in, also inside an operand that gets one.
+-- follows the term in the original whole term: it is passed on to the last part of a form, and for a left operand it says
+-- whether the form's own operator is `<` or `<<`. Each operand is tested in the original term, before any pair is
+-- inserted, also inside an operand that gets one.
 abbrev mutual
   pub paired_before : Bool → Term → Term
   paired_before angle (Literal kind text) = Literal kind text
@@ -57,7 +57,7 @@ paired t = paired_before false t
 
 -- ---- one pair taken out
 
--- what a pair holds
+-- the contents of a pair
 abbrev pub inside : Term → Term
 inside (Paren e) = e
 inside t = t
@@ -92,7 +92,7 @@ change_part f (Range inclusive l r) zero = Range inclusive (f l) r
 change_part f (Range inclusive l r) (suc zero) = Range inclusive l (f r)
 change_part f t i = t
 
--- the term with the pair at the place replaced by what it holds
+-- the term with the pair at the place replaced by its contents
 abbrev pub without : List ℕ → Term → Term
 without [] t = inside t
 without (i ∷ q) t = change_part (without q) t i

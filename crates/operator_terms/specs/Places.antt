@@ -6,7 +6,7 @@ use Rattle.operator_terms.specs.Operators.{left_demand, right_demand, operator_k
 use Rattle.operator_terms.specs.Term.{Term, Paren, Field, Await, Try, Cast, Method, Call, Index, Prefix, Borrow, Binary, RangeFrom, RangeTo, Range, Terms, NoTerms, Last, More, level, is_field, name, tokens, argument_tokens}
 use Rattle.operator_terms.specs.Reading.{is_as, is_name, begins_with_angle}
 
--- What a place demands: a level at least; of what is called also that it is no field, since `a.f(x)` is a method call.
+-- What a place demands of its part: at least some level; a called expression must also not be a field, since `a.f(x)` is a method call.
 pub data Demand : Type 0 where
   AtLeast : ℕ → Demand
   Callee : Demand
@@ -15,7 +15,7 @@ abbrev pub Meets : Demand → Term → Type 0
 Meets (AtLeast k) t = k ≤ level t
 Meets Callee t = (13 ≤ level t) × (is_field t ≡ false)
 
--- the same as a test
+-- the same as a `Bool`
 abbrev pub meets : Demand → Term → Bool
 meets (AtLeast k) t = leb k (level t)
 meets Callee t = leb 13 (level t) && not (is_field t)
@@ -59,12 +59,12 @@ part (Range inclusive l r) zero = some_part (AtLeast 2) l
 part (Range inclusive l r) (suc zero) = some_part (AtLeast 2) r
 part _ _ = None
 
--- A place is a list of part numbers from the root down. At the root, where d is demanded, the term itself is.
+-- A place is a list of part numbers from the root down. The empty list is the root, where d is demanded.
 abbrev pub part_at : Demand → Term → List ℕ → Option Part
 part_at d t [] = some_part d t
 part_at d t (i ∷ q) = option_and_then (λ p. part_at p.demand p.term q) (part t i)
 
--- the operand at a place: the part that is there, at any depth, or the whole term
+-- the operand at a place: a part at any depth, or the whole term
 abbrev pub operand : Term → List ℕ → Option Part
 operand t q = part_at (AtLeast 0) t q
 
@@ -120,8 +120,8 @@ ends_in_cast (t ∷ ts) = (is_as t.kind && is_one_name ts) || ends_in_cast ts
 abbrev pub FitsPlace : Demand → (angle : Bool) → Term → Type 0
 FitsPlace d angle e = Meets d e × (ends_in_cast (tokens e) ≡ true → angle ≡ false)
 
--- The operand at the place q fits, before the tokens that follow it in the whole term. (Nothing is said where q is no
--- place of the term.)
+-- The operand at the place q fits, before the tokens that follow it in the whole term. (Nothing is required if
+-- q is not a place of the term.)
 abbrev pub Fits : Term → List ℕ → Type 0
 Fits t q = IfSome (operand t q) (λ p. FitsPlace p.demand (begins_with_angle (tokens_behind q t)) p.term)
 

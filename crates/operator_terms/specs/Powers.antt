@@ -1,13 +1,13 @@
--- The test for parentheses by binding powers, as rust-analyzer's `Expr::needs_parens_in` asks it (but for three
--- answers, which docs/DIFFERENCES.md tells): each form has a left and a right power,
--- and a part precedes or after the operator of the form that holds it.
+-- The test for parentheses by binding powers, that of rust-analyzer's `Expr::needs_parens_in` with the three exceptions
+-- in docs/DIFFERENCES.md: each form has a left and a right power, and a part is before or after the operator of the form
+-- that contains it.
 use Rattle.std.specs.Prelude.{ℕ, zero, suc, Bool, true, false, not, ◌&&◌, ◌||◌, nat_eq, nat_lt, if◌then◌else◌}
 use Rattle.operator_terms.specs.Operators.{Arithmetic, Add, Subtract, Multiply, Divide, Remainder, ShiftLeft, ShiftRight, BitXor, BitOr, BitAnd, Operator, Or, And, Compare, Compute, Assign, AssignBy}
 use Rattle.operator_terms.specs.Term.{Term, Literal, Name, Paren, Field, Await, Try, Cast, Method, Call, Index, Prefix, Borrow, Binary, RangeFull, RangeFrom, RangeTo, Range, is_field, tokens}
 use Rattle.operator_terms.specs.Places.{ends_in_cast}
 
--- how strongly a form binds what is on its left and on its right. Powers of 0 mark prefixes, postfixes and wholes; a
--- field and an open range have both all the same.
+-- How strongly a form binds on its left and on its right. A power of 0 marks a side without an operand: a prefix has none
+-- on its left, a postfix none on its right. A field and an open range have two nonzero powers nevertheless.
 pub record Powers : Type 0 where
   pub left : ℕ
   pub right : ℕ
@@ -116,13 +116,13 @@ part_before t zero = true
 part_before t (suc i) = false
 
 -- The rules on powers for an operand in place of the form's part of this number. An argument's own parent is the list of
--- arguments, which is no expression and asks for nothing.
+-- arguments, which is no expression and requires no pair.
 abbrev pub too_weak_at : Term → ℕ → Term → Bool
 too_weak_at (Method e n args) (suc i) self = false
 too_weak_at (Call e args) (suc i) self = false
 too_weak_at t i self = needs_pair_by_power self t (part_before t i)
 
 -- The test: whether `self` needs a pair in place of the form's part of this number. The flag says whether `<` or `<<`
--- follows it: there an operand that ends in a cast's name needs a pair, be it a cast itself or not.
+-- follows it: if it does, an operand that ends in a cast's name needs a pair, whether or not it is a cast.
 abbrev pub needs_pair_at : Term → ℕ → Bool → Term → Bool
 needs_pair_at t i angle self = (ends_in_cast (tokens self) && angle) || too_weak_at t i self

@@ -1,4 +1,4 @@
--- The coarser test by precedences alone, as `ExprPrecedence::needs_parentheses_in` asks it: sides don't count.
+-- The coarser test by precedences alone, that of `ExprPrecedence::needs_parentheses_in`: sides don't count.
 use Rattle.std.specs.Prelude.{ℕ, Bool, false, ◌&&◌, nat_lt, nat_le}
 use Rattle.operator_terms.specs.Operators.{Arithmetic, Operator}
 use Rattle.operator_terms.specs.Operators as op
@@ -48,7 +48,7 @@ operator_precedence (op.Compute a) = arithmetic_precedence a
 operator_precedence op.Assign = Assign
 operator_precedence (op.AssignBy a) = Assign
 
--- the precedence of an expression, as `Expr::precedence` answers it
+-- the precedence of an expression, as `Expr::precedence` returns it
 abbrev pub precedence : Term → Precedence
 precedence (term.Literal kind text) = Unambiguous
 precedence (term.Name text) = Unambiguous
@@ -68,8 +68,8 @@ precedence (term.RangeFrom l) = Range
 precedence (term.RangeTo inclusive r) = Range
 precedence (term.Range inclusive l r) = Range
 
--- Whether an expression of the first precedence needs parentheses in one of the second: never in what is unambiguous;
--- below a postfix where it binds less; below a prefix likewise, though a jump needs none; else unless it binds more.
+-- Whether an expression of the first precedence needs parentheses in one of the second: never if the second is
+-- unambiguous; in a postfix if it binds less; in a prefix likewise, except for a jump; otherwise unless it binds more.
 abbrev pub needs_parentheses_in : Precedence → Precedence → Bool
 needs_parentheses_in self Unambiguous = false
 needs_parentheses_in self Postfix = nat_lt (rank self) (rank Postfix)

@@ -11,7 +11,7 @@ use Rattle.operator_terms.specs.Term.{Term, Literal, Name, Paren, Field, Await, 
 -- `Derives k ts t`: where a term of level k at least is wanted, the grammar makes the term t of the tokens ts. The clause
 -- of a form says three things: k is at most the form's level; the tokens are cut into the form's own tokens and a
 -- piece for each part; each piece makes its part, at the level that its place demands.
--- A call is the one form that asks more of a part: `a.f(x)` is a method call and never a call of the field `a.f`.
+-- Only a call demands more of a part than a level: `a.f(x)` is a method call and never a call of the field `a.f`.
 unfoldable mutual
   pub Derives : ℕ → List Token → Term → Type 0
   Derives k ts (Literal kind text) = (k ≤ 14) × (ts ≡ literal kind text ∷ [])

@@ -23,14 +23,14 @@ needless t q i = record { term = t; above = q; number = i; may_go = true }
 abbrev pub needed : Term → List ℕ → ℕ → Pair
 needed t q i = record { term = t; above = q; number = i; may_go = false }
 
--- what the test answers for what the pair holds, in the pair's place; nothing where no part is there
+-- the test's result for the contents of the pair, in the pair's place; `None` if there is no such part
 abbrev pub asked : Pair → Option Bool
 asked p =
     option_and_then (λ holder.
     option_map (λ held. needs_pair_at holder.term p.number (angle_behind [] p.term p.above p.number) (inside held.term)) (part holder.term p.number))
     (operand p.term p.above)
 
--- The term reads; the test asks for a pair where the pair may not go; and without the pair the term reads where it may.
+-- The term reads; the test requires a pair exactly if the pair may not go; and without the pair the term reads exactly if it may.
 abbrev pub IsRightPair : Pair → Type 0
 IsRightPair p = (all_fit p.term ≡ true) × (asked p ≡ Some (not p.may_go)) × (all_fit (without (p.above ++ (p.number ∷ [])) p.term) ≡ p.may_go)
 

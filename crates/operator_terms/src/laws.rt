@@ -22,7 +22,7 @@ ghost use Rattle.operator_terms.specs.WorkedTerms.{EachRow, IsRight, grouping, r
 
 // ---- reading
 
-/// What reads as a term, at any level, are the term's tokens.
+/// If tokens read as a term, at any level, they are the term's tokens.
 pub fn reads_its_tokens()
     ensures { (k : ℕ) (ts : List Token) (t : Term) → Reads k ts t → ts ≡ tokens t }
 {}
@@ -43,8 +43,8 @@ pub fn reads_where_all_fit()
         → Reads k (tokens t) t ↔ ((k ≤ level t) × ((q : List ℕ) → Fits t q)) }
 {}
 
-/// The tokens of an operand are in those of the whole term, and what `tokens_behind` says is
-/// after them.
+/// The tokens of an operand are consecutive in those of the whole term, and followed by
+/// `tokens_behind`.
 pub fn tokens_of_an_operand()
     ensures { (t : Term) (q : List ℕ) (d : Demand) (e : Term) → operand t q ≡ some_part d e
         → (before : List Token) × (tokens t ≡ before ++ (tokens e ++ tokens_behind q t)) }
@@ -130,7 +130,7 @@ pub fn pair_may_go()
 
 /// The test by binding powers asks for a pair exactly where an operand doesn't fit.
 ///
-/// This is said of any term `own` in place of any part, before `<` or `<<` (`angle`) or not.
+/// It holds for any term `own` in place of any part, followed by `<` or `<<` (`angle`) or not.
 pub fn powers_ask_where_unfit()
     ensures { (t : Term) (i : ℕ) (d : Demand) (e own : Term) (angle : Bool)
         → part t i ≡ some_part d e
@@ -168,7 +168,7 @@ pub fn the_operator_theorem()
 {}
 
 /// A term without casts may precede any tokens, and without a pair it still has no casts. So for
-/// such a term the theorem asks nothing of what follows.
+/// such a term the theorem makes no assumption about the tokens that follow.
 pub fn without_casts_all_may_follow()
     ensures stands { (following : List Token) (t : Term)
         → has_as (tokens t) ≡ false → MayStandBefore following t }
@@ -179,9 +179,9 @@ pub fn without_casts_all_may_follow()
 
 // ---- worked terms
 
-/// Worked terms: for each row of the tables the test `all_fit` answers what the row says.
+/// Worked terms: for each row of the tables, `all_fit` has the result that the row states.
 ///
-/// Of two terms it is said in the grammar's words too: `a < b < c` doesn't read as a comparison of a
+/// For two terms it is also stated by the grammar: `a < b < c` doesn't read as a comparison of a
 /// comparison, and the tokens of a call over the field `a.f` read as the method call.
 pub fn worked_terms()
     ensures grouping { EachRow IsRight grouping }
@@ -201,7 +201,7 @@ pub fn worked_tokens()
 {}
 
 /// For each place of an operand, with one operator of each level, and samples of all forms: which of them the test by binding
-/// powers accepts without parentheses, and for which it asks for a pair. Also the result of the test by precedences.
+/// powers accepts without parentheses, and for which it requires a pair. Also the result of the test by precedences.
 pub fn worked_places()
     ensures strong { EachRow IsRightAt strong_places }
     ensures sides { EachRow IsRightAt sides }

@@ -4,8 +4,8 @@ use Rattle.syntax_kind.specs.Kinds.{is_trivia}
 use Rattle.tree_model.specs.Tree.{Tree, node, token, Forest, nil, cons, no_tree, text}
 use Rattle.operator_terms.specs.Term.{Term, Prefix, Borrow, RangeTo, Binary, Index, Paren, Range, RangeFull, Literal, Name, Method, Call}
 
--- The rule on starts of operators. Self's operator starts `order` bytes after self, self has `size` bytes and is asked in
--- place of what lies from `from` to `to`; the parent's operator starts at `parent`.
+-- The rule on starts of operators, for an expression of `size` bytes, whose operator starts `order` bytes after its own
+-- start, in place of the range `from..to`; the parent's operator starts at `parent`.
 abbrev pub stands_before : (order size from to parent : ℕ) → Bool
 stands_before order size from to parent =
     if nat_le parent from then nat_lt (from + order) parent
@@ -65,7 +65,7 @@ is_direct (Method e n args) (suc i) = false
 is_direct (Call e args) (suc i) = false
 is_direct t i = true
 
--- the list of arguments among the kids, and the j-th argument among its kids
+-- the index of the list of arguments among the kids, and of the j-th argument among its kids
 abbrev pub arguments_kid : Term → ℕ
 arguments_kid (Method e n args) = 3
 arguments_kid _ = 1

@@ -1,4 +1,4 @@
--- The operator theorem over trees, in the words of its law: with the test that `needs_parens_in` and `needs_parens_in_place_of` answer.
+-- The operator theorem over trees, for the test that `needs_parens_in` and `needs_parens_in_place_of` compute.
 use Rattle.std.specs.Prelude.{◌≡◌, ◌↔◌, ℕ, List, [], ◌∷◌, ◌++◌, Bool, true, false, map, Option, Some, None}
 use Rattle.std.specs.List.{filter}
 use Rattle.tree_model.specs.Cursor.{Cursor, parent_of}
@@ -16,7 +16,7 @@ use Rattle.ras_prec.specs.Rules.{asks}
 abbrev pub IsOneReadingOf : List Token → Term → Type 0
 IsOneReadingOf ts t = Reads 0 ts t × ((u : Term) → Reads 0 ts u → u ≡ t)
 
--- The node or token at the place has a parent; and asked with it, `own` needs no parentheses in place of what is there.
+-- The node or token at the place has a parent, and below that parent `own` needs no parentheses in its place.
 abbrev pub NeedsNone : (own place : Cursor) → Type 0
 NeedsNone own place = (parent : Cursor) × (parent_of place ≡ Some parent) × (asks own parent place ≡ false)
 
@@ -25,7 +25,7 @@ abbrev pub NoOperandNeedsAny : Cursor → Term → Type 0
 NoOperandNeedsAny r t =
     (i : ℕ) (q : List ℕ) (held : Part) → operand t (i ∷ q) ≡ Some held → NeedsNone (operand_cursor r t (i ∷ q)) (operand_cursor r t (i ∷ q))
 
--- what the pair at the place holds needs no parentheses in place of the pair
+-- the contents of the pair at the place need no parentheses in place of the pair
 abbrev pub InsideNeedsNone : Cursor → Term → List ℕ → Type 0
 InsideNeedsNone r t q = NeedsNone (operand_cursor r t (q ++ 0 ∷ [])) (operand_cursor r t q)
 
@@ -33,14 +33,14 @@ InsideNeedsNone r t q = NeedsNone (operand_cursor r t (q ++ 0 ∷ [])) (operand_
 abbrev pub ReadsWithout : Term → List ℕ → Type 0
 ReadsWithout t q = Reads 0 (tokens (without q t)) (without q t)
 
--- ---- what `needless_parens` answers
+-- ---- the result of `needless_parens`
 
 -- a pair is at the place
 abbrev pub HasPair : Term → List ℕ → Type 0
 HasPair t q = (d : Demand) × (e : Term) × (operand t q ≡ some_part d (Paren e))
 
--- The pairs are at the places, of all below the root in the order of the text, of which `picks` is true. It is true of those
--- where a pair is whose inside needs no parentheses in its place; and these are those where a pair is without which the
+-- The pairs are at the places below the root, in the order of the text, for which `picks` is true. It is true exactly if a
+-- pair is there whose contents need no parentheses in its place, and also exactly if a pair is there without which the
 -- tokens read as the term without it.
 abbrev pub AreNeedless : Cursor → List Cursor → Term → Type 0
 AreNeedless r pairs t =

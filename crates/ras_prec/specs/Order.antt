@@ -1,4 +1,4 @@
--- The operator of an expression and its powers, also of what is in no operator tree.
+-- The operator of an expression and its powers, also outside operator trees.
 -- (Upstream: `binding_power` and `is_ordered_before_parent_in_place_of` in `ast::prec` of rust-analyzer's `syntax`.)
 use Rattle.std.specs.Prelude.{ℕ, ◌-◌, Bool, true, false, length, Option, Some, None, if◌then◌else◌}
 use Rattle.std.specs.Option.{option_and_then}
@@ -36,7 +36,7 @@ abbrev pub closure_operator : SyntaxKind → Cursor → Option Cursor
 closure_operator (Node kind.CLOSURE_EXPR) c = option_and_then (token_child (Token token.L_PAREN)) (typed_child is_param_list c)
 closure_operator _ c = None
 
--- the operator of what is in no operator tree, by its word if it has one
+-- the operator of an expression outside operator trees, by its word if it has one
 abbrev pub other_operator : Option SyntaxKind → Cursor → Option Cursor
 other_operator (Some word) c = token_child word c
 other_operator None c = closure_operator (kind_at c) c
@@ -46,7 +46,7 @@ abbrev pub start_of : Option Cursor → Cursor → ℕ
 start_of None c = range_start c
 start_of (Some operator) c = range_start operator
 
--- the powers of what is in no operator tree
+-- the powers of an expression outside operator trees
 abbrev pub other_powers : SyntaxKind → Powers
 other_powers (Node kind.MACRO_EXPR) = pow 29 0
 other_powers (Node kind.CLOSURE_EXPR) = pow 0 1

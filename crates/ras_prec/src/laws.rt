@@ -1,4 +1,4 @@
-//! What is proved of the test where an operator tree is asked.
+//! What is proved of the test on operator trees.
 ghost use Rattle.std.specs.Prelude.{◌≡◌, ◌↔◌, ◌++◌, ◌∷◌, [], ℕ, List, Some, true, false};
 ghost use Rattle.tree_model.specs.Cursor.{Cursor, focus, parent_of};
 ghost use Rattle.operator_terms.specs.Term.{Term, is_field, tokens};
@@ -13,25 +13,25 @@ ghost use Rattle.ras_prec_walks.specs.CastName.{ends_in_cast_name};
 ghost use Rattle.ras_prec.specs.Headline.{NeedsNone};
 ghost use Rattle.ras_prec.specs.Rules.{asks, asks_by_operators};
 
-/// Of what shows a term, asked in place of what shows one, below its own parent, an expression of an operator tree or a list of
-/// arguments, the whole test answers what the test of operator trees does: no rule on blocks, jumps, records and `let` applies.
+/// If `own` and the node at `place` show terms, and the place's own parent is an expression of an operator tree or a list of
+/// arguments, the whole test equals the test of operator trees: no rule on blocks, jumps, records or `let` applies.
 pub fn operator_trees_are_asked_by_operators()
     ensures expression { (own parent place : Cursor) (s u : Term) → meaning (focus own) ≡ IsTerm s → meaning (focus place) ≡ IsTerm u → parent_of place ≡ Some parent
         → is_term_form (form_at parent) ≡ true → asks own parent place ≡ asks_by_operators own parent place }
     ensures arguments { (own parent place : Cursor) → is_arguments (form_at parent) ≡ true → asks own parent place ≡ asks_by_operators own parent place }
 {}
 
-/// What shows a term ends in the name of a cast's type exactly where its last two tokens, trivia left out, are `as` and a name.
+/// A node that shows a term ends in the name of a cast's type exactly if its last two tokens, trivia left out, are `as` and a name.
 pub fn operator_trees_end_in_casts_by_two_tokens()
     ensures { (c : Cursor) (t : Term) → meaning (focus c) ≡ IsTerm t → ends_in_cast_name c ≡ ends_in_cast (leaves_of (focus c)) }
 {}
 
-/// What shows a term has the term's precedence.
+/// A node that shows a term has the term's precedence.
 pub fn operator_trees_have_their_precedence()
     ensures { (c : Cursor) (t : Term) → meaning (focus c) ≡ IsTerm t → as_precedence (precedence_of c) ≡ precedence t }
 {}
 
-/// Where the test by precedences asks for no parentheses of an operand and its parent expression, the operand needs none, save for
+/// If the test by precedences requires no parentheses for an operand in its parent expression, the operand needs none, except for
 /// a field that is called, and for an operand that ends with a cast's name before `<` or `<<`.
 pub fn precedences_ask_enough()
     ensures { (r : Cursor) (t : Term) (q : List ℕ) (i : ℕ) (holder held : Part) → meaning (focus r) ≡ IsTerm t → operand t q ≡ Some holder → part holder.term i ≡ Some held

@@ -50,7 +50,7 @@ fn needless_below<N: AstNode + Drop>(alloc: Global, root: &SyntaxNode) -> Result
 /// Whether the node is a reading of its own tokens, or `None` if it shows no term.
 ///
 /// It is one exactly where every operand fits its place; and, unless it ends in a cast's name and `<` or `<<` follows, exactly
-/// where no operand below it needs parentheses in its own parent, as [`needs_parens_in`](crate::rules::needs_parens_in) answers it.
+/// where no operand below it needs parentheses in its own parent, by [`needs_parens_in`](crate::rules::needs_parens_in).
 pub fn reads_back(node: &SyntaxNode) -> Option<bool>
     ensures reads { ReadsBack result (shown (focus node.now)) }
     ensures fits { IfSome result (λ b. (t : Term) → meaning (focus node.now) ≡ IsTerm t → b ≡ true ↔ ((q : List ℕ) → Fits t q)) }

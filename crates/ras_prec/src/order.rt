@@ -1,4 +1,4 @@
-//! The operator of an expression and its powers, also of what is in no operator tree.
+//! The operator of an expression and its powers, also outside operator trees.
 ghost use Rattle.std.specs.Prelude.{◌≡◌};
 ghost use Rattle.std.specs.Option.{option_and_then};
 ghost use Rattle.ras_node.specs.Nodes.{kind_at, typed_child};
@@ -74,7 +74,7 @@ fn start_of(operator: Option<SyntaxToken>, node: &SyntaxNode) -> usize
     }
 }
 
-// The powers of what is in no operator tree.
+// The powers of an expression outside operator trees.
 fn other_powers(kind: SyntaxKind) -> Strength
     ensures { pow result.left result.right ≡ other_powers kind }
 {

@@ -56,7 +56,7 @@ fn is_bare_jump(own: &SyntaxNode) -> bool
     }
 }
 
-// A block that follows would be its own.
+// A block that follows would be parsed as part of it.
 fn is_cut_by_block(own: &SyntaxNode) -> bool
     ensures { result ≡ is_cut_by_block own.now }
 {
@@ -127,7 +127,7 @@ fn binds_less(own: &SyntaxNode, parent: &SyntaxNode, place: &SyntaxNode) -> bool
     )
 }
 
-// A block follows the parent, and would be taken by what it follows.
+// A block follows the parent, and would be parsed as part of the expression before it.
 fn is_before_block(own: &SyntaxNode, parent: &SyntaxNode) -> bool
     ensures { result ≡ (is_followed_by_block parent.now && is_cut_by_block own.now) }
 {
@@ -242,13 +242,13 @@ fn asks(own: &SyntaxNode, parent: &SyntaxNode, place: &SyntaxNode) -> bool
     is_statement(kind) && asks_in_statement(own, parent)
 }
 
-/// Whether an expression needs parentheses in place of the node or token at `place`, where `parent` is the parent of that, or is
-/// further up, or is the place itself; false if it is neither.
+/// Whether an expression needs parentheses in place of the node or token at `place`, where `parent` is an ancestor of that or
+/// the place itself. Returns false for any other `parent`.
 ///
-/// At an operand below the root of an operator tree, asked with the operand's own parent node (for an argument that is the list
-/// of arguments), it answers false exactly where the expression fits there, before the tokens that follow the operand in the
-/// whole tree. Of a pair's inside in place of the pair, where the tree reads back and neither `<` nor `<<` follows it, this is:
-/// exactly where the tokens without the pair read as the term without it; and then no other term reads them.
+/// For an operand below the root of an operator tree and its own parent node (for an argument, the list of arguments), it returns
+/// false exactly if the expression fits there, before the tokens that follow the operand in the whole tree. For the contents of a
+/// pair in place of the pair, in a tree that reads back and is not followed by `<` or `<<`, it returns false exactly if the tokens
+/// without the pair read as the term without it; then they read as no other term.
 pub fn needs_parens_in_place_of(own: &SyntaxNode, parent: &SyntaxNode, place: &SyntaxNode) -> bool
     ensures asks { result ≡ asks own.now parent.now place.now }
     ensures fits { (r : Cursor) (t s : Term) (i : ℕ) (q : List ℕ) (held : Part) → meaning (focus r) ≡ IsTerm t → operand t (i ∷ q) ≡ Some held
@@ -265,9 +265,9 @@ pub fn needs_parens_in_place_of(own: &SyntaxNode, parent: &SyntaxNode, place: &S
 
 /// [`needs_parens_in_place_of`] with `place = own`.
 ///
-/// At an operand below the root of an operator tree, asked with the operand's own parent node, it answers false exactly where the
-/// operand fits, before the tokens that follow it in the whole tree. Where neither `<` nor `<<` follows the operator tree,
-/// this is `Fits`, of the term alone.
+/// For an operand below the root of an operator tree and its own parent node, it returns false exactly if the operand fits, before
+/// the tokens that follow it in the whole tree. If the operator tree is not followed by `<` or `<<`, this is `Fits`, which is about
+/// the term alone.
 pub fn needs_parens_in(own: &SyntaxNode, parent: &SyntaxNode) -> bool
     ensures asks { result ≡ asks own.now parent.now own.now }
     ensures fits { (r : Cursor) (t : Term) (i : ℕ) (q : List ℕ) (held : Part) → meaning (focus r) ≡ IsTerm t → operand t (i ∷ q) ≡ Some held

@@ -25,12 +25,12 @@ abbrev pub is_cast_type : Cursor → Option Cursor → Bool
 is_cast_type c None = false
 is_cast_type c (Some parent) = is_type_of_cast c parent
 
--- of nodes each below the next: one of those below the top is the type of a cast (or `passed` says that one was)
+-- of nodes, each a child of the next: one of those below the top is the type of a cast, or `passed` is true
 abbrev pub passes_cast_type : Bool → Cursor → List Cursor → Bool
 passes_cast_type passed top [] = false
 passes_cast_type passed top (c ∷ cs) = if is_same_cursor c top then passed else passes_cast_type (passed || is_cast_type c (parent_of c)) top cs
 
--- the token lies directly in a name, and in the type of a cast that is the top or inside it
+-- the token is directly in a name, and in the type of a cast that is the top or inside it
 abbrev pub is_cast_name : Cursor → Cursor → Bool
 is_cast_name top t = is_in_name (parent_of t) && passes_cast_type false top (ancestors_from (parent_of t))
 

@@ -53,7 +53,7 @@ abbrev pub is_sought : Sought → Cursor → Bool
 is_sought Record c = is_of_kind (Node kind.RECORD_EXPR) c
 is_sought Let c = is_of_kind (Node kind.LET_EXPR) c || (is_and c && lacks_side c)
 
--- of a node and those above it: up to the top each is such an operand of the next
+-- of a node and its ancestors: up to the top, each is such an operand of the next
 abbrev pub leads_up : Sought → Cursor → List Cursor → Bool
 leads_up s top [] = false
 leads_up s top (c ∷ cs) = is_same_cursor c top || (is_step s c (parent_of c) && leads_up s top cs)

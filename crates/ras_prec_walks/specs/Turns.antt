@@ -1,5 +1,5 @@
--- The one loop of the walks along operands, by its steps: at each child what is meant after it, or inside it, or the answer.
--- (Own: what it answers is said in `Along`.)
+-- The loop that the walks along operands share, step by step: each child gives the result, or which expression is meant after it or
+-- inside it. (Not from upstream. `Along` has the definition of the result.)
 use Rattle.std.specs.Prelude.{Bool, true, false, ◌&&◌, ◌||◌, if◌then◌else◌}
 use Rattle.syntax_kind.specs.declared.syntax_kind.SyntaxKind.{SyntaxKind}
 use Rattle.tree_model.specs.Tree.{Tree, node, token, Forest, nil, cons}
@@ -35,13 +35,13 @@ past_token First k = First
 past_token Second k = Second
 past_token BehindDots k = if is_range_operator k then First else BehindDots
 
--- what an expression of this kind among the children says
+-- the result at a child that is an expression of this kind
 abbrev pub at_expr : Toward → Meant → SyntaxKind → Turn
 at_expr w Second k = Past First
 at_expr w BehindDots k = Past BehindDots
 at_expr w First k = if is_found w k then Answer true else (if goes_on w k then Into (operand w k) else Answer false)
 
--- what a child says
+-- the result at a child
 abbrev pub turn_at : Toward → Meant → Tree → Turn
 turn_at w m (token k t) = Past (past_token m k)
 turn_at w m (node k c) = if is_expr k then at_expr w m k else Past m

@@ -43,7 +43,7 @@ fn hands_on(kind: SyntaxKind) -> bool
 /// Whether a block follows the children of an expression: it is a `for`, an `if`, a `match`, a `while` or an `include_bytes`, or
 /// a binary operator, a range, a prefix, `&`, `let` or a jump below such a one, or below one of these in its turn.
 ///
-/// It takes time linear in how many of these are around.
+/// It takes time linear in the number of these ancestors.
 pub fn is_followed_by_block(node: &SyntaxNode) -> bool
     ensures { result ≡ is_followed_by_block node.now }
 {

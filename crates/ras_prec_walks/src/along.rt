@@ -27,7 +27,7 @@ pub enum Meant {
     BehindDots,
 }
 
-/// What one child says of a walk: its answer, or which expression is meant after the child, or inside it.
+/// The result of a walk's step at one child: the walk's result, or which expression is meant after the child, or inside it.
 #[derive(Clone, Copy)]
 pub enum Turn {
     Answer(bool),

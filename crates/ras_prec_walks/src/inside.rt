@@ -18,7 +18,7 @@ pub enum Sought {
     Let,
 }
 
-// What is asked of a node's children: its first two expressions, and whether it is an `&&`. It is found once for all of them.
+// What the walk uses of a node: its first two expressions, and whether it is an `&&`. It is computed once for all its children.
 #[derive(Drop)]
 struct Operands {
     parent: SyntaxNode,
@@ -59,7 +59,7 @@ impl Operands {
         }
     }
 
-    // Those of the parent, which may be the one that was met last.
+    // The parts of the parent, which may be the last parent that was met.
     fn kept(last: Option<Operands>, parent: SyntaxNode) -> Operands
         ensures { result ≡ parent }
     {
@@ -123,8 +123,8 @@ fn is_this(node: &SyntaxNode, found: &Option<SyntaxNode>) -> bool
     }
 }
 
-// The node is such an operand of its parent. `last` has what was asked of the parent that was met last, so that the children of
-// one are not all read for each of them.
+// The node is such an operand of its parent. `last` has the parts of the last parent that was met, so that they are not computed
+// again for each of its children.
 fn is_step(sought: Sought, node: &SyntaxNode, last: &mut Option<Operands>) -> bool
     ensures { result ≡ is_step sought node.now (parent_of node.now) }
 {
@@ -154,8 +154,8 @@ fn is_sought(sought: Sought, node: &SyntaxNode) -> bool
     }
 }
 
-// The walk comes to a node only where each above it, up to the top, is such an operand of the next: what is below another is
-// passed over, up to where that is left.
+// The walk visits the children of a node only if that node and each ancestor, up to the top, is such an operand of the next. The
+// subtree of any other node is skipped.
 fn holds(sought: Sought, top: &SyntaxNode) -> bool
     ensures { result ≡ holds sought top.now (filter at_node (descendants_of top.now)) }
 {

@@ -59,7 +59,7 @@ fn is_and_token(found: Option<SyntaxToken>) -> bool
     }
 }
 
-/// Whether it is an `&&` with its operands, or what there is of them.
+/// Whether it is an `&&`, even if it lacks operands.
 pub fn is_and(node: &SyntaxNode) -> bool
     ensures { result ≡ is_and node.now }
 {

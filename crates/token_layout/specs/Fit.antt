@@ -1,4 +1,4 @@
--- Tokens that cut a text, and errors that lie in it, of any tokens and errors.
+-- Tokens that cut a text, and errors inside it, made of any tokens and errors.
 use Rattle.std.specs.Prelude.{ℕ, ◌-◌, ◌^◌, min, nat_le, Bool, ◌&&◌, if◌then◌else◌, List, [], ◌∷◌, ◌++◌, length, take, drop}
 use Rattle.std.specs.Str.{is_utf8}
 use Rattle.syntax_kind.specs.declared.syntax_kind.SyntaxKind.TheVariants.{Token}

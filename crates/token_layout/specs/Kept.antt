@@ -1,4 +1,4 @@
--- What tokens, nodes over them and errors make of a text keeps the law of front ends.
+-- The output that is made of tokens, spans and errors keeps the law of front ends.
 use Rattle.std.proofs.Common.{◌≡◌, ℕ, List, ◌++◌, length, ap, sym, subst}
 use Rattle.std.specs.Prelude.{All}
 use Rattle.syntax_kind.specs.declared.syntax_kind.SyntaxKind.{SyntaxKind}

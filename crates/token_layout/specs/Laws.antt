@@ -1,4 +1,4 @@
--- The front end keeps the law, whatever its lexer and its parser answer.
+-- The front end keeps the law, whatever its lexer and its parser return.
 use Rattle.std.proofs.Common.{◌≡◌, ℕ, ◌<◌, ◌^◌, Bool, true, false, if◌then◌else◌, List, length, map, refl, inl, inr, sym, subst, Option, Some, None}
 use Rattle.std.specs.Prelude.{IsUtf8, All, ◌++◌}
 use Rattle.std.proofs.lemmas.List.Elements.{All-append}

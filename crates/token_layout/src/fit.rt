@@ -1,4 +1,4 @@
-//! Tokens that cut a text, and errors that lie in it, of any tokens and errors.
+//! Tokens that cut a text, and errors inside it, made of any tokens and errors.
 ghost use Rattle.std.specs.Prelude.{◌≡◌, ◌++◌, OnOk, IfOk, map};
 ghost use Rattle.token_layout.specs.Fit.{size_of, kept_of, left_of, error_over, fitted_of, within};
 

@@ -16,7 +16,7 @@ use std::alloc::{AllocError, Global};
 use syntax_kind::SyntaxKind;
 use text_size::TextSize;
 
-/// The front end of a lexer and a parser. Whatever they answer, a reading keeps the law of [`FrontEnd`]:
+/// The front end of a lexer and a parser. Whatever they return, a parse keeps the law of [`FrontEnd`]:
 ///
 /// - Tokens that end inside a character or after the text are left out, and what the others leave of the text is an `ERROR`. The
 ///   parser sees the tokens after that. Those that cut the text are kept as they are.
@@ -26,7 +26,7 @@ use text_size::TextSize;
 pub struct SpanFront<L, P> {
     /// Cuts texts into tokens.
     pub lexer: L,
-    /// Says which nodes there are.
+    /// Returns the nodes.
     pub parser: P,
 }
 

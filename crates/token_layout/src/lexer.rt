@@ -1,4 +1,4 @@
-//! What a lexer answers.
+//! The trait of lexers.
 ghost use Rattle.std.specs.Prelude.{◌≡◌, IfOk};
 ghost use Rattle.token_layout.specs.Answers.{LexerAnswers};
 
@@ -16,9 +16,9 @@ pub struct Lexed {
     pub errors: Vec<SyntaxError>,
 }
 
-/// A lexer. Each answer but out of memory is a function of the arguments; nothing has to be proved of that function.
+/// A lexer. Each result, except out of memory, is a function of the arguments; nothing has to be proved about that function.
 pub trait Lexer {
-    // The answers, as functions of the arguments.
+    // The results, as functions of the arguments.
     ghost lexes: { Self → LexerAnswers };
 
     /// The tokens of a text, and the errors. The tokens should cut the text; [`SpanFront`](crate::SpanFront) says what becomes of

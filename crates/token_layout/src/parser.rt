@@ -1,4 +1,4 @@
-//! What a parser of spans answers.
+//! The trait of parsers of spans.
 ghost use Rattle.std.specs.Prelude.{◌≡◌, IfOk};
 ghost use Rattle.token_layout.specs.Answers.{ParserAnswers, outlined};
 
@@ -12,7 +12,7 @@ use syntax_kind::SyntaxKind;
 pub enum Target {
     /// A file or an expression.
     Whole(Entry),
-    /// A node that is parsed again by itself. The reparser's number is one that [`Parser::reparser`] answered.
+    /// A node that is parsed again by itself. The reparser's number is one that [`Parser::reparser`] returned.
     Piece(Reparser),
 }
 
@@ -28,10 +28,10 @@ pub struct Outline {
     pub errors: Vec<SyntaxError>,
 }
 
-/// A parser that answers which nodes are over which tokens. Each answer but out of memory is a function of the arguments; nothing
-/// has to be proved of that function.
+/// A parser that returns its nodes as spans of tokens. Each result, except out of memory, is a function of the arguments; nothing
+/// has to be proved about that function.
 pub trait Parser {
-    // The answers, as functions of the arguments.
+    // The results, as functions of the arguments.
     ghost parses: { Self → ParserAnswers };
 
     /// The nodes over tokens that cut a text.

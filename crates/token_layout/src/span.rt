@@ -3,7 +3,7 @@
 use syntax_kind::SyntaxKind;
 use text_size::TextSize;
 
-/// A token of so many bytes.
+/// A token: its kind and its length.
 #[derive(Clone, Copy, Debug, PartialEq, Eq)]
 pub struct Token {
     /// Its kind.

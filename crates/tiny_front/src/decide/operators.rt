@@ -108,8 +108,8 @@ pub(super) fn operator(class: Class) -> Option<Binary>
     }
 }
 
-// Whether an operator of a level, whose left operand has at least the level `left`, is in the demand after an
-// operand of the level `level`.
+// Whether an operator of level `own`, which demands at least level `left` of its left operand, may follow an operand
+// of level `level` in an expression of at least level `demand`.
 pub(super) fn fits(own: u8, left: u8, demand: u8, level: u8) -> bool
     ensures { result ≡ fits_of own left demand level }
 {
@@ -239,7 +239,7 @@ pub(super) fn operators(
     }
 }
 
-// An end where one begins; after `..=` always.
+// A range's end, if an expression begins here; after `..=` always.
 pub(super) fn range_end(class: Option<Class>, inclusive: bool) -> Move
     ensures { result ≡ range_end_of class inclusive }
 {
