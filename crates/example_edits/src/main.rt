@@ -1,4 +1,4 @@
-//! An editor's loop: applies edits to a text, and says for each which range was parsed again, and to standard error in what time.
+//! An editor's loop: applies edits to a text, prints the range that was parsed again for each, and its time to standard error.
 #![tactic(auto)]
 
 use ra_ap_syntax::{Edition, Parse, ParseError, SourceFile, TextRange, TextSize};
@@ -9,7 +9,7 @@ use std::time::Instant;
 
 type File = Parse<SourceFile>;
 
-// The first byte that goes, the byte after the last one, and what comes in their place.
+// The start and the end of the removed range, in bytes, and the inserted text.
 type Edit = (u32, u32, &'static str);
 
 const NOW: Edition = Edition::CURRENT;

@@ -24,7 +24,7 @@ abbrev pub closed_on : ℕ → Pairing → List ℕ → Pairing
 closed_on n s [] = s
 closed_on n s (first ∷ starts) = record { starts = starts; closed = s.closed ++ (record { kind = Node node.PAREN_EXPR; first = first; end = n }) ∷ [] }
 
--- a bracket that closes; without a partner it is no node's
+-- a closing bracket; without a partner it makes no node
 abbrev pub closed_of : ℕ → Pairing → Pairing
 closed_of n s = closed_on n s s.starts
 
@@ -37,7 +37,7 @@ abbrev pub met_at : ℕ → Option LexedToken → Pairing → Pairing
 met_at i None s = s
 met_at i (Some t) s = met_of i t.kind s
 
--- what the first n tokens leave
+-- the state after the first n tokens
 unfoldable pub pairs_of : ℕ → List LexedToken → Pairing
 pairs_of zero ts = record { starts = []; closed = [] }
 pairs_of (suc n) ts = met_at n (slice_get ts n) (pairs_of n ts)

@@ -1,5 +1,4 @@
-//! Plain nested trees for the crates of tests: written down as words, made into syntax trees, and asked slowly, by recursion
-//! over all of them.
+//! Plain nested trees for tests: read from words, converted to syntax trees, and searched by slow recursion over the whole tree.
 #![tactic(auto)]
 
 mod plain_tree;

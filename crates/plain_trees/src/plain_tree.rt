@@ -1,4 +1,4 @@
-//! A plain nested tree: written down as words, turned into a syntax tree, and asked slowly, by recursion over all of it.
+//! A plain nested tree: read from words, converted to a syntax tree, and searched by slow recursion over the whole tree.
 //! It shares nothing with the crate under test but kinds.
 use lossless_tree::{SyntaxKind, SyntaxNode, TreeBuilder};
 use std::alloc::Global;
@@ -30,7 +30,7 @@ fn kind_of(name: &str, number: u16) -> Result<SyntaxKind, Fail> {
     Ok(SyntaxKind::from_name(name).ok_or("no such kind")?)
 }
 
-// Puts a finished tree below the innermost node; gives it back where there is none.
+// Puts a finished tree below the innermost node; returns it if there is none.
 fn put(open: &mut Vec<Unfinished>, tree: PlainTree) -> Result<Option<PlainTree>, Fail> {
     let Some(mut parent) = open.pop() else {
         return Ok(Some(tree));
@@ -137,7 +137,7 @@ impl PlainTree {
         Ok(())
     }
 
-    /// Where what has the kind starts. The tree starts at `start`.
+    /// The start of the node or token with the kind. The tree starts at `start`.
     pub fn start_of(&self, start: usize, kind: SyntaxKind) -> Option<usize> {
         if self.kind() == kind {
             return Some(start);
@@ -154,7 +154,7 @@ impl PlainTree {
         None
     }
 
-    /// The kind of what covers the range `from..to`. The tree starts at `start`.
+    /// The kind of the node or token that covers the range `from..to`. The tree starts at `start`.
     pub fn covering(&self, start: usize, from: usize, to: usize) -> SyntaxKind {
         match self {
             PlainTree::Node(kind, children) => {

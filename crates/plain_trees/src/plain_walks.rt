@@ -1,4 +1,4 @@
-//! What walks and steps answer, slowly, by recursion over a plain nested tree. A node or token is named by its kind.
+//! The expected results of walks and steps, by slow recursion over a plain nested tree. A node or token is named by its kind.
 use crate::plain_tree::PlainTree;
 use lossless_tree::{Direction, SyntaxKind};
 use std::test::Fail;
@@ -60,7 +60,7 @@ impl PlainTree {
         Ok(())
     }
 
-    /// What has the kind.
+    /// The node or token with the kind.
     pub fn find(&self, kind: SyntaxKind) -> Option<&PlainTree> {
         if self.kind() == kind {
             return Some(self);
@@ -118,7 +118,7 @@ impl PlainTree {
     }
 }
 
-/// The one after the kind in a list; none after the last.
+/// The kind after this one in a list; `None` after the last.
 pub fn behind(kinds: &Vec<SyntaxKind>, kind: SyntaxKind) -> Option<SyntaxKind> {
     let mut passed = false;
     for other in kinds {
@@ -130,7 +130,7 @@ pub fn behind(kinds: &Vec<SyntaxKind>, kind: SyntaxKind) -> Option<SyntaxKind> {
     None
 }
 
-/// The one before the kind in a list; none before the first.
+/// The kind before this one in a list; `None` before the first.
 pub fn before(kinds: &Vec<SyntaxKind>, kind: SyntaxKind) -> Option<SyntaxKind> {
     let mut last = None;
     for other in kinds {

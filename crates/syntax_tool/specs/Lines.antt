@@ -66,7 +66,7 @@ StandsFor exits (enter k) = ⊥
 StandsFor exits (leaf k t) = ⊥
 StandsFor exits exit = ⊤
 
--- a line that is not empty reads as an event; or it has none of the forms; or its kind is no kind
+-- a line that is not empty reads as an event; or it has none of the forms; or it names no kind
 abbrev pub ReadsLine : List ℕ → Result Event Refusal → Type 0
 ReadsLine line (Ok e) = (f : Form) × IsForm line f × StandsFor f e
 ReadsLine line (Err r) =

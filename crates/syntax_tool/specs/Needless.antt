@@ -1,4 +1,4 @@
--- What is answered about the parentheses of an expression's text.
+-- The result of the command `parens` for the text of an expression.
 use Rattle.std.specs.Prelude.{◌≡◌, ℕ, ◌<◌, ◌≤◌, ◌^◌, ◌⊎◌, Bool, true, false, length, List, [], ◌∷◌, ◌++◌, Option, Some, None, Result, Ok, Err, codes}
 use Rattle.text_size.specs.TextRange.{range_text}
 use Rattle.tree_model.specs.Tree.{Tree, kind_of}
@@ -38,13 +38,13 @@ pub record IsReport (tree : Cursor) (out : List ℕ) : Type 0 where
   pub needless : NeedlessOf tree found (shown (focus tree))
   pub written : out ≡ verdict_line verdict ++ lines_of_found found
 
--- that the root is an expression is looked at first; errors alone do not refuse
+-- first it is checked that the root is an expression; syntax errors are not refused
 abbrev pub AnswersTree : Tree → Result (List ℕ) Refusal → Type 0
 AnswersTree t r =
     ((is_expr (kind_of t) ≡ false) × (r ≡ Err OtherRoot))
     ⊎ ((is_expr (kind_of t) ≡ true) × ((out : List ℕ) × IsReport (root_of t) out × (r ≡ Ok out)))
 
--- that the text is not too long is looked at first; then the small front end reads it as an expression of the newest edition
+-- first it is checked that the text is not too long; then the small front end reads it as an expression of the newest edition
 abbrev pub AnswersParens : List ℕ → Result (List ℕ) Refusal → Type 0
 AnswersParens text r =
     ((2 ^ 32 ≤ length text) × (r ≡ Err TooLong))

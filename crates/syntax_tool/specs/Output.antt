@@ -58,7 +58,7 @@ refusal_of_parse parse.Memory = Memory
 abbrev pub command_of : List ℕ → Option Command
 command_of word = if bytes_eq word (codes "events") then Some Events else (if bytes_eq word (codes "dump") then Some Dump else (if bytes_eq word (codes "parens") then Some Parens else (if bytes_eq word (codes "reparse") then Some Reparse else None)))
 
--- accepted events build a tree, which is dumped; else the first refusal of `finish` that holds is named
+-- accepted events build a tree, which is dumped; otherwise the result is the first refusal of `finish` that holds
 abbrev pub DumpsEvents : List Event → Result (List ℕ) Refusal → Type 0
 DumpsEvents es r =
     (IsAccepted es × ((t : Tree) × BuildsNode es t × (r ≡ Ok (dump_of (record { tree = t; place = [] })))))
@@ -68,11 +68,11 @@ abbrev pub AnswersRead : Result (List Event) Refusal → Result (List ℕ) Refus
 AnswersRead (Ok es) r = DumpsEvents es r
 AnswersRead (Err x) r = r ≡ Err x
 
--- `events`: each line is looked at, and then the tree of their events
+-- `events`: each line is read, and then the tree of their events is built
 abbrev pub AnswersEvents : List ℕ → Result (List ℕ) Refusal → Type 0
 AnswersEvents text r = (es : Result (List Event) Refusal) × ReadsLines (lines_of text) es × AnswersRead es r
 
--- `dump`: that the text is not too long is looked at first; then the small front end reads it as a file of the newest
+-- `dump`: first it is checked that the text is not too long; then the small front end reads it as a file of the newest
 -- edition, and its parse is dumped
 abbrev pub AnswersText : List ℕ → Result (List ℕ) Refusal → Type 0
 AnswersText text r =
@@ -85,7 +85,7 @@ AnswersAs Dump text r = AnswersText text r
 AnswersAs Parens text r = AnswersParens text r
 AnswersAs Reparse text r = AnswersReparse text r
 
--- the answer of a command: that the input is text is looked at first
+-- the answer of a command: first it is checked that the input is UTF-8
 abbrev pub AnswersInput : Command → List ℕ → Result (List ℕ) Refusal → Type 0
 AnswersInput command input r = ((¬ (IsUtf8 input)) × (r ≡ Err NotUtf8)) ⊎ (IsUtf8 input × AnswersAs command input r)
 
@@ -108,11 +108,11 @@ usage = record { text = codes "usage: syntax_tool events|dump|parens|reparse\n";
 abbrev pub IsOutput : List ℕ → List ℕ → Output → Type 0
 IsOutput word input out = MatchOption (command_of word) (out ≡ usage) (λ c. (r : Result (List ℕ) Refusal) × AnswersInput c input r × (out ≡ output_of r))
 
--- where the reader failed, or a growth was refused, that is all that is said
+-- if the reader failed, or memory was refused, the output states only that
 abbrev pub IsCutShort : List ℕ → Output → Type 0
 IsCutShort word out = MatchOption (command_of word) ⊥ (λ _. (out ≡ refused Read) ⊎ (out ≡ refused Memory))
 
--- the writer took the whole output; or it failed, and took a front of it
+-- the writer took the whole output; or it failed, and took a prefix of it
 abbrev pub Wrote : Option (List ℕ) → Option (List ℕ) → ℕ → Output → Type 0
 Wrote before after status out =
     (Appends before after out.text × (status ≡ out.status))
@@ -122,7 +122,7 @@ Wrote before after status out =
 abbrev pub WasLeft : Option (List ℕ) → List ℕ → Type 0
 WasLeft left input = IfSome left (λ xs. input ≡ xs)
 
--- the reader failed, or a growth was refused
+-- the reader failed, or memory was refused
 abbrev pub IsEarly : Refusal → Type 0
 IsEarly r = (r ≡ Read) ⊎ (r ≡ Memory)
 

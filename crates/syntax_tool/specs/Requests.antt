@@ -1,4 +1,4 @@
--- What an edit of a text is asked by, and what is answered: a line of two numbers, a line of text, and the text.
+-- The input and the output of the command `reparse`. The input is a line of two numbers, a line of text, and the text to edit.
 use Rattle.std.specs.Prelude.{◌≡◌, ℕ, ◌+◌, ◌-◌, ◌*◌, ◌<◌, ◌≤◌, ◌^◌, ◌⊎◌, min, Bool, ◌&&◌, not, ◌==◌, ◌||◌, nat_le, if◌then◌else◌, length, List, [], ◌∷◌, ◌++◌, IsCharBoundary, Option, Some, None, Result, Ok, Err, codes}
 use Rattle.std.specs.List.{list_all}
 use Rattle.text_size.specs.TextRange.{Bounds, range_text}
@@ -18,7 +18,7 @@ use Rattle.syntax_tool.specs.Lines.{HasNo, IsCut, IsLine}
 abbrev pub is_digit : ℕ → Bool
 is_digit b = nat_le 48 b && nat_le b 57
 
--- the number that digits go on to, after those of n; 2^64 - 1, which is longer than any text, stands for what is greater
+-- the number with the digits of n and then these digits, saturating at 2^64 - 1, which is greater than the length of any text
 abbrev pub value_from : ℕ → List ℕ → ℕ
 value_from n [] = n
 value_from n (b ∷ bs) = value_from (min (10 * n + (b - 48)) (2 ^ 64 - 1)) bs
@@ -57,13 +57,13 @@ AnswersParsed s edit r =
     ((2 ^ 32 ≤ length s) × (r ≡ Err TooLong))
     ⊎ ((length s < 2 ^ 32) × (old : Parsed) × IsParseOf s (tiny_front.parsed SourceFile Edition2024 s) old × AnswersEdit old edit r)
 
--- that the range lies in the text is looked at first
+-- first it is checked that the range is in the text
 abbrev pub AnswersRange : List ℕ → ℕ → ℕ → List ℕ → Result (List ℕ) Refusal → Type 0
 AnswersRange s start end insert r =
     ((IsRange s start end → ⊥) × (r ≡ Err BadRange))
     ⊎ (IsRange s start end × AnswersParsed s (record { delete = record { start = start; end = end }; insert = insert }) r)
 
--- that both lines have their form is looked at first
+-- first it is checked that both lines have their form
 abbrev pub AnswersRequest : Option ℕ → Option ℕ → Option (List ℕ) → List ℕ → Result (List ℕ) Refusal → Type 0
 AnswersRequest (Some start) (Some end) (Some insert) s r = AnswersRange s start end insert r
 AnswersRequest _ _ _ s r = r ≡ Err BadLine
@@ -76,7 +76,7 @@ AreLines text first second whole = (behind : List ℕ) × IsLine text first behi
 abbrev pub LacksLine : List ℕ → Type 0
 LacksLine text = HasNo 10 text ⊎ ((first behind : List ℕ) × IsLine text first behind × HasNo 10 behind)
 
--- the answer to a line `START END`, a line with what is put in, in which a backslash begins an escape, and the text
+-- the answer to a line `START END`, a line with the inserted text, in which a backslash begins an escape, and the text
 pub record AnswersLines (first second whole : List ℕ) (r : Result (List ℕ) Refusal) : Type 0 where
   pub start : List ℕ
   pub end : List ℕ

@@ -1,4 +1,4 @@
-//! What a command answers to an input.
+//! The output of a command for an input.
 ghost use Rattle.std.specs.Prelude.{◌≡◌, ◌⊎◌, Ok, Err, MatchResult, string_bytes};
 ghost use Rattle.syntax_tool.specs.Output.{AnswersInput};
 
@@ -11,12 +11,12 @@ use crate::reparse::reparse_answer;
 use std::alloc::Global;
 use std::str::from_utf8;
 
-/// The output of a command to an input, as [`run`](crate::run) writes it, or why there is none: bytes in, text out.
+/// The output of a command for an input, as [`run`](crate::run) writes it, or why there is none.
 ///
-/// The input is refused as `NotUtf8` before its lines or its text are looked at. Then `events` may answer `BadLine` or `BadKind` for
-/// the first such line, or what the builder refuses; `dump` `TooLong`; `parens` `TooLong`, then `OtherRoot`; `reparse` `BadLine`,
-/// then `BadRange`, then `TooLong`, of the old text or the new one. `Read` and `ErrorPastText` never come. `Memory` is answered only
-/// where memory was refused, and says nothing of the input.
+/// `NotUtf8` is checked first. Then `events` may return `BadLine` or `BadKind` for the first such line, or the builder's refusal;
+/// `dump` may return `TooLong`; `parens` `TooLong`, then `OtherRoot`; `reparse` `BadLine`, then `BadRange`, then `TooLong`, for the
+/// old text or the new one. `Read` and `ErrorPastText` are never returned. `Memory` is returned only if memory was refused, and
+/// states nothing about the input.
 pub fn answer_to(alloc: Global, command: Command, input: &[u8]) -> Result<String, Refusal>
     ensures { MatchResult result (λ text. AnswersInput command input.now (Ok (string_bytes text))) (λ e. (e ≡ Refusal.Memory) ⊎ AnswersInput command input.now (Err e)) }
 {

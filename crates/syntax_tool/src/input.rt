@@ -1,11 +1,11 @@
-//! All that a reader gives.
+//! Reading the whole input.
 ghost use Rattle.std.specs.Prelude.{◌≡◌, ◌⊎◌, IfOk, IfErr, IfSome};
 
 use crate::refusal::Refusal;
 use std::alloc::Global;
 use std::io::Read;
 
-// How many bytes are asked for at a time.
+// How many bytes one read requests.
 const CHUNK: usize = 65536;
 
 // Reads up to the reader's end. Every error of the reader counts, and so does a reader that is not at its end after

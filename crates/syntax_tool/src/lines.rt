@@ -8,7 +8,7 @@ use crate::escapes::unescape;
 use crate::refusal::Refusal;
 use ra_ap_syntax::{SyntaxKind, SyntaxTreeBuilder};
 
-// What precedes the first `at`, and after it; all of the text and nothing where there is none.
+// The text before the first `at`, and the text after it; if there is none, the whole text and an empty text.
 pub(crate) fn cut(text: &str, at: char) -> (&str, &str)
     requires { at < 128 }
     ensures { IsCut at text.now result.0.now result.1.now }

@@ -4,17 +4,17 @@ ghost use Rattle.std.specs.Prelude.{◌≡◌};
 use ra_ap_syntax::{FinishError, ParseError};
 use std::alloc::AllocError;
 
-/// Why the program prints no answer. The names are those that it prints.
+/// Why the program prints no result. It prints the name of the variant.
 #[derive(Clone, Copy, Debug, PartialEq, Eq, Hash)]
 pub enum Refusal {
     /// The reader failed, or was not at its end after `u64::MAX` reads.
     Read,
     /// The input is not UTF-8. This is checked first.
     NotUtf8,
-    /// A line has none of the forms of an event; of `reparse`: the first line is not two numbers, or the second has a backslash
+    /// A line has none of the forms of an event; for `reparse`: the first line is not two numbers, or the second has a backslash
     /// that begins no escape.
     BadLine,
-    /// A line has a form, and the kind that it names is none.
+    /// A line has the form of an event, but names no kind.
     BadKind,
     /// A range ends before it starts, does not lie in the text on character boundaries, or ends at 2^32 or later.
     BadRange,
@@ -22,7 +22,7 @@ pub enum Refusal {
     OtherRoot,
     /// The text is longer than 4,294,967,295 bytes.
     TooLong,
-    /// Some front of the events has more exits than enters.
+    /// A prefix of the events has more exits than enters.
     OverClosed,
     /// There are more enters than exits in all.
     Unclosed,
@@ -32,7 +32,7 @@ pub enum Refusal {
     ManyRoots,
     /// The one top element is a token.
     TokenRoot,
-    /// An error's position is past the text. Events hold no errors, so no command answers it.
+    /// An error's position is past the text. Events have no errors, so no command returns it.
     ErrorPastText,
     /// Out of memory.
     Memory,

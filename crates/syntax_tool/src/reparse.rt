@@ -16,7 +16,7 @@ use std::alloc::{AllocError, Global};
 use std::fmt::Write;
 use tiny_front::TINY;
 
-// What stands for every number that is too great: no text is so long.
+// Represents every larger number: no text is this long.
 const TOO_GREAT: u128 = u64::MAX as u128;
 
 fn is_digit(byte: u8) -> bool
@@ -134,7 +134,7 @@ fn range_answer(
     edit_answer(alloc, &old, delete, insert)
 }
 
-// The first line without its newline, and what follows it; nothing where there is no newline.
+// The first line without its newline, and what follows it; `None` if there is no newline.
 fn first_line(text: &str) -> Option<(&str, &str)>
     ensures is { IfSome result (λ p. IsLine text.now p.0.now p.1.now) }
     ensures none { IfNone result (HasNo 10 text.now) }

@@ -1,13 +1,13 @@
-//! What a test says where a call answers otherwise.
+//! Checks with the message of a failed test.
 use std::alloc::Global;
 use std::test::Fail;
 
-/// The call answered as it should.
+/// The call has the expected result.
 pub fn ensure(holds: bool, call: &'static str) -> Result<(), Fail> {
     if holds { Ok(()) } else { Err(Fail::from(call)) }
 }
 
-/// The text is the one that is wanted; if it is not, both are said.
+/// The text is the expected one; if not, the message has both.
 pub fn ensure_text(alloc: Global, found: &str, want: &str) -> Result<(), Fail> {
     if found == want {
         return Ok(());

@@ -35,7 +35,7 @@ fn expect_dump<R: Abort + AllocGlobal>(rt: &R, input: &[u8], output: &[u8]) -> R
     expect_run(rt, "events", input, output, 0)
 }
 
-// Event lines that are refused, and the line that says so.
+// Event lines that are refused, and the output.
 fn expect_refusal<R: Abort + AllocGlobal>(rt: &R, input: &[u8], output: &[u8]) -> Result<(), Fail> {
     expect_run(rt, "events", input, output, 1)
 }
@@ -243,7 +243,7 @@ fn the_end_is_read_once(rt: HostRuntime) -> Result<(), Fail> {
     Ok(())
 }
 
-// The reader would go on after the failure, and is not asked to.
+// The reader could continue after the failure, but is not called again.
 #[test]
 fn each_read_fails_in_turn(rt: HostRuntime) -> Result<(), Fail> {
     let reads = STORED.len().div_ceil(7);

@@ -1,4 +1,4 @@
-//! Searches of a tree by offset: worked rows, and every offset from every node of three small trees by a plain slow
+//! Searches of a tree by offset: worked rows, and every offset from every node of three small trees, compared with a plain slow
 //! program.
 use crate::ensure::ensure_text;
 use lossless_tree::{SyntaxKind, SyntaxNode, SyntaxNodePtr, SyntaxToken, TextRange, TextSize};

@@ -44,7 +44,7 @@ impl Read for Source<'_> {
     }
 }
 
-/// Takes bytes, at most `step` at a time, and fails after so many writes.
+/// Takes bytes, at most `step` at a time, and fails after a number of writes.
 #[derive(Drop)]
 pub struct Sink {
     written: Vec<u8>,
@@ -69,7 +69,7 @@ impl Sink {
 }
 
 impl Write for Sink {
-    // Takes a front of the bytes, or fails.
+    // Takes a prefix of the bytes, or fails.
     fn write(&mut self, buf: &[u8]) -> io::Result<usize> {
         if self.writes == 0 {
             return Err(io::Error::from(ErrorKind::Other));

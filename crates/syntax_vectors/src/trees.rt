@@ -1,4 +1,4 @@
-//! Trees made by the builder: what its calls and those of a cursor answer.
+//! Trees made by the builder: results of its calls and of a cursor's.
 use crate::ensure::ensure_text;
 use lossless_tree::{
     FinishError, NodeOrToken, ReplaceError, SyntaxElement, SyntaxKind, SyntaxNode, TreeBuilder,
@@ -226,7 +226,7 @@ fn count_elements(root: &SyntaxNode) -> usize {
     count
 }
 
-// Many nodes, one in the other.
+// Many nested nodes.
 #[test]
 fn deep_trees_need_no_stack(rt: HostRuntime) -> Result<(), Fail> {
     let root = nested(&rt, 100_000)?;

@@ -1,4 +1,4 @@
-//! Walks and steps among nodes and tokens: each call at each place of three small trees, by a plain slow program.
+//! Walks and steps among nodes and tokens: each call at each place of three small trees, compared with a plain slow program.
 use crate::ensure::ensure;
 use lossless_tree::{
     Direction, NodeOrToken, SyntaxElement, SyntaxKind, SyntaxNode, SyntaxToken, WalkEvent,
@@ -101,7 +101,7 @@ fn element_steps(rt: &HostRuntime, node: &SyntaxNode) -> Result<Vec<(bool, Synta
     Ok(found)
 }
 
-// The same of an element's.
+// A step of a walk over elements: whether it enters, and the kind.
 fn element_sibling_kinds(
     rt: &HostRuntime,
     element: &SyntaxElement,

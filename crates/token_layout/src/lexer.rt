@@ -21,8 +21,8 @@ pub trait Lexer {
     // The results, as functions of the arguments.
     ghost lexes: { Self → LexerAnswers };
 
-    /// The tokens of a text, and the errors. The tokens should cut the text; [`SpanFront`](crate::SpanFront) says what becomes of
-    /// those that do not.
+    /// The tokens of a text, and the errors. The tokens should cut the text; [`SpanFront`](crate::SpanFront) states what it
+    /// does with those that do not.
     fn lex(&self, alloc: Global, text: &str, edition: Edition) -> Result<Lexed, AllocError>
         ensures tokens { IfOk result (λ lexed. lexed.tokens.items ≡ (lexes self.now).tokens edition text.now) }
         ensures errors { IfOk result (λ lexed. lexed.errors.items ≡ (lexes self.now).errors edition text.now) };

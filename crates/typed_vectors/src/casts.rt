@@ -53,7 +53,7 @@ fn are_kinds(names: &str) -> bool {
         .all(|name| SyntaxKind::from_name(name).is_some())
 }
 
-// A view of the node where its kind is among the names, and none where it is not.
+// The cast gives a view of the node exactly if the node's kind is among the names.
 fn is_view_by_name<N: AstNode + Drop>(view: Option<N>, node: &SyntaxNode, is_named: bool) -> bool {
     match view {
         Some(it) => is_named && *it.syntax() == *node,
@@ -80,7 +80,7 @@ fn is_cast_from<N: AstNode + Drop>(root: &SyntaxNode, names: &str) -> bool {
     are_kinds(names)
 }
 
-// The same of tokens.
+// The cast gives a view of the token exactly if the token's kind is among the names.
 fn is_token_by_name<T: AstToken + Drop>(
     view: Option<T>,
     token: &SyntaxToken,
@@ -115,7 +115,7 @@ fn is_cast_from_tokens<T: AstToken + Drop>(root: &SyntaxNode, names: &str) -> bo
     are_kinds(names)
 }
 
-// What types are cast from, asked of all children of a root; `wrong` names the kinds of a type that answers otherwise.
+// Tests of casts from all children of a root; `wrong` has the kinds of a type whose casts were not as expected.
 #[derive(Drop)]
 struct Casts<'r> {
     root: &'r SyntaxNode,

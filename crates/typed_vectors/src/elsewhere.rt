@@ -51,7 +51,7 @@ fn the_place_has_the_side_and_the_expression_its_operators(rt: HostRuntime) -> R
     ])
 }
 
-// A node that is not the place's parent asks for none, in whatever tree it is.
+// A node that is not the place's parent requires no parentheses, whichever tree it is in.
 #[test]
 fn another_parent_asks_for_none(rt: HostRuntime) -> Result<(), Fail> {
     let (sum, whole, elsewhere) = (expr(&rt, SUM)?, expr(&rt, PRODUCT)?, expr(&rt, SUM)?);

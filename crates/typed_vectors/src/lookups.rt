@@ -18,7 +18,7 @@ fn view<N: AstNode>(rt: &HostRuntime, words: &'static str) -> Result<N, Fail> {
     Ok(N::cast(tree(rt, words)?).ok_or("the root is of another kind")?)
 }
 
-// The text of a node that is there; `-` where there is none; nothing without memory.
+// The text of a node, or `-` if there is no node; `None` if out of memory.
 fn text<N: AstNode + Drop>(rt: &HostRuntime, found: Option<N>) -> Option<String> {
     let mut text = String::new(rt.alloc());
     match found {

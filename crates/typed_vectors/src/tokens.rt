@@ -1,4 +1,4 @@
-//! Typed tokens: each method on texts where it answers, and on those where it may not.
+//! Typed tokens: each method on texts for which it has a result, and on texts for which it has none.
 mod comments;
 mod numbers;
 mod quotes;
@@ -27,7 +27,7 @@ fn typed<T: AstToken>(alloc: Global, kind: SyntaxKind, text: &str) -> Result<T, 
     Ok(T::cast(token).ok_or("the token is of another kind")?)
 }
 
-// The range that begins at an offset, and is so long.
+// The range with a start and a length.
 fn range(start: u32, len: u32) -> TextRange {
     let start = TextSize::new(start);
     match TextRange::up_to(TextSize::new(len)).checked_add(start) {

@@ -45,7 +45,7 @@ pub fn operator_at(root: &SyntaxNode, offset: TextSize) -> Option<ast::BinExpr>
     algo::find_node_at_offset::<ast::BinExpr>(root, offset)
 }
 
-/// Whether a token is written so.
+/// Whether the text of a token is this word.
 pub fn is_written(token: &SyntaxToken, word: &str) -> bool
     ensures { IsTrue result ↔ (text (focus token.now) ≡ word.now) }
 {

@@ -1,5 +1,5 @@
-//! A call of each shape, and what its clause tells who is above: the same answer by a definition, which a wrong call does not
-//! give.
+//! A call of each shape. Its contract is proved from the clause of the called method, and states the result by a definition that a
+//! wrong call does not satisfy.
 ghost use Rattle.std.specs.Prelude.{◌≡◌, IfSome, is_some};
 ghost use Rattle.ra_ap_syntax.specs.Nodes.{kind_at, token_child, typed_children};
 ghost use Rattle.ra_ap_syntax.specs.Lookups.{IsFirstChild, IsViewOf, loop_body, second_typed_child, typed_children_in};
@@ -7,14 +7,14 @@ ghost use Rattle.ra_ap_syntax.specs.Lookups.{IsFirstChild, IsViewOf, loop_body, 
 use ra_ap_syntax::ast::{self, AstChildren, HasLoopBody, Statements};
 use ra_ap_syntax::{AstNode, SyntaxKind, SyntaxNode, SyntaxToken};
 
-/// The first child of a type: what has the places of `x[i]`.
+/// The first child of a type: the `x` of `x[i]`.
 pub fn base_of(it: &ast::IndexExpr) -> Option<ast::Expr>
     ensures { IsFirstChild ⟦<ast::Expr as AstNode>⟧ (⟦<ast::IndexExpr as AstNode>⟧.node it.now) result }
 {
     it.base()
 }
 
-/// The second child of a type: the place of `x[i]`.
+/// The second child of a type: the `i` of `x[i]`.
 pub fn place_of(it: &ast::IndexExpr) -> Option<ast::Expr>
     ensures { IsViewOf ⟦<ast::Expr as AstNode>⟧ (second_typed_child ⟦<ast::Expr as AstNode>⟧.casts (⟦<ast::IndexExpr as AstNode>⟧.node it.now)) result }
 {

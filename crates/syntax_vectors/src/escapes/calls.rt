@@ -83,12 +83,12 @@ pub fn c_str_rows(alloc: Global, content: &str) -> Result<Vec<Row>, AllocError> 
     Ok(rows)
 }
 
-/// The number that `unescape_char` answers, or its fault.
+/// The number that `unescape_char` returns, or its fault.
 pub fn char_unit(content: &str) -> Result<u32, EscapeError> {
     unescape_char(content).map(|c| c as u32)
 }
 
-/// The number that `unescape_byte` answers, or its fault.
+/// The number that `unescape_byte` returns, or its fault.
 pub fn byte_unit(content: &str) -> Result<u32, EscapeError> {
     unescape_byte(content).map(|byte| byte as u32)
 }
