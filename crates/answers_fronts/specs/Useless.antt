@@ -11,7 +11,7 @@ use Rattle.token_layout.specs.Answers.{ParserAnswers}
 use Rattle.answers_fronts.specs.declared.useless.Useless.{Useless}
 use Rattle.answers_fronts.specs.declared.useless.Useless.TheVariants.{Flat, Wrong}
 
--- none, or one over all tokens of a file or a piece
+-- no node, or one over all tokens of a file or a piece
 abbrev pub spans_of : Useless → Target → List LexedToken → List Span
 spans_of Flat target ts = []
 spans_of Wrong (Whole Expr) ts = []

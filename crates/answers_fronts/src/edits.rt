@@ -8,7 +8,7 @@ use std::fmt::Write;
 
 pub type File = Parse<SourceFile>;
 
-/// The first byte that goes, the byte after the last one, and what comes in their place.
+/// The start and the end of the removed range, in bytes, and the inserted text.
 #[derive(Clone, Copy)]
 pub struct Change<'a> {
     pub start: u32,
@@ -16,7 +16,7 @@ pub struct Change<'a> {
     pub insert: &'a str,
 }
 
-/// The file after an edit, and the range that was parsed again where not all was.
+/// The file after an edit, and the range that was parsed again, unless the whole text was.
 pub type Edited = (File, Option<TextRange>);
 
 fn with_piece(
@@ -32,7 +32,7 @@ fn read_whole(new: Result<File, ParseError>) -> Result<Option<Edited>, Stopped> 
     Ok(Some((new?, None)))
 }
 
-/// What an edit makes of a file, or `None` if the text has no such range.
+/// The file after an edit, or `None` if the text has no such range.
 pub fn edited<F: FrontEnd>(
     alloc: Global,
     front: &F,
@@ -60,7 +60,7 @@ fn show_piece(out: &mut String, piece: Option<TextRange>) -> Result<(), Stopped>
     }
 }
 
-// Whether a file is what its text is when all of it is read.
+// Whether a file equals a new parse of its text.
 fn is_as_parsed<F: FrontEnd>(
     alloc: Global,
     front: &F,
@@ -82,7 +82,7 @@ fn show_text<F: FrontEnd>(
     Ok(writeln!(out, "{:?}, equal {equal}", root.as_str())?)
 }
 
-// What an edit made of a file.
+// The output for an edit.
 fn show_edited<F: FrontEnd>(
     alloc: Global,
     out: &mut String,

@@ -11,7 +11,7 @@ use std::fmt::Write;
 
 const INSERTS: [&str; 5] = ["", "x", "}", "\"", "\n"];
 
-// The text after an edit, which is made plainly.
+// The text after an edit, by concatenation.
 fn spliced(alloc: Global, text: &str, change: Change) -> Result<String, Stopped> {
     let front = text.get(..change.start as usize).unwrap_or("");
     let back = text.get(change.end as usize..).unwrap_or("");
@@ -19,7 +19,7 @@ fn spliced(alloc: Global, text: &str, change: Change) -> Result<String, Stopped>
     Ok(format!(in alloc; "{front}{insert}{back}")?)
 }
 
-// Whether all errors lie in the text.
+// Whether all errors are inside the text.
 fn errors_lie(alloc: Global, file: &File) -> Result<bool, Stopped> {
     let range = file.syntax_node().text_range();
     for error in &file.errors(alloc)? {
@@ -30,7 +30,7 @@ fn errors_lie(alloc: Global, file: &File) -> Result<bool, Stopped> {
     Ok(true)
 }
 
-// The tree of a piece as the front end reads it alone; `None` where it may not be read alone.
+// The tree that the front end parses from a node's text alone; `None` if such a node may not be parsed alone.
 fn read_alone<F: FrontEnd>(
     alloc: Global,
     front: &F,
@@ -60,13 +60,13 @@ fn read_alone<F: FrontEnd>(
     Ok(Some(builder.finish()?.syntax_node()))
 }
 
-// Whether a token is the one that its text is alone.
+// Whether a token's text alone is one token of the same kind.
 fn is_single<F: FrontEnd>(alloc: Global, front: &F, token: &SyntaxToken) -> Result<bool, Stopped> {
     let single = front.single_token(alloc, token.text(), Edition::CURRENT)?;
     Ok(single.map(|(kind, _error)| kind) == Some(token.kind()))
 }
 
-// Whether a node is what the front end reads alone; `None` where it may not be read alone.
+// Whether a node equals the parse of its text alone; `None` if it may not be parsed alone.
 fn is_as_read_alone<F: FrontEnd>(
     alloc: Global,
     front: &F,
@@ -78,7 +78,7 @@ fn is_as_read_alone<F: FrontEnd>(
     }
 }
 
-// The same of a node with a range; `None` also where its range is another.
+// The same for a node with this range; `None` also if its range is another.
 fn is_as_read_over<F: FrontEnd>(
     alloc: Global,
     front: &F,
@@ -92,7 +92,7 @@ fn is_as_read_over<F: FrontEnd>(
     }
 }
 
-// Whether the first node with a range, from an element up, that may be read alone is what the front end reads.
+// Whether the first node from an element up that has this range and may be parsed alone equals the parse of its text.
 fn is_node_piece<F: FrontEnd>(
     alloc: Global,
     front: &F,
@@ -114,7 +114,7 @@ fn token_with_range(element: &SyntaxElement, range: TextRange) -> Option<&Syntax
     }
 }
 
-// Whether the tree's token with a range is the one that its text is alone, or a node there what the front end reads alone.
+// Whether the token or node with a range equals the result of lexing or parsing its text alone.
 fn is_piece<F: FrontEnd>(
     alloc: Global,
     front: &F,
@@ -128,7 +128,7 @@ fn is_piece<F: FrontEnd>(
     }
 }
 
-// Where what was parsed again is now.
+// The range in the new text of the piece that was parsed again.
 fn new_range(old: &SyntaxNode, new: &SyntaxNode, replaced: TextRange) -> TextRange {
     let behind = old
         .text_range()
@@ -140,7 +140,7 @@ fn new_range(old: &SyntaxNode, new: &SyntaxNode, replaced: TextRange) -> TextRan
     TextRange::new(TextSize::new(start), TextSize::new(end))
 }
 
-// Whether the text after an edit is the one that is made plainly.
+// Whether the text after an edit is the concatenated one.
 fn is_spliced(
     alloc: Global,
     before: &SyntaxNode,
@@ -188,7 +188,7 @@ fn is_right_edit<F: FrontEnd>(
     }
 }
 
-// Whether an edit is right, and whether it reads a piece.
+// Whether an edit is right, and whether it parsed a piece.
 fn judged<F: FrontEnd>(
     alloc: Global,
     front: &F,
@@ -201,7 +201,7 @@ fn judged<F: FrontEnd>(
     Ok((right, piece.is_some()))
 }
 
-// Whether an edit keeps the text, the errors and the piece right; and whether it reads a piece.
+// Whether an edit keeps the text, the errors and the piece right; and whether it parsed a piece.
 fn try_edit<F: FrontEnd>(
     alloc: Global,
     front: &F,
@@ -215,7 +215,7 @@ fn try_edit<F: FrontEnd>(
     }
 }
 
-// How many edits were tried, and how many of them read a piece.
+// How many edits were tried, and how many of them parsed a piece.
 #[derive(Clone, Copy)]
 struct Tried {
     edits: u32,

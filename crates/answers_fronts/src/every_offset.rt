@@ -1,4 +1,4 @@
-//! Every offset and every range of a text, asked of its tree, beside searches that look at all there is.
+//! Every offset and every range of a text, searched in its tree and by exhaustive searches.
 
 use crate::stopped::Stopped;
 use ra_ap_syntax::algo::ancestors_at_offset;
@@ -66,13 +66,13 @@ fn tokens_touching(root: &SyntaxNode, offset: u32) -> Result<Touching, Stopped> 
     Ok(found)
 }
 
-// Whether the tree answers the first and the last token at an offset.
+// Whether `token_at_offset` finds the first and the last token at an offset.
 fn are_tokens_at(root: &SyntaxNode, at: TextSize, wanted: &Touching) -> bool {
     root.token_at_offset(at).left_biased() == wanted.first
         && root.token_at_offset(at).right_biased() == wanted.last
 }
 
-// Whether the nodes above an offset are so many, touch it, and come from the shortest to the longest.
+// Whether there are `wanted` nodes above an offset, all of them touch it, and the shortest come first.
 fn are_nodes_above(root: &SyntaxNode, offset: u32, wanted: usize) -> bool {
     let (mut above, mut len, mut ordered) = (0_usize, 0_u32, true);
     for node in ancestors_at_offset(root, TextSize::new(offset)) {
@@ -87,7 +87,7 @@ fn are_nodes_above(root: &SyntaxNode, offset: u32, wanted: usize) -> bool {
     ordered && above == wanted
 }
 
-// Whether the tree answers at an offset as a look at all of its tokens does.
+// Whether the searches at an offset agree with an exhaustive search of the tokens.
 fn is_right_at(root: &SyntaxNode, offset: u32) -> Result<bool, Stopped> {
     let wanted = tokens_touching(root, offset)?;
     let tokens = are_tokens_at(root, TextSize::new(offset), &wanted);
@@ -95,7 +95,7 @@ fn is_right_at(root: &SyntaxNode, offset: u32) -> Result<bool, Stopped> {
     Ok(tokens && nodes)
 }
 
-// Whether a child is where the search for what covers a range goes on: it holds the range, an empty one strictly inside.
+// Whether the search for the element that covers a range continues in this child: it contains the range, an empty one strictly inside.
 fn holds(child: TextRange, range: TextRange) -> bool {
     if range.is_empty() {
         child.start().raw() < range.start().raw() && range.end().raw() < child.end().raw()
@@ -120,10 +120,10 @@ fn child_towards(node: &SyntaxNode, range: TextRange) -> Option<SyntaxElement> {
     nearest
 }
 
-// More steps than go down any of the trees here.
+// More steps than any of the trees here is deep.
 const STEPS: u32 = 1_000_000;
 
-// What covers a range, step by step down from the root.
+// The element that covers a range, found step by step down from the root.
 fn covering(root: &SyntaxNode, range: TextRange) -> Result<SyntaxElement, Stopped> {
     let mut here = root.clone()?;
     for _step in 0..STEPS {
@@ -143,7 +143,7 @@ fn show_offset(out: &mut String, root: &SyntaxNode, offset: u32) -> Result<(), S
     Ok(())
 }
 
-// Whether the tree answers what covers a range as the search step by step does.
+// Whether `covering_element` agrees with the search step by step.
 fn is_right_over(root: &SyntaxNode, range: TextRange) -> Result<bool, Stopped> {
     let covering = covering(root, range)?;
     Ok(root.covering_element(range) == covering)

@@ -1,7 +1,6 @@
-//! Every operator term of at most so many forms over the name `a`, written down with spaces and read by `TINY`. Where the
-//! built tree reads back, the tree that is read has to be the built one, also in a body: after `let`, as a statement and as
-//! the tail. Otherwise, the text has to be refused, or read as another tree that reads back. What comes out otherwise is
-//! printed.
+//! Every operator term up to a number of forms over the name `a`, written with spaces and parsed by `TINY`. If the built
+//! tree reads back, the parsed tree must equal it, also in a body: after `let`, as a statement and as the tail. Otherwise
+//! the text must have errors, or be parsed as another tree that reads back. Every other result is printed.
 
 mod body;
 mod terms;
@@ -17,7 +16,7 @@ use terms::Terms;
 use verdict::{Verdict, verdict_of};
 use written::write_term;
 
-// How many terms came out how.
+// How many terms had each result.
 #[derive(Clone, Copy, Default)]
 struct Counts {
     terms: u32,
@@ -45,7 +44,7 @@ fn count(alloc: Global, out: &mut String, terms: &Terms, forms: usize) -> Result
     Ok(counts)
 }
 
-/// How many terms of each number of forms up to this one came out how, a line each.
+/// Prints a line for each number of forms up to this one: how many terms had each result.
 pub fn show_every_term(alloc: Global, out: &mut String, most: &str) -> Result<(), Stopped> {
     let most = number(most)? as usize;
     let terms = Terms::up_to(alloc, most)?;

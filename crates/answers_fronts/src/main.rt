@@ -5,16 +5,16 @@
 //!
 //! - `run COMMAND INPUT`: what the program writes, and its status; `bytes COMMAND` runs it on the byte 255.
 //! - `file FRONT TEXT`, `expr FRONT TEXT`: the parse's dump, its errors, what `tree`, `cast` and `ok` answer.
-//! - `edit FRONT START END |INSERT|TEXT`: what is parsed again, the new text, whether the parse equals that of the new text, errors.
+//! - `edit FRONT START END |INSERT|TEXT`: the re-parsed range, the new text, whether the parse equals that of the new text, errors.
 //! - `edits FRONT TEXT`: each range of the text edited with nothing, `x`, `}`, `"` and a newline.
-//! - `offsets FRONT TEXT`: each offset and each range of the text, asked of the tree and of plain searches.
+//! - `offsets FRONT TEXT`: each offset and each range of the text, by the tree's searches and by plain ones.
 //! - `walk TEXT`: its items, their names, and what is in and around the last expression of each body.
 //! - `built WORDS`: the errors of a tree that is built; `KIND(` enters, `)` leaves, `KIND:text` is a token, `!5` an error at 5.
 //! - `name WORD`: whether it is an identifier, and a raw one.
 //! - `parens WANTED ROW`: whether a marked node of a tree needs parentheses, and whether that is as wanted.
-//! - `terms N`: every operator term of at most N forms, read by `tiny`; how many came out how.
+//! - `terms N`: every operator term of at most N forms, parsed by `tiny`; how many had each result.
 //!
-//! A line that begins with `#` is passed over.
+//! A line that begins with `#` is skipped.
 #![tactic(auto)]
 
 mod built;
@@ -97,7 +97,7 @@ fn with(parser: Useless) -> SpanFront<TinyLexer, Useless> {
     }
 }
 
-// A request, its first word apart.
+// A request, given its first word and the rest.
 fn show(alloc: Global, out: &mut String, request: &str, rest: &str) -> Result<(), Stopped> {
     match request {
         "name" => return show_name(out, rest),

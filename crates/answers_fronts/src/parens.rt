@@ -1,7 +1,7 @@
 //! Rows on parentheses.
 //!
 //! A row is a tree as words, parted by a space: `KIND(` enters a node, `)` leaves it, `KIND:text` is a token, and a short word
-//! stands for some of these. The node that is asked is marked by `>` before its word, the parent by `^`, and the node in whose
+//! stands for some of these. The tested node is marked by `>` before its word, the parent by `^`, and the node in whose
 //! place it would be by `@`, if that is another.
 
 mod short;
@@ -21,7 +21,7 @@ struct Marks {
 }
 
 impl Marks {
-    // Takes the marks off a word that begins with the node of this number.
+    // Removes the marks of a word that begins with the node of this number.
     fn take<'a>(&mut self, word: &'a str, number: usize) -> &'a str {
         let mut left = word;
         if let Some(rest) = left.strip_prefix('^') {
@@ -44,7 +44,7 @@ fn kind_of(name: &str) -> Result<SyntaxKind, Stopped> {
     SyntaxKind::from_name(name).ok_or(Stopped::NoRequest)
 }
 
-// Appends an event, and says whether it enters a node.
+// Appends an event, and returns whether it enters a node.
 fn add(builder: &mut TreeBuilder, word: &str) -> Result<bool, Stopped> {
     if let Some((name, token)) = word.split_once(':') {
         builder.token(kind_of(name)?, token)?;
@@ -108,7 +108,7 @@ fn answer(alloc: Global, words: &str) -> Result<bool, Stopped> {
     asks.or(type_asks(&own, &parent)).ok_or(Stopped::NoNode)
 }
 
-/// Whether the marked node needs parentheses, beside what is wanted: `true` or `false`, and then the row.
+/// Whether the marked node needs parentheses, and the expected result: `true` or `false`, and then the row.
 pub fn show_parens(alloc: Global, out: &mut String, row: &str) -> Result<(), Stopped> {
     let (wanted, words) = row.split_once(' ').unwrap_or((row, ""));
     let asks = answer(alloc, words)?;

@@ -33,7 +33,7 @@ fn show_other_root(out: &mut String, same: bool) -> Result<(), Stopped> {
     Ok(writeln!(out, "ok: other root, same {same}")?)
 }
 
-// Why `ok` gives no tree, and whether the parse that it hands back is the same as before.
+// Why `ok` gives no tree, and whether the parse that it returns is the same as before.
 fn show_no_tree<T>(
     out: &mut String,
     refusal: &OkError<T>,
@@ -57,7 +57,7 @@ fn show_answer<T>(
     }
 }
 
-// What `ok` answers, and whether the parse that it hands back is the same.
+// The result of `ok`, and whether the parse that it returns is the same.
 fn show_ok<T: AstNode + Drop>(
     alloc: Global,
     out: &mut String,
@@ -84,7 +84,7 @@ fn show_tree<T: AstNode + Drop>(out: &mut String, parse: &Parse<T>) -> Result<()
     )?)
 }
 
-// What `tree`, `cast` and `ok` answer.
+// The results of `tree`, `cast` and `ok`.
 fn show_answers<T: AstNode + Drop>(
     alloc: Global,
     out: &mut String,
@@ -118,7 +118,7 @@ fn show_dump_and_errors<T>(
     push_errors(alloc, out, parse)
 }
 
-/// Prints the tree of a file, its errors, and what `tree`, `cast` and `ok` answer.
+/// Prints the tree of a file, its errors, and the results of `tree`, `cast` and `ok`.
 pub fn show_file<F: FrontEnd>(
     alloc: Global,
     out: &mut String,
@@ -130,7 +130,7 @@ pub fn show_file<F: FrontEnd>(
     show_answers(alloc, out, parse)
 }
 
-/// Prints the tree of an expression, its errors, and what `tree`, `cast` and `ok` answer.
+/// Prints the tree of an expression, its errors, and the results of `tree`, `cast` and `ok`.
 pub fn show_expr<F: FrontEnd>(
     alloc: Global,
     out: &mut String,

@@ -76,7 +76,7 @@ fn show_function(out: &mut String, function: &ast::Fn) -> Result<(), Stopped> {
     }
 }
 
-// The function that the node is; nothing where it is none.
+// The node as a function; `None` if it is not one.
 fn show_if_function(out: &mut String, node: SyntaxNode) -> Result<(), Stopped> {
     match ast::Fn::cast(node) {
         Some(function) => show_function(out, &function),
@@ -100,7 +100,7 @@ fn show_items(out: &mut String, file: &SourceFile) -> Result<(), Stopped> {
     Ok(())
 }
 
-/// Prints each function of a file: its name, its tail, and what is round the tail.
+/// Prints each function of a file: its name, its tail, and what is around the tail.
 pub fn show_walk(alloc: Global, out: &mut String, text: &str) -> Result<(), Stopped> {
     let parse = SourceFile::parse(alloc, text, &TINY, Edition::CURRENT)?;
     match parse.tree() {

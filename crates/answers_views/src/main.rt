@@ -1,4 +1,4 @@
-//! Reads trees that are written down as words, and prints of each of their nodes what each call of each view of it answers.
+//! Reads trees that are written as words, and prints the result of each call of each view of each node.
 //!
 //! A line is a tree, or a heading that begins with `#`. The words are parted by a space: `KIND(` enters a node, `)` leaves it, and
 //! `KIND:text` is a token. After a line that makes no tree is `no tree`.
@@ -22,7 +22,7 @@ use std::process::ExitCode;
 // Why a line gives no tree.
 #[derive(Drop)]
 enum Unread {
-    // It has a kind that is none, or the words make no tree.
+    // It names an unknown kind, or the words make no tree.
     NoTree,
     Memory,
 }

@@ -1,4 +1,4 @@
-// What is written about a tree: a line for each answer.
+// The output for a tree: a line for each answer.
 ghost use Rattle.std.specs.Iterator.{IsFinite};
 
 use ra_ap_syntax::ast::{AstNode, AstToken};
@@ -13,11 +13,11 @@ pub struct Sheet {
     text: String,
 }
 
-// How many bytes a sheet has room for, so that what a few trees answer takes no more memory.
+// The initial capacity in bytes: enough for the output of a few trees.
 const ROOM: usize = 1_000_000;
 
 impl Sheet {
-    /// One without lines.
+    /// A sheet without lines.
     pub fn new(alloc: Global) -> Result<Sheet, AllocError> {
         Ok(Sheet {
             alloc,
@@ -25,12 +25,12 @@ impl Sheet {
         })
     }
 
-    /// Where memory comes from, for calls that take some.
+    /// The allocator, for calls that take memory.
     pub fn alloc(&self) -> Global {
         self.alloc
     }
 
-    /// All that is written.
+    /// The whole output.
     pub fn as_str(&self) -> &str {
         self.text.as_str()
     }
@@ -94,7 +94,7 @@ impl Sheet {
         self.word(call, "out of memory")
     }
 
-    /// The answer of a call that says yes or no.
+    /// The answer of a call that returns a `bool`.
     pub fn flag(&mut self, call: &str, holds: bool) -> Result<(), AllocError> {
         self.word(call, if holds { "true" } else { "false" })
     }
@@ -133,7 +133,7 @@ impl Sheet {
         writeln!(&mut self.text, " \"{text}\"")
     }
 
-    /// The same of a text of its own.
+    /// The answer of a call that gives an owned text.
     pub fn string(&mut self, call: &str, found: Option<String>) -> Result<(), AllocError> {
         match found {
             Some(text) => self.text(call, Some(text.as_str())),

@@ -1,4 +1,4 @@
-//! The program `benches`: its first argument says what it measures, and it prints a line for each measure.
+//! The program `benches`: measures what its first argument names, and prints a line for each measurement.
 #![tactic(auto)]
 
 mod fronts;

@@ -3,7 +3,7 @@
 use crate::stopped::Stopped;
 use std::time::Instant;
 
-/// Makes a call once, and says how many nanoseconds it took. What it gave is dropped after that time.
+/// Makes a call once, and returns how many nanoseconds it took. Its result is dropped after the measurement.
 pub fn time_once<T: Drop, F: FnOnce() -> Result<T, Stopped>>(
     rt: &HostRuntime,
     call: F,
@@ -17,7 +17,7 @@ pub fn time_once<T: Drop, F: FnOnce() -> Result<T, Stopped>>(
     Ok(end.duration_since(start).as_nanos())
 }
 
-/// Makes a call so often; the least nanoseconds that it took, and what it gave last, which is `found` where it was not made.
+/// Makes a call this many times. Returns the least nanoseconds that it took, and its last result, or `found` if it was not made.
 pub fn least_time<T: Copy + Drop, F: FnMut() -> Result<T, Stopped>>(
     rt: &HostRuntime,
     runs: u32,

@@ -65,7 +65,7 @@ pass_all_of (suc n) s = pass_of (pass_all_of n s)
 abbrev pub pass_trivia_of : Laying → Laying
 pass_trivia_of s = pass_all_of (lead s.rest) s
 
--- the bytes of a token that begins with so many and goes on with these tokens
+-- the length of a token whose first part has `first` bytes and whose other parts are these tokens
 unfoldable pub joined_len : ℕ → List RawToken → ℕ
 joined_len first ts = fold (λ n t. later_of n t.len) first ts
 
@@ -73,7 +73,7 @@ abbrev pub join_on : SyntaxKind → ℕ → List RawToken → Laying → Laying
 join_on k more [] s = s
 join_on k more (t ∷ ts) s = leaf_of k (joined_len (t.len - s.cut) (take more ts)) (record s { rest = drop more ts; cut = 0 })
 
--- a token that is made of so many more than the first
+-- a token that is made of the first and `more` further ones
 abbrev pub join_of : SyntaxKind → ℕ → Laying → Laying
 join_of k more s = join_on k more s.rest s
 
@@ -82,7 +82,7 @@ kind_of_part Whole = family.Token kind.INT_NUMBER
 kind_of_part Dot = family.Token kind.DOT
 kind_of_part Fraction = family.Token kind.INT_NUMBER
 
--- how many bytes a part has whose dot has so many before it
+-- the length of a part of a number with `dot` bytes before its dot
 abbrev pub len_of_part : Part → ℕ → ℕ
 len_of_part Whole dot = min dot (2 ^ 32 - 1)
 len_of_part Dot dot = later_of (min dot (2 ^ 32 - 1)) 1
@@ -180,7 +180,7 @@ abbrev pub is_node_at : Option Event → Bool
 is_node_at None = false
 is_node_at (Some e) = is_node_of e
 
--- the number of the last node's event among the first n; as many as there are events where there is none
+-- the number of the last node's event among the first n; the number of events if there is none
 unfoldable pub root_from : List Event → ℕ → ℕ
 root_from es zero = length es
 root_from es (suc n) = if is_node_at (slice_get es n) then n else root_from es n

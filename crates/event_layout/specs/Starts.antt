@@ -4,11 +4,11 @@ use Rattle.grammar_machine.specs.declared.event.Event.{Event}
 use Rattle.grammar_machine.specs.declared.event.Event.TheVariants.{Token, Piece, Node, Error}
 use Rattle.event_layout.specs.declared.starts.Starts.{Starts}
 
--- a node goes by one more than the number of its event; 0 is none
+-- the number of a node is that of its event plus 1; 0 stands for no node
 pub record Links : Type 0 where
-  -- of each event, the last node so far that begins with it
+  -- for each event, the last node so far that begins with it
   pub last : List ℕ
-  -- of each event of a node, the node before it that begins with the same event
+  -- for each event of a node, the node before it that begins with the same event
   pub before : List ℕ
 
 abbrev pub links_of : Starts → Links
@@ -24,11 +24,11 @@ number_at ns i = number_on (slice_get ns i)
 abbrev pub number_of : ℕ → ℕ
 number_of event = if nat_lt event (2 ^ 32 - 1) then event + 1 else 0
 
--- the next event is of no node
+-- the next event is not that of a node
 abbrev pub passed_by : Links → Links
 passed_by l = record l { before = l.before ++ 0 ∷ [] }
 
--- the next event is of a node that begins with the event `from`
+-- the next event is that of a node that begins with the event `from`
 abbrev pub begun_at : ℕ → Links → Links
 begun_at from l = record { last = slice_set l.last from (number_of (length l.before)); before = l.before ++ number_at l.last from ∷ [] }
 

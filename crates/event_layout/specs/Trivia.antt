@@ -13,7 +13,7 @@ unfoldable pub lead : List Token → ℕ
 lead [] = 0
 lead (t ∷ ts) = if is_trivia t.kind then lead ts + 1 else 0
 
--- the position after n more bytes, where that has 32 bits
+-- the position after n more bytes, saturating at 32 bits
 abbrev pub later_of : ℕ → ℕ → ℕ
 later_of a n = min (a + n) (2 ^ 32 - 1)
 

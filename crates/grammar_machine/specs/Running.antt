@@ -32,7 +32,7 @@ pub record Tables : Type 0 where
 abbrev pub tables_of : Grammar → Tables
 tables_of g = record { ops = g.ops.now; sets = g.sets.now; rows = g.rows.now; powers = g.powers.now; kinds = g.kinds.now }
 
--- what was made and what is open; the last one is first
+-- what was made and what is open, last first
 pub record Stacks : Type 0 where
   pub frames : List Frame
   pub marks : List ℕ
@@ -49,7 +49,7 @@ stacks_of m = record { frames = reverse m.frames.items; marks = reverse m.marks.
 abbrev pub state_of : Place → Made → State
 state_of p m = record { place = p; made = stacks_of m }
 
--- numbers of 32 bits, and of 64, go round; the start of a node stays at the greatest
+-- numbers of 32 and of 64 bits wrap around; the start of a node saturates
 abbrev pub after_of : ℕ → ℕ
 after_of i = (i + 1) % 2 ^ 32
 
@@ -87,7 +87,7 @@ seen_of v (Some t) = seen_as_of v t
 abbrev pub seen_at_of : List Sight → View → ℕ → ℕ
 seen_at_of ts v i = seen_of v (slice_get ts i)
 
--- the kind so many tokens ahead
+-- the kind of the token n tokens ahead
 abbrev pub ahead_of : List Sight → Place → ℕ → ℕ
 ahead_of ts p n = seen_at_of ts One (further_of p.at n)
 
@@ -204,7 +204,7 @@ wrap_of k m = node_of k (first_of m.marks) m
 abbrev pub close_of : SyntaxKind → Stacks → Stacks
 close_of k m = node_of k (first_of m.marks) (forget_of m)
 
--- a node from the mark on, where that is earlier
+-- the node begins at the mark, if that is earlier
 abbrev pub longer_of : Option ℕ → Event → Event
 longer_of None e = e
 longer_of (Some mark) (event.Node k from) = event.Node k (min from mark)

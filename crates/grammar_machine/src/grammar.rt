@@ -35,12 +35,12 @@ pub enum View {
     Word,
 }
 
-/// What a rule may ask beside the kind of a single token.
+/// What a rule may test besides the kind of a single token.
 #[derive(Clone, Copy, Debug, PartialEq, Eq)]
 pub enum Test {
-    /// Whether the token so many tokens ahead has this kind in that view.
+    /// Whether the token `ahead` tokens ahead has this kind in that view.
     Sees { view: View, ahead: u8, kind: u8 },
-    /// Whether the token so many tokens ahead is in the set by its finer kind.
+    /// Whether the token `ahead` tokens ahead is in the set by its finer kind.
     WordIn { ahead: u8, set: u8 },
     /// Whether the token that was taken last has this kind.
     After { kind: u8 },
@@ -53,11 +53,11 @@ pub enum Test {
 /// The level that a called rule gets: how tightly an operator has to bind to belong to it.
 #[derive(Clone, Copy, Debug, PartialEq, Eq)]
 pub enum Level {
-    /// This one.
+    /// This level.
     Own { level: u8 },
-    /// The caller's.
+    /// The caller's level.
     Same,
-    /// The one that the last operator gives its right operand.
+    /// The level that the last operator gives its right operand.
     Operand,
 }
 
@@ -66,25 +66,25 @@ pub enum Level {
 /// Where nothing else is said the machine goes on with the next operation.
 #[derive(Clone, Copy, Debug, PartialEq, Eq)]
 pub enum Op {
-    /// Goes to the target if the token so many tokens ahead has this kind.
+    /// Goes to the target if the token `ahead` tokens ahead has this kind.
     IfKind {
         ahead: u8,
         kind: u8,
         target: u16,
     },
-    /// Goes to the target if the token so many tokens ahead has another kind.
+    /// Goes to the target if the token `ahead` tokens ahead has another kind.
     UnlessKind {
         ahead: u8,
         kind: u8,
         target: u16,
     },
-    /// Goes to the target if the token so many tokens ahead is in the set.
+    /// Goes to the target if the token `ahead` tokens ahead is in the set.
     IfIn {
         ahead: u8,
         set: u8,
         target: u16,
     },
-    /// Goes to the target if the token so many tokens ahead is not in the set.
+    /// Goes to the target if the token `ahead` tokens ahead is not in the set.
     UnlessIn {
         ahead: u8,
         set: u8,
@@ -100,7 +100,7 @@ pub enum Op {
         test: Test,
         target: u16,
     },
-    /// Goes to the target that is at the number of the next token's kind in the row of targets that begins there.
+    /// Goes to the target at the index of the next token's kind in the row of targets that begins at `row`.
     Switch {
         row: u16,
     },
@@ -121,7 +121,7 @@ pub enum Op {
         kind: u8,
         message: u16,
     },
-    /// Takes a part of the next token, which is done with if it is the last part.
+    /// Takes a part of the next token; with the last part the token is taken completely.
     Piece {
         part: Part,
         last: bool,
@@ -163,7 +163,7 @@ pub enum Op {
         keep: u8,
         add: u8,
     },
-    /// Goes over to a rule, called as by `CallWith`, which then returns to this rule's caller.
+    /// A tail call: calls a rule as `CallWith` does; that rule then returns to this rule's caller.
     Become {
         target: u16,
         level: Level,
@@ -178,7 +178,7 @@ pub enum Op {
     Reply {
         answer: u8,
     },
-    /// Answers, which a test may ask until the next answer.
+    /// Answers without returning. A test may read the answer until the next one.
     Answer {
         answer: u8,
     },

@@ -10,11 +10,11 @@ use syntax_kind::SyntaxKind;
 /// The number of the kind that follows the last token.
 const END: u8 = 1;
 
-/// The number of no operation: where a rule returns to that nothing called.
+/// Not the number of an operation: the return address of a rule that was not called.
 const STOP: u32 = u32::MAX;
 
-/// How many operations the machine runs at most for each token, and once more for the end. A grammar in which each way
-/// takes a token sooner or later stays far below.
+/// The maximum number of operations for each token, and once more for the end. A grammar in which every loop takes a token
+/// stays far below.
 const STEPS_A_TOKEN: usize = 1200;
 
 /// Where the machine is.
@@ -93,7 +93,7 @@ fn sight_at(sights: &[Sight], i: usize) -> Option<Sight>
     sights.get(i).copied()
 }
 
-// The kind of a token, as rules ask for it most.
+// The kind of a token, in the view that rules use most.
 #[inline(always)]
 fn kind_at(sights: &[Sight], i: usize) -> u8
     ensures { result ≡ seen_at_of sights.now View.One i }
@@ -308,7 +308,7 @@ fn saturated(n: usize) -> u32
 }
 
 impl Made {
-    // Nothing yet, with room for some events.
+    // Empty, with capacity for some events.
     fn new(alloc: Global, room: usize) -> Result<Made, AllocError>
         ensures { IfOk result (λ made. stacks_of made ≡ nothing_of) }
     {
@@ -624,10 +624,10 @@ fn fuel(sights: &[Sight]) -> usize
 /// What a rule makes of the tokens, which are those of a text that are not trivia: events, from which a tree can be laid
 /// out.
 ///
-/// `rule` is the number of the rule's first operation. The machine stops where the rule returns, and where it comes to a number
-/// that no operation has. A grammar that goes in a circle is stopped after 1,200 operations for each token and as many for
-/// the end; then the events are those that were made. So any grammar can be run over any tokens, in time and memory linear in
-/// the tokens, with no recursion. The error says that memory ran out.
+/// `rule` is the number of the rule's first operation. The machine stops when the rule returns, and at a number that is not
+/// that of an operation. A grammar that loops is stopped after 1,200 operations for each token and as many for the end; the
+/// events are then those that were made so far. So any grammar can be run over any tokens, in time and memory linear in
+/// the tokens, with no recursion. The only error is out of memory.
 pub fn run(
     alloc: Global,
     grammar: &Grammar,

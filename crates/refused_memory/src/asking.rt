@@ -1,17 +1,17 @@
-//! How a call is asked, and asked once more.
+//! Makes a call, and repeats it if memory was refused.
 use ra_ap_syntax::FinishError;
 use std::alloc::AllocError;
 use std::fmt::Display;
 use std::io;
 
-/// Why the asking stops.
+/// Why the run stops.
 #[derive(Drop)]
 pub enum Stopped {
     /// A call was refused twice.
     Twice(&'static str),
-    /// A call answers what it must not.
+    /// A call returned a wrong result.
     Other(&'static str),
-    /// The output fails.
+    /// The output failed.
     Output,
 }
 
@@ -36,17 +36,17 @@ impl From<io::Error> for Stopped {
     }
 }
 
-/// What became of the first asking.
+/// The outcome of the first call.
 #[derive(Clone, Copy)]
 pub enum First {
-    /// It was answered.
+    /// It returned a result.
     Answered,
-    /// It was refused.
+    /// Memory was refused.
     Refused,
 }
 
 impl First {
-    /// Refused, where this or the other is.
+    /// `Refused` if either is.
     pub fn or(self, other: First) -> First {
         match self {
             First::Answered => other,
@@ -62,7 +62,7 @@ impl First {
     }
 }
 
-/// The answer of a call, asked at most twice, and what became of the first asking.
+/// The result of a call, made at most twice, and the outcome of the first call.
 #[macro_export]
 macro_rules! asked {
     ($name:expr, $call:expr) => {
@@ -76,7 +76,7 @@ macro_rules! asked {
     };
 }
 
-/// Prints the line of a call. `stands` says whether what it was asked of is as it was before the first asking.
+/// Prints the line of a call. `stands` states whether its receiver is unchanged since before the first call.
 pub fn say(
     rt: &HostRuntime,
     name: &str,

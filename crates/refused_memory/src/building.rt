@@ -14,7 +14,7 @@ const TEXTS: [&str; 3] = [
     "fn foo() {          \"abcd",
 ];
 
-// What became of the first asking of each call of the builder.
+// The outcome of the first call of each of the builder's methods.
 #[derive(Clone, Copy)]
 struct Calls {
     start_node: First,
@@ -115,7 +115,7 @@ fn filled(
     Ok(builder)
 }
 
-// The parse that the events of another's tree and its errors make; `None` where memory was out at the end.
+// The parse built from the events of another parse's tree and its errors; `None` if `finish` ran out of memory.
 fn rebuilt(
     alloc: Global,
     parse: &Parse<SourceFile>,
@@ -201,7 +201,7 @@ fn name(alloc: Global) -> Result<SyntaxNode, Stopped> {
     Ok(builder.finish()?)
 }
 
-/// Asks each call that builds a tree, and again where memory was refused.
+/// Makes each call that builds a tree, and repeats it if memory was refused.
 pub fn ask(rt: &HostRuntime) -> Result<(), Stopped> {
     for text in TEXTS {
         rebuild(rt, &parsed(rt.alloc(), text)?)?;

@@ -1,4 +1,4 @@
-//! Calls that take no memory: each is made once all memory runs out, and answers as ever.
+//! Calls that take no memory: each is made when no memory is left, and has the same result as before.
 //!
 //! The trees and builders are before the line `built`. Every request for memory after it may be refused.
 use crate::asking::Stopped;
@@ -11,7 +11,8 @@ use tiny_front::TINY;
 
 const NOW: Edition = Edition::CURRENT;
 
-// What a builder is given, one letter a call: a node begins, a node ends, a token comes, an error far after the text.
+// A builder after these calls, one letter each: `n` begins a node, `e` ends one, `t` adds a token, any other letter adds an error past
+// the end of the text.
 fn builder(alloc: Global, calls: &str) -> Result<SyntaxTreeBuilder, AllocError> {
     let mut builder = SyntaxTreeBuilder::new(alloc);
     for call in calls.chars() {
@@ -25,7 +26,7 @@ fn builder(alloc: Global, calls: &str) -> Result<SyntaxTreeBuilder, AllocError> 
     Ok(builder)
 }
 
-// Why a builder makes no parse.
+// The builder's refusal.
 fn refusal(builder: SyntaxTreeBuilder) -> &'static str {
     match builder.finish() {
         Ok(_) => "a parse",

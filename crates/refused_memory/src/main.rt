@@ -1,8 +1,8 @@
-//! Makes each call that takes memory, and makes it once more where it is refused: what it was asked of has to be as it was.
+//! Makes each call that takes memory, and repeats it if memory was refused: its receiver must be unchanged.
 //!
-//! A line for each call: its name and what it answers, and between them `refused; ` where the first answer was that memory runs out,
-//! or `changed; ` where something is no longer as it was. It is for a run in which one request for memory is refused, whichever.
-//! With the argument `free` it makes the calls that take no memory, for a run in which all is refused from the line `built` on.
+//! Prints a line for each call: its name and its result, and between them `refused; ` if the first call ran out of memory, or
+//! `changed; ` if something has changed. It is for runs in which any one request for memory is refused. With the argument `free` it
+//! makes the calls that take no memory, for a run in which every request is refused after the line `built`.
 #![tactic(auto)]
 
 mod asking;

@@ -19,7 +19,7 @@ const EDITS: [Edit; 3] = [
     ("reparse of all", 0, 0, "fn g() {}\n"),
 ];
 
-// The first byte that goes, the byte after the last one, and what comes in their place, with a name in front.
+// The name of the edit, the start and the end of the removed range in bytes, and the inserted text.
 type Edit = (&'static str, u32, u32, &'static str);
 
 // The file after an edit; `None` where the text has no such range.
@@ -34,7 +34,7 @@ fn edited(alloc: Global, old: &File, edit: Edit) -> Result<Option<File>, ParseEr
     Ok(Some(old.reparse(alloc, &TINY, delete, insert, NOW)?))
 }
 
-// What is parsed again, where that is a piece.
+// The piece that is parsed again, if it is not the whole text.
 fn replaced(alloc: Global, old: &File, edit: Edit) -> Result<Option<TextRange>, ParseError> {
     let (_, start, end, insert) = edit;
     let root = old.syntax_node();
@@ -74,7 +74,7 @@ fn dump(rt: &HostRuntime, parse: &File) -> Result<(), Stopped> {
     say(rt, "debug_dump", first, *parse == before, dump.len())
 }
 
-// What `ok` answers, in a word.
+// The result of `ok`, as a word.
 fn word(answer: &Result<SourceFile, OkError<SourceFile>>) -> &'static str {
     match answer {
         Ok(_) => "the file",
@@ -93,7 +93,7 @@ fn ok_word(alloc: Global, parse: File) -> &'static str {
     word(&parse.ok(alloc))
 }
 
-// The parse that `ok` hands back where memory runs out is the one that it was asked of, and answers its errors.
+// The parse that `ok` returns when memory runs out is its receiver, and has its errors.
 fn handed_back(
     rt: &HostRuntime,
     name: &'static str,
@@ -133,7 +133,7 @@ fn ask_broken(rt: &HostRuntime, broken: &File) -> Result<(), Stopped> {
     ok(rt, "ok of a broken file", broken)
 }
 
-/// Asks each call that parses, and again where memory was refused.
+/// Makes each call that parses, and repeats it if memory was refused.
 pub fn ask(rt: &HostRuntime) -> Result<(), Stopped> {
     ask_file(rt, &parsed(rt, TEXT)?)?;
     ask_broken(rt, &parsed(rt, BROKEN)?)

@@ -211,7 +211,7 @@ fn parentheses(rt: &HostRuntime) -> Result<(), Stopped> {
     }
 }
 
-/// Asks each call that makes a new tree, a value or a list, and again where memory was refused.
+/// Makes each call that makes a new tree, a value or a list, and repeats it if memory was refused.
 pub fn ask(rt: &HostRuntime) -> Result<(), Stopped> {
     sum(rt)?;
     values(rt)?;

@@ -1,4 +1,4 @@
-//! Trees that calls are asked of.
+//! Trees for the calls.
 use crate::asking::Stopped;
 use ra_ap_syntax::{SyntaxKind, SyntaxNode, TreeBuilder};
 use std::alloc::Global;

@@ -1,4 +1,4 @@
--- The nodes that may be read again by themselves, as rust-analyzer's parser has them: each begins with `{` and ends with `}`.
+-- The nodes that may be parsed again by themselves, as rust-analyzer's parser has them: each begins with `{` and ends with `}`.
 use Rattle.std.specs.Prelude.{ℕ, Bool, true, false, if◌then◌else◌, nat_eq, Option, Some, None}
 use Rattle.syntax_kind.specs.declared.syntax_kind.SyntaxKind.{SyntaxKind}
 use Rattle.syntax_kind.specs.declared.syntax_kind.SyntaxKind.TheVariants.{Token, Node, OTHER}
@@ -26,7 +26,7 @@ only_if false x = None
 abbrev pub other_rule_of : ℕ → Option ℕ
 other_rule_of n = if nat_eq n 271 then Some 2 else (if nat_eq n 275 then Some 3 else None)
 
--- the number by which a node's rule is known
+-- the number of a node's rule
 abbrev pub number_of : SyntaxKind → Option SyntaxKind → Option SyntaxKind → Option ℕ
 number_of (Node node.BLOCK_EXPR) first parent = Some 0
 number_of (Node node.RECORD_FIELD_LIST) first parent = Some 1

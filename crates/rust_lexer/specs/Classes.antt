@@ -1,4 +1,4 @@
--- Classes of bytes and characters, and what follows the longest front of a text that is of one.
+-- Classes of bytes and characters, and the rest of a text after its longest prefix in one.
 -- Source: the Rust Reference, "Whitespace", "Identifiers" and "Tokens".
 use Rattle.std.specs.Prelude.{ℕ, zero, suc, Bool, false, not, nat_le, nat_lt, ◌==◌, ◌&&◌, ◌||◌, if◌then◌else◌, Option, Some, None, List, [], ◌∷◌, length, drop, slice_get}
 use Rattle.bstr.specs.Utf8.{decoded}
@@ -42,7 +42,7 @@ is_name_start_of c = c == 95 || is_xid_start c
 abbrev pub is_name_continue_of : ℕ → Bool
 is_name_continue_of c = is_xid_continue c
 
--- an emoji that is no ASCII
+-- an emoji that is not ASCII
 abbrev pub is_emoji_of : ℕ → Bool
 is_emoji_of c = nat_le 0x80 c && is_emoji c
 
@@ -68,20 +68,20 @@ begins_digit_of bs = test_on is_digit_of (slice_get bs 0)
 abbrev pub begins_wide_of : Wide → List ℕ → Bool
 begins_wide_of w bs = test_on (is_wide_of w) (decoded bs).char
 
--- what follows the longest front of bytes in the class
+-- the rest after the longest prefix of bytes in the class
 abbrev pub skip_of : Class → List ℕ → List ℕ
 skip_of c [] = []
 skip_of c (b ∷ bs) = if is_in_of c b then skip_of c bs else b ∷ bs
 
--- what follows the first character
+-- the rest after the first character
 abbrev pub after_char_of : List ℕ → List ℕ
 after_char_of bs = drop (decoded bs).size bs
 
--- what follows at most n characters in the class
+-- the rest after at most n characters in the class
 unfoldable pub skip_some : ℕ → Wide → List ℕ → List ℕ
 skip_some zero w bs = bs
 skip_some (suc n) w bs = if begins_wide_of w bs then skip_some n w (after_char_of bs) else bs
 
--- what follows the longest front of characters in the class
+-- the rest after the longest prefix of characters in the class
 abbrev pub skip_wide_of : Wide → List ℕ → List ℕ
 skip_wide_of w bs = skip_some (length bs) w bs

@@ -26,7 +26,7 @@ block_kind_of s =
     else (if begins_of 42 s && not (begins_of 42 (drop 1 s)) && not (begins_of 47 (drop 1 s)) then Token token.OUTER_DOC_COMMENT
     else Token token.COMMENT)
 
--- to the end of the line, which is none of it
+-- to the end of the line, without the newline
 abbrev pub line_comment_of : List ℕ → Shape
 line_comment_of s = plain_of (line_kind_of s) (length (skip_of classes.InLine s))
 

@@ -27,7 +27,7 @@ is_unit_of modes.Char = true
 is_unit_of modes.Byte = true
 is_unit_of _ = false
 
--- some errors are none for the lexer: a backslash at the end, a carriage return, and the warnings
+-- the lexer does not report a backslash at the end, a carriage return, or a warning
 abbrev pub problem_of : Mode → EscapeError → Option Problem
 problem_of m LoneSlash = None
 problem_of m BareCarriageReturn = None

@@ -1,4 +1,4 @@
--- What the readings of a text's front amount to, in terms of the text: laws of the definitions.
+-- Which prefix of a text each definition reads, in terms of the text: laws of the definitions.
 -- Source: the Rust Reference, "Comments", "Whitespace", "Identifiers" and "Tokens".
 use Rattle.std.specs.Prelude.{◌≡◌, ◌≢◌, ℕ, zero, suc, Bool, true, false, List, [], ◌∷◌, ◌++◌, All, slice_get}
 use Rattle.rust_lexer.specs.declared.class.Class.{Class}
@@ -6,14 +6,14 @@ use Rattle.rust_lexer.specs.declared.scan.Scan.TheVariants.{Text, Raw, Closed}
 use Rattle.rust_lexer.specs.Classes.{is_in_of, skip_of, test_on}
 use Rattle.rust_lexer.specs.Scans.{run_of}
 
--- r follows the longest front of s whose bytes pass the test
+-- r is the rest of s after the longest prefix whose bytes pass the test
 pub record FollowsLongest (test : ℕ → Bool) (s r : List ℕ) : Type 0 where
   pub front : List ℕ
   pub parts : s ≡ front ++ r
   pub all_pass : All (λ b. test b ≡ true) front
   pub next_fails : test_on test (slice_get r 0) ≡ false
 
--- white space, the letters of a name, digits, the rest of a line: the longest front of their class is read
+-- white space, the letters of a name, digits, the rest of a line: the longest prefix in their class is read
 abbrev pub LongestFronts : Type 0
 LongestFronts = (c : Class) (s : List ℕ) → FollowsLongest (is_in_of c) s (skip_of c s)
 

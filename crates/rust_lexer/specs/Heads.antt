@@ -28,7 +28,7 @@ abbrev pub is_bracket_of : SyntaxKind → Bool
 is_bracket_of (Token token.L_BRACK) = true
 is_bracket_of _ = false
 
--- the first token that is no white space and no comment is a `[`, among at most n tokens
+-- among at most n tokens, the first one that is neither white space nor a comment is a `[`
 unfoldable pub begins_bracket_of : ℕ → Edition → List ℕ → Bool
 begins_bracket_of zero e s = false
 begins_bracket_of (suc n) e s =
@@ -38,13 +38,13 @@ begins_bracket_of (suc n) e s =
 abbrev pub behind_two_of : List ℕ → List ℕ
 behind_two_of s = back_of (length s - 2) s
 
--- how many bytes follow the line, of which the newline, and a carriage return before it, is none
+-- the number of bytes after the line, including its newline and a carriage return before that
 abbrev pub line_left_of : List ℕ → ℕ
 line_left_of s =
     let r = skip_of classes.InLine s in
     if not (length r == 0) && begins_of 13 (drop (length s - length r - 1) s) then one_more (length r) else length r
 
--- where a front matter is faulty, a shebang is sought by tokens
+-- if a front matter is faulty, a shebang is recognized by tokens
 abbrev pub shebang_of : Edition → List ℕ → Option ℕ
 shebang_of e s =
     if begins_shebang_of s && not (begins_bracket_of (length (behind_two_of s)) e (behind_two_of s)) then Some (line_left_of s) else None
@@ -52,11 +52,11 @@ shebang_of e s =
 abbrev pub skip_line_of : List ℕ → List ℕ
 skip_line_of s = drop 1 (skip_of classes.InLine s)
 
--- what follows the newline, if one is first, and else p
+-- the rest after the newline, if one is first, otherwise p
 abbrev pub last_line_of : List ℕ → List ℕ → List ℕ
 last_line_of p s = if begins_of 10 s then after_char_of s else p
 
--- what follows the last newline among at most n characters of white space; p follows the last one before
+-- the rest after the last newline among at most n characters of white space; p is the rest after the last newline before
 unfoldable pub empty_lines : ℕ → List ℕ → List ℕ → List ℕ
 empty_lines zero p s = p
 empty_lines (suc n) p s = if begins_wide_of wides.Space s then empty_lines n (last_line_of p s) (after_char_of s) else p
@@ -85,7 +85,7 @@ abbrev pub body_on : Scan → List ℕ → Option ℕ
 body_on Closed r = behind_closing r (closing_of r)
 body_on _ r = None
 
--- after the opening fence of so many dashes
+-- the bytes after the front matter, given the text after its opening fence of d dashes
 abbrev pub body_of : ℕ → List ℕ → Option ℕ
 body_of d s = let r = skip_of classes.InLine s in body_on (run_of (Matter d) r).0 (run_of (Matter d) r).1
 

@@ -14,7 +14,7 @@ abbrev pub is_closed_of : Scan → Bool
 is_closed_of Closed = true
 is_closed_of _ = false
 
--- one byte follows directly another somewhere
+-- the byte x is directly followed by y somewhere
 abbrev pub holds_pair_of : ℕ → ℕ → List ℕ → Bool
 holds_pair_of x y s = is_closed_of (run_of (Seek x y) s).0
 
@@ -29,7 +29,7 @@ is_string_of _ = false
 abbrev pub is_code_of : SyntaxKind → List ℕ → Bool
 is_code_of k w = is_string_of k && holds_code_of w
 
--- one of the n last tokens is a string with code; the last one is first, and s is their text
+-- one of the last n tokens is a string with code; ts has the last token first, and s is the text of all of them
 unfoldable pub is_behind_code_of : ℕ → List span.Token → List ℕ → Bool
 is_behind_code_of zero ts s = false
 is_behind_code_of (suc n) [] s = false

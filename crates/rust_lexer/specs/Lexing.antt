@@ -20,7 +20,7 @@ use Rattle.rust_lexer.specs.History.{is_behind_code_of}
 use Rattle.rust_lexer.specs.Shapes.{plain_of}
 use Rattle.rust_lexer.specs.Tokens.{token_of}
 
--- a size, as far as 32 bits reach
+-- a size, saturating at 32 bits
 abbrev pub size_of : ℕ → ℕ
 size_of n = min n (2 ^ 32 - 1)
 
@@ -37,11 +37,11 @@ abbrev pub faults_with : TextRange → Option Problem → List LexError → List
 faults_with r None es = es
 faults_with r (Some p) es = es ++ (record { problem = p; range = r }) ∷ []
 
--- what is between so many bytes before and so many after
+-- the text without its first `before` and its last `behind` bytes
 abbrev pub content_of : ℕ → ℕ → List ℕ → List ℕ
 content_of before behind s = back_of (length (front_of behind s) - before) (front_of behind s)
 
--- of a prefix after these tokens, with n bytes from it on
+-- the problem with a prefix after these tokens, n bytes before the end of the text
 abbrev pub prefix_problem_of : List Token → List ℕ → ℕ → Problem
 prefix_problem_of ts text n = if is_behind_code_of 5 (reverse ts) (front_of n text) then UnknownPrefixBehindString else UnknownPrefix
 

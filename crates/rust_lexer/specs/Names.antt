@@ -33,7 +33,7 @@ skip_name_of s = let r = skip_of classes.Name s in if begins_beyond_of r then sk
 abbrev pub skip_suffix_of : List ℕ → List ℕ
 skip_suffix_of s = if begins_name_of s then skip_name_of s else s
 
--- no name has an emoji; one that has is a token all the same
+-- a name has no emoji; one with an emoji is an error, but still one token
 abbrev pub emoji_name_of : List ℕ → Shape
 emoji_name_of r = with_of (Token token.IDENT) (length (skip_wide_of wides.Emoji r)) InvalidIdent
 

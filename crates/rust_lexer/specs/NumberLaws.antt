@@ -16,7 +16,7 @@ use Rattle.rust_lexer.specs.Numbers.{number_of}
 abbrev pub AreIn : Class → List ℕ → Type 0
 AreIn c w = All (λ b. is_in_of c b ≡ true) w
 
--- the letter after 0, and the digits that are read after it: decimal ones that a base lacks are read all the same
+-- the letter after 0, and the digits that are read after it: decimal digits that the base lacks are read too
 abbrev pub IsBase : ℕ → Class → Type 0
 IsBase letter c = ((letter ≡ 120) × (c ≡ Hexadecimal)) ⊎ (((letter ≡ 98) ⊎ (letter ≡ 111)) × (c ≡ Decimal))
 
@@ -34,7 +34,7 @@ pub data Mantissa : List ℕ → Type 0 where
 abbrev pub IsSign : List ℕ → Type 0
 IsSign sign = (sign ≡ []) ⊎ ((sign ≡ 43 ∷ []) ⊎ (sign ≡ 45 ∷ []))
 
--- `e` or `E`, a sign or none, and digits and `_`, among them a digit
+-- `e` or `E`, an optional sign, and digits and `_`, among them a digit
 pub data Exponent : List ℕ → Type 0 where
   digits : (e : ℕ) (sign us : List ℕ) (d : ℕ) (ds : List ℕ) → (e ≡ 101) ⊎ (e ≡ 69) → IsSign sign → AreIn Underscore us → is_digit_of d ≡ true → AreIn Decimal ds
       → Exponent (e ∷ (sign ++ (us ++ d ∷ ds)))

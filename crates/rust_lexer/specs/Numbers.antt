@@ -41,13 +41,13 @@ fraction_of s =
     if not (begins_digit_of s) then float_of s
     else (let r = skip_of classes.Decimal s in if begins_exponent_of r then exponent_of (drop 1 r) else float_of r)
 
--- after the digits: a dot is of the number where no other dot and no name follows it
+-- after the digits: a dot is part of the number if no other dot and no name follows it
 abbrev pub behind_digits_of : List ℕ → Shape
 behind_digits_of s =
     if begins_of 46 s then (if begins_of 46 (drop 1 s) || begins_name_of (drop 1 s) then whole_of s else fraction_of (drop 1 s))
     else (if begins_exponent_of s then exponent_of (drop 1 s) else whole_of s)
 
--- after 0x, 0b or 0o; decimal digits that a base lacks are read all the same
+-- after 0x, 0b or 0o; decimal digits that the base lacks are read too
 abbrev pub based_of : Class → List ℕ → Shape
 based_of c s =
     let d = skip_of classes.Underscore s in

@@ -3,8 +3,8 @@ use Rattle.std.specs.Prelude.{◌≡◌, ◌≢◌, ℕ, List, [], ◌∷◌, �
 use Rattle.rust_lexer.specs.declared.scan.Scan.TheVariants.{Quote, Closed}
 use Rattle.rust_lexer.specs.Scans.{run_of}
 
--- what may be between the quotes of a character: no quote, backslash, slash or newline but after a backslash, and one newline right
--- before the closing quote; that it is one character is looked at later
+-- what may be between the quotes of a character: no quote, backslash, slash or newline, except after a backslash, and one newline right
+-- before the closing quote; whether it is a single character is checked later
 pub data CharacterContent : List ℕ → Type 0 where
   nothing : CharacterContent []
   newline : CharacterContent (10 ∷ [])

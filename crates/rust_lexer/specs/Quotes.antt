@@ -38,7 +38,7 @@ opening_of modes.Str = 1
 opening_of modes.ByteStr = 2
 opening_of modes.CStr = 2
 
--- one more, where that has 64 bits
+-- one more, saturating at 64 bits
 abbrev pub one_more : ℕ → ℕ
 one_more n = min (n + 1) (2 ^ 64 - 1)
 
@@ -56,7 +56,7 @@ string_on m _ r = open_of m (length r)
 abbrev pub string_of : Mode → List ℕ → Shape
 string_of m s = string_on m (run_of scans.Text s).0 (run_of scans.Text s).1
 
--- ''' and '/' are characters, though the first has no backslash, and a slash else ends the search for the quote
+-- ''' and '/' are characters, although the first has no backslash and a slash otherwise ends the search for the quote
 abbrev pub is_mark_of : List ℕ → Bool
 is_mark_of s = (begins_of 39 s || begins_of 47 s) && begins_of 39 (drop 1 s)
 

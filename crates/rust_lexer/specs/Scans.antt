@@ -4,7 +4,7 @@ use Rattle.std.specs.Prelude.{ℕ, ◌+◌, ◌-◌, ◌^◌, min, not, nat_le, 
 use Rattle.rust_lexer.specs.declared.scan.Scan.{Scan}
 use Rattle.rust_lexer.specs.declared.scan.Scan.TheVariants.{Comment, CommentSlash, CommentStar, Text, TextEscape, Quote, QuoteEscape, QuoteLine, Raw, RawHashes, Matter, Fence, Seek, SeekSecond, Closed}
 
--- comments nest; the depth stops at what 32 bits hold
+-- comments nest; the depth saturates at 32 bits
 abbrev pub comment_of : ℕ → ℕ → Scan
 comment_of d b = if b == 47 then CommentSlash d else (if b == 42 then CommentStar d else Comment d)
 
@@ -42,7 +42,7 @@ matter_of d b = if b == 10 then Fence d d else Matter d
 abbrev pub fence_of : ℕ → ℕ → ℕ → Scan
 fence_of n d b = if not (b == 45) then matter_of d b else (if nat_le n 1 then Closed else Fence (n - 1) d)
 
--- one byte is sought right after another
+-- the search for one byte directly after another
 abbrev pub seek_of : ℕ → ℕ → ℕ → Scan
 seek_of x y b = if b == x then SeekSecond x y else Seek x y
 
@@ -66,7 +66,7 @@ next_of (Seek x y) b = Some (seek_of x y b)
 next_of (SeekSecond x y) b = Some (seek_second_of x y b)
 next_of Closed b = None
 
--- how far the bytes are read, and what follows
+-- the state after reading the bytes, and the rest
 unfoldable pub run_of : Scan → List ℕ → Scan × List ℕ
 run_of q [] = (q, [])
 run_of q (b ∷ bs) = elim (next_of q b) [ None ↦ (q, b ∷ bs) | Some r ↦ run_of r bs ]

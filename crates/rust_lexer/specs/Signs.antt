@@ -4,7 +4,7 @@ use Rattle.syntax_kind.specs.declared.syntax_kind.SyntaxKind.{SyntaxKind}
 use Rattle.syntax_kind.specs.declared.syntax_kind.SyntaxKind.TheVariants.{Token}
 use Rattle.syntax_kind.specs.declared.syntax_kind.token_kind.TokenKind.TheVariants as token
 
--- the kind of the sign that the byte is, and ERROR where it is none
+-- the kind of the sign that the byte is, or ERROR if it is not one
 abbrev pub sign_kind_of : ℕ → SyntaxKind
 sign_kind_of b =
     if b == 59 then Token token.SEMICOLON else (

@@ -18,7 +18,7 @@ abbrev pub later_of : Option Problem → Option Problem → Option Problem
 later_of o None = o
 later_of o (Some p) = Some p
 
--- the last problem of some reports, and else o
+-- the last problem of some reports, otherwise o
 abbrev pub last_from : Mode → Option Problem → List Report → Option Problem
 last_from m o [] = o
 last_from m o (r ∷ rs) = last_from m (later_of o (result_problem_of m r.unit)) rs
@@ -36,7 +36,7 @@ last_problem_of s (Is p) = Some p
 last_problem_of s Prefix = Some UnknownPrefix
 last_problem_of s (Content m before behind) = last_content_problem m (content_of before behind s)
 
--- nothing follows the token at the front
+-- nothing follows the first token
 abbrev pub single_token_of : Edition → List ℕ → Option (SyntaxKind × Option Problem)
 single_token_of e s =
     if length s == 0 then None

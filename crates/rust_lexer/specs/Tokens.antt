@@ -1,4 +1,4 @@
--- The token at the front of a text. Source: the Rust Reference, "Tokens" and "Whitespace".
+-- The first token of a text. Source: the Rust Reference, "Tokens" and "Whitespace".
 use Rattle.std.specs.Prelude.{ℕ, Bool, false, nat_le, ◌==◌, ◌&&◌, ◌||◌, if◌then◌else◌, Option, Some, None, List, length, drop, slice_get}
 use Rattle.syntax_kind.specs.declared.syntax_kind.SyntaxKind.TheVariants.{Token}
 use Rattle.syntax_kind.specs.declared.syntax_kind.token_kind.TokenKind.TheVariants as token
@@ -40,13 +40,13 @@ is_reserved_of _ s = false
 abbrev pub pound_of : Edition → List ℕ → Shape
 pound_of e s = if is_reserved_of e s then with_of (Token token.ERROR) (length (drop 1 s)) ReservedGuard else sign_of 35 s
 
--- r#a, r"..", and else a name
+-- r#a, r"..", otherwise a name
 abbrev pub letter_r_of : Edition → List ℕ → List ℕ → Shape
 letter_r_of e text s =
     if begins_of 35 s && begins_name_of (drop 1 s) then plain_of (Token token.IDENT) (length (skip_name_of (drop 1 s)))
     else (if opens_raw_of s then raw_string_of (Token token.STRING) s else name_of e text)
 
--- br"..", b"..", b'.', and else a name
+-- br"..", b"..", b'.', otherwise a name
 abbrev pub letter_b_of : Edition → List ℕ → List ℕ → Shape
 letter_b_of e text s =
     if begins_of 114 s && opens_raw_of (drop 1 s) then raw_string_of (Token token.BYTE_STRING) (drop 1 s)
@@ -54,7 +54,7 @@ letter_b_of e text s =
     else (if begins_of 39 s then character_of modes.Byte (drop 1 s)
     else name_of e text))
 
--- cr"..", c"..", and else a name
+-- cr"..", c"..", otherwise a name
 abbrev pub letter_c_of : Edition → List ℕ → List ℕ → Shape
 letter_c_of e text s =
     if begins_of 114 s && opens_raw_of (drop 1 s) then raw_string_of (Token token.C_STRING) (drop 1 s)

@@ -1,4 +1,4 @@
-//! Classes of bytes and characters, and the longest front of a text that is of one.
+//! Classes of bytes and characters, and the longest prefix of a text in one.
 ghost use Rattle.std.specs.Prelude.{◌≡◌, slice_get, drop};
 ghost use Rattle.bstr.specs.Utf8.{decoded};
 ghost use Rattle.rust_lexer.specs.Classes.{is_letter_of, is_digit_of, is_hex_digit_of, is_in_of, is_space_of, is_name_start_of, is_name_continue_of, is_emoji_of, is_wide_of, skip_of, begins_of, begins_digit_of, begins_beyond_of, begins_wide_of, skip_wide_of};
@@ -13,7 +13,7 @@ pub enum Class {
     Space,
     /// Space and tab.
     Blank,
-    /// What goes on in a name: letters, digits and `_`, of ASCII.
+    /// Characters that may follow in a name: ASCII letters and digits, and `_`.
     Name,
     /// Decimal digits and `_`.
     Decimal,
@@ -25,13 +25,13 @@ pub enum Class {
     Hash,
     /// `-`
     Dash,
-    /// All but a backslash.
+    /// All except a backslash.
     InString,
-    /// ASCII but for a backslash and a NUL.
+    /// ASCII except a backslash and NUL.
     InBytes,
-    /// All but a newline.
+    /// All except a newline.
     InLine,
-    /// All but a `(`.
+    /// All except `(`.
     NoParen,
 }
 
@@ -40,9 +40,9 @@ pub enum Class {
 pub enum Wide {
     /// White space.
     Space,
-    /// What goes on in a name.
+    /// Characters that may follow in a name.
     Name,
-    /// What goes on in a name with an emoji.
+    /// Characters that may follow in a name with an emoji.
     Emoji,
 }
 
@@ -152,7 +152,7 @@ pub fn after(bytes: &[u8], count: usize) -> &[u8]
     }
 }
 
-/// What follows the longest front of bytes in the class.
+/// The rest after the longest prefix of bytes in the class.
 #[inline]
 pub fn skip(class: Class, bytes: &[u8]) -> &[u8]
     ensures { result.now ≡ skip_of class bytes.now }
@@ -167,7 +167,7 @@ pub fn skip(class: Class, bytes: &[u8]) -> &[u8]
     rest
 }
 
-/// What follows the first character of UTF-8.
+/// The rest after the first UTF-8 character.
 pub fn after_char(bytes: &[u8]) -> &[u8]
     ensures { result.now ≡ drop (decoded bytes.now).size bytes.now }
 {
@@ -184,7 +184,7 @@ pub fn begins_wide(class: Wide, bytes: &[u8]) -> bool
     }
 }
 
-/// What follows the longest front of characters in the class.
+/// The rest after the longest prefix of characters in the class.
 pub fn skip_wide(class: Wide, bytes: &[u8]) -> &[u8]
     ensures { result.now ≡ skip_wide_of class bytes.now }
 {

@@ -8,7 +8,7 @@ use crate::scan::{Scan, run};
 use crate::shape::Shape;
 use syntax_kind::SyntaxKind;
 
-// The kind of a comment by what follows its `//`.
+// The kind of a comment, given the text after its `//`.
 fn line_kind(rest: &[u8]) -> SyntaxKind
     ensures { result ≡ line_kind_of rest.now }
 {
@@ -21,7 +21,7 @@ fn line_kind(rest: &[u8]) -> SyntaxKind
     }
 }
 
-// The kind of a comment by what follows its `/*`.
+// The kind of a comment, given the text after its `/*`.
 fn block_kind(rest: &[u8]) -> SyntaxKind
     ensures { result ≡ block_kind_of rest.now }
 {
@@ -34,14 +34,14 @@ fn block_kind(rest: &[u8]) -> SyntaxKind
     }
 }
 
-/// The comment to the end of the line, by what follows its `//`.
+/// The comment to the end of the line, given the text after its `//`.
 pub fn line_comment(rest: &[u8]) -> Shape
     ensures { result ≡ line_comment_of rest.now }
 {
     Shape::plain(line_kind(rest), skip(Class::InLine, rest).len())
 }
 
-/// The comment up to its `*/`, by what follows its `/*`.
+/// The comment up to its `*/`, given the text after its `/*`.
 pub fn block_comment(rest: &[u8]) -> Shape
     ensures { result ≡ block_comment_of rest.now }
 {

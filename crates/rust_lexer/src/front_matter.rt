@@ -6,7 +6,7 @@ use crate::class::{Class, Wide, after, after_char, begins, begins_wide, skip};
 use crate::scan::{Scan, run};
 use crate::shebang::{begins_shebang, behind_two};
 
-/// What precedes a file's first token, by how many bytes follow each.
+/// What precedes a file's first token; each part is given as the number of bytes after it.
 #[derive(Clone, Copy)]
 pub struct Prelude {
     /// The shebang, with the end of its line.
@@ -15,14 +15,14 @@ pub struct Prelude {
     pub front_matter: Option<usize>,
 }
 
-// What follows the line.
+// The rest after the line.
 fn skip_line(bytes: &[u8]) -> &[u8]
     ensures { result.now ≡ skip_line_of bytes.now }
 {
     after(skip(Class::InLine, bytes), 1)
 }
 
-// What follows the newline, if one is first.
+// The rest after the newline, if one is first.
 fn last_line<'a>(before: &'a [u8], rest: &'a [u8]) -> &'a [u8]
     ensures { result.now ≡ last_line_of before.now rest.now }
 {
@@ -33,7 +33,7 @@ fn last_line<'a>(before: &'a [u8], rest: &'a [u8]) -> &'a [u8]
     }
 }
 
-// What follows the lines of white space.
+// The rest after the lines of white space.
 fn skip_empty_lines(bytes: &[u8]) -> &[u8]
     ensures { result.now ≡ skip_empty_lines_of bytes.now }
 {
@@ -49,14 +49,14 @@ fn skip_empty_lines(bytes: &[u8]) -> &[u8]
     behind_line
 }
 
-// Whether a shebang is first. An attribute `#![..]` is none, also with white space before its bracket.
+// Whether a shebang is first. An attribute `#![..]` is not one, even with white space before its bracket.
 fn has_shebang(text: &str) -> bool
     ensures { result ≡ has_shebang_of text.now }
 {
     begins_shebang(text.as_bytes()) && !begins(b'[', behind_two(text).trim_start().as_bytes())
 }
 
-// How many bytes follow the line of the closing fence, by what follows the fence; `None` where more than blanks is there.
+// The number of bytes after the line of the closing fence, given the text after the fence; `None` if that line has more than blanks.
 fn closing(bytes: &[u8]) -> Option<usize>
     ensures { result ≡ closing_of bytes.now }
 {
@@ -72,7 +72,7 @@ fn closing(bytes: &[u8]) -> Option<usize>
     }
 }
 
-// How many bytes follow the front matter, by what follows its opening fence of so many dashes.
+// The number of bytes after the front matter, given the text after its opening fence of `dashes` dashes.
 fn body(dashes: usize, bytes: &[u8]) -> Option<usize>
     ensures { result ≡ body_of dashes bytes.now }
 {
@@ -93,7 +93,7 @@ fn body(dashes: usize, bytes: &[u8]) -> Option<usize>
     }
 }
 
-// What follows the shebang.
+// The rest after the shebang.
 fn behind_shebang(text: &str) -> &[u8]
     ensures { result.now ≡ behind_shebang_of text.now }
 {
@@ -104,7 +104,7 @@ fn behind_shebang(text: &str) -> &[u8]
     }
 }
 
-/// The shebang and the front matter of a text, or `None` if a front matter begins that is faulty.
+/// The shebang and the front matter of a text, or `None` if the front matter is faulty.
 pub fn head(text: &str) -> Option<Prelude>
     ensures { result ≡ prelude_of text.now }
 {

@@ -5,7 +5,7 @@ ghost use Rattle.rust_lexer.specs.NameLaws.{LongestCharacters, NamesAreRead};
 ghost use Rattle.rust_lexer.specs.NumberLaws.{NumbersAreRead};
 ghost use Rattle.rust_lexer.specs.QuoteLaws.{CharactersAreRead, CharacterContentsAreRead};
 
-/// White space, names, digits and the rest of a line are the longest front of the text whose bytes are of their class.
+/// White space, names, digits and the rest of a line are the longest prefix of the text whose bytes are in their class.
 pub fn longest_fronts()
     ensures { LongestFronts }
 {}
@@ -31,7 +31,7 @@ pub fn numbers()
     ensures { NumbersAreRead }
 {}
 
-/// A name goes on with letters, digits and `_`, and past ASCII with the characters of XID_Continue; the longest such front is read.
+/// A name goes on with letters, digits and `_`, and past ASCII with the characters of XID_Continue; the longest such prefix is read.
 pub fn names()
     ensures characters { LongestCharacters }
     ensures read { NamesAreRead }

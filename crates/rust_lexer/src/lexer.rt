@@ -42,7 +42,7 @@ pub struct Lexed {
     pub errors: Vec<LexError>,
 }
 
-// The size, as far as 32 bits reach.
+// The size, saturating at 32 bits.
 fn size(len: usize) -> TextSize
     ensures { result ≡ size_of len }
 {
@@ -104,7 +104,7 @@ fn report_content(
     }
 }
 
-// The text but for so many bytes before and after.
+// The text without its first `before` and its last `behind` bytes.
 pub(crate) fn content(text: &str, before: usize, behind: usize) -> &str
     ensures { result.now ≡ content_of before behind text.now }
 {
@@ -148,7 +148,7 @@ fn report_fault(
     }
 }
 
-// Takes a token of this shape from the front of the rest, and gives what follows it.
+// Takes a token of this shape from the start of the rest, and returns what follows it.
 fn take<'a>(
     lexed: &mut Lexed,
     text: &str,
@@ -167,7 +167,7 @@ fn take<'a>(
     Ok(tail)
 }
 
-// The same of a token of this kind with so many bytes after it, if there is one and something is left.
+// Takes a token of this kind that ends `left` bytes before the end, if there is one and something is left.
 fn take_some<'a>(
     lexed: &mut Lexed,
     text: &str,

@@ -48,7 +48,7 @@ pub fn begins_emoji(bytes: &[u8]) -> bool
     }
 }
 
-/// What follows the characters that go on in a name.
+/// The rest after the characters that may follow in a name.
 #[inline]
 pub fn skip_name(bytes: &[u8]) -> &[u8]
     ensures { result.now ≡ skip_name_of bytes.now }
@@ -61,7 +61,7 @@ pub fn skip_name(bytes: &[u8]) -> &[u8]
     }
 }
 
-/// What follows a literal's suffix, which is a name.
+/// The rest after a literal's suffix, which is a name.
 pub fn skip_suffix(bytes: &[u8]) -> &[u8]
     ensures { result.now ≡ skip_suffix_of bytes.now }
 {
@@ -72,7 +72,7 @@ pub fn skip_suffix(bytes: &[u8]) -> &[u8]
     }
 }
 
-/// A name that an emoji is in; `rest` begins there.
+/// A name with an emoji; `rest` begins at the emoji.
 pub fn emoji_name(rest: &[u8]) -> Shape
     ensures { result ≡ emoji_name_of rest.now }
 {

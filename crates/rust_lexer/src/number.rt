@@ -46,7 +46,7 @@ fn float_without_digits(rest: &[u8]) -> Shape
     )
 }
 
-// What follows the sign of an exponent.
+// The rest after the sign of an exponent.
 fn sign(rest: &[u8]) -> &[u8]
     ensures { result.now ≡ sign_of rest.now }
 {
@@ -115,7 +115,7 @@ fn based(class: Class, rest: &[u8]) -> Shape
     }
 }
 
-/// The number, by its first digit and what follows that.
+/// The number, given its first digit and the text after that.
 pub fn number(first: u8, rest: &[u8]) -> Shape
     ensures { result ≡ number_of first rest.now }
 {

@@ -143,7 +143,7 @@ fn message_back(problem: Problem) -> &'static str
 }
 
 impl Problem {
-    /// The message, in two parts: where the second is not empty, the token's text is between them.
+    /// The message, in two parts: if the second is not empty, the token's text is inserted between them.
     pub fn message(self) -> (&'static str, &'static str)
         ensures front { result.0.now ≡ message_front_of self }
         ensures back { result.1.now ≡ message_back_of self }

@@ -34,7 +34,7 @@ fn unterminated(mode: Mode) -> Problem
     }
 }
 
-// How many bytes are before the content.
+// The number of bytes before the content.
 fn opening(mode: Mode) -> usize
     ensures { result ≡ opening_of mode }
 {
@@ -64,7 +64,7 @@ fn open(mode: Mode, left: usize) -> Shape
     Shape::with(kind(mode), left, unterminated(mode))
 }
 
-/// The string of this mode, by what follows its opening quote.
+/// The string of this mode, given the text after its opening quote.
 pub fn string(mode: Mode, rest: &[u8]) -> Shape
     ensures { result ≡ string_of mode rest.now }
 {
@@ -82,7 +82,7 @@ fn is_mark(bytes: &[u8]) -> bool
     (begins(b'\'', bytes) || begins(b'/', bytes)) && begins(b'\'', after(bytes, 1))
 }
 
-/// The character or byte, by what follows its opening quote.
+/// The character or byte, given the text after its opening quote.
 pub fn character(mode: Mode, rest: &[u8]) -> Shape
     ensures { result ≡ character_of mode rest.now }
 {
@@ -92,7 +92,7 @@ pub fn character(mode: Mode, rest: &[u8]) -> Shape
     let (scan, rest) = run(Scan::Quote, rest);
     match scan {
         Scan::Closed => closed(mode, rest),
-        // the newline is none of it
+        // without the newline
         Scan::QuoteLine => open(mode, rest.len().saturating_add(1)),
         _ => open(mode, rest.len()),
     }
@@ -138,7 +138,7 @@ fn may_be_lifetime(rest: &[u8]) -> bool
     (begins_digit(rest) || begins_name(rest)) && !begins(b'\'', after_char(rest))
 }
 
-/// The character or lifetime, by what follows its quote.
+/// The character or lifetime, given the text after its quote.
 pub fn character_or_lifetime(rest: &[u8]) -> Shape
     ensures { result ≡ character_or_lifetime_of rest.now }
 {

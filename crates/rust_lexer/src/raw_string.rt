@@ -15,7 +15,7 @@ fn invalid(kind: SyntaxKind, left: usize) -> Shape
     Shape::with(kind, left, Problem::InvalidRawString)
 }
 
-// What follows the opening quote after so many `#`.
+// The raw string, given the number of its `#` and the text after its opening quote.
 fn body(kind: SyntaxKind, hashes: usize, rest: &[u8]) -> Shape
     ensures { result ≡ body_of kind hashes rest.now }
 {
@@ -32,7 +32,7 @@ fn body(kind: SyntaxKind, hashes: usize, rest: &[u8]) -> Shape
     }
 }
 
-/// The raw string, by what follows its letters.
+/// The raw string, given the text after its letters.
 pub fn raw_string(kind: SyntaxKind, rest: &[u8]) -> Shape
     ensures { result ≡ raw_string_of kind rest.now }
 {
@@ -41,7 +41,7 @@ pub fn raw_string(kind: SyntaxKind, rest: &[u8]) -> Shape
         let hashes = rest.len().saturating_sub(opening.len());
         body(kind, hashes, after(opening, 1))
     } else {
-        // the character that should be a quote is of the token
+        // the character in place of the quote is part of the token
         invalid(kind, after_char(opening).len())
     }
 }

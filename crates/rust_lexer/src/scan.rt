@@ -2,7 +2,7 @@
 ghost use Rattle.std.specs.Prelude.{◌≡◌, Some};
 ghost use Rattle.rust_lexer.specs.Scans.{after_raw_quote_of, comment_of, comment_slash_of, comment_star_of, text_of, quote_of, quote_line_of, raw_of, raw_hashes_of, seek_of, seek_second_of, matter_of, fence_of, next_of, run_of};
 
-/// What is being read, and how far the scan is.
+/// The state of the scan.
 #[derive(Clone, Copy, PartialEq, Eq)]
 pub enum Scan {
     /// A block comment that is nested in this many others.
@@ -188,7 +188,7 @@ fn seek_second(first: u8, second: u8, byte: u8) -> Scan
     }
 }
 
-/// What is read with one more byte, or `None` if the reading ends before it.
+/// The state after one more byte, or `None` if the scan ends before it.
 #[inline]
 pub fn next(scan: Scan, byte: u8) -> Option<Scan>
     ensures { result ≡ next_of scan byte }
@@ -212,7 +212,7 @@ pub fn next(scan: Scan, byte: u8) -> Option<Scan>
     }
 }
 
-/// How far the bytes are read, and what follows.
+/// The state after reading the bytes, and the rest.
 #[inline]
 pub fn run(start: Scan, bytes: &[u8]) -> (Scan, &[u8])
     ensures scan { result.0 ≡ (run_of start bytes.now).0 }

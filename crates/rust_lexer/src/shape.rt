@@ -20,7 +20,7 @@ pub enum Fault {
     Content(Mode, usize, usize),
 }
 
-/// The token at the front of a text.
+/// The first token of a text.
 #[derive(Clone, Copy)]
 pub struct Shape {
     /// Its kind.
@@ -32,7 +32,7 @@ pub struct Shape {
 }
 
 impl Shape {
-    /// A token with which nothing is wrong.
+    /// A token without a problem.
     #[inline]
     pub fn plain(kind: SyntaxKind, left: usize) -> Shape
         ensures { result ≡ plain_of kind left }
@@ -44,7 +44,7 @@ impl Shape {
         }
     }
 
-    /// A token with which this is wrong.
+    /// A token with this problem.
     pub fn with(kind: SyntaxKind, left: usize, problem: Problem) -> Shape
         ensures { result ≡ with_of kind left problem }
     {

@@ -34,7 +34,7 @@ fn is_bracket(kind: SyntaxKind) -> bool
     }
 }
 
-// Whether the first token that is no white space and no comment is a `[`.
+// Whether the first token that is neither white space nor a comment is a `[`.
 fn begins_bracket(text: &str, edition: Edition) -> bool
     ensures { result ≡ begins_bracket_of (length text.now) edition text.now }
 {
@@ -50,7 +50,7 @@ fn begins_bracket(text: &str, edition: Edition) -> bool
     false
 }
 
-/// The text after its first two bytes, which are of ASCII.
+/// The text after its first two bytes, which are ASCII.
 pub fn behind_two(text: &str) -> &str
     ensures { result.now ≡ behind_two_of text.now }
 {
@@ -58,7 +58,7 @@ pub fn behind_two(text: &str) -> &str
     tail
 }
 
-// How many bytes follow the line, of which the end is none.
+// The number of bytes after the line, including its line ending.
 fn line_left(bytes: &[u8]) -> usize
     ensures { result ≡ line_left_of bytes.now }
 {

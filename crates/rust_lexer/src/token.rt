@@ -1,4 +1,4 @@
-//! The token at the front of a text.
+//! The first token of a text.
 ghost use Rattle.std.specs.Prelude.{◌≡◌};
 ghost use Rattle.rust_lexer.specs.Tokens.{space_of, sign_of, slash_of, is_reserved_of, pound_of, opens_raw_of, letter_r_of, letter_b_of, letter_c_of, beyond_of, letter_of, mark_of, other_of, token_of};
 
@@ -79,7 +79,7 @@ fn pound(rest: &[u8], edition: Edition) -> Shape
     }
 }
 
-// What begins with `r`; `rest` follows it.
+// A token that begins with `r`; `rest` is the text after the `r`.
 fn letter_r(text: &str, rest: &[u8], edition: Edition) -> Shape
     ensures { result ≡ letter_r_of edition text.now rest.now }
 {
@@ -92,7 +92,7 @@ fn letter_r(text: &str, rest: &[u8], edition: Edition) -> Shape
     }
 }
 
-// What begins with `b`; `rest` follows it.
+// A token that begins with `b`; `rest` is the text after the `b`.
 fn letter_b(text: &str, rest: &[u8], edition: Edition) -> Shape
     ensures { result ≡ letter_b_of edition text.now rest.now }
 {
@@ -107,7 +107,7 @@ fn letter_b(text: &str, rest: &[u8], edition: Edition) -> Shape
     }
 }
 
-// What begins with `c`; `rest` follows it.
+// A token that begins with `c`; `rest` is the text after the `c`.
 fn letter_c(text: &str, rest: &[u8], edition: Edition) -> Shape
     ensures { result ≡ letter_c_of edition text.now rest.now }
 {
@@ -120,7 +120,7 @@ fn letter_c(text: &str, rest: &[u8], edition: Edition) -> Shape
     }
 }
 
-// What begins with a letter or `_`.
+// A token that begins with a letter or `_`.
 #[inline]
 fn letter(first: u8, text: &str, rest: &[u8], edition: Edition) -> Shape
     ensures { result ≡ letter_of edition first text.now rest.now }
@@ -133,7 +133,7 @@ fn letter(first: u8, text: &str, rest: &[u8], edition: Edition) -> Shape
     }
 }
 
-// What begins with a character that is none of ASCII.
+// A token that begins with a character that is not ASCII.
 fn beyond(text: &str, edition: Edition) -> Shape
     ensures { result ≡ beyond_of edition text.now }
 {
@@ -149,7 +149,7 @@ fn beyond(text: &str, edition: Edition) -> Shape
     }
 }
 
-// What begins with a mark that is no letter.
+// A token that begins with a mark that is not a letter.
 #[inline]
 fn mark(first: u8, rest: &[u8], edition: Edition) -> Shape
     ensures { result ≡ mark_of edition first rest.now }
@@ -163,7 +163,7 @@ fn mark(first: u8, rest: &[u8], edition: Edition) -> Shape
     }
 }
 
-// What begins with no letter and no white space of ASCII.
+// A token that begins with neither an ASCII letter nor ASCII white space.
 #[inline]
 fn other(first: u8, text: &str, rest: &[u8], edition: Edition) -> Shape
     ensures { result ≡ other_of edition first text.now rest.now }
@@ -177,7 +177,7 @@ fn other(first: u8, text: &str, rest: &[u8], edition: Edition) -> Shape
     }
 }
 
-/// The token at the front of the text. Of an empty text it is anything.
+/// The first token of the text. For an empty text the result has no meaning.
 #[tactic(auto, unfolding(crate::specs::Tokens::token_of))]
 #[inline]
 pub fn token(text: &str, edition: Edition) -> Shape

@@ -1,4 +1,4 @@
-//! All terms of so many forms.
+//! All terms with a given number of forms.
 
 use std::alloc::{AllocError, Global};
 
@@ -56,12 +56,12 @@ pub struct Term {
 #[derive(Drop)]
 pub struct Terms {
     all: Vec<Term>,
-    // Where the terms of so many forms begin, and last where all end.
+    // Where the terms of each number of forms begin, and last where all end.
     starts: Vec<usize>,
 }
 
 impl Terms {
-    /// All terms of at most so many forms.
+    /// All terms of at most this many forms.
     pub fn up_to(alloc: Global, forms: usize) -> Result<Terms, AllocError> {
         let mut terms = Terms {
             all: Vec::new(alloc),
@@ -82,7 +82,7 @@ impl Terms {
         Ok(terms)
     }
 
-    /// The terms of so many forms.
+    /// The terms of this many forms.
     pub fn of(&self, forms: usize) -> &[Term] {
         let (start, end) = self.range(forms);
         self.all.as_slice().get(start..end).unwrap_or(&[])
@@ -93,7 +93,7 @@ impl Terms {
         self.all.as_slice().get(number).copied()
     }
 
-    // The first number of a term of so many forms, and the one after the last.
+    // The first number of a term of this many forms, and the one after the last.
     fn range(&self, forms: usize) -> (usize, usize) {
         let starts = self.starts.as_slice();
         let start = starts.get(forms).copied().unwrap_or(0);
@@ -120,7 +120,7 @@ impl Terms {
         Ok(())
     }
 
-    // The parts have so many forms in all.
+    // The parts have this many forms in all.
     fn add_with_two_parts(&mut self, inside: usize) -> Result<(), AllocError> {
         for form in TWO_PARTS {
             for left in 0..=inside {

@@ -1,4 +1,4 @@
-//! What comes of reading a term.
+//! The result of parsing a term.
 
 use crate::every_term::body::stands_in_a_body;
 use crate::every_term::words::words_of;
@@ -9,7 +9,7 @@ use ra_ap_syntax::{AstNode, Edition, Parse, SyntaxNode, ast};
 use std::alloc::Global;
 use tiny_front::TINY;
 
-/// What comes of reading a term.
+/// The result of parsing a term.
 #[derive(Clone, Copy, PartialEq, Eq)]
 pub enum Verdict {
     /// The built tree reads back, and is read everywhere.
@@ -34,7 +34,7 @@ fn has_words(alloc: Global, node: &SyntaxNode, words: &str) -> Result<bool, Stop
     Ok(words_of(alloc, node)?.as_str() == words)
 }
 
-// What comes of a text whose built tree reads back: it has to be read as these words, without errors and in a body too.
+// The result for a text whose built tree reads back: it has to be parsed as these words, without errors and in a body too.
 fn read_back(
     alloc: Global,
     text: &str,
@@ -51,7 +51,7 @@ fn read_back(
     })
 }
 
-// What comes of a text whose built tree doesn't read back: it has errors, or is read as other words, whose tree does.
+// The result for a text whose built tree doesn't read back: it has errors, or is parsed as other words, whose tree does.
 fn read_otherwise(
     alloc: Global,
     parse: &Parse<ast::Expr>,

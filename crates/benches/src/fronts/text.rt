@@ -25,13 +25,13 @@ pub enum Place {
 
 #[derive(Clone, Copy)]
 pub enum Input {
-    // Small functions, so many bytes in all.
+    // Small functions, this many bytes in all.
     Flat(u32),
-    // Functions with a block of 1,000 bytes, so many bytes in all, of which one is edited.
+    // Functions with a block of 1,000 bytes, this many bytes in all; one block is edited.
     Wide(Place, u32),
-    // So many small functions.
+    // This many small functions.
     Functions(u32),
-    // A function with so many calls in one another.
+    // A function with this many nested calls.
     Nested(u32),
 }
 
@@ -88,7 +88,7 @@ impl Input {
         Ok(out)
     }
 
-    /// Where the function begins in which is edited.
+    /// Where the edited function begins.
     pub fn function(self, text: &str) -> Option<usize> {
         let from = match self {
             Input::Wide(Place::Middle, _) => text.len() / 2,

@@ -33,7 +33,7 @@ impl Call {
         }
     }
 
-    /// Asks it of a literal, and says how many bytes or units it gave.
+    /// Calls it on a literal, and returns how many bytes or units it gave.
     pub fn run(self, alloc: Global, literal: &str) -> Result<usize, Stopped> {
         match self {
             Call::StringValue => Ok(string_value(alloc, literal)?.as_str().len()),

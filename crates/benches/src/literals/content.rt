@@ -29,7 +29,7 @@ impl Content {
         }
     }
 
-    /// A literal with so many pieces.
+    /// A literal with this many pieces.
     pub fn literal(self, alloc: Global, pieces: u32) -> Result<String, AllocError> {
         let mut text = String::new(alloc);
         if let Content::Raw = self {

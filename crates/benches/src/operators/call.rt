@@ -19,7 +19,7 @@ impl Call {
         }
     }
 
-    /// Calls it, and says how many pairs were found, or 1 where the expression reads back.
+    /// Calls it, and returns how many pairs were found, or 1 where the expression reads back.
     pub fn run(self, alloc: Global, expr: &ast::Expr) -> Result<usize, AllocError> {
         match self {
             Call::ReadsBack => Ok((reads_back(expr) == Some(true)) as usize),

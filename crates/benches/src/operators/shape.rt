@@ -25,7 +25,7 @@ impl Shape {
         }
     }
 
-    // What precedes the name `a` and after it, again and again, and how many operators that has each time.
+    // The text that is repeated before the name `a`, that after it, and the number of operators in each repetition.
     fn around(self) -> (&'static str, &'static str, u32) {
         match self {
             Shape::Flat => ("", " + a", 1),
@@ -37,7 +37,7 @@ impl Shape {
         }
     }
 
-    /// The text of an expression with so many operators.
+    /// The text of an expression with this many operators.
     pub fn text(self, alloc: Global, operators: u32) -> Result<String, AllocError> {
         let (before, behind, each) = self.around();
         let times = operators.checked_div(each).unwrap_or(0);

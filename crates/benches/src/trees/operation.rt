@@ -3,7 +3,7 @@
 use crate::stopped::Stopped;
 use lossless_tree::{SyntaxNode, TextRange, TextSize, WalkEvent};
 
-// More steps than any chain of steps here takes.
+// More steps than any chain of steps here has.
 const STEPS: u32 = 100_000_000;
 
 // How many offsets are looked up, and clones made, in a run.

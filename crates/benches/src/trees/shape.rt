@@ -7,11 +7,11 @@ use std::fmt;
 
 #[derive(Clone, Copy)]
 pub enum Shape {
-    // Four children a node, and so many levels of nodes; tokens of two bytes.
+    // Four children for each node, and this many levels of nodes; tokens of two bytes.
     Balanced(u32),
-    // One node with so many children: a node with one token, a blank, and so on.
+    // One node with this many children: a node with one token, a blank, and so on.
     Wide(u64),
-    // So many nodes, each in the one before, and a token in the last.
+    // This many nodes, each in the one before, and a token in the last.
     Chain(u64),
 }
 

@@ -1,4 +1,4 @@
-//! The trees that are walked, and the node that is asked of in each.
+//! The trees that are walked, and the node that is tested in each.
 
 use crate::stopped::Stopped;
 use ra_ap_syntax::{SyntaxKind, SyntaxNode, SyntaxTreeBuilder};
@@ -38,7 +38,7 @@ fn block(builder: &mut SyntaxTreeBuilder) -> Result<(), AllocError> {
     builder.finish_node()
 }
 
-// `a + a`, with so many empty errors before the operator.
+// `a + a`, with this many empty errors before the operator.
 fn wide(
     builder: &mut SyntaxTreeBuilder,
     kind: SyntaxKind,
@@ -57,7 +57,7 @@ fn wide(
     builder.finish_node()
 }
 
-// `a + a + ..`, so many sums in one another.
+// `a + a + ..`, this many nested sums.
 fn sums(builder: &mut SyntaxTreeBuilder, depth: u32) -> Result<(), AllocError> {
     for _sum in 0..depth {
         builder.start_node(SyntaxKind::BIN_EXPR)?;
@@ -99,7 +99,7 @@ impl Walk {
         }
     }
 
-    /// A tree with so many elements to walk over.
+    /// A tree with this many elements to walk over.
     pub fn tree(self, alloc: Global, size: u32) -> Result<SyntaxNode, Stopped> {
         let mut builder = SyntaxTreeBuilder::new(alloc);
         match self {
@@ -180,7 +180,7 @@ impl Walk {
         Ok(builder.finish()?.syntax_node())
     }
 
-    /// The node that is asked of.
+    /// The node that is tested.
     pub fn place(self, root: &SyntaxNode) -> Option<SyntaxNode> {
         let first = root
             .children()
