@@ -1,10 +1,10 @@
-//! Answers requests on front ends, parses and edits, one a line, and prints each request and its answer: rows as data.
+//! Reads requests on front ends, parses and edits, one on each line, and prints each request with its result.
 //!
 //! A request is a word and what it is about. In it `\n`, `\t`, `\r` and `\\` are escapes. `FRONT` is `tiny`, or one of the
 //! useless front ends `wrong` and `flat`.
 //!
 //! - `run COMMAND INPUT`: what the program writes, and its status; `bytes COMMAND` runs it on the byte 255.
-//! - `file FRONT TEXT`, `expr FRONT TEXT`: the parse's dump, its errors, what `tree`, `cast` and `ok` answer.
+//! - `file FRONT TEXT`, `expr FRONT TEXT`: the parse's dump, its errors, the results of `tree`, `cast` and `ok`.
 //! - `edit FRONT START END |INSERT|TEXT`: the re-parsed range, the new text, whether the parse equals that of the new text, errors.
 //! - `edits FRONT TEXT`: each range of the text edited with nothing, `x`, `}`, `"` and a newline.
 //! - `offsets FRONT TEXT`: each offset and each range of the text, by the tree's searches and by plain ones.

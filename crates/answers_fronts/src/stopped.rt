@@ -1,4 +1,4 @@
-//! Why a request has no answer.
+//! Why a request has no result.
 
 use ra_ap_syntax::{FinishError, ParseError};
 use std::alloc::{AllocError, AllocFailed};

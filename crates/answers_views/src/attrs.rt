@@ -1,4 +1,4 @@
-// Attributes, documentation comments and token trees: accessors that are no plain lookups.
+// Attributes, documentation comments and token trees: accessors that are not plain lookups.
 use crate::sheet::Sheet;
 use ra_ap_syntax::ast::{
     self, AnyAttr, AnyHasAttrs, AstNode, AttrKind, HasAttrs, Meta, TokenTreeChildren, cast_ref,
@@ -6,7 +6,7 @@ use ra_ap_syntax::ast::{
 use ra_ap_syntax::{SyntaxNode, SyntaxToken};
 use std::alloc::AllocError;
 
-/// Prints what the accessors of attributes, documentation comments and token trees that are no plain lookups answer of a node.
+/// Prints the results, for a node, of the accessors of attributes, documentation comments and token trees that are not plain lookups.
 pub fn answers(sheet: &mut Sheet, node: &SyntaxNode) -> Result<(), AllocError> {
     meta(sheet, node)?;
     opened_meta(sheet, node)?;

@@ -1,10 +1,10 @@
-// Expressions: accessors that are no plain lookups.
+// Expressions: accessors that are not plain lookups.
 use crate::sheet::Sheet;
 use ra_ap_syntax::ast::{self, AstNode, BinaryOp, RangeItem, cast_ref};
 use ra_ap_syntax::{SyntaxNode, SyntaxToken};
 use std::alloc::AllocError;
 
-/// Prints what the accessors of expressions that are no plain lookups answer of a node.
+/// Prints the results, for a node, of the accessors of expressions that are not plain lookups.
 pub fn answers(sheet: &mut Sheet, node: &SyntaxNode) -> Result<(), AllocError> {
     expr(sheet, node)?;
     callable_expr(sheet, node)?;

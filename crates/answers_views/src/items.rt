@@ -1,10 +1,10 @@
-// Items, patterns and types: accessors that are no plain lookups.
+// Items, patterns and types: accessors that are not plain lookups.
 use crate::sheet::Sheet;
 use ra_ap_syntax::SyntaxNode;
 use ra_ap_syntax::ast::{self, AstNode, StructKind, TypeBoundKind, VisibilityKind, cast_ref};
 use std::alloc::AllocError;
 
-/// Prints what the accessors of items, patterns and types that are no plain lookups answer of a node.
+/// Prints the results, for a node, of the accessors of items, patterns and types that are not plain lookups.
 pub fn answers(sheet: &mut Sheet, node: &SyntaxNode) -> Result<(), AllocError> {
     macros(sheet, node)?;
     impls(sheet, node)?;

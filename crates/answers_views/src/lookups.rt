@@ -12,7 +12,7 @@ use crate::sheet::Sheet;
 use ra_ap_syntax::SyntaxNode;
 use std::alloc::AllocError;
 
-/// Prints what the plain lookups answer of a node.
+/// Prints the results of the plain lookups for a node.
 pub fn answers(sheet: &mut Sheet, node: &SyntaxNode) -> Result<(), AllocError> {
     attr::answers(sheet, node)?;
     expr::answers(sheet, node)?;

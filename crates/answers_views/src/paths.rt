@@ -1,10 +1,10 @@
-// Names, paths and imports: accessors that are no plain lookups.
+// Names, paths and imports: accessors that are not plain lookups.
 use crate::sheet::Sheet;
 use ra_ap_syntax::SyntaxNode;
 use ra_ap_syntax::ast::{self, AstNode, NameLike, NameOrNameRef, PathSegmentKind, cast_ref};
 use std::alloc::AllocError;
 
-/// Prints what the accessors of names, paths and imports that are no plain lookups answer of a node.
+/// Prints the results, for a node, of the accessors of names, paths and imports that are not plain lookups.
 pub fn answers(sheet: &mut Sheet, node: &SyntaxNode) -> Result<(), AllocError> {
     names(sheet, node)?;
     name_ref(sheet, node)?;

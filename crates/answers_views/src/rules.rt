@@ -1,10 +1,10 @@
-// The rules over nodes: precedences, parentheses, and what is wrong with a tree.
+// The rules over nodes: precedences, parentheses, and the violations of a tree.
 use crate::sheet::Sheet;
 use ra_ap_syntax::SyntaxNode;
 use ra_ap_syntax::ast::{self, cast_ref, prec};
 use std::alloc::AllocError;
 
-/// Prints what the rules over nodes answer of a node.
+/// Prints the results of the rules over nodes for a node.
 pub fn answers(sheet: &mut Sheet, node: &SyntaxNode) -> Result<(), AllocError> {
     any_expr(sheet, node)?;
     type_parens(sheet, node)

@@ -1,4 +1,4 @@
-//! What the machine makes of the tokens: a flat list of events, from which a tree can be laid out in one pass.
+//! The output of the machine: a flat list of events, from which a tree can be laid out in one pass.
 
 use syntax_kind::SyntaxKind;
 
@@ -9,11 +9,11 @@ pub enum Part {
     Whole,
     /// The dot.
     Dot,
-    /// What follows the dot.
+    /// The digits after the dot.
     Fraction,
 }
 
-/// What the machine made, in order.
+/// One event of the machine's output.
 #[derive(Clone, Copy, Debug, PartialEq, Eq)]
 pub enum Event {
     /// A token of this kind, joined from the next `signs` tokens that are not trivia (1 to 3).

@@ -63,7 +63,7 @@ pub enum Level {
 
 /// One operation. A target is the number of an operation, and so is a rule: that of its first one.
 ///
-/// Where nothing else is said the machine goes on with the next operation.
+/// Unless stated otherwise, the machine continues with the next operation.
 #[derive(Clone, Copy, Debug, PartialEq, Eq)]
 pub enum Op {
     /// Goes to the target if the token `ahead` tokens ahead has this kind.

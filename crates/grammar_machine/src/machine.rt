@@ -42,7 +42,7 @@ struct Frame {
     flags: u8,
 }
 
-/// What the machine made, and what it has begun.
+/// The output so far, and the open nodes and calls.
 #[derive(Debug, Drop)]
 struct Made {
     /// The events.
@@ -621,8 +621,7 @@ fn fuel(sights: &[Sight]) -> usize
     sights.len().saturating_add(1).saturating_mul(STEPS_A_TOKEN)
 }
 
-/// What a rule makes of the tokens, which are those of a text that are not trivia: events, from which a tree can be laid
-/// out.
+/// Runs a rule over the tokens of a text that are not trivia. Returns the events, from which a tree can be laid out.
 ///
 /// `rule` is the number of the rule's first operation. The machine stops when the rule returns, and at a number that is not
 /// that of an operation. A grammar that loops is stopped after 1,200 operations for each token and as many for the end; the

@@ -20,7 +20,7 @@ fn kind_in_node(node: &SyntaxNode) -> Option<SyntaxKind>
     None
 }
 
-// The kind of the first token that is no trivia, of a node or token.
+// The kind of the first token that is not trivia, of a node or token.
 fn kind_in(element: &SyntaxElement) -> Option<SyntaxKind>
     ensures { result ≡ kind_in (cursor_of element.now) }
 {

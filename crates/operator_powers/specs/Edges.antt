@@ -10,7 +10,7 @@ use Rattle.lossless_tree.specs.Element.{element_of}
 use Rattle.operator_terms.specs.Reading.{is_as, is_name, is_angle}
 use Rattle.operator_powers.specs.declared.edge.Edge.{Edge}
 
--- the kind of a token that is no trivia
+-- the kind of a token that is not trivia
 abbrev pub leaf_kind : NodeOrToken Cursor Cursor → Option SyntaxKind
 leaf_kind (Node c) = None
 leaf_kind (Token c) = cond (is_trivia (kind_of (focus c))) None (Some (kind_of (focus c)))

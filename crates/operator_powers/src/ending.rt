@@ -30,7 +30,7 @@ fn token_before(token: &SyntaxToken, first: &Option<SyntaxToken>) -> Option<Synt
     }
 }
 
-// A token that is no trivia decides, unless it is the last such and a name.
+// A token that is not trivia decides, unless it is the last such token and a name.
 fn decides(named: bool, kind: SyntaxKind) -> bool
     ensures { result ≡ (named || not (is_name kind)) }
 {

@@ -16,19 +16,19 @@ use Rattle.operator_trees.specs.Shown.{is_right}
 use Rattle.operator_trees.specs.Shape.{shape}
 use Rattle.operator_powers.specs.Rules.{form_powers, by_power, is_field_form, is_call_form, is_term_form}
 
--- a part that is a child asks for a pair, by its form and powers
+-- a part that is a child needs a pair, by its form and powers
 abbrev pub part_asks : Form → Forest → Form → Powers → Bool → Bool
 part_asks own oc f pp before = if is_field_form own && is_call_form f then true else by_power (form_powers own oc 0) pp before
 
 abbrev pub child_asks : Form → Powers → Bool → Tree → Bool
 child_asks f pp before t = not (is_token t) && (is_term_form (form_of (kind_of t)) && part_asks (form_of (kind_of t)) (forest_of_children t) f pp before)
 
--- a child after the first token that is no trivia follows the operator
+-- a child after the first token that is not trivia follows the operator
 abbrev pub still_before : Tree → Bool → Bool
 still_before (node k c) before = before
 still_before (token k t) before = is_trivia k && before
 
--- a part among the children asks for a pair
+-- a part among the children needs a pair
 abbrev pub asks_from : Form → Powers → Bool → Forest → Bool
 asks_from f pp before nil = false
 asks_from f pp before (cons t r) = child_asks f pp before t || asks_from f pp (still_before t before) r
@@ -36,7 +36,7 @@ asks_from f pp before (cons t r) = child_asks f pp before t || asks_from f pp (s
 abbrev pub parts_ask : Form → Forest → Bool
 parts_ask f c = is_term_form f && asks_from f (form_powers f c 0) true c
 
--- no part of the node that is a child of it asks for a pair
+-- no part of the node that is its child needs a pair
 abbrev pub node_fits : Tree → Bool
 node_fits (token k t) = true
 node_fits (node k c) = not (parts_ask (form_of k) c)

@@ -21,7 +21,7 @@ fn powers_of(form: Form, trees: &SiblingsLeft<'_>) -> Strength
     form_powers(form, trees)
 }
 
-// A part asks for a pair, by its form and powers.
+// A part needs a pair, by its form and powers.
 fn part_asks(
     own: Form,
     own_trees: &SiblingsLeft<'_>,
@@ -37,7 +37,7 @@ fn part_asks(
     by_power(powers_of(own, own_trees), parent, before)
 }
 
-// The first of the siblings asks for a pair.
+// The first of the siblings needs a pair.
 fn child_asks(left: &SiblingsLeft<'_>, form: Form, parent: Strength, before: bool) -> bool
     ensures { result ≡ child_asks form (pow parent.left parent.right) before (first_of left.now.trees) }
 {
@@ -79,7 +79,7 @@ fn parts_ask(form: Form, trees: &SiblingsLeft<'_>) -> bool
     is_term_form(form) && asks_from(form, powers_of(form, trees), trees)
 }
 
-/// Whether no part of the node that is a child of it asks for a pair.
+/// Whether no part of the node that is its child needs a pair.
 pub fn node_fits(node: &SyntaxNode) -> bool
     requires { IsNode (focus node.now) }
     ensures { result ≡ node_fits (focus node.now) }

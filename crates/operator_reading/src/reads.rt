@@ -53,7 +53,7 @@ fn all_have_forms(node: &SyntaxNode) -> bool
     true
 }
 
-// No part in the subtree asks for a pair.
+// No part in the subtree needs a pair.
 fn all_fit(node: &SyntaxNode) -> bool
     ensures { result ≡ every node_fits (focus node.now) }
 {

@@ -97,7 +97,7 @@ pub fn paired_keeps_what_reads()
 
 /// Pairs are where they must and nowhere else.
 ///
-/// `test`: the test that puts them in asks whether an operand fits. `parts`: a part of the paired
+/// `test`: the test that decides where they are put is whether an operand fits. `parts`: a part of the paired
 /// term is the paired part, in a pair unless it fits before the tokens that follow it.
 pub fn pairs_where_unfit()
     ensures test { (d : Demand) (angle : Bool) (e : Term)
@@ -117,7 +117,7 @@ pub fn tokens_without_a_pair()
         × (tokens (without q t) ≡ before ++ (tokens e ++ tokens_behind q t)) }
 {}
 
-/// In a term that its tokens read as, a pair may go exactly where what it holds fits the pair's
+/// In a term that its tokens read as, a pair may go exactly if its contents fit the pair's
 /// place: then the tokens without the pair read as the term without it.
 pub fn pair_may_go()
     ensures { (t : Term) (q : List ℕ) (d : Demand) (e : Term)
@@ -128,7 +128,7 @@ pub fn pair_may_go()
 
 // ---- the tests
 
-/// The test by binding powers asks for a pair exactly where an operand doesn't fit.
+/// The test by binding powers requires a pair exactly if an operand doesn't fit.
 ///
 /// It holds for any term `own` in place of any part, followed by `<` or `<<` (`angle`) or not.
 pub fn powers_ask_where_unfit()
@@ -137,7 +137,7 @@ pub fn powers_ask_where_unfit()
         → needs_pair_at t i angle own ≡ false ↔ FitsPlace d angle own }
 {}
 
-/// Where the test by precedences asks for no parentheses, the test by binding powers asks for none.
+/// If the test by precedences requires no parentheses, the test by binding powers requires none.
 ///
 /// The exceptions are a field that is called, and an operand that ends in a cast's name before `<` or
 /// `<<`.
@@ -154,9 +154,9 @@ pub fn precedences_ask_enough()
 
 /// The operator theorem, over terms.
 ///
-/// `readings`: a term is the one reading of its tokens exactly where the test by binding powers asks
-/// for a pair at no operand. `pairs`: in such a term, the test asks for none at what a pair holds
-/// exactly where the tokens without the pair read as the term without it.
+/// `readings`: a term is the one reading of its tokens exactly if the test by binding powers
+/// requires a pair at no operand. `pairs`: in such a term, the test requires none for the contents of
+/// a pair exactly if the tokens without the pair read as the term without it.
 ///
 /// The term may precede any tokens, `following`; where it, or it without the pair, ends in a
 /// cast's name, these must not begin with `<` or `<<`.

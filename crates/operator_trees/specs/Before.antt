@@ -11,7 +11,7 @@ stands_before order size from to parent =
     if nat_le parent from then nat_lt (from + order) parent
     else (if nat_le to parent then nat_lt (from + order + to) (parent + size + from) else false)
 
--- a child that is no trivia: its number, where it starts, and what it is
+-- a child that is not trivia: its number, its start, and the tree
 pub record Kid : Type 0 where
   pub number : ℕ
   pub start : ℕ
@@ -20,7 +20,7 @@ pub record Kid : Type 0 where
 abbrev pub kid_end : Kid → ℕ
 kid_end k = k.start + length (text k.tree)
 
--- the children that are no trivia; the first tree of the forest is child number i and starts at byte b
+-- the children that are not trivia; the first tree of the forest is child number i and starts at byte b
 abbrev pub kids : ℕ → ℕ → Forest → List Kid
 kids i b nil = []
 kids i b (cons (token k t) r) = cond (is_trivia k) (kids (suc i) (b + length t) r) (record { number = i; start = b; tree = token k t } ∷ kids (suc i) (b + length t) r)

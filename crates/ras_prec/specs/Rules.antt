@@ -51,7 +51,7 @@ is_logic (Token token.AMP2) = true
 is_logic (Token token.PIPE2) = true
 is_logic _ = false
 
--- the kind of the first token after a node that is no trivia, if the node holds a token
+-- the kind of the first token after a node that is not trivia, if the node has a token
 abbrev pub kind_from : Cursor → Option SyntaxKind
 kind_from c = if is_some (find at_token (descendants_of c)) then kind_behind c else None
 

@@ -75,7 +75,7 @@ fn is_logic(kind: SyntaxKind) -> bool
     matches!(kind, SyntaxKind::AMP2 | SyntaxKind::PIPE2)
 }
 
-// The kind of the first token after the node that is no trivia, if the node holds a token.
+// The kind of the first token after the node that is not trivia, if the node has a token.
 fn kind_from(node: SyntaxNode) -> Option<SyntaxKind>
     ensures { result ≡ kind_from node }
 {

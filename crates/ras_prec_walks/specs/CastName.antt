@@ -34,7 +34,7 @@ passes_cast_type passed top (c ∷ cs) = if is_same_cursor c top then passed els
 abbrev pub is_cast_name : Cursor → Cursor → Bool
 is_cast_name top t = is_in_name (parent_of t) && passes_cast_type false top (ancestors_from (parent_of t))
 
--- the last token that is no trivia; where the node has none such, the one before it
+-- the last token that is not trivia, in the node or, if it has none, before it
 abbrev pub last_leaf : Cursor → Option Cursor
 last_leaf c = option_and_then (λ t. find has_no_trivia_kind (tokens_from Prev t)) (find at_token (reverse (descendants_of c)))
 

@@ -61,7 +61,7 @@ fn is_cast_name(token: &SyntaxToken, top: &SyntaxNode) -> bool
     is_in_name(token.parent()) && passes_cast_type(token, top)
 }
 
-// The last token that is no trivia, of the node or, where it has none such, before it.
+// The last token that is not trivia, in the node or, if it has none, before it.
 fn last_leaf(node: &SyntaxNode) -> Option<SyntaxToken>
     ensures { result ≡ last_leaf node.now }
 {

@@ -1,4 +1,4 @@
--- The tokens of a text, one after the other, and what is wrong with some of them.
+-- The tokens of a text, in order, and the errors in them.
 use Rattle.std.specs.Prelude.{ℕ, zero, suc, ◌-◌, ◌^◌, min, ◌==◌, if◌then◌else◌, Option, Some, None, List, [], ◌∷◌, ◌++◌, length, reverse}
 use Rattle.text_size.specs.declared.range.TextRange.{TextRange}
 use Rattle.syntax_kind.specs.declared.syntax_kind.SyntaxKind.{SyntaxKind}

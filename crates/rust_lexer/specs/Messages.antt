@@ -20,7 +20,7 @@ abbrev pub beyond_ascii_of : Mode → List ℕ
 beyond_ascii_of modes.Byte = codes "non-ASCII character in byte literal"
 beyond_ascii_of _ = codes "non-ASCII character in byte string literal"
 
--- of what is wrong with a content; the last five are no errors for the lexer
+-- the messages for faults of a content; the lexer does not report the last five
 abbrev pub content_message_of : Mode → EscapeError → List ℕ
 content_message_of m errors.ZeroChars = codes "empty character literal"
 content_message_of m errors.MoreThanOneChar = codes "character literal may only contain one codepoint"

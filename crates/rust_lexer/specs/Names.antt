@@ -41,7 +41,7 @@ abbrev pub word_on : Option SyntaxKind → SyntaxKind
 word_on None = Token token.IDENT
 word_on (Some k) = k
 
--- `_` is no name
+-- `_` is not a name
 abbrev pub word_kind_of : Edition → List ℕ → SyntaxKind
 word_kind_of e w = if bytes_eq w (codes "_") then Token token.UNDERSCORE else word_on (keyword_of e w)
 

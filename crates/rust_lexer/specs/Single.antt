@@ -1,4 +1,4 @@
--- A text that is one token, and the last of what is wrong with it.
+-- A text that is one token, and the last error in it.
 use Rattle.std.specs.Prelude.{ℕ, ◌==◌, if◌then◌else◌, Option, Some, None, List, [], ◌∷◌, length}
 use Rattle.std.specs.Str.{chars}
 use Rattle.syntax_kind.specs.declared.syntax_kind.SyntaxKind.{SyntaxKind}

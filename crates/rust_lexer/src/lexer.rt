@@ -24,7 +24,7 @@ use syntax_kind::SyntaxKind;
 use text_size::{TextRange, TextSize};
 use token_layout::Token;
 
-/// What is wrong with the token at a range.
+/// An error in the token at a range.
 #[derive(Clone, Copy)]
 pub struct LexError {
     /// What is wrong.
@@ -33,12 +33,12 @@ pub struct LexError {
     pub range: TextRange,
 }
 
-/// The tokens of a text, and what is wrong with some.
+/// The tokens of a text, and the errors in them.
 #[derive(Drop)]
 pub struct Lexed {
     /// The tokens, one after the other.
     pub tokens: Vec<Token>,
-    /// What is wrong, in the order of the tokens. A literal may have several.
+    /// The errors, in the order of the tokens. A literal may have several.
     pub errors: Vec<LexError>,
 }
 
@@ -239,7 +239,7 @@ fn read(alloc: Global, text: &str, edition: Edition) -> Result<Lexed, AllocError
     Ok(lexed)
 }
 
-/// The tokens of a text, and what is wrong with some of them.
+/// The tokens of a text, and the errors in them.
 ///
 /// The tokens cut every text of at most 4,294,967,295 bytes: each byte is in one of them, in order, and none is empty. It takes time
 /// and memory linear in the text.

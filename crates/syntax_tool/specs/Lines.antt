@@ -28,7 +28,7 @@ abbrev pub HasNo : ℕ → List ℕ → Type 0
 HasNo c [] = ⊤
 HasNo c (b ∷ bs) = (b ≢ c) × HasNo c bs
 
--- the text, cut at the first c: what is before it and after it, or all and nothing where there is none
+-- the text, cut at the first c: the text before it and after it; if there is none, the whole text and an empty one
 abbrev pub IsCut : ℕ → List ℕ → List ℕ → List ℕ → Type 0
 IsCut c text before after = HasNo c before × ((text ≡ before ++ c ∷ after) ⊎ ((text ≡ before) × (after ≡ [])))
 

@@ -202,7 +202,7 @@ fn small_steps_change_nothing(rt: HostRuntime) -> Result<(), Fail> {
     Ok(())
 }
 
-// The lines of a node with so many tokens of one letter, and their dump.
+// The lines of a node with `count` tokens of one letter, and their dump.
 fn letters(alloc: Global, count: u32) -> Result<(String, String), Fail> {
     let mut lines = String::new(alloc);
     let mut dump = String::new(alloc);

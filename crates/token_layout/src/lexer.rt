@@ -7,7 +7,7 @@ use ras_front_end::{Edition, SyntaxError};
 use std::alloc::{AllocError, Global};
 use syntax_kind::SyntaxKind;
 
-/// The tokens of a text, and what is wrong with them.
+/// The tokens of a text, and the errors in them.
 #[derive(Drop)]
 pub struct Lexed {
     /// The tokens, in order.

@@ -1,4 +1,4 @@
-//! `T!` and `match_ast!`, and what the calls answer on small trees.
+//! `T!` and `match_ast!`, and results of the calls on small trees.
 use crate::{call_at, is_literal_node, is_written, name_of_fn, operator_at};
 use ra_ap_syntax::ast::{AstNode, HasName};
 use ra_ap_syntax::{FinishError, SyntaxKind, SyntaxNode, T, TextSize, TreeBuilder, ast, match_ast};

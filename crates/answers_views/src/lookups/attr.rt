@@ -4,7 +4,7 @@ use ra_ap_syntax::SyntaxNode;
 use ra_ap_syntax::ast::{self, AstNode, cast_ref};
 use std::alloc::AllocError;
 
-/// Prints what the plain lookups in attributes and doc comments answer of a node.
+/// Prints the results, for a node, of the plain lookups in attributes and doc comments.
 pub fn answers(sheet: &mut Sheet, node: &SyntaxNode) -> Result<(), AllocError> {
     of_attr(sheet, node)?;
     of_cfg_atom(sheet, node)?;

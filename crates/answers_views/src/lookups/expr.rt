@@ -4,7 +4,7 @@ use ra_ap_syntax::SyntaxNode;
 use ra_ap_syntax::ast::{self, AstNode, cast_ref};
 use std::alloc::AllocError;
 
-/// Prints what the plain lookups in expressions, statements and their parts answer of a node.
+/// Prints the results, for a node, of the plain lookups in expressions, statements and their parts.
 pub fn answers(sheet: &mut Sheet, node: &SyntaxNode) -> Result<(), AllocError> {
     of_arg_list(sheet, node)?;
     of_array_expr(sheet, node)?;

@@ -4,7 +4,7 @@ use ra_ap_syntax::SyntaxNode;
 use ra_ap_syntax::ast::{self, AstNode, cast_ref};
 use std::alloc::AllocError;
 
-/// Prints what the plain lookups in generic parameters and arguments, bounds and where clauses answer of a node.
+/// Prints the results, for a node, of the plain lookups in generic parameters and arguments, bounds and where clauses.
 pub fn answers(sheet: &mut Sheet, node: &SyntaxNode) -> Result<(), AllocError> {
     of_for_binder(sheet, node)?;
     of_generic_arg_list(sheet, node)?;

@@ -4,7 +4,7 @@ use ra_ap_syntax::SyntaxNode;
 use ra_ap_syntax::ast::{self, AstNode, cast_ref};
 use std::alloc::AllocError;
 
-/// Prints what the plain lookups in items and their parts answer of a node.
+/// Prints the results, for a node, of the plain lookups in items and their parts.
 pub fn answers(sheet: &mut Sheet, node: &SyntaxNode) -> Result<(), AllocError> {
     of_const(sheet, node)?;
     of_extern_block(sheet, node)?;

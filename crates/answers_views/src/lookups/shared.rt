@@ -7,7 +7,7 @@ use ra_ap_syntax::ast::{
 };
 use std::alloc::AllocError;
 
-/// Prints what the plain lookups of shared traits answer of a node.
+/// Prints the results, for a node, of the plain lookups of shared traits.
 pub fn answers(sheet: &mut Sheet, node: &SyntaxNode) -> Result<(), AllocError> {
     of_has_name(sheet, node)?;
     of_has_visibility(sheet, node)?;

@@ -144,7 +144,7 @@ fn ancestors(deepest: &SyntaxNode) -> Seen {
     seen
 }
 
-// Offsets, spread over a text of so many bytes, and never the last three.
+// Offsets, spread over a text of `bytes` bytes, without its last three.
 #[derive(Drop)]
 struct Spread {
     last: u32,

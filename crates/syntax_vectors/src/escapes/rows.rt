@@ -131,7 +131,7 @@ mod tests {
         ("\\\n    ", ""),
     ];
 
-    // Contents of characters and bytes: what they answer.
+    // Contents of characters and bytes, with their results.
     const SINGLES: [(&str, &str, &str); 44] = [
         ("", "ZeroChars", "ZeroChars"),
         ("a", "61", "61"),
