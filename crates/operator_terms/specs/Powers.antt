@@ -7,7 +7,7 @@ use Rattle.operator_terms.specs.Term.{Term, Literal, Name, Paren, Field, Await, 
 use Rattle.operator_terms.specs.Places.{ends_in_cast}
 
 -- How strongly a form binds on its left and on its right. A power of 0 marks a side without an operand: a prefix has none
--- on its left, a postfix none on its right. A field and an open range have two nonzero powers nevertheless.
+-- on its left, a postfix none on its right. Fields, casts and open ranges are exceptions: both of their powers are nonzero.
 pub record Powers : Type 0 where
   pub left : ℕ
   pub right : ℕ

@@ -61,7 +61,7 @@ leads_up s top (c ∷ cs) = is_same_cursor c top || (is_step s c (parent_of c) &
 abbrev pub is_open : Sought → Cursor → Cursor → Bool
 is_open s top c = is_sought s c && leads_up s top (ancestors_of c)
 
--- the walk looks for one of these nodes, and each node from it up to the top is such an operand
+-- one of these nodes is sought, and each node from it up to the top is such an operand of the next
 abbrev pub holds : Sought → Cursor → List Cursor → Bool
 holds s top [] = false
 holds s top (c ∷ cs) = is_open s top c || holds s top cs
