@@ -1,5 +1,5 @@
 -- Units of characters, and starts of lines as starts of characters.
-use Rattle.std.proofs.Common.{◌≡◌, ℕ, ◌+◌, ◌-◌, ◌<◌, ◌≤◌, true, ltb, List, [], ◌∷◌, ◌++◌, length, length-drop, take, drop, get_or, refl, ap, sym, ◌∙◌, subst, arith, length-append, lt-ltb, ⊎_elim}
+use Rattle.std.proofs.Common.{◌≡◌, ℕ, ◌+◌, ◌-◌, ◌<◌, ◌≤◌, Option, Some, None, MatchOption, true, ltb, List, [], ◌∷◌, ◌++◌, length, length-drop, take, drop, get_or, refl, ap, sym, ◌∙◌, subst, arith, length-append, lt-ltb, ⊎_elim}
 use Rattle.std.proofs.Math.Nat.{eq-zero-or-pos}
 use Rattle.std.proofs.Math.Utf8.{encode, encodes}
 use Rattle.std.proofs.lemmas.Bool.{cases_lt}
@@ -13,8 +13,8 @@ use Rattle.line_index.specs.declared.line_col.LineCol.{LineCol}
 use Rattle.line_index.specs.declared.line_col.WideEncoding.{WideEncoding}
 use Rattle.line_index.specs.declared.line_col.WideEncoding.TheVariants.{Utf16, Utf32}
 use Rattle.line_index.specs.declared.line_col.WideLineCol.{WideLineCol}
-use Rattle.line_index.specs.Lines.{line_feeds, bytes_behind, units, wide_length, IsOffset, IsLineStart, IsWide, IsFront, NoFront}
-use Rattle.line_index.proofs.LineLemmas.{place, line_feeds_within, from_start, behind_flat, behind-cons, feed, col_of}
+use Rattle.line_index.specs.Lines.{line_feeds, bytes_behind, units, wide_length, wide_line_col_at, IsOffset, IsLineStart, IsWide, IsWideAt, NoChar, NoCharAt, IsFront, NoFront}
+use Rattle.line_index.proofs.LineLemmas.{place, line_feeds-nil, behind-nil, one_place, line_feeds_within, from_start, behind_flat, behind-cons, feed, col_of}
 
 units_le : (e : WideEncoding) (c : ℕ) → units e c ≤ len_utf8 c
 units_le Utf16 c =
@@ -92,6 +92,34 @@ chars_between s j k u le a b =
 wide_split : (e : WideEncoding) (s : List ℕ) (j k : ℕ) → IsUtf8 s → j ≤ k → IsCharBoundary s j → IsCharBoundary s k → wide_length e (drop j s) ≡ wide_length e (take (k - j) (drop j s)) + wide_length e (drop k s)
 wide_split e s j k u le a b =
     ap (sum_by (units e)) (chars_between s j k u le a b) ∙ sum_by-append (units e) (chars (take (k - j) (drop j s))) (chars (drop k s))
+
+-- the units of a line up to a place are those up to an earlier place and those between the two
+wide_sum : (e : WideEncoding) (s : List ℕ) (n c c2 p o w2 : ℕ) (w : WideLineCol) → IsUtf8 s → IsLineStart s n p → IsWide e s (record { line = n; col = c }) w → IsOffset s (record { line = n; col = c2 }) o → IsCharBoundary s o → c ≤ c2 → w2 ≡ wide_length e (slice_range s (p + c) o) → w.col + w2 ≡ wide_length e (slice_range s p o)
+wide_sum e s n c c2 p o w2 w u h g k b le is =
+    let o1 = g.offset in
+    let e1 : o1 ≡ p + c = from_start s n p c o1 h g.found in
+    let e2 : o ≡ p + c2 = from_start s n p c2 o h k in
+    let bp : IsCharBoundary s p = start_boundary s n p u h in
+    let kc : bytes_behind (take o1 s) ≡ c = ap (λ (x : LineCol). x.col) g.found.1 in
+    let start : o1 - bytes_behind (take o1 s) ≡ p = omega (arith, kc, e1) in
+    let col : w.col ≡ wide_length e (slice_range s p o1) = ap (λ (x : WideLineCol). x.col) g.is ∙ ap (λ (x : ℕ). wide_length e (slice_range s x o1)) start in
+    let more : w2 ≡ wide_length e (slice_range s o1 o) = is ∙ ap (λ (x : ℕ). wide_length e (slice_range s x o)) (sym e1) in
+    let le1 : p ≤ o1 = omega (arith, e1) in
+    let le2 : p ≤ o = omega (arith, e2) in
+    let le3 : o1 ≤ o = omega (arith, e1, e2, le) in
+    omega (arith, col, more, wide_split e s p o1 u le1 bp g.boundary, wide_split e s p o u le2 bp b, wide_split e s o1 o u le3 g.boundary b)
+
+pub wide_from : (e : WideEncoding) (s : List ℕ) (n c c2 p o w2 : ℕ) (w : WideLineCol) → IsUtf8 s → IsLineStart s n p → IsWide e s (record { line = n; col = c }) w → IsOffset s (record { line = n; col = c2 }) o → IsCharBoundary s o → c ≤ c2 → w2 ≡ wide_length e (slice_range s (p + c) o) → IsWide e s (record { line = n; col = c2 }) (record { line = n; col = w.col + w2 })
+wide_from e s n c c2 p o w2 w u h g k b le is = wide_place e s n c2 p o (w.col + w2) h k b (wide_sum e s n c c2 p o w2 w u h g k b le is)
+
+pub wide_from_fits : (e : WideEncoding) (s : List ℕ) (n c c2 p o w2 : ℕ) (w : WideLineCol) → IsUtf8 s → IsLineStart s n p → IsWide e s (record { line = n; col = c }) w → IsOffset s (record { line = n; col = c2 }) o → IsCharBoundary s o → c ≤ c2 → w2 ≡ wide_length e (slice_range s (p + c) o) → w.col + w2 ≤ length s
+wide_from_fits e s n c c2 p o w2 w u h g k b le is =
+    let e2 : o ≡ p + c2 = from_start s n p c2 o h k in
+    let le2 : p ≤ o = omega (arith, e2) in
+    let bp : IsCharBoundary s p = start_boundary s n p u h in
+    let few : wide_length e (slice_range s p o) ≤ length (slice_range s p o) = wide_length_le e (slice_range s p o) (IsUtf8-between s p o u le2 bp b) in
+    let len : length (take (o - p) (drop p s)) ≡ o - p = length-take-le (o - p) (drop p s) (omega (arith, length-drop p s, b.0)) in
+    omega (arith, few, len, b.0, wide_sum e s n c c2 p o w2 w u h g k b le is)
 
 head_units : (e : WideEncoding) (xs ys cs : List ℕ) (c : ℕ) → xs ++ ys ≡ c ∷ cs → 0 < length xs → units e c ≤ sum_by (units e) xs
 head_units e [] ys cs c h p = absurd (omega (arith, p))
@@ -196,3 +224,22 @@ wide_of_front e s n p c o w h f k =
     let len : o - p ≡ c = omega (arith, e1) in
     let b : IsCharBoundary s o = subst (IsCharBoundary s) (sym e1) (IsCharBoundary-from_rest s p c h.0 f.0) in
     wide_place e s n c p o w h k b (sym (ap (λ x. wide_length e (take x (drop p s))) len ∙ f.1))
+
+wide_zero : (e : WideEncoding) → (let w : WideLineCol = record { line = 0; col = 0 } in w) ≡ wide_line_col_at e [] 0
+unfolding line_feeds chars bytes_behind
+wide_zero Utf16 = refl
+wide_zero Utf32 = refl
+
+-- the start of a text has its first line and column
+pub wide_start : (e : WideEncoding) (s : List ℕ) → IsUtf8 s → IsWide e s (record { line = 0; col = 0 }) (record { line = 0; col = 0 })
+unfolding bytes_behind
+wide_start e s u = record { offset = 0; found = (omega arith, place s 0 0 0 line_feeds-nil behind-nil); boundary = IsCharBoundary-start s u; is = wide_zero e }
+
+pub wide_at : (e : WideEncoding) (s : List ℕ) (o : ℕ) (at : LineCol) (w : WideLineCol) → IsOffset s at o → IsWide e s at w → IsWideAt e s o w
+wide_at e s o at w f g =
+    let same : g.offset ≡ o = one_place s g.offset o g.found.0 f.0 (ap (λ (x : LineCol). x.line) (g.found.1 ∙ sym f.1)) (ap (λ (x : LineCol). x.col) (g.found.1 ∙ sym f.1)) in
+    record { within = f.0; boundary = subst (IsCharBoundary s) same g.boundary; is = g.is ∙ ap (wide_line_col_at e s) same }
+
+pub wide_match : (e : WideEncoding) (s : List ℕ) (o : ℕ) (at : LineCol) (found : Option WideLineCol) → IsOffset s at o → MatchOption found (NoChar s at) (IsWide e s at) → MatchOption found (NoCharAt s o) (IsWideAt e s o)
+wide_match e s o at None f none = λ _ b. none o f b
+wide_match e s o at (Some w) f g = wide_at e s o at w f g

@@ -71,6 +71,16 @@ pub record IsWide (e : WideEncoding) (s : List ℕ) (at : LineCol) (w : WideLine
 abbrev pub NoChar : List ℕ → LineCol → Type 0
 NoChar s at = (o : ℕ) → IsOffset s at o → IsCharBoundary s o → ⊥
 
+-- a character of the text starts at offset o, or the text ends there, and w is its wide line and column
+pub record IsWideAt (e : WideEncoding) (s : List ℕ) (o : ℕ) (w : WideLineCol) : Type 0 where
+  pub within : o ≤ length s
+  pub boundary : IsCharBoundary s o
+  pub is : w ≡ wide_line_col_at e s o
+
+-- no character of the text starts at offset o, nor does the text end there
+abbrev pub NoCharAt : List ℕ → ℕ → Type 0
+NoCharAt s o = o ≤ length s → IsCharBoundary s o → ⊥
+
 -- no character of the text has this wide line and column, nor its end
 abbrev pub NoWide : WideEncoding → List ℕ → WideLineCol → Type 0
 NoWide e s w = (at : LineCol) → IsWide e s at w → ⊥

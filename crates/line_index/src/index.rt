@@ -1,6 +1,7 @@
 //! Where the lines of a text start.
 ghost use Rattle.std.specs.Prelude.{◌≡◌, ◌<◌, ◌≤◌, ◌^◌, length, take, IfOk, MatchOption};
 ghost use Rattle.std.specs.Option.{SomeIff};
+ghost use Rattle.std.specs.Str.{IsUtf8};
 ghost use Rattle.line_index.specs.Lines.{line_col_at, line_feeds, IsOffset, NoOffset, IsLine, IsLineStart, IsWide, NoChar, NoWide};
 
 use crate::line_col::{LineCol, WideEncoding, WideLineCol};
@@ -53,6 +54,13 @@ impl<'a> LineIndex<'a> {
             }
         }
         Ok(LineIndex { text, starts })
+    }
+
+    /// The text whose lines these are.
+    pub fn text(&self) -> &'a str
+        ensures { result.now ≡ self.now }
+    {
+        self.text
     }
 
     /// The line and the column of an offset, or `None` if it is past the end of the text.
@@ -124,6 +132,34 @@ impl<'a> LineIndex<'a> {
         })
     }
 
+    // The same as `to_wide`, counted on from a place with a known wide column if that is before `at` in the same line. Takes time linear in
+    // the bytes between the two then.
+    pub(crate) fn to_wide_from(
+        &self,
+        encoding: WideEncoding,
+        from: LineCol,
+        wide: WideLineCol,
+        at: LineCol,
+    ) -> Option<WideLineCol>
+        requires { IsWide encoding self.now from wide }
+        ensures { MatchOption result (NoChar self.now at) (IsWide encoding self.now at) }
+    {
+        if from.line != at.line || at.col < from.col {
+            return self.to_wide(encoding, at);
+        }
+        let end = self.offset(at)?.raw() as usize;
+        if !self.text.is_char_boundary(end) {
+            return None;
+        }
+        let line = self.start(at.line as usize)?;
+        let start = (line + from.col) as usize;
+        let between = &self.text[start..end];
+        Some(WideLineCol {
+            line: at.line,
+            col: wide.col + encoding.len_of(between),
+        })
+    }
+
     /// The same place with its column in bytes, or `None` if the text has no such line, or no character of the line starts at such a
     /// column. The end of the text counts as the start of a character.
     ///
@@ -137,6 +173,13 @@ impl<'a> LineIndex<'a> {
         let place = LineCol { line: at.line, col };
         self.offset(place)?;
         Some(place)
+    }
+
+    // The text is UTF-8. The function does nothing; a proof takes the fact from its call.
+    pub(crate) fn is_utf8(&self)
+        ensures { IsUtf8 self.now }
+    {
+        let _ = &self.text;
     }
 
     // The length of the text.

@@ -4,6 +4,8 @@
 mod index;
 pub mod laws;
 mod line_col;
+mod places;
 
 pub use index::LineIndex;
 pub use line_col::{LineCol, WideEncoding, WideLineCol};
+pub use places::WidePlaces;
