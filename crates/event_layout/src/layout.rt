@@ -128,14 +128,18 @@ fn is_node_at(events: &[Event], i: usize) -> bool
     }
 }
 
-// An upper bound of the number of steps, with those of the errors: two for each event, one for each token, two for the root. The list
-// of steps takes this room once. Pages that it does not fill are never touched.
+// An upper bound of the number of steps: two for the root, one for each token, two for each node, and one for each error and each part of a
+// number. The list of steps takes this room once.
 fn room_for(tokens: &[Token], events: &[Event]) -> usize {
-    events
-        .len()
-        .saturating_mul(2)
-        .saturating_add(tokens.len())
-        .saturating_add(2)
+    let mut room = tokens.len().saturating_add(2);
+    for event in events {
+        room = room.saturating_add(match event {
+            Event::Token { .. } => 0,
+            Event::Node { .. } => 2,
+            Event::Piece { .. } | Event::Error { .. } => 1,
+        });
+    }
+    room
 }
 
 impl<'a> Layout<'a> {

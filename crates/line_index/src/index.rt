@@ -114,7 +114,7 @@ impl<'a> LineIndex<'a> {
         Some(TextRange::new(TextSize::new(start), TextSize::new(end)))
     }
 
-    /// The same place with its column in units of an encoding, or `None` if `offset` answers `None`, and inside a character.
+    /// The same place with its column in units of an encoding, or `None` if the text has no such place, or it is inside a character.
     ///
     /// Takes time linear in the column.
     pub fn to_wide(&self, encoding: WideEncoding, at: LineCol) -> Option<WideLineCol>
@@ -200,7 +200,7 @@ impl<'a> LineIndex<'a> {
         }
     }
 
-    // Where a line starts; `None` where the text has no such line.
+    // The start of a line, or `None` if the text has no such line.
     fn start(&self, line: usize) -> Option<u32>
         ensures { MatchOption result (line_feeds self.now < line) (IsLineStart self.now line) }
     {

@@ -45,7 +45,7 @@ impl WideEncoding {
         len
     }
 
-    // How many bytes the first characters of a text take that have so many units; `None` where no first characters have.
+    // The length in bytes of the prefix of a text that has this number of units, or `None` if no prefix has.
     pub(crate) fn bytes_of(self, units: u32, text: &str) -> Option<u32>
         requires { length text.now < 2 ^ 32 }
         ensures { MatchOption result (NoFront self text.now units) (IsFront self text.now units) }

@@ -1,4 +1,4 @@
--- What a handle owns where it holds a parse: the parse at its pointer, and the right to free its block.
+-- The memory that a handle with a parse owns: the parse at its pointer, and the right to free its block.
 use Rattle.std.specs.Prelude.{Bool, true, false, Option, None, Some}
 use Rattle.std.specs.contracts.impls.GlobalAllocator.TheImpl.{ghosts}
 use Rattle.std_alloc.specs.Box.Ownership.{box_owns}
@@ -18,7 +18,7 @@ parse_row = parse.the_row root.the_row
 abbrev pub heap_token : Ty → Ptr → Fml
 heap_token = ghosts.dealloc_token (record { memory = record { seal = tt } })
 
--- a handle is full where it holds a parse
+-- a handle is full if it has a parse
 abbrev pub held : Bool → Ptr → Option Parsed → Fml
 held true p (Some x) = box_owns heap_token parse_row p x
 held true p None = ffalse

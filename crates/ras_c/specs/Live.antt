@@ -1,4 +1,4 @@
--- What a handle holds after an edit.
+-- The parse of a handle after an edit.
 use Rattle.std.specs.Prelude.{◌≡◌, ℕ, ◌<◌, ◌^◌, List, length, Option, Some}
 use Rattle.tree_model.specs.Tree.{text}
 use Rattle.ras_front_end.specs.declared.edition.Edition.{Edition}
@@ -12,14 +12,14 @@ use Rattle.ras_c.specs.Border.{edition_of}
 abbrev pub edit_from : ℕ → ℕ → List ℕ → Edit
 edit_from start end insert = record { delete = record { start = start; end = end }; insert = insert }
 
--- the parse after an edit is what a reparse by the front end for Rust answers, and it has the edited text, which is short enough
+-- the parse after an edit is the result of a reparse by the front end for Rust, and has the edited text, which is short enough
 pub record IsEdited (edition : Edition) (edit : Edit) (old new : Parsed) : Type 0 where
   pub is_edit : IsEditOf (text old.tree) edit
   pub reparses : IsReparse rust_front edition old edit new
   pub same_text : text new.tree ≡ edited (text old.tree) edit
   pub short : length (edited (text old.tree) edit) < 2 ^ 32
 
--- a handle held a parse, and holds that after an edit, in the edition of the year
+-- a handle had a parse, and has that after an edit, in the edition of the year
 pub record HoldsEdited (year : ℕ) (edit : Edit) (before after : Option Parsed) : Type 0 where
   pub edition : Edition
   pub old : Parsed
@@ -29,6 +29,6 @@ pub record HoldsEdited (year : ℕ) (edit : Edit) (before after : Option Parsed)
   pub held_after : after ≡ Some new
   pub is_edited : IsEdited edition edit old new
 
--- a handle holds a parse with a property
+-- a handle has a parse with a property
 abbrev pub Holds : Option Parsed → (Parsed → Type 0) → Type 0
 Holds held P = (p : Parsed) × (held ≡ Some p) × P p

@@ -43,6 +43,6 @@ is_term_over range c = spans range c && shows_term c
 abbrev pub node_over : Cursor → Bounds → Option Cursor
 node_over root range = find (is_term_over range) (ancestors_of_element (element_of (covering_of root range)))
 
--- what is answered of it, if there is one
+-- the result for it, if there is one
 abbrev pub ReadsBackAt : Option Bool → Cursor → Bounds → Type 0
 ReadsBackAt answer root range = ReadsBack answer (option_and_then term_at (node_over root range))

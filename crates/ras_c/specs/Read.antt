@@ -1,4 +1,4 @@
--- What is told of a text: rows, errors and messages in the buffers of the caller, and how much all of that is.
+-- The report on a text: rows, errors and messages in the buffers of the caller, and their numbers.
 use Rattle.std.specs.Prelude.{◌≡◌, ℕ, ◌<◌, ◌≤◌, ◌^◌, List, length, map, Some}
 use Rattle.std.specs.List.{flat_map}
 use Rattle.tree_model.specs.Tree.{size}
@@ -26,7 +26,7 @@ message_of f = f.message
 abbrev pub messages_of : List Fault → List ℕ
 messages_of faults = flat_map message_of faults
 
--- how much there is to tell of a parse
+-- the size of the report on a parse
 abbrev pub needed : Parsed → Counts
 needed p = record {
   rows = size p.tree;

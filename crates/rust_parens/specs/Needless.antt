@@ -43,7 +43,7 @@ pub record ParsesApart (front : Front) (entry : Entry) (edition : Edition) (old 
 abbrev pub Refused : Front → Entry → Edition → Parsed → List Cursor → Type 0
 Refused front entry edition old pairs = (2 ^ 32 ≤ length (fixed old pairs)) ⊎ ParsesApart front entry edition old pairs
 
--- the text without the pairs where they may go; none where they may not
+-- the text without the pairs if they can be removed, otherwise None
 abbrev pub IsAnswer : Front → Entry → Edition → Parsed → List Cursor → Option (List ℕ) → Type 0
 IsAnswer front entry edition old pairs None = Refused front entry edition old pairs
 IsAnswer front entry edition old pairs (Some s) = (s ≡ fixed old pairs) × MayGo front entry edition old pairs
@@ -74,12 +74,12 @@ AreSorted refused before (t ∷ ts) = StaysRightly refused before t.goes t.pair 
 abbrev pub candidates_of : Parsed → List Cursor
 candidates_of old = filter may_go (filter at_node (descendants_of (root_of old.tree)))
 
--- the text, if there is one, is the text without the pairs, which may go together; there is none for no pairs
+-- the text is the text without the pairs, which can be removed together; None if there are no pairs
 abbrev pub IsFixed : Front → Entry → Edition → Parsed → List Cursor → Option (List ℕ) → Type 0
 IsFixed front entry edition old pairs None = pairs ≡ []
 IsFixed front entry edition old pairs (Some s) = (s ≡ fixed old pairs) × MayGo front entry edition old pairs
 
--- the candidates were tried in order, as far as they were tried
+-- the candidates that were tried, in order
 pub record AreTried (front : Front) (entry : Entry) (edition : Edition) (old : Parsed) (pairs : List Cursor) (tried : List Tried) (s : Option (List ℕ)) : Type 0 where
   pub in_order : map (λ t. t.pair) tried ≡ take (length tried) (candidates_of old)
   pub going : pairs ≡ chosen tried

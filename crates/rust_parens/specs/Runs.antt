@@ -13,7 +13,7 @@ use Rattle.rust_parens.specs.Needless.{Refused, AreSorted, fixed, MayGo, chosen}
 abbrev pub as_tried : Bool → Cursor → Tried
 as_tried goes p = record { pair = p; goes = goes }
 
--- the pairs of a run that go: all or none
+-- the pairs of a run that are removed: all or none
 abbrev pub going : Bool → List Cursor → List Cursor
 going true run = run
 going false run = []
@@ -25,7 +25,7 @@ planned [] (p ∷ ps) = []
 planned (true ∷ bs) (p ∷ ps) = planned bs ps
 planned (false ∷ bs) (p ∷ ps) = p ∷ planned bs ps
 
--- the text without the chosen pairs and these, which may go together; none for no pairs beside the chosen ones
+-- the text without the chosen pairs and these, if these can be removed; None if there are no pairs beside the chosen ones
 abbrev pub IsText : Front → Entry → Edition → Parsed → List Cursor → List Cursor → Option (List ℕ) → Type 0
 IsText front entry edition old before more None = more ≡ []
 IsText front entry edition old before more (Some s) = (s ≡ fixed old (before ++ more)) × MayGo front entry edition old (before ++ more)

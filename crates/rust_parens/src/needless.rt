@@ -54,44 +54,21 @@ struct Plan {
     text: Option<String>,
 }
 
+// The parse whose pairs are tried, and how the texts without them are parsed.
+#[derive(Drop)]
+struct Trial<'a, F: FrontEnd> {
+    front: &'a F,
+    entry: Entry,
+    edition: Edition,
+    old: &'a Parse<SyntaxNode>,
+}
+
 // Whether a parse is the old one without what the marks leave out, with the same number of errors.
 fn is_same(old: &Parse<SyntaxNode>, marks: &[bool], new: &Parse<SyntaxNode>) -> bool
     ensures { IsTrue result ↔ IsMarkedOut old.now marks.now new.now }
 {
     old.stored().len() == new.stored().len()
         && first_difference(old.root(), marks, new.root(), Trivia::Aside).is_none()
-}
-
-// The text without the pairs of `chosen` and `more`, if it parses to the tree without them. If it does not, the first `wanted` places
-// where the trees differ are added to `apart`.
-fn without<F: FrontEnd>(
-    alloc: Global,
-    front: &F,
-    entry: Entry,
-    edition: Edition,
-    old: &Parse<SyntaxNode>,
-    chosen: &[SyntaxNode],
-    more: &[SyntaxNode],
-    wanted: usize,
-    apart: &mut Vec<Difference>,
-) -> Result<Option<String>, AllocError>
-    ensures { IfOk result (λ o. IsAnswer (F.answers front.now) entry edition old.now (chosen.now ++ more.now) (option_map string_bytes o)) }
-{
-    let len = old.root().as_str().len();
-    let marks = marks_of(alloc, len, chosen, more)?;
-    let text = text_without(alloc, old.root(), marks.as_slice())?;
-    match read(alloc, front, entry, text.as_str(), edition) {
-        Ok(new) => {
-            if is_same(old, marks.as_slice(), &new) {
-                Ok(Some(text))
-            } else {
-                note_apart(alloc, old, marks.as_slice(), &new, wanted, apart)?;
-                Ok(None)
-            }
-        }
-        Err(ParseError::TooLong) => Ok(None),
-        Err(ParseError::Memory) => Err(AllocError),
-    }
 }
 
 // A run of pairs that can all be removed, or one that stays.
@@ -101,39 +78,6 @@ fn run_of(alloc: Global, pairs: &[SyntaxNode], text: Option<String>) -> Result<R
     let mut tried = Vec::new(alloc);
     note(&mut tried, pairs, text.is_some())?;
     Ok(Run { tried, text })
-}
-
-// Tries to remove the first pairs that are left beside the chosen ones: at most `step` of them, then half of these, down to one.
-fn halved_run<F: FrontEnd>(
-    alloc: Global,
-    front: &F,
-    entry: Entry,
-    edition: Edition,
-    old: &Parse<SyntaxNode>,
-    chosen: &[SyntaxNode],
-    rest: &[SyntaxNode],
-    step: usize,
-) -> Result<Run, AllocError>
-    requires { 1 ≤ length rest.now }
-    ensures { IfOk result (IsRun (F.answers front.now) entry edition old.now chosen.now rest.now) }
-{
-    let mut apart = Vec::new(alloc);
-    let mut count = step.min(rest.len());
-    while count > 1 {
-        let pairs = &rest[..count];
-        let text = without(
-            alloc, front, entry, edition, old, chosen, pairs, 0, &mut apart,
-        )?;
-        if text.is_some() {
-            return run_of(alloc, pairs, text);
-        }
-        count /= 2;
-    }
-    let pairs = &rest[..1];
-    let text = without(
-        alloc, front, entry, edition, old, chosen, pairs, 0, &mut apart,
-    )?;
-    run_of(alloc, pairs, text)
 }
 
 // The pairs that a plan removes.
@@ -159,44 +103,6 @@ fn planned(
     Ok(going)
 }
 
-// Guesses which of the pairs that are left stay, until the text without the others parses to the tree without them. The plan ends after
-// `room` pairs that stay. Returns `None` if a parse suggests no further pair that may have to stay.
-fn make_plan<F: FrontEnd>(
-    alloc: Global,
-    front: &F,
-    entry: Entry,
-    edition: Edition,
-    old: &Parse<SyntaxNode>,
-    chosen: &[SyntaxNode],
-    rest: &[SyntaxNode],
-    guess: &mut Guess,
-    room: usize,
-) -> Result<Option<Plan>, AllocError>
-    requires { 1 ≤ length rest.now }
-    ensures { IfOk result (λ plan. IfSome plan (IsPlan (F.answers front.now) entry edition old.now chosen.now rest.now)) }
-{
-    for _turn in 0..=LIMIT {
-        let stays = guess.stays_of(alloc, rest.len(), room)?;
-        let going = planned(alloc, stays.as_slice(), rest)?;
-        if going.is_empty() {
-            return Ok(Some(Plan { stays, text: None }));
-        }
-        let mut apart = Vec::new(alloc);
-        let more = going.as_slice();
-        let wanted = guess.wanted();
-        let text = without(
-            alloc, front, entry, edition, old, chosen, more, wanted, &mut apart,
-        )?;
-        if text.is_some() {
-            return Ok(Some(Plan { stays, text }));
-        }
-        if !guess.learn(rest, apart.as_slice()) {
-            return Ok(None);
-        }
-    }
-    Ok(None)
-}
-
 // Whether a plan removes a pair.
 fn goes_at(stays: &[bool], at: usize) -> bool
     requires { at < length stays.now }
@@ -205,78 +111,160 @@ fn goes_at(stays: &[bool], at: usize) -> bool
     !stays[at]
 }
 
-// Tries to remove each pair that stays by a plan, beside the chosen ones and those before it that the plan removes, until one can be
-// removed.
-fn planned_run<F: FrontEnd>(
-    alloc: Global,
-    front: &F,
-    entry: Entry,
-    edition: Edition,
-    old: &Parse<SyntaxNode>,
-    chosen: &[SyntaxNode],
-    rest: &[SyntaxNode],
-    plan: Plan,
-) -> Result<Run, AllocError>
-    requires { IsPlan (F.answers front.now) entry edition old.now chosen.now rest.now plan }
-    ensures { IfOk result (IsRun (F.answers front.now) entry edition old.now chosen.now rest.now) }
-{
-    let mut before = Vec::new(alloc);
-    add_going(&mut before, chosen, true)?;
-    let mut tried = Vec::new(alloc);
-    let mut apart = Vec::new(alloc);
-    while tried.len() < plan.stays.len() {
-        let at = tried.len();
-        let left = &rest[at..];
-        let pair = &left[..1];
-        let marks = plan.stays.as_slice();
-        let goes = goes_at(marks, at);
-        if !goes {
-            let beside = before.as_slice();
-            let text = without(
-                alloc, front, entry, edition, old, beside, pair, 0, &mut apart,
-            )?;
+impl<'a, F: FrontEnd> Trial<'a, F> {
+    // The text without the pairs of `chosen` and `more`, if it parses to the tree without them. If it does not, the first `wanted` places
+    // where the trees differ are added to `apart`.
+    fn without(
+        &self,
+        alloc: Global,
+        chosen: &[SyntaxNode],
+        more: &[SyntaxNode],
+        wanted: usize,
+        apart: &mut Vec<Difference>,
+    ) -> Result<Option<String>, AllocError>
+        ensures { IfOk result (λ o. IsAnswer (F.answers self.now.front.now) self.now.entry self.now.edition self.now.old.now (chosen.now ++ more.now) (option_map string_bytes o)) }
+    {
+        let len = self.old.root().as_str().len();
+        let marks = marks_of(alloc, len, chosen, more)?;
+        let text = text_without(alloc, self.old.root(), marks.as_slice())?;
+        match read(alloc, self.front, self.entry, text.as_str(), self.edition) {
+            Ok(new) => {
+                if is_same(self.old, marks.as_slice(), &new) {
+                    Ok(Some(text))
+                } else {
+                    note_apart(alloc, self.old, marks.as_slice(), &new, wanted, apart)?;
+                    Ok(None)
+                }
+            }
+            Err(ParseError::TooLong) => Ok(None),
+            Err(ParseError::Memory) => Err(AllocError),
+        }
+    }
+
+    // Tries to remove the first pairs that are left beside the chosen ones: at most `step` of them, then half of these, down to one.
+    fn halved_run(
+        &self,
+        alloc: Global,
+        chosen: &[SyntaxNode],
+        rest: &[SyntaxNode],
+        step: usize,
+    ) -> Result<Run, AllocError>
+        requires { 1 ≤ length rest.now }
+        ensures { IfOk result (IsRun (F.answers self.now.front.now) self.now.entry self.now.edition self.now.old.now chosen.now rest.now) }
+    {
+        let mut apart = Vec::new(alloc);
+        let mut count = step.min(rest.len());
+        while count > 1 {
+            let pairs = &rest[..count];
+            let text = self.without(alloc, chosen, pairs, 0, &mut apart)?;
             if text.is_some() {
-                note(&mut tried, pair, true)?;
-                return Ok(Run { tried, text });
+                return run_of(alloc, pairs, text);
+            }
+            count /= 2;
+        }
+        let pairs = &rest[..1];
+        let text = self.without(alloc, chosen, pairs, 0, &mut apart)?;
+        run_of(alloc, pairs, text)
+    }
+
+    // Guesses which of the pairs that are left stay, until the text without the others parses to the tree without them. The plan ends after
+    // `room` pairs that stay. Returns `None` if a parse suggests no further pair that may have to stay.
+    fn make_plan(
+        &self,
+        alloc: Global,
+        chosen: &[SyntaxNode],
+        rest: &[SyntaxNode],
+        guess: &mut Guess,
+        room: usize,
+    ) -> Result<Option<Plan>, AllocError>
+        requires { 1 ≤ length rest.now }
+        ensures { IfOk result (λ plan. IfSome plan (IsPlan (F.answers self.now.front.now) self.now.entry self.now.edition self.now.old.now chosen.now rest.now)) }
+    {
+        for _turn in 0..=LIMIT {
+            let stays = guess.stays_of(alloc, rest.len(), room)?;
+            let going = planned(alloc, stays.as_slice(), rest)?;
+            if going.is_empty() {
+                return Ok(Some(Plan { stays, text: None }));
+            }
+            let mut apart = Vec::new(alloc);
+            let more = going.as_slice();
+            let wanted = guess.wanted();
+            let text = self.without(alloc, chosen, more, wanted, &mut apart)?;
+            if text.is_some() {
+                return Ok(Some(Plan { stays, text }));
+            }
+            if !guess.learn(rest, apart.as_slice()) {
+                return Ok(None);
             }
         }
-        add_going(&mut before, pair, goes)?;
-        note(&mut tried, pair, goes)?;
+        Ok(None)
     }
-    Ok(Run {
-        tried,
-        text: plan.text,
-    })
-}
 
-// Tries the first pairs that are left: by a plan, or by halves if there is no plan, up to a pair that stays.
-fn next_run<F: FrontEnd>(
-    alloc: Global,
-    front: &F,
-    entry: Entry,
-    edition: Edition,
-    old: &Parse<SyntaxNode>,
-    chosen: &[SyntaxNode],
-    rest: &[SyntaxNode],
-    guess: &mut Guess,
-    room: usize,
-) -> Result<Run, AllocError>
-    requires { 1 ≤ length rest.now }
-    ensures { IfOk result (IsRun (F.answers front.now) entry edition old.now chosen.now rest.now) }
-{
-    if guess.is_trusted() {
-        let plan = make_plan(alloc, front, entry, edition, old, chosen, rest, guess, room)?;
-        if let Some(plan) = plan {
-            let count = plan.stays.len();
-            let run = planned_run(alloc, front, entry, edition, old, chosen, rest, plan)?;
-            guess.was_followed(count, run.tried.len());
-            return Ok(run);
+    // Tries to remove each pair that stays by a plan, beside the chosen ones and those before it that the plan removes, until one can be
+    // removed.
+    fn planned_run(
+        &self,
+        alloc: Global,
+        chosen: &[SyntaxNode],
+        rest: &[SyntaxNode],
+        plan: Plan,
+    ) -> Result<Run, AllocError>
+        requires { IsPlan (F.answers self.now.front.now) self.now.entry self.now.edition self.now.old.now chosen.now rest.now plan }
+        ensures { IfOk result (IsRun (F.answers self.now.front.now) self.now.entry self.now.edition self.now.old.now chosen.now rest.now) }
+    {
+        let mut before = Vec::new(alloc);
+        add_going(&mut before, chosen, true)?;
+        let mut tried = Vec::new(alloc);
+        let mut apart = Vec::new(alloc);
+        while tried.len() < plan.stays.len() {
+            let at = tried.len();
+            let left = &rest[at..];
+            let pair = &left[..1];
+            let marks = plan.stays.as_slice();
+            let goes = goes_at(marks, at);
+            if !goes {
+                let beside = before.as_slice();
+                let text = self.without(alloc, beside, pair, 0, &mut apart)?;
+                if text.is_some() {
+                    note(&mut tried, pair, true)?;
+                    return Ok(Run { tried, text });
+                }
+            }
+            add_going(&mut before, pair, goes)?;
+            note(&mut tried, pair, goes)?;
         }
+        Ok(Run {
+            tried,
+            text: plan.text,
+        })
     }
-    let step = guess.step();
-    let run = halved_run(alloc, front, entry, edition, old, chosen, rest, step)?;
-    guess.was_tried(run.tried.len(), run.text.is_some());
-    Ok(run)
+
+    // Tries the first pairs that are left: by a plan, or by halves if there is no plan, up to a pair that stays.
+    fn next_run(
+        &self,
+        alloc: Global,
+        chosen: &[SyntaxNode],
+        rest: &[SyntaxNode],
+        guess: &mut Guess,
+        room: usize,
+    ) -> Result<Run, AllocError>
+        requires { 1 ≤ length rest.now }
+        ensures { IfOk result (IsRun (F.answers self.now.front.now) self.now.entry self.now.edition self.now.old.now chosen.now rest.now) }
+    {
+        if guess.is_trusted() {
+            let plan = self.make_plan(alloc, chosen, rest, guess, room)?;
+            if let Some(plan) = plan {
+                let count = plan.stays.len();
+                let run = self.planned_run(alloc, chosen, rest, plan)?;
+                guess.was_followed(count, run.tried.len());
+                return Ok(run);
+            }
+        }
+        let step = guess.step();
+        let run = self.halved_run(alloc, chosen, rest, step)?;
+        guess.was_tried(run.tried.len(), run.text.is_some());
+        Ok(run)
+    }
 }
 
 // Adds pairs to the chosen ones if they can be removed.
@@ -363,6 +351,12 @@ pub fn find_needless<F: FrontEnd>(
     ensures left { IfOk result (λ n. n.left + length n.tried.items ≡ length (candidates_of old.now)) }
     ensures all { IfOk result (λ n. 0 < n.left → LIMIT ≤ length (refused_of n.tried.items)) }
 {
+    let trial = Trial {
+        front,
+        entry,
+        edition,
+        old,
+    };
     let candidates = pairs(alloc, old.root())?;
     let mut guess = Guess::new(alloc, candidates.as_slice())?;
     let mut found = Vec::new(alloc);
@@ -373,9 +367,7 @@ pub fn find_needless<F: FrontEnd>(
         let rest = &candidates[tried.len()..];
         let beside = found.as_slice();
         let room = LIMIT - refused;
-        let run = next_run(
-            alloc, front, entry, edition, old, beside, rest, &mut guess, room,
-        )?;
+        let run = trial.next_run(alloc, beside, rest, &mut guess, room)?;
         let more = run.tried.as_slice();
         add_chosen(&mut found, more)?;
         add_tried(&mut tried, more)?;

@@ -79,7 +79,7 @@ fn is_sign(a: u8, b: u8) -> bool
                     || ((a == b'/' && b == b'*') || (a == b'*' && b == b'/')))))
 }
 
-// Whether a byte is one sign with a `=` behind it.
+// Whether a byte and a `=` after it are one sign.
 fn takes_equals(a: u8) -> bool
     ensures { result ≡ takes_equals a }
 {

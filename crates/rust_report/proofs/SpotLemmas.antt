@@ -3,8 +3,9 @@ use Rattle.std.proofs.Common.{◌≡◌, ℕ, ◌+◌, List, Option, Some, None,
 use Rattle.std.specs.Str.{IsCharBoundary}
 use Rattle.line_index.specs.declared.line_col.LineCol.{LineCol}
 use Rattle.line_index.specs.declared.line_col.WideLineCol.{WideLineCol}
+use Rattle.line_index.specs.declared.line_col.WideEncoding.{WideEncoding}
 use Rattle.line_index.specs.declared.line_col.WideEncoding.TheVariants.{Utf32}
-use Rattle.line_index.specs.Lines.{line_col_at, wide_line_col_at, IsWide, NoWide, IsOffset, NoOffset}
+use Rattle.line_index.specs.Lines.{line_col_at, wide_line_col_at, IsWide, IsWideAt, NoWide, IsOffset, NoOffset}
 use Rattle.line_index.proofs.LineLemmas.{one_place}
 use Rattle.rust_report.specs.declared.place.Spot.{Spot}
 use Rattle.rust_report.specs.Spots.{IsSpot, spot_of}
@@ -23,6 +24,12 @@ is_spot s o at w spot f wide l c =
       line = l ∙ ap (λ (x : WideLineCol). x.line + 1) (wide.is ∙ ap (wide_line_col_at Utf32 s) same);
       column = c ∙ ap (λ (x : WideLineCol). x.col + 1) (wide.is ∙ ap (wide_line_col_at Utf32 s) same);
     }
+
+-- a wide place in characters, counted from 1
+pub is_spot_at : (e : WideEncoding) (s : List ℕ) (o : ℕ) (w : WideLineCol) → e ≡ Utf32 → IsWideAt e s o w → IsSpot s o (spot_of w)
+is_spot_at e s o w same g =
+    let is : w ≡ wide_line_col_at Utf32 s o = g.is ∙ ap (λ (x : WideEncoding). wide_line_col_at x s o) same in
+    record { within = g.within; boundary = g.boundary; line = ap (λ (x : WideLineCol). x.line + 1) is; column = ap (λ (x : WideLineCol). x.col + 1) is }
 
 pub found : (s : List ℕ) (at : LineCol) (w : WideLineCol) (answer : Option ℕ)
     → IsWide Utf32 s at w → MatchOption answer (NoOffset s at) (IsOffset s at) → IfSome answer (λ o. IsSpot s o (spot_of w))

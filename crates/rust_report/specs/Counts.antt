@@ -14,7 +14,7 @@ is_node (Token c) = false
 abbrev pub is_token : NodeOrToken Cursor Cursor → Bool
 is_token x = not (is_node x)
 
--- how many of these pass, as far as 64 bits count
+-- the number of these that pass, saturating at 64 bits
 abbrev pub how_many : (NodeOrToken Cursor Cursor → Bool) → List (NodeOrToken Cursor Cursor) → ℕ
 how_many test xs = min (length (filter test xs)) (2 ^ 64 - 1)
 

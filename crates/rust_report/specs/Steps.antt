@@ -33,7 +33,7 @@ is_paren (Token token.L_PAREN) = true
 is_paren (Token token.R_PAREN) = true
 is_paren _ = false
 
--- the mark of an offset; none where there are fewer marks
+-- the mark of an offset; false past the last mark
 abbrev pub is_marked : List Bool → ℕ → Bool
 is_marked marks o = get_or marks o false
 
@@ -57,7 +57,7 @@ counts trivia marks e = counts_element trivia marks (element_in e)
 abbrev pub counted : Trivia → List Bool → List (Bool × Cursor) → List Event
 counted trivia marks walk = filter (counts trivia marks) (map walk_event walk)
 
--- the first of some events is this one, and the others are left; none is where there are none, and none is left
+-- this is the first of some events, and the others are left; no event if there are no events
 abbrev pub IsNext : List Event → Option Event → List Event → Type 0
 IsNext old None new = (old ≡ []) × (new ≡ [])
 IsNext old (Some e) new = old ≡ e ∷ new
@@ -76,7 +76,7 @@ step (Leave x) = (false, shown x)
 abbrev pub steps_of : Trivia → List Bool → Cursor → List (Bool × (SyntaxKind × Option (List ℕ)))
 steps_of trivia marks c = map step (counted trivia marks (walk_of c))
 
--- the first of some events, and none where there are none
+-- the first of some events, or None if there are no events
 abbrev pub first_event : List Event → Option Event
 first_event [] = None
 first_event (e ∷ es) = Some e

@@ -1,11 +1,11 @@
 -- Lines of a text, as reports show them.
-use Rattle.std.specs.Prelude.{◌≡◌, ℕ, ◌+◌, ◌-◌, ◌<◌, ◌≤◌, ◌^◌, min, max, Bool, ◌||◌, ◌==◌, if◌then◌else◌, List, [], length, take, slice_range}
+use Rattle.std.specs.Prelude.{◌≡◌, ℕ, ◌+◌, ◌-◌, ◌<◌, ◌≤◌, min, max, nat_lt, Bool, ◌||◌, ◌==◌, if◌then◌else◌, List, [], length, take, slice_range}
 use Rattle.std.specs.List.{position_or_len, before_first, suffix_len}
-use Rattle.std.specs.Str.{chars}
+use Rattle.std.specs.Str.{IsCharBoundary}
 use Rattle.std.specs.Str.Lines.{strip_carriage_return}
 use Rattle.text_size.specs.TextRange.{Bounds}
 use Rattle.line_index.specs.Lines.{line_feeds, IsLine}
-use Rattle.rust_report.specs.declared.place.Spot.{Spot}
+use Rattle.rust_report.specs.declared.texts.Excerpt.{Excerpt}
 
 abbrev pub is_feed : ℕ → Bool
 is_feed b = b == 10
@@ -26,10 +26,28 @@ pub record ShowsLine (s : List ℕ) (o : ℕ) (shown : List ℕ) : Type 0 where
   pub within : o ≤ length s → (r : Bounds) × IsLine s (line_feeds (take o s)) r × (shown ≡ shown_line (slice_range s r.start r.end))
   pub past : length s < o → shown ≡ []
 
--- where the columns end that a range covers in the line that it starts in: where the range ends, or after the line's characters
-abbrev pub end_column : List ℕ → Spot → Spot → ℕ
-end_column line from to = if to.line == from.line then to.column else min (length (chars line) + 1) (2 ^ 64 - 1)
+-- the start of the character that offset o is in; the end of the text past its end
+pub record IsFloor (s : List ℕ) (o r : ℕ) : Type 0 where
+  pub before : r ≤ o
+  pub boundary : IsCharBoundary s r
+  pub nearest : (i : ℕ) → r < i → i ≤ o → IsCharBoundary s i → ⊥
 
--- how many columns a range covers in the line that it starts in, at least one
-abbrev pub width : List ℕ → Spot → Spot → ℕ
-width line from to = max (end_column line from to - from.column) 1
+-- the part of a line around a place of it: all of a line of at most 240 bytes, else from 80 bytes before the place to 160 bytes after it
+pub record IsWindow (line : List ℕ) (at first last : ℕ) : Type 0 where
+  pub short : length line ≤ 240 → (first ≡ 0) × (last ≡ length line)
+  pub long : 240 < length line → IsFloor line (at - 80) first × IsFloor line (at + 160) last
+
+-- the part of a line around the range from start to end, and the range in it
+pub record IsExcerpt (line : List ℕ) (start end : ℕ) (e : Excerpt) : Type 0 where
+  pub from : ℕ
+  pub to : ℕ
+  pub first : ℕ
+  pub last : ℕ
+  pub starts : IsFloor line start from
+  pub ends : IsFloor line end to
+  pub window : IsWindow line from first last
+  pub before : e.before.now ≡ slice_range line first from
+  pub marked : e.marked.now ≡ slice_range line from (min (max to from) last)
+  pub after : e.after.now ≡ slice_range line (min (max to from) last) last
+  pub cut_before : e.is_cut_before ≡ nat_lt 0 first
+  pub cut_after : e.is_cut_after ≡ nat_lt last (length line)

@@ -5,14 +5,14 @@ ghost use Rattle.rust_report.specs.Asked.{Writes, WritesNone, IsOrdinal, NoOrdin
 use line_index::WideLineCol;
 use text_size::{TextRange, TextSize};
 
-// Reads a number in decimal digits, which may have a `+` before them. Returns `None` if the text is none, or past 32 bits.
+// Reads a number in decimal digits, which may have a `+` before them. Returns `None` if the text is not a number, or one past 32 bits.
 fn number(text: &str) -> Option<u32>
     ensures { MatchOption result (WritesNone text.now) (Writes text.now) }
 {
     text.parse::<u32>().ok()
 }
 
-// Reads a number that counts from 1, and returns it as one that counts from 0. Returns `None` if it is 0 or no number.
+// Reads a number that counts from 1, and returns it as one that counts from 0. Returns `None` if it is 0 or not a number.
 fn from_one(text: &str) -> Option<u32>
     ensures { MatchOption result (NoOrdinal text.now) (IsOrdinal text.now) }
 {

@@ -1,13 +1,14 @@
 //! The items of a tree.
-ghost use Rattle.std.specs.Prelude.{◌≡◌, IfOk, map, length, drop};
+ghost use Rattle.std.specs.Prelude.{◌≡◌, IfOk, map, length, drop, option_map};
 ghost use Rattle.std.specs.List.{filter};
 ghost use Rattle.tree_model.specs.Cursor.{at_node, descendants_of, ancestors_of};
-ghost use Rattle.ras_node.specs.Nodes.{typed_child, has_kind_in};
-ghost use Rattle.rust_report.specs.Outlines.{is_listed, is_name, is_label, word_of, label_of, depth_of, row_of};
+ghost use Rattle.lossless_tree.specs.declared.cursor.element.NodeOrToken.TheVariants.{Node, Token};
+ghost use Rattle.ras_node.specs.Nodes.{typed_child, token_child, has_kind_in};
+ghost use Rattle.rust_report.specs.Outlines.{is_listed, is_name, is_path, is_abi, is_unheaded, word_of, label_of, depth_of, row_of};
 
-use lossless_tree::{SyntaxKind, SyntaxNode};
+use lossless_tree::{NodeOrToken, SyntaxElement, SyntaxKind, SyntaxNode};
 use ras_node::KindSet;
-use ras_node::support::share;
+use ras_node::support::{share, token};
 use std::alloc::{AllocError, Global};
 
 /// An item, its name, and how deep it is.
@@ -56,19 +57,48 @@ pub fn is_listed(kind: SyntaxKind) -> bool
     )
 }
 
-/// The kinds of the child nodes that can label an item without a name.
-enum Labels {}
+/// The kinds of the child nodes that label a `use` and an `extern crate`.
+enum Paths {}
 
-impl KindSet for Labels {
-    ghost kinds = { is_label };
+impl KindSet for Paths {
+    ghost kinds = { is_path };
 
     fn has(kind: SyntaxKind) -> bool {
-        !matches!(
+        matches!(kind, SyntaxKind::USE_TREE | SyntaxKind::NAME_REF)
+    }
+}
+
+/// The kind of the `extern "C"` before a block.
+enum Abis {}
+
+impl KindSet for Abis {
+    ghost kinds = { is_abi };
+
+    fn has(kind: SyntaxKind) -> bool {
+        matches!(kind, SyntaxKind::ABI)
+    }
+}
+
+/// The kinds of the children of an `impl` that do not begin its head: those before it and those after it.
+enum Unheaded {}
+
+impl KindSet for Unheaded {
+    ghost kinds = { is_unheaded };
+
+    fn has(kind: SyntaxKind) -> bool {
+        matches!(
             kind,
             SyntaxKind::ATTR
                 | SyntaxKind::DOC_COMMENT
                 | SyntaxKind::VISIBILITY
                 | SyntaxKind::GENERIC_PARAM_LIST
+                | SyntaxKind::WHERE_CLAUSE
+                | SyntaxKind::ASSOC_ITEM_LIST
+                | SyntaxKind::DEFAULT_KW
+                | SyntaxKind::UNSAFE_KW
+                | SyntaxKind::IMPL_KW
+                | SyntaxKind::WHITESPACE
+                | SyntaxKind::COMMENT
         )
     }
 }
@@ -97,15 +127,38 @@ pub fn word_of(kind: SyntaxKind) -> &'static str
     }
 }
 
-/// The node that labels an item: its name, or if it has none its first child node that is no attribute, documentation, visibility or list
-/// of generic parameters, such as the path of a `use` or the type of an `impl`. Returns `None` if there is no such node.
-pub fn label_of(row: &Row) -> Option<SyntaxNode>
+/// The node or token that labels an item: its name; the `_` of a `const _`; the path of an `extern crate`, and the paths of a `use`; the
+/// string of an `extern "C"`; and of an `impl` the first node or token after its parameters, such as a type, or the `!` of a negative one.
+/// Returns `None` if there is none.
+pub fn label_of(row: &Row) -> Option<SyntaxElement>
     ensures { result ≡ label_of row.now }
 {
-    match &row.name {
-        Some(name) => Some(share(name)),
-        None => ras_node::first_node::<Labels>(row.item.children_with_tokens()),
+    if let Some(name) = &row.name {
+        return Some(NodeOrToken::Node(share(name)));
     }
+    match row.item.kind() {
+        SyntaxKind::CONST => token_label(&row.item, SyntaxKind::UNDERSCORE),
+        SyntaxKind::EXTERN_BLOCK => {
+            let abi = ras_node::first_node::<Abis>(row.item.children_with_tokens())?;
+            token_label(&abi, SyntaxKind::STRING)
+        }
+        SyntaxKind::EXTERN_CRATE | SyntaxKind::USE => path_label(&row.item),
+        SyntaxKind::IMPL => ras_node::first_other::<Unheaded>(row.item.children_with_tokens()),
+        _ => None,
+    }
+}
+
+fn token_label(parent: &SyntaxNode, kind: SyntaxKind) -> Option<SyntaxElement>
+    ensures { result ≡ option_map Token (token_child kind parent.now) }
+{
+    Some(NodeOrToken::Token(token(parent, kind)?))
+}
+
+fn path_label(item: &SyntaxNode) -> Option<SyntaxElement>
+    ensures { result ≡ option_map Node (typed_child is_path item.now) }
+{
+    let path = ras_node::first_node::<Paths>(item.children_with_tokens())?;
+    Some(NodeOrToken::Node(path))
 }
 
 fn name_of(item: &SyntaxNode) -> Option<SyntaxNode>

@@ -39,7 +39,7 @@ fn allows(step: Step, kind: SyntaxKind) -> bool
 // The result of comparing a node or token with the steps of a pattern up to the first `//`.
 #[derive(Drop)]
 enum Climb<'a> {
-    // All steps match, and none is left.
+    // All steps match.
     Whole,
     // A step does not match.
     Not,

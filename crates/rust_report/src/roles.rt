@@ -9,7 +9,7 @@ use lossless_tree::{SyntaxKind, SyntaxNode, SyntaxToken};
 /// The role of a token.
 #[derive(Clone, Copy, Debug, PartialEq, Eq)]
 pub enum Role {
-    /// White space, punctuation, and a name that is none of the others.
+    /// White space, punctuation, and every other name.
     Plain,
     /// A comment or a documentation comment.
     Comment,

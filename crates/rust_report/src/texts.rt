@@ -1,9 +1,8 @@
 //! Lines of a text, as reports show them.
 ghost use Rattle.std.specs.Prelude.{◌≡◌};
 ghost use Rattle.std.specs.Str.Lines.{strip_carriage_return};
-ghost use Rattle.rust_report.specs.Texts.{first_line, is_line_end, shown_line, ShowsLine, end_column, width};
+ghost use Rattle.rust_report.specs.Texts.{first_line, is_line_end, shown_line, ShowsLine, IsFloor, IsWindow, IsExcerpt};
 
-use crate::place::Spot;
 use line_index::LineIndex;
 use text_size::TextSize;
 
@@ -66,23 +65,59 @@ pub fn line_at<'a>(text: &'a str, lines: &LineIndex<'_>, offset: TextSize) -> &'
     }
 }
 
-// The column where a range ends in the line that it starts in: the column of its end, or the one behind the line.
-fn end_column(line: &str, from: Spot, to: Spot) -> u64
-    ensures { result ≡ end_column line.now from to }
-{
-    if to.line == from.line {
-        to.column
-    } else {
-        (line.chars().count() as u64).saturating_add(1)
-    }
+/// The part of a line that a report shows of a range in it.
+#[derive(Clone, Copy, Debug)]
+pub struct Excerpt<'a> {
+    /// Whether the line has text before the part.
+    pub is_cut_before: bool,
+    /// The text of the part before the range.
+    pub before: &'a str,
+    /// The text of the range within the part.
+    pub marked: &'a str,
+    /// The text of the part after the range.
+    pub after: &'a str,
+    /// Whether the line has text after the part.
+    pub is_cut_after: bool,
 }
 
-/// How many columns a range covers in the line where it starts, at least one. `line` is that line; `from` and `to` are the start and the
-/// end of the range.
-pub fn width(line: &str, from: Spot, to: Spot) -> u64
-    ensures { result ≡ width line.now from to }
+/// A line with more bytes is not shown as a whole.
+pub const WIDEST: usize = 240;
+
+// How many bytes of such a line are shown before the start of a range, and after it.
+const BEFORE: usize = 80;
+
+const AFTER: usize = 160;
+
+// Where the part of a line around a place starts and ends.
+fn window(line: &str, at: usize) -> (usize, usize)
+    requires { IsFloor line.now at at }
+    ensures { IsWindow line.now at result.0 result.1 }
 {
-    end_column(line, from, to)
-        .saturating_sub(from.column)
-        .max(1)
+    if line.len() <= WIDEST {
+        return (0, line.len());
+    }
+    (
+        line.floor_char_boundary(at.saturating_sub(BEFORE)),
+        line.floor_char_boundary(at.saturating_add(AFTER)),
+    )
+}
+
+/// The part of a line around the range from `start` to `end`, both counted in bytes from the start of the line. It is the whole line if that
+/// has at most [`WIDEST`] bytes; otherwise it starts up to 80 bytes before the range, and ends up to 160 bytes after the range's start. An
+/// offset inside a character counts as that of the character, and one past the end of the line as the end.
+///
+/// Takes constant time.
+pub fn excerpt_of(line: &str, start: usize, end: usize) -> Excerpt<'_>
+    ensures { IsExcerpt line.now start end result }
+{
+    let from = line.floor_char_boundary(start);
+    let (first, last) = window(line, from);
+    let to = line.floor_char_boundary(end).max(from).min(last);
+    Excerpt {
+        is_cut_before: first > 0,
+        before: &line[first..from],
+        marked: &line[from..to],
+        after: &line[to..last],
+        is_cut_after: last < line.len(),
+    }
 }

@@ -83,7 +83,7 @@ fn width(link: Link) -> usize
     }
 }
 
-// The sign that starts with a byte and the bytes behind it.
+// The sign that starts with a byte and the bytes after it.
 fn sign_at(first: u8, behind: &[u8]) -> Option<Link>
     ensures { result ≡ sign_at first behind.now }
 {

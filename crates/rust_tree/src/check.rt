@@ -3,11 +3,13 @@
 use crate::failure::Failure;
 use crate::json::write_line;
 use crate::options::Form;
-use crate::source::{Reading, lines, parsed, spot};
+use crate::shown::ELLIPSIS;
+use crate::source::{Reading, move_to, parsed, spot, spots};
 use crate::style::Style;
 use line_index::LineIndex;
+use lossless_tree::TextRange;
 use ras_front_end::SyntaxError;
-use rust_report::{InWorkflow, line_at, width};
+use rust_report::{InWorkflow, Spots, excerpt_of, line_at};
 use serde::Serialize;
 use std::alloc::Global;
 use std::io;
@@ -44,30 +46,54 @@ fn write_many<W: Write>(out: &mut W, sign: &str, count: u64) -> io::Result<()> {
     Ok(())
 }
 
-// Writes white space as wide as the part of a line before a column; tabs stay tabs.
-fn write_blanks<W: Write>(out: &mut W, line: &str, column: u64) -> io::Result<()> {
-    let mut at = 1u64;
-    for sign in line.chars() {
-        if at >= column {
-            break;
-        }
-        at = at.saturating_add(1);
+// Writes white space as wide as a text; tabs stay tabs.
+fn write_blanks<W: Write>(out: &mut W, text: &str) -> io::Result<()> {
+    for sign in text.chars() {
         out.write_all(if sign == '\t' { b"\t" } else { b" " })?;
     }
     Ok(())
 }
 
+// Writes the line that a range starts in, or the part of a long line around it, and marks the range in the line below.
+fn write_source<W: Write>(
+    out: &mut W,
+    lines: &LineIndex<'_>,
+    range: TextRange,
+    style: Style,
+) -> io::Result<()> {
+    let line = line_at(lines.text(), lines, range.start());
+    let start = match lines.line_col(range.start()) {
+        Some(place) => place.col as usize,
+        None => 0,
+    };
+    let part = excerpt_of(
+        line,
+        start,
+        start.saturating_add(range.len().raw() as usize),
+    );
+    let before = if part.is_cut_before { ELLIPSIS } else { "" };
+    let after = if part.is_cut_after { ELLIPSIS } else { "" };
+    writeln!(
+        out,
+        "{before}{}{}{}{after}",
+        part.before, part.marked, part.after
+    )?;
+    write!(out, "      | ")?;
+    write_blanks(out, before)?;
+    write_blanks(out, part.before)?;
+    write!(out, "{}", style.red())?;
+    write_many(out, "^", (part.marked.chars().count() as u64).max(1))?;
+    writeln!(out, "{}", style.plain())
+}
+
 fn write_text<W: Write>(
     out: &mut W,
     name: &str,
-    text: &str,
-    lines: &LineIndex<'_>,
+    spots: &mut Spots<'_>,
     error: &SyntaxError,
     style: Style,
 ) -> io::Result<()> {
-    let from = spot(lines, error.range().start());
-    let to = spot(lines, error.range().end());
-    let line = line_at(text, lines, error.range().start());
+    let from = move_to(spots, error.range().start());
     let (bold, red, plain) = (style.bold(), style.red(), style.plain());
     writeln!(
         out,
@@ -75,24 +101,19 @@ fn write_text<W: Write>(
         error.message()
     )?;
     write!(out, "{:>5} | ", from.line)?;
-    writeln!(out, "{line}")?;
-    write!(out, "      | ")?;
-    write_blanks(out, line, from.column)?;
-    write!(out, "{red}")?;
-    write_many(out, "^", width(line, from, to))?;
-    writeln!(out, "{plain}")
+    write_source(out, spots.lines(), error.range(), style)
 }
 
 fn write_json<W: Write>(
     alloc: Global,
     out: &mut W,
     name: &str,
-    lines: &LineIndex<'_>,
+    spots: &mut Spots<'_>,
     error: &SyntaxError,
 ) -> io::Result<()> {
     let range = error.range();
-    let from = spot(lines, range.start());
-    let to = spot(lines, range.end());
+    let from = move_to(spots, range.start());
+    let to = spot(spots, range.end());
     let finding = Finding {
         path: name,
         line: from.line,
@@ -109,11 +130,11 @@ fn write_json<W: Write>(
 fn write_github<W: Write>(
     out: &mut W,
     name: &str,
-    lines: &LineIndex<'_>,
+    spots: &mut Spots<'_>,
     error: &SyntaxError,
 ) -> io::Result<()> {
-    let from = spot(lines, error.range().start());
-    let to = spot(lines, error.range().end());
+    let from = move_to(spots, error.range().start());
+    let to = spot(spots, error.range().end());
     let (name, message) = (InWorkflow(name), InWorkflow(error.message()));
     writeln!(
         out,
@@ -130,12 +151,12 @@ fn write_all<W: Write>(
     errors: &[SyntaxError],
     options: Checking,
 ) -> Result<u64, Failure> {
-    let lines = lines(alloc, text)?;
+    let mut spots = spots(alloc, text)?;
     for error in errors {
         match options.format {
-            Form::Text => write_text(out, name, text, &lines, error, options.style)?,
-            Form::Json => write_json(alloc, out, name, &lines, error)?,
-            Form::Github => write_github(out, name, &lines, error)?,
+            Form::Text => write_text(out, name, &mut spots, error, options.style)?,
+            Form::Json => write_json(alloc, out, name, &mut spots, error)?,
+            Form::Github => write_github(out, name, &mut spots, error)?,
         }
     }
     Ok(errors.len() as u64)

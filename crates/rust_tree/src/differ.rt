@@ -2,10 +2,9 @@
 
 use crate::failure::Failure;
 use crate::names::kind_name;
-use crate::source::{Reading, lines, parsed, spot};
-use line_index::LineIndex;
+use crate::source::{Reading, move_to, parsed, spots};
 use lossless_tree::{NodeOrToken, SyntaxElement, TextSize, WalkEvent};
-use rust_report::{Trivia, differences};
+use rust_report::{Spots, Trivia, differences};
 use std::alloc::Global;
 use std::io;
 use std::io::Write;
@@ -24,22 +23,22 @@ fn write_side<W: Write>(
     alloc: Global,
     out: &mut W,
     side: Side<'_>,
-    lines: &LineIndex<'_>,
+    spots: &mut Spots<'_>,
     event: &Option<WalkEvent<SyntaxElement>>,
 ) -> io::Result<()> {
     let Side { name, text } = side;
     match event {
         None => {
             let end = TextSize::of(text).unwrap_or(TextSize::new(0));
-            writeln!(out, "{name}:{}: the end", spot(lines, end))
+            writeln!(out, "{name}:{}: the end", move_to(spots, end))
         }
         Some(WalkEvent::Leave(element)) => {
-            let at = spot(lines, element.text_range().end());
+            let at = move_to(spots, element.text_range().end());
             let kind = kind_name(alloc, element.kind())?;
             writeln!(out, "{name}:{at}: the end of {kind}")
         }
         Some(WalkEvent::Enter(element)) => {
-            let at = spot(lines, element.text_range().start());
+            let at = move_to(spots, element.text_range().start());
             let kind = kind_name(alloc, element.kind())?;
             match element {
                 NodeOrToken::Node(_) => writeln!(out, "{name}:{at}: {kind}"),
@@ -72,8 +71,8 @@ pub fn show<W: Write>(
 ) -> Result<Told, Failure> {
     let old_parse = parsed(alloc, old.text, reading)?;
     let new_parse = parsed(alloc, new.text, reading)?;
-    let old_lines = lines(alloc, old.text)?;
-    let new_lines = lines(alloc, new.text)?;
+    let mut old_spots = spots(alloc, old.text)?;
+    let mut new_spots = spots(alloc, new.text)?;
     let (old_root, new_root) = (old_parse.root(), new_parse.root());
     let wanted = limit.saturating_add(1);
     let found = differences(alloc, old_root, &[], new_root, trivia, wanted)?;
@@ -82,8 +81,8 @@ pub fn show<W: Write>(
         if places == limit {
             return Ok(Told { places, more: true });
         }
-        write_side(alloc, out, old, &old_lines, &difference.old)?;
-        write_side(alloc, out, new, &new_lines, &difference.new)?;
+        write_side(alloc, out, old, &mut old_spots, &difference.old)?;
+        write_side(alloc, out, new, &mut new_spots, &difference.new)?;
         places = places.saturating_add(1);
     }
     Ok(Told {

@@ -78,9 +78,12 @@ fn write_new(rt: &HostRuntime, mut file: File, new: &str, old: &str, text: &str)
 }
 
 // Replaces the text of a file by writing a new file and renaming it, so that at every moment the file has the old text or the new one.
-// If the name is that of a link, its target is replaced.
+// If the name is that of a link, its target is replaced. A file that must not be written is not replaced.
 fn replace(rt: &HostRuntime, name: &str, text: &str) -> io::Result<()> {
     let path = fs::canonicalize(rt, name)?;
+    if fs::metadata(rt, path.as_str())?.permissions().readonly() {
+        return Err(io::Error::from(ErrorKind::PermissionDenied));
+    }
     let (file, new) = new_beside(rt, path.as_str())?;
     let done = write_new(rt, file, new.as_str(), path.as_str(), text);
     if done.is_err() {

@@ -1,6 +1,7 @@
 //! The files that a command line names.
 
 use std::alloc::Global;
+use std::io::ErrorKind;
 use std::path::Path;
 use std::{fs, io};
 
@@ -26,15 +27,27 @@ fn is_rust(path: Path<'_>) -> bool {
     path.extension().is_some_and(|extension| extension == "rs")
 }
 
-// Adds the `.rs` files of a folder to `files`, and the folders in it to `folders`. Links to folders are not followed.
+// Adds the `.rs` files of a folder to `files`, and the folders in it to `folders`. Links to folders are not followed. A name that is not
+// UTF-8 is reported and counted in `lost`.
 fn list(
     rt: &HostRuntime,
     folder: &str,
     files: &mut Vec<String>,
     folders: &mut Vec<String>,
+    lost: &mut u64,
 ) -> io::Result<()> {
     for entry in fs::read_dir(rt, folder)? {
-        let entry = entry?;
+        let entry = match entry {
+            Ok(entry) => entry,
+            Err(error) => {
+                if error.kind() != ErrorKind::InvalidFilename {
+                    return Err(error);
+                }
+                eprintln!(rt; "rust_tree: {folder}: a name in it is not valid UTF-8")?;
+                *lost = lost.saturating_add(1);
+                continue;
+            }
+        };
         let kind = entry.file_type()?;
         let path = String::from_str(rt.alloc(), entry.path().as_str())?;
         if kind.is_dir() {
@@ -49,8 +62,8 @@ fn list(
     Ok(())
 }
 
-/// The `.rs` files below a folder, sorted by their paths. A folder that cannot be read is reported on standard error and counted in
-/// `lost`.
+/// The `.rs` files below a folder, sorted by their paths. A folder that cannot be read, and a name that is not UTF-8, are reported on
+/// standard error and counted in `lost`.
 pub fn files_below(rt: &HostRuntime, folder: &str, lost: &mut u64) -> io::Result<Vec<String>> {
     let mut files = Vec::new(rt.alloc());
     let mut folders = Vec::new(rt.alloc());
@@ -59,7 +72,7 @@ pub fn files_below(rt: &HostRuntime, folder: &str, lost: &mut u64) -> io::Result
         let Some(next) = folders.pop() else {
             break;
         };
-        if let Err(error) = list(rt, next.as_str(), &mut files, &mut folders) {
+        if let Err(error) = list(rt, next.as_str(), &mut files, &mut folders, lost) {
             eprintln!(rt; "rust_tree: {next}: {error}")?;
             *lost = lost.saturating_add(1);
         }

@@ -17,6 +17,7 @@ mod page;
 mod parens;
 mod query;
 mod session;
+mod shown;
 mod source;
 mod style;
 mod tokens;
@@ -34,6 +35,7 @@ use std::io::{BufWriter, ErrorKind, IsTerminal, Write};
 use std::process::ExitCode;
 use std::{env, io};
 use style::Style;
+use tree::Drawing;
 
 fn style_of(rt: &HostRuntime, matches: &ArgMatches) -> Style {
     match matches.get_str("color") {
@@ -57,19 +59,26 @@ fn has_several(rt: &HostRuntime, matches: &ArgMatches) -> bool {
     }
 }
 
+// The task of `tree` with its options. Returns `None` after reporting an error if the arguments are invalid.
+fn tree_task(rt: &HostRuntime, matches: &ArgMatches) -> io::Result<Option<Task>> {
+    let Some(showing) = showing(matches) else {
+        eprintln!(rt; "rust_tree: a place is LINE:COLUMN, and a range START..END")?;
+        return Ok(None);
+    };
+    let has_several = has_several(rt, matches);
+    if has_several && matches!(showing.drawing, Drawing::Html) && !showing.stats {
+        eprintln!(rt; "rust_tree: `--format html` takes one file, and no folder")?;
+        return Ok(None);
+    }
+    // A JSON object has the name of its file.
+    let named = has_several && !matches!(showing.drawing, Drawing::Json);
+    Ok(Some(Task::Tree { named, showing }))
+}
+
 // The task of a command with its options. Returns `None` after reporting an error if the arguments are invalid.
 fn task(rt: &HostRuntime, name: &str, matches: &ArgMatches) -> io::Result<Option<Task>> {
     Ok(Some(match name {
-        "tree" => match showing(matches) {
-            Some(showing) => Task::Tree {
-                named: has_several(rt, matches),
-                showing,
-            },
-            None => {
-                eprintln!(rt; "rust_tree: a place is LINE:COLUMN, and a range START..END")?;
-                return Ok(None);
-            }
-        },
+        "tree" => return tree_task(rt, matches),
         "check" => Task::Check {
             style: style_of(rt, matches),
         },

@@ -117,23 +117,19 @@ fn with_reading<'a>(
         .arg(no_validation(alloc))
 }
 
-// Adds the options of commands on one or two files, and an argument for each name.
-fn with_named<'a>(
-    alloc: Global,
-    command: Command<'a>,
-    names: &[&'a str],
-) -> Result<Command<'a>, AllocError> {
-    let mut command = command
+// Adds the options of commands on one or two files.
+fn with_options<'a>(alloc: Global, command: Command<'a>) -> Result<Command<'a>, AllocError> {
+    command
         .arg(edition(alloc))?
         .arg(entry(alloc))?
-        .arg(quiet(alloc))?;
-    for name in names {
-        let file = Arg::new(alloc, name)
-            .required(true)
-            .help("A file of Rust; `-` is standard input");
-        command = command.arg(file)?;
-    }
-    Ok(command)
+        .arg(quiet(alloc))
+}
+
+// A file that has to be named.
+fn file<'a>(alloc: Global, name: &'a str) -> Arg<'a> {
+    Arg::new(alloc, name)
+        .required(true)
+        .help("A file of Rust; `-` is standard input")
 }
 
 fn at<'a>(alloc: Global) -> Arg<'a> {
@@ -170,7 +166,7 @@ fn stats<'a>(alloc: Global) -> Arg<'a> {
 fn with_parts<'a>(alloc: Global, command: Command<'a>) -> Result<Command<'a>, AllocError> {
     command
         .arg(at(alloc))?
-        .arg(range(alloc))?
+        .arg(range(alloc).conflicts_with("at")?)?
         .arg(depth(alloc))?
         .arg(flag(alloc, "no-trivia", "Without white space and comments"))?
         .arg(stats(alloc))
@@ -210,7 +206,7 @@ fn parens<'a>(alloc: Global) -> Result<Command<'a>, AllocError> {
         .after_help("Example: rust_tree parens --diff src")
         .arg(format(alloc, FORMATS.as_slice()))?
         .arg(flag(alloc, "diff", "Prints how each file would change"))?
-        .arg(flag(alloc, "fix", "Writes each file anew without the pairs"))?;
+        .arg(flag(alloc, "fix", "Removes the pairs from each file").conflicts_with("diff")?)?;
     with_common(alloc, command)
 }
 
@@ -252,7 +248,7 @@ fn highlight<'a>(alloc: Global) -> Result<Command<'a>, AllocError> {
         .about("Prints a file with its words marked by what they are")
         .after_help("Example: rust_tree highlight --format html src/main.rs > main.html")
         .arg(ink_format(alloc))?;
-    with_named(alloc, command, &["FILE"])
+    with_options(alloc, command)?.arg(file(alloc, "FILE"))
 }
 
 fn limit_arg<'a>(alloc: Global) -> Arg<'a> {
@@ -270,7 +266,9 @@ fn diff<'a>(alloc: Global) -> Result<Command<'a>, AllocError> {
         .after_help("Example: rust_tree diff --no-trivia old.rs new.rs")
         .arg(flag(alloc, "no-trivia", "Passes over white space and comments"))?
         .arg(limit_arg(alloc))?;
-    with_named(alloc, command, &["A", "B"])
+    with_options(alloc, command)?
+        .arg(file(alloc, "A"))?
+        .arg(file(alloc, "B"))
 }
 
 // Adds the commands that print errors, items, pairs of parentheses and trees.

@@ -3,10 +3,10 @@
 use crate::failure::Failure;
 use crate::json::write_line;
 use crate::options::Form;
-use crate::source::{Reading, lines, parsed, spot};
-use line_index::LineIndex;
-use lossless_tree::{SyntaxKind, SyntaxNode};
-use rust_report::{Row, first_line, label_of, outline, word_of};
+use crate::shown::write_short;
+use crate::source::{Reading, move_to, parsed, spots};
+use lossless_tree::{SyntaxElement, SyntaxKind, TextSize};
+use rust_report::{Row, Spots, first_line, label_of, outline, word_of};
 use serde::Serialize;
 use std::alloc::Global;
 use std::io;
@@ -27,25 +27,35 @@ struct Item<'a> {
     end: u32,
 }
 
-// The first line of an item's label; for an `impl`, its text from the label up to the `{`.
-fn shown<'a>(row: &'a Row, label: &'a SyntaxNode) -> &'a str {
+// Where the head of an `impl` ends: before its `where` or its items, or at its end.
+fn head_end(row: &Row) -> TextSize {
+    for child in row.item.children() {
+        if matches!(
+            child.kind(),
+            SyntaxKind::WHERE_CLAUSE | SyntaxKind::ASSOC_ITEM_LIST
+        ) {
+            return child.text_range().start();
+        }
+    }
+    row.item.text_range().end()
+}
+
+// The first line of an item's label; for an `impl`, its text from the label up to the end of its head.
+fn shown<'a>(row: &'a Row, label: &'a SyntaxElement) -> &'a str {
     if row.item.kind() != SyntaxKind::IMPL {
-        return first_line(label.as_str());
+        return first_line(label.text());
     }
     let start = row.item.text_range().start().raw();
-    let from = label.text_range().start().raw().saturating_sub(start);
-    let text = row.item.as_str().get(from as usize..).unwrap_or("");
-    match text.split_once('{') {
-        Some((head, _)) => first_line(head).trim(),
-        None => first_line(text),
-    }
+    let from = label.text_range().start().raw().saturating_sub(start) as usize;
+    let to = head_end(row).raw().saturating_sub(start) as usize;
+    first_line(row.item.as_str().get(from..to).unwrap_or("")).trim()
 }
 
 fn write_row<W: Write>(
     alloc: Global,
     out: &mut W,
     path: &str,
-    lines: &LineIndex<'_>,
+    spots: &mut Spots<'_>,
     row: &Row,
     format: Form,
 ) -> io::Result<()> {
@@ -55,7 +65,7 @@ fn write_row<W: Write>(
         Some(label) => label.text_range().start(),
         None => range.start(),
     };
-    let at = spot(lines, start);
+    let at = move_to(spots, start);
     let kind = word_of(row.item.kind());
     let shown = match &label {
         Some(label) => shown(row, label),
@@ -84,7 +94,8 @@ fn write_row<W: Write>(
             if shown.is_empty() {
                 writeln!(out, "{kind}")
             } else {
-                writeln!(out, "{kind} {shown}")
+                write!(out, "{kind} ")?;
+                write_short(out, shown)
             }
         }
     }
@@ -100,9 +111,9 @@ pub fn show<W: Write>(
     format: Form,
 ) -> Result<u64, Failure> {
     let parse = parsed(alloc, text, reading)?;
-    let lines = lines(alloc, text)?;
+    let mut spots = spots(alloc, text)?;
     for row in &outline(alloc, parse.root())? {
-        write_row(alloc, out, name, &lines, row, format)?;
+        write_row(alloc, out, name, &mut spots, row, format)?;
     }
     Ok(0)
 }

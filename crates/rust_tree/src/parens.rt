@@ -3,14 +3,14 @@
 use crate::failure::Failure;
 use crate::json::write_line;
 use crate::options::Form;
-use crate::source::{Reading, lines, spot};
-use line_index::LineIndex;
+use crate::shown::write_short;
+use crate::source::{Reading, move_to, spots};
 use lossless_tree::SyntaxNode;
 use ras_front_end::ParseError;
 use ras_parsing::read;
 use rust_front::Rust;
 use rust_parens::{Needless, find_needless};
-use rust_report::first_line;
+use rust_report::Spots;
 use serde::Serialize;
 use std::alloc::Global;
 use std::io;
@@ -38,12 +38,12 @@ fn write_pair<W: Write>(
     alloc: Global,
     out: &mut W,
     path: &str,
-    lines: &LineIndex<'_>,
+    spots: &mut Spots<'_>,
     pair: &SyntaxNode,
     format: Form,
 ) -> io::Result<()> {
     let range = pair.text_range();
-    let at = spot(lines, range.start());
+    let at = move_to(spots, range.start());
     match format {
         Form::Json => {
             let found = Pair {
@@ -57,8 +57,8 @@ fn write_pair<W: Write>(
             write_line(alloc, out, &found)
         }
         Form::Text | Form::Github => {
-            let shown = first_line(pair.as_str());
-            writeln!(out, "{path}:{at}: needless parentheses: {shown}")
+            write!(out, "{path}:{at}: needless parentheses: ")?;
+            write_short(out, pair.as_str())
         }
     }
 }
@@ -72,9 +72,9 @@ pub fn list<W: Write>(
     pairs: &[SyntaxNode],
     format: Form,
 ) -> Result<(), Failure> {
-    let lines = lines(alloc, text)?;
+    let mut spots = spots(alloc, text)?;
     for pair in pairs {
-        write_pair(alloc, out, path, &lines, pair, format)?;
+        write_pair(alloc, out, path, &mut spots, pair, format)?;
     }
     Ok(())
 }

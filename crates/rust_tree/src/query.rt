@@ -4,10 +4,10 @@ use crate::failure::Failure;
 use crate::json::write_line;
 use crate::names::kind_name;
 use crate::options::Form;
-use crate::source::{Reading, lines, parsed, spot};
-use line_index::LineIndex;
+use crate::shown::write_short;
+use crate::source::{Reading, move_to, parsed, spots};
 use lossless_tree::SyntaxElement;
-use rust_report::{Step, first_line, query};
+use rust_report::{Spots, Step, query};
 use serde::Serialize;
 use std::alloc::Global;
 use std::io;
@@ -30,12 +30,12 @@ fn write_match<W: Write>(
     alloc: Global,
     out: &mut W,
     path: &str,
-    lines: &LineIndex<'_>,
+    spots: &mut Spots<'_>,
     element: &SyntaxElement,
     format: Form,
 ) -> io::Result<()> {
     let range = element.text_range();
-    let at = spot(lines, range.start());
+    let at = move_to(spots, range.start());
     match format {
         Form::Json => {
             let kind = kind_name(alloc, element.kind())?;
@@ -51,8 +51,8 @@ fn write_match<W: Write>(
             write_line(alloc, out, &found)
         }
         Form::Text | Form::Github => {
-            let shown = first_line(element.text());
-            writeln!(out, "{path}:{at}: {shown}")
+            write!(out, "{path}:{at}: ")?;
+            write_short(out, element.text())
         }
     }
 }
@@ -68,10 +68,10 @@ pub fn show<W: Write>(
     format: Form,
 ) -> Result<u64, Failure> {
     let parse = parsed(alloc, text, reading)?;
-    let lines = lines(alloc, text)?;
+    let mut spots = spots(alloc, text)?;
     let found = query(alloc, parse.root(), steps)?;
     for element in &found {
-        write_match(alloc, out, path, &lines, element, format)?;
+        write_match(alloc, out, path, &mut spots, element, format)?;
     }
     Ok(found.len() as u64)
 }

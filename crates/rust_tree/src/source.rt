@@ -5,7 +5,7 @@ use lossless_tree::{SyntaxNode, TextSize};
 use ras_front_end::{Edition, Entry, ParseError};
 use ras_parsing::{Parse, read};
 use rust_front::Rust;
-use rust_report::{Spot, spot_at};
+use rust_report::{Spot, Spots};
 use std::alloc::{AllocError, Global};
 
 /// How a text is parsed.
@@ -36,7 +36,18 @@ pub fn lines(alloc: Global, text: &str) -> Result<LineIndex<'_>, ParseError> {
     Ok(LineIndex::new(alloc, text)?)
 }
 
-/// The line and the column of an offset. Returns those of the text's start if the offset has none; an offset of a tree always has them.
-pub fn spot(lines: &LineIndex<'_>, offset: TextSize) -> Spot {
-    spot_at(lines, offset).unwrap_or(Spot { line: 1, column: 1 })
+/// The lines and columns of a text.
+pub fn spots(alloc: Global, text: &str) -> Result<Spots<'_>, ParseError> {
+    Ok(Spots::new(lines(alloc, text)?))
+}
+
+/// Moves to an offset, and returns its line and column. Returns those of the text's start if the offset has none; an offset of a tree always
+/// has them.
+pub fn move_to(spots: &mut Spots<'_>, offset: TextSize) -> Spot {
+    spots.move_to(offset).unwrap_or(Spot { line: 1, column: 1 })
+}
+
+/// The same without a move, for an offset near the one that was moved to last.
+pub fn spot(spots: &Spots<'_>, offset: TextSize) -> Spot {
+    spots.spot(offset).unwrap_or(Spot { line: 1, column: 1 })
 }

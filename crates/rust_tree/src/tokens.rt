@@ -23,16 +23,44 @@ struct Shown<'a> {
     text: &'a str,
 }
 
-fn write_error<W: Write>(out: &mut W, text: &str, error: &LexError) -> io::Result<()> {
+// An error as an object of JSON; `start` and `end` are offsets in bytes.
+#[derive(Drop, Serialize)]
+struct Finding<'a> {
+    path: &'a str,
+    start: u32,
+    end: u32,
+    message: &'a str,
+}
+
+fn write_error<W: Write>(
+    alloc: Global,
+    out: &mut W,
+    path: &str,
+    text: &str,
+    error: &LexError,
+    format: Form,
+) -> io::Result<()> {
     let (front, back) = error.problem.message();
     let range = error.range;
-    if back.is_empty() {
-        writeln!(out, "error {range}: {front}")
+    let (start, end) = (range.start().raw(), range.end().raw());
+    let own = if back.is_empty() {
+        ""
     } else {
-        let own = text
-            .get(range.start().raw() as usize..range.end().raw() as usize)
-            .unwrap_or("");
-        writeln!(out, "error {range}: {front}{own}{back}")
+        text.get(start as usize..end as usize).unwrap_or("")
+    };
+    let message = format!(in alloc; "{front}{own}{back}")?;
+    match format {
+        Form::Json => {
+            let message = message.as_str();
+            let found = Finding {
+                path,
+                start,
+                end,
+                message,
+            };
+            write_line(alloc, out, &found)
+        }
+        Form::Text | Form::Github => writeln!(out, "error {range}: {message}"),
     }
 }
 
@@ -63,7 +91,7 @@ fn write_token<W: Write>(
     }
 }
 
-/// Writes the tokens of a text and, in the form of text, the lexer's errors after them. Returns the number of errors.
+/// Writes the tokens of a text, and the lexer's errors after them. Returns the number of errors.
 pub fn show<W: Write>(
     alloc: Global,
     out: &mut W,
@@ -83,10 +111,8 @@ pub fn show<W: Write>(
         write_token(alloc, out, path, token.kind, start, own, format)?;
         start = end;
     }
-    if matches!(format, Form::Text) {
-        for error in &lexed.errors {
-            write_error(out, text, error)?;
-        }
+    for error in &lexed.errors {
+        write_error(alloc, out, path, text, error, format)?;
     }
     Ok(lexed.errors.len() as u64)
 }

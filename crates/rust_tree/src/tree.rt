@@ -18,7 +18,7 @@ use std::io::Write;
 pub enum Drawing {
     /// A line for each node and token, indented.
     Text,
-    /// One object of JSON, nested.
+    /// One object of JSON with the path, the errors and the nested nodes and tokens.
     Json,
     /// Nested lists in parentheses.
     Sexp,
@@ -92,13 +92,17 @@ fn quoted(alloc: Global, text: &str) -> io::Result<String> {
     }
 }
 
-fn write_json<W: Write>(alloc: Global, out: &mut W, element: &SyntaxElement) -> io::Result<()> {
+// Writes the front of an element's object. The topmost element has no object of its own: its keys are those of the object of the file.
+fn write_json<W: Write>(
+    alloc: Global,
+    out: &mut W,
+    level: usize,
+    element: &SyntaxElement,
+) -> io::Result<()> {
     let (kind, range) = (kind_name(alloc, element.kind())?, element.text_range());
     let (start, end) = (range.start().raw(), range.end().raw());
-    write!(
-        out,
-        "{{\"kind\":\"{kind}\",\"start\":{start},\"end\":{end},"
-    )?;
+    out.write_all(if level > 0 { b"{" } else { b"," })?;
+    write!(out, "\"kind\":\"{kind}\",\"start\":{start},\"end\":{end},")?;
     match element {
         NodeOrToken::Node(_) => write!(out, "\"children\":["),
         NodeOrToken::Token(token) => {
@@ -148,13 +152,18 @@ fn write_before<W: Write>(
 fn write_behind<W: Write>(
     out: &mut W,
     drawing: Drawing,
+    level: usize,
     element: &SyntaxElement,
 ) -> io::Result<()> {
-    match (drawing, element) {
-        (Drawing::Text | Drawing::Html, _) => Ok(()),
-        (Drawing::Json, NodeOrToken::Node(_)) => out.write_all(b"]}"),
-        (Drawing::Json, NodeOrToken::Token(_)) => out.write_all(b"}"),
-        (Drawing::Sexp, _) => out.write_all(b")"),
+    match drawing {
+        Drawing::Text | Drawing::Html => Ok(()),
+        Drawing::Json => {
+            if element.as_node().is_some() {
+                out.write_all(b"]")?;
+            }
+            out.write_all(if level > 0 { b"}" } else { b"" })
+        }
+        Drawing::Sexp => out.write_all(b")"),
     }
 }
 
@@ -167,7 +176,7 @@ fn write_element<W: Write>(
 ) -> io::Result<()> {
     match drawing {
         Drawing::Text | Drawing::Html => write_text(alloc, out, level, element),
-        Drawing::Json => write_json(alloc, out, element),
+        Drawing::Json => write_json(alloc, out, level, element),
         Drawing::Sexp => write_sexp(alloc, out, element),
     }
 }
@@ -194,15 +203,15 @@ fn write_node<W: Write>(
             WalkEvent::Leave(element) => {
                 level = level.saturating_sub(1);
                 if is_shown(showing, level, &element) {
-                    write_behind(out, drawing, &element)?;
+                    write_behind(out, drawing, level, &element)?;
                     is_first = false;
                 }
             }
         }
     }
     match drawing {
-        Drawing::Text => Ok(()),
-        _ => writeln!(out),
+        Drawing::Sexp => writeln!(out),
+        _ => Ok(()),
     }
 }
 
@@ -216,10 +225,10 @@ fn write_part<W: Write>(
         NodeOrToken::Node(node) => write_node(alloc, out, node, showing),
         NodeOrToken::Token(_) => {
             write_element(alloc, out, showing.drawing, 0, part)?;
-            write_behind(out, showing.drawing, part)?;
+            write_behind(out, showing.drawing, 0, part)?;
             match showing.drawing {
-                Drawing::Text => Ok(()),
-                _ => writeln!(out),
+                Drawing::Sexp => writeln!(out),
+                _ => Ok(()),
             }
         }
     }
@@ -247,14 +256,47 @@ fn write_errors<W: Write>(out: &mut W, errors: &[SyntaxError]) -> io::Result<()>
     Ok(())
 }
 
-fn write_stats<W: Write>(
+// Writes the front of a file's object of JSON: its path and its errors.
+fn write_file<W: Write>(
+    alloc: Global,
     out: &mut W,
+    path: &str,
+    errors: &[SyntaxError],
+) -> io::Result<()> {
+    write!(out, "{{\"path\":{},\"errors\":[", quoted(alloc, path)?)?;
+    let mut is_first = true;
+    for error in errors {
+        let range = error.range();
+        let (start, end) = (range.start().raw(), range.end().raw());
+        let message = quoted(alloc, error.message())?;
+        out.write_all(if is_first { b"" } else { b"," })?;
+        write!(
+            out,
+            "{{\"start\":{start},\"end\":{end},\"message\":{message}}}"
+        )?;
+        is_first = false;
+    }
+    out.write_all(b"]")
+}
+
+fn write_stats<W: Write>(
+    alloc: Global,
+    out: &mut W,
+    name: &str,
     text: &str,
     root: &SyntaxNode,
     errors: usize,
+    drawing: Drawing,
 ) -> io::Result<()> {
     let Counts { nodes, tokens } = count(root);
     let (bytes, depth) = (text.len(), depth_of(root));
+    if matches!(drawing, Drawing::Json) {
+        let path = quoted(alloc, name)?;
+        return writeln!(
+            out,
+            "{{\"path\":{path},\"bytes\":{bytes},\"nodes\":{nodes},\"tokens\":{tokens},\"levels\":{depth},\"errors\":{errors}}}"
+        );
+    }
     writeln!(
         out,
         "{bytes} bytes, {nodes} nodes, {tokens} tokens, {depth} levels, {errors} errors"
@@ -296,7 +338,7 @@ fn node_of(root: &SyntaxNode, part: &SyntaxElement) -> SyntaxNode {
     }
 }
 
-/// Writes the tree of a text and, in the form of text, a line for each error. Returns 0: nothing counts as found.
+/// Writes the tree of a text and, in the forms of text and JSON, its errors. Returns 0: nothing counts as found.
 pub fn show<W: Write>(
     alloc: Global,
     out: &mut W,
@@ -317,12 +359,19 @@ pub fn show<W: Write>(
         None => parse.stored(),
     };
     if showing.stats {
-        write_stats(out, text, root, errors.len())?;
+        let drawing = showing.drawing;
+        write_stats(alloc, out, name, text, root, errors.len(), drawing)?;
         return Ok(0);
     }
     let part = part_of(alloc, text, root, &showing.part)?;
     if matches!(showing.drawing, Drawing::Html) {
         page::show(alloc, out, name, &node_of(root, &part), errors, showing)?;
+        return Ok(0);
+    }
+    if matches!(showing.drawing, Drawing::Json) {
+        write_file(alloc, out, name, errors)?;
+        write_part(alloc, out, &part, showing)?;
+        writeln!(out, "}}")?;
         return Ok(0);
     }
     write_part(alloc, out, &part, showing)?;

@@ -1,5 +1,5 @@
 use Rattle.std.proofs.Common.{◌≤◌, length}
-use Rattle.rust_parens.proofs.needless.halved_run.Given as goal
+use Rattle.rust_parens.proofs.needless.Trial.halved_run.Given as goal
 
 abbrev pub invariant-loop-count : goal.invariant-loop-count
 invariant-loop-count g l = l.count ≤ length l.rest
