@@ -128,18 +128,11 @@ fn is_node_at(events: &[Event], i: usize) -> bool
     }
 }
 
-// An upper bound of the number of steps: two for the root, one for each token, two for each node, and one for each error and each part of a
-// number. The list of steps takes this room once.
+// The room that the list of steps takes at first: one step for each token and eight for every five events. This is enough for a text with
+// at most four nodes for each token; otherwise the list grows.
 fn room_for(tokens: &[Token], events: &[Event]) -> usize {
-    let mut room = tokens.len().saturating_add(2);
-    for event in events {
-        room = room.saturating_add(match event {
-            Event::Token { .. } => 0,
-            Event::Node { .. } => 2,
-            Event::Piece { .. } | Event::Error { .. } => 1,
-        });
-    }
-    room
+    let per_event = (events.len() / 5).saturating_mul(8);
+    tokens.len().saturating_add(per_event).saturating_add(10)
 }
 
 impl<'a> Layout<'a> {
