@@ -1,5 +1,7 @@
 -- Characters in forms where some of them have a meaning of their own.
 use Rattle.std.specs.Prelude.{ℕ, ◌+◌, ◌==◌, ◌||◌, if◌then◌else◌, nat_lt, List, codes, encode_utf8}
+use Rattle.rust_report.specs.declared.escapes.Medium.{Medium}
+use Rattle.rust_report.specs.declared.escapes.Medium.TheVariants.{Html, Workflow, Terminal}
 
 -- a control character, other than a tab and a line feed, as its picture; every other character as it is
 -- (Unicode: the block Control Pictures, U+2400 to U+243F.)
@@ -29,3 +31,9 @@ in_workflow c =
     else (if c == 58 then codes "%3A"
     else (if c == 44 then codes "%2C"
     else encode_utf8 c))))
+
+-- a character as it is printed to a medium
+abbrev pub escaped : Medium → ℕ → List ℕ
+escaped Html c = in_html c
+escaped Workflow c = in_workflow c
+escaped Terminal c = encode_utf8 (picture c)

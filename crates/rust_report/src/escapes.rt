@@ -1,38 +1,64 @@
-//! Escapes of texts in pages of HTML, and in commands of a workflow on GitHub.
+//! Escapes of texts in pages of HTML, in commands of a workflow on GitHub, and on a terminal.
 ghost use Rattle.std.specs.Prelude.{◌≡◌};
 ghost use Rattle.std.specs.List.{flat_map};
 ghost use Rattle.std.specs.Str.{chars};
 ghost use Rattle.std.specs.Fmt.{WritesOnOk};
-ghost use Rattle.rust_report.specs.Escapes.{in_html, in_workflow, picture};
+ghost use Rattle.rust_report.specs.Escapes.{in_html, in_workflow, picture, escaped};
 
 use std::fmt;
 use std::fmt::{Formatter, Write};
 
-/// Prints a text so that a browser shows it: `&`, `<`, `>`, `"` and `'` as character references, and control characters other than tabs
-/// and line feeds as their pictures, such as `␍`.
+/// What a text is printed to.
 #[derive(Clone, Copy, Debug)]
-pub struct InHtml<'a>(pub &'a str);
+pub enum Medium {
+    /// A page of HTML: `&`, `<`, `>`, `"` and `'` are printed as character references, and control characters other than tabs and line feeds
+    /// as their pictures, such as `␍`.
+    Html,
+    /// A value in a workflow command: `%`, `:`, `,`, line feeds and carriage returns are printed as `%` and their codes, such as `%0A`.
+    Workflow,
+    /// A terminal: control characters other than tabs and line feeds are printed as their pictures.
+    Terminal,
+}
 
-impl<'a> fmt::Display for InHtml<'a> {
+/// Prints a text so that a medium shows it as it is.
+#[derive(Clone, Copy, Debug)]
+pub struct Escaped<'a> {
+    /// The text.
+    pub text: &'a str,
+    /// The medium.
+    pub medium: Medium,
+}
+
+impl<'a> fmt::Display for Escaped<'a> {
     ghost use Rattle.std.specs.Prelude.{Some};
     ghost use Rattle.std.specs.List.{flat_map};
     ghost use Rattle.std.specs.Str.{chars};
-    ghost use Rattle.rust_report.specs.Escapes.{in_html};
+    ghost use Rattle.rust_report.specs.Escapes.{escaped};
 
-    ghost output = { λ t. Some (flat_map in_html (chars t.0.now)) };
+    ghost output = { λ t. Some (flat_map (escaped t.medium) (chars t.text.now)) };
 
     fn fmt<W: Write>(&self, f: &mut Formatter<W>) -> fmt::Result {
-        write_in_html(f, self.0)
+        write_escaped(f, self.medium, self.text)
     }
 }
 
-fn write_in_html<W: Write>(f: &mut Formatter<W>, text: &str) -> fmt::Result
-    ensures { WritesOnOk W.write_str_gives f.old result (flat_map in_html (chars text.now)) f.new }
+fn write_escaped<W: Write>(f: &mut Formatter<W>, medium: Medium, text: &str) -> fmt::Result
+    ensures { WritesOnOk W.write_str_gives f.old result (flat_map (escaped medium) (chars text.now)) f.new }
 {
     for c in text.chars() {
-        write_char_in_html(f, c)?;
+        write_char(f, medium, c)?;
     }
     Ok(())
+}
+
+fn write_char<W: Write>(f: &mut Formatter<W>, medium: Medium, c: char) -> fmt::Result
+    ensures { WritesOnOk W.write_str_gives f.old result (escaped medium c) f.new }
+{
+    match medium {
+        Medium::Html => write_char_in_html(f, c),
+        Medium::Workflow => write_char_in_workflow(f, c),
+        Medium::Terminal => f.write_char(picture(c)),
+    }
 }
 
 // The picture of a control character, such as U+240D of a carriage return. Other characters are returned as they are.
@@ -64,32 +90,6 @@ fn write_char_in_html<W: Write>(f: &mut Formatter<W>, c: char) -> fmt::Result
         '\'' => f.write_str("&#39;"),
         _ => f.write_char(picture(c)),
     }
-}
-
-/// Prints a text as a value in a workflow command: `%`, `:`, `,`, line feeds and carriage returns as `%` and their codes, such as `%0A`.
-#[derive(Clone, Copy, Debug)]
-pub struct InWorkflow<'a>(pub &'a str);
-
-impl<'a> fmt::Display for InWorkflow<'a> {
-    ghost use Rattle.std.specs.Prelude.{Some};
-    ghost use Rattle.std.specs.List.{flat_map};
-    ghost use Rattle.std.specs.Str.{chars};
-    ghost use Rattle.rust_report.specs.Escapes.{in_workflow};
-
-    ghost output = { λ t. Some (flat_map in_workflow (chars t.0.now)) };
-
-    fn fmt<W: Write>(&self, f: &mut Formatter<W>) -> fmt::Result {
-        write_in_workflow(f, self.0)
-    }
-}
-
-fn write_in_workflow<W: Write>(f: &mut Formatter<W>, text: &str) -> fmt::Result
-    ensures { WritesOnOk W.write_str_gives f.old result (flat_map in_workflow (chars text.now)) f.new }
-{
-    for c in text.chars() {
-        write_char_in_workflow(f, c)?;
-    }
-    Ok(())
 }
 
 fn write_char_in_workflow<W: Write>(f: &mut Formatter<W>, c: char) -> fmt::Result

@@ -17,7 +17,7 @@ mod words;
 pub use asked::{place_of, range_of};
 pub use changes::{lines_of, other_front, same_front};
 pub use counts::{Counts, count};
-pub use escapes::{InHtml, InWorkflow};
+pub use escapes::{Escaped, Medium};
 pub use items::{Row, is_listed, label_of, outline, word_of};
 pub use pattern::{Link, Step, fits, query};
 pub use place::{Spot, Spots, offset_of};

@@ -3,13 +3,13 @@
 use crate::failure::Failure;
 use crate::json::write_line;
 use crate::options::Form;
-use crate::shown::ELLIPSIS;
+use crate::shown::{ELLIPSIS, on_terminal, write_place};
 use crate::source::{Reading, move_to, parsed, spot, spots};
 use crate::style::Style;
 use line_index::LineIndex;
 use lossless_tree::TextRange;
 use ras_front_end::SyntaxError;
-use rust_report::{InWorkflow, Spots, excerpt_of, line_at};
+use rust_report::{Escaped, Medium, Spots, excerpt_of, line_at};
 use serde::Serialize;
 use std::alloc::Global;
 use std::io;
@@ -73,16 +73,14 @@ fn write_source<W: Write>(
     );
     let before = if part.is_cut_before { ELLIPSIS } else { "" };
     let after = if part.is_cut_after { ELLIPSIS } else { "" };
-    writeln!(
-        out,
-        "{before}{}{}{}{after}",
-        part.before, part.marked, part.after
-    )?;
+    let (first, marked, last) = (part.before, part.marked, part.after);
+    write!(out, "{before}{}", on_terminal(first))?;
+    writeln!(out, "{}{}{after}", on_terminal(marked), on_terminal(last))?;
     write!(out, "      | ")?;
     write_blanks(out, before)?;
-    write_blanks(out, part.before)?;
+    write_blanks(out, first)?;
     write!(out, "{}", style.red())?;
-    write_many(out, "^", (part.marked.chars().count() as u64).max(1))?;
+    write_many(out, "^", (marked.chars().count() as u64).max(1))?;
     writeln!(out, "{}", style.plain())
 }
 
@@ -94,12 +92,9 @@ fn write_text<W: Write>(
     style: Style,
 ) -> io::Result<()> {
     let from = move_to(spots, error.range().start());
-    let (bold, red, plain) = (style.bold(), style.red(), style.plain());
-    writeln!(
-        out,
-        "{bold}{name}:{from}:{plain} {red}{}{plain}",
-        error.message()
-    )?;
+    let (red, plain) = (style.red(), style.plain());
+    write_place(out, name, from, style)?;
+    writeln!(out, "{red}{}{plain}", error.message())?;
     write!(out, "{:>5} | ", from.line)?;
     write_source(out, spots.lines(), error.range(), style)
 }
@@ -127,6 +122,13 @@ fn write_json<W: Write>(
     write_line(alloc, out, &finding)
 }
 
+fn in_workflow(text: &str) -> Escaped<'_> {
+    Escaped {
+        text,
+        medium: Medium::Workflow,
+    }
+}
+
 fn write_github<W: Write>(
     out: &mut W,
     name: &str,
@@ -135,7 +137,7 @@ fn write_github<W: Write>(
 ) -> io::Result<()> {
     let from = move_to(spots, error.range().start());
     let to = spot(spots, error.range().end());
-    let (name, message) = (InWorkflow(name), InWorkflow(error.message()));
+    let (name, message) = (in_workflow(name), in_workflow(error.message()));
     writeln!(
         out,
         "::error file={name},line={},col={},endLine={},endColumn={}::{message}",

@@ -48,7 +48,9 @@ pub fn diff<W: Write>(
     old: &str,
     new: &str,
 ) -> Result<(), Failure> {
-    writeln!(out, "--- {name}\n+++ {name}")?;
+    // Without the tab, `patch` reads the name up to its first blank.
+    let end = if name.contains(' ') { "\t" } else { "" };
+    writeln!(out, "--- {name}{end}\n+++ {name}{end}")?;
     let (old, new) = (lines_of(alloc, old)?, lines_of(alloc, new)?);
     Ok(write_changes(out, old.as_slice(), new.as_slice())?)
 }

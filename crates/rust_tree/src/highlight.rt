@@ -1,10 +1,10 @@
 //! The command `highlight`: a text with its tokens coloured by their roles, as a page of HTML or with the colours of a terminal.
 
 use crate::failure::Failure;
-use crate::html::write_head;
+use crate::html::{in_html, write_head};
 use crate::source::{Reading, parsed};
 use lossless_tree::NodeOrToken;
-use rust_report::{InHtml, Role, role_of};
+use rust_report::{Role, role_of};
 use std::alloc::Global;
 use std::io;
 use std::io::Write;
@@ -81,7 +81,7 @@ body { background: #0d1117; color: #e6edf3 }
 ";
 
 fn write_html<W: Write>(out: &mut W, role: Role, text: &str) -> io::Result<()> {
-    let (class, text) = (class_of(role), InHtml(text));
+    let (class, text) = (class_of(role), in_html(text));
     if class.is_empty() {
         write!(out, "{text}")
     } else {

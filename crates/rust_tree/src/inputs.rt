@@ -27,6 +27,11 @@ fn is_rust(path: Path<'_>) -> bool {
     path.extension().is_some_and(|extension| extension == "rs")
 }
 
+// Whether the name of a link leads to a file. A pipe or a device is none: to read it may take for ever.
+fn is_link_to_file(rt: &HostRuntime, path: &str) -> bool {
+    fs::metadata(rt, path).is_ok_and(|found| found.is_file())
+}
+
 // Adds the `.rs` files of a folder to `files`, and the folders in it to `folders`. Links to folders are not followed. A name that is not
 // UTF-8 is reported and counted in `lost`.
 fn list(
@@ -52,10 +57,7 @@ fn list(
         let path = String::from_str(rt.alloc(), entry.path().as_str())?;
         if kind.is_dir() {
             folders.push(path)?;
-        } else if !kind.is_file() && !kind.is_symlink() {
-            // A pipe or a device: to read it may take for ever.
-            continue;
-        } else if is_rust(entry.path()) {
+        } else if is_rust(entry.path()) && (kind.is_file() || is_link_to_file(rt, path.as_str())) {
             files.push(path)?;
         }
     }

@@ -22,7 +22,7 @@ pub enum Task {
     /// Prints trees, each after its file's name if `named` is true.
     Tree { named: bool, showing: Showing },
     /// Prints errors.
-    Check { style: Style },
+    Check,
     /// Lists items.
     Outline,
     /// Finds pairs of parentheses.
@@ -55,15 +55,18 @@ pub struct Job {
     pub reading: Reading,
     /// The form of the report.
     pub format: Form,
+    /// Whether the report has colours.
+    pub style: Style,
 }
 
 impl Job {
     /// The task with the options of a command.
-    pub fn of(task: Task, matches: &ArgMatches) -> Job {
+    pub fn of(task: Task, style: Style, matches: &ArgMatches) -> Job {
         Job {
             task,
             reading: reading(matches),
             format: form_of(matches),
+            style,
         }
     }
 
@@ -71,7 +74,7 @@ impl Job {
     fn counts(&self) -> &'static str {
         match &self.task {
             Task::Tree { .. } | Task::Outline | Task::Highlight { ink: _ } => "found",
-            Task::Check { style: _ } | Task::Tokens => "errors",
+            Task::Check | Task::Tokens => "errors",
             Task::Parens { then: _ } => "pairs",
             Task::Query { steps: _ } => "matches",
         }
@@ -86,7 +89,7 @@ impl Job {
         text: &str,
     ) -> Result<u64, Failure> {
         let alloc = rt.alloc();
-        let (reading, format) = (self.reading, self.format);
+        let (reading, format, style) = (self.reading, self.format, self.style);
         match &self.task {
             Task::Tree { named, showing } => {
                 if *named {
@@ -94,25 +97,34 @@ impl Job {
                 }
                 tree::show(alloc, out, name, text, reading, showing)
             }
-            Task::Check { style } => {
+            Task::Check => {
                 let options = Checking {
                     reading,
                     format,
-                    style: *style,
+                    style,
                 };
                 check(alloc, out, name, text, options)
             }
-            Task::Outline => outline::show(alloc, out, name, text, reading, format),
+            Task::Outline => outline::show(alloc, out, name, text, reading, format, style),
             Task::Parens { then } => self.parens(rt, out, name, text, *then),
             Task::Highlight { ink } => highlight::show(alloc, out, name, text, reading, *ink),
             Task::Tokens => tokens::show(alloc, out, name, text, reading.edition, format),
             Task::Query { steps } => {
-                query::show(alloc, out, name, text, steps.as_slice(), reading, format)
+                query::show(
+                    alloc,
+                    out,
+                    name,
+                    text,
+                    steps.as_slice(),
+                    reading,
+                    format,
+                    style,
+                )
             }
         }
     }
 
-    // Lists or removes the pairs of a text. Returns how many count as found: none if they were removed.
+    // Lists or removes the pairs of a text. Returns their number.
     fn parens<W: Write>(
         &self,
         rt: &HostRuntime,
@@ -137,7 +149,7 @@ impl Job {
         match then {
             Then::List => {
                 let pairs = found.pairs.as_slice();
-                parens::list(alloc, out, name, text, pairs, self.format)?;
+                parens::list(alloc, out, name, text, pairs, self.format, self.style)?;
             }
             Then::Diff => {
                 if count > 0 {
@@ -148,7 +160,6 @@ impl Job {
                 if count > 0 || name == "-" {
                     fix::fix(rt, out, name, new, count)?;
                 }
-                return Ok(0);
             }
         }
         Ok(count as u64)
@@ -204,6 +215,14 @@ impl Job {
             session.lost();
         }
         Ok(())
+    }
+
+    /// The exit status after a run. Pairs of parentheses that were removed do not count as found.
+    pub fn status(&self, session: &Session) -> u8 {
+        match &self.task {
+            Task::Parens { then: Then::Fix } => session.status_of_changes(),
+            _ => session.status(),
+        }
     }
 
     /// Writes the reports on all files, and the totals.

@@ -79,10 +79,14 @@ fn tree_task(rt: &HostRuntime, matches: &ArgMatches) -> io::Result<Option<Task>>
 fn task(rt: &HostRuntime, name: &str, matches: &ArgMatches) -> io::Result<Option<Task>> {
     Ok(Some(match name {
         "tree" => return tree_task(rt, matches),
-        "check" => Task::Check {
-            style: style_of(rt, matches),
-        },
-        "highlight" => Task::Highlight { ink: ink(matches) },
+        "check" => Task::Check,
+        "highlight" => {
+            if has_several(rt, matches) {
+                eprintln!(rt; "rust_tree: `highlight` takes one file, and no folder")?;
+                return Ok(None);
+            }
+            Task::Highlight { ink: ink(matches) }
+        }
         "outline" => Task::Outline,
         "tokens" => Task::Tokens,
         "query" => {
@@ -195,8 +199,9 @@ fn run_on_files(rt: &HostRuntime, name: &str, matches: &ArgMatches) -> io::Resul
     let Some(task) = task(rt, name, matches)? else {
         return Ok(USAGE);
     };
-    let job = Job::of(task, matches);
-    Ok(run_job(rt, &job, matches)?.status())
+    let job = Job::of(task, style_of(rt, matches), matches);
+    let session = run_job(rt, &job, matches)?;
+    Ok(job.status(&session))
 }
 
 // Runs a command. If nobody reads the output any more, the run ends without a message.

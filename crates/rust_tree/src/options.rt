@@ -35,7 +35,7 @@ pub enum Form {
 
 fn files<'a>(alloc: Global) -> Arg<'a> {
     Arg::new(alloc, "FILE").required(true).num_args(1..).help(
-        "Files of Rust, and folders, of which all files `.rs` are taken; `-` is standard input",
+        "Rust files, and folders, which are searched for `.rs` files; `-` is standard input",
     )
 }
 
@@ -44,7 +44,7 @@ fn edition<'a>(alloc: Global) -> Arg<'a> {
         .long("edition")
         .value_parser(EDITIONS.as_slice())
         .default_value("2024")
-        .help("The edition whose words are keywords")
+        .help("The Rust edition")
 }
 
 fn entry<'a>(alloc: Global) -> Arg<'a> {
@@ -52,7 +52,7 @@ fn entry<'a>(alloc: Global) -> Arg<'a> {
         .long("entry")
         .value_parser(ENTRIES.as_slice())
         .default_value("file")
-        .help("What the text is read as")
+        .help("Whether a text is a file or an expression")
 }
 
 // An option without a value.
@@ -67,7 +67,7 @@ fn no_validation<'a>(alloc: Global) -> Arg<'a> {
     flag(
         alloc,
         "no-validation",
-        "Only the errors of the lexer and the parser",
+        "Reports only the errors of the lexer and the parser",
     )
 }
 
@@ -75,7 +75,7 @@ fn quiet<'a>(alloc: Global) -> Arg<'a> {
     flag(
         alloc,
         "quiet",
-        "Writes nothing to standard output; the status tells",
+        "Suppresses standard output; the exit status is the result",
     )
     .short('q')
 }
@@ -85,7 +85,7 @@ fn color<'a>(alloc: Global) -> Arg<'a> {
         .long("color")
         .value_parser(COLORS.as_slice())
         .default_value("auto")
-        .help("Whether the output has colours; `auto`: where it is a terminal")
+        .help("Whether check, outline, parens and query use colours; `auto`: on a terminal")
 }
 
 fn format<'a>(alloc: Global, formats: &'a [&'a str]) -> Arg<'a> {
@@ -93,7 +93,7 @@ fn format<'a>(alloc: Global, formats: &'a [&'a str]) -> Arg<'a> {
         .long("format")
         .value_parser(formats)
         .default_value("text")
-        .help("The form of the output; json: an object a line")
+        .help("The form of the output; `json` is one object on each line")
 }
 
 // Adds the options that every command has, and the files.
@@ -129,35 +129,35 @@ fn with_options<'a>(alloc: Global, command: Command<'a>) -> Result<Command<'a>, 
 fn file<'a>(alloc: Global, name: &'a str) -> Arg<'a> {
     Arg::new(alloc, name)
         .required(true)
-        .help("A file of Rust; `-` is standard input")
+        .help("A Rust file; `-` is standard input")
 }
 
 fn at<'a>(alloc: Global) -> Arg<'a> {
     Arg::new(alloc, "at")
         .long("at")
         .value_name("LINE:COLUMN")
-        .help("Only the token at this place, both counted from 1")
+        .help("Shows only the token at this place; both count from 1")
 }
 
 fn range<'a>(alloc: Global) -> Arg<'a> {
     Arg::new(alloc, "range")
         .long("range")
         .value_name("START..END")
-        .help("Only the deepest node or token round this range of bytes")
+        .help("Shows only the deepest node or token around this range of bytes")
 }
 
 fn depth<'a>(alloc: Global) -> Arg<'a> {
     Arg::new(alloc, "depth")
         .long("depth")
         .value_parser(value_parser!(u32))
-        .help("How many levels are shown")
+        .help("The number of levels that are shown")
 }
 
 fn stats<'a>(alloc: Global) -> Arg<'a> {
     flag(
         alloc,
         "stats",
-        "Counts of nodes, tokens, levels and errors in place of the tree",
+        "Shows the numbers of nodes, tokens, levels and errors instead of the tree",
     )
 }
 
@@ -168,7 +168,7 @@ fn with_parts<'a>(alloc: Global, command: Command<'a>) -> Result<Command<'a>, Al
         .arg(at(alloc))?
         .arg(range(alloc).conflicts_with("at")?)?
         .arg(depth(alloc))?
-        .arg(flag(alloc, "no-trivia", "Without white space and comments"))?
+        .arg(flag(alloc, "no-trivia", "Omits white space and comments"))?
         .arg(stats(alloc))
 }
 
@@ -182,7 +182,7 @@ fn tree<'a>(alloc: Global) -> Result<Command<'a>, AllocError> {
 
 fn check<'a>(alloc: Global) -> Result<Command<'a>, AllocError> {
     let command = Command::new(alloc, "check")
-        .about("Tells what is wrong with each file; the status is 1 where something is")
+        .about("Lists the syntax errors of each file; the exit status is 1 if there is one")
         .after_help("Example: rust_tree check --format json src");
     with_common(
         alloc,
@@ -192,21 +192,33 @@ fn check<'a>(alloc: Global) -> Result<Command<'a>, AllocError> {
 
 fn outline<'a>(alloc: Global) -> Result<Command<'a>, AllocError> {
     let command = Command::new(alloc, "outline")
-        .about("Lists the items of each file, each before those that it holds")
+        .about("Lists the items of each file, each before the items in it")
         .after_help("Example: rust_tree outline src/lib.rs")
         .arg(format(alloc, FORMATS.as_slice()))?;
     with_common(alloc, command)
 }
 
+fn fix<'a>(alloc: Global) -> Result<Arg<'a>, AllocError> {
+    flag(
+        alloc,
+        "fix",
+        "Removes the pairs from each file; the exit status is 0 then",
+    )
+    .conflicts_with("diff")?
+    .conflicts_with("format")
+}
+
 fn parens<'a>(alloc: Global) -> Result<Command<'a>, AllocError> {
     let command = Command::new(alloc, "parens")
         .about(
-            "Names the pairs of parentheses without which a file parses to the same tree; the status is 1 where there is one",
+            "Lists the pairs of parentheses without which a file parses to the same tree; the exit status is 1 if there is one",
         )
         .after_help("Example: rust_tree parens --diff src")
         .arg(format(alloc, FORMATS.as_slice()))?
-        .arg(flag(alloc, "diff", "Prints how each file would change"))?
-        .arg(flag(alloc, "fix", "Removes the pairs from each file").conflicts_with("diff")?)?;
+        .arg(flag(alloc, "diff", "Prints a patch, without context lines").conflicts_with(
+            "format",
+        )?)?
+        .arg(fix(alloc)?)?;
     with_common(alloc, command)
 }
 
@@ -220,15 +232,13 @@ fn tokens<'a>(alloc: Global) -> Result<Command<'a>, AllocError> {
 
 fn pattern<'a>(alloc: Global) -> Arg<'a> {
     Arg::new(alloc, "PATTERN").required(true).help(
-        "Names of kinds; behind `>` a child, behind `//` what stands below; `*` is any kind",
+        "Names of kinds; `>` precedes a child, `//` a descendant; `*` is any kind",
     )
 }
 
 fn query<'a>(alloc: Global) -> Result<Command<'a>, AllocError> {
     let command = Command::new(alloc, "query")
-        .about(
-            "Finds nodes and tokens by their kinds and places; the status is 1 where there is one",
-        )
+        .about("Finds nodes and tokens by kind and place; the exit status is 1 if there is one")
         .after_help("Example: rust_tree query 'FN > NAME' src")
         .arg(format(alloc, FORMATS.as_slice()))?
         .arg(pattern(alloc))?;
@@ -240,12 +250,12 @@ fn ink_format<'a>(alloc: Global) -> Arg<'a> {
         .long("format")
         .value_parser(INKS.as_slice())
         .default_value("ansi")
-        .help("A page of HTML, or the colours of a terminal")
+        .help("A page of HTML, or terminal colours")
 }
 
 fn highlight<'a>(alloc: Global) -> Result<Command<'a>, AllocError> {
     let command = Command::new(alloc, "highlight")
-        .about("Prints a file with its words marked by what they are")
+        .about("Prints a file with syntax highlighting")
         .after_help("Example: rust_tree highlight --format html src/main.rs > main.html")
         .arg(ink_format(alloc))?;
     with_options(alloc, command)?.arg(file(alloc, "FILE"))
@@ -257,14 +267,14 @@ fn limit_arg<'a>(alloc: Global) -> Arg<'a> {
         .value_name("N")
         .value_parser(value_parser!(u32))
         .default_value("10")
-        .help("How many places are told")
+        .help("The number of places that are printed")
 }
 
 fn diff<'a>(alloc: Global) -> Result<Command<'a>, AllocError> {
     let command = Command::new(alloc, "diff")
-        .about("Tells where the trees of two files differ; the status is 1 where they do")
+        .about("Prints where the trees of two files differ; the exit status is 1 if they do")
         .after_help("Example: rust_tree diff --no-trivia old.rs new.rs")
-        .arg(flag(alloc, "no-trivia", "Passes over white space and comments"))?
+        .arg(flag(alloc, "no-trivia", "Ignores white space and comments"))?
         .arg(limit_arg(alloc))?;
     with_options(alloc, command)?
         .arg(file(alloc, "A"))?
@@ -292,7 +302,7 @@ fn with_finds<'a>(alloc: Global, program: Command<'a>) -> Result<Command<'a>, Al
 /// The commands and their options.
 pub fn command<'a>(alloc: Global) -> Result<Command<'a>, AllocError> {
     let program = Command::new(alloc, "rust_tree")
-        .about("Reads Rust without losing a byte")
+        .about("Parses Rust files without losing a byte")
         .version("0.1.0 (rattle-kit-13f)")
         .subcommand_required(true);
     with_finds(alloc, with_prints(alloc, program)?)

@@ -3,12 +3,13 @@
 use crate::failure::Failure;
 use crate::json::write_line;
 use crate::options::Form;
-use crate::shown::write_short;
+use crate::shown::{write_place, write_short};
 use crate::source::{Reading, move_to, parsed, spots};
+use crate::style::Style;
 use lossless_tree::{SyntaxElement, SyntaxKind, TextSize};
-use rust_report::{Row, Spots, first_line, label_of, outline, word_of};
+use rust_report::{Row, Spots, label_of, outline, word_of};
 use serde::Serialize;
-use std::alloc::Global;
+use std::alloc::{AllocError, Global};
 use std::io;
 use std::io::Write;
 
@@ -40,15 +41,27 @@ fn head_end(row: &Row) -> TextSize {
     row.item.text_range().end()
 }
 
-// The first line of an item's label; for an `impl`, its text from the label up to the end of its head.
-fn shown<'a>(row: &'a Row, label: &'a SyntaxElement) -> &'a str {
+// The text of an item's label; for an `impl`, that from the label up to the end of its head.
+fn label_text<'a>(row: &'a Row, label: &'a SyntaxElement) -> &'a str {
     if row.item.kind() != SyntaxKind::IMPL {
-        return first_line(label.text());
+        return label.text();
     }
     let start = row.item.text_range().start().raw();
     let from = label.text_range().start().raw().saturating_sub(start) as usize;
     let to = head_end(row).raw().saturating_sub(start) as usize;
-    first_line(row.item.as_str().get(from..to).unwrap_or("")).trim()
+    row.item.as_str().get(from..to).unwrap_or("")
+}
+
+// A text with one blank in place of each run of white space.
+fn in_one_line(alloc: Global, text: &str) -> Result<String, AllocError> {
+    let mut line = String::new(alloc);
+    for word in text.split_whitespace() {
+        if !line.is_empty() {
+            line.push(' ')?;
+        }
+        line.push_str(word)?;
+    }
+    Ok(line)
 }
 
 fn write_row<W: Write>(
@@ -58,6 +71,7 @@ fn write_row<W: Write>(
     spots: &mut Spots<'_>,
     row: &Row,
     format: Form,
+    style: Style,
 ) -> io::Result<()> {
     let label = label_of(row);
     let range = row.item.text_range();
@@ -68,9 +82,10 @@ fn write_row<W: Write>(
     let at = move_to(spots, start);
     let kind = word_of(row.item.kind());
     let shown = match &label {
-        Some(label) => shown(row, label),
-        None => "",
+        Some(label) => in_one_line(alloc, label_text(row, label))?,
+        None => String::new(alloc),
     };
+    let shown = shown.as_str();
     match format {
         Form::Json => write_line(
             alloc,
@@ -87,7 +102,7 @@ fn write_row<W: Write>(
             },
         ),
         Form::Text | Form::Github => {
-            write!(out, "{path}:{at}: ")?;
+            write_place(out, path, at, style)?;
             for _i in 0..row.depth {
                 out.write_all(b"  ")?;
             }
@@ -109,11 +124,12 @@ pub fn show<W: Write>(
     text: &str,
     reading: Reading,
     format: Form,
+    style: Style,
 ) -> Result<u64, Failure> {
     let parse = parsed(alloc, text, reading)?;
     let mut spots = spots(alloc, text)?;
     for row in &outline(alloc, parse.root())? {
-        write_row(alloc, out, name, &mut spots, row, format)?;
+        write_row(alloc, out, name, &mut spots, row, format, style)?;
     }
     Ok(0)
 }

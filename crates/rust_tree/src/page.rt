@@ -2,12 +2,11 @@
 //! pointer in one of the two is highlighted in the other.
 
 use crate::failure::Failure;
-use crate::html::write_head;
+use crate::html::{in_html, write_head};
 use crate::names::kind_name;
 use crate::tree::{Showing, is_shown};
 use lossless_tree::{NodeOrToken, SyntaxElement, SyntaxNode, WalkEvent};
 use ras_front_end::SyntaxError;
-use rust_report::InHtml;
 use std::alloc::Global;
 use std::io;
 use std::io::Write;
@@ -101,7 +100,7 @@ tree.addEventListener('click', event => {
 fn write_tokens<W: Write>(out: &mut W, root: &SyntaxNode) -> io::Result<()> {
     for element in root.descendants_with_tokens() {
         if let NodeOrToken::Token(token) = &element {
-            let (start, text) = (token.text_range().start().raw(), InHtml(token.text()));
+            let (start, text) = (token.text_range().start().raw(), in_html(token.text()));
             write!(out, "<span data-s=\"{start}\">{text}</span>")?;
         }
     }
@@ -127,7 +126,7 @@ fn write_row<W: Write>(
     )?;
     if let NodeOrToken::Token(token) = element {
         let quoted = format!(in alloc; "{:?}", token.text())?;
-        write!(out, " <b>{}</b>", InHtml(quoted.as_str()))?;
+        write!(out, " <b>{}</b>", in_html(quoted.as_str()))?;
     }
     out.write_all(b"</div>\n")
 }
@@ -156,7 +155,7 @@ fn write_rows<W: Write>(
 fn write_errors<W: Write>(out: &mut W, errors: &[SyntaxError]) -> io::Result<()> {
     for error in errors {
         let (start, end) = (error.range().start().raw(), error.range().end().raw());
-        let message = InHtml(error.message());
+        let message = in_html(error.message());
         writeln!(
             out,
             "<div class=\"e\" style=\"--d:0\" data-d=\"0\" data-s=\"{start}\" data-e=\"{end}\">error {start}..{end}: {message}</div>"

@@ -3,8 +3,9 @@
 use crate::failure::Failure;
 use crate::json::write_line;
 use crate::options::Form;
-use crate::shown::write_short;
+use crate::shown::{write_place, write_short};
 use crate::source::{Reading, move_to, spots};
+use crate::style::Style;
 use lossless_tree::SyntaxNode;
 use ras_front_end::ParseError;
 use ras_parsing::read;
@@ -41,6 +42,7 @@ fn write_pair<W: Write>(
     spots: &mut Spots<'_>,
     pair: &SyntaxNode,
     format: Form,
+    style: Style,
 ) -> io::Result<()> {
     let range = pair.text_range();
     let at = move_to(spots, range.start());
@@ -57,7 +59,8 @@ fn write_pair<W: Write>(
             write_line(alloc, out, &found)
         }
         Form::Text | Form::Github => {
-            write!(out, "{path}:{at}: needless parentheses: ")?;
+            write_place(out, path, at, style)?;
+            write!(out, "needless parentheses: ")?;
             write_short(out, pair.as_str())
         }
     }
@@ -71,10 +74,11 @@ pub fn list<W: Write>(
     text: &str,
     pairs: &[SyntaxNode],
     format: Form,
+    style: Style,
 ) -> Result<(), Failure> {
     let mut spots = spots(alloc, text)?;
     for pair in pairs {
-        write_pair(alloc, out, path, &mut spots, pair, format)?;
+        write_pair(alloc, out, path, &mut spots, pair, format, style)?;
     }
     Ok(())
 }

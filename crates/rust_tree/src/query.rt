@@ -4,8 +4,9 @@ use crate::failure::Failure;
 use crate::json::write_line;
 use crate::names::kind_name;
 use crate::options::Form;
-use crate::shown::write_short;
+use crate::shown::{write_place, write_short};
 use crate::source::{Reading, move_to, parsed, spots};
+use crate::style::Style;
 use lossless_tree::SyntaxElement;
 use rust_report::{Spots, Step, query};
 use serde::Serialize;
@@ -33,6 +34,7 @@ fn write_match<W: Write>(
     spots: &mut Spots<'_>,
     element: &SyntaxElement,
     format: Form,
+    style: Style,
 ) -> io::Result<()> {
     let range = element.text_range();
     let at = move_to(spots, range.start());
@@ -51,7 +53,7 @@ fn write_match<W: Write>(
             write_line(alloc, out, &found)
         }
         Form::Text | Form::Github => {
-            write!(out, "{path}:{at}: ")?;
+            write_place(out, path, at, style)?;
             write_short(out, element.text())
         }
     }
@@ -66,12 +68,13 @@ pub fn show<W: Write>(
     steps: &[Step],
     reading: Reading,
     format: Form,
+    style: Style,
 ) -> Result<u64, Failure> {
     let parse = parsed(alloc, text, reading)?;
     let mut spots = spots(alloc, text)?;
     let found = query(alloc, parse.root(), steps)?;
     for element in &found {
-        write_match(alloc, out, path, &mut spots, element, format)?;
+        write_match(alloc, out, path, &mut spots, element, format, style)?;
     }
     Ok(found.len() as u64)
 }

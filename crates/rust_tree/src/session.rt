@@ -82,6 +82,11 @@ impl Session {
         }
     }
 
+    /// The exit status of a command that changes what it finds: only a file that was not read or written counts.
+    pub fn status_of_changes(&self) -> u8 {
+        if self.unread > 0 { UNREAD } else { 0 }
+    }
+
     /// Prints the number of files read so far to standard error, if it is due.
     pub fn show_progress(&self, rt: &HostRuntime) -> io::Result<()> {
         if self.is_terminal && self.files % SHOWN == 0 {

@@ -317,6 +317,7 @@ fn part_of(
     };
     Ok(match range {
         None => NodeOrToken::Node(share(root)),
+        Some(range) if range.end() > root.text_range().end() => NodeOrToken::Node(share(root)),
         Some(range) => match root.token_at_offset(range.start()).right_biased() {
             Some(token) => {
                 if range.is_empty() {

@@ -5,11 +5,11 @@ use Rattle.std.specs.Str.{chars}
 use Rattle.std.proofs.lemmas.Iterator.{YieldsList-from_chars}
 use Rattle.std.proofs.lemmas.Iterator.Consumers.{YieldsList-end}
 use Rattle.rust_report.proofs.EscapesLemmas.{map-same}
-use Rattle.rust_report.specs.Escapes.{in_workflow}
-use Rattle.rust_report.proofs.escapes.write_in_workflow.Goals as goal
+use Rattle.rust_report.specs.Escapes.{escaped}
+use Rattle.rust_report.proofs.escapes.write_escaped.Goals as goal
 
 pub returns : goal.returns
 returns g c = λ plain _.
     let t = YieldsList-end (YieldsList-from_chars c.args.text.now c.utf8.text cc) c.loop-c.yielded _ c.loop-c.yielded_by _ _ c.in-None.is c.next.ensures.steps in
     let all : c.loop-c.yielded ≡ chars c.args.text.now = sym (map-same c.loop-c.yielded) ∙ t.0 in
-    has_written_of_eq _ _ _ _ _ (ap (flat_map in_workflow) all) (c.loop-c.invariant plain)
+    has_written_of_eq _ _ _ _ _ (ap (flat_map (escaped c.args.medium)) all) (c.loop-c.invariant plain)
