@@ -14,7 +14,7 @@ use Rattle.ras_front_end.specs.Front.{Front}
 use Rattle.ras_front_end.specs.Parsed.{Parsed}
 use Rattle.rust_parens.specs.declared.needless.Tried.{Tried}
 use Rattle.rust_parens.specs.declared.needless.Run.{Run}
-use Rattle.rust_parens.specs.Needless.{fixed, MayGo, Refused, chosen, refused_of, IsAnswer, with_pair, AreSorted, candidates_of, IsFixed, AreTried}
+use Rattle.rust_parens.specs.Needless.{fixed, MayGo, Refused, chosen, IsAnswer, with_pair, AreSorted, candidates_of, IsFixed, AreTried}
 use Rattle.rust_parens.specs.Runs.{as_tried, going, planned, IsText, ArePlan, AreRun, IsRun}
 
 abbrev pair_of : Tried → Cursor

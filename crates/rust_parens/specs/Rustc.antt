@@ -1,6 +1,6 @@
 -- Pairs that rustc needs, although rust-analyzer's parser reads the same tree without them. Source: the Rust Reference, "Macro
 -- invocation expressions", "Closure expressions", "Destructuring assignment" and "let statements".
-use Rattle.std.specs.Prelude.{Bool, true, false, not, ◌&&◌, ◌||◌, Option, Some, None, is_none}
+use Rattle.std.specs.Prelude.{Bool, false, not, ◌&&◌, ◌||◌, Option, Some, None, is_none}
 use Rattle.std.specs.List.{find}
 use Rattle.syntax_kind.specs.declared.syntax_kind.TheConstants.SyntaxKind.{MACRO_EXPR, EXPR_STMT, STMT_LIST, PAREN_EXPR, CONTINUE_EXPR, UNDERSCORE_EXPR, RANGE_EXPR, BLOCK_EXPR, CLOSURE_EXPR, ARG_LIST, LET_STMT, LET_ELSE}
 use Rattle.tree_model.specs.Cursor.{Cursor, at_node, following_of}

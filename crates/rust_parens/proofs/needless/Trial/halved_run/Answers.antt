@@ -1,5 +1,4 @@
-use Rattle.std.proofs.Common.{◌≡◌, ◌≤◌, ◌++◌, Bool, false, List, take, length, is_some, arith, rules}
-use Rattle.tree_model.specs.Cursor.{Cursor}
+use Rattle.std.proofs.Common.{arith, rules}
 use Rattle.ras_front_end.specs.Front.{Front}
 use Rattle.rust_parens.proofs.TriedLemmas.{is_run, if_ok}
 use Rattle.rust_parens.proofs.needless.Trial.halved_run.Goals as goal

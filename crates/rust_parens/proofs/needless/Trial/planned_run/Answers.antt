@@ -1,4 +1,4 @@
-use Rattle.std.proofs.Common.{◌≡◌, ◌≤◌, ◌<◌, ◌++◌, ◌+◌, ap, ap₂, sym, subst, ◌∙◌, List, ◌-◌, ℕ, Bool, true, false, not, get_or, take, drop, length, option_map, string_bytes, arith, refl}
+use Rattle.std.proofs.Common.{◌≡◌, ◌<◌, ◌++◌, ◌+◌, ap₂, sym, subst, ◌∙◌, List, ◌-◌, ℕ, false, not, get_or, take, drop, length, option_map, string_bytes, arith}
 use Rattle.tree_model.specs.Cursor.{Cursor}
 use Rattle.ras_front_end.specs.Front.{Front}
 use Rattle.rust_parens.specs.Needless.{Refused}
