@@ -128,11 +128,14 @@ fn is_node_at(events: &[Event], i: usize) -> bool
     }
 }
 
-// The room that the list of steps takes at first: one step for each token and eight for every five events. This is enough for a text with
-// at most four nodes for each token; otherwise the list grows.
+// An upper bound of the number of steps, with those of the errors: two for each event, one for each token, two for the root. The list
+// of steps takes this room once. Pages that it does not fill are never touched.
 fn room_for(tokens: &[Token], events: &[Event]) -> usize {
-    let per_event = (events.len() / 5).saturating_mul(8);
-    tokens.len().saturating_add(per_event).saturating_add(10)
+    events
+        .len()
+        .saturating_mul(2)
+        .saturating_add(tokens.len())
+        .saturating_add(2)
 }
 
 impl<'a> Layout<'a> {
