@@ -128,14 +128,15 @@ fn is_node_at(events: &[Event], i: usize) -> bool
     }
 }
 
-// An upper bound of the number of steps, with those of the errors: two for each event, one for each token, two for the root. The list
-// of steps takes this room once. Pages that it does not fill are never touched.
-fn room_for(tokens: &[Token], events: &[Event]) -> usize {
-    events
-        .len()
+// The capacity of the list of steps: one for each token, two for each node and for the root, and three tenths more. The C library keeps
+// freed memory of up to twice its largest block, so that with this much the next parse gets the same memory again. Pages that the list does
+// not fill are never touched.
+fn capacity_for(tokens: &[Token], nodes: usize) -> usize {
+    let steps = nodes
+        .saturating_add(1)
         .saturating_mul(2)
-        .saturating_add(tokens.len())
-        .saturating_add(2)
+        .saturating_add(tokens.len());
+    steps.saturating_add(steps / 10 * 3)
 }
 
 impl<'a> Layout<'a> {
@@ -147,8 +148,8 @@ impl<'a> Layout<'a> {
     ) -> Result<Layout<'a>, AllocError>
         ensures { IfOk result (λ l. laying_of l ≡ start_of root (given_of plan.now) tokens.now) }
     {
-        let room = room_for(tokens, plan.events);
-        let mut steps = Vec::with_capacity(alloc, room)?;
+        let capacity = capacity_for(tokens, plan.starts.nodes);
+        let mut steps = Vec::with_capacity(alloc, capacity)?;
         steps.push(Step::Enter(root))?;
         Ok(Layout {
             next: 0,

@@ -12,6 +12,8 @@ pub struct Starts {
     pub last: Vec<u32>,
     /// For each node's event, the node before it that begins with the same event.
     pub before: Vec<u32>,
+    /// The number of nodes so far. No result depends on it, only the capacity of the list of steps.
+    pub nodes: usize,
 }
 
 fn number_at(numbers: &[u32], i: usize) -> u32
@@ -57,6 +59,7 @@ impl Starts {
         let from = from.min(event);
         let earlier = number_at(&self.last, from);
         self.before.push(earlier)?;
+        self.nodes = self.nodes.saturating_add(1);
         note(&mut self.last, from, number_of(event));
         Ok(())
     }
@@ -97,6 +100,7 @@ pub fn find_starts(alloc: Global, root: usize, events: &[Event]) -> Result<Start
     let mut starts = Starts {
         last: vec![in alloc; 0u32; events.len()]?,
         before: Vec::with_capacity(alloc, events.len())?,
+        nodes: 0,
     };
     for event in events {
         starts.link(root, *event)?;

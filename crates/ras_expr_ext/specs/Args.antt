@@ -1,5 +1,5 @@
 -- The arguments of a call, where one may be missing. The children are seen as elements, each a node or a token.
-use Rattle.std.specs.Prelude.{Bool, true, false, ◌||◌, ◌&&◌, List, [], ◌∷◌, ◌++◌, map, Option, Some, None, if◌then◌else◌}
+use Rattle.std.specs.Prelude.{Bool, false, ◌||◌, ◌&&◌, List, [], ◌∷◌, Option, Some, None, if◌then◌else◌}
 use Rattle.syntax_kind.specs.Kinds.{is_same_kind}
 use Rattle.syntax_kind.specs.declared.syntax_kind.SyntaxKind.TheVariants as kinds
 use Rattle.syntax_kind.specs.declared.syntax_kind.token_kind.TokenKind.TheVariants as token

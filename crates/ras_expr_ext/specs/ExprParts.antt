@@ -1,7 +1,7 @@
 -- The parts of expressions that need more than a search for the first child of a kind: cursors among the children of a
 -- node, and above it.
 -- (Upstream: `ast::expr_ext` of rust-analyzer's `syntax`.)
-use Rattle.std.specs.Prelude.{Bool, true, false, ◌||◌, Option, Some, None, option_map, is_some, if◌then◌else◌}
+use Rattle.std.specs.Prelude.{Bool, true, false, Option, Some, None, option_map, is_some, if◌then◌else◌}
 use Rattle.std.specs.List.{find, slice_get}
 use Rattle.std.specs.Option.{option_and_then, option_or, option_map_or}
 use Rattle.syntax_kind.specs.declared.syntax_kind.SyntaxKind.{SyntaxKind}

@@ -3,7 +3,7 @@ ghost use Rattle.std.specs.Prelude.{◌≡◌, false, map, option_map};
 ghost use Rattle.std.specs.Iterator.{YieldsFirstBy, item_count};
 ghost use Rattle.tree_model.specs.Cursor.{children_of};
 ghost use Rattle.lossless_tree.specs.Element.{element_of};
-ghost use Rattle.ras_expr_ext.specs.Args.{begins_with_comma, is_comma, given, is_after, arguments};
+ghost use Rattle.ras_expr_ext.specs.Args.{begins_with_comma, is_comma, is_after, arguments};
 
 use lossless_tree::{NodeOrToken, SyntaxElement, SyntaxElementChildren, SyntaxKind, SyntaxNode};
 use ras_node::{AstNode, support};
@@ -37,18 +37,6 @@ fn is_after<N: AstNode>(after: bool, element: &SyntaxElement) -> bool
     match element {
         NodeOrToken::Node(node) => after || N::can_cast(node.kind()),
         NodeOrToken::Token(_) => after,
-    }
-}
-
-fn given<N: AstNode>(after: bool, element: SyntaxElement) -> Option<Option<N>>
-    ensures { option_map (option_map N.node) result ≡ given N.casts after element }
-{
-    if is_comma(&element) {
-        return if after { None } else { Some(None) };
-    }
-    match element {
-        NodeOrToken::Node(node) => Some(support::view(Some(node))),
-        NodeOrToken::Token(_token) => None,
     }
 }
 
@@ -96,12 +84,19 @@ impl<N: AstNode> Iterator for ArgsMaybeEmpty<N> {
 
     ghost remaining = { item_count (λ left. left) };
 
-    fn next(&mut self) -> Option<Option<N>> {
+    fn next(&mut self) -> Option<Self::Item> {
         while let Some(child) = self.left.next() {
             let after = self.after;
             self.after = is_after::<N>(after, &child);
-            if let Some(argument) = given(after, child) {
-                return Some(argument);
+            if is_comma(&child) {
+                if !after {
+                    return Some(None);
+                }
+                continue;
+            }
+            match child {
+                NodeOrToken::Node(node) => return Some(support::view(Some(node))),
+                NodeOrToken::Token(_token) => {}
             }
         }
         None
