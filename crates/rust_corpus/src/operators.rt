@@ -44,7 +44,7 @@ impl Operators {
         };
         if expr.needs_parens_in(&parent) {
             more(&mut self.needed);
-            show(rt, path, "needs parentheses", expr.syntax())?;
+            show(rt, path, "needs parentheses in", expr.syntax(), &parent)?;
         }
         if ast::Expr::can_cast(parent.kind()) {
             return Ok(());
@@ -54,7 +54,7 @@ impl Operators {
             Some(false) => {
                 more(&mut self.terms);
                 more(&mut self.misread);
-                show(rt, path, "does not read back", expr.syntax())?;
+                show(rt, path, "does not read back in", expr.syntax(), &parent)?;
             }
             Some(true) => {
                 more(&mut self.terms);
@@ -76,11 +76,26 @@ impl Operators {
     }
 }
 
-fn show(rt: &HostRuntime, path: &str, what: &str, node: &SyntaxNode) -> anyhow::Result<()> {
-    let start = node.text_range().start().raw();
+// The first characters of a node's text.
+fn start_of(node: &SyntaxNode) -> &str {
+    node.as_str().get(..60).unwrap_or(node.as_str())
+}
+
+// The line of an expression: its offset, its kind and text, and those of its parent.
+fn show(
+    rt: &HostRuntime,
+    path: &str,
+    what: &str,
+    node: &SyntaxNode,
+    parent: &SyntaxNode,
+) -> anyhow::Result<()> {
     println!(rt;
-        "{path} {start} {what}: {:?}",
-        node.as_str().get(..60).unwrap_or(node.as_str())
+        "{path} {} {:?} {:?} {what} {:?} {:?}",
+        node.text_range().start().raw(),
+        node.kind(),
+        start_of(node),
+        parent.kind(),
+        start_of(parent)
     )?;
     Ok(())
 }
