@@ -8,3 +8,4 @@ pub mod EscapesLemmas
 pub mod AskedLemmas
 pub mod ChangesLemmas
 pub mod RolesLemmas
+pub mod LabelsLemmas

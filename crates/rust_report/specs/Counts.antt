@@ -1,5 +1,5 @@
 -- How many nodes and tokens a tree has.
-use Rattle.std.specs.Prelude.{ℕ, ◌-◌, ◌^◌, min, Bool, true, false, not, List, length, map}
+use Rattle.std.specs.Prelude.{ℕ, ◌-◌, ◌^◌, ◌==◌, if◌then◌else◌, min, Bool, true, false, not, List, length, map}
 use Rattle.std.specs.List.{filter}
 use Rattle.lossless_tree.specs.declared.cursor.element.NodeOrToken.{NodeOrToken}
 use Rattle.lossless_tree.specs.declared.cursor.element.NodeOrToken.TheVariants.{Node, Token}
@@ -23,3 +23,7 @@ counts_of c = record {
   nodes = how_many is_node (map element_of (descendants_of c));
   tokens = how_many is_token (map element_of (descendants_of c));
 }
+
+-- the noun after a number, in English: the first after 1, the second after any other
+abbrev pub noun_for : ℕ → List ℕ → List ℕ → List ℕ
+noun_for n one many = if n == 1 then one else many

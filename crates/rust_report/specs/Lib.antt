@@ -11,3 +11,5 @@ pub mod Asked
 pub mod Changes
 pub mod Roles
 pub mod Counts
+pub mod Shown
+pub mod Labels

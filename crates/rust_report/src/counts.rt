@@ -1,6 +1,6 @@
 //! How many nodes and tokens a tree has.
 ghost use Rattle.std.specs.Prelude.{◌≡◌};
-ghost use Rattle.rust_report.specs.Counts.{counts_of};
+ghost use Rattle.rust_report.specs.Counts.{counts_of, noun_for};
 
 use lossless_tree::{NodeOrToken, SyntaxNode};
 
@@ -27,4 +27,11 @@ pub fn count(root: &SyntaxNode) -> Counts
         }
     }
     Counts { nodes, tokens }
+}
+
+/// The noun after a number: `one` after 1, `many` after any other.
+pub fn noun_for(count: u64, one: &'static str, many: &'static str) -> &'static str
+    ensures { result.now ≡ noun_for count one.now many.now }
+{
+    if count == 1 { one } else { many }
 }

@@ -80,7 +80,7 @@ impl KindSet for Abis {
 }
 
 /// The kinds of the children of an `impl` that do not begin its head: those before it and those after it.
-enum Unheaded {}
+pub(crate) enum Unheaded {}
 
 impl KindSet for Unheaded {
     ghost kinds = { is_unheaded };

@@ -83,10 +83,11 @@ pub struct Excerpt<'a> {
 /// A line with more bytes is not shown as a whole.
 pub const WIDEST: usize = 240;
 
-// How many bytes of such a line are shown before the start of a range, and after it.
-const BEFORE: usize = 80;
+/// At most this many bytes of such a line are shown before the start of a range.
+pub const BEFORE: usize = 80;
 
-const AFTER: usize = 160;
+/// At most this many bytes of such a line are shown from the start of a range on.
+pub const AFTER: usize = 160;
 
 // Where the part of a line around a place starts and ends.
 fn window(line: &str, at: usize) -> (usize, usize)
@@ -103,8 +104,8 @@ fn window(line: &str, at: usize) -> (usize, usize)
 }
 
 /// The part of a line around the range from `start` to `end`, both counted in bytes from the start of the line. It is the whole line if that
-/// has at most [`WIDEST`] bytes; otherwise it starts up to 80 bytes before the range, and ends up to 160 bytes after the range's start. An
-/// offset inside a character counts as that of the character, and one past the end of the line as the end.
+/// has at most [`WIDEST`] bytes; otherwise it starts up to [`BEFORE`] bytes before the range, and ends up to [`AFTER`] bytes after the range's
+/// start. An offset inside a character counts as that of the character, and one past the end of the line as the end.
 ///
 /// Takes constant time.
 pub fn excerpt_of(line: &str, start: usize, end: usize) -> Excerpt<'_>

@@ -1,89 +1,18 @@
 //! The command `check`: the errors of a text.
 
 use crate::failure::Failure;
-use crate::json::write_line;
-use crate::options::Form;
-use crate::shown::{ELLIPSIS, on_terminal, write_place};
-use crate::source::{Reading, move_to, parsed, spot, spots};
+use crate::json;
+use crate::options::{Asked, Form};
+use crate::shown::write_place;
+use crate::source::{Source, move_to, parsed, spot, spots};
 use crate::style::Style;
-use line_index::LineIndex;
-use lossless_tree::TextRange;
 use ras_front_end::SyntaxError;
-use rust_report::{Escaped, Medium, Spots, excerpt_of, line_at};
-use serde::Serialize;
+use rust_report::{Escaped, Marks, Medium, Spots, excerpt_at};
 use std::alloc::Global;
 use std::io;
 use std::io::Write;
 
-/// Options of the check and of its report.
-#[derive(Clone, Copy)]
-pub struct Checking {
-    /// How a text is parsed.
-    pub reading: Reading,
-    /// The form of the report.
-    pub format: Form,
-    /// Whether the report has colours.
-    pub style: Style,
-}
-
-// An error as an object of JSON. Lines and columns count from 1, columns in characters; `start` and `end` are offsets in bytes.
-#[derive(Drop, Serialize)]
-struct Finding<'a> {
-    path: &'a str,
-    line: u64,
-    column: u64,
-    end_line: u64,
-    end_column: u64,
-    start: u32,
-    end: u32,
-    message: &'a str,
-}
-
-fn write_many<W: Write>(out: &mut W, sign: &str, count: u64) -> io::Result<()> {
-    for _i in 0..count {
-        out.write_all(sign.as_bytes())?;
-    }
-    Ok(())
-}
-
-// Writes white space as wide as a text; tabs stay tabs.
-fn write_blanks<W: Write>(out: &mut W, text: &str) -> io::Result<()> {
-    for sign in text.chars() {
-        out.write_all(if sign == '\t' { b"\t" } else { b" " })?;
-    }
-    Ok(())
-}
-
-// Writes the line that a range starts in, or the part of a long line around it, and marks the range in the line below.
-fn write_source<W: Write>(
-    out: &mut W,
-    lines: &LineIndex<'_>,
-    range: TextRange,
-    style: Style,
-) -> io::Result<()> {
-    let line = line_at(lines.text(), lines, range.start());
-    let start = match lines.line_col(range.start()) {
-        Some(place) => place.col as usize,
-        None => 0,
-    };
-    let part = excerpt_of(
-        line,
-        start,
-        start.saturating_add(range.len().raw() as usize),
-    );
-    let before = if part.is_cut_before { ELLIPSIS } else { "" };
-    let after = if part.is_cut_after { ELLIPSIS } else { "" };
-    let (first, marked, last) = (part.before, part.marked, part.after);
-    write!(out, "{before}{}", on_terminal(first))?;
-    writeln!(out, "{}{}{after}", on_terminal(marked), on_terminal(last))?;
-    write!(out, "      | ")?;
-    write_blanks(out, before)?;
-    write_blanks(out, first)?;
-    write!(out, "{}", style.red())?;
-    write_many(out, "^", (marked.chars().count() as u64).max(1))?;
-    writeln!(out, "{}", style.plain())
-}
-
+// Writes the line that an error is in, or the part of a long line around it, and marks the error in the line below.
 fn write_text<W: Write>(
     out: &mut W,
     name: &str,
@@ -95,12 +24,13 @@ fn write_text<W: Write>(
     let (red, plain) = (style.red(), style.plain());
     write_place(out, name, from, style)?;
     writeln!(out, "{red}{}{plain}", error.message())?;
-    write!(out, "{:>5} | ", from.line)?;
-    write_source(out, spots.lines(), error.range(), style)
+    let excerpt = excerpt_at(spots.lines(), error.range());
+    writeln!(out, "{:>5} | {excerpt}", from.line)?;
+    writeln!(out, "      | {red}{}{plain}", Marks { excerpt })
 }
 
+// Lines and columns count from 1, columns in characters; `start` and `end` are offsets in bytes.
 fn write_json<W: Write>(
-    alloc: Global,
     out: &mut W,
     name: &str,
     spots: &mut Spots<'_>,
@@ -109,17 +39,12 @@ fn write_json<W: Write>(
     let range = error.range();
     let from = move_to(spots, range.start());
     let to = spot(spots, range.end());
-    let finding = Finding {
-        path: name,
-        line: from.line,
-        column: from.column,
-        end_line: to.line,
-        end_column: to.column,
-        start: range.start().raw(),
-        end: range.end().raw(),
-        message: error.message(),
-    };
-    write_line(alloc, out, &finding)
+    json::write_path(out, name)?;
+    json::write_numbers(out, &[("line", from.line), ("column", from.column)])?;
+    json::write_numbers(out, &[("end_line", to.line), ("end_column", to.column)])?;
+    json::write_range(out, range)?;
+    json::write_text(out, "message", error.message())?;
+    json::write_end(out)
 }
 
 fn in_workflow(text: &str) -> Escaped<'_> {
@@ -137,27 +62,25 @@ fn write_github<W: Write>(
 ) -> io::Result<()> {
     let from = move_to(spots, error.range().start());
     let to = spot(spots, error.range().end());
-    let (name, message) = (in_workflow(name), in_workflow(error.message()));
-    writeln!(
-        out,
-        "::error file={name},line={},col={},endLine={},endColumn={}::{message}",
-        from.line, from.column, to.line, to.column
-    )
+    write!(out, "::error file={},", in_workflow(name))?;
+    write!(out, "line={},col={},", from.line, from.column)?;
+    write!(out, "endLine={},endColumn={}", to.line, to.column)?;
+    writeln!(out, "::{}", in_workflow(error.message()))
 }
 
 fn write_all<W: Write>(
     alloc: Global,
     out: &mut W,
-    name: &str,
-    text: &str,
+    source: Source<'_>,
     errors: &[SyntaxError],
-    options: Checking,
+    asked: Asked,
 ) -> Result<u64, Failure> {
+    let Source { name, text } = source;
     let mut spots = spots(alloc, text)?;
     for error in errors {
-        match options.format {
-            Form::Text => write_text(out, name, &mut spots, error, options.style)?,
-            Form::Json => write_json(alloc, out, name, &mut spots, error)?,
+        match asked.format {
+            Form::Text => write_text(out, name, &mut spots, error, asked.style)?,
+            Form::Json => write_json(out, name, &mut spots, error)?,
             Form::Github => write_github(out, name, &mut spots, error)?,
         }
     }
@@ -168,15 +91,13 @@ fn write_all<W: Write>(
 pub fn check<W: Write>(
     alloc: Global,
     out: &mut W,
-    name: &str,
-    text: &str,
-    options: Checking,
+    source: Source<'_>,
+    asked: Asked,
 ) -> Result<u64, Failure> {
-    let parse = parsed(alloc, text, options.reading)?;
-    let errors = if options.reading.validates {
-        parse.errors(alloc)?
-    } else {
-        return write_all(alloc, out, name, text, parse.stored(), options);
-    };
-    write_all(alloc, out, name, text, errors.as_slice(), options)
+    let parse = parsed(alloc, source.text, asked.reading)?;
+    if !asked.reading.validates {
+        return write_all(alloc, out, source, parse.stored(), asked);
+    }
+    let errors = parse.errors(alloc)?;
+    write_all(alloc, out, source, errors.as_slice(), asked)
 }

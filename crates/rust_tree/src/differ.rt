@@ -1,52 +1,40 @@
 //! The command `diff`: the places where the trees of two files differ.
 
 use crate::failure::Failure;
-use crate::names::kind_name;
-use crate::source::{Reading, move_to, parsed, spots};
+use crate::names::Named;
+use crate::source::{Reading, Source, move_to, parsed, spots};
 use lossless_tree::{NodeOrToken, SyntaxElement, TextSize, WalkEvent};
-use rust_report::{Spots, Trivia, differences};
+use rust_report::{Difference, Spots, Trivia, differences};
 use std::alloc::Global;
 use std::io;
 use std::io::Write;
 
-/// A text with its name.
-#[derive(Clone, Copy)]
-pub struct Side<'a> {
-    /// The name.
-    pub name: &'a str,
-    /// The text.
-    pub text: &'a str,
+// Writes a node, or a token with its text.
+fn write_element<W: Write>(out: &mut W, element: &SyntaxElement) -> io::Result<()> {
+    let kind = Named(element.kind());
+    match element {
+        NodeOrToken::Node(_) => writeln!(out, "{kind}"),
+        NodeOrToken::Token(token) => writeln!(out, "{kind} {:?}", token.text()),
+    }
 }
 
 // Writes the event of one tree: a node, a token with its text, or the end of a node; the end of the text if the walk has ended.
 fn write_side<W: Write>(
-    alloc: Global,
     out: &mut W,
-    side: Side<'_>,
+    source: Source<'_>,
     spots: &mut Spots<'_>,
     event: &Option<WalkEvent<SyntaxElement>>,
 ) -> io::Result<()> {
-    let Side { name, text } = side;
+    let offset = match event {
+        None => TextSize::of(source.text).unwrap_or(TextSize::new(0)),
+        Some(WalkEvent::Leave(element)) => element.text_range().end(),
+        Some(WalkEvent::Enter(element)) => element.text_range().start(),
+    };
+    write!(out, "{}:{}: ", source.name, move_to(spots, offset))?;
     match event {
-        None => {
-            let end = TextSize::of(text).unwrap_or(TextSize::new(0));
-            writeln!(out, "{name}:{}: the end", move_to(spots, end))
-        }
-        Some(WalkEvent::Leave(element)) => {
-            let at = move_to(spots, element.text_range().end());
-            let kind = kind_name(alloc, element.kind())?;
-            writeln!(out, "{name}:{at}: the end of {kind}")
-        }
-        Some(WalkEvent::Enter(element)) => {
-            let at = move_to(spots, element.text_range().start());
-            let kind = kind_name(alloc, element.kind())?;
-            match element {
-                NodeOrToken::Node(_) => writeln!(out, "{name}:{at}: {kind}"),
-                NodeOrToken::Token(token) => {
-                    writeln!(out, "{name}:{at}: {kind} {:?}", token.text())
-                }
-            }
-        }
+        None => writeln!(out, "the end"),
+        Some(WalkEvent::Leave(element)) => writeln!(out, "the end of {}", Named(element.kind())),
+        Some(WalkEvent::Enter(element)) => write_element(out, element),
     }
 }
 
@@ -59,34 +47,56 @@ pub struct Told {
     pub more: bool,
 }
 
-/// Writes at most `limit` places where two trees differ by kinds or by the texts of tokens: for each place the node or token of each tree.
-pub fn show<W: Write>(
+// Writes at most `limit` differences.
+fn write_all<W: Write>(
     alloc: Global,
     out: &mut W,
-    old: Side<'_>,
-    new: Side<'_>,
-    reading: Reading,
-    trivia: Trivia,
+    old: Source<'_>,
+    new: Source<'_>,
+    found: &[Difference],
     limit: usize,
 ) -> Result<Told, Failure> {
-    let old_parse = parsed(alloc, old.text, reading)?;
-    let new_parse = parsed(alloc, new.text, reading)?;
     let mut old_spots = spots(alloc, old.text)?;
     let mut new_spots = spots(alloc, new.text)?;
-    let (old_root, new_root) = (old_parse.root(), new_parse.root());
-    let wanted = limit.saturating_add(1);
-    let found = differences(alloc, old_root, &[], new_root, trivia, wanted)?;
     let mut places = 0usize;
-    for difference in &found {
+    for difference in found {
         if places == limit {
             return Ok(Told { places, more: true });
         }
-        write_side(alloc, out, old, &mut old_spots, &difference.old)?;
-        write_side(alloc, out, new, &mut new_spots, &difference.new)?;
+        write_side(out, old, &mut old_spots, &difference.old)?;
+        write_side(out, new, &mut new_spots, &difference.new)?;
         places = places.saturating_add(1);
     }
     Ok(Told {
         places,
         more: false,
     })
+}
+
+// The first `count` differences of two texts.
+fn found(
+    alloc: Global,
+    old: Source<'_>,
+    new: Source<'_>,
+    reading: Reading,
+    trivia: Trivia,
+    count: usize,
+) -> Result<Vec<Difference>, Failure> {
+    let old = parsed(alloc, old.text, reading)?;
+    let new = parsed(alloc, new.text, reading)?;
+    Ok(differences(alloc, old.root(), &[], new.root(), trivia, count)?)
+}
+
+/// Writes at most `limit` places where two trees differ by kinds or by the texts of tokens: for each place the node or token of each tree.
+pub fn show<W: Write>(
+    alloc: Global,
+    out: &mut W,
+    old: Source<'_>,
+    new: Source<'_>,
+    reading: Reading,
+    trivia: Trivia,
+    limit: usize,
+) -> Result<Told, Failure> {
+    let found = found(alloc, old, new, reading, trivia, limit.saturating_add(1))?;
+    write_all(alloc, out, old, new, found.as_slice(), limit)
 }

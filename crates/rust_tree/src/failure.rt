@@ -32,3 +32,14 @@ impl From<AllocError> for Failure {
         Failure::Text(ParseError::Memory)
     }
 }
+
+impl Failure {
+    /// Reports the error of a file on standard error. Returns it if it is one of the output.
+    pub fn tell(self, rt: &HostRuntime, name: &str) -> io::Result<()> {
+        match self {
+            Failure::Output(error) => Err(error),
+            Failure::Text(error) => eprintln!(rt; "rust_tree: {name}: {error}"),
+            Failure::File(error) => eprintln!(rt; "rust_tree: {name}: {error}"),
+        }
+    }
+}

@@ -1,7 +1,8 @@
 //! Patches, and replacing the text of files.
 
 use crate::failure::Failure;
-use rust_report::{lines_of, other_front, same_front};
+use crate::source::Source;
+use rust_report::{lines_of, noun_for, other_front, same_front};
 use std::alloc::Global;
 use std::fs::File;
 use std::io::{ErrorKind, Write};
@@ -44,14 +45,14 @@ fn write_changes<W: Write>(out: &mut W, old: &[&str], new: &[&str]) -> io::Resul
 pub fn diff<W: Write>(
     alloc: Global,
     out: &mut W,
-    name: &str,
-    old: &str,
+    source: Source<'_>,
     new: &str,
 ) -> Result<(), Failure> {
+    let Source { name, text } = source;
     // Without the tab, `patch` reads the name up to its first blank.
     let end = if name.contains(' ') { "\t" } else { "" };
     writeln!(out, "--- {name}{end}\n+++ {name}{end}")?;
-    let (old, new) = (lines_of(alloc, old)?, lines_of(alloc, new)?);
+    let (old, new) = (lines_of(alloc, text)?, lines_of(alloc, new)?);
     Ok(write_changes(out, old.as_slice(), new.as_slice())?)
 }
 
@@ -108,6 +109,6 @@ pub fn fix<W: Write>(
     if let Err(error) = replace(rt, name, text) {
         return Err(Failure::File(error));
     }
-    let pairs = if count == 1 { "pair" } else { "pairs" };
+    let pairs = noun_for(count as u64, "pair", "pairs");
     Ok(writeln!(out, "{name}: {count} {pairs} removed")?)
 }

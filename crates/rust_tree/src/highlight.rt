@@ -2,8 +2,8 @@
 
 use crate::failure::Failure;
 use crate::html::{in_html, write_head};
-use crate::source::{Reading, parsed};
-use lossless_tree::NodeOrToken;
+use crate::source::{Reading, Source, parsed};
+use lossless_tree::{NodeOrToken, SyntaxNode};
 use rust_report::{Role, role_of};
 use std::alloc::Global;
 use std::io;
@@ -103,21 +103,9 @@ fn write_ansi<W: Write>(out: &mut W, role: Role, text: &str) -> io::Result<()> {
     Ok(())
 }
 
-/// Writes a text with its tokens coloured. Returns 0: nothing counts as found.
-pub fn show<W: Write>(
-    alloc: Global,
-    out: &mut W,
-    name: &str,
-    text: &str,
-    reading: Reading,
-    ink: Ink,
-) -> Result<u64, Failure> {
-    let parse = parsed(alloc, text, reading)?;
-    if matches!(ink, Ink::Html) {
-        write_head(out, name)?;
-        out.write_all(STYLE.as_bytes())?;
-    }
-    for element in parse.root().descendants_with_tokens() {
+// Writes the tokens of a tree.
+fn write_tokens<W: Write>(out: &mut W, root: &SyntaxNode, ink: Ink) -> io::Result<()> {
+    for element in root.descendants_with_tokens() {
         if let NodeOrToken::Token(token) = &element {
             match ink {
                 Ink::Html => write_html(out, role_of(token), token.text())?,
@@ -125,8 +113,28 @@ pub fn show<W: Write>(
             }
         }
     }
-    if matches!(ink, Ink::Html) {
-        out.write_all(b"</pre>\n</body>\n</html>\n")?;
+    Ok(())
+}
+
+fn write_page<W: Write>(out: &mut W, name: &str, root: &SyntaxNode) -> io::Result<()> {
+    write_head(out, name)?;
+    out.write_all(STYLE.as_bytes())?;
+    write_tokens(out, root, Ink::Html)?;
+    out.write_all(b"</pre>\n</body>\n</html>\n")
+}
+
+/// Writes a text with its tokens coloured. Returns 0: nothing counts as found.
+pub fn show<W: Write>(
+    alloc: Global,
+    out: &mut W,
+    source: Source<'_>,
+    reading: Reading,
+    ink: Ink,
+) -> Result<u64, Failure> {
+    let parse = parsed(alloc, source.text, reading)?;
+    match ink {
+        Ink::Html => write_page(out, source.name, parse.root())?,
+        Ink::Ansi => write_tokens(out, parse.root(), ink)?,
     }
     Ok(0)
 }

@@ -1,18 +1,8 @@
 //! The files that a command line names.
 
-use std::alloc::Global;
 use std::io::ErrorKind;
 use std::path::Path;
 use std::{fs, io};
-
-/// A text with its name.
-#[derive(Drop)]
-pub struct Source {
-    /// Its path; `-` for standard input.
-    pub name: String,
-    /// The text.
-    pub text: String,
-}
 
 /// Reads a file, or standard input for `-`. It is an error if the bytes are not UTF-8.
 pub fn text_of(rt: &HostRuntime, name: &str) -> io::Result<String> {

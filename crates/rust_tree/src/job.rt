@@ -1,16 +1,15 @@
 //! The commands on files, and their run over all files.
 
-use crate::check::{Checking, check};
+use crate::check::check;
 use crate::failure::Failure;
 use crate::highlight::Ink;
 use crate::inputs::{files_below, is_folder, text_of};
-use crate::options::{Form, form_of, reading};
-use crate::session::Session;
-use crate::source::Reading;
-use crate::style::Style;
+use crate::options::Asked;
+use crate::session::{Noun, Session};
+use crate::source::Source;
 use crate::tree::Showing;
 use crate::{fix, highlight, outline, parens, query, tokens, tree};
-use clap::ArgMatches;
+use rust_parens::Needless;
 use rust_report::Step;
 use std::io;
 use std::io::Write;
@@ -51,33 +50,68 @@ pub enum Then {
 pub struct Job {
     /// The command.
     pub task: Task,
-    /// How a text is parsed.
-    pub reading: Reading,
-    /// The form of the report.
-    pub format: Form,
-    /// Whether the report has colours.
-    pub style: Style,
+    /// How the files are read, and the reports written.
+    pub asked: Asked,
+}
+
+// Writes what is done with the pairs of a text. Returns their number.
+fn write_pairs<W: Write>(
+    rt: &HostRuntime,
+    out: &mut W,
+    source: Source<'_>,
+    found: &Needless,
+    asked: Asked,
+    then: Then,
+) -> Result<u64, Failure> {
+    let pairs = found.pairs.as_slice();
+    let new = match &found.text {
+        Some(new) => new.as_str(),
+        None => &*source.text,
+    };
+    match then {
+        Then::List => parens::list(rt.alloc(), out, source, pairs, asked)?,
+        Then::Diff => {
+            if !pairs.is_empty() {
+                fix::diff(rt.alloc(), out, source, new)?;
+            }
+        }
+        Then::Fix => {
+            if !pairs.is_empty() || source.name == "-" {
+                fix::fix(rt, out, source.name, new, pairs.len())?;
+            }
+        }
+    }
+    Ok(pairs.len() as u64)
+}
+
+// Lists or removes the pairs of a text. Returns their number.
+fn parens<W: Write>(
+    rt: &HostRuntime,
+    out: &mut W,
+    source: Source<'_>,
+    asked: Asked,
+    then: Then,
+) -> Result<u64, Failure> {
+    let found = parens::needless(rt.alloc(), source.text, asked.reading)?;
+    if found.left > 0 {
+        eprintln!(rt;
+            "rust_tree: {}: {} further pairs were not tried, since so many stay",
+            source.name, found.left
+        )?;
+    }
+    write_pairs(rt, out, source, &found, asked, then)
 }
 
 impl Job {
-    /// The task with the options of a command.
-    pub fn of(task: Task, style: Style, matches: &ArgMatches) -> Job {
-        Job {
-            task,
-            reading: reading(matches),
-            format: form_of(matches),
-            style,
-        }
-    }
-
-    // The word for what was found, in the totals.
-    fn counts(&self) -> &'static str {
-        match &self.task {
-            Task::Tree { .. } | Task::Outline | Task::Highlight { ink: _ } => "found",
-            Task::Check | Task::Tokens => "errors",
-            Task::Parens { then: _ } => "pairs",
-            Task::Query { steps: _ } => "matches",
-        }
+    // The noun for what was found, in the totals.
+    fn noun(&self) -> Noun {
+        let (one, many) = match &self.task {
+            Task::Tree { .. } | Task::Outline | Task::Highlight { ink: _ } => ("found", "found"),
+            Task::Check | Task::Tokens => ("error", "errors"),
+            Task::Parens { then: _ } => ("pair", "pairs"),
+            Task::Query { steps: _ } => ("match", "matches"),
+        };
+        Noun { one, many }
     }
 
     // Writes the report on a text. Returns how much was found.
@@ -85,87 +119,45 @@ impl Job {
         &self,
         rt: &HostRuntime,
         out: &mut W,
-        name: &str,
-        text: &str,
+        source: Source<'_>,
     ) -> Result<u64, Failure> {
-        let alloc = rt.alloc();
-        let (reading, format, style) = (self.reading, self.format, self.style);
+        let (alloc, asked) = (rt.alloc(), self.asked);
         match &self.task {
             Task::Tree { named, showing } => {
-                if *named {
-                    writeln!(out, "==> {name} <==")?;
-                }
-                tree::show(alloc, out, name, text, reading, showing)
+                tree::show(alloc, out, source, asked.reading, *named, showing)
             }
-            Task::Check => {
-                let options = Checking {
-                    reading,
-                    format,
-                    style,
-                };
-                check(alloc, out, name, text, options)
-            }
-            Task::Outline => outline::show(alloc, out, name, text, reading, format, style),
-            Task::Parens { then } => self.parens(rt, out, name, text, *then),
-            Task::Highlight { ink } => highlight::show(alloc, out, name, text, reading, *ink),
-            Task::Tokens => tokens::show(alloc, out, name, text, reading.edition, format),
-            Task::Query { steps } => {
-                query::show(
-                    alloc,
-                    out,
-                    name,
-                    text,
-                    steps.as_slice(),
-                    reading,
-                    format,
-                    style,
-                )
-            }
+            Task::Check => check(alloc, out, source, asked),
+            Task::Outline => outline::show(alloc, out, source, asked),
+            Task::Parens { then } => parens(rt, out, source, asked, *then),
+            Task::Highlight { ink } => highlight::show(alloc, out, source, asked.reading, *ink),
+            Task::Tokens => tokens::show(alloc, out, source, asked),
+            Task::Query { steps } => query::show(alloc, out, source, steps.as_slice(), asked),
         }
     }
 
-    // Lists or removes the pairs of a text. Returns their number.
-    fn parens<W: Write>(
+    // Counts a report on a text, or reports its error. An error of the output ends the run.
+    fn reported<W: Write>(
         &self,
         rt: &HostRuntime,
         out: &mut W,
-        name: &str,
-        text: &str,
-        then: Then,
-    ) -> Result<u64, Failure> {
-        let alloc = rt.alloc();
-        let found = parens::needless(alloc, text, self.reading)?;
-        if found.left > 0 {
-            eprintln!(rt;
-                "rust_tree: {name}: {} further pairs were not tried, since so many stay",
-                found.left
-            )?;
-        }
-        let count = found.pairs.len();
-        let new = match &found.text {
-            Some(new) => new.as_str(),
-            None => text,
-        };
-        match then {
-            Then::List => {
-                let pairs = found.pairs.as_slice();
-                parens::list(alloc, out, name, text, pairs, self.format, self.style)?;
+        source: Source<'_>,
+        session: &mut Session,
+    ) -> io::Result<()> {
+        match self.report(rt, out, source) {
+            Ok(found) => {
+                session.read(source.text.len(), found);
+                session.show_progress(rt)
             }
-            Then::Diff => {
-                if count > 0 {
-                    fix::diff(alloc, out, name, text, new)?;
-                }
-            }
-            Then::Fix => {
-                if count > 0 || name == "-" {
-                    fix::fix(rt, out, name, new, count)?;
-                }
+            Err(Failure::Output(error)) => Err(error),
+            Err(failure) => {
+                out.flush()?;
+                session.lost();
+                failure.tell(rt, source.name)
             }
         }
-        Ok(count as u64)
     }
 
-    // Writes the report on a file. An error of the output ends the run; an error of the file is reported and counted.
+    // Writes the report on a file. A file that cannot be read is reported and counted.
     fn file<W: Write>(
         &self,
         rt: &HostRuntime,
@@ -173,26 +165,15 @@ impl Job {
         name: &str,
         session: &mut Session,
     ) -> io::Result<()> {
-        let text = match text_of(rt, name) {
-            Ok(text) => text,
+        match text_of(rt, name) {
+            Ok(text) => {
+                let source = Source {
+                    name: &*name,
+                    text: text.as_str(),
+                };
+                self.reported(rt, out, source, session)
+            }
             Err(error) => {
-                session.lost();
-                return eprintln!(rt; "rust_tree: {name}: {error}");
-            }
-        };
-        match self.report(rt, out, name, text.as_str()) {
-            Ok(found) => {
-                session.read(text.len(), found);
-                session.show_progress(rt)
-            }
-            Err(Failure::Output(error)) => Err(error),
-            Err(Failure::Text(error)) => {
-                out.flush()?;
-                session.lost();
-                eprintln!(rt; "rust_tree: {name}: {error}")
-            }
-            Err(Failure::File(error)) => {
-                out.flush()?;
                 session.lost();
                 eprintln!(rt; "rust_tree: {name}: {error}")
             }
@@ -242,7 +223,7 @@ impl Job {
             }
         }
         out.flush()?;
-        session.tell(rt, self.counts(), start)?;
+        session.tell(rt, self.noun(), start)?;
         Ok(session)
     }
 }

@@ -20,96 +20,36 @@ mod session;
 mod shown;
 mod source;
 mod style;
+mod task;
 mod tokens;
 mod tree;
+mod verbs;
 
 use clap::ArgMatches;
-use differ::Side;
 use failure::Failure;
-use inputs::{is_folder, text_of};
-use job::{Job, Task, Then};
-use options::{command, ink, limit, reading, showing};
-use rust_report::{PatternError, Trivia, parse_pattern};
+use inputs::text_of;
+use job::Job;
+use options::{Asked, limit, reading};
+use rust_report::Trivia;
 use session::{FOUND, Session, UNREAD, USAGE};
+use source::Source;
 use std::io::{BufWriter, ErrorKind, IsTerminal, Write};
 use std::process::ExitCode;
 use std::{env, io};
 use style::Style;
-use tree::Drawing;
+use task::task_of;
 
 fn style_of(rt: &HostRuntime, matches: &ArgMatches) -> Style {
-    match matches.get_str("color") {
-        Some("always") => Style::Colours,
-        Some("never") => Style::Plain,
-        _ => {
-            if rt.stdout().is_terminal() {
-                Style::Colours
-            } else {
-                Style::Plain
-            }
-        }
-    }
-}
-
-// Whether the command line names more than one file, or a folder.
-fn has_several(rt: &HostRuntime, matches: &ArgMatches) -> bool {
-    match matches.get_strs("FILE").unwrap_or(&[]) {
-        [name] => is_folder(rt, name),
-        _ => true,
-    }
-}
-
-// The task of `tree` with its options. Returns `None` after reporting an error if the arguments are invalid.
-fn tree_task(rt: &HostRuntime, matches: &ArgMatches) -> io::Result<Option<Task>> {
-    let Some(showing) = showing(matches) else {
-        eprintln!(rt; "rust_tree: a place is LINE:COLUMN, and a range START..END")?;
-        return Ok(None);
+    let has_colours = match matches.get_str("color") {
+        Some("always") => true,
+        Some("never") => false,
+        _ => rt.stdout().is_terminal(),
     };
-    let has_several = has_several(rt, matches);
-    if has_several && matches!(showing.drawing, Drawing::Html) && !showing.stats {
-        eprintln!(rt; "rust_tree: `--format html` takes one file, and no folder")?;
-        return Ok(None);
+    if has_colours {
+        Style::Colours
+    } else {
+        Style::Plain
     }
-    // A JSON object has the name of its file.
-    let named = has_several && !matches!(showing.drawing, Drawing::Json);
-    Ok(Some(Task::Tree { named, showing }))
-}
-
-// The task of a command with its options. Returns `None` after reporting an error if the arguments are invalid.
-fn task(rt: &HostRuntime, name: &str, matches: &ArgMatches) -> io::Result<Option<Task>> {
-    Ok(Some(match name {
-        "tree" => return tree_task(rt, matches),
-        "check" => Task::Check,
-        "highlight" => {
-            if has_several(rt, matches) {
-                eprintln!(rt; "rust_tree: `highlight` takes one file, and no folder")?;
-                return Ok(None);
-            }
-            Task::Highlight { ink: ink(matches) }
-        }
-        "outline" => Task::Outline,
-        "tokens" => Task::Tokens,
-        "query" => {
-            let pattern = matches.get_str("PATTERN").unwrap_or("");
-            match parse_pattern(rt.alloc(), pattern) {
-                Ok(steps) => Task::Query { steps },
-                Err(error) => {
-                    eprintln!(rt; "rust_tree: the pattern `{pattern}`: {error}")?;
-                    return Ok(None);
-                }
-            }
-        }
-        _ => {
-            let then = if matches.get_flag("fix") {
-                Then::Fix
-            } else if matches.get_flag("diff") {
-                Then::Diff
-            } else {
-                Then::List
-            };
-            Task::Parens { then }
-        }
-    }))
 }
 
 fn run_job(rt: &HostRuntime, job: &Job, matches: &ArgMatches) -> io::Result<Session> {
@@ -119,6 +59,22 @@ fn run_job(rt: &HostRuntime, job: &Job, matches: &ArgMatches) -> io::Result<Sess
     } else {
         let mut out = BufWriter::new(rt.alloc(), io::writer(rt))?;
         job.run(rt, &mut out, names)
+    }
+}
+
+// Runs a command on files. Returns the exit status.
+fn run_on_files(rt: &HostRuntime, name: &str, matches: &ArgMatches) -> io::Result<u8> {
+    match task_of(rt, name, matches) {
+        Ok(task) => {
+            let asked = Asked::of(style_of(rt, matches), matches);
+            let job = Job { task, asked };
+            let session = run_job(rt, &job, matches)?;
+            Ok(job.status(&session))
+        }
+        Err(refusal) => {
+            eprintln!(rt; "rust_tree: {refusal}")?;
+            Ok(USAGE)
+        }
     }
 }
 
@@ -133,114 +89,108 @@ fn text_or_tell(rt: &HostRuntime, name: &str) -> io::Result<Option<String>> {
     }
 }
 
-fn write_difference<W: Write>(
+// Writes where two texts differ. Returns the exit status.
+fn write_differences<W: Write>(
     rt: &HostRuntime,
     out: &mut W,
-    old: Side<'_>,
-    new: Side<'_>,
+    old: Source<'_>,
+    new: Source<'_>,
     matches: &ArgMatches,
-) -> io::Result<u8> {
+) -> Result<u8, Failure> {
     let trivia = if matches.get_flag("no-trivia") {
         Trivia::Aside
     } else {
         Trivia::Kept
     };
     let limit = limit(matches);
-    match differ::show(rt.alloc(), out, old, new, reading(matches), trivia, limit) {
-        Ok(told) => {
-            out.flush()?;
-            if told.more {
-                eprintln!(rt;
-                    "rust_tree: the trees differ at further places; --limit N shows more"
-                )?;
-            }
-            Ok(if told.places > 0 || told.more {
-                FOUND
-            } else {
-                0
-            })
-        }
-        Err(Failure::Output(error)) => Err(error),
-        Err(Failure::File(error)) => Err(error),
-        Err(Failure::Text(error)) => {
-            eprintln!(rt; "rust_tree: {error}")?;
+    let told = differ::show(rt.alloc(), out, old, new, reading(matches), trivia, limit)?;
+    out.flush()?;
+    if told.more {
+        eprintln!(rt; "rust_tree: the trees differ at further places; --limit N shows more")?;
+    }
+    Ok(if told.places > 0 || told.more {
+        FOUND
+    } else {
+        0
+    })
+}
+
+// Runs `diff` on two texts. Returns the exit status.
+fn run_diff_on(
+    rt: &HostRuntime,
+    old: Source<'_>,
+    new: Source<'_>,
+    matches: &ArgMatches,
+) -> Result<u8, Failure> {
+    if matches.get_flag("quiet") {
+        return write_differences(rt, &mut io::sink(), old, new, matches);
+    }
+    let mut out = BufWriter::new(rt.alloc(), io::writer(rt))?;
+    write_differences(rt, &mut out, old, new, matches)
+}
+
+// Runs `diff`. Returns the exit status.
+fn run_diff(rt: &HostRuntime, matches: &ArgMatches) -> io::Result<u8> {
+    let old = matches.get_str("A").unwrap_or("-");
+    let new = matches.get_str("B").unwrap_or("-");
+    let Some(old_text) = text_or_tell(rt, old)? else {
+        return Ok(UNREAD);
+    };
+    let Some(new_text) = text_or_tell(rt, new)? else {
+        return Ok(UNREAD);
+    };
+    let old = Source {
+        name: old,
+        text: old_text.as_str(),
+    };
+    let new = Source {
+        name: new,
+        text: new_text.as_str(),
+    };
+    match run_diff_on(rt, old, new, matches) {
+        Ok(status) => Ok(status),
+        Err(failure) => {
+            failure.tell(rt, "diff")?;
             Ok(UNREAD)
         }
     }
 }
 
-// Runs `diff`. Returns the exit status.
-fn run_diff(rt: &HostRuntime, matches: &ArgMatches) -> io::Result<u8> {
-    let old_name = matches.get_str("A").unwrap_or("-");
-    let new_name = matches.get_str("B").unwrap_or("-");
-    let Some(old_text) = text_or_tell(rt, old_name)? else {
-        return Ok(UNREAD);
-    };
-    let Some(new_text) = text_or_tell(rt, new_name)? else {
-        return Ok(UNREAD);
-    };
-    let old = Side {
-        name: old_name,
-        text: old_text.as_str(),
-    };
-    let new = Side {
-        name: new_name,
-        text: new_text.as_str(),
-    };
-    if matches.get_flag("quiet") {
-        return write_difference(rt, &mut io::sink(), old, new, matches);
-    }
-    let mut out = BufWriter::new(rt.alloc(), io::writer(rt))?;
-    write_difference(rt, &mut out, old, new, matches)
-}
-
-// Runs a command on files. Returns the exit status.
-fn run_on_files(rt: &HostRuntime, name: &str, matches: &ArgMatches) -> io::Result<u8> {
-    let Some(task) = task(rt, name, matches)? else {
-        return Ok(USAGE);
-    };
-    let job = Job::of(task, style_of(rt, matches), matches);
-    let session = run_job(rt, &job, matches)?;
-    Ok(job.status(&session))
-}
-
-// Runs a command. If nobody reads the output any more, the run ends without a message.
-fn run_command(rt: &HostRuntime, name: &str, matches: &ArgMatches) -> anyhow::Result<ExitCode> {
-    let done = match name {
-        "diff" => run_diff(rt, matches),
-        _ => run_on_files(rt, name, matches),
-    };
-    match done {
-        Ok(status) => Ok(ExitCode::from(status)),
-        Err(error) => {
-            if error.kind() != ErrorKind::BrokenPipe {
-                eprintln!(rt; "rust_tree: {error}")?;
-            }
-            Ok(ExitCode::from(UNREAD))
-        }
-    }
-}
-
-// Runs the command of the command line.
-fn run(rt: &HostRuntime, words: &[String]) -> anyhow::Result<ExitCode> {
-    let matches = match command(rt.alloc())?.try_get_matches_from(words) {
+// Runs the command of the command line. Returns the exit status.
+fn run(rt: &HostRuntime, words: &[String]) -> io::Result<u8> {
+    let matches = match verbs::program(rt.alloc())?.try_get_matches_from(words) {
         Ok(matches) => matches,
         Err(error) => {
             error.print(rt)?;
-            return Ok(ExitCode::from(u8::try_from(error.exit_code()).unwrap_or(USAGE)));
+            return Ok(u8::try_from(error.exit_code()).unwrap_or(USAGE));
         }
     };
     match matches.subcommand() {
-        Some((name, matches)) => run_command(rt, name, matches),
-        None => Ok(ExitCode::SUCCESS),
+        Some(("diff", matches)) => run_diff(rt, matches),
+        Some((name, matches)) => run_on_files(rt, name, matches),
+        None => Ok(0),
     }
 }
 
-fn main(rt: HostRuntime) -> anyhow::Result<ExitCode> {
-    let Ok(args) = env::args(&rt) else {
+// Reads the command line and runs its command. Returns the exit status.
+fn status(rt: &HostRuntime) -> io::Result<u8> {
+    let Ok(args) = env::args(rt) else {
         eprintln!(rt; "rust_tree: an argument is not valid UTF-8")?;
-        return Ok(ExitCode::from(USAGE));
+        return Ok(USAGE);
     };
     let words: Vec<String> = args.collect(rt.alloc())?;
-    run(&rt, words.as_slice())
+    run(rt, words.as_slice())
+}
+
+// If nobody reads the output any more, the run ends without a message.
+fn main(rt: HostRuntime) -> ExitCode {
+    match status(&rt) {
+        Ok(status) => ExitCode::from(status),
+        Err(error) => {
+            if error.kind() != ErrorKind::BrokenPipe {
+                let _told = eprintln!(&rt; "rust_tree: {error}");
+            }
+            ExitCode::from(UNREAD)
+        }
+    }
 }

@@ -1,67 +1,50 @@
 //! The command `outline`: the items of a text.
 
 use crate::failure::Failure;
-use crate::json::write_line;
-use crate::options::Form;
-use crate::shown::{write_place, write_short};
-use crate::source::{Reading, move_to, parsed, spots};
-use crate::style::Style;
-use lossless_tree::{SyntaxElement, SyntaxKind, TextSize};
-use rust_report::{Row, Spots, label_of, outline, word_of};
-use serde::Serialize;
-use std::alloc::{AllocError, Global};
+use crate::json;
+use crate::options::{Asked, Form};
+use crate::shown::{write_indent, write_place, write_short};
+use crate::source::{Source, move_to, parsed, spots};
+use lossless_tree::TextSize;
+use rust_report::{Row, Spot, Spots, label_line, label_of, outline, word_of};
+use std::alloc::Global;
 use std::io;
 use std::io::Write;
 
-// An item as an object of JSON. The line and the column count from 1, the column in characters, and are those of the item's label, if it
-// has one. `start` and `end` are the item's offsets in bytes, with its attributes and documentation. An item without a label has an empty
-// name.
-#[derive(Drop, Serialize)]
-struct Item<'a> {
-    path: &'a str,
-    line: u64,
-    column: u64,
-    kind: &'a str,
-    name: &'a str,
-    depth: usize,
-    start: u32,
-    end: u32,
+// Where the label of an item starts, or the item if it has none.
+fn start_of(row: &Row) -> TextSize {
+    match label_of(row) {
+        Some(label) => label.text_range().start(),
+        None => row.item.text_range().start(),
+    }
 }
 
-// Where the head of an `impl` ends: before its `where` or its items, or at its end.
-fn head_end(row: &Row) -> TextSize {
-    for child in row.item.children() {
-        if matches!(
-            child.kind(),
-            SyntaxKind::WHERE_CLAUSE | SyntaxKind::ASSOC_ITEM_LIST
-        ) {
-            return child.text_range().start();
-        }
-    }
-    row.item.text_range().end()
+// The line and the column count from 1, the column in characters, and are those of the item's label, if it has one. `start` and `end` are
+// the item's offsets in bytes, with its attributes and documentation. An item without a label has an empty name.
+fn write_json<W: Write>(
+    out: &mut W,
+    path: &str,
+    at: Spot,
+    row: &Row,
+    label: &str,
+) -> io::Result<()> {
+    json::write_path(out, path)?;
+    json::write_spot(out, at)?;
+    json::write_text(out, "kind", word_of(row.item.kind()))?;
+    json::write_text(out, "name", label)?;
+    json::write_numbers(out, &[("depth", row.depth as u64)])?;
+    json::write_range(out, row.item.text_range())?;
+    json::write_end(out)
 }
 
-// The text of an item's label; for an `impl`, that from the label up to the end of its head.
-fn label_text<'a>(row: &'a Row, label: &'a SyntaxElement) -> &'a str {
-    if row.item.kind() != SyntaxKind::IMPL {
-        return label.text();
+fn write_text<W: Write>(out: &mut W, row: &Row, label: &str) -> io::Result<()> {
+    let kind = word_of(row.item.kind());
+    write_indent(out, row.depth)?;
+    if label.is_empty() {
+        return writeln!(out, "{kind}");
     }
-    let start = row.item.text_range().start().raw();
-    let from = label.text_range().start().raw().saturating_sub(start) as usize;
-    let to = head_end(row).raw().saturating_sub(start) as usize;
-    row.item.as_str().get(from..to).unwrap_or("")
-}
-
-// A text with one blank in place of each run of white space.
-fn in_one_line(alloc: Global, text: &str) -> Result<String, AllocError> {
-    let mut line = String::new(alloc);
-    for word in text.split_whitespace() {
-        if !line.is_empty() {
-            line.push(' ')?;
-        }
-        line.push_str(word)?;
-    }
-    Ok(line)
+    write!(out, "{kind} ")?;
+    write_short(out, label)
 }
 
 fn write_row<W: Write>(
@@ -70,66 +53,42 @@ fn write_row<W: Write>(
     path: &str,
     spots: &mut Spots<'_>,
     row: &Row,
-    format: Form,
-    style: Style,
+    asked: Asked,
 ) -> io::Result<()> {
-    let label = label_of(row);
-    let range = row.item.text_range();
-    let start = match &label {
-        Some(label) => label.text_range().start(),
-        None => range.start(),
-    };
-    let at = move_to(spots, start);
-    let kind = word_of(row.item.kind());
-    let shown = match &label {
-        Some(label) => in_one_line(alloc, label_text(row, label))?,
-        None => String::new(alloc),
-    };
-    let shown = shown.as_str();
-    match format {
-        Form::Json => write_line(
-            alloc,
-            out,
-            &Item {
-                path,
-                line: at.line,
-                column: at.column,
-                kind,
-                name: shown,
-                depth: row.depth,
-                start: range.start().raw(),
-                end: range.end().raw(),
-            },
-        ),
+    let at = move_to(spots, start_of(row));
+    let label = label_line(alloc, row)?;
+    match asked.format {
+        Form::Json => write_json(out, path, at, row, label.as_str()),
         Form::Text | Form::Github => {
-            write_place(out, path, at, style)?;
-            for _i in 0..row.depth {
-                out.write_all(b"  ")?;
-            }
-            if shown.is_empty() {
-                writeln!(out, "{kind}")
-            } else {
-                write!(out, "{kind} ")?;
-                write_short(out, shown)
-            }
+            write_place(out, path, at, asked.style)?;
+            write_text(out, row, label.as_str())
         }
     }
+}
+
+fn write_rows<W: Write>(
+    alloc: Global,
+    out: &mut W,
+    source: Source<'_>,
+    rows: &[Row],
+    asked: Asked,
+) -> Result<(), Failure> {
+    let mut spots = spots(alloc, source.text)?;
+    for row in rows {
+        write_row(alloc, out, source.name, &mut spots, row, asked)?;
+    }
+    Ok(())
 }
 
 /// Writes the items of a text. Returns 0: nothing counts as found.
 pub fn show<W: Write>(
     alloc: Global,
     out: &mut W,
-    name: &str,
-    text: &str,
-    reading: Reading,
-    format: Form,
-    style: Style,
+    source: Source<'_>,
+    asked: Asked,
 ) -> Result<u64, Failure> {
-    let parse = parsed(alloc, text, reading)?;
-    let mut spots = spots(alloc, text)?;
-    for row in &outline(alloc, parse.root())? {
-        write_row(alloc, out, name, &mut spots, row, format, style)?;
-    }
+    let parse = parsed(alloc, source.text, asked.reading)?;
+    let rows = outline(alloc, parse.root())?;
+    write_rows(alloc, out, source, rows.as_slice(), asked)?;
     Ok(0)
 }

@@ -1,11 +1,10 @@
 //! The tree of a text as a self-contained page of HTML: the text and the tree side by side. A click folds a node, and what is under the
 //! pointer in one of the two is highlighted in the other.
 
-use crate::failure::Failure;
 use crate::html::{in_html, write_head};
-use crate::names::kind_name;
+use crate::names::Named;
 use crate::tree::{Showing, is_shown};
-use lossless_tree::{NodeOrToken, SyntaxElement, SyntaxNode, WalkEvent};
+use lossless_tree::{NodeOrToken, SyntaxElement, SyntaxNode, TextRange, WalkEvent};
 use ras_front_end::SyntaxError;
 use std::alloc::Global;
 use std::io;
@@ -107,6 +106,27 @@ fn write_tokens<W: Write>(out: &mut W, root: &SyntaxNode) -> io::Result<()> {
     out.write_all(b"</pre>\n<div id=\"tree\">\n")
 }
 
+// Writes the front of a row, with its level and its range.
+fn write_front<W: Write>(
+    out: &mut W,
+    class: &str,
+    level: usize,
+    range: TextRange,
+) -> io::Result<()> {
+    let (start, end) = (range.start().raw(), range.end().raw());
+    write!(
+        out,
+        "<div class=\"{class}\" style=\"--d:{level}\" data-d=\"{level}\""
+    )?;
+    write!(out, " data-s=\"{start}\" data-e=\"{end}\">")
+}
+
+// Writes a text as a literal, with escapes, and the end of the row.
+fn write_quoted<W: Write>(alloc: Global, out: &mut W, text: &str) -> io::Result<()> {
+    let quoted = format!(in alloc; "{text:?}")?;
+    writeln!(out, " <b>{}</b></div>", in_html(quoted.as_str()))
+}
+
 // Writes a row of the tree: a node, or a token with its text.
 fn write_row<W: Write>(
     alloc: Global,
@@ -114,21 +134,18 @@ fn write_row<W: Write>(
     level: usize,
     element: &SyntaxElement,
 ) -> io::Result<()> {
-    let (kind, range) = (kind_name(alloc, element.kind())?, element.text_range());
-    let (start, end) = (range.start().raw(), range.end().raw());
-    let class = match element {
-        NodeOrToken::Node(_) => "n",
-        NodeOrToken::Token(_) => "t",
-    };
-    write!(
-        out,
-        "<div class=\"{class}\" style=\"--d:{level}\" data-d=\"{level}\" data-s=\"{start}\" data-e=\"{end}\">{kind}<i>@{start}..{end}</i>"
-    )?;
-    if let NodeOrToken::Token(token) = element {
-        let quoted = format!(in alloc; "{:?}", token.text())?;
-        write!(out, " <b>{}</b>", in_html(quoted.as_str()))?;
+    let (kind, range) = (Named(element.kind()), element.text_range());
+    match element {
+        NodeOrToken::Node(_) => {
+            write_front(out, "n", level, range)?;
+            writeln!(out, "{kind}<i>@{range}</i></div>")
+        }
+        NodeOrToken::Token(token) => {
+            write_front(out, "t", level, range)?;
+            write!(out, "{kind}<i>@{range}</i>")?;
+            write_quoted(alloc, out, token.text())
+        }
     }
-    out.write_all(b"</div>\n")
 }
 
 fn write_rows<W: Write>(
@@ -154,12 +171,9 @@ fn write_rows<W: Write>(
 
 fn write_errors<W: Write>(out: &mut W, errors: &[SyntaxError]) -> io::Result<()> {
     for error in errors {
-        let (start, end) = (error.range().start().raw(), error.range().end().raw());
+        write_front(out, "e", 0, error.range())?;
         let message = in_html(error.message());
-        writeln!(
-            out,
-            "<div class=\"e\" style=\"--d:0\" data-d=\"0\" data-s=\"{start}\" data-e=\"{end}\">error {start}..{end}: {message}</div>"
-        )?;
+        writeln!(out, "error {}: {message}</div>", error.range())?;
     }
     Ok(())
 }
@@ -172,11 +186,11 @@ pub fn show<W: Write>(
     root: &SyntaxNode,
     errors: &[SyntaxError],
     showing: &Showing,
-) -> Result<(), Failure> {
+) -> io::Result<()> {
     write_head(out, name)?;
     out.write_all(STYLE.as_bytes())?;
     write_tokens(out, root)?;
     write_rows(alloc, out, root, showing)?;
     write_errors(out, errors)?;
-    Ok(out.write_all(SCRIPT.as_bytes())?)
+    out.write_all(SCRIPT.as_bytes())
 }

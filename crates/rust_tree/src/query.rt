@@ -1,80 +1,65 @@
 //! The command `query`: nodes and tokens by their kinds and places.
 
 use crate::failure::Failure;
-use crate::json::write_line;
-use crate::names::kind_name;
-use crate::options::Form;
+use crate::json;
+use crate::options::{Asked, Form};
 use crate::shown::{write_place, write_short};
-use crate::source::{Reading, move_to, parsed, spots};
-use crate::style::Style;
+use crate::source::{Source, move_to, parsed, spots};
 use lossless_tree::SyntaxElement;
 use rust_report::{Spots, Step, query};
-use serde::Serialize;
 use std::alloc::Global;
 use std::io;
 use std::io::Write;
 
-// A node or token as an object of JSON. The line and the column count from 1, the column in characters; `start` and `end` are
-// offsets in bytes.
-#[derive(Drop, Serialize)]
-struct Match<'a> {
-    path: &'a str,
-    line: u64,
-    column: u64,
-    start: u32,
-    end: u32,
-    kind: &'a str,
-    text: &'a str,
-}
-
+// In JSON, the line and the column count from 1, the column in characters; `start` and `end` are offsets in bytes.
 fn write_match<W: Write>(
-    alloc: Global,
     out: &mut W,
     path: &str,
     spots: &mut Spots<'_>,
     element: &SyntaxElement,
-    format: Form,
-    style: Style,
+    asked: Asked,
 ) -> io::Result<()> {
     let range = element.text_range();
     let at = move_to(spots, range.start());
-    match format {
+    match asked.format {
         Form::Json => {
-            let kind = kind_name(alloc, element.kind())?;
-            let found = Match {
-                path,
-                line: at.line,
-                column: at.column,
-                start: range.start().raw(),
-                end: range.end().raw(),
-                kind: kind.as_str(),
-                text: element.text(),
-            };
-            write_line(alloc, out, &found)
+            json::write_path(out, path)?;
+            json::write_spot(out, at)?;
+            json::write_range(out, range)?;
+            json::write_kind(out, element.kind())?;
+            json::write_text(out, "text", element.text())?;
+            json::write_end(out)
         }
         Form::Text | Form::Github => {
-            write_place(out, path, at, style)?;
+            write_place(out, path, at, asked.style)?;
             write_short(out, element.text())
         }
     }
+}
+
+fn write_matches<W: Write>(
+    alloc: Global,
+    out: &mut W,
+    source: Source<'_>,
+    found: &[SyntaxElement],
+    asked: Asked,
+) -> Result<u64, Failure> {
+    let mut spots = spots(alloc, source.text)?;
+    for element in found {
+        write_match(out, source.name, &mut spots, element, asked)?;
+    }
+    Ok(found.len() as u64)
 }
 
 /// Writes the nodes and tokens that match a pattern. Returns their number.
 pub fn show<W: Write>(
     alloc: Global,
     out: &mut W,
-    path: &str,
-    text: &str,
+    source: Source<'_>,
     steps: &[Step],
-    reading: Reading,
-    format: Form,
-    style: Style,
+    asked: Asked,
 ) -> Result<u64, Failure> {
-    let parse = parsed(alloc, text, reading)?;
-    let mut spots = spots(alloc, text)?;
+    let parse = parsed(alloc, source.text, asked.reading)?;
     let found = query(alloc, parse.root(), steps)?;
-    for element in &found {
-        write_match(alloc, out, path, &mut spots, element, format, style)?;
-    }
-    Ok(found.len() as u64)
+    write_matches(alloc, out, source, found.as_slice(), asked)
 }

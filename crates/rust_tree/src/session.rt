@@ -1,5 +1,6 @@
 //! Counts of a run, and its exit status.
 
+use rust_report::noun_for;
 use std::io;
 use std::io::IsTerminal;
 use std::time::Instant;
@@ -20,6 +21,20 @@ const SHOWN: u64 = 50;
 // If standard error is no terminal, it gets a line each time that this many were read.
 const NOTED: u64 = 1000;
 
+/// The noun for what a command finds.
+#[derive(Clone, Copy, Debug)]
+pub struct Noun {
+    /// For one.
+    pub one: &'static str,
+    /// For any other number.
+    pub many: &'static str,
+}
+
+const FILES: Noun = Noun {
+    one: "file",
+    many: "files",
+};
+
 /// Counts of a run.
 #[derive(Clone, Copy, Debug)]
 pub struct Session {
@@ -35,16 +50,24 @@ pub struct Session {
     is_terminal: bool,
 }
 
-// Writes a number with commas between thousands, to standard error.
-fn write_number(rt: &HostRuntime, number: u64) -> io::Result<()> {
+// Writes a number with commas between thousands, and its noun, to standard error.
+fn write_number(rt: &HostRuntime, number: u64, noun: Noun) -> io::Result<()> {
     let (millions, thousands, ones) = (number / 1_000_000, number / 1000 % 1000, number % 1000);
     if millions > 0 {
-        eprint!(rt; "{millions},{thousands:03},{ones:03}")
+        eprint!(rt; "{millions},{thousands:03},{ones:03} ")?;
     } else if thousands > 0 {
-        eprint!(rt; "{thousands},{ones:03}")
+        eprint!(rt; "{thousands},{ones:03} ")?;
     } else {
-        eprint!(rt; "{ones}")
+        eprint!(rt; "{ones} ")?;
     }
+    eprint!(rt; "{}", noun_for(number, noun.one, noun.many))
+}
+
+// Writes a number of bytes in megabytes, and a time in seconds, to standard error.
+fn write_costs(rt: &HostRuntime, bytes: u64, millis: u128) -> io::Result<()> {
+    let (whole, tenths) = (bytes / 1_000_000, bytes % 1_000_000 / 100_000);
+    let (seconds, hundredths) = (millis / 1000, millis % 1000 / 10);
+    eprint!(rt; ", {whole}.{tenths} MB, {seconds}.{hundredths:02} s, ")
 }
 
 impl Session {
@@ -91,30 +114,28 @@ impl Session {
     pub fn show_progress(&self, rt: &HostRuntime) -> io::Result<()> {
         if self.is_terminal && self.files % SHOWN == 0 {
             eprint!(rt; "\r")?;
-            write_number(rt, self.files)?;
-            eprint!(rt; " files\r")
+            write_number(rt, self.files, FILES)?;
+            eprint!(rt; "\r")
         } else if !self.is_terminal && self.files % NOTED == 0 {
-            write_number(rt, self.files)?;
-            eprintln!(rt; " files so far")
+            write_number(rt, self.files, FILES)?;
+            eprintln!(rt; " so far")
         } else {
             Ok(())
         }
     }
 
     /// Prints the totals to standard error, if there were many files, or several on a terminal.
-    pub fn tell(&self, rt: &HostRuntime, what: &str, start: Instant) -> io::Result<()> {
+    pub fn tell(&self, rt: &HostRuntime, found: Noun, start: Instant) -> io::Result<()> {
         if self.files < MANY && !(self.is_terminal && self.files > 1) {
             return Ok(());
         }
         let millis = start.elapsed(rt)?.as_millis();
-        let (seconds, hundredths) = (millis / 1000, millis % 1000 / 10);
-        let (whole, tenths) = (self.bytes / 1_000_000, self.bytes % 1_000_000 / 100_000);
         if self.is_terminal {
             eprint!(rt; "\r")?;
         }
-        write_number(rt, self.files)?;
-        eprint!(rt; " files, {whole}.{tenths} MB, {seconds}.{hundredths:02} s, ")?;
-        write_number(rt, self.found)?;
-        eprintln!(rt; " {what}")
+        write_number(rt, self.files, FILES)?;
+        write_costs(rt, self.bytes, millis)?;
+        write_number(rt, self.found, found)?;
+        eprintln!(rt)
     }
 }

@@ -1,4 +1,4 @@
-//! The parse and the lines of a text.
+//! Texts, their parses and their lines.
 
 use line_index::LineIndex;
 use lossless_tree::{SyntaxNode, TextSize};
@@ -6,7 +6,16 @@ use ras_front_end::{Edition, Entry, ParseError};
 use ras_parsing::{Parse, read};
 use rust_front::Rust;
 use rust_report::{Spot, Spots};
-use std::alloc::{AllocError, Global};
+use std::alloc::Global;
+
+/// A text with its name.
+#[derive(Clone, Copy)]
+pub struct Source<'a> {
+    /// The path of its file; `-` for standard input.
+    pub name: &'a str,
+    /// The text.
+    pub text: &'a str,
+}
 
 /// How a text is parsed.
 #[derive(Clone, Copy, Debug)]

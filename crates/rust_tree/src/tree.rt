@@ -1,15 +1,17 @@
 //! The command `tree`: the tree of a text, with its errors, printed during a walk.
 
 use crate::failure::Failure;
-use crate::names::kind_name;
-use crate::page;
-use crate::source::{Reading, lines, parsed};
+use crate::json::in_json;
+use crate::names::Named;
+use crate::shown::write_indent;
+use crate::source::{Reading, Source, lines, parsed};
+use crate::{json, page};
 use line_index::WideLineCol;
-use lossless_tree::{NodeOrToken, SyntaxElement, SyntaxNode, TextRange, TextSize, WalkEvent};
-use ras_front_end::SyntaxError;
+use lossless_tree::{NodeOrToken, SyntaxElement, SyntaxNode, SyntaxToken, TextRange, WalkEvent};
+use ras_front_end::{ParseError, SyntaxError};
 use ras_node::support::share;
-use rust_report::{Counts, count, offset_of};
-use std::alloc::{AllocError, Global};
+use rust_report::{Counts, count, noun_for, offset_of};
+use std::alloc::Global;
 use std::io;
 use std::io::Write;
 
@@ -57,11 +59,10 @@ pub fn is_shown(showing: &Showing, level: usize, element: &SyntaxElement) -> boo
     level < showing.depth && (showing.trivia || !element.is_trivia())
 }
 
-fn write_indent<W: Write>(out: &mut W, level: usize) -> io::Result<()> {
-    for _i in 0..level {
-        out.write_all(b"  ")?;
-    }
-    Ok(())
+fn write_token_text<W: Write>(alloc: Global, out: &mut W, token: &SyntaxToken) -> io::Result<()> {
+    let line = token.dump(alloc)?;
+    let (_, shown) = line.as_str().split_once('@').unwrap_or(("", ""));
+    write!(out, "{}@{shown}", Named(token.kind()))
 }
 
 fn write_text<W: Write>(
@@ -72,54 +73,27 @@ fn write_text<W: Write>(
 ) -> io::Result<()> {
     write_indent(out, level)?;
     match element {
-        NodeOrToken::Node(node) => {
-            let kind = kind_name(alloc, node.kind())?;
-            writeln!(out, "{kind}@{}", node.text_range())
-        }
-        NodeOrToken::Token(token) => {
-            let (kind, line) = (kind_name(alloc, token.kind())?, token.dump(alloc)?);
-            let (_, shown) = line.as_str().split_once('@').unwrap_or(("", ""));
-            write!(out, "{kind}@{shown}")
-        }
-    }
-}
-
-// A text as a string of JSON.
-fn quoted(alloc: Global, text: &str) -> io::Result<String> {
-    match serde_json::to_string(alloc, &text) {
-        Ok(text) => Ok(text),
-        Err(_) => Err(io::Error::from(io::ErrorKind::OutOfMemory)),
+        NodeOrToken::Node(node) => writeln!(out, "{}@{}", Named(node.kind()), node.text_range()),
+        NodeOrToken::Token(token) => write_token_text(alloc, out, token),
     }
 }
 
 // Writes the front of an element's object. The topmost element has no object of its own: its keys are those of the object of the file.
-fn write_json<W: Write>(
-    alloc: Global,
-    out: &mut W,
-    level: usize,
-    element: &SyntaxElement,
-) -> io::Result<()> {
-    let (kind, range) = (kind_name(alloc, element.kind())?, element.text_range());
-    let (start, end) = (range.start().raw(), range.end().raw());
+fn write_json<W: Write>(out: &mut W, level: usize, element: &SyntaxElement) -> io::Result<()> {
     out.write_all(if level > 0 { b"{" } else { b"," })?;
-    write!(out, "\"kind\":\"{kind}\",\"start\":{start},\"end\":{end},")?;
+    write!(out, "\"kind\":\"{}\"", Named(element.kind()))?;
+    json::write_range(out, element.text_range())?;
     match element {
-        NodeOrToken::Node(_) => write!(out, "\"children\":["),
-        NodeOrToken::Token(token) => {
-            let text = quoted(alloc, token.text())?;
-            write!(out, "\"text\":{text}")
-        }
+        NodeOrToken::Node(_) => out.write_all(b",\"children\":["),
+        NodeOrToken::Token(token) => json::write_text(out, "text", token.text()),
     }
 }
 
-fn write_sexp<W: Write>(alloc: Global, out: &mut W, element: &SyntaxElement) -> io::Result<()> {
-    let kind = kind_name(alloc, element.kind())?;
+fn write_sexp<W: Write>(out: &mut W, element: &SyntaxElement) -> io::Result<()> {
+    write!(out, "({}", Named(element.kind()))?;
     match element {
-        NodeOrToken::Node(_) => write!(out, "({kind}"),
-        NodeOrToken::Token(token) => {
-            let text = quoted(alloc, token.text())?;
-            write!(out, "({kind} {text}")
-        }
+        NodeOrToken::Node(_) => Ok(()),
+        NodeOrToken::Token(token) => write!(out, " \"{}\"", in_json(token.text())),
     }
 }
 
@@ -176,8 +150,8 @@ fn write_element<W: Write>(
 ) -> io::Result<()> {
     match drawing {
         Drawing::Text | Drawing::Html => write_text(alloc, out, level, element),
-        Drawing::Json => write_json(alloc, out, level, element),
-        Drawing::Sexp => write_sexp(alloc, out, element),
+        Drawing::Json => write_json(out, level, element),
+        Drawing::Sexp => write_sexp(out, element),
     }
 }
 
@@ -257,78 +231,84 @@ fn write_errors<W: Write>(out: &mut W, errors: &[SyntaxError]) -> io::Result<()>
 }
 
 // Writes the front of a file's object of JSON: its path and its errors.
-fn write_file<W: Write>(
-    alloc: Global,
-    out: &mut W,
-    path: &str,
-    errors: &[SyntaxError],
-) -> io::Result<()> {
-    write!(out, "{{\"path\":{},\"errors\":[", quoted(alloc, path)?)?;
+fn write_file<W: Write>(out: &mut W, path: &str, errors: &[SyntaxError]) -> io::Result<()> {
+    json::write_path(out, path)?;
+    out.write_all(b",\"errors\":[")?;
     let mut is_first = true;
     for error in errors {
-        let range = error.range();
-        let (start, end) = (range.start().raw(), range.end().raw());
-        let message = quoted(alloc, error.message())?;
-        out.write_all(if is_first { b"" } else { b"," })?;
-        write!(
-            out,
-            "{{\"start\":{start},\"end\":{end},\"message\":{message}}}"
-        )?;
+        out.write_all(if is_first { b"{" } else { b",{" })?;
+        write!(out, "\"start\":{}", error.range().start().raw())?;
+        json::write_numbers(out, &[("end", error.range().end().raw() as u64)])?;
+        json::write_text(out, "message", error.message())?;
+        out.write_all(b"}")?;
         is_first = false;
     }
     out.write_all(b"]")
 }
 
-fn write_stats<W: Write>(
-    alloc: Global,
+// Writes a number, its noun, and what is to follow.
+fn write_count<W: Write>(
     out: &mut W,
-    name: &str,
-    text: &str,
+    count: u64,
+    one: &'static str,
+    many: &'static str,
+    end: &str,
+) -> io::Result<()> {
+    write!(out, "{count} {}{end}", noun_for(count, one, many))
+}
+
+fn write_stats<W: Write>(
+    out: &mut W,
+    source: Source<'_>,
     root: &SyntaxNode,
     errors: usize,
     drawing: Drawing,
 ) -> io::Result<()> {
     let Counts { nodes, tokens } = count(root);
-    let (bytes, depth) = (text.len(), depth_of(root));
+    let (bytes, levels) = (source.text.len() as u64, depth_of(root) as u64);
+    let errors = errors as u64;
     if matches!(drawing, Drawing::Json) {
-        let path = quoted(alloc, name)?;
-        return writeln!(
+        json::write_path(out, source.name)?;
+        json::write_numbers(
             out,
-            "{{\"path\":{path},\"bytes\":{bytes},\"nodes\":{nodes},\"tokens\":{tokens},\"levels\":{depth},\"errors\":{errors}}}"
-        );
+            &[("bytes", bytes), ("nodes", nodes), ("tokens", tokens)],
+        )?;
+        json::write_numbers(out, &[("levels", levels), ("errors", errors)])?;
+        return json::write_end(out);
     }
-    writeln!(
-        out,
-        "{bytes} bytes, {nodes} nodes, {tokens} tokens, {depth} levels, {errors} errors"
-    )
+    write_count(out, bytes, "byte", "bytes", ", ")?;
+    write_count(out, nodes, "node", "nodes", ", ")?;
+    write_count(out, tokens, "token", "tokens", ", ")?;
+    write_count(out, levels, "level", "levels", ", ")?;
+    write_count(out, errors, "error", "errors", "\n")
 }
 
-// The part of a tree; the whole tree if the text has no such place.
-fn part_of(
+// The range of a part; `None` if it is the whole tree, or the text has no such place.
+fn range_of(
     alloc: Global,
     text: &str,
     root: &SyntaxNode,
-    part: &Part,
-) -> Result<SyntaxElement, Failure> {
+    part: Part,
+) -> Result<Option<TextRange>, ParseError> {
     let range = match part {
         Part::Whole => None,
-        Part::Range(range) => Some(*range),
-        Part::At(at) => offset_of(&lines(alloc, text)?, *at).map(TextRange::empty),
+        Part::Range(range) => Some(range),
+        Part::At(at) => offset_of(&lines(alloc, text)?, at).map(TextRange::empty),
     };
     Ok(match range {
-        None => NodeOrToken::Node(share(root)),
-        Some(range) if range.end() > root.text_range().end() => NodeOrToken::Node(share(root)),
-        Some(range) => match root.token_at_offset(range.start()).right_biased() {
-            Some(token) => {
-                if range.is_empty() {
-                    NodeOrToken::Token(token)
-                } else {
-                    root.covering_element(range)
-                }
-            }
-            None => root.covering_element(range),
-        },
+        Some(range) if range.end() <= root.text_range().end() => Some(range),
+        _ => None,
     })
+}
+
+// The token at an empty range, or the deepest node or token around a range.
+fn around(root: &SyntaxNode, range: TextRange) -> SyntaxElement {
+    if range.is_empty() {
+        if let Some(token) = root.token_at_offset(range.start()).right_biased() {
+            return NodeOrToken::Token(token);
+        }
+    }
+    root.covering_element(range)
 }
 
 // The node that a page shows: the part itself, or the parent of a token.
@@ -339,45 +319,71 @@ fn node_of(root: &SyntaxNode, part: &SyntaxElement) -> SyntaxNode {
     }
 }
 
-/// Writes the tree of a text and, in the forms of text and JSON, its errors. Returns 0: nothing counts as found.
-pub fn show<W: Write>(
+fn write_shown<W: Write>(
     alloc: Global,
     out: &mut W,
     name: &str,
-    text: &str,
-    reading: Reading,
+    root: &SyntaxNode,
+    part: &SyntaxElement,
+    errors: &[SyntaxError],
+    showing: &Showing,
+) -> io::Result<()> {
+    match showing.drawing {
+        Drawing::Html => page::show(alloc, out, name, &node_of(root, part), errors, showing),
+        Drawing::Json => {
+            write_file(out, name, errors)?;
+            write_part(alloc, out, part, showing)?;
+            writeln!(out, "}}")
+        }
+        Drawing::Sexp => write_part(alloc, out, part, showing),
+        Drawing::Text => {
+            write_part(alloc, out, part, showing)?;
+            match showing.part {
+                Part::Whole => write_errors(out, errors),
+                _ => Ok(()),
+            }
+        }
+    }
+}
+
+// Writes a tree and the errors of its text, or their numbers. Returns 0.
+fn write_tree<W: Write>(
+    alloc: Global,
+    out: &mut W,
+    source: Source<'_>,
+    root: &SyntaxNode,
+    errors: &[SyntaxError],
     showing: &Showing,
 ) -> Result<u64, Failure> {
-    let parse = parsed(alloc, text, reading)?;
-    let root = parse.root();
-    let errors = if reading.validates {
-        Some(parse.errors(alloc)?)
-    } else {
-        None
-    };
-    let errors = match &errors {
-        Some(errors) => errors.as_slice(),
-        None => parse.stored(),
-    };
     if showing.stats {
-        let drawing = showing.drawing;
-        write_stats(alloc, out, name, text, root, errors.len(), drawing)?;
+        write_stats(out, source, root, errors.len(), showing.drawing)?;
         return Ok(0);
     }
-    let part = part_of(alloc, text, root, &showing.part)?;
-    if matches!(showing.drawing, Drawing::Html) {
-        page::show(alloc, out, name, &node_of(root, &part), errors, showing)?;
-        return Ok(0);
-    }
-    if matches!(showing.drawing, Drawing::Json) {
-        write_file(alloc, out, name, errors)?;
-        write_part(alloc, out, &part, showing)?;
-        writeln!(out, "}}")?;
-        return Ok(0);
-    }
-    write_part(alloc, out, &part, showing)?;
-    if matches!(showing.drawing, Drawing::Text) && matches!(showing.part, Part::Whole) {
-        write_errors(out, errors)?;
-    }
+    let part = match range_of(alloc, source.text, root, showing.part)? {
+        Some(range) => around(root, range),
+        None => NodeOrToken::Node(share(root)),
+    };
+    write_shown(alloc, out, source.name, root, &part, errors, showing)?;
     Ok(0)
+}
+
+/// Writes the tree of a text and, in the forms of text and JSON, its errors; before it a line with the file's name if `named` is true.
+/// Returns 0: nothing counts as found.
+pub fn show<W: Write>(
+    alloc: Global,
+    out: &mut W,
+    source: Source<'_>,
+    reading: Reading,
+    named: bool,
+    showing: &Showing,
+) -> Result<u64, Failure> {
+    let parse = parsed(alloc, source.text, reading)?;
+    if named {
+        writeln!(out, "==> {} <==", source.name)?;
+    }
+    if !reading.validates {
+        return write_tree(alloc, out, source, parse.root(), parse.stored(), showing);
+    }
+    let errors = parse.errors(alloc)?;
+    write_tree(alloc, out, source, parse.root(), errors.as_slice(), showing)
 }
