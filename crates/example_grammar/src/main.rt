@@ -1,21 +1,32 @@
-//! Reads arithmetic by a front end over a grammar of its own, and prints the tree and the errors of its input.
+//! Reads arithmetic by a front end over a grammar of its own: the first line of its input as an expression, the rest as a file. It
+//! prints the tree and the errors of each.
 #![tactic(auto)]
 
 mod front;
 mod tables;
 
 use front::Arithmetic;
-use ra_ap_syntax::{Edition, SourceFile};
+use ra_ap_syntax::ast::Expr;
+use ra_ap_syntax::{Edition, Parse, SourceFile};
 use std::io;
 
-fn main(rt: HostRuntime) -> io::Result<()> {
-    let input = io::read_to_string(rt.alloc(), rt.reader())?;
-    let Ok(parse) = SourceFile::parse(rt.alloc(), input.as_str(), &Arithmetic, Edition::CURRENT)
-    else {
-        return println!(rt; "the text is too long, or memory ran out");
-    };
-    match parse.debug_dump(rt.alloc()) {
-        Ok(dump) => print!(rt; "{dump}"),
-        Err(_) => println!(rt; "memory ran out"),
+fn show<T>(rt: &HostRuntime, parse: &Parse<T>) -> anyhow::Result<()> {
+    print!(rt; "{}", parse.syntax_node().dump(rt.alloc())?)?;
+    for error in &parse.errors(rt.alloc())? {
+        println!(rt; "error {}: {error}", error.range())?;
     }
+    Ok(())
+}
+
+fn main(rt: HostRuntime) -> anyhow::Result<()> {
+    let input = io::read_to_string(rt.alloc(), rt.reader())?;
+    let (line, rest) = input.split_once('\n').unwrap_or((input.as_str(), ""));
+    show(
+        &rt,
+        &Expr::parse(rt.alloc(), line, &Arithmetic, Edition::CURRENT)?,
+    )?;
+    show(
+        &rt,
+        &SourceFile::parse(rt.alloc(), rest, &Arithmetic, Edition::CURRENT)?,
+    )
 }
