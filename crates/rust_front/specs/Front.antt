@@ -22,9 +22,8 @@ use Rattle.rust_lexer.specs.Single.{single_token_of}
 use Rattle.rust_words.specs.Keywords.{keyword_of}
 use Rattle.rust_words.specs.Strict.{is_strict_kind_of}
 use Rattle.event_layout.specs.Layout.{Laying, laid_of, outermost_of}
-use Rattle.rust_front.specs.declared.root.TheConstants.{ATTACHING}
 use Rattle.rust_front.specs.Pieces.{chosen_of, rule_by_number}
-use Rattle.rust_front.specs.Roots.{entry_rule_of, root_kind_of}
+use Rattle.rust_front.specs.Roots.{attaching_kinds, entry_rule_of, root_kind_of}
 use Rattle.rust_front.specs.Messages.{say_of, lexer_message_of, lexer_error_of}
 
 abbrev pub kinds_of : List Token → List SyntaxKind
@@ -41,7 +40,7 @@ abbrev pub reading_on : List Token → List ℕ → List LexError → Laying →
 reading_on ts text errors s = record { steps = s.steps ++ map (report_by (say_of ts)) s.faults; errors = map (lexer_error_of text) errors }
 
 unfoldable pub reading_with : SyntaxKind → List ℕ → List Token → List LexError → List Event → Reading
-reading_with root text ts errors events = reading_on ts text errors (laid_of root ATTACHING text ts events)
+reading_with root text ts errors events = reading_on ts text errors (laid_of root attaching_kinds text ts events)
 
 abbrev pub nothing_read : Reading
 nothing_read = record { steps = []; errors = [] }

@@ -25,9 +25,8 @@ use Rattle.rust_lexer.proofs.Kept.{lexed}
 use Rattle.event_layout.specs.Layout.{laid_of, outermost_of}
 use Rattle.event_layout.proofs.Laying.{laid, lie}
 use Rattle.event_layout.proofs.Kept.{kept}
-use Rattle.rust_front.specs.declared.root.TheConstants.{ATTACHING}
 use Rattle.rust_front.specs.Pieces.{number_of, reparser_on, chosen_of, rule_by_number}
-use Rattle.rust_front.specs.Roots.{entry_rule_of, expr_or_error_of, root_kind_of}
+use Rattle.rust_front.specs.Roots.{attaching_kinds, entry_rule_of, expr_or_error_of, root_kind_of}
 use Rattle.rust_front.specs.Messages.{say_of, lexer_error_of}
 use Rattle.rust_front.specs.Front.{made_of, reading_with, whole_of, whole_piece_of, parsed_of, piece_of, nothing_read, rust_front}
 
@@ -45,10 +44,10 @@ unfolding reading_with
 keeps is_root root events e text h u l =
     let x : IsLexed e text = lexed e text u l in
     let ts = tokens_of e text in
-    let s = laid_of root ATTACHING text ts events in
+    let s = laid_of root attaching_kinds text ts events in
     kept (say_of ts) is_root root s.faults (map (lexer_error_of text) (errors_of e text)) text s.steps h
-    (laid root ATTACHING text ts events l x.cut)
-    (lie root ATTACHING text ts events l x.cut)
+    (laid root attaching_kinds text ts events l x.cut)
+    (lie root attaching_kinds text ts events l x.cut)
     (errors_lie text (length text) (errors_of e text) x.lie)
 
 expr_or_error : (b : Bool) (k : SyntaxKind) → is_expr k ≡ b → IsRootOf Expr (if b then k else Token token.ERROR)

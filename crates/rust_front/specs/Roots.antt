@@ -1,5 +1,5 @@
--- The rule and the root of a text.
-use Rattle.std.specs.Prelude.{if◌then◌else◌, Option, Some, None}
+-- The rule and the root of a text, and the nodes that take comments.
+use Rattle.std.specs.Prelude.{if◌then◌else◌, Option, Some, None, List, [], ◌∷◌}
 use Rattle.syntax_kind.specs.declared.syntax_kind.SyntaxKind.{SyntaxKind}
 use Rattle.syntax_kind.specs.declared.syntax_kind.SyntaxKind.TheVariants.{Token, Node}
 use Rattle.syntax_kind.specs.declared.syntax_kind.token_kind.TokenKind.TheVariants as token
@@ -22,3 +22,11 @@ expr_or_error_of (Some k) = if is_expr k then k else Token token.ERROR
 abbrev pub root_kind_of : Entry → Option SyntaxKind → SyntaxKind
 root_kind_of SourceFile top = Node node.SOURCE_FILE
 root_kind_of Expr top = expr_or_error_of top
+
+-- the kinds of nodes that take the comments before them: items, fields and variants
+-- (Upstream: `n_attached_trivias` of rust-analyzer's `parser`.)
+abbrev pub attaching_kinds : List SyntaxKind
+attaching_kinds =
+    Node node.FN ∷ Node node.STRUCT ∷ Node node.IMPL ∷ Node node.CONST ∷ Node node.ENUM ∷ Node node.MACRO_CALL ∷
+    Node node.MACRO_DEF ∷ Node node.MACRO_RULES ∷ Node node.MODULE ∷ Node node.RECORD_FIELD ∷ Node node.STATIC ∷ Node node.TRAIT ∷
+    Node node.TUPLE_FIELD ∷ Node node.TYPE_ALIAS ∷ Node node.UNION ∷ Node node.USE ∷ Node node.VARIANT ∷ Node node.EXTERN_CRATE ∷ []

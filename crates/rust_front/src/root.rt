@@ -1,6 +1,6 @@
 //! The rule and the root of a text, and the nodes that take comments.
 ghost use Rattle.std.specs.Prelude.{◌≡◌};
-ghost use Rattle.rust_front.specs.Roots.{entry_rule_of, expr_or_error_of, root_kind_of};
+ghost use Rattle.rust_front.specs.Roots.{attaching_kinds, entry_rule_of, expr_or_error_of, root_kind_of};
 
 use ras_front_end::Entry;
 use ras_node::KindSet;
@@ -32,7 +32,7 @@ static ATTACHING: [SyntaxKind; 18] = [
 
 /// The kinds of nodes that take the comments before them.
 pub fn attaching() -> &'static [SyntaxKind]
-    ensures { result.now ≡ ATTACHING }
+    ensures { result.now ≡ attaching_kinds }
 {
     &ATTACHING
 }
