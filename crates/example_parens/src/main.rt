@@ -2,7 +2,7 @@
 #![tactic(auto)]
 
 use line_index::LineIndex;
-use ra_ap_syntax::{AstNode, Edition, ParseError, SourceFile, ast};
+use ra_ap_syntax::{AstNode, Edition, ParseError, SourceFile, SyntaxNode, ast};
 use rust_front::Rust;
 use std::alloc::{AllocError, Global};
 use std::fmt::Write;
@@ -23,20 +23,12 @@ fn is_needless(pair: &ast::ParenExpr) -> bool {
 }
 
 // Columns count bytes, from 1.
-fn push_pair(
-    out: &mut String,
-    lines: &LineIndex<'_>,
-    pair: &ast::ParenExpr,
-) -> Result<(), AllocError> {
-    let Some(at) = lines.line_col(pair.syntax().text_range().start()) else {
-        return Ok(());
-    };
-    let (line, column) = (at.line.saturating_add(1), at.col.saturating_add(1));
-    writeln!(
-        out,
-        "{line}:{column}: {} needs no parentheses",
-        pair.syntax().as_str()
-    )
+fn push_pair(out: &mut String, lines: &LineIndex<'_>, pair: &SyntaxNode) -> Result<(), AllocError> {
+    if let Some(at) = lines.line_col(pair.text_range().start()) {
+        let (line, column) = (at.line.saturating_add(1), at.col.saturating_add(1));
+        write!(out, "{line}:{column}: ")?;
+    }
+    writeln!(out, "{} needs no parentheses", pair.as_str())
 }
 
 fn lint(alloc: Global, text: &str) -> Result<String, ParseError> {
@@ -46,13 +38,11 @@ fn lint(alloc: Global, text: &str) -> Result<String, ParseError> {
     let lines = LineIndex::new(alloc, text)?;
     let file = SourceFile::parse(alloc, text, &Rust, Edition::CURRENT)?;
     let mut out = String::new(alloc);
-    for pair in file
-        .syntax_node()
-        .descendants()
-        .filter_map(ast::ParenExpr::cast)
-    {
-        if is_needless(&pair) {
-            push_pair(&mut out, &lines, &pair)?;
+    for node in file.syntax_node().descendants() {
+        if let Some(pair) = ast::ParenExpr::cast(node) {
+            if is_needless(&pair) {
+                push_pair(&mut out, &lines, pair.syntax())?;
+            }
         }
     }
     Ok(out)
