@@ -69,19 +69,32 @@ impl<T: Drop, A: Allocator> Shared<T, A> {
 impl<T: Drop, A: Allocator> Drop for Shared<T, A> {
     #[inline(always)]
     fn drop(self) {
-        if let Some((value, block)) = self.remove_owner() {
-            free_last(value, block);
+        if self.is_last() {
+            self.leave_last();
+        } else {
+            self.leave();
         }
     }
 }
 
-// The last owner drops the value and frees its block.
-#[cold]
-#[inline(never)]
-fn free_last<T: Drop, A: Allocator>(value: T, block: Vacant<Block<T, A>, A>) {
-    let alloc = block.free();
-    drop(value);
-    drop(alloc);
+impl<T: Drop, A: Allocator> Shared<T, A> {
+    // Removes this owner; the last one drops the value and frees the block. Since `drop` calls `is_last` first, the compiler knows
+    // that `remove_owner` returns `None` for the other owners, and writes no `Option` with a value to the stack.
+    #[inline(always)]
+    fn leave(self) {
+        if let Some((value, block)) = self.remove_owner() {
+            let alloc = block.free();
+            drop(value);
+            drop(alloc);
+        }
+    }
+
+    // The same for the last owner, out of line.
+    #[cold]
+    #[inline(never)]
+    fn leave_last(self) {
+        self.leave();
+    }
 }
 
 impl<T: Drop, A: Allocator> Clone for Shared<T, A> {

@@ -45,6 +45,16 @@ impl<T, A: Allocator> Shared<T, A> {
         Shared { ptr }
     }
 
+    /// Whether this is the only owner. It has no contract: its caller is right for either result, and only faster for the right
+    /// one.
+    pub(super) fn is_last(&self) -> bool {
+        let ptr = self.ptr.cast_mut();
+        unsafe {
+            let count = (*ptr).count;
+            count == 1
+        }
+    }
+
     /// Removes an owner. The last one gets the value and its block; a full count stays as it is.
     pub(super) fn remove_owner(self) -> Option<(T, Vacant<Block<T, A>, A>)>
         ensures { IfSome result (λ last. last.0 ≡ self.value) }
