@@ -11,19 +11,27 @@ use content::Content;
 
 const CALLS: [Call; 3] = [Call::StringValue, Call::BytesValue, Call::Units];
 
-const CONTENTS: [Content; 3] = [Content::Plain, Content::Escapes, Content::Raw];
+const CONTENTS: [Content; 7] = [
+    Content::Plain,
+    Content::Escapes,
+    Content::Raw,
+    Content::ShortEscapes,
+    Content::UnicodeEscapes,
+    Content::WideCharacters,
+    Content::Continuations,
+];
 
-// How many pieces of four bytes a content has, and how often it is measured.
-const LENGTHS: [(u32, u32); 4] = [(2_500, 50), (25_000, 20), (250_000, 5), (2_500_000, 3)];
+// How many hundred bytes a content has, and how often it is measured.
+const LENGTHS: [(u32, u32); 4] = [(100, 50), (1_000, 20), (10_000, 5), (100_000, 3)];
 
 fn time_call(
     rt: &HostRuntime,
     call: Call,
     content: Content,
-    pieces: u32,
+    hundreds: u32,
     runs: u32,
 ) -> Result<(), Stopped> {
-    let literal = content.literal(rt.alloc(), pieces)?;
+    let literal = content.literal(rt.alloc(), hundreds)?;
     let text = literal.as_str();
     let (least, seen) = least_time(rt, runs, 0, || call.run(rt.alloc(), text))?;
     println!(rt;
@@ -37,10 +45,12 @@ fn time_call(
 
 /// Measures every length, the short ones first.
 pub fn time_literals(rt: &HostRuntime) -> Result<(), Stopped> {
-    for (pieces, runs) in LENGTHS {
+    for (hundreds, runs) in LENGTHS {
         for content in CONTENTS {
             for call in CALLS {
-                time_call(rt, call, content, pieces, runs)?;
+                if content.is_of_bytes() || !call.is_of_bytes() {
+                    time_call(rt, call, content, hundreds, runs)?;
+                }
             }
         }
     }

@@ -3,6 +3,7 @@
 
 mod fronts;
 mod literals;
+mod names;
 mod operators;
 mod rust;
 mod stopped;
@@ -32,7 +33,7 @@ fn run(rt: &HostRuntime) -> Result<(), Stopped> {
         }
     }
     println!(rt;
-        "usage: benches trees | fronts | operators | walks | literals | rust FILE ROUNDS"
+        "usage: benches trees | fronts | operators | walks | literals | names | rust FILE ROUNDS"
     )?;
     Ok(())
 }

@@ -2,6 +2,7 @@
 
 use crate::fronts::time_fronts;
 use crate::literals::time_literals;
+use crate::names::time_names;
 use crate::operators::time_operators;
 use crate::stopped::Stopped;
 use crate::trees::time_trees;
@@ -19,6 +20,8 @@ pub enum Suite {
     Walks,
     /// The values of string literals.
     Literals,
+    /// The kinds of all names.
+    Names,
 }
 
 impl Suite {
@@ -30,6 +33,7 @@ impl Suite {
             "operators" => Some(Suite::Operators),
             "walks" => Some(Suite::Walks),
             "literals" => Some(Suite::Literals),
+            "names" => Some(Suite::Names),
             _ => None,
         }
     }
@@ -42,6 +46,7 @@ impl Suite {
             Suite::Operators => time_operators(rt),
             Suite::Walks => time_walks(rt),
             Suite::Literals => time_literals(rt),
+            Suite::Names => time_names(rt),
         }
     }
 }

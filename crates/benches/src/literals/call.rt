@@ -33,6 +33,11 @@ impl Call {
         }
     }
 
+    /// Whether it reads a byte string.
+    pub fn is_of_bytes(self) -> bool {
+        matches!(self, Call::BytesValue)
+    }
+
     /// Calls it on a literal, and returns how many bytes or units it gave.
     pub fn run(self, alloc: Global, literal: &str) -> Result<usize, Stopped> {
         match self {

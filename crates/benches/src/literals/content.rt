@@ -9,6 +9,14 @@ pub enum Content {
     Escapes,
     /// The same in a raw string.
     Raw,
+    /// Escapes of one letter.
+    ShortEscapes,
+    /// Escapes of characters by their numbers.
+    UnicodeEscapes,
+    /// Characters of two and three bytes.
+    WideCharacters,
+    /// Line continuations with ten blanks each.
+    Continuations,
 }
 
 impl Content {
@@ -18,26 +26,42 @@ impl Content {
             Content::Plain => "plain",
             Content::Escapes => "escapes",
             Content::Raw => "raw",
+            Content::ShortEscapes => "short",
+            Content::UnicodeEscapes => "unicode",
+            Content::WideCharacters => "wide",
+            Content::Continuations => "continued",
         }
     }
 
-    // Four bytes of the content.
-    fn piece(self) -> &'static str {
+    /// Whether a byte string can have this content.
+    pub fn is_of_bytes(self) -> bool {
+        !matches!(self, Content::UnicodeEscapes | Content::WideCharacters)
+    }
+
+    // A piece of the content, and how often it stands in a hundred bytes.
+    fn piece(self) -> (&'static str, u32) {
         match self {
-            Content::Plain => "abcd",
-            Content::Escapes | Content::Raw => "\\x61",
+            Content::Plain => ("abcd", 25),
+            Content::Escapes | Content::Raw => ("\\x61", 25),
+            Content::ShortEscapes => ("\\n\\t\\\\\\0", 12),
+            Content::UnicodeEscapes => ("\\u{e9}\\u{1F600}", 6),
+            Content::WideCharacters => ("\u{e9}\u{4e2d}", 20),
+            Content::Continuations => ("\\\n          a", 7),
         }
     }
 
-    /// A literal with this many pieces.
-    pub fn literal(self, alloc: Global, pieces: u32) -> Result<String, AllocError> {
+    /// A literal with about this many hundred bytes.
+    pub fn literal(self, alloc: Global, hundreds: u32) -> Result<String, AllocError> {
+        let (piece, times) = self.piece();
         let mut text = String::new(alloc);
         if let Content::Raw = self {
             text.push('r')?;
         }
         text.push('"')?;
-        for _piece in 0..pieces {
-            text.push_str(self.piece())?;
+        for _hundred in 0..hundreds {
+            for _time in 0..times {
+                text.push_str(piece)?;
+            }
         }
         text.push('"')?;
         Ok(text)
