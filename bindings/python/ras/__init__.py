@@ -7,8 +7,8 @@
 >>> [it.text for it in tree.root.descendants() if it.kind == "BIN_EXPR"]
 ['(1 + 2) * 3', '1 + 2']
 
-There is a tree whatever the text is, and each byte of the text is in one token of it. One call reads a text; nodes and tokens are
-made as they are asked for. Offsets and ranges are in bytes of the text's UTF-8.
+There is a tree whatever the text is, and each byte of the text is in one token of it. One call reads a text; nodes and tokens
+are made on demand. Offsets and ranges are in bytes of the text's UTF-8.
 """
 import array
 import ctypes
@@ -48,7 +48,7 @@ _WHY = {
 
 
 def _had_room(status):
-    """Whether a call was done; False where a buffer was too small."""
+    """Whether a call was done; False if a buffer was too small."""
     if status == _raw.NOT_UTF8:
         raise ValueError("the text is not UTF-8")
     if status in _WHY:
@@ -69,7 +69,7 @@ class SyntaxError(Exception):
 
 @functools.lru_cache(maxsize=None)
 def kind_name(number):
-    """The name of the kind with this number, as "FN"; None where no kind has it."""
+    """The name of the kind with this number, as "FN"; None if no kind has it."""
     name = ctypes.create_string_buffer(64)
     length = _library.ras_c_kind_name(number, name, len(name))
     return name.raw[:length].decode() or None
@@ -77,7 +77,7 @@ def kind_name(number):
 
 @functools.lru_cache(maxsize=None)
 def kind_of_name(name):
-    """The number of the kind with this name; None where no kind has it."""
+    """The number of the kind with this name; None if no kind has it."""
     data = name.encode()
     number = _library.ras_c_kind_of_name(data, len(data))
     return None if number == _raw.NO_KIND else number
@@ -100,7 +100,7 @@ class Tree:
         self._tell(data, edition, functools.partial(_library.ras_c_read, data, len(data), edition))
 
     def _tell(self, data, edition, call):
-        """Takes what a call writes to its buffers, which is called again where they had too little room."""
+        """Takes what a call writes to its buffers, which is called again if they had too little room."""
         self.data, self.edition = data, edition
         counts = _raw.Counts()
         row_room, error_room, message_room = len(data) * 3 // 2 + 64, 16, 1024
@@ -153,7 +153,7 @@ class Tree:
 
 
 class Live:
-    """A text that is edited, and its parse, which stays with the library: one token or one block is parsed again where that is enough.
+    """A text that is edited, and its parse, which stays with the library: one token or one block is parsed again if that is enough.
 
     >>> live = Live("fn f() { a + b }")
     >>> live.edit(9, 10, "(c * d)")
@@ -171,9 +171,8 @@ class Live:
         weakref.finalize(self, _library.ras_c_free, ctypes.byref(self._handle))
 
     def edit(self, start, end, insert):
-        """Replaces the bytes from `start` to `end`. Where it raises, the text and its parse stay as they were: ValueError where the range
-        is none of the text, or does not start and end between characters; ParseError where the new text is too long, or memory ran
-        out.
+        """Replaces the bytes from `start` to `end`. If it raises, the text and its parse stay as they were: ValueError if the range is not
+        in the text, or does not start and end between characters; ParseError if the new text is too long, or memory ran out.
         """
         data = _bytes_of(insert)
         if not 0 <= start <= end <= len(self.data):
@@ -197,7 +196,7 @@ class Live:
 
 
 class Element:
-    """A node or a token of a tree. Two are equal where they are the same place of the same tree."""
+    """A node or a token of a tree. Two are equal if they are the same place of the same tree."""
 
     __slots__ = ("tree", "row")
 
@@ -266,7 +265,7 @@ class Element:
             row = child.subtree_end
 
     def child(self, kind):
-        """The first child of a kind; None where there is none."""
+        """The first child of a kind; None if there is none."""
         return next((it for it in self.children() if it.kind == kind), None)
 
     def descendants(self):

@@ -29,7 +29,7 @@ pub trait AstNode<'t>: Copy {
     /// Whether a node of this kind can be viewed so.
     fn can_cast(kind: SyntaxKind) -> bool;
 
-    /// The view of a node; `None` where it is of another kind.
+    /// The view of a node; `None` if it is of another kind.
     fn cast(syntax: Node<'t>) -> Option<Self>;
 
     /// The node.
@@ -41,7 +41,7 @@ pub trait AstToken<'t>: Copy {
     /// Whether a token of this kind can be viewed so.
     fn can_cast(kind: SyntaxKind) -> bool;
 
-    /// The view of a token; `None` where it is of another kind.
+    /// The view of a token; `None` if it is of another kind.
     fn cast(syntax: Token<'t>) -> Option<Self>;
 
     /// The token.

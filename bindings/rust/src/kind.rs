@@ -34,7 +34,7 @@ impl SyntaxKind {
         self.0
     }
 
-    /// Its name, as `"FN"`; `None` where no kind has its number.
+    /// Its name, as `"FN"`; `None` if no kind has its number.
     pub fn name(self) -> Option<&'static str> {
         use crate::kinds::{KNOWN, OTHERS};
         match KNOWN.get(self.0 as usize) {

@@ -8,7 +8,7 @@ use std::ptr;
 
 /// A text that is edited, whose parse stays with the library.
 ///
-/// After an edit one token or one block is parsed again where that is enough, as rust-analyzer does it; else all of the text is.
+/// After an edit one token or one block is parsed again if that is enough, as rust-analyzer does it; else all of the text is.
 /// The library counts the owners of its parse without a lock, so a `Live` stays on its thread: it is neither `Send` nor `Sync`.
 /// The trees that it gives are both.
 ///
@@ -81,7 +81,7 @@ impl Live {
     /// # Ok::<(), Box<dyn std::error::Error>>(())
     /// ```
     ///
-    /// It copies the text, also where one token is parsed again, and so takes time linear in it.
+    /// It copies the text, even if only one token is parsed again, and so takes time linear in it.
     pub fn edit(&mut self, delete: TextRange, insert: &str) -> Result<(), EditError> {
         let (start, end) = (u32::from(delete.start()), u32::from(delete.end()));
         // SAFETY: the inserted text is borrowed for the call, with its length; the handle is this value's own.

@@ -96,7 +96,7 @@ impl Hash for Place<'_> {
 
 /// A node of a tree. Copying one costs nothing.
 ///
-/// Two are equal where they are the same place of the same tree.
+/// Two are equal if they are the same place of the same tree.
 #[derive(Clone, Copy, PartialEq, Eq, Hash)]
 pub struct Node<'t> {
     place: Place<'t>,
@@ -104,7 +104,7 @@ pub struct Node<'t> {
 
 /// A token of a tree. Copying one costs nothing.
 ///
-/// Two are equal where they are the same place of the same tree.
+/// Two are equal if they are the same place of the same tree.
 #[derive(Clone, Copy, PartialEq, Eq, Hash)]
 pub struct Token<'t> {
     place: Place<'t>,
@@ -280,7 +280,7 @@ impl<'t> Node<'t> {
         self.descendants_with_tokens().rev().find_map(NodeOrToken::into_token)
     }
 
-    /// The tokens of this node that touch an offset of the tree's text: none outside of the node's text, and two where the offset
+    /// The tokens of this node that touch an offset of the tree's text: none outside of the node's text, and two if the offset
     /// is between two tokens. It takes time in the logarithm of the number of rows.
     ///
     /// ```

@@ -27,7 +27,7 @@ impl Parse {
         self.tree.errors()
     }
 
-    /// The file, where there are no errors; else these.
+    /// The file if there are no errors; else the errors.
     pub fn ok(&self) -> Result<SourceFile<'_>, &[SyntaxError]> {
         if self.errors().is_empty() { Ok(self.tree()) } else { Err(self.errors()) }
     }
@@ -50,7 +50,7 @@ impl SourceFile<'_> {
     ///
     /// # Panics
     ///
-    /// It panics where the text has 2^32 bytes or more, or where memory runs out; [`Tree::parse`] answers an error.
+    /// It panics if the text has 2^32 bytes or more, or if memory runs out; [`Tree::parse`] returns an error instead.
     pub fn parse(text: &str, edition: Edition) -> Parse {
         match Tree::parse(text, edition) {
             Ok(tree) => Parse { tree },

@@ -54,7 +54,7 @@ impl TextRange {
     ///
     /// # Panics
     ///
-    /// It panics where `end` is before `start`.
+    /// It panics if `end` is before `start`.
     pub fn new(start: TextSize, end: TextSize) -> TextRange {
         assert!(start <= end, "a range ends where it starts or later");
         TextRange { start, end }

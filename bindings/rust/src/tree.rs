@@ -177,7 +177,7 @@ impl Tree {
         })
     }
 
-    // The tree of a text that a call tells, and tells again where there was too little room.
+    // The tree of a text, from a call that fills the buffers and is repeated with larger ones if they were too small.
     pub(crate) fn told(
         text: Box<str>,
         edition: Edition,
@@ -246,7 +246,7 @@ impl Tree {
         Ok(found.collect())
     }
 
-    /// The tokens that touch an offset: none past the text's end, two where it is between two tokens.
+    /// The tokens that touch an offset: none past the text's end, two if it is between two tokens.
     pub fn token_at_offset(&self, offset: TextSize) -> TokenAtOffset<'_> {
         self.root().token_at_offset(offset)
     }

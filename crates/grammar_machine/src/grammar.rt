@@ -6,10 +6,10 @@
 use crate::event::Part;
 use syntax_kind::SyntaxKind;
 
-/// How the machine sees a token that is not trivia: the small numbers of kinds, 0 where a view has none.
+/// A token that is not trivia, as the machine sees it: numbers of kinds, 0 for none.
 ///
-/// Punctuation comes as single signs. What two or three of them make together, where nothing is between, is in the
-/// views `two` and `three` of the first.
+/// Punctuation comes as single signs. `two` and `three` are the kinds that this sign forms with the next one or two, with
+/// nothing between.
 #[derive(Clone, Copy, Debug, PartialEq, Eq)]
 pub struct Sight {
     /// The token's own kind.

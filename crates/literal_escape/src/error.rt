@@ -6,7 +6,7 @@ ghost use Rattle.literal_escape.specs.Messages.{message_of};
 use std::error::Error;
 use std::fmt;
 
-/// What is wrong with a unit of a literal, or worth a warning at it.
+/// An error or a warning at a unit of a literal.
 ///
 /// It prints as the message of a diagnostic. Two messages quote a raw carriage return (byte 0D).
 #[derive(Clone, Copy, Debug, PartialEq, Eq)]

@@ -9,7 +9,7 @@ use crate::mode::{MixedUnit, Mode};
 use crate::progress::{State, Step, advance, end_fault, is_blank};
 use std::ops::Range;
 
-/// Where a unit or a warning is, in bytes, and the meaning or the fault.
+/// A unit or a warning: its range in bytes, and its meaning or fault.
 #[derive(Clone, Copy)]
 pub struct Report {
     pub start: usize,

@@ -1,4 +1,4 @@
-//! What a value prints as, in a string that is allocated once.
+//! Formats a value into a string that is allocated once.
 ghost use Rattle.std.specs.Prelude.{◌≡◌, ◌+◌, length, IfOk, IfSome, string_bytes};
 
 use std::alloc::{AllocError, Global};

@@ -9,8 +9,8 @@ use syntax_kind::SyntaxKind;
 use text_size::TextSize;
 use tree_rows::Table;
 
-/// The children of a node from one on to the last, for readers that go over a tree in order and look at a few siblings at
-/// once. A clause sees a forest and the byte where its first tree starts.
+/// A child and all its later siblings, for code that reads a tree in order and looks ahead at a few siblings.
+/// A clause sees a forest and the byte where its first tree starts.
 ///
 /// No call takes memory, and each takes constant time but for `without_trivia`. A value is never changed: `rest` and `inside`
 /// give new ones. Where nothing is left, the kind is `OTHER(0)`, the text is empty, and `rest` and `inside` have nothing.

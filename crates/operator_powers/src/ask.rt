@@ -43,14 +43,14 @@ fn asks_at(own: &SyntaxNode, parent: &SyntaxNode, place: &SyntaxNode) -> bool
     )
 }
 
-/// No form of an operator tree.
+/// Whether the form is that of no operator tree.
 pub fn is_foreign(form: Form) -> bool
     ensures { result ≡ is_foreign form }
 {
     matches!(form, Form::Foreign)
 }
 
-/// A form that a term has: an expression of an operator tree.
+/// Whether a term can have the form: it is that of an expression of an operator tree.
 pub fn is_term_form(form: Form) -> bool
     ensures { result ≡ is_term_form form }
 {
@@ -75,7 +75,7 @@ fn is_own_parent(parent: &SyntaxNode, place: &SyntaxNode) -> bool
     }
 }
 
-/// A list of arguments.
+/// Whether it is a list of arguments.
 pub fn is_arguments(form: Form) -> bool
     ensures { result ≡ is_arguments form }
 {

@@ -9,8 +9,7 @@ ghost use Rattle.operator_powers.specs.Edges.{leaf_kind, pass, step, passed, sta
 use lossless_tree::{NodeOrToken, SyntaxElement, SyntaxNode};
 use syntax_kind::SyntaxKind;
 
-/// What was seen of a row of tokens: whether the last is `as`, whether the last two are `as` and a name, and whether no `<`
-/// or `<<` was after such two.
+/// Facts about a list of tokens: the last is `as`; the last two are `as` and a name; no such two are followed by `<` or `<<`.
 #[derive(Clone, Copy)]
 pub struct Edge {
     pub was_as: bool,

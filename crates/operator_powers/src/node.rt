@@ -98,14 +98,14 @@ pub fn form_powers(form: Form, trees: &SiblingsLeft<'_>) -> Strength
     }
 }
 
-/// A field.
+/// Whether it is a field.
 pub fn is_field_form(form: Form) -> bool
     ensures { result ≡ is_field_form form }
 {
     matches!(form, Form::Field)
 }
 
-/// A call.
+/// Whether it is a call.
 pub fn is_call_form(form: Form) -> bool
     ensures { result ≡ is_call_form form }
 {

@@ -109,7 +109,7 @@ pub fn by_power(own: Strength, parent: Strength, before: bool) -> bool
     binds_less(own, parent, before)
 }
 
-/// The rule on the starts of operators.
+/// Whether the operand's operator starts before the parent's, as if the operand were at the tested place.
 pub fn stands_before(order: usize, size: usize, from: usize, to: usize, parent: usize) -> bool
     ensures { result ≡ stands_before order size from to parent }
 {

@@ -164,7 +164,7 @@ fn first_is(here: &SiblingsLeft<'_>, wanted: What) -> bool
     }
 }
 
-/// What follows the first that is not trivia, if that is what is wanted.
+/// The siblings after the first that is not trivia, if that one is `wanted`.
 pub fn take<'t>(trees: &SiblingsLeft<'t>, wanted: What) -> Option<SiblingsLeft<'t>>
     ensures { option_map (λ s. assumed s.trees) result ≡ take wanted (assumed trees.now.trees) }
 {

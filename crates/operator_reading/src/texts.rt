@@ -60,7 +60,7 @@ pub fn fixed_text(kind: TokenKind) -> &'static str
     }
 }
 
-/// A text of its kind.
+/// Whether a token of this kind can have this text.
 pub fn text_fits(kind: SyntaxKind, text: &str) -> bool
     ensures { result ≡ text_fits kind text.now }
 {

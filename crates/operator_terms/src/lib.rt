@@ -1,5 +1,5 @@
 //! Operator expressions as terms: what they are, how their tokens read, which operands fit their places, and which
-//! parentheses may go.
+//! parentheses can be removed.
 //!
 //! The definitions are in `specs/`, in the order of `specs/Lib.antt`: terms and their tokens, the layered grammar that
 //! reads tokens, places and what they demand, pairs put in and taken out, the test by binding powers. The laws

@@ -137,8 +137,8 @@ pub fn non_trivia_sibling(element: SyntaxElement, direction: Direction) -> Optio
         .find(|sibling| !sibling.is_trivia())
 }
 
-/// The nearest sibling node in a direction that can be viewed as `me` is, or `None` if there is none. It passes over the
-/// siblings between, forwards in constant time each, backwards in the size of their subtrees.
+/// The nearest sibling node in a direction that can be cast to the type of `me`, or `None` if there is none. It passes over
+/// the siblings between, forwards in constant time each, backwards in the size of their subtrees.
 pub fn neighbor<T: AstNode>(me: &T, direction: Direction) -> Option<T>
     ensures { option_map T.node result ≡ find (has_kind_in T.casts) (filter at_node (siblings_beyond direction (T.node me.now))) }
 {

@@ -101,7 +101,7 @@ impl<N: AstNode> AstPtr<N> {
         }
     }
 
-    /// The same node viewed as the left of two.
+    /// The same pointer, with the view as the left of two types.
     pub fn wrap_left<R>(self) -> AstPtr<Either<N, R>>
     where
         Either<N, R>: AstNode,

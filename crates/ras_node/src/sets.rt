@@ -23,7 +23,7 @@ pub trait KindSet {
         ensures { result ≡ kinds kind };
 }
 
-/// The kinds of what follows an `else`.
+/// The kinds of `else` branches.
 pub enum ElseBranches {}
 
 impl KindSet for ElseBranches {
@@ -210,7 +210,7 @@ impl KindSet for Items {
     }
 }
 
-/// The kinds of what attributes say.
+/// The kinds of metas, the contents of attributes.
 pub enum Metas {}
 
 impl KindSet for Metas {

@@ -57,8 +57,10 @@ impl ExprPrecedence {
     /// Whether an expression of this precedence needs parentheses in one of precedence `other`, by precedences alone. It
     /// ignores on which side the expression is, so it often asks for parentheses that are not needed. It knows no context,
     /// so it asks for none in three cases that need them: a field that is called, a cast's name before `<` or `<<`, and a
-    /// record in a condition. In an unambiguous expression none are needed; in a postfix expression if this one binds less;
-    /// in a prefix expression too, unless this is a jump; in any other unless this one binds more.
+    /// record in a condition.
+    ///
+    /// Parentheses are never needed in an unambiguous expression. They are needed in a postfix expression if this one binds
+    /// less; in a prefix expression if this one binds less and is no jump; in any other unless this one binds more.
     pub fn needs_parentheses_in(self, other: ExprPrecedence) -> bool
         ensures { result ≡ needs_parentheses_in (as_precedence self) (as_precedence other) }
     {

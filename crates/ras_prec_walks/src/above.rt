@@ -40,10 +40,10 @@ fn hands_on(kind: SyntaxKind) -> bool
     )
 }
 
-/// Whether a block follows the children of an expression: it is a `for`, an `if`, a `match`, a `while` or an `include_bytes`, or
-/// a binary operator, a range, a prefix, `&`, `let` or a jump below such a one, or below one of these in its turn.
+/// Whether a block follows the expression's children: it is a `for`, `if`, `match`, `while` or `include_bytes`, or it is a binary
+/// operator, range, prefix, `&`, `let` or jump whose parent has this property.
 ///
-/// It takes time linear in the number of these ancestors.
+/// Takes time linear in the number of these ancestors.
 pub fn is_followed_by_block(node: &SyntaxNode) -> bool
     ensures { result ≡ is_followed_by_block node.now }
 {

@@ -9,8 +9,8 @@ ghost use Rattle.ras_prec_walks.specs.Turns.{is_found, goes_on, operand, past_to
 use lossless_tree::{SiblingsLeft, SyntaxKind, SyntaxNode};
 use ras_node::sets::{Exprs, KindSet, RangeOperators};
 
-/// What a walk looks for: a block or the like at the start of an expression; a brace at its end; a block, and any expression, at
-/// the first operand that is meant.
+/// What a walk looks for: a block-like expression at the start, a brace at the end, or, at the first operand to follow only, a
+/// block or any expression.
 #[derive(Clone, Copy)]
 pub enum Toward {
     Start,
@@ -19,7 +19,7 @@ pub enum Toward {
     Any,
 }
 
-/// Which expression is meant among the children that are left: the first, the second, or the first after `..` or `..=`.
+/// Which of the remaining expressions is the operand to follow: the first, the second, or the first after `..` or `..=`.
 #[derive(Clone, Copy)]
 pub enum Meant {
     First,
@@ -27,7 +27,7 @@ pub enum Meant {
     BehindDots,
 }
 
-/// The result of a walk's step at one child: the walk's result, or which expression is meant after the child, or inside it.
+/// The result of a walk's step at one child: the walk's result, or the operand to follow after the child or inside it.
 #[derive(Clone, Copy)]
 pub enum Turn {
     Answer(bool),

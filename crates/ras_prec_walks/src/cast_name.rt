@@ -68,8 +68,8 @@ fn last_leaf(node: &SyntaxNode) -> Option<SyntaxToken>
     algo::skip_trivia_token(node.last_token()?, Direction::Prev)
 }
 
-/// Whether the last token of an expression that is not trivia is a name, and ends the type of a cast in it too: `<` and `<<`
-/// after it would go on with that type.
+/// Whether the expression ends, trivia aside, with a name in the type of a cast. `<` or `<<` after it would be read as part of
+/// that type.
 ///
 /// It takes time linear in the trivia at the end, and in how deep that token is.
 pub fn ends_in_cast_name(node: &SyntaxNode) -> bool

@@ -185,8 +185,9 @@ fn holds(sought: Sought, top: &SyntaxNode) -> bool
     false
 }
 
-/// Whether a record is in the expression that no delimiters surround: the expression is one, or a side of its binary operator
-/// has one, or its base, receiver or operand has, of an index, `.await`, a field, a method call, a cast or a prefix.
+/// Whether the expression contains a record outside delimiters. It does if it is one; if it is a binary operator and a side
+/// contains one; or if it is an index, `.await`, field, method call, cast or prefix and its base, receiver or operand contains
+/// one.
 ///
 /// It walks the expression once, in time linear in it.
 pub fn has_exterior_record(node: &SyntaxNode) -> bool

@@ -1,8 +1,8 @@
-//! The program `rust_corpus`: asks the library about files of Rust, and counts the answers that a test of single texts can't show.
+//! The program `rust_corpus`: runs the library over lists of Rust files, and counts the answers that a test of single texts can't show.
 //!
 //! Standard input lists the files, a line each: an edition, a tab and a path. `edits N SEED` makes N random edits of each file, and
-//! compares the tree of the edited text, of which one token or one block was parsed again, with that of a new parse. `operators` asks
-//! of each operator expression whether it reads back, and which of its parentheses may go.
+//! compares the tree of the edited text, of which one token or one block was parsed again, with that of a new parse. `operators` tests
+//! for each operator expression whether it reads back, and which of its parentheses can be removed.
 //!
 //! For `edits` a line may also be `tiny` or `rust`, a tab and a short text, in which `\n` is a newline: every range of it is replaced
 //! by each of six words, and every token too. What differs from a plain model is printed, and then the status is 1. The lines of

@@ -37,7 +37,7 @@ pub fn names()
     ensures read { NamesAreRead }
 {}
 
-/// A character ends with the first quote that no backslash precedes; none is sought after a slash or in another line.
+/// A character ends with the first quote that no backslash precedes; the search stops at a slash and at a newline that no quote follows.
 pub fn characters()
     ensures read { CharactersAreRead }
     ensures contents { CharacterContentsAreRead }

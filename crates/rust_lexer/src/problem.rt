@@ -7,7 +7,7 @@ use literal_escape::{EscapeError, Mode};
 /// What is wrong with a token.
 #[derive(Clone, Copy, Debug, PartialEq, Eq)]
 pub enum Problem {
-    /// A block comment that the text ends.
+    /// A block comment without its closing `*/`.
     UnterminatedBlockComment,
     /// A name with an emoji.
     InvalidIdent,
@@ -30,11 +30,11 @@ pub enum Problem {
     UnterminatedChar,
     /// A byte without its closing quote.
     UnterminatedByte,
-    /// A string that the text ends.
+    /// A string without its closing quote.
     UnterminatedString,
-    /// A byte string that the text ends.
+    /// A byte string without its closing quote.
     UnterminatedByteString,
-    /// A C string that the text ends.
+    /// A C string without its closing quote.
     UnterminatedCString,
     /// A raw string without its opening or closing quote, or with more than 255 `#`.
     InvalidRawString,

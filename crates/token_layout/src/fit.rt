@@ -43,7 +43,7 @@ fn keep_error(kept: &mut Vec<Token>, text: &str) -> Result<(), AllocError>
 }
 
 /// Tokens that cut the text: those that are given, without those that end inside a character or after the text, and an `ERROR`
-/// over the bytes that these leave. It takes time and memory linear in the tokens.
+/// over the bytes at the end that no token covers. It takes time and memory linear in the tokens.
 pub fn fitted(alloc: Global, text: &str, tokens: &[Token]) -> Result<Vec<Token>, AllocError>
     ensures { IfOk result (λ v. v.items ≡ fitted_of tokens.now text.now) }
 {

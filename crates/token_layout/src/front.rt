@@ -18,8 +18,8 @@ use text_size::TextSize;
 
 /// The front end of a lexer and a parser. Whatever they return, a parse keeps the law of [`FrontEnd`]:
 ///
-/// - Tokens that end inside a character or after the text are left out, and what the others leave of the text is an `ERROR`. The
-///   parser sees the tokens after that. Those that cut the text are kept as they are.
+/// - Tokens that end inside a character or after the text are left out, and an `ERROR` is put over the bytes at the end that no
+///   token covers. The parser sees the tokens after that. Those that cut the text are kept as they are.
 /// - Nodes that cross, or reach past the tokens, are laid out as [`lay_out`] says.
 /// - Ranges of errors are cut off at the end of the text. Those of the parser are stored before those of the lexer.
 #[derive(Clone, Copy, Debug, Drop)]

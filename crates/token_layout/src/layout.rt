@@ -131,9 +131,9 @@ fn steps(
 /// The steps of one node of the kind `root` over all tokens, and in it of the nodes of `spans`.
 ///
 /// The spans are in the order in which their nodes end: inner ones before outer ones, and earlier before later ones.
-/// Where they are in another order, cross, or reach past the tokens, the steps still build one tree over all tokens, though
-/// perhaps not the one that was meant. A node over no token stays empty, and precedes a node that begins there, also where
-/// that ends later. It takes time and memory linear in the tokens and spans.
+/// If they are in another order, cross, or reach past the tokens, the steps still build one tree over all tokens, though
+/// perhaps not the one that was meant. An empty span becomes an empty node before all nonempty nodes that start at the same
+/// token. Takes time and memory linear in the tokens and spans.
 pub fn lay_out(
     alloc: Global,
     root: SyntaxKind,

@@ -18,10 +18,10 @@ pub enum BuilderEvent {
 pub trait TreeStep {
     ghost use Rattle.tree_rows.specs.declared.builder_event.BuilderEvent.{BuilderEvent};
 
-    // The event that the step is, or `None` if it is not one.
+    // The event of the step, or `None` if the step adds nothing to the tree.
     ghost step_event: { Self → Option BuilderEvent };
 
-    /// The event that the step is, or `None` if it has nothing to do with the tree.
+    /// The event of the step, or `None` if the step adds nothing to the tree.
     fn event(&self) -> Option<BuilderEvent>
         ensures { result ≡ step_event self.now };
 }

@@ -18,9 +18,9 @@ pub struct Kept {
     rows: Shared<Rows>,
     /// The starts of the rows after this one are shifted.
     at: usize,
-    /// A stored start of `from + k`
+    /// A stored start `from + k` of these rows stands for the start `to + k`.
     from: usize,
-    /// means the start `to + k`.
+    /// See `from`.
     to: usize,
 }
 

@@ -5,7 +5,7 @@ use super::{
 };
 use crate::{SyntaxKind, Token};
 
-/// What has a name.
+/// A node with a name.
 pub trait HasName<'t>: AstNode<'t> {
     /// The first child that is a name, if there is one.
     fn name(&self) -> Option<Name<'t>> {
@@ -13,7 +13,7 @@ pub trait HasName<'t>: AstNode<'t> {
     }
 }
 
-/// What may have a visibility.
+/// A node that can have a visibility.
 pub trait HasVisibility<'t>: AstNode<'t> {
     /// The first child that is a visibility, if there is one.
     fn visibility(&self) -> Option<Visibility<'t>> {
@@ -23,8 +23,8 @@ pub trait HasVisibility<'t>: AstNode<'t> {
 
 /// A loop.
 pub trait HasLoopBody<'t>: AstNode<'t> {
-    /// The body. Of a `for` or a `while` the first block may be what it goes over or its condition, so their body is the second
-    /// block, or the first where there is one alone.
+    /// The body. For a `loop` it is the first block among the children. The first block of a `for` or a `while` may be its
+    /// iterator or condition, so there the body is the second block, or the first if there is only one.
     fn loop_body(&self) -> Option<BlockExpr<'t>> {
         let mut blocks = support::children(self.syntax());
         let first = blocks.next();
@@ -45,7 +45,7 @@ pub trait HasArgList<'t>: AstNode<'t> {
     }
 }
 
-/// What items are in.
+/// A container of items.
 pub trait HasModuleItem<'t>: AstNode<'t> {
     /// The children that are items, in order.
     fn items(&self) -> AstChildren<'t, Item<'t>> {
@@ -53,7 +53,7 @@ pub trait HasModuleItem<'t>: AstNode<'t> {
     }
 }
 
-/// What may have generic parameters.
+/// A node that can have generic parameters.
 pub trait HasGenericParams<'t>: AstNode<'t> {
     /// The first child that is a list of generic parameters, if there is one.
     fn generic_param_list(&self) -> Option<GenericParamList<'t>> {
@@ -66,7 +66,7 @@ pub trait HasGenericParams<'t>: AstNode<'t> {
     }
 }
 
-/// What may have generic arguments.
+/// A node that can have generic arguments.
 pub trait HasGenericArgs<'t>: AstNode<'t> {
     /// The first child that is a list of generic arguments, if there is one.
     fn generic_arg_list(&self) -> Option<GenericArgList<'t>> {
@@ -74,7 +74,7 @@ pub trait HasGenericArgs<'t>: AstNode<'t> {
     }
 }
 
-/// What may have type bounds.
+/// A node that can have type bounds.
 pub trait HasTypeBounds<'t>: AstNode<'t> {
     /// The first child that is a list of type bounds, if there is one.
     fn type_bound_list(&self) -> Option<TypeBoundList<'t>> {
@@ -87,7 +87,7 @@ pub trait HasTypeBounds<'t>: AstNode<'t> {
     }
 }
 
-/// What may have attributes and documentation.
+/// A node that can have attributes and documentation.
 pub trait HasAttrs<'t>: AstNode<'t> {
     /// The children that are attributes, in order.
     fn attrs(&self) -> AstChildren<'t, Attr<'t>> {

@@ -125,14 +125,14 @@ impl SyntaxNode {
 }
 
 impl SyntaxNode {
-    /// The node's text, with `len` and `char_at` of upstream's type of this name. `as_str` gives the same as one slice.
+    /// The node's text as a `SyntaxText`. `as_str` returns the same text as a slice.
     pub fn text(&self) -> SyntaxText<'_>
         ensures { result ≡ text (focus self.now) }
     {
         SyntaxText::of_row(&self.table, self.row)
     }
 
-    /// The node's children, as siblings that are left to read.
+    /// The node's children as a `SiblingsLeft`, for code that reads whole trees.
     pub fn trees(&self) -> SiblingsLeft<'_>
         ensures { result ≡ record { trees = forest_of_children (focus self.now); start = range_start self.now } }
     {
@@ -231,9 +231,10 @@ impl SyntaxNode {
         Some(element(&self.table, row))
     }
 
-    /// What comes before this node in its parent, node or token; `None` for the first child and the root. It climbs from the
-    /// row before, so it takes time linear in the depth there; going back through all siblings takes time linear in the size
-    /// of their subtrees.
+    /// What comes before this node in its parent, node or token; `None` for the first child and the root.
+    ///
+    /// Takes time linear in the depth of the previous sibling's subtree. Going back through all siblings takes time linear in
+    /// the size of their subtrees.
     pub fn prev_sibling_or_token(&self) -> Option<SyntaxElement>
         ensures { result ≡ option_map element_of (prev_sibling_of self.now) }
     {

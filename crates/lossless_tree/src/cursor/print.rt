@@ -83,7 +83,7 @@ impl<N: fmt::Display, T: fmt::Display> fmt::Display for NodeOrToken<N, T> {
     }
 }
 
-/// As the node or the token in it prints for programmers.
+/// Prints what `{:?}` of the node or token prints.
 impl<N: fmt::Debug, T: fmt::Debug> fmt::Debug for NodeOrToken<N, T> {
     ghost debug_output = { by_case N.debug_output T.debug_output };
 

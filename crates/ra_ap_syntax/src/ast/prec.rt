@@ -94,7 +94,7 @@ impl ast::Type {
     }
 }
 
-/// Whether the tokens of the expression, read as an operator term, give the expression back; `None` if it shows no term.
+/// Whether the expression's tokens read as the term that it shows; `None` if it shows no term.
 ///
 /// This is true exactly if every operand fits its place. If the expression does not end in a cast's name that `<` or `<<`
 /// follows, it is also true exactly if no operand below it needs parentheses in its own parent, by

@@ -255,7 +255,8 @@ impl Table {
         Ok(Table::from_parts(spliced, rows))
     }
 
-    /// What is true of each row. It does nothing.
+    /// A law: the place of row `n` is in the tree, whose root is a node and whose text is UTF-8 of less than 2^32 bytes. The
+    /// function does nothing.
     pub fn placed(&self, n: usize)
         requires { n < size self.now }
         ensures { IsPlaced (cursor_at self.now n) }

@@ -97,7 +97,7 @@ pub type ExternItemList = Typed<{ raw::EXTERN_ITEM_LIST }>;
 /// A visibility: `pub`, `pub(in a)`.
 pub type Visibility = Typed<{ raw::VISIBILITY }>;
 
-/// What a visibility has in parentheses: `(crate)`, `(in a)`.
+/// The part of a visibility in parentheses: `(crate)`, `(in a)`.
 pub type VisibilityInner = Typed<{ raw::VISIBILITY_INNER }>;
 
 /// The statements that a macro expands to.

@@ -1,4 +1,4 @@
-//! What an attribute says. Made by `tests/views` from `views.txt`.
+//! The contents of an attribute. Made by `tests/views` from `views.txt`.
 ghost use Rattle.std.specs.Prelude.{◌≡◌, Some};
 ghost use Rattle.tree_model.specs.Tree.{text};
 ghost use Rattle.tree_model.specs.Cursor.{focus};
@@ -13,7 +13,7 @@ use ras_node::sets::{KindSet, Metas};
 use std::fmt;
 use std::hash::Hash;
 
-/// What an attribute says.
+/// The contents of an attribute.
 #[derive(Clone, PartialEq, Eq, Hash, Drop)]
 pub enum Meta {
     CfgAttrMeta(ast::CfgAttrMeta),

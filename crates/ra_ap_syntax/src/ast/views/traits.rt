@@ -7,7 +7,7 @@ ghost use Rattle.ras_node.specs.Nodes.{token_child, typed_children};
 use crate::ast::{self, AstChildren, AstNode, support};
 use lossless_tree::{SyntaxKind, SyntaxToken, T};
 
-/// What has a name.
+/// A node with a name.
 pub trait HasName: AstNode {
     /// The first child that is a name, if there is one.
     final fn name(&self) -> Option<ast::Name>
@@ -17,7 +17,7 @@ pub trait HasName: AstNode {
     }
 }
 
-/// What may have a visibility.
+/// A node that can have a visibility.
 pub trait HasVisibility: AstNode {
     /// The first child that is a visibility, if there is one.
     final fn visibility(&self) -> Option<ast::Visibility>
@@ -37,7 +37,7 @@ pub trait HasArgList: AstNode {
     }
 }
 
-/// What items are in.
+/// A container of items.
 pub trait HasModuleItem: AstNode {
     /// The children that are items, in order.
     final fn items(&self) -> AstChildren<ast::Item>
@@ -47,7 +47,7 @@ pub trait HasModuleItem: AstNode {
     }
 }
 
-/// What may have generic parameters.
+/// A node that can have generic parameters.
 pub trait HasGenericParams: AstNode {
     /// The first child that is a list of generic parameters, if there is one.
     final fn generic_param_list(&self) -> Option<ast::GenericParamList>
@@ -64,7 +64,7 @@ pub trait HasGenericParams: AstNode {
     }
 }
 
-/// What may have generic arguments.
+/// A node that can have generic arguments.
 pub trait HasGenericArgs: AstNode {
     /// The first child that is a list of generic arguments, if there is one.
     final fn generic_arg_list(&self) -> Option<ast::GenericArgList>
@@ -74,7 +74,7 @@ pub trait HasGenericArgs: AstNode {
     }
 }
 
-/// What may have type bounds.
+/// A node that can have type bounds.
 pub trait HasTypeBounds: AstNode {
     /// The first child that is a list of type bounds, if there is one.
     final fn type_bound_list(&self) -> Option<ast::TypeBoundList>
