@@ -775,7 +775,7 @@ fn time_all() {
     for (bytes, runs) in [(10_000, 50), (100_000, 20), (1_000_000, 5), (10_000_000, 3)] {
         time_parse(&format!("flat-{bytes}"), &FUNCTION.repeat(bytes / FUNCTION.len()), runs);
     }
-    for (bytes, runs) in [(1_000, 50), (100_000, 20), (1_000_000, 5), (10_000_000, 3)] {
+    for (bytes, runs) in [(1_000, 50), (10_000, 50), (100_000, 20), (1_000_000, 5), (10_000_000, 3)] {
         let text = wide(bytes);
         for (part, name) in [(0, "start"), (1, "middle"), (2, "end")] {
             time_edits(&format!("{name}-{bytes}"), &text, if bytes == 1_000 { 0 } else { at(&text, part) }, runs);

@@ -12,7 +12,13 @@ use text::{Input, Place};
 
 const PARSED: [(u32, u32); 4] = [(10_000, 50), (100_000, 20), (1_000_000, 5), (10_000_000, 3)];
 
-const EDITED: [(u32, u32); 4] = [(1_000, 50), (100_000, 20), (1_000_000, 5), (10_000_000, 3)];
+const EDITED: [(u32, u32); 5] = [
+    (1_000, 50),
+    (10_000, 50),
+    (100_000, 20),
+    (1_000_000, 5),
+    (10_000_000, 3),
+];
 
 /// Measures what is read, and then edits.
 pub fn time_fronts(rt: &HostRuntime) -> Result<(), Stopped> {

@@ -3,8 +3,11 @@
 use super::parse::print;
 use super::text::Input;
 use crate::stopped::Stopped;
-use crate::timing::time_once;
-use ra_ap_syntax::{Edition, Parse, SourceFile, TextRange, TextSize};
+use crate::timing::{least_of, time_once};
+use ra_ap_syntax::{
+    Edition, Parse, ReplaceError, SourceFile, SyntaxNode, SyntaxToken, TextRange, TextSize,
+};
+use std::alloc::{AllocError, Global};
 use tiny_front::TINY;
 
 const NOW: Edition = Edition::CURRENT;
@@ -53,17 +56,36 @@ fn time_edit(
     print(rt, name, input, old.syntax_node().as_str(), least)
 }
 
-// A copy of the tree's text and rows.
-fn time_copy(rt: &HostRuntime, input: Input, old: &File, runs: u32) -> Result<(), Stopped> {
-    let root = old.syntax_node();
-    let mut least = u128::MAX;
-    for _run in 0..runs {
-        least = least.min(time_once(rt, || Ok(root.clone_subtree(rt.alloc())?))?);
+fn replaced(alloc: Global, token: &SyntaxToken) -> Result<SyntaxNode, Stopped> {
+    match token.replace_with(alloc, token.kind(), "x") {
+        Ok(root) => Ok(root),
+        Err(ReplaceError::Memory) => Err(Stopped::Memory(AllocError)),
+        Err(ReplaceError::TooLong) => Err(Stopped::Edit),
     }
-    print(rt, "copy", input, root.as_str(), least)
 }
 
-/// Times a copy of a tree's text and rows, and edits of it that read one token, one block and all again.
+// A copy of the tree's text, one of its text and rows, and a tree with another text of the token at an offset.
+fn time_copies(
+    rt: &HostRuntime,
+    input: Input,
+    old: &File,
+    offset: u32,
+    runs: u32,
+) -> Result<(), Stopped> {
+    let root = old.syntax_node();
+    let text = root.as_str();
+    let token = root.token_at_offset(TextSize::new(offset)).right_biased();
+    let token = token.ok_or(Stopped::Edit)?;
+    let alone = least_of(rt, runs, || Ok(String::from_str(rt.alloc(), text)?))?;
+    print(rt, "text", input, text, alone)?;
+    let whole = least_of(rt, runs, || Ok(root.clone_subtree(rt.alloc())?))?;
+    print(rt, "copy", input, text, whole)?;
+    let new = least_of(rt, runs, || replaced(rt.alloc(), &token))?;
+    print(rt, "replace", input, text, new)
+}
+
+/// Times copies of a tree's text and rows, and edits of it: another text of a token, and edits that parse one token, one block and all
+/// again.
 pub fn time_edits(rt: &HostRuntime, input: Input, runs: u32) -> Result<(), Stopped> {
     let text = input.text(rt.alloc())?;
     let old = SourceFile::parse(rt.alloc(), text.as_str(), &TINY, NOW)?;
@@ -73,7 +95,7 @@ pub fn time_edits(rt: &HostRuntime, input: Input, runs: u32) -> Result<(), Stopp
     let at = u32::try_from(function).unwrap_or(0);
     let name = at.saturating_add(3);
     let block = at.saturating_add(u32::try_from(statement).unwrap_or(0));
-    time_copy(rt, input, &old, runs)?;
+    time_copies(rt, input, &old, name, runs)?;
     time_edit(
         rt,
         "token",
