@@ -1,4 +1,5 @@
-//! The kinds of names: `SyntaxKind::from_name` of every name of a kind. A line has the number of names, and the nanoseconds a call.
+//! The kinds of names: `SyntaxKind::from_name` of every name of a kind. A line has the number of names, the nanoseconds a call, and a sum
+//! over the kinds.
 
 use crate::stopped::Stopped;
 use crate::timing::least_time;
@@ -36,7 +37,7 @@ fn looked_up(names: &[&'static str]) -> u32 {
 /// Looks every name up, and prints the line.
 pub fn time_names(rt: &HostRuntime) -> Result<(), Stopped> {
     let names = names(rt)?;
-    let (least, _sum) = least_time(rt, RUNS, 0, || Ok(looked_up(names.as_slice())))?;
+    let (least, sum) = least_time(rt, RUNS, 0, || Ok(looked_up(names.as_slice())))?;
     let calls = (names.len() as u128).saturating_mul(TIMES as u128);
     let tenths = least.saturating_mul(10).checked_div(calls).unwrap_or(0);
     println!(rt; "from_name {} {}.{}", names.len(), tenths / 10, tenths % 10)?;
