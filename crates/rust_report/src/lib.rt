@@ -23,7 +23,7 @@ pub use escapes::{Escaped, Medium};
 pub use items::{Row, is_listed, label_of, outline, word_of};
 pub use labels::label_line;
 pub use pattern::{Link, Step, fits, query};
-pub use place::{Spot, Spots, offset_of};
+pub use place::{Spot, Spots, offset_of, spot_of};
 pub use roles::{Role, role_of};
 pub use same::{Difference, Trivia, differences, first_difference, is_left_out};
 pub use shown::{Marks, excerpt_at, short_of};

@@ -7,7 +7,7 @@ use std::time::Instant;
 
 /// The exit status if something was found: an error, a difference, a pair of parentheses.
 pub const FOUND: u8 = 1;
-/// The exit status if the command line is invalid.
+/// The exit status if the command line is invalid, or names a place that a file does not have.
 pub const USAGE: u8 = 2;
 /// The exit status if a file could not be read or written, or memory ran out.
 pub const UNREAD: u8 = 3;
@@ -44,8 +44,8 @@ pub struct Session {
     pub bytes: u64,
     /// How much was found.
     pub found: u64,
-    /// How many files were not read, or not written.
-    pub unread: u64,
+    /// The highest exit status of a file without a report; 0 if there is none.
+    pub failed: u8,
     // Whether standard error is a terminal.
     is_terminal: bool,
 }
@@ -78,7 +78,7 @@ impl Session {
             files: 0,
             bytes: 0,
             found: 0,
-            unread: 0,
+            failed: 0,
         }
     }
 
@@ -89,25 +89,20 @@ impl Session {
         self.found = self.found.saturating_add(found);
     }
 
-    /// Counts a file that was not read or written.
-    pub fn lost(&mut self) {
-        self.unread = self.unread.saturating_add(1);
+    /// Notes the exit status of a file without a report.
+    pub fn fail(&mut self, status: u8) {
+        self.failed = self.failed.max(status);
     }
 
-    /// The exit status. That of a file that was not read takes precedence over that of something found.
+    /// The exit status. That of a file without a report takes precedence over that of something found.
     pub fn status(&self) -> u8 {
-        if self.unread > 0 {
-            UNREAD
+        if self.failed > 0 {
+            self.failed
         } else if self.found > 0 {
             FOUND
         } else {
             0
         }
-    }
-
-    /// The exit status of a command that changes what it finds: only a file that was not read or written counts.
-    pub fn status_of_changes(&self) -> u8 {
-        if self.unread > 0 { UNREAD } else { 0 }
     }
 
     /// Prints the number of files read so far to standard error, if it is due.

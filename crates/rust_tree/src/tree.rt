@@ -7,9 +7,9 @@ use crate::source::{Reading, Source, lines, parsed};
 use crate::{json, page, tree_json};
 use line_index::WideLineCol;
 use lossless_tree::{NodeOrToken, SyntaxElement, SyntaxNode, SyntaxToken, TextRange, WalkEvent};
-use ras_front_end::{ParseError, SyntaxError};
+use ras_front_end::SyntaxError;
 use ras_node::support::share;
-use rust_report::{Counts, count, noun_for, offset_of};
+use rust_report::{Counts, count, noun_for, offset_of, spot_of};
 use serde::Serialize;
 use std::alloc::Global;
 use std::io;
@@ -52,6 +52,8 @@ pub struct Showing {
     pub depth: usize,
     /// Whether counts are shown instead of the tree.
     pub stats: bool,
+    /// Whether a line with the name of the file precedes the tree.
+    pub named: bool,
 }
 
 // The counts of a tree, also as an object of JSON.
@@ -240,7 +242,15 @@ fn write_count<W: Write>(
     write!(out, "{count} {}{end}", noun_for(count, one, many))
 }
 
-fn write_stats<W: Write>(out: &mut W, stats: &Stats<'_>) -> io::Result<()> {
+fn write_stats<W: Write>(
+    alloc: Global,
+    out: &mut W,
+    stats: &Stats<'_>,
+    drawing: Drawing,
+) -> io::Result<()> {
+    if matches!(drawing, Drawing::Json) {
+        return json::write_line(alloc, out, stats);
+    }
     write_count(out, stats.bytes, "byte", "bytes", ", ")?;
     write_count(out, stats.nodes, "node", "nodes", ", ")?;
     write_count(out, stats.tokens, "token", "tokens", ", ")?;
@@ -260,22 +270,12 @@ fn stats_of<'a>(source: Source<'a>, root: &SyntaxNode, errors: usize) -> Stats<'
     }
 }
 
-// The range of a part; `None` if it is the whole tree, or the text has no such place.
-fn range_of(
-    alloc: Global,
-    text: &str,
-    root: &SyntaxNode,
-    part: Part,
-) -> Result<Option<TextRange>, ParseError> {
-    let range = match part {
-        Part::Whole => None,
-        Part::Range(range) => Some(range),
-        Part::At(at) => offset_of(&lines(alloc, text)?, at).map(TextRange::empty),
-    };
-    Ok(match range {
-        Some(range) if range.end() <= root.text_range().end() => Some(range),
-        _ => None,
-    })
+// A place of a text, as an empty range.
+fn place_in(alloc: Global, text: &str, at: WideLineCol) -> Result<TextRange, Failure> {
+    match offset_of(&lines(alloc, text)?, at) {
+        Some(offset) => Ok(TextRange::empty(offset)),
+        None => Err(Failure::Place(spot_of(at))),
+    }
 }
 
 // The token at an empty range, or the deepest node or token around a range.
@@ -288,6 +288,25 @@ fn around(root: &SyntaxNode, range: TextRange) -> SyntaxElement {
     root.covering_element(range)
 }
 
+fn part_of(
+    alloc: Global,
+    text: &str,
+    root: &SyntaxNode,
+    part: Part,
+) -> Result<SyntaxElement, Failure> {
+    match part {
+        Part::Whole => Ok(NodeOrToken::Node(share(root))),
+        Part::At(at) => Ok(around(root, place_in(alloc, text, at)?)),
+        Part::Range(range) => {
+            if range.end() <= root.text_range().end() {
+                Ok(around(root, range))
+            } else {
+                Err(Failure::Range(range))
+            }
+        }
+    }
+}
+
 // The node that a page shows: the part itself, or the parent of a token.
 fn node_of(root: &SyntaxNode, part: &SyntaxElement) -> SyntaxNode {
     match part {
@@ -296,7 +315,8 @@ fn node_of(root: &SyntaxNode, part: &SyntaxElement) -> SyntaxNode {
     }
 }
 
-fn write_shown<W: Write>(
+// Writes a part of a tree and, if it is the whole tree or the form is JSON or a page, the errors of the text.
+fn write_drawing<W: Write>(
     alloc: Global,
     out: &mut W,
     name: &str,
@@ -323,7 +343,27 @@ fn write_shown<W: Write>(
     }
 }
 
-// Writes a tree and the errors of its text, or their numbers. Returns 0.
+fn write_shown<W: Write>(
+    alloc: Global,
+    out: &mut W,
+    source: Source<'_>,
+    root: &SyntaxNode,
+    part: &SyntaxElement,
+    errors: &[SyntaxError],
+    showing: &Showing,
+) -> io::Result<()> {
+    if showing.named {
+        writeln!(out, "==> {} <==", source.name)?;
+    }
+    if showing.stats {
+        let stats = stats_of(source, root, errors.len());
+        write_stats(alloc, out, &stats, showing.drawing)
+    } else {
+        write_drawing(alloc, out, source.name, root, part, errors, showing)
+    }
+}
+
+// Writes what is shown of a tree and of the errors of its text. Returns 0.
 fn write_tree<W: Write>(
     alloc: Global,
     out: &mut W,
@@ -332,36 +372,20 @@ fn write_tree<W: Write>(
     errors: &[SyntaxError],
     showing: &Showing,
 ) -> Result<u64, Failure> {
-    if showing.stats {
-        let stats = stats_of(source, root, errors.len());
-        match showing.drawing {
-            Drawing::Json => json::write_line(alloc, out, &stats)?,
-            _ => write_stats(out, &stats)?,
-        }
-        return Ok(0);
-    }
-    let part = match range_of(alloc, source.text, root, showing.part)? {
-        Some(range) => around(root, range),
-        None => NodeOrToken::Node(share(root)),
-    };
-    write_shown(alloc, out, source.name, root, &part, errors, showing)?;
+    let part = part_of(alloc, source.text, root, showing.part)?;
+    write_shown(alloc, out, source, root, &part, errors, showing)?;
     Ok(0)
 }
 
-/// Writes the tree of a text and, in the forms of text and JSON, its errors; before it a line with the file's name if `named` is true.
-/// Returns 0: nothing counts as found.
+/// Writes the tree of a text and, in the forms of text and JSON, its errors. Returns 0: nothing counts as found.
 pub fn show<W: Write>(
     alloc: Global,
     out: &mut W,
     source: Source<'_>,
     reading: Reading,
-    named: bool,
     showing: &Showing,
 ) -> Result<u64, Failure> {
     let parse = parsed(alloc, source.text, reading)?;
-    if named {
-        writeln!(out, "==> {} <==", source.name)?;
-    }
     if !reading.validates {
         return write_tree(alloc, out, source, parse.root(), parse.stored(), showing);
     }
