@@ -1,6 +1,6 @@
 //! Counts of a run, and its exit status.
 
-use rust_report::noun_for;
+use rust_report::{noun_for, with_commas};
 use std::io;
 use std::io::IsTerminal;
 use std::time::Instant;
@@ -52,15 +52,8 @@ pub struct Session {
 
 // Writes a number with commas between thousands, and its noun, to standard error.
 fn write_number(rt: &HostRuntime, number: u64, noun: Noun) -> io::Result<()> {
-    let (millions, thousands, ones) = (number / 1_000_000, number / 1000 % 1000, number % 1000);
-    if millions > 0 {
-        eprint!(rt; "{millions},{thousands:03},{ones:03} ")?;
-    } else if thousands > 0 {
-        eprint!(rt; "{thousands},{ones:03} ")?;
-    } else {
-        eprint!(rt; "{ones} ")?;
-    }
-    eprint!(rt; "{}", noun_for(number, noun.one, noun.many))
+    let digits = with_commas(rt.alloc(), number)?;
+    eprint!(rt; "{digits} {}", noun_for(number, noun.one, noun.many))
 }
 
 // Writes a number of bytes in megabytes, and a time in seconds, to standard error.
