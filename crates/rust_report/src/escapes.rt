@@ -3,7 +3,7 @@ ghost use Rattle.std.specs.Prelude.{◌≡◌};
 ghost use Rattle.std.specs.List.{flat_map};
 ghost use Rattle.std.specs.Str.{chars};
 ghost use Rattle.std.specs.Fmt.{WritesOnOk};
-ghost use Rattle.rust_report.specs.Escapes.{in_html, in_workflow, picture, escaped};
+ghost use Rattle.rust_report.specs.Escapes.{in_html, in_parameter, in_message, picture, escaped};
 
 use std::fmt;
 use std::fmt::{Formatter, Write};
@@ -14,8 +14,11 @@ pub enum Medium {
     /// A page of HTML: `&`, `<`, `>`, `"` and `'` are printed as character references, and control characters other than tabs and line feeds
     /// as their pictures, such as `␍`.
     Html,
-    /// A value in a workflow command: `%`, `:`, `,`, line feeds and carriage returns are printed as `%` and their codes, such as `%0A`.
-    Workflow,
+    /// The value of a parameter of a workflow command: `%`, `:`, `,`, line feeds and carriage returns are printed as `%` and their codes, such
+    /// as `%0A`.
+    Parameter,
+    /// The message of a workflow command: `%`, line feeds and carriage returns are printed in the same way.
+    Message,
     /// A terminal: control characters other than tabs and line feeds are printed as their pictures.
     Terminal,
 }
@@ -60,7 +63,8 @@ fn write_char<W: Write>(f: &mut Formatter<W>, medium: Medium, c: char) -> fmt::R
 {
     match medium {
         Medium::Html => write_char_in_html(f, c),
-        Medium::Workflow => write_char_in_workflow(f, c),
+        Medium::Parameter => write_char_in_parameter(f, c),
+        Medium::Message => write_char_in_message(f, c),
         Medium::Terminal => f.write_char(picture(c)),
     }
 }
@@ -96,15 +100,23 @@ fn write_char_in_html<W: Write>(f: &mut Formatter<W>, c: char) -> fmt::Result
     }
 }
 
-fn write_char_in_workflow<W: Write>(f: &mut Formatter<W>, c: char) -> fmt::Result
-    ensures { WritesOnOk W.write_str_gives f.old result (in_workflow c) f.new }
+fn write_char_in_parameter<W: Write>(f: &mut Formatter<W>, c: char) -> fmt::Result
+    ensures { WritesOnOk W.write_str_gives f.old result (in_parameter c) f.new }
+{
+    match c {
+        ':' => f.write_str("%3A"),
+        ',' => f.write_str("%2C"),
+        _ => write_char_in_message(f, c),
+    }
+}
+
+fn write_char_in_message<W: Write>(f: &mut Formatter<W>, c: char) -> fmt::Result
+    ensures { WritesOnOk W.write_str_gives f.old result (in_message c) f.new }
 {
     match c {
         '%' => f.write_str("%25"),
         '\r' => f.write_str("%0D"),
         '\n' => f.write_str("%0A"),
-        ':' => f.write_str("%3A"),
-        ',' => f.write_str("%2C"),
         _ => f.write_char(c),
     }
 }

@@ -66,13 +66,6 @@ fn write_json<W: Write>(
     json::write_line(alloc, out, &record)
 }
 
-fn in_workflow(text: &str) -> Escaped<'_> {
-    Escaped {
-        text,
-        medium: Medium::Workflow,
-    }
-}
-
 fn write_github<W: Write>(
     out: &mut W,
     name: &str,
@@ -81,10 +74,18 @@ fn write_github<W: Write>(
 ) -> io::Result<()> {
     let from = move_to(spots, error.range().start());
     let to = spot(spots, error.range().end());
-    write!(out, "::error file={},", in_workflow(name))?;
+    let file = Escaped {
+        text: name,
+        medium: Medium::Parameter,
+    };
+    let message = Escaped {
+        text: error.message(),
+        medium: Medium::Message,
+    };
+    write!(out, "::error file={file},")?;
     write!(out, "line={},col={},", from.line, from.column)?;
     write!(out, "endLine={},endColumn={}", to.line, to.column)?;
-    writeln!(out, "::{}", in_workflow(error.message()))
+    writeln!(out, "::{message}")
 }
 
 fn write_all<W: Write>(
