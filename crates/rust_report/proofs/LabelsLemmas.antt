@@ -1,7 +1,7 @@
 -- The elements of a label, one after the other.
-use Rattle.std.proofs.Common.{◌≡◌, ◌∙◌, Bool, true, false, ℕ, List, [], ◌∷◌, refl, sym, ap}
+use Rattle.std.proofs.Common.{◌≡◌, ◌∙◌, Bool, ℕ, List, [], ◌∷◌, sym, ap}
 use Rattle.rust_report.specs.Steps.{Element}
-use Rattle.rust_report.specs.Labels.{is_part, kind_in, elements_in, with_element, with_elements, with_children}
+use Rattle.rust_report.specs.Labels.{with_element, with_elements}
 
 pub stepped : (st : List ℕ × Bool) (o : List ℕ) (g : Bool) (x : Element) (xs ys : List Element)
     → ys ≡ x ∷ xs → (o, g) ≡ with_element st x → with_elements (o, g) xs ≡ with_elements st ys

@@ -9,3 +9,4 @@ pub mod AskedLemmas
 pub mod ChangesLemmas
 pub mod RolesLemmas
 pub mod LabelsLemmas
+pub mod NumbersLemmas

@@ -1,7 +1,7 @@
 -- Characters in forms where some of them have a meaning of their own.
-use Rattle.std.specs.Prelude.{ℕ, ◌+◌, ◌==◌, ◌||◌, ◌-◌, ◌++◌, if◌then◌else◌, nat_lt, List, codes, encode_utf8}
+use Rattle.std.specs.Prelude.{ℕ, ◌+◌, ◌==◌, ◌||◌, if◌then◌else◌, nat_lt, List, codes, encode_utf8}
 use Rattle.rust_report.specs.declared.escapes.Medium.{Medium}
-use Rattle.rust_report.specs.declared.escapes.Medium.TheVariants.{Html, Json, Workflow, Terminal}
+use Rattle.rust_report.specs.declared.escapes.Medium.TheVariants.{Html, Parameter, Message, Terminal}
 
 -- a control character, other than a tab and a line feed, as its picture; every other character as it is
 -- (Unicode: the block Control Pictures, U+2400 to U+243F.)
@@ -22,43 +22,24 @@ in_html c =
     else (if c == 39 then codes "&#39;"
     else encode_utf8 (picture c)))))
 
--- a digit of base 16
-abbrev pub hex_digit : ℕ → ℕ
-hex_digit d = if nat_lt d 10 then 48 + d else 87 + d
-
--- a character below 32 by its code
-abbrev pub json_code : ℕ → List ℕ
-json_code c =
-    if nat_lt c 16 then codes "\\u000" ++ encode_utf8 (hex_digit c)
-    else codes "\\u001" ++ encode_utf8 (hex_digit (c - 16))
-
--- a character in a string of JSON
--- (RFC 8259, section 7.)
-abbrev pub in_json : ℕ → List ℕ
-in_json c =
-    if c == 34 then codes "\\\""
-    else (if c == 92 then codes "\\\\"
-    else (if c == 8 then codes "\\b"
-    else (if c == 9 then codes "\\t"
-    else (if c == 10 then codes "\\n"
-    else (if c == 12 then codes "\\f"
-    else (if c == 13 then codes "\\r"
-    else (if nat_lt c 32 then json_code c
-    else encode_utf8 c)))))))
-
--- a character in a value of a workflow command
-abbrev pub in_workflow : ℕ → List ℕ
-in_workflow c =
+-- a character in the message of a workflow command
+abbrev pub in_message : ℕ → List ℕ
+in_message c =
     if c == 37 then codes "%25"
     else (if c == 13 then codes "%0D"
     else (if c == 10 then codes "%0A"
-    else (if c == 58 then codes "%3A"
+    else encode_utf8 c))
+
+-- a character in the value of a parameter of a workflow command
+abbrev pub in_parameter : ℕ → List ℕ
+in_parameter c =
+    if c == 58 then codes "%3A"
     else (if c == 44 then codes "%2C"
-    else encode_utf8 c))))
+    else in_message c)
 
 -- a character as it is printed to a medium
 abbrev pub escaped : Medium → ℕ → List ℕ
 escaped Html c = in_html c
-escaped Json c = in_json c
-escaped Workflow c = in_workflow c
+escaped Parameter c = in_parameter c
+escaped Message c = in_message c
 escaped Terminal c = encode_utf8 (picture c)

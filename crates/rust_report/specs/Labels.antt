@@ -7,7 +7,7 @@ use Rattle.syntax_kind.specs.declared.syntax_kind.SyntaxKind.TheVariants.{Node}
 use Rattle.syntax_kind.specs.declared.syntax_kind.node_kind.NodeKind.TheVariants as kind
 use Rattle.syntax_kind.specs.Kinds.{is_trivia}
 use Rattle.tree_model.specs.Tree.{text}
-use Rattle.tree_model.specs.Cursor.{Cursor, focus, children_of, descendants_of}
+use Rattle.tree_model.specs.Cursor.{focus, children_of, descendants_of}
 use Rattle.ras_node.specs.Nodes.{kind_at}
 use Rattle.rust_report.specs.declared.items.Row.{Row}
 use Rattle.rust_report.specs.Outlines.{is_unheaded, label_of}

@@ -13,3 +13,4 @@ pub mod Roles
 pub mod Counts
 pub mod Shown
 pub mod Labels
+pub mod Numbers

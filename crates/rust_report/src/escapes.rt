@@ -1,9 +1,9 @@
-//! Escapes of texts in pages of HTML, in strings of JSON, in commands of a workflow on GitHub, and on a terminal.
-ghost use Rattle.std.specs.Prelude.{◌≡◌, ◌<◌};
+//! Escapes of texts in pages of HTML, in commands of a workflow on GitHub, and on a terminal.
+ghost use Rattle.std.specs.Prelude.{◌≡◌};
 ghost use Rattle.std.specs.List.{flat_map};
 ghost use Rattle.std.specs.Str.{chars};
 ghost use Rattle.std.specs.Fmt.{WritesOnOk};
-ghost use Rattle.rust_report.specs.Escapes.{in_html, in_json, json_code, hex_digit, in_workflow, picture, escaped};
+ghost use Rattle.rust_report.specs.Escapes.{in_html, in_parameter, in_message, picture, escaped};
 
 use std::fmt;
 use std::fmt::{Formatter, Write};
@@ -14,10 +14,11 @@ pub enum Medium {
     /// A page of HTML: `&`, `<`, `>`, `"` and `'` are printed as character references, and control characters other than tabs and line feeds
     /// as their pictures, such as `␍`.
     Html,
-    /// A string of JSON: `"`, `\` and control characters are printed as escapes, such as `\n` and `\u001b`.
-    Json,
-    /// A value in a workflow command: `%`, `:`, `,`, line feeds and carriage returns are printed as `%` and their codes, such as `%0A`.
-    Workflow,
+    /// The value of a parameter of a workflow command: `%`, `:`, `,`, line feeds and carriage returns are printed as `%` and their codes, such
+    /// as `%0A`.
+    Parameter,
+    /// The message of a workflow command: `%`, line feeds and carriage returns are printed in the same way.
+    Message,
     /// A terminal: control characters other than tabs and line feeds are printed as their pictures.
     Terminal,
 }
@@ -62,8 +63,8 @@ fn write_char<W: Write>(f: &mut Formatter<W>, medium: Medium, c: char) -> fmt::R
 {
     match medium {
         Medium::Html => write_char_in_html(f, c),
-        Medium::Json => write_char_in_json(f, c),
-        Medium::Workflow => write_char_in_workflow(f, c),
+        Medium::Parameter => write_char_in_parameter(f, c),
+        Medium::Message => write_char_in_message(f, c),
         Medium::Terminal => f.write_char(picture(c)),
     }
 }
@@ -99,59 +100,23 @@ fn write_char_in_html<W: Write>(f: &mut Formatter<W>, c: char) -> fmt::Result
     }
 }
 
-fn hex_digit(digit: u32) -> char
-    requires { digit < 16 }
-    ensures { result ≡ hex_digit digit }
-{
-    let code = if digit < 10 { 48 + digit } else { 87 + digit };
-    char::from_u32(code).unwrap_or('0')
-}
-
-// Prints a control character by its code.
-fn write_json_code<W: Write>(f: &mut Formatter<W>, code: u32) -> fmt::Result
-    requires { code < 32 }
-    ensures { WritesOnOk W.write_str_gives f.old result (json_code code) f.new }
-{
-    if code < 16 {
-        f.write_str("\\u000")?;
-        f.write_char(hex_digit(code))
-    } else {
-        f.write_str("\\u001")?;
-        f.write_char(hex_digit(code - 16))
-    }
-}
-
-fn write_char_in_json<W: Write>(f: &mut Formatter<W>, c: char) -> fmt::Result
-    ensures { WritesOnOk W.write_str_gives f.old result (in_json c) f.new }
+fn write_char_in_parameter<W: Write>(f: &mut Formatter<W>, c: char) -> fmt::Result
+    ensures { WritesOnOk W.write_str_gives f.old result (in_parameter c) f.new }
 {
     match c {
-        '"' => f.write_str("\\\""),
-        '\\' => f.write_str("\\\\"),
-        '\u{8}' => f.write_str("\\b"),
-        '\t' => f.write_str("\\t"),
-        '\n' => f.write_str("\\n"),
-        '\u{c}' => f.write_str("\\f"),
-        '\r' => f.write_str("\\r"),
-        _ => {
-            let code = c as u32;
-            if code < 32 {
-                write_json_code(f, code)
-            } else {
-                f.write_char(c)
-            }
-        }
+        ':' => f.write_str("%3A"),
+        ',' => f.write_str("%2C"),
+        _ => write_char_in_message(f, c),
     }
 }
 
-fn write_char_in_workflow<W: Write>(f: &mut Formatter<W>, c: char) -> fmt::Result
-    ensures { WritesOnOk W.write_str_gives f.old result (in_workflow c) f.new }
+fn write_char_in_message<W: Write>(f: &mut Formatter<W>, c: char) -> fmt::Result
+    ensures { WritesOnOk W.write_str_gives f.old result (in_message c) f.new }
 {
     match c {
         '%' => f.write_str("%25"),
         '\r' => f.write_str("%0D"),
         '\n' => f.write_str("%0A"),
-        ':' => f.write_str("%3A"),
-        ',' => f.write_str("%2C"),
         _ => f.write_char(c),
     }
 }

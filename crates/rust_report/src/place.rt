@@ -79,8 +79,8 @@ impl<'a> Spots<'a> {
     }
 }
 
-// A line and a column that are counted from 0, counted from 1.
-fn spot_of(at: WideLineCol) -> Spot
+/// A line and a column that are counted from 0, counted from 1.
+pub fn spot_of(at: WideLineCol) -> Spot
     ensures { result ≡ spot_of at }
 {
     Spot {

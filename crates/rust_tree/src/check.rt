@@ -8,9 +8,23 @@ use crate::source::{Source, move_to, parsed, spot, spots};
 use crate::style::Style;
 use ras_front_end::SyntaxError;
 use rust_report::{Escaped, Marks, Medium, Spots, excerpt_at};
+use serde::Serialize;
 use std::alloc::Global;
 use std::io;
 use std::io::Write;
+
+// An error in JSON. Lines and columns count from 1, columns in characters; `start` and `end` are offsets in bytes.
+#[derive(Drop, Serialize)]
+struct ErrorRecord<'a> {
+    path: &'a str,
+    line: u64,
+    column: u64,
+    end_line: u64,
+    end_column: u64,
+    start: u32,
+    end: u32,
+    message: &'a str,
+}
 
 // Writes the line that an error is in, or the part of a long line around it, and marks the error in the line below.
 fn write_text<W: Write>(
@@ -29,8 +43,8 @@ fn write_text<W: Write>(
     writeln!(out, "      | {red}{}{plain}", Marks { excerpt })
 }
 
-// Lines and columns count from 1, columns in characters; `start` and `end` are offsets in bytes.
 fn write_json<W: Write>(
+    alloc: Global,
     out: &mut W,
     name: &str,
     spots: &mut Spots<'_>,
@@ -39,19 +53,17 @@ fn write_json<W: Write>(
     let range = error.range();
     let from = move_to(spots, range.start());
     let to = spot(spots, range.end());
-    json::write_path(out, name)?;
-    json::write_numbers(out, &[("line", from.line), ("column", from.column)])?;
-    json::write_numbers(out, &[("end_line", to.line), ("end_column", to.column)])?;
-    json::write_range(out, range)?;
-    json::write_text(out, "message", error.message())?;
-    json::write_end(out)
-}
-
-fn in_workflow(text: &str) -> Escaped<'_> {
-    Escaped {
-        text,
-        medium: Medium::Workflow,
-    }
+    let record = ErrorRecord {
+        path: name,
+        line: from.line,
+        column: from.column,
+        end_line: to.line,
+        end_column: to.column,
+        start: range.start().raw(),
+        end: range.end().raw(),
+        message: error.message(),
+    };
+    json::write_line(alloc, out, &record)
 }
 
 fn write_github<W: Write>(
@@ -62,10 +74,18 @@ fn write_github<W: Write>(
 ) -> io::Result<()> {
     let from = move_to(spots, error.range().start());
     let to = spot(spots, error.range().end());
-    write!(out, "::error file={},", in_workflow(name))?;
+    let file = Escaped {
+        text: name,
+        medium: Medium::Parameter,
+    };
+    let message = Escaped {
+        text: error.message(),
+        medium: Medium::Message,
+    };
+    write!(out, "::error file={file},")?;
     write!(out, "line={},col={},", from.line, from.column)?;
     write!(out, "endLine={},endColumn={}", to.line, to.column)?;
-    writeln!(out, "::{}", in_workflow(error.message()))
+    writeln!(out, "::{message}")
 }
 
 fn write_all<W: Write>(
@@ -80,7 +100,7 @@ fn write_all<W: Write>(
     for error in errors {
         match asked.format {
             Form::Text => write_text(out, name, &mut spots, error, asked.style)?,
-            Form::Json => write_json(out, name, &mut spots, error)?,
+            Form::Json => write_json(alloc, out, name, &mut spots, error)?,
             Form::Github => write_github(out, name, &mut spots, error)?,
         }
     }

@@ -1,6 +1,9 @@
 //! Errors that end the report on a file.
 
+use crate::session::{UNREAD, USAGE};
+use lossless_tree::TextRange;
 use ras_front_end::ParseError;
+use rust_report::Spot;
 use std::alloc::AllocError;
 use std::io;
 
@@ -13,6 +16,10 @@ pub enum Failure {
     Text(ParseError),
     /// The file cannot be written.
     File(io::Error),
+    /// The text has no such place.
+    Place(Spot),
+    /// The text ends before this range does.
+    Range(TextRange),
 }
 
 impl From<io::Error> for Failure {
@@ -34,12 +41,22 @@ impl From<AllocError> for Failure {
 }
 
 impl Failure {
+    /// The exit status of a run in which a file has this error.
+    pub fn status(&self) -> u8 {
+        match self {
+            Failure::Place(_) | Failure::Range(_) => USAGE,
+            Failure::Output(_) | Failure::Text(_) | Failure::File(_) => UNREAD,
+        }
+    }
+
     /// Reports the error of a file on standard error. Returns it if it is one of the output.
     pub fn tell(self, rt: &HostRuntime, name: &str) -> io::Result<()> {
         match self {
             Failure::Output(error) => Err(error),
             Failure::Text(error) => eprintln!(rt; "rust_tree: {name}: {error}"),
             Failure::File(error) => eprintln!(rt; "rust_tree: {name}: {error}"),
+            Failure::Place(place) => eprintln!(rt; "rust_tree: {name}: no place {place}"),
+            Failure::Range(range) => eprintln!(rt; "rust_tree: {name}: no range {range}"),
         }
     }
 }

@@ -5,7 +5,7 @@ use crate::failure::Failure;
 use crate::highlight::Ink;
 use crate::inputs::{files_below, is_folder, text_of};
 use crate::options::Asked;
-use crate::session::{Noun, Session};
+use crate::session::{Noun, Session, UNREAD};
 use crate::source::Source;
 use crate::tree::Showing;
 use crate::{fix, highlight, outline, parens, query, tokens, tree};
@@ -18,8 +18,8 @@ use std::time::Instant;
 /// A command with its options.
 #[derive(Drop)]
 pub enum Task {
-    /// Prints trees, each after its file's name if `named` is true.
-    Tree { named: bool, showing: Showing },
+    /// Prints trees.
+    Tree { showing: Showing },
     /// Prints errors.
     Check,
     /// Lists items.
@@ -123,9 +123,7 @@ impl Job {
     ) -> Result<u64, Failure> {
         let (alloc, asked) = (rt.alloc(), self.asked);
         match &self.task {
-            Task::Tree { named, showing } => {
-                tree::show(alloc, out, source, asked.reading, *named, showing)
-            }
+            Task::Tree { showing } => tree::show(alloc, out, source, asked.reading, showing),
             Task::Check => check(alloc, out, source, asked),
             Task::Outline => outline::show(alloc, out, source, asked),
             Task::Parens { then } => parens(rt, out, source, asked, *then),
@@ -151,7 +149,7 @@ impl Job {
             Err(Failure::Output(error)) => Err(error),
             Err(failure) => {
                 out.flush()?;
-                session.lost();
+                session.fail(failure.status());
                 failure.tell(rt, source.name)
             }
         }
@@ -174,7 +172,7 @@ impl Job {
                 self.reported(rt, out, source, session)
             }
             Err(error) => {
-                session.lost();
+                session.fail(UNREAD);
                 eprintln!(rt; "rust_tree: {name}: {error}")
             }
         }
@@ -192,8 +190,8 @@ impl Job {
         for file in &files_below(rt, name, &mut lost)? {
             self.file(rt, out, file.as_str(), session)?;
         }
-        for _i in 0..lost {
-            session.lost();
+        if lost > 0 {
+            session.fail(UNREAD);
         }
         Ok(())
     }
@@ -201,7 +199,7 @@ impl Job {
     /// The exit status after a run. Pairs of parentheses that were removed do not count as found.
     pub fn status(&self, session: &Session) -> u8 {
         match &self.task {
-            Task::Parens { then: Then::Fix } => session.status_of_changes(),
+            Task::Parens { then: Then::Fix } => session.failed,
             _ => session.status(),
         }
     }

@@ -23,6 +23,7 @@ mod style;
 mod task;
 mod tokens;
 mod tree;
+mod tree_json;
 mod verbs;
 
 use clap::ArgMatches;

@@ -101,8 +101,8 @@ fn part_of(matches: &ArgMatches) -> Option<Part> {
     }
 }
 
-/// What is shown of a tree, and how. Returns `None` if a place or a range is invalid.
-pub fn showing(matches: &ArgMatches) -> Option<Showing> {
+/// What is shown of the tree of one file, or of several, and how. Returns `None` if a place or a range is invalid.
+pub fn showing(matches: &ArgMatches, has_several: bool) -> Option<Showing> {
     let part = part_of(matches)?;
     let drawing = match matches.get_str("format") {
         Some("json") => Drawing::Json,
@@ -120,5 +120,7 @@ pub fn showing(matches: &ArgMatches) -> Option<Showing> {
         trivia: !matches.get_flag("no-trivia"),
         depth,
         stats: matches.get_flag("stats"),
+        // An object of JSON has the name of its file.
+        named: has_several && !matches!(drawing, Drawing::Json),
     })
 }

@@ -7,9 +7,24 @@ use crate::shown::{write_indent, write_place, write_short};
 use crate::source::{Source, move_to, parsed, spots};
 use lossless_tree::TextSize;
 use rust_report::{Row, Spot, Spots, label_line, label_of, outline, word_of};
+use serde::Serialize;
 use std::alloc::Global;
 use std::io;
 use std::io::Write;
+
+// An item in JSON. The line and the column count from 1, the column in characters, and are those of the item's label, if it has one.
+// `start` and `end` are the item's offsets in bytes, with its attributes and documentation. An item without a label has an empty name.
+#[derive(Drop, Serialize)]
+struct ItemRecord<'a> {
+    path: &'a str,
+    line: u64,
+    column: u64,
+    kind: &'a str,
+    name: &'a str,
+    depth: usize,
+    start: u32,
+    end: u32,
+}
 
 // Where the label of an item starts, or the item if it has none.
 fn start_of(row: &Row) -> TextSize {
@@ -19,22 +34,26 @@ fn start_of(row: &Row) -> TextSize {
     }
 }
 
-// The line and the column count from 1, the column in characters, and are those of the item's label, if it has one. `start` and `end` are
-// the item's offsets in bytes, with its attributes and documentation. An item without a label has an empty name.
 fn write_json<W: Write>(
+    alloc: Global,
     out: &mut W,
     path: &str,
     at: Spot,
     row: &Row,
     label: &str,
 ) -> io::Result<()> {
-    json::write_path(out, path)?;
-    json::write_spot(out, at)?;
-    json::write_text(out, "kind", word_of(row.item.kind()))?;
-    json::write_text(out, "name", label)?;
-    json::write_numbers(out, &[("depth", row.depth as u64)])?;
-    json::write_range(out, row.item.text_range())?;
-    json::write_end(out)
+    let range = row.item.text_range();
+    let record = ItemRecord {
+        path,
+        line: at.line,
+        column: at.column,
+        kind: word_of(row.item.kind()),
+        name: label,
+        depth: row.depth,
+        start: range.start().raw(),
+        end: range.end().raw(),
+    };
+    json::write_line(alloc, out, &record)
 }
 
 fn write_text<W: Write>(out: &mut W, row: &Row, label: &str) -> io::Result<()> {
@@ -58,7 +77,7 @@ fn write_row<W: Write>(
     let at = move_to(spots, start_of(row));
     let label = label_line(alloc, row)?;
     match asked.format {
-        Form::Json => write_json(out, path, at, row, label.as_str()),
+        Form::Json => write_json(alloc, out, path, at, row, label.as_str()),
         Form::Text | Form::Github => {
             write_place(out, path, at, asked.style)?;
             write_text(out, row, label.as_str())

@@ -9,10 +9,22 @@ use lossless_tree::SyntaxNode;
 use ras_front_end::ParseError;
 use rust_front::Rust;
 use rust_parens::{Needless, find_needless};
-use rust_report::Spots;
+use rust_report::{Spot, Spots};
+use serde::Serialize;
 use std::alloc::Global;
 use std::io;
 use std::io::Write;
+
+// A pair in JSON. The line and the column count from 1, the column in characters; `start` and `end` are offsets in bytes.
+#[derive(Drop, Serialize)]
+struct PairRecord<'a> {
+    path: &'a str,
+    line: u64,
+    column: u64,
+    start: u32,
+    end: u32,
+    text: &'a str,
+}
 
 /// The pairs of a text that can all be removed together.
 pub fn needless(alloc: Global, text: &str, reading: Reading) -> Result<Needless, ParseError> {
@@ -20,24 +32,36 @@ pub fn needless(alloc: Global, text: &str, reading: Reading) -> Result<Needless,
     Ok(find_needless(alloc, &Rust, reading.entry, reading.edition, &parse)?)
 }
 
-// In JSON, the line and the column count from 1, the column in characters; `start` and `end` are offsets in bytes.
+fn write_json<W: Write>(
+    alloc: Global,
+    out: &mut W,
+    path: &str,
+    at: Spot,
+    pair: &SyntaxNode,
+) -> io::Result<()> {
+    let range = pair.text_range();
+    let record = PairRecord {
+        path,
+        line: at.line,
+        column: at.column,
+        start: range.start().raw(),
+        end: range.end().raw(),
+        text: pair.as_str(),
+    };
+    json::write_line(alloc, out, &record)
+}
+
 fn write_pair<W: Write>(
+    alloc: Global,
     out: &mut W,
     path: &str,
     spots: &mut Spots<'_>,
     pair: &SyntaxNode,
     asked: Asked,
 ) -> io::Result<()> {
-    let range = pair.text_range();
-    let at = move_to(spots, range.start());
+    let at = move_to(spots, pair.text_range().start());
     match asked.format {
-        Form::Json => {
-            json::write_path(out, path)?;
-            json::write_spot(out, at)?;
-            json::write_range(out, range)?;
-            json::write_text(out, "text", pair.as_str())?;
-            json::write_end(out)
-        }
+        Form::Json => write_json(alloc, out, path, at, pair),
         Form::Text | Form::Github => {
             write_place(out, path, at, asked.style)?;
             write!(out, "needless parentheses: ")?;
@@ -56,7 +80,7 @@ pub fn list<W: Write>(
 ) -> Result<(), Failure> {
     let mut spots = spots(alloc, source.text)?;
     for pair in pairs {
-        write_pair(out, source.name, &mut spots, pair, asked)?;
+        write_pair(alloc, out, source.name, &mut spots, pair, asked)?;
     }
     Ok(())
 }

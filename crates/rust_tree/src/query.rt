@@ -2,34 +2,60 @@
 
 use crate::failure::Failure;
 use crate::json;
+use crate::names::Named;
 use crate::options::{Asked, Form};
 use crate::shown::{write_place, write_short};
 use crate::source::{Source, move_to, parsed, spots};
 use lossless_tree::SyntaxElement;
-use rust_report::{Spots, Step, query};
+use rust_report::{Spot, Spots, Step, query};
+use serde::Serialize;
 use std::alloc::Global;
 use std::io;
 use std::io::Write;
 
-// In JSON, the line and the column count from 1, the column in characters; `start` and `end` are offsets in bytes.
+// A node or token in JSON. The line and the column count from 1, the column in characters; `start` and `end` are offsets in bytes.
+#[derive(Drop, Serialize)]
+struct MatchRecord<'a> {
+    path: &'a str,
+    line: u64,
+    column: u64,
+    start: u32,
+    end: u32,
+    kind: Named,
+    text: &'a str,
+}
+
+fn write_json<W: Write>(
+    alloc: Global,
+    out: &mut W,
+    path: &str,
+    at: Spot,
+    element: &SyntaxElement,
+) -> io::Result<()> {
+    let range = element.text_range();
+    let record = MatchRecord {
+        path,
+        line: at.line,
+        column: at.column,
+        start: range.start().raw(),
+        end: range.end().raw(),
+        kind: Named(element.kind()),
+        text: element.text(),
+    };
+    json::write_line(alloc, out, &record)
+}
+
 fn write_match<W: Write>(
+    alloc: Global,
     out: &mut W,
     path: &str,
     spots: &mut Spots<'_>,
     element: &SyntaxElement,
     asked: Asked,
 ) -> io::Result<()> {
-    let range = element.text_range();
-    let at = move_to(spots, range.start());
+    let at = move_to(spots, element.text_range().start());
     match asked.format {
-        Form::Json => {
-            json::write_path(out, path)?;
-            json::write_spot(out, at)?;
-            json::write_range(out, range)?;
-            json::write_kind(out, element.kind())?;
-            json::write_text(out, "text", element.text())?;
-            json::write_end(out)
-        }
+        Form::Json => write_json(alloc, out, path, at, element),
         Form::Text | Form::Github => {
             write_place(out, path, at, asked.style)?;
             write_short(out, element.text())
@@ -46,7 +72,7 @@ fn write_matches<W: Write>(
 ) -> Result<u64, Failure> {
     let mut spots = spots(alloc, source.text)?;
     for element in found {
-        write_match(out, source.name, &mut spots, element, asked)?;
+        write_match(alloc, out, source.name, &mut spots, element, asked)?;
     }
     Ok(found.len() as u64)
 }

@@ -1,13 +1,13 @@
 //! Counts of a run, and its exit status.
 
-use rust_report::noun_for;
+use rust_report::{noun_for, with_commas};
 use std::io;
 use std::io::IsTerminal;
 use std::time::Instant;
 
 /// The exit status if something was found: an error, a difference, a pair of parentheses.
 pub const FOUND: u8 = 1;
-/// The exit status if the command line is invalid.
+/// The exit status if the command line is invalid, or names a place that a file does not have.
 pub const USAGE: u8 = 2;
 /// The exit status if a file could not be read or written, or memory ran out.
 pub const UNREAD: u8 = 3;
@@ -44,23 +44,16 @@ pub struct Session {
     pub bytes: u64,
     /// How much was found.
     pub found: u64,
-    /// How many files were not read, or not written.
-    pub unread: u64,
+    /// The highest exit status of a file without a report; 0 if there is none.
+    pub failed: u8,
     // Whether standard error is a terminal.
     is_terminal: bool,
 }
 
 // Writes a number with commas between thousands, and its noun, to standard error.
 fn write_number(rt: &HostRuntime, number: u64, noun: Noun) -> io::Result<()> {
-    let (millions, thousands, ones) = (number / 1_000_000, number / 1000 % 1000, number % 1000);
-    if millions > 0 {
-        eprint!(rt; "{millions},{thousands:03},{ones:03} ")?;
-    } else if thousands > 0 {
-        eprint!(rt; "{thousands},{ones:03} ")?;
-    } else {
-        eprint!(rt; "{ones} ")?;
-    }
-    eprint!(rt; "{}", noun_for(number, noun.one, noun.many))
+    let digits = with_commas(rt.alloc(), number)?;
+    eprint!(rt; "{digits} {}", noun_for(number, noun.one, noun.many))
 }
 
 // Writes a number of bytes in megabytes, and a time in seconds, to standard error.
@@ -78,7 +71,7 @@ impl Session {
             files: 0,
             bytes: 0,
             found: 0,
-            unread: 0,
+            failed: 0,
         }
     }
 
@@ -89,25 +82,20 @@ impl Session {
         self.found = self.found.saturating_add(found);
     }
 
-    /// Counts a file that was not read or written.
-    pub fn lost(&mut self) {
-        self.unread = self.unread.saturating_add(1);
+    /// Notes the exit status of a file without a report.
+    pub fn fail(&mut self, status: u8) {
+        self.failed = self.failed.max(status);
     }
 
-    /// The exit status. That of a file that was not read takes precedence over that of something found.
+    /// The exit status. That of a file without a report takes precedence over that of something found.
     pub fn status(&self) -> u8 {
-        if self.unread > 0 {
-            UNREAD
+        if self.failed > 0 {
+            self.failed
         } else if self.found > 0 {
             FOUND
         } else {
             0
         }
-    }
-
-    /// The exit status of a command that changes what it finds: only a file that was not read or written counts.
-    pub fn status_of_changes(&self) -> u8 {
-        if self.unread > 0 { UNREAD } else { 0 }
     }
 
     /// Prints the number of files read so far to standard error, if it is due.

@@ -41,16 +41,14 @@ fn has_several(rt: &HostRuntime, matches: &ArgMatches) -> bool {
 }
 
 fn tree_task(rt: &HostRuntime, matches: &ArgMatches) -> Result<Task, Refusal> {
-    let Some(showing) = showing(matches) else {
+    let has_several = has_several(rt, matches);
+    let Some(showing) = showing(matches, has_several) else {
         return Err(Refusal::Place);
     };
-    let has_several = has_several(rt, matches);
     if has_several && matches!(showing.drawing, Drawing::Html) && !showing.stats {
         return Err(Refusal::Pages);
     }
-    // A JSON object has the name of its file.
-    let named = has_several && !matches!(showing.drawing, Drawing::Json);
-    Ok(Task::Tree { named, showing })
+    Ok(Task::Tree { showing })
 }
 
 fn highlight_task(rt: &HostRuntime, matches: &ArgMatches) -> Result<Task, Refusal> {

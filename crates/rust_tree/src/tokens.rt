@@ -7,14 +7,32 @@ use crate::options::{Asked, Form};
 use crate::source::Source;
 use ras_front_end::ParseError;
 use rust_lexer::{LexError, lex};
+use serde::Serialize;
 use std::alloc::Global;
 use std::io;
 use std::io::Write;
-use syntax_kind::SyntaxKind;
 use text_size::TextSize;
 use token_layout::Token;
 
-// In JSON, `start` and `end` are offsets in bytes.
+// A token in JSON; `start` and `end` are offsets in bytes.
+#[derive(Drop, Serialize)]
+struct TokenRecord<'a> {
+    path: &'a str,
+    kind: Named,
+    start: usize,
+    end: usize,
+    text: &'a str,
+}
+
+// An error in JSON; `start` and `end` are offsets in bytes.
+#[derive(Drop, Serialize)]
+struct ErrorRecord<'a> {
+    path: &'a str,
+    start: u32,
+    end: u32,
+    message: &'a str,
+}
+
 fn write_error<W: Write>(
     alloc: Global,
     out: &mut W,
@@ -33,20 +51,23 @@ fn write_error<W: Write>(
     let message = format!(in alloc; "{front}{own}{back}")?;
     match format {
         Form::Json => {
-            json::write_path(out, source.name)?;
-            json::write_range(out, range)?;
-            json::write_text(out, "message", message.as_str())?;
-            json::write_end(out)
+            let record = ErrorRecord {
+                path: source.name,
+                start,
+                end,
+                message: message.as_str(),
+            };
+            json::write_line(alloc, out, &record)
         }
         Form::Text | Form::Github => writeln!(out, "error {range}: {message}"),
     }
 }
 
-// In JSON, `start` and `end` are offsets in bytes.
 fn write_token<W: Write>(
+    alloc: Global,
     out: &mut W,
     path: &str,
-    kind: SyntaxKind,
+    kind: Named,
     start: usize,
     text: &str,
     format: Form,
@@ -54,20 +75,24 @@ fn write_token<W: Write>(
     let end = start.saturating_add(text.len());
     match format {
         Form::Json => {
-            json::write_path(out, path)?;
-            json::write_kind(out, kind)?;
-            json::write_numbers(out, &[("start", start as u64), ("end", end as u64)])?;
-            json::write_text(out, "text", text)?;
-            json::write_end(out)
+            let record = TokenRecord {
+                path,
+                kind,
+                start,
+                end,
+                text,
+            };
+            json::write_line(alloc, out, &record)
         }
         Form::Text | Form::Github => {
-            write!(out, "{}@{start}..{end}", Named(kind))?;
+            write!(out, "{kind}@{start}..{end}")?;
             writeln!(out, " {text:?}")
         }
     }
 }
 
 fn write_tokens<W: Write>(
+    alloc: Global,
     out: &mut W,
     source: Source<'_>,
     tokens: &[Token],
@@ -77,7 +102,8 @@ fn write_tokens<W: Write>(
     for token in tokens {
         let end = start.saturating_add(token.len.raw() as usize);
         let own = source.text.get(start..end).unwrap_or("");
-        write_token(out, source.name, token.kind, start, own, format)?;
+        let kind = Named(token.kind);
+        write_token(alloc, out, source.name, kind, start, own, format)?;
         start = end;
     }
     Ok(())
@@ -107,7 +133,7 @@ pub fn show<W: Write>(
         return Err(Failure::Text(ParseError::TooLong));
     }
     let lexed = lex(alloc, source.text, asked.reading.edition)?;
-    write_tokens(out, source, lexed.tokens.as_slice(), asked.format)?;
+    write_tokens(alloc, out, source, lexed.tokens.as_slice(), asked.format)?;
     write_errors(alloc, out, source, lexed.errors.as_slice(), asked.format)?;
     Ok(lexed.errors.len() as u64)
 }

@@ -1,16 +1,16 @@
 //! The command `tree`: the tree of a text, with its errors, printed during a walk.
 
 use crate::failure::Failure;
-use crate::json::in_json;
 use crate::names::Named;
 use crate::shown::write_indent;
 use crate::source::{Reading, Source, lines, parsed};
-use crate::{json, page};
+use crate::{json, page, tree_json};
 use line_index::WideLineCol;
 use lossless_tree::{NodeOrToken, SyntaxElement, SyntaxNode, SyntaxToken, TextRange, WalkEvent};
-use ras_front_end::{ParseError, SyntaxError};
+use ras_front_end::SyntaxError;
 use ras_node::support::share;
-use rust_report::{Counts, count, noun_for, offset_of};
+use rust_report::{Counts, count, noun_for, offset_of, spot_of};
+use serde::Serialize;
 use std::alloc::Global;
 use std::io;
 use std::io::Write;
@@ -52,6 +52,19 @@ pub struct Showing {
     pub depth: usize,
     /// Whether counts are shown instead of the tree.
     pub stats: bool,
+    /// Whether a line with the name of the file precedes the tree.
+    pub named: bool,
+}
+
+// The counts of a tree, also as an object of JSON.
+#[derive(Drop, Serialize)]
+struct Stats<'a> {
+    path: &'a str,
+    bytes: u64,
+    nodes: u64,
+    tokens: u64,
+    levels: u64,
+    errors: u64,
 }
 
 /// Whether a node or token at this many levels below the top is shown.
@@ -78,22 +91,15 @@ fn write_text<W: Write>(
     }
 }
 
-// Writes the front of an element's object. The topmost element has no object of its own: its keys are those of the object of the file.
-fn write_json<W: Write>(out: &mut W, level: usize, element: &SyntaxElement) -> io::Result<()> {
-    out.write_all(if level > 0 { b"{" } else { b"," })?;
-    write!(out, "\"kind\":\"{}\"", Named(element.kind()))?;
-    json::write_range(out, element.text_range())?;
-    match element {
-        NodeOrToken::Node(_) => out.write_all(b",\"children\":["),
-        NodeOrToken::Token(token) => json::write_text(out, "text", token.text()),
-    }
-}
-
-fn write_sexp<W: Write>(out: &mut W, element: &SyntaxElement) -> io::Result<()> {
+// Texts of tokens are strings of JSON.
+fn write_sexp<W: Write>(alloc: Global, out: &mut W, element: &SyntaxElement) -> io::Result<()> {
     write!(out, "({}", Named(element.kind()))?;
     match element {
         NodeOrToken::Node(_) => Ok(()),
-        NodeOrToken::Token(token) => write!(out, " \"{}\"", in_json(token.text())),
+        NodeOrToken::Token(token) => {
+            out.write_all(b" ")?;
+            json::write(alloc, out, &token.text())
+        }
     }
 }
 
@@ -131,12 +137,7 @@ fn write_behind<W: Write>(
 ) -> io::Result<()> {
     match drawing {
         Drawing::Text | Drawing::Html => Ok(()),
-        Drawing::Json => {
-            if element.as_node().is_some() {
-                out.write_all(b"]")?;
-            }
-            out.write_all(if level > 0 { b"}" } else { b"" })
-        }
+        Drawing::Json => tree_json::write_end(out, level, element),
         Drawing::Sexp => out.write_all(b")"),
     }
 }
@@ -150,8 +151,8 @@ fn write_element<W: Write>(
 ) -> io::Result<()> {
     match drawing {
         Drawing::Text | Drawing::Html => write_text(alloc, out, level, element),
-        Drawing::Json => write_json(out, level, element),
-        Drawing::Sexp => write_sexp(out, element),
+        Drawing::Json => tree_json::write_element(alloc, out, level, element),
+        Drawing::Sexp => write_sexp(alloc, out, element),
     }
 }
 
@@ -230,22 +231,6 @@ fn write_errors<W: Write>(out: &mut W, errors: &[SyntaxError]) -> io::Result<()>
     Ok(())
 }
 
-// Writes the front of a file's object of JSON: its path and its errors.
-fn write_file<W: Write>(out: &mut W, path: &str, errors: &[SyntaxError]) -> io::Result<()> {
-    json::write_path(out, path)?;
-    out.write_all(b",\"errors\":[")?;
-    let mut is_first = true;
-    for error in errors {
-        out.write_all(if is_first { b"{" } else { b",{" })?;
-        write!(out, "\"start\":{}", error.range().start().raw())?;
-        json::write_numbers(out, &[("end", error.range().end().raw() as u64)])?;
-        json::write_text(out, "message", error.message())?;
-        out.write_all(b"}")?;
-        is_first = false;
-    }
-    out.write_all(b"]")
-}
-
 // Writes a number, its noun, and what is to follow.
 fn write_count<W: Write>(
     out: &mut W,
@@ -258,47 +243,39 @@ fn write_count<W: Write>(
 }
 
 fn write_stats<W: Write>(
+    alloc: Global,
     out: &mut W,
-    source: Source<'_>,
-    root: &SyntaxNode,
-    errors: usize,
+    stats: &Stats<'_>,
     drawing: Drawing,
 ) -> io::Result<()> {
-    let Counts { nodes, tokens } = count(root);
-    let (bytes, levels) = (source.text.len() as u64, depth_of(root) as u64);
-    let errors = errors as u64;
     if matches!(drawing, Drawing::Json) {
-        json::write_path(out, source.name)?;
-        json::write_numbers(
-            out,
-            &[("bytes", bytes), ("nodes", nodes), ("tokens", tokens)],
-        )?;
-        json::write_numbers(out, &[("levels", levels), ("errors", errors)])?;
-        return json::write_end(out);
+        return json::write_line(alloc, out, stats);
     }
-    write_count(out, bytes, "byte", "bytes", ", ")?;
-    write_count(out, nodes, "node", "nodes", ", ")?;
-    write_count(out, tokens, "token", "tokens", ", ")?;
-    write_count(out, levels, "level", "levels", ", ")?;
-    write_count(out, errors, "error", "errors", "\n")
+    write_count(out, stats.bytes, "byte", "bytes", ", ")?;
+    write_count(out, stats.nodes, "node", "nodes", ", ")?;
+    write_count(out, stats.tokens, "token", "tokens", ", ")?;
+    write_count(out, stats.levels, "level", "levels", ", ")?;
+    write_count(out, stats.errors, "error", "errors", "\n")
 }
 
-// The range of a part; `None` if it is the whole tree, or the text has no such place.
-fn range_of(
-    alloc: Global,
-    text: &str,
-    root: &SyntaxNode,
-    part: Part,
-) -> Result<Option<TextRange>, ParseError> {
-    let range = match part {
-        Part::Whole => None,
-        Part::Range(range) => Some(range),
-        Part::At(at) => offset_of(&lines(alloc, text)?, at).map(TextRange::empty),
-    };
-    Ok(match range {
-        Some(range) if range.end() <= root.text_range().end() => Some(range),
-        _ => None,
-    })
+fn stats_of<'a>(source: Source<'a>, root: &SyntaxNode, errors: usize) -> Stats<'a> {
+    let Counts { nodes, tokens } = count(root);
+    Stats {
+        path: source.name,
+        bytes: source.text.len() as u64,
+        nodes,
+        tokens,
+        levels: depth_of(root) as u64,
+        errors: errors as u64,
+    }
+}
+
+// A place of a text, as an empty range.
+fn place_in(alloc: Global, text: &str, at: WideLineCol) -> Result<TextRange, Failure> {
+    match offset_of(&lines(alloc, text)?, at) {
+        Some(offset) => Ok(TextRange::empty(offset)),
+        None => Err(Failure::Place(spot_of(at))),
+    }
 }
 
 // The token at an empty range, or the deepest node or token around a range.
@@ -311,6 +288,25 @@ fn around(root: &SyntaxNode, range: TextRange) -> SyntaxElement {
     root.covering_element(range)
 }
 
+fn part_of(
+    alloc: Global,
+    text: &str,
+    root: &SyntaxNode,
+    part: Part,
+) -> Result<SyntaxElement, Failure> {
+    match part {
+        Part::Whole => Ok(NodeOrToken::Node(share(root))),
+        Part::At(at) => Ok(around(root, place_in(alloc, text, at)?)),
+        Part::Range(range) => {
+            if range.end() <= root.text_range().end() {
+                Ok(around(root, range))
+            } else {
+                Err(Failure::Range(range))
+            }
+        }
+    }
+}
+
 // The node that a page shows: the part itself, or the parent of a token.
 fn node_of(root: &SyntaxNode, part: &SyntaxElement) -> SyntaxNode {
     match part {
@@ -319,7 +315,8 @@ fn node_of(root: &SyntaxNode, part: &SyntaxElement) -> SyntaxNode {
     }
 }
 
-fn write_shown<W: Write>(
+// Writes a part of a tree and, if it is the whole tree or the form is JSON or a page, the errors of the text.
+fn write_drawing<W: Write>(
     alloc: Global,
     out: &mut W,
     name: &str,
@@ -331,7 +328,7 @@ fn write_shown<W: Write>(
     match showing.drawing {
         Drawing::Html => page::show(alloc, out, name, &node_of(root, part), errors, showing),
         Drawing::Json => {
-            write_file(out, name, errors)?;
+            tree_json::write_file(alloc, out, name, errors)?;
             write_part(alloc, out, part, showing)?;
             writeln!(out, "}}")
         }
@@ -346,7 +343,27 @@ fn write_shown<W: Write>(
     }
 }
 
-// Writes a tree and the errors of its text, or their numbers. Returns 0.
+fn write_shown<W: Write>(
+    alloc: Global,
+    out: &mut W,
+    source: Source<'_>,
+    root: &SyntaxNode,
+    part: &SyntaxElement,
+    errors: &[SyntaxError],
+    showing: &Showing,
+) -> io::Result<()> {
+    if showing.named {
+        writeln!(out, "==> {} <==", source.name)?;
+    }
+    if showing.stats {
+        let stats = stats_of(source, root, errors.len());
+        write_stats(alloc, out, &stats, showing.drawing)
+    } else {
+        write_drawing(alloc, out, source.name, root, part, errors, showing)
+    }
+}
+
+// Writes what is shown of a tree and of the errors of its text. Returns 0.
 fn write_tree<W: Write>(
     alloc: Global,
     out: &mut W,
@@ -355,32 +372,20 @@ fn write_tree<W: Write>(
     errors: &[SyntaxError],
     showing: &Showing,
 ) -> Result<u64, Failure> {
-    if showing.stats {
-        write_stats(out, source, root, errors.len(), showing.drawing)?;
-        return Ok(0);
-    }
-    let part = match range_of(alloc, source.text, root, showing.part)? {
-        Some(range) => around(root, range),
-        None => NodeOrToken::Node(share(root)),
-    };
-    write_shown(alloc, out, source.name, root, &part, errors, showing)?;
+    let part = part_of(alloc, source.text, root, showing.part)?;
+    write_shown(alloc, out, source, root, &part, errors, showing)?;
     Ok(0)
 }
 
-/// Writes the tree of a text and, in the forms of text and JSON, its errors; before it a line with the file's name if `named` is true.
-/// Returns 0: nothing counts as found.
+/// Writes the tree of a text and, in the forms of text and JSON, its errors. Returns 0: nothing counts as found.
 pub fn show<W: Write>(
     alloc: Global,
     out: &mut W,
     source: Source<'_>,
     reading: Reading,
-    named: bool,
     showing: &Showing,
 ) -> Result<u64, Failure> {
     let parse = parsed(alloc, source.text, reading)?;
-    if named {
-        writeln!(out, "==> {} <==", source.name)?;
-    }
     if !reading.validates {
         return write_tree(alloc, out, source, parse.root(), parse.stored(), showing);
     }

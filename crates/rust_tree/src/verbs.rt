@@ -190,7 +190,7 @@ const STATS: Row = Row {
     name: "stats",
     takes: Takes::Nothing,
     default: None,
-    conflicts: &[],
+    conflicts: &["at", "range"],
     help: "Shows the numbers of nodes, tokens, levels and errors instead of the tree",
 };
 
