@@ -13,7 +13,7 @@ use std::io::Write;
 #[derive(Drop, Serialize)]
 struct FileRecord<'a> {
     path: &'a str,
-    errors: [(); 0],
+    errors: [u8; 0],
 }
 
 // An error. In each record, `start` and `end` are offsets in bytes.
@@ -29,7 +29,7 @@ struct NodeRecord {
     kind: Named,
     start: u32,
     end: u32,
-    children: [(); 0],
+    children: [u8; 0],
 }
 
 #[derive(Drop, Serialize)]
