@@ -40,6 +40,11 @@ pub fn time_names(rt: &HostRuntime) -> Result<(), Stopped> {
     let (least, sum) = least_time(rt, RUNS, 0, || Ok(looked_up(names.as_slice())))?;
     let calls = (names.len() as u128).saturating_mul(TIMES as u128);
     let tenths = least.saturating_mul(10).checked_div(calls).unwrap_or(0);
-    println!(rt; "from_name {} {}.{}", names.len(), tenths / 10, tenths % 10)?;
+    println!(rt;
+        "from_name {} {}.{} {sum}",
+        names.len(),
+        tenths / 10,
+        tenths % 10
+    )?;
     Ok(())
 }
