@@ -66,6 +66,9 @@ impl SyntaxNode {
     ghost use Rattle.tree_model.specs.Rows.{IsRow, tree_at};
     ghost use Rattle.tree_model.specs.Cursor.{cursor_at};
     ghost use Rattle.tree_model.specs.Edit.{root_of};
+    ghost use Rattle.std.specs.Prelude.{◌↔◌, ◌≤◌, Option, Some, None, IfSome};
+    ghost use Rattle.tree_model.specs.Tree.{size};
+    ghost use Rattle.lossless_tree.specs.Element.{element_of};
 
     // The root of the tree of a table whose first row is a node.
     pub(crate) fn root(alloc: Global, table: Table) -> Result<SyntaxNode, AllocError>
@@ -83,6 +86,43 @@ impl SyntaxNode {
         ensures { result ≡ cursor_at table.value row }
     {
         SyntaxNode { table, row }
+    }
+
+    /// The table of the whole tree, for crates that work on its rows.
+    pub fn table(&self) -> &Shared<Table>
+        ensures { result.now.value ≡ self.now.tree }
+    {
+        &self.table
+    }
+
+    /// The root of the tree of a table, or `None` if its first row is a token. For crates that build tables.
+    pub fn of_table(alloc: Global, table: Table) -> Result<Option<SyntaxNode>, AllocError>
+        ensures some { IsNode table → IfOk result (λ o. o ≡ Some (root_of table)) }
+        ensures none { IfOk result (λ o. o ≡ None → IsNode table → ⊥) }
+    {
+        if table.is_token_at(0) {
+            return Ok(None);
+        }
+        Ok(Some(SyntaxNode::root(alloc, table)?))
+    }
+
+    /// The node or token at a row of [`SyntaxNode::table`], or `None` if it has fewer rows. Takes constant time.
+    pub fn element_at_row(&self, row: usize) -> Option<SyntaxElement>
+        ensures some { IfSome result (λ e. e ≡ element_of (cursor_at self.now.tree row)) }
+        ensures none { result ≡ None ↔ size self.now.tree ≤ row }
+    {
+        if row < self.table.len() {
+            return Some(element(&self.table, row));
+        }
+        None
+    }
+
+    /// The row of the node in [`SyntaxNode::table`]: its number in a preorder walk of the whole tree, from 0 for the root.
+    pub fn row(&self) -> usize
+        ensures is_row { IsRow self.now.tree result }
+        ensures place { cursor_at self.now.tree result ≡ self.now }
+    {
+        self.row
     }
 
     // What a node and a token have in common, borrowed.

@@ -64,6 +64,21 @@ impl SyntaxToken {
         SyntaxToken { table, row }
     }
 
+    /// The table of the whole tree, for crates that work on its rows.
+    pub fn table(&self) -> &Shared<Table>
+        ensures { result.now.value ≡ self.now.tree }
+    {
+        &self.table
+    }
+
+    /// The row of the token in [`SyntaxToken::table`]: its number in a preorder walk of the whole tree, from 0 for the root.
+    pub fn row(&self) -> usize
+        ensures is_row { IsRow self.now.tree result }
+        ensures place { cursor_at self.now.tree result ≡ self.now }
+    {
+        self.row
+    }
+
     // What a node and a token have in common, borrowed.
     pub(crate) fn cursor(&self) -> TreeCursor<'_>
         ensures place { result ≡ self.now }
