@@ -4,6 +4,9 @@ import re
 
 ONE, TWO, THREE, WORD = range(4)
 ANSWERS = {"no": 0, "yes": 1, "block": 2}
+# The words that begin a statement, or follow `take`: a call of a rule with such a name would silently be something else.
+RESERVED = {*ANSWERS, "if", "else", "while", "loop", "break", "continue", "return", "node", "mark", "wrap", "extend", "error", "blame", "recover", "take", "take2",
+            "take3", "piece", "note", "forget", "operator", "list", "word"}
 NONE, END = 0, 1
 
 
@@ -154,6 +157,8 @@ class Grammar:
             name = words.take()
             if name in self.rules:
                 words.fail(f"the rule {name} is there twice")
+            if name in RESERVED:
+                words.fail(f"no rule is named {name}, which is a word of the language")
             words.need("{")
             self.rules[name] = Rule(self, name).ops
         else:

@@ -44,7 +44,7 @@ use std::fmt::Write;
 use std::io;
 use std::process::ExitCode;
 use stopped::Stopped;
-use tiny_front::TINY;
+use tiny_front::Tiny;
 use tiny_lexer::TinyLexer;
 use token_layout::SpanFront;
 use useless::Useless;
@@ -67,8 +67,8 @@ fn show_run(alloc: Global, out: &mut String, command: &str, input: &[u8]) -> Res
 }
 
 fn show_name(out: &mut String, word: &str) -> Result<(), Stopped> {
-    let identifier = is_identifier(word, &TINY, Edition::CURRENT);
-    let raw = is_raw_identifier(word, &TINY, Edition::CURRENT);
+    let identifier = is_identifier(word, &Tiny, Edition::CURRENT);
+    let raw = is_raw_identifier(word, &Tiny, Edition::CURRENT);
     Ok(writeln!(out, "identifier {identifier}, raw {raw}")?)
 }
 
@@ -111,7 +111,7 @@ fn show(alloc: Global, out: &mut String, request: &str, rest: &str) -> Result<()
     let (word, text) = rest.split_once(' ').unwrap_or((rest, ""));
     match (request, word) {
         ("run", _) => show_run(alloc, out, word, text.as_bytes()),
-        (_, "tiny") => show_by(alloc, out, &TINY, request, text),
+        (_, "tiny") => show_by(alloc, out, &Tiny, request, text),
         (_, "wrong") => show_by(alloc, out, &with(Useless::Wrong), request, text),
         (_, "flat") => show_by(alloc, out, &with(Useless::Flat), request, text),
         _ => Err(Stopped::NoRequest),

@@ -5,7 +5,7 @@ use ra_ap_syntax::ast::{self, HasModuleItem, HasName};
 use ra_ap_syntax::{AstNode, Edition, SourceFile, SyntaxElement, SyntaxNode};
 use std::alloc::Global;
 use std::fmt::Write;
-use tiny_front::TINY;
+use tiny_front::Tiny;
 
 fn show_node(out: &mut String, tail: &SyntaxNode) -> Result<(), Stopped> {
     Ok(writeln!(
@@ -102,7 +102,7 @@ fn show_items(out: &mut String, file: &SourceFile) -> Result<(), Stopped> {
 
 /// Prints each function of a file: its name, its tail, and what is around the tail.
 pub fn show_walk(alloc: Global, out: &mut String, text: &str) -> Result<(), Stopped> {
-    let parse = SourceFile::parse(alloc, text, &TINY, Edition::CURRENT)?;
+    let parse = SourceFile::parse(alloc, text, &Tiny, Edition::CURRENT)?;
     match parse.tree() {
         Some(file) => show_items(out, &file),
         None => Ok(()),

@@ -9,7 +9,7 @@ use crate::timing::least_time;
 use call::Call;
 use ra_ap_syntax::{Edition, ast};
 use shape::Shape;
-use tiny_front::TINY;
+use tiny_front::Tiny;
 
 const SHAPES: [Shape; 6] = [
     Shape::Flat,
@@ -54,7 +54,7 @@ fn time_calls(
 
 fn time_shape(rt: &HostRuntime, shape: Shape, operators: u32) -> Result<(), Stopped> {
     let text = shape.text(rt.alloc(), operators)?;
-    let parse = ast::Expr::parse(rt.alloc(), text.as_str(), &TINY, Edition::CURRENT)?;
+    let parse = ast::Expr::parse(rt.alloc(), text.as_str(), &Tiny, Edition::CURRENT)?;
     match parse.tree() {
         Some(expr) => time_calls(rt, shape, operators, &expr),
         None => Err(Stopped::NoExpression),

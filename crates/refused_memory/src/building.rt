@@ -5,7 +5,7 @@ use ra_ap_syntax::{
     SyntaxNode, SyntaxTreeBuilder, TreeBuilder, WalkEvent,
 };
 use std::alloc::{AllocError, Global};
-use tiny_front::TINY;
+use tiny_front::Tiny;
 
 // A short file, one in the middle of its lines, and one that ends in a string without its quote.
 const TEXTS: [&str; 3] = [
@@ -187,7 +187,7 @@ fn rebuild(rt: &HostRuntime, parse: &Parse<SourceFile>) -> Result<(), Stopped> {
 fn parsed(alloc: Global, text: &str) -> Result<Parse<SourceFile>, Stopped> {
     let (parse, _) = crate::asked!(
         "parse",
-        SourceFile::parse(alloc, text, &TINY, Edition::CURRENT)
+        SourceFile::parse(alloc, text, &Tiny, Edition::CURRENT)
     );
     Ok(parse)
 }

@@ -7,7 +7,7 @@ use ra_ap_syntax::{
     SyntaxTreeBuilder, TextSize, ast, utils,
 };
 use std::alloc::{AllocError, Global};
-use tiny_front::TINY;
+use tiny_front::Tiny;
 
 const NOW: Edition = Edition::CURRENT;
 
@@ -54,7 +54,7 @@ struct Built {
 }
 
 fn build(alloc: Global) -> Result<Built, Stopped> {
-    let file = match SourceFile::parse(alloc, "fn f() { 1 + }", &TINY, NOW) {
+    let file = match SourceFile::parse(alloc, "fn f() { 1 + }", &Tiny, NOW) {
         Ok(file) => file,
         Err(_) => return Err(Stopped::Twice("parse")),
     };
@@ -107,13 +107,13 @@ fn parses(rt: &HostRuntime, file: Parse<SourceFile>) -> Result<(), Stopped> {
 fn names(rt: &HostRuntime) -> Result<(), Stopped> {
     println!(rt;
         "is_identifier: {} {}",
-        utils::is_identifier("a", &TINY, NOW),
-        utils::is_identifier("fn", &TINY, NOW)
+        utils::is_identifier("a", &Tiny, NOW),
+        utils::is_identifier("fn", &Tiny, NOW)
     )?;
     println!(rt;
         "is_raw_identifier: {} {}",
-        utils::is_raw_identifier("fn", &TINY, NOW),
-        utils::is_raw_identifier("a", &TINY, NOW)
+        utils::is_raw_identifier("fn", &Tiny, NOW),
+        utils::is_raw_identifier("a", &Tiny, NOW)
     )?;
     Ok(())
 }

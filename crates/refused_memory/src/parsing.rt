@@ -2,7 +2,7 @@
 use crate::asking::{First, Stopped, say};
 use ra_ap_syntax::{Edition, OkError, Parse, ParseError, SourceFile, TextRange, TextSize};
 use std::alloc::Global;
-use tiny_front::TINY;
+use tiny_front::Tiny;
 
 type File = Parse<SourceFile>;
 
@@ -31,7 +31,7 @@ fn edited(alloc: Global, old: &File, edit: Edit) -> Result<Option<File>, ParseEr
         return Ok(None);
     }
     let delete = TextRange::new(TextSize::new(start), TextSize::new(end));
-    Ok(Some(old.reparse(alloc, &TINY, delete, insert, NOW)?))
+    Ok(Some(old.reparse(alloc, &Tiny, delete, insert, NOW)?))
 }
 
 // The piece that is parsed again, if it is not the whole text.
@@ -43,7 +43,7 @@ fn replaced(alloc: Global, old: &File, edit: Edit) -> Result<Option<TextRange>, 
         return Ok(None);
     }
     let delete = TextRange::new(TextSize::new(start), TextSize::new(end));
-    let piece = old.incremental_reparse(alloc, &TINY, delete, insert, NOW)?;
+    let piece = old.incremental_reparse(alloc, &Tiny, delete, insert, NOW)?;
     Ok(piece.map(|(_, range)| range))
 }
 
@@ -113,7 +113,7 @@ fn ok(rt: &HostRuntime, name: &'static str, parse: &File) -> Result<(), Stopped>
 }
 
 fn parsed(rt: &HostRuntime, text: &str) -> Result<File, Stopped> {
-    let (file, first) = crate::asked!("parse", SourceFile::parse(rt.alloc(), text, &TINY, NOW));
+    let (file, first) = crate::asked!("parse", SourceFile::parse(rt.alloc(), text, &Tiny, NOW));
     let len = file.syntax_node().text_range().len().raw();
     say(rt, "parse", first, true, len)?;
     Ok(file)

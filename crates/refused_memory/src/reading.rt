@@ -7,7 +7,7 @@ use ra_ap_syntax::ast::ValueError;
 use ra_ap_syntax::ast::prec::needless_parens;
 use ra_ap_syntax::{AstNode, AstToken, Edition, SyntaxKind, SyntaxNode, SyntaxToken, ast};
 use std::alloc::{AllocError, Global};
-use tiny_front::TINY;
+use tiny_front::Tiny;
 
 const PAIRS: &str = "((a)) + (b * c)";
 
@@ -203,7 +203,7 @@ fn parentheses(rt: &HostRuntime) -> Result<(), Stopped> {
     let alloc = rt.alloc();
     let (parse, _) = crate::asked!(
         "parse",
-        ast::Expr::parse(alloc, PAIRS, &TINY, Edition::CURRENT)
+        ast::Expr::parse(alloc, PAIRS, &Tiny, Edition::CURRENT)
     );
     match parse.tree() {
         Some(expr) => pairs(rt, &expr),

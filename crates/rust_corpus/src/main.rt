@@ -18,7 +18,7 @@ use ra_ap_syntax::Edition;
 use rust_front::Rust;
 use std::process::ExitCode;
 use std::{env, fs, io};
-use tiny_front::TINY;
+use tiny_front::Tiny;
 
 fn edition_of(word: &str) -> Edition {
     match word {
@@ -57,7 +57,7 @@ impl Asked {
         let (word, rest) = line.split_once('\t').unwrap_or(("2024", line));
         let text = rest.replace(rt.alloc(), "\\n", "\n")?;
         match word {
-            "tiny" => self.every.try_text(rt, &TINY, text.as_str()),
+            "tiny" => self.every.try_text(rt, &Tiny, text.as_str()),
             "rust" => self.every.try_text(rt, &Rust, text.as_str()),
             _ => self.file(rt, word, rest),
         }

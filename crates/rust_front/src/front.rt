@@ -21,8 +21,8 @@ use token_layout::Token;
 
 /// The front end for Rust, of the editions 2015 to 2024.
 ///
-/// Its trees, messages and positions are those of rust-analyzer's parser. Takes time and memory linear in the text, and does not
-/// recurse.
+/// Its trees, messages and positions are those of rust-analyzer's parser, but for the differences that `docs/DIFFERENCES.md` lists under
+/// "Rust". Takes time and memory linear in the text, and does not recurse.
 #[derive(Clone, Copy, Debug, Drop)]
 pub struct Rust;
 

@@ -1,7 +1,7 @@
 pub mod SpotLemmas
 pub mod Kept
 pub mod StepLemmas
-pub mod PatternLemmas
+pub mod MarkLemmas
 pub mod WordLemmas
 pub mod TextsLemmas
 pub mod EscapesLemmas

@@ -2,7 +2,7 @@ pub mod Spots
 pub mod Outlines
 pub mod Steps
 pub mod Patterns
-pub mod Climbs
+pub mod Marks
 pub mod Words
 pub mod Differences
 pub mod Texts

@@ -1,5 +1,6 @@
 -- Places of a text by the line and the column that people count, from 1.
-use Rattle.std.specs.Prelude.{◌≡◌, ℕ, ◌+◌, ◌≤◌, List, length}
+use Rattle.std.specs.Prelude.{◌≡◌, ℕ, ◌+◌, ◌≤◌, List, ◌∷◌, ◌++◌, length}
+use Rattle.std.specs.Fmt.{decimal}
 use Rattle.std.specs.Str.{IsCharBoundary}
 use Rattle.line_index.specs.declared.line_col.WideEncoding.TheVariants.{Utf32}
 use Rattle.line_index.specs.declared.line_col.WideLineCol.{WideLineCol}
@@ -20,3 +21,7 @@ NoSpot s o = o ≤ length s → IsCharBoundary s o → ⊥
 -- a line and a column that are counted from 0, each counted from 1
 abbrev pub spot_of : WideLineCol → Spot
 spot_of at = record { line = at.line + 1; column = at.col + 1 }
+
+-- a place as it is printed: its line, `:` and its column
+abbrev pub spot_text : Spot → List ℕ
+spot_text at = decimal at.line ++ 58 ∷ decimal at.column

@@ -73,3 +73,9 @@ IsFirstSign s None = (link : Link) → words link s ≡ (link, s) ∷ []
 IsFirstSign s (Some cut) =
     (cut.0 + width cut.1 ≤ length s) × (slice_index s cut.0 < 128) × (slice_index s (cut.0 + width cut.1 - 1) < 128)
     × ((link : Link) → words link s ≡ (link, take cut.0 s) ∷ words cut.1 (drop (cut.0 + width cut.1) s))
+
+-- what an error says
+abbrev pub error_text : PatternError → List ℕ
+error_text NoKind = codes "a kind is missing"
+error_text (UnknownKind s) = codes "no kind is named `" ++ (string_bytes s ++ codes "`")
+error_text Memory = codes "out of memory"

@@ -17,6 +17,11 @@ pub struct Spot {
 }
 
 impl fmt::Display for Spot {
+    ghost use Rattle.std.specs.Prelude.{Some};
+    ghost use Rattle.rust_report.specs.Spots.{spot_text};
+
+    ghost output = { λ at. Some (spot_text at) };
+
     fn fmt<W: fmt::Write>(&self, f: &mut fmt::Formatter<W>) -> fmt::Result {
         write!(f, "{}:{}", self.line, self.column)
     }

@@ -11,20 +11,36 @@ use crate::pattern::{Link, Step};
 use lossless_tree::SyntaxKind;
 use rust_kinds::from_name;
 use std::alloc::{AllocError, AllocFailed, Global};
+use std::error::Error;
+use std::fmt;
 
 /// Why a text is not a pattern.
-#[derive(Debug, Drop, thiserror::Error)]
+#[derive(Debug, Drop)]
 pub enum PatternError {
     /// A kind is missing at the start, at the end, or between two signs.
-    #[error("a kind is missing")]
     NoKind,
     /// No kind has this name.
-    #[error("no kind is named `{0}`")]
     UnknownKind(String),
     /// Out of memory.
-    #[error("out of memory")]
     Memory,
 }
+
+impl fmt::Display for PatternError {
+    ghost use Rattle.std.specs.Prelude.{Some};
+    ghost use Rattle.rust_report.specs.Words.{error_text};
+
+    ghost output = { λ error. Some (error_text error) };
+
+    fn fmt<W: fmt::Write>(&self, f: &mut fmt::Formatter<W>) -> fmt::Result {
+        match self {
+            PatternError::NoKind => f.write_str("a kind is missing"),
+            PatternError::UnknownKind(word) => write!(f, "no kind is named `{word}`"),
+            PatternError::Memory => f.write_str("out of memory"),
+        }
+    }
+}
+
+impl Error for PatternError {}
 
 impl From<AllocError> for PatternError {
     ghost use Rattle.std.specs.Prelude.{◌≡◌};

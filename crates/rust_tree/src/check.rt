@@ -3,7 +3,7 @@
 use crate::failure::Failure;
 use crate::json;
 use crate::options::{Asked, Form};
-use crate::shown::write_place;
+use crate::shown::{name, write_place};
 use crate::source::{Source, move_to, parsed, spot, spots};
 use crate::style::Style;
 use ras_front_end::SyntaxError;
@@ -29,15 +29,15 @@ struct ErrorRecord<'a> {
 // Writes the line that an error is in, or the part of a long line around it, and marks the error in the line below.
 fn write_text<W: Write>(
     out: &mut W,
-    name: &str,
+    path: &str,
     spots: &mut Spots<'_>,
     error: &SyntaxError,
     style: Style,
 ) -> io::Result<()> {
     let from = move_to(spots, error.range().start());
     let (red, plain) = (style.red(), style.plain());
-    write_place(out, name, from, style)?;
-    writeln!(out, "{red}{}{plain}", error.message())?;
+    write_place(out, path, from, style)?;
+    writeln!(out, "{red}{}{plain}", name(error.message()))?;
     let excerpt = excerpt_at(spots.lines(), error.range());
     writeln!(out, "{:>5} | {excerpt}", from.line)?;
     writeln!(out, "      | {red}{}{plain}", Marks { excerpt })
@@ -95,9 +95,17 @@ fn write_all<W: Write>(
     errors: &[SyntaxError],
     asked: Asked,
 ) -> Result<u64, Failure> {
-    let Source { name, text } = source;
+    if errors.is_empty() {
+        return Ok(0);
+    }
+    let Source { name, text, .. } = source;
     let mut spots = spots(alloc, text)?;
+    let mut left = asked.max_errors;
     for error in errors {
+        if left == 0 {
+            break;
+        }
+        left -= 1;
         match asked.format {
             Form::Text => write_text(out, name, &mut spots, error, asked.style)?,
             Form::Json => write_json(alloc, out, name, &mut spots, error)?,
@@ -107,7 +115,7 @@ fn write_all<W: Write>(
     Ok(errors.len() as u64)
 }
 
-/// Writes the errors of a text. Returns their number.
+/// Writes the errors of a text, at most `asked.max_errors`. Returns the number of all of them.
 pub fn check<W: Write>(
     alloc: Global,
     out: &mut W,

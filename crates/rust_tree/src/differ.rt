@@ -2,6 +2,7 @@
 
 use crate::failure::Failure;
 use crate::names::Named;
+use crate::shown::{cut, name};
 use crate::source::{Reading, Source, move_to, parsed, spots};
 use lossless_tree::{NodeOrToken, SyntaxElement, TextSize, WalkEvent};
 use rust_report::{Difference, Spots, Trivia, differences};
@@ -10,16 +11,22 @@ use std::io;
 use std::io::Write;
 
 // Writes a node, or a token with its text.
-fn write_element<W: Write>(out: &mut W, element: &SyntaxElement) -> io::Result<()> {
+fn write_element<W: Write>(alloc: Global, out: &mut W, element: &SyntaxElement) -> io::Result<()> {
     let kind = Named(element.kind());
     match element {
         NodeOrToken::Node(_) => writeln!(out, "{kind}"),
-        NodeOrToken::Token(token) => writeln!(out, "{kind} {:?}", token.text()),
+        NodeOrToken::Token(token) => {
+            let (text, is_cut) = cut(token.text());
+            let end = if is_cut { " .." } else { "" };
+            let text = format!(in alloc; "{text:?}")?;
+            writeln!(out, "{kind} {}{end}", name(text.as_str()))
+        }
     }
 }
 
 // Writes the event of one tree: a node, a token with its text, or the end of a node; the end of the text if the walk has ended.
 fn write_side<W: Write>(
+    alloc: Global,
     out: &mut W,
     source: Source<'_>,
     spots: &mut Spots<'_>,
@@ -30,11 +37,11 @@ fn write_side<W: Write>(
         Some(WalkEvent::Leave(element)) => element.text_range().end(),
         Some(WalkEvent::Enter(element)) => element.text_range().start(),
     };
-    write!(out, "{}:{}: ", source.name, move_to(spots, offset))?;
+    write!(out, "{}:{}: ", name(source.name), move_to(spots, offset))?;
     match event {
         None => writeln!(out, "the end"),
         Some(WalkEvent::Leave(element)) => writeln!(out, "the end of {}", Named(element.kind())),
-        Some(WalkEvent::Enter(element)) => write_element(out, element),
+        Some(WalkEvent::Enter(element)) => write_element(alloc, out, element),
     }
 }
 
@@ -63,8 +70,8 @@ fn write_all<W: Write>(
         if places == limit {
             return Ok(Told { places, more: true });
         }
-        write_side(out, old, &mut old_spots, &difference.old)?;
-        write_side(out, new, &mut new_spots, &difference.new)?;
+        write_side(alloc, out, old, &mut old_spots, &difference.old)?;
+        write_side(alloc, out, new, &mut new_spots, &difference.new)?;
         places = places.saturating_add(1);
     }
     Ok(Told {

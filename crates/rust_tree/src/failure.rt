@@ -1,6 +1,7 @@
 //! Errors that end the report on a file.
 
 use crate::session::{UNREAD, USAGE};
+use crate::shown::name;
 use lossless_tree::TextRange;
 use ras_front_end::ParseError;
 use rust_report::Spot;
@@ -16,6 +17,10 @@ pub enum Failure {
     Text(ParseError),
     /// The file cannot be written.
     File(io::Error),
+    /// The file was found by a search and leads out of the folder that was searched, so it is not written.
+    Outside,
+    /// The new file beside this one, with this path, cannot be written.
+    Beside(String, io::Error),
     /// The text has no such place.
     Place(Spot),
     /// The text ends before this range does.
@@ -45,18 +50,32 @@ impl Failure {
     pub fn status(&self) -> u8 {
         match self {
             Failure::Place(_) | Failure::Range(_) => USAGE,
-            Failure::Output(_) | Failure::Text(_) | Failure::File(_) => UNREAD,
+            Failure::Output(_)
+            | Failure::Text(_)
+            | Failure::File(_)
+            | Failure::Outside
+            | Failure::Beside(..) => UNREAD,
         }
     }
 
     /// Reports the error of a file on standard error. Returns it if it is one of the output.
-    pub fn tell(self, rt: &HostRuntime, name: &str) -> io::Result<()> {
+    pub fn tell(self, rt: &HostRuntime, path: &str) -> io::Result<()> {
+        let file = name(path);
         match self {
             Failure::Output(error) => Err(error),
-            Failure::Text(error) => eprintln!(rt; "rust_tree: {name}: {error}"),
-            Failure::File(error) => eprintln!(rt; "rust_tree: {name}: {error}"),
-            Failure::Place(place) => eprintln!(rt; "rust_tree: {name}: no place {place}"),
-            Failure::Range(range) => eprintln!(rt; "rust_tree: {name}: no range {range}"),
+            Failure::Text(error) => eprintln!(rt; "rust_tree: {file}: {error}"),
+            Failure::File(error) => eprintln!(rt; "rust_tree: {file}: {error}"),
+            Failure::Outside => {
+                eprintln!(rt; "rust_tree: {file}: not changed, since it leads out of the folder")
+            }
+            Failure::Beside(new, error) => {
+                eprintln!(rt;
+                    "rust_tree: {file}: not changed, since {} could not be written: {error}",
+                    name(new.as_str())
+                )
+            }
+            Failure::Place(place) => eprintln!(rt; "rust_tree: {file}: no place {place}"),
+            Failure::Range(range) => eprintln!(rt; "rust_tree: {file}: no range {range}"),
         }
     }
 }

@@ -1,8 +1,9 @@
 //! Patches, and replacing the text of files.
 
 use crate::failure::Failure;
+use crate::shown;
 use crate::source::Source;
-use rust_report::{lines_of, noun_for, other_front, same_front};
+use rust_report::{Quoted, lines_of, noun_for, other_front, same_front};
 use std::alloc::Global;
 use std::fs::File;
 use std::io::{ErrorKind, Write};
@@ -41,74 +42,179 @@ fn write_changes<W: Write>(out: &mut W, old: &[&str], new: &[&str]) -> io::Resul
     Ok(())
 }
 
+// Whether `git apply` and `patch` take a name as it is: it leads down from the folder that they run in.
+fn leads_down(name: &str) -> bool {
+    !name.split('/').any(|part| matches!(part, "" | "." | ".."))
+}
+
+// The name of a file from the folder that the program runs in, or `None` if the file is not below it.
+fn name_below(rt: &HostRuntime, name: &str) -> io::Result<Option<String>> {
+    let (folder, path) = (fs::canonicalize(rt, ".")?, fs::canonicalize(rt, name)?);
+    match path_below(folder.as_str(), path.as_str()) {
+        Some(rest) => Ok(Some(String::from_str(rt.alloc(), rest)?)),
+        None => Ok(None),
+    }
+}
+
+// What follows the path of a folder in the path of what is below it.
+fn path_below<'a>(folder: &str, path: &'a str) -> Option<&'a str> {
+    if folder == "/" {
+        return path.strip_prefix("/");
+    }
+    path.strip_prefix(folder)?.strip_prefix("/")
+}
+
+// The name of a file in a patch. If `git apply` and `patch` do not take it, standard error says so.
+fn patch_name(rt: &HostRuntime, path: &str) -> io::Result<Option<String>> {
+    if path == "-" || leads_down(path) {
+        return Ok(None);
+    }
+    let below = name_below(rt, path)?;
+    if below.is_none() {
+        eprintln!(rt;
+            "rust_tree: {}: `patch` and `git apply` refuse this file unless they run in a folder above it",
+            shown::name(path)
+        )?;
+    }
+    Ok(below)
+}
+
+fn write_patch<W: Write>(
+    alloc: Global,
+    out: &mut W,
+    path: &str,
+    old: &str,
+    new: &str,
+) -> Result<(), Failure> {
+    let name = Quoted { name: path };
+    // Without the tab, `patch` reads a name that is not in quotes up to its first blank.
+    let end = if path.contains(' ') { "\t" } else { "" };
+    writeln!(out, "--- {name}{end}\n+++ {name}{end}")?;
+    let (old, new) = (lines_of(alloc, old)?, lines_of(alloc, new)?);
+    Ok(write_changes(out, old.as_slice(), new.as_slice())?)
+}
+
 /// Writes the change of a file as a patch.
 pub fn diff<W: Write>(
-    alloc: Global,
+    rt: &HostRuntime,
     out: &mut W,
     source: Source<'_>,
     new: &str,
 ) -> Result<(), Failure> {
-    let Source { name, text } = source;
-    // Without the tab, `patch` reads the name up to its first blank.
-    let end = if name.contains(' ') { "\t" } else { "" };
-    writeln!(out, "--- {name}{end}\n+++ {name}{end}")?;
-    let (old, new) = (lines_of(alloc, text)?, lines_of(alloc, new)?);
-    Ok(write_changes(out, old.as_slice(), new.as_slice())?)
+    let below = match patch_name(rt, source.name) {
+        Ok(below) => below,
+        Err(error) => return Err(Failure::File(error)),
+    };
+    let path = match &below {
+        Some(path) => path.as_str(),
+        None => source.name,
+    };
+    write_patch(rt.alloc(), out, path, source.text, new)
 }
 
-// Creates a file in the folder of another. Its name is that file's name with the first of `.0.new`, `.1.new`, .. that is free.
-fn new_beside(rt: &HostRuntime, path: &str) -> io::Result<(File, String)> {
-    for number in 0..100 {
-        let name = format!(in rt.alloc(); "{path}.{number}.new")?;
-        match File::create_new(rt, name.as_str()) {
-            Ok(file) => return Ok((file, name)),
-            Err(error) => {
-                if error.kind() != ErrorKind::AlreadyExists {
-                    return Err(error);
-                }
-            }
-        }
+// The path of the new file beside another, which takes its name once it is written.
+fn path_beside(alloc: Global, path: &str) -> io::Result<String> {
+    let (folder, name) = path.rsplit_once('/').unwrap_or(("", path));
+    Ok(format!(in alloc; "{folder}/.{name}.rust_tree-new")?)
+}
+
+// Takes away the new file that an interrupted run left beside a file. Anything else of that name, such as a link, stays.
+fn remove_beside(rt: &HostRuntime, new: &str) -> io::Result<()> {
+    if fs::symlink_metadata(rt, new).is_ok_and(|found| found.is_file()) {
+        fs::remove_file(rt, new)?;
+        eprintln!(rt;
+            "rust_tree: {}: removed; an interrupted run left it",
+            shown::name(new)
+        )?;
     }
-    Err(io::Error::from(ErrorKind::AlreadyExists))
+    Ok(())
+}
+
+/// Takes away the new file that an interrupted run left beside a file.
+pub fn tidy(rt: &HostRuntime, name: &str) -> Result<(), Failure> {
+    let done = match fs::canonicalize(rt, name) {
+        Ok(path) => match path_beside(rt.alloc(), path.as_str()) {
+            Ok(new) => remove_beside(rt, new.as_str()),
+            Err(error) => Err(error),
+        },
+        Err(error) => Err(error),
+    };
+    match done {
+        Ok(()) => Ok(()),
+        Err(error) => Err(Failure::File(error)),
+    }
 }
 
 // Writes the text to a new file, gives it the permissions of the old file, and renames it to the old file's name.
-fn write_new(rt: &HostRuntime, mut file: File, new: &str, old: &str, text: &str) -> io::Result<()> {
+fn write_new(rt: &HostRuntime, new: &str, old: &str, text: &str) -> io::Result<()> {
+    let mut file = File::create_new(rt, new)?;
     file.write_all(text.as_bytes())?;
     file.set_permissions(fs::metadata(rt, old)?.permissions())?;
     file.sync_all()?;
     fs::rename(rt, new, old)
 }
 
-// Replaces the text of a file by writing a new file and renaming it, so that at every moment the file has the old text or the new one.
-// If the name is that of a link, its target is replaced. A file that must not be written is not replaced.
-fn replace(rt: &HostRuntime, name: &str, text: &str) -> io::Result<()> {
+// Replaces the text of the file at a path without links by writing a new file and renaming it, so that at every moment the file has the old
+// text or the new one. A file that must not be written is not replaced.
+fn replace(rt: &HostRuntime, path: &str, text: &str) -> Result<(), Failure> {
+    let new = match path_beside(rt.alloc(), path) {
+        Ok(new) => new,
+        Err(error) => return Err(Failure::File(error)),
+    };
+    match write_new(rt, new.as_str(), path, text) {
+        Ok(()) => Ok(()),
+        Err(error) => {
+            // What stood there before is not this run's.
+            if error.kind() != ErrorKind::AlreadyExists {
+                let _gone = fs::remove_file(rt, new.as_str());
+            }
+            Err(Failure::Beside(new, error))
+        }
+    }
+}
+
+// The path without links of a file that may be written. A file that a search found has to be below the folder that was searched.
+fn path_of(rt: &HostRuntime, name: &str, folder: Option<&str>) -> io::Result<Option<String>> {
     let path = fs::canonicalize(rt, name)?;
+    if let Some(folder) = folder {
+        let folder = fs::canonicalize(rt, folder)?;
+        if path_below(folder.as_str(), path.as_str()).is_none() {
+            return Ok(None);
+        }
+    }
     if fs::metadata(rt, path.as_str())?.permissions().readonly() {
         return Err(io::Error::from(ErrorKind::PermissionDenied));
     }
-    let (file, new) = new_beside(rt, path.as_str())?;
-    let done = write_new(rt, file, new.as_str(), path.as_str(), text);
-    if done.is_err() {
-        let _gone = fs::remove_file(rt, new.as_str());
-    }
-    done
+    Ok(Some(String::from_str(rt.alloc(), path.as_str())?))
 }
 
-/// Replaces the text of a file, and writes how many pairs were removed. For standard input, writes the text to the output.
+fn write_over(
+    rt: &HostRuntime,
+    name: &str,
+    folder: Option<&str>,
+    text: &str,
+) -> Result<(), Failure> {
+    match path_of(rt, name, folder) {
+        Ok(Some(path)) => replace(rt, path.as_str(), text),
+        Ok(None) => Err(Failure::Outside),
+        Err(error) => Err(Failure::File(error)),
+    }
+}
+
+/// Replaces the text of a file, and writes how many pairs were removed. For standard input, writes the text to the output. `folder` is the
+/// folder whose search found the file.
 pub fn fix<W: Write>(
     rt: &HostRuntime,
     out: &mut W,
     name: &str,
+    folder: Option<&str>,
     text: &str,
     count: usize,
 ) -> Result<(), Failure> {
     if name == "-" {
         return Ok(out.write_all(text.as_bytes())?);
     }
-    if let Err(error) = replace(rt, name, text) {
-        return Err(Failure::File(error));
-    }
+    write_over(rt, name, folder, text)?;
     let pairs = noun_for(count as u64, "pair", "pairs");
-    Ok(writeln!(out, "{name}: {count} {pairs} removed")?)
+    Ok(writeln!(out, "{}: {count} {pairs} removed", shown::name(name))?)
 }

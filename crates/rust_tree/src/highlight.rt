@@ -3,8 +3,8 @@
 use crate::failure::Failure;
 use crate::html::{in_html, write_head};
 use crate::source::{Reading, Source, parsed};
-use lossless_tree::{NodeOrToken, SyntaxNode};
-use rust_report::{Role, role_of};
+use lossless_tree::{NodeOrToken, SyntaxNode, SyntaxToken};
+use rust_report::{Escaped, Medium, Role, role_of};
 use std::alloc::Global;
 use std::io;
 use std::io::Write;
@@ -89,27 +89,56 @@ fn write_html<W: Write>(out: &mut W, role: Role, text: &str) -> io::Result<()> {
     }
 }
 
-// Writes a text in the colour of a role, which ends before each line feed and begins again after it.
-fn write_ansi<W: Write>(out: &mut W, role: Role, text: &str) -> io::Result<()> {
+// What ends a line of a token: a line feed, with the carriage return before it. A carriage return that ends a comment is before the line
+// feed of the next token.
+fn line_end(line: &str, is_before_feed: bool) -> &str {
+    let end = if line.ends_with("\r\n") {
+        2
+    } else if line.ends_with('\n') || (is_before_feed && line.ends_with('\r')) {
+        1
+    } else {
+        0
+    };
+    line.get(line.len().saturating_sub(end)..).unwrap_or("")
+}
+
+// Writes a text in the colour of a role, which ends before each line feed and begins again after it. Other control characters are shown as
+// symbols: a file must not move the cursor of a terminal.
+fn write_ansi<W: Write>(
+    out: &mut W,
+    role: Role,
+    text: &str,
+    is_before_feed: bool,
+) -> io::Result<()> {
     let escape = escape_of(role);
-    if escape.is_empty() {
-        return out.write_all(text.as_bytes());
-    }
+    let plain = if escape.is_empty() { "" } else { "\u{1b}[0m" };
     for line in text.split_inclusive('\n') {
-        let shown = line.trim_end_matches(['\n', '\r']);
-        let end = line.get(shown.len()..).unwrap_or("");
-        write!(out, "{escape}{shown}\u{1b}[0m{end}")?;
+        let end = line_end(line, is_before_feed);
+        let shown = Escaped {
+            text: line.strip_suffix(end).unwrap_or(""),
+            medium: Medium::Terminal,
+        };
+        write!(out, "{escape}{shown}{plain}{end}")?;
     }
     Ok(())
 }
 
+// Whether a line feed follows a token.
+fn is_before_feed(text: &str, token: &SyntaxToken) -> bool {
+    text.as_bytes().get(token.text_range().end().raw() as usize) == Some(&b'\n')
+}
+
 // Writes the tokens of a tree.
 fn write_tokens<W: Write>(out: &mut W, root: &SyntaxNode, ink: Ink) -> io::Result<()> {
+    let text = root.as_str();
     for element in root.descendants_with_tokens() {
         if let NodeOrToken::Token(token) = &element {
             match ink {
                 Ink::Html => write_html(out, role_of(token), token.text())?,
-                Ink::Ansi => write_ansi(out, role_of(token), token.text())?,
+                Ink::Ansi => {
+                    let is_before_feed = is_before_feed(text, token);
+                    write_ansi(out, role_of(token), token.text(), is_before_feed)?;
+                }
             }
         }
     }

@@ -1,5 +1,7 @@
 //! The files that a command line names.
 
+use crate::shown::name;
+use std::collections::BTreeSet;
 use std::io::ErrorKind;
 use std::path::Path;
 use std::{fs, io};
@@ -13,62 +15,136 @@ pub fn text_of(rt: &HostRuntime, name: &str) -> io::Result<String> {
     }
 }
 
+/// How folders are searched.
+#[derive(Clone, Copy, Debug)]
+pub struct Search {
+    /// Whether links are followed.
+    pub follow: bool,
+}
+
+/// What a search of a folder found.
+#[derive(Drop)]
+struct Walk {
+    files: Vec<String>,
+    // The folders that are still to be searched.
+    folders: Vec<String>,
+    // The real paths of the folders that were searched, if links are followed: a link may lead to a folder around it.
+    seen: BTreeSet<String>,
+    // How many names and folders could not be read.
+    lost: u64,
+}
+
 fn is_rust(path: Path<'_>) -> bool {
     path.extension().is_some_and(|extension| extension == "rs")
 }
 
-// Whether the name of a link leads to a file. A pipe or a device is none: to read it may take for ever.
-fn is_link_to_file(rt: &HostRuntime, path: &str) -> bool {
-    fs::metadata(rt, path).is_ok_and(|found| found.is_file())
+// What an entry of a folder is.
+#[derive(Clone, Copy)]
+enum Kind {
+    File,
+    Folder,
+    // A pipe, a device, a link that leads nowhere or is not followed: to read one may take for ever, or lead out of the folder.
+    Other,
 }
 
-// Adds the `.rs` files of a folder to `files`, and the folders in it to `folders`. Links to folders are not followed. A name that is not
-// UTF-8 is reported and counted in `lost`.
-fn list(
+fn kind_of(file_type: fs::FileType) -> Kind {
+    if file_type.is_dir() {
+        Kind::Folder
+    } else if file_type.is_file() {
+        Kind::File
+    } else {
+        Kind::Other
+    }
+}
+
+// What a link leads to.
+fn target_of(rt: &HostRuntime, path: &str) -> Kind {
+    match fs::metadata(rt, path) {
+        Ok(found) => kind_of(found.file_type()),
+        Err(_) => Kind::Other,
+    }
+}
+
+impl Walk {
+    // Adds what a folder has. A name that is not UTF-8 is reported and counted as lost.
+    fn list(&mut self, rt: &HostRuntime, folder: &str, search: Search) -> io::Result<()> {
+        for entry in fs::read_dir(rt, folder)? {
+            let entry = match entry {
+                Ok(entry) => entry,
+                Err(error) => {
+                    if error.kind() != ErrorKind::InvalidFilename {
+                        return Err(error);
+                    }
+                    eprintln!(rt;
+                        "rust_tree: {}: a name in it is not valid UTF-8",
+                        name(folder)
+                    )?;
+                    self.lost = self.lost.saturating_add(1);
+                    continue;
+                }
+            };
+            let file_type = entry.file_type()?;
+            let path = String::from_str(rt.alloc(), entry.path().as_str())?;
+            let kind = if search.follow && file_type.is_symlink() {
+                target_of(rt, path.as_str())
+            } else {
+                kind_of(file_type)
+            };
+            match kind {
+                Kind::Folder => self.folders.push(path)?,
+                Kind::File => {
+                    if is_rust(entry.path()) {
+                        self.files.push(path)?;
+                    }
+                }
+                Kind::Other => {}
+            }
+        }
+        Ok(())
+    }
+
+    // Whether a folder was searched before. It is noted.
+    fn was_seen(&mut self, rt: &HostRuntime, folder: &str) -> io::Result<bool> {
+        let path = fs::canonicalize(rt, folder)?;
+        let path = String::from_str(rt.alloc(), path.as_str())?;
+        Ok(!self.seen.insert(path)?)
+    }
+
+    fn folder(&mut self, rt: &HostRuntime, folder: &str, search: Search) -> io::Result<()> {
+        if search.follow && self.was_seen(rt, folder)? {
+            return Ok(());
+        }
+        self.list(rt, folder, search)
+    }
+}
+
+/// The `.rs` files below a folder, sorted by their paths. Links are followed only if the search says so; then each folder is searched once,
+/// however many links lead to it. A folder that cannot be read, and a name that is not UTF-8, are reported on standard error and counted in
+/// `lost`.
+pub fn files_below(
     rt: &HostRuntime,
     folder: &str,
-    files: &mut Vec<String>,
-    folders: &mut Vec<String>,
+    search: Search,
     lost: &mut u64,
-) -> io::Result<()> {
-    for entry in fs::read_dir(rt, folder)? {
-        let entry = match entry {
-            Ok(entry) => entry,
-            Err(error) => {
-                if error.kind() != ErrorKind::InvalidFilename {
-                    return Err(error);
-                }
-                eprintln!(rt; "rust_tree: {folder}: a name in it is not valid UTF-8")?;
-                *lost = lost.saturating_add(1);
-                continue;
-            }
-        };
-        let kind = entry.file_type()?;
-        let path = String::from_str(rt.alloc(), entry.path().as_str())?;
-        if kind.is_dir() {
-            folders.push(path)?;
-        } else if is_rust(entry.path()) && (kind.is_file() || is_link_to_file(rt, path.as_str())) {
-            files.push(path)?;
-        }
-    }
-    Ok(())
-}
-
-/// The `.rs` files below a folder, sorted by their paths. A folder that cannot be read, and a name that is not UTF-8, are reported on
-/// standard error and counted in `lost`.
-pub fn files_below(rt: &HostRuntime, folder: &str, lost: &mut u64) -> io::Result<Vec<String>> {
-    let mut files = Vec::new(rt.alloc());
-    let mut folders = Vec::new(rt.alloc());
-    folders.push(String::from_str(rt.alloc(), folder)?)?;
+) -> io::Result<Vec<String>> {
+    let alloc = rt.alloc();
+    let mut walk = Walk {
+        files: Vec::new(alloc),
+        folders: vec![in alloc; String::from_str(alloc, folder)?]?,
+        seen: BTreeSet::new(alloc),
+        lost: 0,
+    };
     for _turn in 0..u64::MAX {
-        let Some(next) = folders.pop() else {
+        let Some(next) = walk.folders.pop() else {
             break;
         };
-        if let Err(error) = list(rt, next.as_str(), &mut files, &mut folders, lost) {
-            eprintln!(rt; "rust_tree: {next}: {error}")?;
-            *lost = lost.saturating_add(1);
+        if let Err(error) = walk.folder(rt, next.as_str(), search) {
+            eprintln!(rt; "rust_tree: {}: {error}", name(next.as_str()))?;
+            walk.lost = walk.lost.saturating_add(1);
         }
     }
+    *lost = walk.lost;
+    let mut files = walk.files;
     files.sort()?;
     Ok(files)
 }

@@ -6,6 +6,7 @@ use crate::highlight::Ink;
 use crate::inputs::{files_below, is_folder, text_of};
 use crate::options::Asked;
 use crate::session::{Noun, Session, UNREAD};
+use crate::shown::name;
 use crate::source::Source;
 use crate::tree::Showing;
 use crate::{fix, highlight, outline, parens, query, tokens, tree};
@@ -63,21 +64,24 @@ fn write_pairs<W: Write>(
     asked: Asked,
     then: Then,
 ) -> Result<u64, Failure> {
-    let pairs = found.pairs.as_slice();
+    let (alloc, pairs) = (rt.alloc(), found.pairs.as_slice());
     let new = match &found.text {
         Some(new) => new.as_str(),
         None => &*source.text,
     };
     match then {
-        Then::List => parens::list(rt.alloc(), out, source, pairs, asked)?,
+        Then::List => parens::list(alloc, out, source, pairs, asked)?,
         Then::Diff => {
             if !pairs.is_empty() {
-                fix::diff(rt.alloc(), out, source, new)?;
+                fix::diff(rt, out, source, new)?;
             }
         }
         Then::Fix => {
+            if source.name != "-" {
+                fix::tidy(rt, source.name)?;
+            }
             if !pairs.is_empty() || source.name == "-" {
-                fix::fix(rt, out, source.name, new, pairs.len())?;
+                fix::fix(rt, out, source.name, source.folder, new, pairs.len())?;
             }
         }
     }
@@ -96,7 +100,8 @@ fn parens<W: Write>(
     if found.left > 0 {
         eprintln!(rt;
             "rust_tree: {}: {} further pairs were not tried, since so many stay",
-            source.name, found.left
+            name(source.name),
+            found.left
         )?;
     }
     write_pairs(rt, out, source, &found, asked, then)
@@ -160,20 +165,22 @@ impl Job {
         &self,
         rt: &HostRuntime,
         out: &mut W,
-        name: &str,
+        path: &str,
+        folder: Option<&str>,
         session: &mut Session,
     ) -> io::Result<()> {
-        match text_of(rt, name) {
+        match text_of(rt, path) {
             Ok(text) => {
                 let source = Source {
-                    name: &*name,
+                    name: &*path,
+                    folder,
                     text: text.as_str(),
                 };
                 self.reported(rt, out, source, session)
             }
             Err(error) => {
                 session.fail(UNREAD);
-                eprintln!(rt; "rust_tree: {name}: {error}")
+                eprintln!(rt; "rust_tree: {}: {error}", name(path))
             }
         }
     }
@@ -183,12 +190,12 @@ impl Job {
         &self,
         rt: &HostRuntime,
         out: &mut W,
-        name: &str,
+        folder: &str,
         session: &mut Session,
     ) -> io::Result<()> {
         let mut lost = 0;
-        for file in &files_below(rt, name, &mut lost)? {
-            self.file(rt, out, file.as_str(), session)?;
+        for file in &files_below(rt, folder, self.asked.search, &mut lost)? {
+            self.file(rt, out, file.as_str(), Some(folder), session)?;
         }
         if lost > 0 {
             session.fail(UNREAD);
@@ -217,7 +224,7 @@ impl Job {
             if is_folder(rt, name) {
                 self.folder(rt, out, name, &mut session)?;
             } else {
-                self.file(rt, out, name, &mut session)?;
+                self.file(rt, out, name, None, &mut session)?;
             }
         }
         out.flush()?;

@@ -33,6 +33,7 @@ use job::Job;
 use options::{Asked, limit, reading};
 use rust_report::Trivia;
 use session::{FOUND, Session, UNREAD, USAGE};
+use shown::name;
 use source::Source;
 use std::io::{BufWriter, ErrorKind, IsTerminal, Write};
 use std::process::ExitCode;
@@ -73,18 +74,19 @@ fn run_on_files(rt: &HostRuntime, name: &str, matches: &ArgMatches) -> io::Resul
             Ok(job.status(&session))
         }
         Err(refusal) => {
-            eprintln!(rt; "rust_tree: {refusal}")?;
+            let refusal = format!(in rt.alloc(); "{refusal}")?;
+            eprintln!(rt; "rust_tree: {}", shown::name(refusal.as_str()))?;
             Ok(USAGE)
         }
     }
 }
 
 // The text of a file. Returns `None` after reporting the error if it cannot be read.
-fn text_or_tell(rt: &HostRuntime, name: &str) -> io::Result<Option<String>> {
-    match text_of(rt, name) {
+fn text_or_tell(rt: &HostRuntime, path: &str) -> io::Result<Option<String>> {
+    match text_of(rt, path) {
         Ok(text) => Ok(Some(text)),
         Err(error) => {
-            eprintln!(rt; "rust_tree: {name}: {error}")?;
+            eprintln!(rt; "rust_tree: {}: {error}", name(path))?;
             Ok(None)
         }
     }
@@ -134,6 +136,10 @@ fn run_diff_on(
 fn run_diff(rt: &HostRuntime, matches: &ArgMatches) -> io::Result<u8> {
     let old = matches.get_str("A").unwrap_or("-");
     let new = matches.get_str("B").unwrap_or("-");
+    if old == "-" && new == "-" {
+        eprintln!(rt; "rust_tree: standard input can be only one of the two files")?;
+        return Ok(USAGE);
+    }
     let Some(old_text) = text_or_tell(rt, old)? else {
         return Ok(UNREAD);
     };
@@ -142,10 +148,12 @@ fn run_diff(rt: &HostRuntime, matches: &ArgMatches) -> io::Result<u8> {
     };
     let old = Source {
         name: old,
+        folder: None,
         text: old_text.as_str(),
     };
     let new = Source {
         name: new,
+        folder: None,
         text: new_text.as_str(),
     };
     match run_diff_on(rt, old, new, matches) {

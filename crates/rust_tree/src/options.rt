@@ -1,6 +1,7 @@
 //! The options of a command line.
 
 use crate::highlight::Ink;
+use crate::inputs::Search;
 use crate::source::Reading;
 use crate::style::Style;
 use crate::tree::{Drawing, Part, Showing};
@@ -28,6 +29,10 @@ pub struct Asked {
     pub format: Form,
     /// Whether a report has colours.
     pub style: Style,
+    /// The most errors of a file that are listed.
+    pub max_errors: usize,
+    /// How folders are searched.
+    pub search: Search,
 }
 
 impl Asked {
@@ -37,6 +42,10 @@ impl Asked {
             reading: reading(matches),
             format: form_of(matches),
             style,
+            max_errors: max_errors(matches),
+            search: Search {
+                follow: matches.get_flag("follow"),
+            },
         }
     }
 }
@@ -71,6 +80,13 @@ pub fn limit(matches: &ArgMatches) -> usize {
     match matches.get_one::<u32>("limit") {
         Some(limit) => limit as usize,
         None => 10,
+    }
+}
+
+fn max_errors(matches: &ArgMatches) -> usize {
+    match matches.get_one::<u32>("max-errors") {
+        Some(most) => most as usize,
+        None => usize::MAX,
     }
 }
 

@@ -3,7 +3,7 @@
 use crate::failure::Failure;
 use crate::json;
 use crate::options::{Asked, Form};
-use crate::shown::{write_indent, write_place, write_short};
+use crate::shown::{cut, write_indent, write_place, write_short};
 use crate::source::{Source, move_to, parsed, spots};
 use lossless_tree::TextSize;
 use rust_report::{Row, Spot, Spots, label_line, label_of, outline, word_of};
@@ -13,7 +13,8 @@ use std::io;
 use std::io::Write;
 
 // An item in JSON. The line and the column count from 1, the column in characters, and are those of the item's label, if it has one.
-// `start` and `end` are the item's offsets in bytes, with its attributes and documentation. An item without a label has an empty name.
+// `start` and `end` are the item's offsets in bytes, with its attributes and documentation. An item without a label has an empty name. Of a
+// long name the front is written, and `cut` says so.
 #[derive(Drop, Serialize)]
 struct ItemRecord<'a> {
     path: &'a str,
@@ -21,6 +22,7 @@ struct ItemRecord<'a> {
     column: u64,
     kind: &'a str,
     name: &'a str,
+    cut: bool,
     depth: usize,
     start: u32,
     end: u32,
@@ -43,12 +45,14 @@ fn write_json<W: Write>(
     label: &str,
 ) -> io::Result<()> {
     let range = row.item.text_range();
+    let (name, cut) = cut(label);
     let record = ItemRecord {
         path,
         line: at.line,
         column: at.column,
         kind: word_of(row.item.kind()),
-        name: label,
+        name,
+        cut,
         depth: row.depth,
         start: range.start().raw(),
         end: range.end().raw(),
@@ -92,6 +96,9 @@ fn write_rows<W: Write>(
     rows: &[Row],
     asked: Asked,
 ) -> Result<(), Failure> {
+    if rows.is_empty() {
+        return Ok(());
+    }
     let mut spots = spots(alloc, source.text)?;
     for row in rows {
         write_row(alloc, out, source.name, &mut spots, row, asked)?;

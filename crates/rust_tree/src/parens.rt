@@ -3,7 +3,7 @@
 use crate::failure::Failure;
 use crate::json;
 use crate::options::{Asked, Form};
-use crate::shown::{write_place, write_short};
+use crate::shown::{cut, write_place, write_short};
 use crate::source::{Reading, Source, move_to, parsed, spots};
 use lossless_tree::SyntaxNode;
 use ras_front_end::ParseError;
@@ -15,7 +15,8 @@ use std::alloc::Global;
 use std::io;
 use std::io::Write;
 
-// A pair in JSON. The line and the column count from 1, the column in characters; `start` and `end` are offsets in bytes.
+// A pair in JSON. The line and the column count from 1, the column in characters; `start` and `end` are offsets in bytes. Of a long text the
+// front is written, and `cut` says so.
 #[derive(Drop, Serialize)]
 struct PairRecord<'a> {
     path: &'a str,
@@ -24,6 +25,7 @@ struct PairRecord<'a> {
     start: u32,
     end: u32,
     text: &'a str,
+    cut: bool,
 }
 
 /// The pairs of a text that can all be removed together.
@@ -40,13 +42,15 @@ fn write_json<W: Write>(
     pair: &SyntaxNode,
 ) -> io::Result<()> {
     let range = pair.text_range();
+    let (text, cut) = cut(pair.as_str());
     let record = PairRecord {
         path,
         line: at.line,
         column: at.column,
         start: range.start().raw(),
         end: range.end().raw(),
-        text: pair.as_str(),
+        text,
+        cut,
     };
     json::write_line(alloc, out, &record)
 }
@@ -78,6 +82,9 @@ pub fn list<W: Write>(
     pairs: &[SyntaxNode],
     asked: Asked,
 ) -> Result<(), Failure> {
+    if pairs.is_empty() {
+        return Ok(());
+    }
     let mut spots = spots(alloc, source.text)?;
     for pair in pairs {
         write_pair(alloc, out, source.name, &mut spots, pair, asked)?;

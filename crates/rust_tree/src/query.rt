@@ -4,7 +4,7 @@ use crate::failure::Failure;
 use crate::json;
 use crate::names::Named;
 use crate::options::{Asked, Form};
-use crate::shown::{write_place, write_short};
+use crate::shown::{cut, write_place, write_short};
 use crate::source::{Source, move_to, parsed, spots};
 use lossless_tree::SyntaxElement;
 use rust_report::{Spot, Spots, Step, query};
@@ -13,7 +13,8 @@ use std::alloc::Global;
 use std::io;
 use std::io::Write;
 
-// A node or token in JSON. The line and the column count from 1, the column in characters; `start` and `end` are offsets in bytes.
+// A node or token in JSON. The line and the column count from 1, the column in characters; `start` and `end` are offsets in bytes. Of a long
+// text the front is written, and `cut` says so.
 #[derive(Drop, Serialize)]
 struct MatchRecord<'a> {
     path: &'a str,
@@ -23,6 +24,7 @@ struct MatchRecord<'a> {
     end: u32,
     kind: Named,
     text: &'a str,
+    cut: bool,
 }
 
 fn write_json<W: Write>(
@@ -33,6 +35,7 @@ fn write_json<W: Write>(
     element: &SyntaxElement,
 ) -> io::Result<()> {
     let range = element.text_range();
+    let (text, cut) = cut(element.text());
     let record = MatchRecord {
         path,
         line: at.line,
@@ -40,7 +43,8 @@ fn write_json<W: Write>(
         start: range.start().raw(),
         end: range.end().raw(),
         kind: Named(element.kind()),
-        text: element.text(),
+        text,
+        cut,
     };
     json::write_line(alloc, out, &record)
 }
@@ -70,6 +74,9 @@ fn write_matches<W: Write>(
     found: &[SyntaxElement],
     asked: Asked,
 ) -> Result<u64, Failure> {
+    if found.is_empty() {
+        return Ok(0);
+    }
     let mut spots = spots(alloc, source.text)?;
     for element in found {
         write_match(alloc, out, source.name, &mut spots, element, asked)?;

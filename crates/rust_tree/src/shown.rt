@@ -1,14 +1,22 @@
 //! Texts of files on a terminal.
 
 use crate::style::Style;
-use rust_report::{Spot, short_of};
+use rust_report::{Escaped, Medium, Spot, WIDEST, short_of};
 use std::io;
 use std::io::Write;
+
+/// A text that stays in its line: the name of a file, or a message, which may have characters of the file.
+pub fn name(text: &str) -> Escaped<'_> {
+    Escaped {
+        text,
+        medium: Medium::Name,
+    }
+}
 
 /// Writes the front of a line about a place of a file.
 pub fn write_place<W: Write>(out: &mut W, path: &str, at: Spot, style: Style) -> io::Result<()> {
     let (bold, plain) = (style.bold(), style.plain());
-    write!(out, "{bold}{path}:{at}:{plain} ")
+    write!(out, "{bold}{}:{at}:{plain} ", name(path))
 }
 
 /// Writes the first line of a text and a line feed. Of a long line only the first part is written.
@@ -16,10 +24,31 @@ pub fn write_short<W: Write>(out: &mut W, text: &str) -> io::Result<()> {
     writeln!(out, "{}", short_of(text))
 }
 
-/// Writes an indentation of two blanks for each level.
-pub fn write_indent<W: Write>(out: &mut W, levels: usize) -> io::Result<()> {
-    for _i in 0..levels {
+/// The front of a text, and whether it is not all of it. Many nodes of a tree may have long texts, so none is written as a whole.
+pub fn cut(text: &str) -> (&str, bool) {
+    let end = text.floor_char_boundary(WIDEST);
+    match text.get(..end) {
+        Some(front) => (front, end < text.len()),
+        None => ("", true),
+    }
+}
+
+/// How many levels are indented. Each level costs two blanks for each of its lines, so of 100,000 levels they would fill a disk.
+pub const DEEPEST: usize = 64;
+
+/// Writes an indentation of two blanks for each level, at most [`DEEPEST`].
+pub fn write_blanks<W: Write>(out: &mut W, levels: usize) -> io::Result<()> {
+    for _i in 0..levels.min(DEEPEST) {
         out.write_all(b"  ")?;
+    }
+    Ok(())
+}
+
+/// The same, and for a deeper level its number.
+pub fn write_indent<W: Write>(out: &mut W, levels: usize) -> io::Result<()> {
+    write_blanks(out, levels)?;
+    if levels > DEEPEST {
+        write!(out, "{levels}: ")?;
     }
     Ok(())
 }

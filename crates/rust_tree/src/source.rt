@@ -13,6 +13,8 @@ use std::alloc::Global;
 pub struct Source<'a> {
     /// The path of its file; `-` for standard input.
     pub name: &'a str,
+    /// The folder whose search found the file; `None` if the command line names it.
+    pub folder: Option<&'a str>,
     /// The text.
     pub text: &'a str,
 }

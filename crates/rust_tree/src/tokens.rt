@@ -4,6 +4,7 @@ use crate::failure::Failure;
 use crate::json;
 use crate::names::Named;
 use crate::options::{Asked, Form};
+use crate::shown::name;
 use crate::source::Source;
 use ras_front_end::ParseError;
 use rust_lexer::{LexError, lex};
@@ -59,7 +60,7 @@ fn write_error<W: Write>(
             };
             json::write_line(alloc, out, &record)
         }
-        Form::Text | Form::Github => writeln!(out, "error {range}: {message}"),
+        Form::Text | Form::Github => writeln!(out, "error {range}: {}", name(message.as_str())),
     }
 }
 
@@ -85,8 +86,9 @@ fn write_token<W: Write>(
             json::write_line(alloc, out, &record)
         }
         Form::Text | Form::Github => {
+            let text = format!(in alloc; "{text:?}")?;
             write!(out, "{kind}@{start}..{end}")?;
-            writeln!(out, " {text:?}")
+            writeln!(out, " {}", name(text.as_str()))
         }
     }
 }

@@ -2,7 +2,7 @@
 
 use crate::failure::Failure;
 use crate::names::Named;
-use crate::shown::write_indent;
+use crate::shown::{name, write_blanks, write_indent};
 use crate::source::{Reading, Source, lines, parsed};
 use crate::{json, page, tree_json};
 use line_index::WideLineCol;
@@ -75,7 +75,9 @@ pub fn is_shown(showing: &Showing, level: usize, element: &SyntaxElement) -> boo
 fn write_token_text<W: Write>(alloc: Global, out: &mut W, token: &SyntaxToken) -> io::Result<()> {
     let line = token.dump(alloc)?;
     let (_, shown) = line.as_str().split_once('@').unwrap_or(("", ""));
-    write!(out, "{}@{shown}", Named(token.kind()))
+    // It is one line, with its line feed.
+    let shown = shown.trim_end_matches('\n');
+    writeln!(out, "{}@{}", Named(token.kind()), name(shown))
 }
 
 fn write_text<W: Write>(
@@ -123,7 +125,7 @@ fn write_before<W: Write>(
             if level > 0 {
                 out.write_all(b"\n")?;
             }
-            write_indent(out, level)
+            write_blanks(out, level)
         }
     }
 }
@@ -226,7 +228,7 @@ fn depth_of(root: &SyntaxNode) -> usize {
 
 fn write_errors<W: Write>(out: &mut W, errors: &[SyntaxError]) -> io::Result<()> {
     for error in errors {
-        writeln!(out, "error {}: {}", error.range(), error.message())?;
+        writeln!(out, "error {}: {}", error.range(), name(error.message()))?;
     }
     Ok(())
 }
@@ -319,16 +321,16 @@ fn node_of(root: &SyntaxNode, part: &SyntaxElement) -> SyntaxNode {
 fn write_drawing<W: Write>(
     alloc: Global,
     out: &mut W,
-    name: &str,
+    path: &str,
     root: &SyntaxNode,
     part: &SyntaxElement,
     errors: &[SyntaxError],
     showing: &Showing,
 ) -> io::Result<()> {
     match showing.drawing {
-        Drawing::Html => page::show(alloc, out, name, &node_of(root, part), errors, showing),
+        Drawing::Html => page::show(alloc, out, path, &node_of(root, part), errors, showing),
         Drawing::Json => {
-            tree_json::write_file(alloc, out, name, errors)?;
+            tree_json::write_file(alloc, out, path, errors)?;
             write_part(alloc, out, part, showing)?;
             writeln!(out, "}}")
         }
@@ -353,7 +355,7 @@ fn write_shown<W: Write>(
     showing: &Showing,
 ) -> io::Result<()> {
     if showing.named {
-        writeln!(out, "==> {} <==", source.name)?;
+        writeln!(out, "==> {} <==", name(source.name))?;
     }
     if showing.stats {
         let stats = stats_of(source, root, errors.len());

@@ -122,6 +122,22 @@ const COLOR: Row = Row {
     help: "Whether check, outline, parens and query use colours; `auto`: on a terminal",
 };
 
+const FOLLOW: Row = Row {
+    name: "follow",
+    takes: Takes::Nothing,
+    default: None,
+    conflicts: &[],
+    help: "Follows links that are found in a folder; `--fix` then writes only below that folder",
+};
+
+const MAX_ERRORS: Row = Row {
+    name: "max-errors",
+    takes: Takes::Number,
+    default: None,
+    conflicts: &[],
+    help: "The number of errors of each file that are listed",
+};
+
 const FORMAT: Row = Row {
     name: "format",
     takes: Takes::OneOf(&["text", "json"]),
@@ -240,6 +256,7 @@ static VERBS: [Verb; 8] = [
             DEPTH,
             NO_TRIVIA,
             STATS,
+            FOLLOW,
             EDITION,
             COLOR,
             QUIET,
@@ -254,6 +271,8 @@ static VERBS: [Verb; 8] = [
             CHECK_FORMAT,
             ENTRY,
             NO_VALIDATION,
+            MAX_ERRORS,
+            FOLLOW,
             EDITION,
             COLOR,
             QUIET,
@@ -264,25 +283,25 @@ static VERBS: [Verb; 8] = [
         name: "outline",
         about: "Lists the items of each file, each before the items in it",
         example: "Example: rust_tree outline src/lib.rs",
-        rows: &[FORMAT, EDITION, COLOR, QUIET, FILES],
+        rows: &[FORMAT, FOLLOW, EDITION, COLOR, QUIET, FILES],
     },
     Verb {
         name: "parens",
         about: "Lists the pairs of parentheses without which a file parses to the same tree; the exit status is 1 if there is one",
         example: "Example: rust_tree parens --diff src",
-        rows: &[FORMAT, DIFF, FIX, EDITION, COLOR, QUIET, FILES],
+        rows: &[FORMAT, DIFF, FIX, FOLLOW, EDITION, COLOR, QUIET, FILES],
     },
     Verb {
         name: "tokens",
         about: "Lists the lexer's tokens of each file, and its errors",
         example: "Example: rust_tree tokens src/main.rs",
-        rows: &[FORMAT, EDITION, COLOR, QUIET, FILES],
+        rows: &[FORMAT, FOLLOW, EDITION, COLOR, QUIET, FILES],
     },
     Verb {
         name: "query",
         about: "Finds nodes and tokens by kind and place; the exit status is 1 if there is one",
         example: "Example: rust_tree query 'FN > NAME' src",
-        rows: &[FORMAT, PATTERN, EDITION, COLOR, QUIET, FILES],
+        rows: &[FORMAT, PATTERN, FOLLOW, EDITION, COLOR, QUIET, FILES],
     },
     Verb {
         name: "highlight",

@@ -9,7 +9,7 @@ use ra_ap_syntax::ast::Expr;
 use ra_ap_syntax::{AstNode, Edition};
 use std::alloc::{AllocError, Global};
 use std::fmt::Write;
-use tiny_front::TINY;
+use tiny_front::Tiny;
 
 fn verdict_line(verdict: Option<bool>) -> &'static str
     ensures { result.now ≡ verdict_line verdict }
@@ -46,7 +46,7 @@ fn report(alloc: Global, tree: &SyntaxNode) -> Result<String, AllocError>
 pub(crate) fn parens(alloc: Global, text: &str) -> Result<String, Refusal>
     ensures { MatchResult result (λ out. AnswersParens text.now (Ok (string_bytes out))) (λ e. (e ≡ Refusal.Memory) ⊎ AnswersParens text.now (Err e)) }
 {
-    let parse = Expr::parse(alloc, text, &TINY, Edition::CURRENT)?;
+    let parse = Expr::parse(alloc, text, &Tiny, Edition::CURRENT)?;
     let root = parse.syntax_node();
     if !Expr::can_cast(root.kind()) {
         return Err(Refusal::OtherRoot);

@@ -25,7 +25,7 @@ fn output<R: Read>(alloc: Global, command: Command, reader: &mut R) -> Result<St
 /// Runs a command: reads all of its input, writes its output, and returns the exit status.
 ///
 /// `events` reads lines `enter KIND`, `exit` and `token KIND TEXT`, and writes the dump of the tree that they build.
-/// `dump` reads a file of the small language [`tiny_front::TINY`], and writes the dump of its tree and a line
+/// `dump` reads a file of the small language [`tiny_front::Tiny`], and writes the dump of its tree and a line
 /// `error a..b: message` for each error. `parens` reads an expression of that language, and writes a line `reads_back true`,
 /// `reads_back false` or `reads_back none`, and a line `needless a..b` for each pair of parentheses that may go. `reparse`
 /// reads a line `START END`, a line with the text to insert in place of that range, in which `\n`, `\r`, `\t` and `\\` are escapes and

@@ -14,7 +14,7 @@ use crate::refusal::Refusal;
 use ra_ap_syntax::{Edition, Parse, ParseError, SourceFile, TextRange, TextSize};
 use std::alloc::{AllocError, Global};
 use std::fmt::Write;
-use tiny_front::TINY;
+use tiny_front::Tiny;
 
 // Represents every larger number: no text is this long.
 const TOO_GREAT: u128 = u64::MAX as u128;
@@ -89,10 +89,10 @@ fn edit_parse(
     ensures accepted { OnOk result (length (edited (text old.now.tree) (record { delete = delete; insert = insert.now })) < 2 ^ 32) }
     ensures refused { IfErr result (λ e. (e ≡ TooLong) ↔ (2 ^ 32 ≤ length (edited (text old.now.tree) (record { delete = delete; insert = insert.now })))) }
 {
-    match old.incremental_reparse(alloc, &TINY, delete, insert, Edition::CURRENT)? {
+    match old.incremental_reparse(alloc, &Tiny, delete, insert, Edition::CURRENT)? {
         Some((new, range)) => Ok((Some(range), new)),
         None => {
-            let new = old.full_reparse(alloc, &TINY, delete, insert, Edition::CURRENT)?;
+            let new = old.full_reparse(alloc, &Tiny, delete, insert, Edition::CURRENT)?;
             Ok((None, new))
         }
     }
@@ -129,7 +129,7 @@ fn range_answer(
     if !is_range(text, start, end) {
         return Err(Refusal::BadRange);
     }
-    let old = SourceFile::parse(alloc, text, &TINY, Edition::CURRENT)?;
+    let old = SourceFile::parse(alloc, text, &Tiny, Edition::CURRENT)?;
     let delete = TextRange::new(TextSize::new(start as u32), TextSize::new(end as u32));
     edit_answer(alloc, &old, delete, insert)
 }

@@ -4,7 +4,7 @@ use crate::every_term::words::words_of;
 use crate::stopped::Stopped;
 use ra_ap_syntax::{Edition, SourceFile, SyntaxKind};
 use std::alloc::Global;
-use tiny_front::TINY;
+use tiny_front::Tiny;
 
 // What holds the three expressions, in preorder.
 const PLACES: [SyntaxKind; 3] = [
@@ -16,7 +16,7 @@ const PLACES: [SyntaxKind; 3] = [
 /// Whether the text is read as the tree of these words after `let`, as a statement and as a body's tail, without errors.
 pub fn stands_in_a_body(alloc: Global, text: &str, words: &str) -> Result<bool, Stopped> {
     let file = format!(in alloc; "fn f() {{ let a = {text}; {text}; {text} }}")?;
-    let parse = SourceFile::parse(alloc, file.as_str(), &TINY, Edition::CURRENT)?;
+    let parse = SourceFile::parse(alloc, file.as_str(), &Tiny, Edition::CURRENT)?;
     if !parse.errors(alloc)?.is_empty() {
         return Ok(false);
     }

@@ -7,7 +7,7 @@ use crate::stopped::Stopped;
 use ra_ap_syntax::ast::prec::reads_back;
 use ra_ap_syntax::{AstNode, Edition, Parse, SyntaxNode, ast};
 use std::alloc::Global;
-use tiny_front::TINY;
+use tiny_front::Tiny;
 
 /// The result of parsing a term.
 #[derive(Clone, Copy, PartialEq, Eq)]
@@ -73,7 +73,7 @@ fn read_otherwise(
 pub fn verdict_of(alloc: Global, written: &Written) -> Result<Verdict, Stopped> {
     let text = written.text.as_str();
     let words = words_of(alloc, &written.tree)?;
-    let parse = ast::Expr::parse(alloc, text, &TINY, Edition::CURRENT)?;
+    let parse = ast::Expr::parse(alloc, text, &Tiny, Edition::CURRENT)?;
     match answer(&written.tree) {
         Some(true) => read_back(alloc, text, &parse, words.as_str()),
         Some(false) => read_otherwise(alloc, &parse, words.as_str()),

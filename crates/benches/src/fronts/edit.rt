@@ -8,7 +8,7 @@ use ra_ap_syntax::{
     Edition, Parse, ReplaceError, SourceFile, SyntaxNode, SyntaxToken, TextRange, TextSize,
 };
 use std::alloc::{AllocError, Global};
-use tiny_front::TINY;
+use tiny_front::Tiny;
 
 const NOW: Edition = Edition::CURRENT;
 
@@ -30,9 +30,9 @@ fn edit(
     let delete = TextRange::new(TextSize::new(from), TextSize::new(to));
     let nanoseconds = time_once(
         rt,
-        || Ok(old.reparse(rt.alloc(), &TINY, delete, insert, NOW)?),
+        || Ok(old.reparse(rt.alloc(), &Tiny, delete, insert, NOW)?),
     )?;
-    let piece = old.incremental_reparse(rt.alloc(), &TINY, delete, insert, NOW)?;
+    let piece = old.incremental_reparse(rt.alloc(), &Tiny, delete, insert, NOW)?;
     Ok((nanoseconds, piece.is_some()))
 }
 
@@ -88,7 +88,7 @@ fn time_copies(
 /// again.
 pub fn time_edits(rt: &HostRuntime, input: Input, runs: u32) -> Result<(), Stopped> {
     let text = input.text(rt.alloc())?;
-    let old = SourceFile::parse(rt.alloc(), text.as_str(), &TINY, NOW)?;
+    let old = SourceFile::parse(rt.alloc(), text.as_str(), &Tiny, NOW)?;
     let function = input.function(text.as_str()).ok_or(Stopped::Edit)?;
     let rest = text.as_str().get(function..).ok_or(Stopped::Edit)?;
     let statement = rest.find(";").ok_or(Stopped::Edit)?;

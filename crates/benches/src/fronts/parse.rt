@@ -4,7 +4,7 @@ use super::text::Input;
 use crate::stopped::Stopped;
 use crate::timing::time_once;
 use ra_ap_syntax::{Edition, Entry, FrontEnd, SourceFile};
-use tiny_front::TINY;
+use tiny_front::Tiny;
 
 const NOW: Edition = Edition::CURRENT;
 
@@ -21,29 +21,29 @@ pub fn print(
 }
 
 fn lex(rt: &HostRuntime, text: &str) -> Result<u128, Stopped> {
-    time_once(rt, || Ok(TINY.lex(rt.alloc(), text, NOW)?))
+    time_once(rt, || Ok(Tiny.lex(rt.alloc(), text, NOW)?))
 }
 
 // Lexing, the parser's moves, and the steps of the tree.
 fn steps(rt: &HostRuntime, text: &str) -> Result<u128, Stopped> {
     time_once(
         rt,
-        || Ok(TINY.parse(rt.alloc(), Entry::SourceFile, text, NOW)?),
+        || Ok(Tiny.parse(rt.alloc(), Entry::SourceFile, text, NOW)?),
     )
 }
 
 // The steps, and the tree that they build.
 fn parse(rt: &HostRuntime, text: &str) -> Result<u128, Stopped> {
-    time_once(rt, || Ok(SourceFile::parse(rt.alloc(), text, &TINY, NOW)?))
+    time_once(rt, || Ok(SourceFile::parse(rt.alloc(), text, &Tiny, NOW)?))
 }
 
 fn errors(rt: &HostRuntime, text: &str) -> Result<u128, Stopped> {
-    let file = SourceFile::parse(rt.alloc(), text, &TINY, NOW)?;
+    let file = SourceFile::parse(rt.alloc(), text, &Tiny, NOW)?;
     time_once(rt, || Ok(file.errors(rt.alloc())?))
 }
 
 fn dump(rt: &HostRuntime, text: &str) -> Result<u128, Stopped> {
-    let file = SourceFile::parse(rt.alloc(), text, &TINY, NOW)?;
+    let file = SourceFile::parse(rt.alloc(), text, &Tiny, NOW)?;
     time_once(rt, || Ok(file.syntax_node().dump(rt.alloc())?))
 }
 

@@ -1,0 +1,22 @@
+use Rattle.std.proofs.Common.{◌≡◌, [], ap, sym, ◌∙◌, refl, true}
+use Rattle.std.proofs.lemmas.Grind.{put_two}
+use Rattle.std.proofs.lemmas.List.{flat_map_more}
+use Rattle.std.proofs.Output.{has_written_of_eq}
+use Rattle.std.specs.List.{flat_map}
+use Rattle.std.specs.Str.{chars}
+use Rattle.std.proofs.lemmas.Iterator.{YieldsList-from_chars}
+use Rattle.std.proofs.lemmas.Iterator.Consumers.{YieldsList-end}
+use Rattle.rust_report.proofs.EscapesLemmas.{map-same}
+use Rattle.rust_report.specs.Escapes.{in_quotes}
+use Rattle.rust_report.proofs.escapes.write_in_quotes.Goals as goal
+
+pub returns : goal.returns
+returns g c = λ plain _.
+    let t = YieldsList-end (YieldsList-from_chars c.args.name.now c.utf8.name cc) c.loop-c.yielded _ c.loop-c.yielded_by _ _ c.in-None.is c.next.ensures.steps in
+    let all : c.loop-c.yielded ≡ chars c.args.name.now = sym (map-same c.loop-c.yielded) ∙ t.0 in
+    has_written_of_eq _ _ _ _ _ (ap (flat_map (in_quotes)) all) (c.loop-c.invariant plain)
+
+pub loop-c-preserved : goal.loop-c-preserved
+loop-c-preserved g c = λ plain.
+    let before = c.loop-c.invariant plain in
+    put_two _ _ _ _ _ _ _ before (c.in_ok-write_char_in_quotes.ensures before.plain (refl {a = true})) (flat_map_more (in_quotes) [] c.loop-c.yielded c.in-Some.c)
