@@ -1,6 +1,6 @@
-/* Prints the functions of a Rust file, each with the line that it starts on.
+/* Prints the functions of a Rust file, each with the line that it starts on. In this folder, after `./run --lib` at the top:
  *
- * cc -o outline outline.c heap.c libras_c.a && ./outline FILE
+ * cc -o outline outline.c heap.c ../../crates/ras_c/out/libras_c.a && ./outline FILE
  */
 #include "ras.h"
 #include <stdio.h>
@@ -12,6 +12,8 @@
 int main(int argc, char **argv) {
     FILE *file = argc == 2 ? fopen(argv[1], "rb") : NULL;
     if (!file) return fprintf(stderr, "usage: outline FILE\n"), 2;
+    if (ras_c_version() != RAS_VERSION)
+        return fprintf(stderr, "outline: the library has the number %08x, ras.h %08x\n", ras_c_version(), RAS_VERSION), 1;
     static uint8_t text[1 << 24];
     size_t length = fread(text, 1, sizeof text, file);
     fclose(file);

@@ -1,6 +1,9 @@
 /* Lossless syntax trees for Rust: the calls of the library. Written by bindings/make.
  *
  * Each buffer is a pointer and how many elements lie there; it may be null where that is 0. No two buffers of a call overlap.
+ *
+ * libras_c.a takes its memory by the three functions below, which the program has: heap.c has them over malloc, realloc and free.
+ * libras.so has them itself.
  */
 #ifndef RAS_H
 #define RAS_H
@@ -12,6 +15,21 @@
 #ifdef __cplusplus
 extern "C" {
 #endif
+
+/* A block of memory: whether there was memory, and where; the pointer is never null. */
+typedef struct {
+    bool is_there;
+    void *at;
+} ras_block;
+
+/* A block of a size, in bytes, and of an alignment, a power of two of at most 16. The size may be 0. */
+ras_block rattle_alloc(size_t size, size_t align);
+
+/* A block of another size with the first bytes of the old one, of which `used` count. The old one is kept if there is no memory. */
+ras_block rattle_realloc(void *at, size_t used, size_t size, size_t align);
+
+/* Frees a block. */
+void rattle_dealloc(void *at);
 
 /* A number that no kind has. */
 #define RAS_NO_KIND 4294967295u
@@ -39,6 +57,9 @@ extern "C" {
 
 /* The handle holds no parse. Nothing was written. */
 #define RAS_NO_PARSE 7u
+
+/* A number made of the kinds, constants, structs and calls of the library. Bindings that know another number were made for others. */
+#define RAS_VERSION 105046525u
 
 /* One node or token, in 16 bytes. Rows are numbered from 0 in preorder. */
 typedef struct {
@@ -224,6 +245,9 @@ uint32_t ras_c_tokens(
     ras_token_row *tokens,
     size_t tokens_len,
     uint32_t *count);
+
+/* The number RAS_VERSION of the library. Compare it with that of the header. */
+uint32_t ras_c_version(void);
 
 #ifdef __cplusplus
 }

@@ -8,11 +8,6 @@
 #include <stdlib.h>
 #include <string.h>
 
-typedef struct {
-    bool is_there;
-    void *at;
-} block;
-
 /* How many allocations are still granted, or none is refused; how many were asked for; how many blocks are held. */
 static long granted = -1, asked, held;
 
@@ -23,16 +18,16 @@ static bool refused(void) {
     return false;
 }
 
-block rattle_alloc(size_t size, size_t align) {
+ras_block rattle_alloc(size_t size, size_t align) {
     void *at = refused() ? NULL : malloc(size ? size : align);
     held += at != NULL;
-    return at ? (block){true, at} : (block){false, (void *)16};
+    return at ? (ras_block){true, at} : (ras_block){false, (void *)16};
 }
 
-block rattle_realloc(void *old, size_t used, size_t size, size_t align) {
+ras_block rattle_realloc(void *old, size_t used, size_t size, size_t align) {
     (void)used;
     void *at = refused() ? NULL : realloc(old, size ? size : align);
-    return at ? (block){true, at} : (block){false, (void *)16};
+    return at ? (ras_block){true, at} : (ras_block){false, (void *)16};
 }
 
 void rattle_dealloc(void *at) {
@@ -114,6 +109,7 @@ static void tokens_and_parens(void) {
     owes(length == strlen(TEXT), "tokens have all bytes");
     owes(ras_c_tokens(BYTES(TEXT), 2024, tokens, 1, &count) == RAS_NO_ROOM && count > 1, "one token is too little room");
     ras_range pairs[4];
+    owes(ras_c_version() == RAS_VERSION, "the header is that of the library");
     const char *sum = "fn f() { (a * b) + c }";
     owes(ras_c_parens(BYTES(sum), 2024, pairs, 4, &count) == RAS_OK && count == 1 && pairs[0].start == 9, "a needless pair is found");
     owes(ras_c_parens(BYTES(sum), 2024, NULL, 0, &count) == RAS_NO_ROOM && count == 1, "no room for a pair");

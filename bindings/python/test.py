@@ -1,7 +1,13 @@
 #!/usr/bin/env python3
 """Tests the module: what trees owe whatever the text is, and what some texts give."""
+import copy
 import doctest
+import os
+import pickle
 import random
+import subprocess
+import sys
+import threading
 import unittest
 
 import ras
@@ -13,6 +19,15 @@ TEXTS = [
     "fn broken( { let = ; } }} 'a \"",
     "fn ü() { \"ä\\q\"; 1.5e3; 'x' }",
 ]
+
+
+def raised(call, *given):
+    """The class of what a call raises."""
+    try:
+        call(*given)
+    except Exception as error:
+        return type(error)
+    return None
 
 
 class Trees(unittest.TestCase):
@@ -43,6 +58,48 @@ class Trees(unittest.TestCase):
     def test_needless_pairs_are_found(self):
         tree = ras.parse("fn f() { (a * b) + c; (a + b) * c; g((x)) }")
         self.assertEqual([it.text for it in tree.needless_parens()], ["(a * b)", "(x)"])
+
+    def test_texts_are_str_or_bytes(self):
+        live = ras.Live("")
+        for wrong in (5, None, ["fn f() {}"], bytearray(b"a"), memoryview(b"a"), object()):
+            self.assertRaises(TypeError, ras.parse, wrong)
+            self.assertRaises(TypeError, ras.Live, wrong)
+            self.assertRaises(TypeError, live.edit, 0, 0, wrong)
+        self.assertEqual((ras.parse("a").data, ras.parse(b"a").data), (b"a", b"a"))
+
+    def test_a_live_stays_on_its_thread(self):
+        live, found = ras.Live("fn f() {}"), []
+        other = threading.Thread(target=lambda: found.extend([raised(live.edit, 3, 4, "g"), raised(live.tree)]))
+        other.start()
+        other.join()
+        self.assertEqual((found, live.text), ([RuntimeError, RuntimeError], "fn f() {}"))
+
+    def test_a_live_is_not_copied(self):
+        live = ras.Live("fn f() {}")
+        for copied in (copy.copy, copy.deepcopy, pickle.dumps):
+            self.assertRaises(TypeError, copied, live)
+        self.assertEqual(live.tree().text, "fn f() {}")
+
+    def test_a_handle_without_a_parse_is_an_error(self):
+        live = ras.Live("fn f() {}")
+        live._handle = type(live._handle)()
+        self.assertRaises(ras.ParseError, live.tree)
+        self.assertRaises(ras.ParseError, live.edit, 0, 0, "a")
+
+    def test_another_library_is_refused(self):
+        path = os.path.join(os.path.dirname(ras.__file__), "_raw.py")
+        code = f"""
+import importlib.util, sys
+spec = importlib.util.spec_from_file_location("ras._raw", {path!r})
+sys.modules["ras._raw"] = raw = importlib.util.module_from_spec(spec)
+spec.loader.exec_module(raw)
+raw.VERSION ^= 1
+import ras
+"""
+        done = subprocess.run([sys.executable, "-c", code], capture_output=True, text=True)
+        self.assertNotEqual(done.returncode, 0)
+        for number in (ras._raw.VERSION, ras._raw.VERSION ^ 1):
+            self.assertIn(f"{number:08x}", done.stderr)
 
     def test_each_edit_gives_the_tree_of_the_edited_text(self):
         text = "use a::{b, c};\nfn f(x: u8) -> u8 {\n    let y = x + 1;\n    g(y, \"s\");\n    y\n}\nmod m { fn h() { i(); } }\n"
@@ -85,7 +142,8 @@ class Trees(unittest.TestCase):
 
     def test_what_is_no_text_is_refused(self):
         self.assertRaises(ValueError, ras.parse, b"\xff")
-        self.assertRaises(ValueError, ras.parse, "", 2016)
+        for edition in (2016, 2024 + 2**32, "2024", None):
+            self.assertRaises(ValueError, ras.parse, "", edition)
 
 
 def load_tests(loader, tests, pattern):

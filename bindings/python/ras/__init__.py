@@ -14,6 +14,7 @@ import array
 import ctypes
 import functools
 import os
+import threading
 import weakref
 
 from . import _raw
@@ -23,13 +24,23 @@ __all__ = ["Element", "Live", "ParseError", "SyntaxError", "Tree", "kind_name", 
 _TOKEN = 1 << 31
 
 
+def _checked(library, place):
+    """The library, if it has the kinds and calls that this module knows."""
+    known = getattr(library, "ras_c_version", None)
+    version = known() & 0xFFFFFFFF if known else None
+    if version != _raw.VERSION:
+        told = "no number" if version is None else f"the number {version:08x}"
+        raise ImportError(f"{place} has {told} of kinds and calls, and this module {_raw.VERSION:08x}: build both from one state of the repository")
+    return _raw.declare(library)
+
+
 def _find():
     named = os.environ.get("RAS_LIBRARY")
     here = os.path.dirname(os.path.abspath(__file__))
     places = [named] if named else [os.path.join(here, "libras.so"), os.path.join(here, "..", "..", "..", "crates", "ras_c", "out", "libras.so")]
     for place in places:
         if os.path.exists(place):
-            return _raw.declare(ctypes.CDLL(place))
+            return _checked(ctypes.CDLL(place), place)
     raise ImportError(f"no library at {' or '.join(places)}: `pip install .` builds it here, and `./run --lib` at the top of the repository")
 
 
@@ -37,23 +48,26 @@ _library = _find()
 
 
 class ParseError(Exception):
-    """Why a text has no tree: it is too long, or memory ran out."""
+    """Why a text has no tree: it is too long, memory ran out, or the library holds no parse of it."""
 
 
 _WHY = {
     _raw.TOO_LONG: "the text is too long: it has 4294967296 bytes or more, or its tree as many rows",
     _raw.NO_MEMORY: "out of memory",
     _raw.NO_EDITION: "the edition is none of 2015, 2018, 2021 and 2024",
+    _raw.NO_PARSE: "the library holds no parse of the text",
 }
 
 
 def _had_room(status):
     """Whether a call was done; False if a buffer was too small."""
+    if status in (_raw.OK, _raw.NO_ROOM):
+        return status == _raw.OK
     if status == _raw.NOT_UTF8:
         raise ValueError("the text is not UTF-8")
     if status in _WHY:
         raise (ValueError if status == _raw.NO_EDITION else ParseError)(_WHY[status])
-    return status == _raw.OK
+    raise RuntimeError(f"the library answered with the status {status}")
 
 
 class SyntaxError(Exception):
@@ -89,14 +103,25 @@ def parse(text, edition=2024):
 
 
 def _bytes_of(text):
-    return text.encode() if isinstance(text, str) else bytes(text)
+    if isinstance(text, str):
+        return text.encode()
+    if isinstance(text, bytes):
+        return text
+    raise TypeError(f"a text is a str or bytes, not {type(text).__name__}")
+
+
+def _edition_of(edition):
+    # ctypes would cut a larger number to 32 bits.
+    if edition not in (2015, 2018, 2021, 2024):
+        raise ValueError(_WHY[_raw.NO_EDITION])
+    return int(edition)
 
 
 class Tree:
     """A text, its lossless tree, and what is wrong with it."""
 
     def __init__(self, text, edition=2024):
-        data = _bytes_of(text)
+        data, edition = _bytes_of(text), _edition_of(edition)
         self._tell(data, edition, functools.partial(_library.ras_c_read, data, len(data), edition))
 
     def _tell(self, data, edition, call):
@@ -162,18 +187,31 @@ class Live:
     >>> [it.text for it in live.tree().needless_parens()]
     ['(c * d)']
 
-    It stays on the thread that made it. Its trees may go to others, and later edits leave them as they are.
+    It stays on the thread that made it: `edit` and `tree` raise RuntimeError on another, and it is not copied or pickled. Its trees may go
+    to others, and later edits leave them as they are.
     """
 
     def __init__(self, text, edition=2024):
-        self.data, self.edition, self._handle = _bytes_of(text), edition, _raw.Handle()
+        self.data, self.edition, self._handle = _bytes_of(text), _edition_of(edition), _raw.Handle()
+        self._thread = threading.get_ident()
+        edition = self.edition
         _had_room(_library.ras_c_parse(self.data, len(self.data), edition, ctypes.byref(self._handle)))
         weakref.finalize(self, _library.ras_c_free, ctypes.byref(self._handle))
+
+    def _on_its_thread(self):
+        if threading.get_ident() != self._thread:
+            raise RuntimeError("a Live stays on the thread that made it")
+
+    def _refuse_copy(self, *_):
+        raise TypeError("a Live cannot be copied or pickled, since it owns a parse in the library; copy its text or its tree()")
+
+    __copy__ = __deepcopy__ = __reduce_ex__ = __reduce__ = _refuse_copy
 
     def edit(self, start, end, insert):
         """Replaces the bytes from `start` to `end`. If it raises, the text and its parse stay as they were: ValueError if the range is not
         in the text, or does not start and end between characters; ParseError if the new text is too long, or memory ran out.
         """
+        self._on_its_thread()
         data = _bytes_of(insert)
         if not 0 <= start <= end <= len(self.data):
             raise ValueError(f"{start}..{end} is no range of the text, which has {len(self.data)} bytes")
@@ -190,6 +228,7 @@ class Live:
 
     def tree(self):
         """The tree of the text as it is now."""
+        self._on_its_thread()
         tree = Tree.__new__(Tree)
         tree._tell(self.data, self.edition, functools.partial(_library.ras_c_rows, ctypes.byref(self._handle)))
         return tree

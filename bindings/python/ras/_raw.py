@@ -28,6 +28,9 @@ NO_PLACE = 6
 # The handle holds no parse. Nothing was written.
 NO_PARSE = 7
 
+# A number made of the kinds, constants, structs and calls of the library. Bindings that know another number were made for others.
+VERSION = 105046525
+
 
 class FlatRow(ctypes.Structure):
     """One node or token, in 16 bytes. Rows are numbered from 0 in preorder."""
@@ -110,4 +113,6 @@ def declare(library):
     library.ras_c_read.restype = ctypes.c_uint32
     library.ras_c_tokens.argtypes = [ctypes.c_void_p, ctypes.c_size_t, ctypes.c_uint32, ctypes.c_void_p, ctypes.c_size_t, ctypes.c_void_p]
     library.ras_c_tokens.restype = ctypes.c_uint32
+    library.ras_c_version.argtypes = []
+    library.ras_c_version.restype = ctypes.c_uint32
     return library

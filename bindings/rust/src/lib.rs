@@ -28,6 +28,7 @@ mod parse;
 mod range;
 mod raw;
 mod tree;
+mod version;
 
 pub use kind::SyntaxKind;
 pub use live::{EditError, Live};

@@ -60,7 +60,12 @@ impl Live {
     /// A text, read as a file.
     ///
     /// It takes time linear in the text.
+    ///
+    /// # Panics
+    ///
+    /// It panics if the library that is linked is not the one that this crate was made for.
     pub fn parse(text: impl Into<String>, edition: Edition) -> Result<Live, ParseError> {
+        crate::version::check();
         let text = text.into();
         let mut live = Live { handle: RefCell::new(Handle { full: false, at: ptr::null_mut() }), text, edition };
         // SAFETY: the text is borrowed for the call, with its length; the handle is one without a parse.

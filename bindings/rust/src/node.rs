@@ -3,6 +3,7 @@ use crate::kind::SyntaxKind;
 use crate::range::{TextRange, TextSize};
 use crate::raw::FlatRow;
 use crate::tree::{TokenAtOffset, Tree};
+use std::borrow::Cow;
 use std::fmt;
 use std::hash::{Hash, Hasher};
 use std::iter::{FusedIterator, successors};
@@ -389,10 +390,19 @@ impl<'t> Token<'t> {
     }
 }
 
+// The part of a token's text that a dump shows: all of fewer than 25 bytes, else up to the first end of a character from 21 bytes on.
+fn shown(text: &str) -> Cow<'_, str> {
+    if text.len() < 25 {
+        return text.into();
+    }
+    let end = (21..25).find(|end| text.is_char_boundary(*end)).unwrap_or(25);
+    format!("{} ...", &text[..end]).into()
+}
+
 impl fmt::Debug for Token<'_> {
-    /// `IDENT@3..4 "f"`.
+    /// `IDENT@3..4 "f"`. Of a text of 25 bytes or more, the first 21 to 24 are shown, as rust-analyzer's crate shows them.
     fn fmt(&self, f: &mut fmt::Formatter<'_>) -> fmt::Result {
-        write!(f, "{}@{} {:?}", self.kind(), self.text_range(), self.text())
+        write!(f, "{}@{} {:?}", self.kind(), self.text_range(), shown(self.text()))
     }
 }
 

@@ -28,6 +28,9 @@ pub const NO_PLACE: u32 = 6;
 /// The handle holds no parse. Nothing was written.
 pub const NO_PARSE: u32 = 7;
 
+/// A number made of the kinds, constants, structs and calls of the library. Bindings that know another number were made for others.
+pub const VERSION: u32 = 105046525;
+
 /// One node or token, in 16 bytes. Rows are numbered from 0 in preorder.
 #[repr(C)]
 #[derive(Clone, Copy, Debug, PartialEq, Eq)]
@@ -217,4 +220,7 @@ unsafe extern "C" {
         tokens_len: usize,
         count: *mut u32,
     ) -> u32;
+
+    /// The number [`VERSION`] of the library. Compare it with that of the header.
+    pub fn ras_c_version() -> u32;
 }

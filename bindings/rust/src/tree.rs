@@ -156,6 +156,10 @@ impl Tree {
     /// The tree of a text, read as a file.
     ///
     /// It takes time linear in the text: one pass of the parser, and one copy of the rows.
+    ///
+    /// # Panics
+    ///
+    /// It panics if the library that is linked is not the one that this crate was made for.
     pub fn parse(text: impl Into<Box<str>>, edition: Edition) -> Result<Tree, ParseError> {
         Tree::told(text.into(), edition, |text, room, counts| {
             // SAFETY: the text and the three buffers are borrowed for the call, with their lengths, none overlaps another, and the
@@ -183,6 +187,7 @@ impl Tree {
         edition: Edition,
         mut call: impl FnMut(&str, &mut Room, &mut Counts) -> u32,
     ) -> Result<Tree, ParseError> {
+        crate::version::check();
         let mut room = Room::for_text(text.len());
         let mut counts = Counts { rows: 0, errors: 0, violations: 0, messages: 0 };
         while !answered(call(&text, &mut room, &mut counts))? {

@@ -131,6 +131,18 @@ fn needless_pairs_are_found() {
 }
 
 #[test]
+fn a_long_token_is_cut() {
+    let shown = |text: &str| {
+        let tree = Tree::parse(format!("// {text}"), Edition::CURRENT).unwrap();
+        format!("{:?}", tree.root().first_token().unwrap())
+    };
+    assert_eq!(shown(&"a".repeat(21)), format!("COMMENT@0..24 {:?}", "// aaaaaaaaaaaaaaaaaaaaa"));
+    assert_eq!(shown(&"a".repeat(22)), format!("COMMENT@0..25 {:?}", "// aaaaaaaaaaaaaaaaaa ..."));
+    assert_eq!(shown(&format!("{}ßß", "a".repeat(17))), format!("COMMENT@0..24 {:?}", "// aaaaaaaaaaaaaaaaaßß"));
+    assert_eq!(shown(&format!("{}ßßß", "a".repeat(17))), format!("COMMENT@0..26 {:?}", "// aaaaaaaaaaaaaaaaaß ..."));
+}
+
+#[test]
 fn a_covering_element_is_the_smallest() {
     let tree = tree("fn f() { a + b }");
     let at = |start: u32, end: u32| tree.root().covering_element(TextRange::new(start.into(), end.into()));

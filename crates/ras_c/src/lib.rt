@@ -16,3 +16,4 @@ mod read;
 mod root;
 mod status;
 mod tokens;
+mod version;
