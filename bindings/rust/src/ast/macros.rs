@@ -124,6 +124,15 @@ macro_rules! first {
     };
 }
 
+macro_rules! second {
+    ($call:ident, $of:ident) => {
+        #[doc = concat!("The second child that is a `", stringify!($of), "`, if there is one.")]
+        pub fn $call(&self) -> Option<$of<'t>> {
+            support::children(self.syntax()).nth(1)
+        }
+    };
+}
+
 macro_rules! all {
     ($call:ident, $of:ident) => {
         #[doc = concat!("The children that are a `", stringify!($of), "`, in order.")]
@@ -149,4 +158,4 @@ macro_rules! shared {
     };
 }
 
-pub(super) use {all, calls, choice, first, leaf, node, shared, token};
+pub(super) use {all, calls, choice, first, leaf, node, second, shared, token};
