@@ -26,7 +26,7 @@ def called(head, given):
 
 def asked(lookup, said):
     """The statement that asks a lookup of the view `it`, without its end."""
-    way = {"first": "node", "all": "nodes", "token": "token"}[lookup.way]
+    way = {"all": "nodes", "token": "token"}.get(lookup.way, "node")
     return called(f"sheet.{way}", [said, f"it.{lookup.name}()"])
 
 
@@ -51,21 +51,36 @@ def asking(title, uses):
     return [*out, *listed("use ra_ap_syntax::ast::", uses), "use std::alloc::AllocError;"]
 
 
-def asking_file(table, section):
-    kinds = sorted((it for it in table.kinds.values() if it.section == section and it.lookups), key=lambda it: it.name)
-    out = asking(f"in {table.sections[section]}", ["self", "AstNode", "cast_ref"])
+def asking_file(title, kinds, uses, view=lambda name: f"ast::{name}"):
+    """A file that asks the lookups of these views."""
+    out = asking(f"in {title}", ["self", "AstNode", "cast_ref"]) if not uses else asking(f"in {title}", uses)
     calls = [(snake(kind.name), [f"    of_{snake(kind.name)}(sheet, node)"]) for kind in kinds]
-    out += chain("answers", calls, f"Prints the results, for a node, of the plain lookups in {table.sections[section]}.")
+    out += chain("answers", calls, f"Prints the results, for a node, of the plain lookups in {title}.")
     for kind in kinds:
         of = f"of_{snake(kind.name)}"
         rows = [asked(lookup, f'"{kind.name}.{lookup.name}"') for lookup in kind.lookups]
         first, rest = (rows[:CALLS_OF_ONE], rows[CALLS_OF_ONE:]) if len(rows) > CALLS_OF_ONE + 1 else (rows, [])
         out += ["", *opened(f"fn {of}", ASKED)]
-        out += [f"    let Some(it) = cast_ref::<ast::{kind.name}>(node) else {{", "        return Ok(());", "    };"]
+        out += [f"    let Some(it) = cast_ref::<{view(kind.name)}>(node) else {{", "        return Ok(());", "    };"]
         out += [*chained(first + ([[f"    rest_{of}(sheet, &it)"]] if rest else [])), "}"]
         if rest:
-            out += ["", *opened(f"fn rest_{of}", [ASKED[0], f"it: &ast::{kind.name}"]), *chained(rest), "}"]
+            out += ["", *opened(f"fn rest_{of}", [ASKED[0], f"it: &{view(kind.name)}"]), *chained(rest), "}"]
     return out
+
+
+def asking_rust_file(rust, section):
+    """The same of the views of `rust_views`, and of what it adds to the others."""
+    views = [*rust.kinds.values(), *rust.added.values()]
+    views = sorted((it for it in views if it.section == section and it.lookups), key=lambda it: it.name)
+
+    def view(name):
+        return name if name in rust.kinds else f"ast::{name}"
+
+    uses = ["self"] * any(it.name in rust.added for it in views) + ["AstNode", "cast_ref"]
+    out = asking_file(f"{rust.sections[section]}, of `rust_views`", views, uses, view)
+    named = sorted({it.name for it in views if it.name in rust.kinds} | {f"{it.name}Ext" for it in views})
+    place = next(number for number, line in enumerate(out) if line.startswith("use std::"))
+    return [*out[:place], *listed("use rust_views::", named), *out[place:]]
 
 
 def owners_asked(table, trait):
@@ -93,13 +108,20 @@ def asking_shared_file(table):
     return out
 
 
-def asking_files(table, sections):
-    parts = sorted([*sections, "shared"])
+def asking_files(table, rust, sections):
+    added = [f"rust_{it}" for it in rust.sections]
+    parts = sorted([*sections, "enums", "shared", *added])
     out = [f"// Plain lookups. {MADE}", *(f"mod {it};" for it in parts), "", "use crate::sheet::Sheet;", "use ra_ap_syntax::SyntaxNode;"]
     out += ["use std::alloc::AllocError;"]
     calls = [(it, [f"    {it}::answers(sheet, node)"]) for it in parts]
     out += chain("answers", calls, "Prints the results of the plain lookups for a node.")
-    files = {os.path.join(ASKING, "src", "lookups", f"{it}.rt"): asking_file(table, it) for it in sections}
+    files = {}
+    for it in sections:
+        kinds = sorted((kind for kind in table.kinds.values() if kind.section == it and kind.lookups), key=lambda kind: kind.name)
+        files[it] = asking_file(table.sections[it], kinds, [])
+    files["enums"] = asking_file("enums", sorted((it for it in table.enums.values() if it.lookups), key=lambda it: it.name), [])
+    files |= {f"rust_{it}": asking_rust_file(rust, it) for it in rust.sections}
+    files = {os.path.join(ASKING, "src", "lookups", f"{it}.rt"): lines for it, lines in files.items()}
     return files | {
         os.path.join(ASKING, "src", "lookups", "shared.rt"): asking_shared_file(table),
         os.path.join(ASKING, "src", "lookups.rt"): out,

@@ -63,6 +63,8 @@ def example_files(table, rust):
     for section, title in table.sections.items():
         rows = [(snake(it.name), it.lookups) for it in sorted(table.kinds.values(), key=lambda it: it.name) if it.section == section]
         files[section] = file(f"Lookups in {title}.", rows, view, [])
+    rows = [(snake(name), it.lookups) for name, it in sorted(table.enums.items()) if it.lookups]
+    files["enums"] = file("Lookups in the nodes of enums.", rows, view, [])
     rows = [(snake(name), it.lookups) for name, it in sorted(table.traits.items())]
     files["shared"] = file("Lookups that several views share.", rows, view, [("ast", name) for name in sorted(table.traits)])
     for section, title in rust.sections.items():

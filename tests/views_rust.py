@@ -193,10 +193,7 @@ class Writer:
         out += ["use ra_ap_syntax::{SyntaxKind, SyntaxNode};", "use ras_node::support;", "use std::alloc::AllocError;", "use std::fmt;", "use std::hash::{Hash, Hasher};", ""]
         out += [f"/// {it.doc}", "#[derive(Drop)]", f"pub struct {name} {{", "    syntax: SyntaxNode,"]
         out += [f"    ghost is: {{ {kinds} (kind_at syntax) ≡ true }},", "}"]
-        out += ["", f"impl {name} {{", f"    /// The node of a view that has `{trait}`; `None` if no view of this library has it."]
-        out += [f"    pub fn new<N: {trait}>(it: &N) -> Option<{name}>"]
-        out += [f"        ensures {{ option_map (λ it. it.syntax) result ≡ if_of {kinds} (N.node it.now) }}", "    {"]
-        out += ["        Self::cast(support::share(it.syntax()))", "    }", "}"]
+        out += self.templates.new_of(name, trait, kinds)
         cast = ["if Self::can_cast(syntax.kind()) {", f"    Some({name} {{ syntax }})", "} else {", "    None", "}"]
         clone = ["let syntax = self.syntax.clone()?;", f"Ok({name} {{ syntax }})"]
         words = {"casts": kinds, "node": "λ it. it.syntax", "castable": "λ it. it.is"}

@@ -1,12 +1,18 @@
 // Plain lookups. Made by `tests/views` from `views.txt`.
 mod attr;
 mod control;
+mod enums;
 mod expr;
 mod generic;
 mod item;
 mod part;
 mod pat;
 mod path;
+mod rust_asm;
+mod rust_expr;
+mod rust_item;
+mod rust_pat;
+mod rust_path;
 mod shared;
 mod stmt;
 mod ty;
@@ -19,17 +25,27 @@ use std::alloc::AllocError;
 pub fn answers(sheet: &mut Sheet, node: &SyntaxNode) -> Result<(), AllocError> {
     attr::answers(sheet, node)?;
     control::answers(sheet, node)?;
+    enums::answers(sheet, node)?;
     expr::answers(sheet, node)?;
     generic::answers(sheet, node)?;
     item::answers(sheet, node)?;
     part::answers(sheet, node)?;
     pat::answers(sheet, node)?;
-    path::answers(sheet, node)?;
-    from_shared(sheet, node)
+    from_path(sheet, node)
 }
 
-fn from_shared(sheet: &mut Sheet, node: &SyntaxNode) -> Result<(), AllocError> {
+fn from_path(sheet: &mut Sheet, node: &SyntaxNode) -> Result<(), AllocError> {
+    path::answers(sheet, node)?;
+    rust_asm::answers(sheet, node)?;
+    rust_expr::answers(sheet, node)?;
+    rust_item::answers(sheet, node)?;
+    rust_pat::answers(sheet, node)?;
+    rust_path::answers(sheet, node)?;
     shared::answers(sheet, node)?;
     stmt::answers(sheet, node)?;
+    from_ty(sheet, node)
+}
+
+fn from_ty(sheet: &mut Sheet, node: &SyntaxNode) -> Result<(), AllocError> {
     ty::answers(sheet, node)
 }

@@ -4,6 +4,8 @@ mod attr;
 #[cfg(test)]
 mod control;
 #[cfg(test)]
+mod enums;
+#[cfg(test)]
 mod expr;
 #[cfg(test)]
 mod generic;

@@ -287,6 +287,7 @@ calls!(MatchArm: leaf comma_token: COMMA, first expr: Expr, leaf fat_arrow_token
 calls!(MatchArmList: all arms: MatchArm, leaf l_curly_token: L_CURLY, leaf r_curly_token: R_CURLY);
 calls!(MatchExpr: first expr: Expr, first match_arm_list: MatchArmList, leaf match_token: MATCH_KW);
 calls!(MatchGuard: first condition: Expr, leaf if_token: IF_KW);
+calls!(Meta: leaf eq_token: EQ, first expr: Expr, leaf l_paren_token: L_PAREN, leaf r_paren_token: R_PAREN, first token_tree: TokenTree, leaf unsafe_token: UNSAFE_KW);
 calls!(MethodCallExpr: leaf dot_token: DOT, first name_ref: NameRef, first receiver: Expr);
 calls!(Module: first item_list: ItemList, leaf mod_token: MOD_KW, leaf semicolon_token: SEMICOLON);
 calls!(Name: leaf ident_token: IDENT, leaf self_token: SELF_KW);
@@ -310,7 +311,7 @@ calls!(PrefixExpr: first expr: Expr);
 calls!(PtrType: leaf const_token: CONST_KW, leaf mut_token: MUT_KW, leaf star_token: STAR, first ty: Type);
 calls!(RecordExpr: first path: Path, first record_expr_field_list: RecordExprFieldList);
 calls!(RecordExprField: leaf colon_token: COLON, first expr: Expr, first name_ref: NameRef);
-calls!(RecordExprFieldList: leaf dotdot_token: DOT2, all fields: RecordExprField, leaf l_curly_token: L_CURLY, leaf r_curly_token: R_CURLY, first spread: Expr);
+calls!(RecordExprFieldList: all attrs: Attr, leaf dotdot_token: DOT2, all fields: RecordExprField, leaf l_curly_token: L_CURLY, leaf r_curly_token: R_CURLY, first spread: Expr);
 calls!(RecordField: leaf colon_token: COLON, first default_val: ConstArg, leaf eq_token: EQ, first ty: Type, leaf unsafe_token: UNSAFE_KW);
 calls!(RecordFieldList: all fields: RecordField, leaf l_curly_token: L_CURLY, leaf r_curly_token: R_CURLY);
 calls!(RecordPat: first path: Path, first record_pat_field_list: RecordPatFieldList);

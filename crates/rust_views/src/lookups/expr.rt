@@ -1,7 +1,7 @@
 //! Lookups in expressions. Made by `tests/views` from `views.txt`.
 ghost use Rattle.std.specs.Prelude.{◌≡◌};
 ghost use Rattle.ras_node.specs.Lookups.{IsFirstChild};
-ghost use Rattle.ras_node.specs.Nodes.{token_child};
+ghost use Rattle.ras_node.specs.Nodes.{token_child, typed_children};
 ghost use Rattle.ra_ap_syntax.specs.Words.{AreChildren};
 ghost use Rattle.rust_kinds.specs.declared.kinds.TheConstants.{FORMAT_ARGS_KW, OFFSET_OF_KW, RAW_KW};
 
@@ -116,6 +116,14 @@ pub trait RecordExprFieldListExt: AstNode {
         ensures { result ≡ token_child SyntaxKind.R_CURLY (Self.node self.now) }
     {
         support::token(self.syntax(), T!['}'])
+    }
+
+    /// The children that are attributes, in order.
+    /// Example: `#![a]` of `{ #![a] f: b }`.
+    final fn attrs(&self) -> AstChildren<ast::Attr>
+        ensures { result ≡ typed_children ⟦<ast::Attr as AstNode>⟧.casts (Self.node self.now) }
+    {
+        support::children(self.syntax())
     }
 }
 
