@@ -85,14 +85,18 @@ def quoted(text):
     return f"`{text.replace(chr(10), chr(92) + 'n')}`"
 
 
+def part_of(lookup):
+    """The part of its example that a lookup returns, in words."""
+    *parts, last = [quoted(it) for it in lookup.parts]
+    return f"{', '.join(parts)} and {last}" if parts else last
+
+
 def shown(lookup):
-    """The part of an example that a lookup returns, on a second line where it is too long."""
+    """The part of its example that a lookup returns, on a second line where it is too long."""
     if not lookup.example:
         return []
-    parts = [quoted(it) for it in lookup.parts]
-    part = parts[0] if len(parts) == 1 else f"{', '.join(parts[:-1])} and {parts[-1]}"
-    whole = f"    /// Example: {part} of {quoted(lookup.example.text)}."
-    return [whole] if len(whole) <= WIDTH else [f"    /// Example: {part} of", f"    /// {quoted(lookup.example.text)}."]
+    whole = f"    /// Example: {part_of(lookup)} of {quoted(lookup.example.text)}."
+    return [whole] if len(whole) <= WIDTH else [f"    /// Example: {part_of(lookup)} of", f"    /// {quoted(lookup.example.text)}."]
 
 
 def view(name):
