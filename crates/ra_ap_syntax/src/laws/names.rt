@@ -13,23 +13,23 @@ pub fn names_of_nodes()
     ensures abi { Views ⟦<ast::Abi as AstNode>⟧ SyntaxKind.ABI }
     ensures use_tree { Views ⟦<ast::UseTree as AstNode>⟧ SyntaxKind.USE_TREE }
     ensures use_tree_list { Views ⟦<ast::UseTreeList as AstNode>⟧ SyntaxKind.USE_TREE_LIST }
-    ensures record_field { Views ⟦<ast::RecordFieldList as AstNode>⟧ SyntaxKind.RECORD_FIELD_LIST }
+    ensures record_fields { Views ⟦<ast::RecordFieldList as AstNode>⟧ SyntaxKind.RECORD_FIELD_LIST }
     ensures record_field { Views ⟦<ast::RecordField as AstNode>⟧ SyntaxKind.RECORD_FIELD }
-    ensures tuple_field { Views ⟦<ast::TupleFieldList as AstNode>⟧ SyntaxKind.TUPLE_FIELD_LIST }
+    ensures tuple_fields { Views ⟦<ast::TupleFieldList as AstNode>⟧ SyntaxKind.TUPLE_FIELD_LIST }
     ensures tuple_field { Views ⟦<ast::TupleField as AstNode>⟧ SyntaxKind.TUPLE_FIELD }
     ensures variant { Views ⟦<ast::Variant as AstNode>⟧ SyntaxKind.VARIANT }
     ensures item_list { Views ⟦<ast::ItemList as AstNode>⟧ SyntaxKind.ITEM_LIST }
     ensures assoc_item_list { Views ⟦<ast::AssocItemList as AstNode>⟧ SyntaxKind.ASSOC_ITEM_LIST }
-    ensures extern_item { Views ⟦<ast::ExternItemList as AstNode>⟧ SyntaxKind.EXTERN_ITEM_LIST }
+    ensures extern_items { Views ⟦<ast::ExternItemList as AstNode>⟧ SyntaxKind.EXTERN_ITEM_LIST }
     ensures visibility { Views ⟦<ast::Visibility as AstNode>⟧ SyntaxKind.VISIBILITY }
-    ensures visibility { Views ⟦<ast::VisibilityInner as AstNode>⟧ SyntaxKind.VISIBILITY_INNER }
+    ensures scope { Views ⟦<ast::VisibilityInner as AstNode>⟧ SyntaxKind.VISIBILITY_INNER }
     ensures macro_stmts { Views ⟦<ast::MacroStmts as AstNode>⟧ SyntaxKind.MACRO_STMTS }
     ensures type_bound { Views ⟦<ast::TypeBound as AstNode>⟧ SyntaxKind.TYPE_BOUND }
     ensures type_bound_list { Views ⟦<ast::TypeBoundList as AstNode>⟧ SyntaxKind.TYPE_BOUND_LIST }
-    ensures use { Views ⟦<ast::UseBoundGenericArgs as AstNode>⟧ SyntaxKind.USE_BOUND_GENERIC_ARGS }
+    ensures used { Views ⟦<ast::UseBoundGenericArgs as AstNode>⟧ SyntaxKind.USE_BOUND_GENERIC_ARGS }
     ensures for_binder { Views ⟦<ast::ForBinder as AstNode>⟧ SyntaxKind.FOR_BINDER }
-    ensures generic { Views ⟦<ast::GenericParamList as AstNode>⟧ SyntaxKind.GENERIC_PARAM_LIST }
-    ensures generic_arg { Views ⟦<ast::GenericArgList as AstNode>⟧ SyntaxKind.GENERIC_ARG_LIST }
+    ensures type_params { Views ⟦<ast::GenericParamList as AstNode>⟧ SyntaxKind.GENERIC_PARAM_LIST }
+    ensures generic_args { Views ⟦<ast::GenericArgList as AstNode>⟧ SyntaxKind.GENERIC_ARG_LIST }
     ensures where_clause { Views ⟦<ast::WhereClause as AstNode>⟧ SyntaxKind.WHERE_CLAUSE }
     ensures where_pred { Views ⟦<ast::WherePred as AstNode>⟧ SyntaxKind.WHERE_PRED }
     ensures name { Views ⟦<ast::Name as AstNode>⟧ SyntaxKind.NAME }
@@ -50,8 +50,8 @@ pub fn names_of_nodes()
     ensures match_arm_list { Views ⟦<ast::MatchArmList as AstNode>⟧ SyntaxKind.MATCH_ARM_LIST }
     ensures match_arm { Views ⟦<ast::MatchArm as AstNode>⟧ SyntaxKind.MATCH_ARM }
     ensures match_guard { Views ⟦<ast::MatchGuard as AstNode>⟧ SyntaxKind.MATCH_GUARD }
-    ensures record_expr { Views ⟦<ast::RecordExprField as AstNode>⟧ SyntaxKind.RECORD_EXPR_FIELD }
+    ensures expr_field { Views ⟦<ast::RecordExprField as AstNode>⟧ SyntaxKind.RECORD_EXPR_FIELD }
     ensures format_args_arg { Views ⟦<ast::FormatArgsArg as AstNode>⟧ SyntaxKind.FORMAT_ARGS_ARG }
-    ensures record_pat { Views ⟦<ast::RecordPatField as AstNode>⟧ SyntaxKind.RECORD_PAT_FIELD }
+    ensures pat_field { Views ⟦<ast::RecordPatField as AstNode>⟧ SyntaxKind.RECORD_PAT_FIELD }
     ensures ret_type { Views ⟦<ast::RetType as AstNode>⟧ SyntaxKind.RET_TYPE }
 {}
