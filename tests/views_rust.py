@@ -18,9 +18,9 @@ HEAD = """//! Views of the nodes of Rust's trees for whose kinds `SyntaxKind` ha
 //! that lead to them and on from them. {made}
 //!
 //! All other views are in `ra_ap_syntax`. A lookup is a method of a trait with the name of the view
-//! and `Ext`, because a view is an alias of `ra_ap_syntax`'s `Typed`: after `use rust_views::EnumExt;`,
-//! `it.variant_list()` is rust-analyzer's call. A call takes time linear in the number of children
-//! that it passes, and no memory.
+//! and `Ext`, because a view is an alias of `ra_ap_syntax`'s `Typed`: after
+//! `use rust_views::EnumExt;`, `it.variant_list()` is rust-analyzer's call. A call takes time linear
+//! in the number of children that it passes, and no memory.
 #![tactic(auto)]
 """
 CASTS = """

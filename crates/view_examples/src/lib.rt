@@ -1,4 +1,5 @@
-//! Tests of the lookups: each returns, on the example that its documentation shows, the part that is written there.
+//! Tests of the lookups: each returns, on the example that its documentation shows, the part that is
+//! written there.
 //!
 //! `tests/views` makes the tests from the tables of the views.
 #![tactic(auto)]
@@ -11,7 +12,8 @@ use ra_ap_syntax::{Edition, SourceFile, SyntaxToken};
 use rust_front::Rust;
 use std::test::Fail;
 
-/// The first node in the tree of a file that is an `N` and has this text. It fails if the file has an error.
+/// The first node in the tree of a file that is an `N` and has this text. It fails if the file has
+/// an error.
 pub fn find<N: AstNode + Drop>(rt: &HostRuntime, file: &str, text: &str) -> Result<N, Fail> {
     let parse = SourceFile::parse(rt.alloc(), file, &Rust, Edition::CURRENT)?;
     for error in &parse.errors(rt.alloc())? {
