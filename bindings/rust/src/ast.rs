@@ -13,6 +13,7 @@
 //! assert_eq!(names, ["one", "three"]);
 //! # Ok::<(), ras::ParseError>(())
 //! ```
+mod lookups;
 mod macros;
 pub mod support;
 mod traits;

@@ -104,6 +104,7 @@ pub mod PatCases
 pub mod StmtCases
 pub mod TypeCases
 pub mod TypeOrConstParamCases
+pub mod Words
 pub mod ExprShapes
 pub mod NodeShapes
 pub mod AttrParts

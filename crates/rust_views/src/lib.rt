@@ -1,45 +1,54 @@
-//! Views of the nodes of Rust's trees for whose kinds `SyntaxKind` has no constant, and the lookups that lead to them and on from them.
+//! Views of the nodes of Rust's trees for whose kinds `SyntaxKind` has no constant, and the lookups
+//! that lead to them and on from them. Made by `tests/views` from `views.txt`.
 //!
-//! All other views are in `ra_ap_syntax`. The lookups here are functions and not methods, because the views that they take are from
-//! there: `variant_list(&it)` is rust-analyzer's `it.variant_list()`. A call takes time linear in the children that it passes, and
-//! allocates nothing.
+//! All other views are in `ra_ap_syntax`. A lookup is a method of a trait with the name of the view
+//! and `Ext`, because a view is an alias of `ra_ap_syntax`'s `Typed`: after
+//! `use rust_views::EnumExt;`, `it.variant_list()` is rust-analyzer's call. A call takes time linear
+//! in the number of children that it passes, and no memory.
 #![tactic(auto)]
 
-pub mod exprs;
-pub mod items;
+pub mod anys;
+pub mod enums;
+mod kinds;
 pub mod laws;
-pub mod paths;
-pub mod pats;
+pub mod lookups;
 pub mod raw;
+mod shared_traits;
 
-pub use exprs::{
-    record_expr_dotdot_token, record_expr_field_list, record_expr_fields, record_expr_spread,
+pub use anys::any_has_arg_list::AnyHasArgList;
+pub use anys::any_has_generic_args::AnyHasGenericArgs;
+pub use anys::any_has_loop_body::AnyHasLoopBody;
+pub use anys::any_has_module_item::AnyHasModuleItem;
+pub use anys::any_has_name::AnyHasName;
+pub use anys::any_has_type_bounds::AnyHasTypeBounds;
+pub use anys::any_has_visibility::AnyHasVisibility;
+pub use enums::asm_operand::AsmOperand;
+pub use enums::asm_piece::AsmPiece;
+pub use enums::field_list::FieldList;
+pub use enums::use_bound_generic_arg::UseBoundGenericArg;
+pub use enums::variant_def::VariantDef;
+// The formatter would write this many names one per line.
+#[rattlefmt::skip]
+pub use kinds::{
+    AsmClobberAbi, AsmConst, AsmDirSpec, AsmLabel, AsmOperandExpr, AsmOperandNamed, AsmOption,
+    AsmOptions, AsmRegOperand, AsmRegSpec, AsmSym, FormatArgsArgName, MacroItems,
+    ParenthesizedArgList, RecordExprFieldList, RecordPatFieldList, Rename, ReturnTypeSyntax,
+    VariantList,
 };
-pub use items::{
-    extern_crate_rename, macro_items, rename_as_token, rename_name, rename_underscore_token,
-    use_tree_rename, variant_list, variants,
+pub use lookups::asm::{
+    AsmClobberAbiExt, AsmConstExt, AsmDirSpecExt, AsmExprExt, AsmLabelExt, AsmOperandExprExt,
+    AsmOperandNamedExt, AsmOptionExt, AsmOptionsExt, AsmRegOperandExt, AsmRegSpecExt, AsmSymExt,
 };
-pub use paths::{parenthesized_arg_list, return_type_syntax, type_args};
-pub use pats::{record_pat_field_list, record_pat_fields, record_pat_rest};
-use ra_ap_syntax::ast::Typed;
-
-/// The variants of an enum with their braces: `{ A, B(T) }`.
-pub type VariantList = Typed<{ raw::VARIANT_LIST }>;
-
-/// The new name of what is used: `as a`, `as _`.
-pub type Rename = Typed<{ raw::RENAME }>;
-
-/// The items that a macro expands to.
-pub type MacroItems = Typed<{ raw::MACRO_ITEMS }>;
-
-/// The fields of a record with their braces: `{ a: 1, ..b }`.
-pub type RecordExprFieldList = Typed<{ raw::RECORD_EXPR_FIELD_LIST }>;
-
-/// The fields of a record pattern with their braces: `{ a, b: 1, .. }`.
-pub type RecordPatFieldList = Typed<{ raw::RECORD_PAT_FIELD_LIST }>;
-
-/// The types of the arguments in a path: `(A, B)` in `Fn(A, B) -> C`.
-pub type ParenthesizedArgList = Typed<{ raw::PARENTHESIZED_ARG_LIST }>;
-
-/// `(..)` after a function's name in a bound.
-pub type ReturnTypeSyntax = Typed<{ raw::RETURN_TYPE_SYNTAX }>;
+pub use lookups::expr::{
+    FormatArgsArgExt, FormatArgsArgNameExt, FormatArgsExprExt, OffsetOfExprExt, RecordExprExt,
+    RecordExprFieldListExt, RefExprExt,
+};
+pub use lookups::item::{
+    EnumExt, ExternCrateExt, FnExt, MacroItemsExt, RenameExt, SourceFileExt, StaticExt, StructExt,
+    UseTreeExt, VariantExt, VariantListExt,
+};
+pub use lookups::pat::{BoxPatExt, RecordPatExt, RecordPatFieldListExt};
+pub use lookups::path::{
+    AssocTypeArgExt, ParenthesizedArgListExt, PathSegmentExt, ReturnTypeSyntaxExt,
+    UseBoundGenericArgsExt,
+};

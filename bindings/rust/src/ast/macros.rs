@@ -108,25 +108,37 @@ macro_rules! choice {
 
 // The calls of a view.
 macro_rules! calls {
-    ($owner:ident: $($way:ident $call:ident: $of:ident),+) => {
+    ($owner:ident: $($way:ident $call:ident: $of:ident = $example:literal,)+) => {
         impl<'t> $owner<'t> {
-            $($way!($call, $of);)+
+            $($way!($call, $of, $example);)+
         }
     };
 }
 
 macro_rules! first {
-    ($call:ident, $of:ident) => {
+    ($call:ident, $of:ident, $example:literal) => {
         #[doc = concat!("The first child that is a `", stringify!($of), "`, if there is one.")]
+        #[doc = $example]
         pub fn $call(&self) -> Option<$of<'t>> {
             support::child(self.syntax())
         }
     };
 }
 
+macro_rules! second {
+    ($call:ident, $of:ident, $example:literal) => {
+        #[doc = concat!("The second child that is a `", stringify!($of), "`, if there is one.")]
+        #[doc = $example]
+        pub fn $call(&self) -> Option<$of<'t>> {
+            support::children(self.syntax()).nth(1)
+        }
+    };
+}
+
 macro_rules! all {
-    ($call:ident, $of:ident) => {
+    ($call:ident, $of:ident, $example:literal) => {
         #[doc = concat!("The children that are a `", stringify!($of), "`, in order.")]
+        #[doc = $example]
         pub fn $call(&self) -> AstChildren<'t, $of<'t>> {
             support::children(self.syntax())
         }
@@ -134,8 +146,9 @@ macro_rules! all {
 }
 
 macro_rules! leaf {
-    ($call:ident, $of:ident) => {
+    ($call:ident, $of:ident, $example:literal) => {
         #[doc = concat!("The first token of the kind `", stringify!($of), "` among the children, if there is one.")]
+        #[doc = $example]
         pub fn $call(&self) -> Option<Token<'t>> {
             support::token(self.syntax(), SyntaxKind::$of)
         }
@@ -149,4 +162,4 @@ macro_rules! shared {
     };
 }
 
-pub(super) use {all, calls, choice, first, leaf, node, shared, token};
+pub(in crate::ast) use {all, calls, choice, first, leaf, node, second, shared, token};

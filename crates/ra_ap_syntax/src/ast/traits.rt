@@ -4,6 +4,7 @@ ghost use Rattle.std.specs.Prelude.{◌≡◌};
 ghost use Rattle.ras_node.specs.Lookups.{IsFirstChild, IsViewOf, loop_body};
 ghost use Rattle.std.specs.List.{filter};
 ghost use Rattle.ras_node.specs.Nodes.{has_kind_in, typed_children};
+ghost use Rattle.ra_ap_syntax.specs.Words.{AreChildren};
 ghost use Rattle.ras_node_ext.specs.Attrs.{inner_holder, attrs_with_inner};
 
 use crate::ast::{self, AstChildren, AstNode, AttrsIter, AttrsWithDoc, support};
@@ -20,6 +21,7 @@ pub trait HasLoopBody: AstNode {
     }
 
     /// The first child that is a label, if there is one.
+    /// Example: `'a:` of `'a: loop {}`.
     final fn label(&self) -> Option<ast::Label>
         ensures { IsFirstChild ⟦<ast::Label as AstNode>⟧ (Self.node self.now) result }
     {
@@ -30,6 +32,7 @@ pub trait HasLoopBody: AstNode {
 /// Nodes that can have attributes and documentation.
 pub trait HasAttrs: AstNode {
     /// The children that are attributes, in order.
+    /// Example: `#[a]` and `#[b]` of `#[a] #[b]\n/// c\nfn f() {}`.
     final fn attrs(&self) -> AstChildren<ast::Attr>
         ensures { result ≡ typed_children ⟦<ast::Attr as AstNode>⟧.casts (Self.node self.now) }
     {
@@ -37,13 +40,15 @@ pub trait HasAttrs: AstNode {
     }
 
     /// The children that are doc comments, in order.
+    /// Example: `/// c` of `#[a] #[b]\n/// c\nfn f() {}`.
     final fn doc_comments(&self) -> AstChildren<ast::DocComment>
-        ensures { result ≡ typed_children ⟦<ast::DocComment as AstNode>⟧.casts (Self.node self.now) }
+        ensures { AreChildren ⟦<ast::DocComment as AstNode>⟧ (Self.node self.now) result }
     {
         support::children(self.syntax())
     }
 
     /// The children that are attributes or doc comments, in order.
+    /// Example: `#[a]`, `#[b]` and `/// c` of `#[a] #[b]\n/// c\nfn f() {}`.
     final fn attrs_with_doc(&self) -> AstChildren<ast::AnyAttr>
         ensures { result ≡ typed_children ⟦<ast::AnyAttr as AstNode>⟧.casts (Self.node self.now) }
     {

@@ -1,57 +1,57 @@
 //! The law on the names of views. Made by `tests/views` from `views.txt`.
-ghost use Rattle.std.specs.Prelude.{◌≡◌, true};
+ghost use Rattle.ra_ap_syntax.specs.Words.{Views};
 
 use crate::ast::{self, AstNode};
 use lossless_tree::SyntaxKind;
 
 /// The views of nodes that no enum has are of the kinds that they are named for.
 pub fn names_of_nodes()
-    ensures source_file { ⟦<ast::SourceFile as AstNode>⟧.casts SyntaxKind.SOURCE_FILE ≡ true }
-    ensures param_list { ⟦<ast::ParamList as AstNode>⟧.casts SyntaxKind.PARAM_LIST ≡ true }
-    ensures param { ⟦<ast::Param as AstNode>⟧.casts SyntaxKind.PARAM ≡ true }
-    ensures self_param { ⟦<ast::SelfParam as AstNode>⟧.casts SyntaxKind.SELF_PARAM ≡ true }
-    ensures abi { ⟦<ast::Abi as AstNode>⟧.casts SyntaxKind.ABI ≡ true }
-    ensures use_tree { ⟦<ast::UseTree as AstNode>⟧.casts SyntaxKind.USE_TREE ≡ true }
-    ensures use_tree_list { ⟦<ast::UseTreeList as AstNode>⟧.casts SyntaxKind.USE_TREE_LIST ≡ true }
-    ensures record_field_list { ⟦<ast::RecordFieldList as AstNode>⟧.casts SyntaxKind.RECORD_FIELD_LIST ≡ true }
-    ensures record_field { ⟦<ast::RecordField as AstNode>⟧.casts SyntaxKind.RECORD_FIELD ≡ true }
-    ensures tuple_field_list { ⟦<ast::TupleFieldList as AstNode>⟧.casts SyntaxKind.TUPLE_FIELD_LIST ≡ true }
-    ensures tuple_field { ⟦<ast::TupleField as AstNode>⟧.casts SyntaxKind.TUPLE_FIELD ≡ true }
-    ensures variant { ⟦<ast::Variant as AstNode>⟧.casts SyntaxKind.VARIANT ≡ true }
-    ensures item_list { ⟦<ast::ItemList as AstNode>⟧.casts SyntaxKind.ITEM_LIST ≡ true }
-    ensures assoc_item_list { ⟦<ast::AssocItemList as AstNode>⟧.casts SyntaxKind.ASSOC_ITEM_LIST ≡ true }
-    ensures extern_item_list { ⟦<ast::ExternItemList as AstNode>⟧.casts SyntaxKind.EXTERN_ITEM_LIST ≡ true }
-    ensures visibility { ⟦<ast::Visibility as AstNode>⟧.casts SyntaxKind.VISIBILITY ≡ true }
-    ensures visibility_inner { ⟦<ast::VisibilityInner as AstNode>⟧.casts SyntaxKind.VISIBILITY_INNER ≡ true }
-    ensures macro_stmts { ⟦<ast::MacroStmts as AstNode>⟧.casts SyntaxKind.MACRO_STMTS ≡ true }
-    ensures type_bound { ⟦<ast::TypeBound as AstNode>⟧.casts SyntaxKind.TYPE_BOUND ≡ true }
-    ensures type_bound_list { ⟦<ast::TypeBoundList as AstNode>⟧.casts SyntaxKind.TYPE_BOUND_LIST ≡ true }
-    ensures use_bound_generic_args { ⟦<ast::UseBoundGenericArgs as AstNode>⟧.casts SyntaxKind.USE_BOUND_GENERIC_ARGS ≡ true }
-    ensures for_binder { ⟦<ast::ForBinder as AstNode>⟧.casts SyntaxKind.FOR_BINDER ≡ true }
-    ensures generic_param_list { ⟦<ast::GenericParamList as AstNode>⟧.casts SyntaxKind.GENERIC_PARAM_LIST ≡ true }
-    ensures generic_arg_list { ⟦<ast::GenericArgList as AstNode>⟧.casts SyntaxKind.GENERIC_ARG_LIST ≡ true }
-    ensures where_clause { ⟦<ast::WhereClause as AstNode>⟧.casts SyntaxKind.WHERE_CLAUSE ≡ true }
-    ensures where_pred { ⟦<ast::WherePred as AstNode>⟧.casts SyntaxKind.WHERE_PRED ≡ true }
-    ensures name { ⟦<ast::Name as AstNode>⟧.casts SyntaxKind.NAME ≡ true }
-    ensures name_ref { ⟦<ast::NameRef as AstNode>⟧.casts SyntaxKind.NAME_REF ≡ true }
-    ensures lifetime { ⟦<ast::Lifetime as AstNode>⟧.casts SyntaxKind.LIFETIME ≡ true }
-    ensures path { ⟦<ast::Path as AstNode>⟧.casts SyntaxKind.PATH ≡ true }
-    ensures path_segment { ⟦<ast::PathSegment as AstNode>⟧.casts SyntaxKind.PATH_SEGMENT ≡ true }
-    ensures type_anchor { ⟦<ast::TypeAnchor as AstNode>⟧.casts SyntaxKind.TYPE_ANCHOR ≡ true }
-    ensures attr { ⟦<ast::Attr as AstNode>⟧.casts SyntaxKind.ATTR ≡ true }
-    ensures doc_comment { ⟦<ast::DocComment as AstNode>⟧.casts SyntaxKind.DOC_COMMENT ≡ true }
-    ensures cfg_atom { ⟦<ast::CfgAtom as AstNode>⟧.casts SyntaxKind.CFG_ATOM ≡ true }
-    ensures token_tree { ⟦<ast::TokenTree as AstNode>⟧.casts SyntaxKind.TOKEN_TREE ≡ true }
-    ensures arg_list { ⟦<ast::ArgList as AstNode>⟧.casts SyntaxKind.ARG_LIST ≡ true }
-    ensures stmt_list { ⟦<ast::StmtList as AstNode>⟧.casts SyntaxKind.STMT_LIST ≡ true }
-    ensures label { ⟦<ast::Label as AstNode>⟧.casts SyntaxKind.LABEL ≡ true }
-    ensures try_block_modifier { ⟦<ast::TryBlockModifier as AstNode>⟧.casts SyntaxKind.TRY_BLOCK_MODIFIER ≡ true }
-    ensures let_else { ⟦<ast::LetElse as AstNode>⟧.casts SyntaxKind.LET_ELSE ≡ true }
-    ensures match_arm_list { ⟦<ast::MatchArmList as AstNode>⟧.casts SyntaxKind.MATCH_ARM_LIST ≡ true }
-    ensures match_arm { ⟦<ast::MatchArm as AstNode>⟧.casts SyntaxKind.MATCH_ARM ≡ true }
-    ensures match_guard { ⟦<ast::MatchGuard as AstNode>⟧.casts SyntaxKind.MATCH_GUARD ≡ true }
-    ensures record_expr_field { ⟦<ast::RecordExprField as AstNode>⟧.casts SyntaxKind.RECORD_EXPR_FIELD ≡ true }
-    ensures format_args_arg { ⟦<ast::FormatArgsArg as AstNode>⟧.casts SyntaxKind.FORMAT_ARGS_ARG ≡ true }
-    ensures record_pat_field { ⟦<ast::RecordPatField as AstNode>⟧.casts SyntaxKind.RECORD_PAT_FIELD ≡ true }
-    ensures ret_type { ⟦<ast::RetType as AstNode>⟧.casts SyntaxKind.RET_TYPE ≡ true }
+    ensures source_file { Views ⟦<ast::SourceFile as AstNode>⟧ SyntaxKind.SOURCE_FILE }
+    ensures param_list { Views ⟦<ast::ParamList as AstNode>⟧ SyntaxKind.PARAM_LIST }
+    ensures param { Views ⟦<ast::Param as AstNode>⟧ SyntaxKind.PARAM }
+    ensures self_param { Views ⟦<ast::SelfParam as AstNode>⟧ SyntaxKind.SELF_PARAM }
+    ensures abi { Views ⟦<ast::Abi as AstNode>⟧ SyntaxKind.ABI }
+    ensures use_tree { Views ⟦<ast::UseTree as AstNode>⟧ SyntaxKind.USE_TREE }
+    ensures use_tree_list { Views ⟦<ast::UseTreeList as AstNode>⟧ SyntaxKind.USE_TREE_LIST }
+    ensures record_fields { Views ⟦<ast::RecordFieldList as AstNode>⟧ SyntaxKind.RECORD_FIELD_LIST }
+    ensures record_field { Views ⟦<ast::RecordField as AstNode>⟧ SyntaxKind.RECORD_FIELD }
+    ensures tuple_fields { Views ⟦<ast::TupleFieldList as AstNode>⟧ SyntaxKind.TUPLE_FIELD_LIST }
+    ensures tuple_field { Views ⟦<ast::TupleField as AstNode>⟧ SyntaxKind.TUPLE_FIELD }
+    ensures variant { Views ⟦<ast::Variant as AstNode>⟧ SyntaxKind.VARIANT }
+    ensures item_list { Views ⟦<ast::ItemList as AstNode>⟧ SyntaxKind.ITEM_LIST }
+    ensures assoc_item_list { Views ⟦<ast::AssocItemList as AstNode>⟧ SyntaxKind.ASSOC_ITEM_LIST }
+    ensures extern_items { Views ⟦<ast::ExternItemList as AstNode>⟧ SyntaxKind.EXTERN_ITEM_LIST }
+    ensures visibility { Views ⟦<ast::Visibility as AstNode>⟧ SyntaxKind.VISIBILITY }
+    ensures scope { Views ⟦<ast::VisibilityInner as AstNode>⟧ SyntaxKind.VISIBILITY_INNER }
+    ensures macro_stmts { Views ⟦<ast::MacroStmts as AstNode>⟧ SyntaxKind.MACRO_STMTS }
+    ensures type_bound { Views ⟦<ast::TypeBound as AstNode>⟧ SyntaxKind.TYPE_BOUND }
+    ensures type_bound_list { Views ⟦<ast::TypeBoundList as AstNode>⟧ SyntaxKind.TYPE_BOUND_LIST }
+    ensures used { Views ⟦<ast::UseBoundGenericArgs as AstNode>⟧ SyntaxKind.USE_BOUND_GENERIC_ARGS }
+    ensures for_binder { Views ⟦<ast::ForBinder as AstNode>⟧ SyntaxKind.FOR_BINDER }
+    ensures type_params { Views ⟦<ast::GenericParamList as AstNode>⟧ SyntaxKind.GENERIC_PARAM_LIST }
+    ensures generic_args { Views ⟦<ast::GenericArgList as AstNode>⟧ SyntaxKind.GENERIC_ARG_LIST }
+    ensures where_clause { Views ⟦<ast::WhereClause as AstNode>⟧ SyntaxKind.WHERE_CLAUSE }
+    ensures where_pred { Views ⟦<ast::WherePred as AstNode>⟧ SyntaxKind.WHERE_PRED }
+    ensures name { Views ⟦<ast::Name as AstNode>⟧ SyntaxKind.NAME }
+    ensures name_ref { Views ⟦<ast::NameRef as AstNode>⟧ SyntaxKind.NAME_REF }
+    ensures lifetime { Views ⟦<ast::Lifetime as AstNode>⟧ SyntaxKind.LIFETIME }
+    ensures path { Views ⟦<ast::Path as AstNode>⟧ SyntaxKind.PATH }
+    ensures path_segment { Views ⟦<ast::PathSegment as AstNode>⟧ SyntaxKind.PATH_SEGMENT }
+    ensures type_anchor { Views ⟦<ast::TypeAnchor as AstNode>⟧ SyntaxKind.TYPE_ANCHOR }
+    ensures attr { Views ⟦<ast::Attr as AstNode>⟧ SyntaxKind.ATTR }
+    ensures doc_comment { Views ⟦<ast::DocComment as AstNode>⟧ SyntaxKind.DOC_COMMENT }
+    ensures cfg_atom { Views ⟦<ast::CfgAtom as AstNode>⟧ SyntaxKind.CFG_ATOM }
+    ensures token_tree { Views ⟦<ast::TokenTree as AstNode>⟧ SyntaxKind.TOKEN_TREE }
+    ensures arg_list { Views ⟦<ast::ArgList as AstNode>⟧ SyntaxKind.ARG_LIST }
+    ensures stmt_list { Views ⟦<ast::StmtList as AstNode>⟧ SyntaxKind.STMT_LIST }
+    ensures label { Views ⟦<ast::Label as AstNode>⟧ SyntaxKind.LABEL }
+    ensures try_block { Views ⟦<ast::TryBlockModifier as AstNode>⟧ SyntaxKind.TRY_BLOCK_MODIFIER }
+    ensures let_else { Views ⟦<ast::LetElse as AstNode>⟧ SyntaxKind.LET_ELSE }
+    ensures match_arm_list { Views ⟦<ast::MatchArmList as AstNode>⟧ SyntaxKind.MATCH_ARM_LIST }
+    ensures match_arm { Views ⟦<ast::MatchArm as AstNode>⟧ SyntaxKind.MATCH_ARM }
+    ensures match_guard { Views ⟦<ast::MatchGuard as AstNode>⟧ SyntaxKind.MATCH_GUARD }
+    ensures expr_field { Views ⟦<ast::RecordExprField as AstNode>⟧ SyntaxKind.RECORD_EXPR_FIELD }
+    ensures format_args_arg { Views ⟦<ast::FormatArgsArg as AstNode>⟧ SyntaxKind.FORMAT_ARGS_ARG }
+    ensures pat_field { Views ⟦<ast::RecordPatField as AstNode>⟧ SyntaxKind.RECORD_PAT_FIELD }
+    ensures ret_type { Views ⟦<ast::RetType as AstNode>⟧ SyntaxKind.RET_TYPE }
 {}

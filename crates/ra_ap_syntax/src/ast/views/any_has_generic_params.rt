@@ -1,5 +1,5 @@
 //! A node that can have generic parameters: of a kind that has `HasGenericParams`. Made by `tests/views` from `views.txt`.
-ghost use Rattle.std.specs.Prelude.{◌≡◌, Some, true, ⊤};
+ghost use Rattle.std.specs.Prelude.{◌≡◌, Some, true, ⊤, option_map};
 ghost use Rattle.std.specs.Cmp.{partial_equiv_from_equiv, on_equiv};
 ghost use Rattle.tree_model.specs.Tree.{text};
 ghost use Rattle.tree_model.specs.Cursor.{focus};
@@ -7,9 +7,10 @@ ghost use Rattle.lossless_tree.specs.Dump.{span_text};
 ghost use Rattle.tree_model.specs.Equality.{is_same_cursor, cursor_hash};
 ghost use Rattle.tree_model.specs.EqualityLaws.{cursor_equivalence, cursors_alike};
 ghost use Rattle.ras_node.specs.Nodes.{kind_at};
+ghost use Rattle.ras_node.specs.Lookups.{if_of};
 ghost use Rattle.ras_node.specs.Sets.{has_generic_params};
 
-use crate::ast::AstNode;
+use crate::ast::{AstNode, HasGenericParams, support};
 use lossless_tree::{SyntaxKind, SyntaxNode};
 use ras_node::sets::{GenericParamHolders, KindSet};
 use std::alloc::AllocError;
@@ -21,6 +22,15 @@ use std::hash::{Hash, Hasher};
 pub struct AnyHasGenericParams {
     pub(crate) syntax: SyntaxNode,
     ghost is: { has_generic_params (kind_at syntax) ≡ true },
+}
+
+impl AnyHasGenericParams {
+    /// The node of a view that has `HasGenericParams`; `None` if no view of this library has it.
+    pub fn new<N: HasGenericParams>(it: &N) -> Option<AnyHasGenericParams>
+        ensures { option_map (λ it. it.syntax) result ≡ if_of has_generic_params (N.node it.now) }
+    {
+        Self::cast(support::share(it.syntax()))
+    }
 }
 
 impl AstNode for AnyHasGenericParams {

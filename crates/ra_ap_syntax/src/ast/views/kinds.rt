@@ -205,17 +205,8 @@ pub type AsmExpr = Typed<{ raw::ASM_EXPR }>;
 /// A future that is awaited: `a.await`.
 pub type AwaitExpr = Typed<{ raw::AWAIT_EXPR }>;
 
-/// A tail call: `become f(a)`.
-pub type BecomeExpr = Typed<{ raw::BECOME_EXPR }>;
-
 /// A binary operator and its operands: `a + b`, `a = b`, `a && b`.
 pub type BinExpr = Typed<{ raw::BIN_EXPR }>;
-
-/// A block: `{ a; b }`, also `unsafe`, `async`, `const`, `try` and labelled ones.
-pub type BlockExpr = Typed<{ raw::BLOCK_EXPR }>;
-
-/// `break`, with a label and a value where it has them.
-pub type BreakExpr = Typed<{ raw::BREAK_EXPR }>;
 
 /// A call: `f(a, b)`.
 pub type CallExpr = Typed<{ raw::CALL_EXPR }>;
@@ -229,20 +220,11 @@ pub type CfgPredExpr = Typed<{ raw::CFG_PRED_EXPR }>;
 /// A closure: `|a| b`, `move || a`.
 pub type ClosureExpr = Typed<{ raw::CLOSURE_EXPR }>;
 
-/// `continue`, with a label where it has one.
-pub type ContinueExpr = Typed<{ raw::CONTINUE_EXPR }>;
-
 /// A field: `a.f`, `a.0`.
 pub type FieldExpr = Typed<{ raw::FIELD_EXPR }>;
 
-/// A `for` loop: `for p in a { .. }`.
-pub type ForExpr = Typed<{ raw::FOR_EXPR }>;
-
 /// Formatted arguments: `builtin # format_args("{}", a)`.
 pub type FormatArgsExpr = Typed<{ raw::FORMAT_ARGS_EXPR }>;
-
-/// `if a { .. } else { .. }`.
-pub type IfExpr = Typed<{ raw::IF_EXPR }>;
 
 /// The bytes of a file: `builtin # include_bytes("f")`.
 pub type IncludeBytesExpr = Typed<{ raw::INCLUDE_BYTES_EXPR }>;
@@ -250,20 +232,11 @@ pub type IncludeBytesExpr = Typed<{ raw::INCLUDE_BYTES_EXPR }>;
 /// An index: `a[i]`.
 pub type IndexExpr = Typed<{ raw::INDEX_EXPR }>;
 
-/// A `let` in a condition: `let p = a`.
-pub type LetExpr = Typed<{ raw::LET_EXPR }>;
-
 /// A literal: a number, a string, a character, a byte, `true` or `false`.
 pub type Literal = Typed<{ raw::LITERAL }>;
 
-/// A `loop { .. }`.
-pub type LoopExpr = Typed<{ raw::LOOP_EXPR }>;
-
 /// A macro call as an expression.
 pub type MacroExpr = Typed<{ raw::MACRO_EXPR }>;
-
-/// `match a { .. }`.
-pub type MatchExpr = Typed<{ raw::MATCH_EXPR }>;
 
 /// A method call: `a.f(b)`.
 pub type MethodCallExpr = Typed<{ raw::METHOD_CALL_EXPR }>;
@@ -289,9 +262,6 @@ pub type RecordExpr = Typed<{ raw::RECORD_EXPR }>;
 /// A borrow: `&a`, `&mut a`, `&raw const a`.
 pub type RefExpr = Typed<{ raw::REF_EXPR }>;
 
-/// `return`, with a value where it has one.
-pub type ReturnExpr = Typed<{ raw::RETURN_EXPR }>;
-
 /// The question mark: `a?`.
 pub type TryExpr = Typed<{ raw::TRY_EXPR }>;
 
@@ -300,6 +270,36 @@ pub type TupleExpr = Typed<{ raw::TUPLE_EXPR }>;
 
 /// The `_` that is assigned to.
 pub type UnderscoreExpr = Typed<{ raw::UNDERSCORE_EXPR }>;
+
+/// A tail call: `become f(a)`.
+pub type BecomeExpr = Typed<{ raw::BECOME_EXPR }>;
+
+/// A block: `{ a; b }`, also `unsafe`, `async`, `const`, `try` and labelled ones.
+pub type BlockExpr = Typed<{ raw::BLOCK_EXPR }>;
+
+/// `break`, with a label and a value where it has them.
+pub type BreakExpr = Typed<{ raw::BREAK_EXPR }>;
+
+/// `continue`, with a label where it has one.
+pub type ContinueExpr = Typed<{ raw::CONTINUE_EXPR }>;
+
+/// A `for` loop: `for p in a { .. }`.
+pub type ForExpr = Typed<{ raw::FOR_EXPR }>;
+
+/// `if a { .. } else { .. }`.
+pub type IfExpr = Typed<{ raw::IF_EXPR }>;
+
+/// A `let` in a condition: `let p = a`.
+pub type LetExpr = Typed<{ raw::LET_EXPR }>;
+
+/// A `loop { .. }`.
+pub type LoopExpr = Typed<{ raw::LOOP_EXPR }>;
+
+/// `match a { .. }`.
+pub type MatchExpr = Typed<{ raw::MATCH_EXPR }>;
+
+/// `return`, with a value where it has one.
+pub type ReturnExpr = Typed<{ raw::RETURN_EXPR }>;
 
 /// A `while` loop: `while a { .. }`.
 pub type WhileExpr = Typed<{ raw::WHILE_EXPR }>;

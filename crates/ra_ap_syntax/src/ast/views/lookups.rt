@@ -1,8 +1,11 @@
 //! Lookups of children by their kinds, in the nodes of each kind. Made by `tests/views` from `views.txt`.
 mod attr;
+mod control;
 mod expr;
 mod generic;
 mod item;
+mod part;
 mod pat;
 mod path;
+mod stmt;
 mod ty;

@@ -1,5 +1,7 @@
 //! The contents of an attribute. Made by `tests/views` from `views.txt`.
 ghost use Rattle.std.specs.Prelude.{◌≡◌, Some};
+ghost use Rattle.ras_node.specs.Lookups.{IsFirstChild};
+ghost use Rattle.ras_node.specs.Nodes.{token_child};
 ghost use Rattle.tree_model.specs.Tree.{text};
 ghost use Rattle.tree_model.specs.Cursor.{focus};
 ghost use Rattle.lossless_tree.specs.Dump.{span_text};
@@ -7,8 +9,8 @@ ghost use Rattle.ra_ap_syntax.specs.declared.ast.views.meta.Meta.TheVariants as 
 ghost use Rattle.ras_node.specs.Sets.{is_meta};
 ghost use Rattle.ra_ap_syntax.specs.MetaCases.{meta_node, meta_castable};
 
-use crate::ast::{self, AstNode, Typed};
-use lossless_tree::{SyntaxKind, SyntaxNode};
+use crate::ast::{self, AstNode, Typed, support};
+use lossless_tree::{SyntaxKind, SyntaxNode, SyntaxToken, T};
 use ras_node::sets::{KindSet, Metas};
 use std::fmt;
 use std::hash::Hash;
@@ -22,6 +24,56 @@ pub enum Meta {
     PathMeta(ast::PathMeta),
     TokenTreeMeta(ast::TokenTreeMeta),
     UnsafeMeta(ast::UnsafeMeta),
+}
+
+impl Meta {
+    /// The first child that is an expression, if there is one.
+    /// Example: `b` of `a = b`.
+    pub fn expr(&self) -> Option<ast::Expr>
+        ensures { IsFirstChild ⟦<ast::Expr as AstNode>⟧ (meta_node self.now) result }
+    {
+        support::child(self.syntax())
+    }
+
+    /// The first token `=` among the children, if there is one.
+    /// Example: `=` of `a = b`.
+    pub fn eq_token(&self) -> Option<SyntaxToken>
+        ensures { result ≡ token_child SyntaxKind.EQ (meta_node self.now) }
+    {
+        support::token(self.syntax(), T![=])
+    }
+
+    /// The first child that is a token tree, if there is one.
+    /// Example: `(b)` of `a(b)`.
+    pub fn token_tree(&self) -> Option<ast::TokenTree>
+        ensures { IsFirstChild ⟦<ast::TokenTree as AstNode>⟧ (meta_node self.now) result }
+    {
+        support::child(self.syntax())
+    }
+
+    /// The first token `(` among the children, if there is one.
+    /// Example: `(` of `unsafe(m)`.
+    pub fn l_paren_token(&self) -> Option<SyntaxToken>
+        ensures { result ≡ token_child SyntaxKind.L_PAREN (meta_node self.now) }
+    {
+        support::token(self.syntax(), T!['('])
+    }
+
+    /// The first token `)` among the children, if there is one.
+    /// Example: `)` of `unsafe(m)`.
+    pub fn r_paren_token(&self) -> Option<SyntaxToken>
+        ensures { result ≡ token_child SyntaxKind.R_PAREN (meta_node self.now) }
+    {
+        support::token(self.syntax(), T![')'])
+    }
+
+    /// The first token `unsafe` among the children, if there is one.
+    /// Example: `unsafe` of `unsafe(m)`.
+    pub fn unsafe_token(&self) -> Option<SyntaxToken>
+        ensures { result ≡ token_child SyntaxKind.UNSAFE_KW (meta_node self.now) }
+    {
+        support::token(self.syntax(), T![unsafe])
+    }
 }
 
 impl AstNode for Meta {

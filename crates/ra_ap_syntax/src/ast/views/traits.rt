@@ -10,6 +10,7 @@ use lossless_tree::{SyntaxKind, SyntaxToken, T};
 /// A node with a name.
 pub trait HasName: AstNode {
     /// The first child that is a name, if there is one.
+    /// Example: `f` of `fn f() {}`.
     final fn name(&self) -> Option<ast::Name>
         ensures { IsFirstChild ⟦<ast::Name as AstNode>⟧ (Self.node self.now) result }
     {
@@ -20,6 +21,7 @@ pub trait HasName: AstNode {
 /// A node that can have a visibility.
 pub trait HasVisibility: AstNode {
     /// The first child that is a visibility, if there is one.
+    /// Example: `pub` of `pub fn f() {}`.
     final fn visibility(&self) -> Option<ast::Visibility>
         ensures { IsFirstChild ⟦<ast::Visibility as AstNode>⟧ (Self.node self.now) result }
     {
@@ -30,6 +32,7 @@ pub trait HasVisibility: AstNode {
 /// A call.
 pub trait HasArgList: AstNode {
     /// The first child that is a list of arguments, if there is one.
+    /// Example: `(a)` of `f(a)`.
     final fn arg_list(&self) -> Option<ast::ArgList>
         ensures { IsFirstChild ⟦<ast::ArgList as AstNode>⟧ (Self.node self.now) result }
     {
@@ -40,6 +43,7 @@ pub trait HasArgList: AstNode {
 /// A container of items.
 pub trait HasModuleItem: AstNode {
     /// The children that are items, in order.
+    /// Example: `fn f() {}` and `struct S;` of `fn f() {} struct S;`.
     final fn items(&self) -> AstChildren<ast::Item>
         ensures { result ≡ typed_children ⟦<ast::Item as AstNode>⟧.casts (Self.node self.now) }
     {
@@ -50,6 +54,7 @@ pub trait HasModuleItem: AstNode {
 /// A node that can have generic parameters.
 pub trait HasGenericParams: AstNode {
     /// The first child that is a list of generic parameters, if there is one.
+    /// Example: `<T>` of `fn f<T>() where T: U {}`.
     final fn generic_param_list(&self) -> Option<ast::GenericParamList>
         ensures { IsFirstChild ⟦<ast::GenericParamList as AstNode>⟧ (Self.node self.now) result }
     {
@@ -57,6 +62,7 @@ pub trait HasGenericParams: AstNode {
     }
 
     /// The first child that is a `where` clause, if there is one.
+    /// Example: `where T: U` of `fn f<T>() where T: U {}`.
     final fn where_clause(&self) -> Option<ast::WhereClause>
         ensures { IsFirstChild ⟦<ast::WhereClause as AstNode>⟧ (Self.node self.now) result }
     {
@@ -67,6 +73,7 @@ pub trait HasGenericParams: AstNode {
 /// A node that can have generic arguments.
 pub trait HasGenericArgs: AstNode {
     /// The first child that is a list of generic arguments, if there is one.
+    /// Example: `::<T>` of `a.f::<T>()`.
     final fn generic_arg_list(&self) -> Option<ast::GenericArgList>
         ensures { IsFirstChild ⟦<ast::GenericArgList as AstNode>⟧ (Self.node self.now) result }
     {
@@ -77,6 +84,7 @@ pub trait HasGenericArgs: AstNode {
 /// A node that can have type bounds.
 pub trait HasTypeBounds: AstNode {
     /// The first child that is a list of type bounds, if there is one.
+    /// Example: `U + V` of `T: U + V`.
     final fn type_bound_list(&self) -> Option<ast::TypeBoundList>
         ensures { IsFirstChild ⟦<ast::TypeBoundList as AstNode>⟧ (Self.node self.now) result }
     {
@@ -84,6 +92,7 @@ pub trait HasTypeBounds: AstNode {
     }
 
     /// The first token `:` among the children, if there is one.
+    /// Example: `:` of `T: U + V`.
     final fn colon_token(&self) -> Option<SyntaxToken>
         ensures { result ≡ token_child SyntaxKind.COLON (Self.node self.now) }
     {

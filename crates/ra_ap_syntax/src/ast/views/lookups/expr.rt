@@ -1,4 +1,4 @@
-//! Lookups in expressions, statements and their parts. Made by `tests/views` from `views.txt`.
+//! Lookups in expressions. Made by `tests/views` from `views.txt`.
 //! Each call takes time linear in the number of children that it passes, and no memory.
 //! The names are those of rust-analyzer.
 ghost use Rattle.std.specs.Prelude.{◌≡◌};
@@ -8,24 +8,41 @@ ghost use Rattle.ras_node.specs.Nodes.{token_child, typed_children};
 use crate::ast::{self, AstChildren, AstNode, support};
 use lossless_tree::{SyntaxKind, SyntaxToken, T};
 
-impl ast::ArgList {
+impl ast::ArrayExpr {
+    /// The first child that is an expression, if there is one.
+    /// Example: `a` of `[a, b]`.
+    pub fn expr(&self) -> Option<ast::Expr>
+        ensures { IsFirstChild ⟦<ast::Expr as AstNode>⟧ self.now.syntax result }
+    {
+        support::child(&self.syntax)
+    }
+
     /// The children that are expressions, in order.
-    pub fn args(&self) -> AstChildren<ast::Expr>
+    /// Example: `a` and `b` of `[a, b]`.
+    pub fn exprs(&self) -> AstChildren<ast::Expr>
         ensures { result ≡ typed_children ⟦<ast::Expr as AstNode>⟧.casts self.now.syntax }
     {
         support::children(&self.syntax)
     }
 
-    /// The first token `(` among the children, if there is one.
-    pub fn l_paren_token(&self) -> Option<SyntaxToken>
-        ensures { result ≡ token_child SyntaxKind.L_PAREN self.now.syntax }
+    /// The first token `[` among the children, if there is one.
+    /// Example: `[` of `[a, b]`.
+    pub fn l_brack_token(&self) -> Option<SyntaxToken>
+        ensures { result ≡ token_child SyntaxKind.L_BRACK self.now.syntax }
     {
-        support::token(&self.syntax, T!['('])
+        support::token(&self.syntax, T!['['])
     }
-}
 
-impl ast::ArrayExpr {
+    /// The first token `]` among the children, if there is one.
+    /// Example: `]` of `[a, b]`.
+    pub fn r_brack_token(&self) -> Option<SyntaxToken>
+        ensures { result ≡ token_child SyntaxKind.R_BRACK self.now.syntax }
+    {
+        support::token(&self.syntax, T![']'])
+    }
+
     /// The first token `;` among the children, if there is one.
+    /// Example: `;` of `[a; n]`.
     pub fn semicolon_token(&self) -> Option<SyntaxToken>
         ensures { result ≡ token_child SyntaxKind.SEMICOLON self.now.syntax }
     {
@@ -34,23 +51,74 @@ impl ast::ArrayExpr {
 }
 
 impl ast::AsmExpr {
+    /// The children that are expressions, in order.
+    /// Example: `"a"` and `"b"` of `builtin # asm("a", "b", out(r) c)`.
+    pub fn template(&self) -> AstChildren<ast::Expr>
+        ensures { result ≡ typed_children ⟦<ast::Expr as AstNode>⟧.casts self.now.syntax }
+    {
+        support::children(&self.syntax)
+    }
+
     /// The first token `builtin` among the children, if there is one.
+    /// Example: `builtin` of `builtin # asm("a", "b", out(r) c)`.
     pub fn builtin_token(&self) -> Option<SyntaxToken>
         ensures { result ≡ token_child SyntaxKind.BUILTIN_KW self.now.syntax }
     {
         support::token(&self.syntax, T![builtin])
     }
+
+    /// The first token `,` among the children, if there is one.
+    /// Example: `,` of `builtin # asm("a", "b", out(r) c)`.
+    pub fn comma_token(&self) -> Option<SyntaxToken>
+        ensures { result ≡ token_child SyntaxKind.COMMA self.now.syntax }
+    {
+        support::token(&self.syntax, T![,])
+    }
+
+    /// The first token `(` among the children, if there is one.
+    /// Example: `(` of `builtin # asm("a", "b", out(r) c)`.
+    pub fn l_paren_token(&self) -> Option<SyntaxToken>
+        ensures { result ≡ token_child SyntaxKind.L_PAREN self.now.syntax }
+    {
+        support::token(&self.syntax, T!['('])
+    }
+
+    /// The first token `#` among the children, if there is one.
+    /// Example: `#` of `builtin # asm("a", "b", out(r) c)`.
+    pub fn pound_token(&self) -> Option<SyntaxToken>
+        ensures { result ≡ token_child SyntaxKind.POUND self.now.syntax }
+    {
+        support::token(&self.syntax, T![#])
+    }
+
+    /// The first token `)` among the children, if there is one.
+    /// Example: `)` of `builtin # asm("a", "b", out(r) c)`.
+    pub fn r_paren_token(&self) -> Option<SyntaxToken>
+        ensures { result ≡ token_child SyntaxKind.R_PAREN self.now.syntax }
+    {
+        support::token(&self.syntax, T![')'])
+    }
 }
 
 impl ast::AwaitExpr {
     /// The first child that is an expression, if there is one.
+    /// Example: `a` of `a.await`.
     pub fn expr(&self) -> Option<ast::Expr>
         ensures { IsFirstChild ⟦<ast::Expr as AstNode>⟧ self.now.syntax result }
     {
         support::child(&self.syntax)
     }
 
+    /// The first token `await` among the children, if there is one.
+    /// Example: `await` of `a.await`.
+    pub fn await_token(&self) -> Option<SyntaxToken>
+        ensures { result ≡ token_child SyntaxKind.AWAIT_KW self.now.syntax }
+    {
+        support::token(&self.syntax, T![await])
+    }
+
     /// The first token `.` among the children, if there is one.
+    /// Example: `.` of `a.await`.
     pub fn dot_token(&self) -> Option<SyntaxToken>
         ensures { result ≡ token_child SyntaxKind.DOT self.now.syntax }
     {
@@ -58,91 +126,9 @@ impl ast::AwaitExpr {
     }
 }
 
-impl ast::BecomeExpr {
-    /// The first child that is an expression, if there is one.
-    pub fn expr(&self) -> Option<ast::Expr>
-        ensures { IsFirstChild ⟦<ast::Expr as AstNode>⟧ self.now.syntax result }
-    {
-        support::child(&self.syntax)
-    }
-
-    /// The first token `become` among the children, if there is one.
-    pub fn become_token(&self) -> Option<SyntaxToken>
-        ensures { result ≡ token_child SyntaxKind.BECOME_KW self.now.syntax }
-    {
-        support::token(&self.syntax, T![become])
-    }
-}
-
-impl ast::BlockExpr {
-    /// The first child that is a label, if there is one.
-    pub fn label(&self) -> Option<ast::Label>
-        ensures { IsFirstChild ⟦<ast::Label as AstNode>⟧ self.now.syntax result }
-    {
-        support::child(&self.syntax)
-    }
-
-    /// The first child that is a list of statements, if there is one.
-    pub fn stmt_list(&self) -> Option<ast::StmtList>
-        ensures { IsFirstChild ⟦<ast::StmtList as AstNode>⟧ self.now.syntax result }
-    {
-        support::child(&self.syntax)
-    }
-
-    /// The first child that is the modifier of a `try` block, if there is one.
-    pub fn try_block_modifier(&self) -> Option<ast::TryBlockModifier>
-        ensures { IsFirstChild ⟦<ast::TryBlockModifier as AstNode>⟧ self.now.syntax result }
-    {
-        support::child(&self.syntax)
-    }
-
-    /// The first token `async` among the children, if there is one.
-    pub fn async_token(&self) -> Option<SyntaxToken>
-        ensures { result ≡ token_child SyntaxKind.ASYNC_KW self.now.syntax }
-    {
-        support::token(&self.syntax, T![async])
-    }
-
-    /// The first token `const` among the children, if there is one.
-    pub fn const_token(&self) -> Option<SyntaxToken>
-        ensures { result ≡ token_child SyntaxKind.CONST_KW self.now.syntax }
-    {
-        support::token(&self.syntax, T![const])
-    }
-
-    /// The first token `gen` among the children, if there is one.
-    pub fn gen_token(&self) -> Option<SyntaxToken>
-        ensures { result ≡ token_child SyntaxKind.GEN_KW self.now.syntax }
-    {
-        support::token(&self.syntax, T![gen])
-    }
-
-    /// The first token `unsafe` among the children, if there is one.
-    pub fn unsafe_token(&self) -> Option<SyntaxToken>
-        ensures { result ≡ token_child SyntaxKind.UNSAFE_KW self.now.syntax }
-    {
-        support::token(&self.syntax, T![unsafe])
-    }
-}
-
-impl ast::BreakExpr {
-    /// The first child that is an expression, if there is one.
-    pub fn expr(&self) -> Option<ast::Expr>
-        ensures { IsFirstChild ⟦<ast::Expr as AstNode>⟧ self.now.syntax result }
-    {
-        support::child(&self.syntax)
-    }
-
-    /// The first token `break` among the children, if there is one.
-    pub fn break_token(&self) -> Option<SyntaxToken>
-        ensures { result ≡ token_child SyntaxKind.BREAK_KW self.now.syntax }
-    {
-        support::token(&self.syntax, T![break])
-    }
-}
-
 impl ast::CallExpr {
     /// The first child that is an expression, if there is one.
+    /// Example: `f` of `f(a, b)`.
     pub fn expr(&self) -> Option<ast::Expr>
         ensures { IsFirstChild ⟦<ast::Expr as AstNode>⟧ self.now.syntax result }
     {
@@ -152,6 +138,7 @@ impl ast::CallExpr {
 
 impl ast::CastExpr {
     /// The first child that is an expression, if there is one.
+    /// Example: `a` of `a as T`.
     pub fn expr(&self) -> Option<ast::Expr>
         ensures { IsFirstChild ⟦<ast::Expr as AstNode>⟧ self.now.syntax result }
     {
@@ -159,6 +146,7 @@ impl ast::CastExpr {
     }
 
     /// The first child that is a type, if there is one.
+    /// Example: `T` of `a as T`.
     pub fn ty(&self) -> Option<ast::Type>
         ensures { IsFirstChild ⟦<ast::Type as AstNode>⟧ self.now.syntax result }
     {
@@ -166,6 +154,7 @@ impl ast::CastExpr {
     }
 
     /// The first token `as` among the children, if there is one.
+    /// Example: `as` of `a as T`.
     pub fn as_token(&self) -> Option<SyntaxToken>
         ensures { result ≡ token_child SyntaxKind.AS_KW self.now.syntax }
     {
@@ -175,6 +164,7 @@ impl ast::CastExpr {
 
 impl ast::ClosureExpr {
     /// The first child that is an expression, if there is one.
+    /// Example: `{ b }` of `|a| -> T { b }`.
     pub fn body(&self) -> Option<ast::Expr>
         ensures { IsFirstChild ⟦<ast::Expr as AstNode>⟧ self.now.syntax result }
     {
@@ -182,6 +172,7 @@ impl ast::ClosureExpr {
     }
 
     /// The first child that is a list of parameters, if there is one.
+    /// Example: `|a|` of `|a| -> T { b }`.
     pub fn param_list(&self) -> Option<ast::ParamList>
         ensures { IsFirstChild ⟦<ast::ParamList as AstNode>⟧ self.now.syntax result }
     {
@@ -189,33 +180,65 @@ impl ast::ClosureExpr {
     }
 
     /// The first child that is a return type, if there is one.
+    /// Example: `-> T` of `|a| -> T { b }`.
     pub fn ret_type(&self) -> Option<ast::RetType>
         ensures { IsFirstChild ⟦<ast::RetType as AstNode>⟧ self.now.syntax result }
     {
         support::child(&self.syntax)
     }
-}
 
-impl ast::ContinueExpr {
-    /// The first token `continue` among the children, if there is one.
-    pub fn continue_token(&self) -> Option<SyntaxToken>
-        ensures { result ≡ token_child SyntaxKind.CONTINUE_KW self.now.syntax }
-    {
-        support::token(&self.syntax, T![continue])
-    }
-}
-
-impl ast::ExprStmt {
-    /// The first child that is an expression, if there is one.
-    pub fn expr(&self) -> Option<ast::Expr>
-        ensures { IsFirstChild ⟦<ast::Expr as AstNode>⟧ self.now.syntax result }
+    /// The first child that is a `for` binder, if there is one.
+    /// Example: `for<'a>` of `for<'a> |b| c`.
+    pub fn for_binder(&self) -> Option<ast::ForBinder>
+        ensures { IsFirstChild ⟦<ast::ForBinder as AstNode>⟧ self.now.syntax result }
     {
         support::child(&self.syntax)
+    }
+
+    /// The first token `async` among the children, if there is one.
+    /// Example: `async` of `async move |a| b`.
+    pub fn async_token(&self) -> Option<SyntaxToken>
+        ensures { result ≡ token_child SyntaxKind.ASYNC_KW self.now.syntax }
+    {
+        support::token(&self.syntax, T![async])
+    }
+
+    /// The first token `move` among the children, if there is one.
+    /// Example: `move` of `async move |a| b`.
+    pub fn move_token(&self) -> Option<SyntaxToken>
+        ensures { result ≡ token_child SyntaxKind.MOVE_KW self.now.syntax }
+    {
+        support::token(&self.syntax, T![move])
+    }
+
+    /// The first token `const` among the children, if there is one.
+    /// Example: `const` of `const |a| b`.
+    pub fn const_token(&self) -> Option<SyntaxToken>
+        ensures { result ≡ token_child SyntaxKind.CONST_KW self.now.syntax }
+    {
+        support::token(&self.syntax, T![const])
+    }
+
+    /// The first token `gen` among the children, if there is one.
+    /// Example: `gen` of `async gen |a| b`.
+    pub fn gen_token(&self) -> Option<SyntaxToken>
+        ensures { result ≡ token_child SyntaxKind.GEN_KW self.now.syntax }
+    {
+        support::token(&self.syntax, T![gen])
+    }
+
+    /// The first token `static` among the children, if there is one.
+    /// Example: `static` of `static |a| b`.
+    pub fn static_token(&self) -> Option<SyntaxToken>
+        ensures { result ≡ token_child SyntaxKind.STATIC_KW self.now.syntax }
+    {
+        support::token(&self.syntax, T![static])
     }
 }
 
 impl ast::FieldExpr {
     /// The first child that is an expression, if there is one.
+    /// Example: `a` of `a.f`.
     pub fn expr(&self) -> Option<ast::Expr>
         ensures { IsFirstChild ⟦<ast::Expr as AstNode>⟧ self.now.syntax result }
     {
@@ -223,6 +246,7 @@ impl ast::FieldExpr {
     }
 
     /// The first child that is a name reference, if there is one.
+    /// Example: `f` of `a.f`.
     pub fn name_ref(&self) -> Option<ast::NameRef>
         ensures { IsFirstChild ⟦<ast::NameRef as AstNode>⟧ self.now.syntax result }
     {
@@ -230,6 +254,7 @@ impl ast::FieldExpr {
     }
 
     /// The first token `.` among the children, if there is one.
+    /// Example: `.` of `a.f`.
     pub fn dot_token(&self) -> Option<SyntaxToken>
         ensures { result ≡ token_child SyntaxKind.DOT self.now.syntax }
     {
@@ -239,81 +264,85 @@ impl ast::FieldExpr {
 
 impl ast::FormatArgsExpr {
     /// The children that are arguments of a format, in order.
+    /// Example: `a = b` of `builtin # format_args("{}", a = b)`.
     pub fn args(&self) -> AstChildren<ast::FormatArgsArg>
         ensures { result ≡ typed_children ⟦<ast::FormatArgsArg as AstNode>⟧.casts self.now.syntax }
     {
         support::children(&self.syntax)
     }
 
+    /// The first child that is an expression, if there is one.
+    /// Example: `"{}"` of `builtin # format_args("{}", a = b)`.
+    pub fn template(&self) -> Option<ast::Expr>
+        ensures { IsFirstChild ⟦<ast::Expr as AstNode>⟧ self.now.syntax result }
+    {
+        support::child(&self.syntax)
+    }
+
     /// The first token `builtin` among the children, if there is one.
+    /// Example: `builtin` of `builtin # format_args("{}", a = b)`.
     pub fn builtin_token(&self) -> Option<SyntaxToken>
         ensures { result ≡ token_child SyntaxKind.BUILTIN_KW self.now.syntax }
     {
         support::token(&self.syntax, T![builtin])
     }
+
+    /// The first token `,` among the children, if there is one.
+    /// Example: `,` of `builtin # format_args("{}", a = b)`.
+    pub fn comma_token(&self) -> Option<SyntaxToken>
+        ensures { result ≡ token_child SyntaxKind.COMMA self.now.syntax }
+    {
+        support::token(&self.syntax, T![,])
+    }
+
+    /// The first token `(` among the children, if there is one.
+    /// Example: `(` of `builtin # format_args("{}", a = b)`.
+    pub fn l_paren_token(&self) -> Option<SyntaxToken>
+        ensures { result ≡ token_child SyntaxKind.L_PAREN self.now.syntax }
+    {
+        support::token(&self.syntax, T!['('])
+    }
+
+    /// The first token `#` among the children, if there is one.
+    /// Example: `#` of `builtin # format_args("{}", a = b)`.
+    pub fn pound_token(&self) -> Option<SyntaxToken>
+        ensures { result ≡ token_child SyntaxKind.POUND self.now.syntax }
+    {
+        support::token(&self.syntax, T![#])
+    }
+
+    /// The first token `)` among the children, if there is one.
+    /// Example: `)` of `builtin # format_args("{}", a = b)`.
+    pub fn r_paren_token(&self) -> Option<SyntaxToken>
+        ensures { result ≡ token_child SyntaxKind.R_PAREN self.now.syntax }
+    {
+        support::token(&self.syntax, T![')'])
+    }
 }
 
 impl ast::IndexExpr {
     /// The first token `[` among the children, if there is one.
+    /// Example: `[` of `a[i]`.
     pub fn l_brack_token(&self) -> Option<SyntaxToken>
         ensures { result ≡ token_child SyntaxKind.L_BRACK self.now.syntax }
     {
         support::token(&self.syntax, T!['['])
     }
-}
 
-impl ast::LetExpr {
-    /// The first child that is an expression, if there is one.
-    pub fn expr(&self) -> Option<ast::Expr>
-        ensures { IsFirstChild ⟦<ast::Expr as AstNode>⟧ self.now.syntax result }
+    /// The first token `]` among the children, if there is one.
+    /// Example: `]` of `a[i]`.
+    pub fn r_brack_token(&self) -> Option<SyntaxToken>
+        ensures { result ≡ token_child SyntaxKind.R_BRACK self.now.syntax }
     {
-        support::child(&self.syntax)
-    }
-
-    /// The first child that is a pattern, if there is one.
-    pub fn pat(&self) -> Option<ast::Pat>
-        ensures { IsFirstChild ⟦<ast::Pat as AstNode>⟧ self.now.syntax result }
-    {
-        support::child(&self.syntax)
-    }
-
-    /// The first token `let` among the children, if there is one.
-    pub fn let_token(&self) -> Option<SyntaxToken>
-        ensures { result ≡ token_child SyntaxKind.LET_KW self.now.syntax }
-    {
-        support::token(&self.syntax, T![let])
+        support::token(&self.syntax, T![']'])
     }
 }
 
-impl ast::LetStmt {
-    /// The first child that is the `else` of a `let`, if there is one.
-    pub fn let_else(&self) -> Option<ast::LetElse>
-        ensures { IsFirstChild ⟦<ast::LetElse as AstNode>⟧ self.now.syntax result }
-    {
-        support::child(&self.syntax)
-    }
-}
-
-impl ast::MatchExpr {
-    /// The first child that is an expression, if there is one.
-    pub fn expr(&self) -> Option<ast::Expr>
-        ensures { IsFirstChild ⟦<ast::Expr as AstNode>⟧ self.now.syntax result }
-    {
-        support::child(&self.syntax)
-    }
-
-    /// The first child that is a list of match arms, if there is one.
-    pub fn match_arm_list(&self) -> Option<ast::MatchArmList>
-        ensures { IsFirstChild ⟦<ast::MatchArmList as AstNode>⟧ self.now.syntax result }
-    {
-        support::child(&self.syntax)
-    }
-}
-
-impl ast::MatchGuard {
-    /// The first child that is an expression, if there is one.
-    pub fn condition(&self) -> Option<ast::Expr>
-        ensures { IsFirstChild ⟦<ast::Expr as AstNode>⟧ self.now.syntax result }
+impl ast::MacroExpr {
+    /// The first child that is a macro call, if there is one.
+    /// Example: `m!(a)` of `m!(a)`.
+    pub fn macro_call(&self) -> Option<ast::MacroCall>
+        ensures { IsFirstChild ⟦<ast::MacroCall as AstNode>⟧ self.now.syntax result }
     {
         support::child(&self.syntax)
     }
@@ -321,6 +350,7 @@ impl ast::MatchGuard {
 
 impl ast::MethodCallExpr {
     /// The first child that is a name reference, if there is one.
+    /// Example: `f` of `a.f::<T>(b)`.
     pub fn name_ref(&self) -> Option<ast::NameRef>
         ensures { IsFirstChild ⟦<ast::NameRef as AstNode>⟧ self.now.syntax result }
     {
@@ -328,6 +358,7 @@ impl ast::MethodCallExpr {
     }
 
     /// The first child that is an expression, if there is one.
+    /// Example: `a` of `a.f::<T>(b)`.
     pub fn receiver(&self) -> Option<ast::Expr>
         ensures { IsFirstChild ⟦<ast::Expr as AstNode>⟧ self.now.syntax result }
     {
@@ -335,6 +366,7 @@ impl ast::MethodCallExpr {
     }
 
     /// The first token `.` among the children, if there is one.
+    /// Example: `.` of `a.f::<T>(b)`.
     pub fn dot_token(&self) -> Option<SyntaxToken>
         ensures { result ≡ token_child SyntaxKind.DOT self.now.syntax }
     {
@@ -343,25 +375,92 @@ impl ast::MethodCallExpr {
 }
 
 impl ast::OffsetOfExpr {
+    /// The children that are name references, in order.
+    /// Example: `f` and `g` of `builtin # offset_of(T, f.g)`.
+    pub fn fields(&self) -> AstChildren<ast::NameRef>
+        ensures { result ≡ typed_children ⟦<ast::NameRef as AstNode>⟧.casts self.now.syntax }
+    {
+        support::children(&self.syntax)
+    }
+
+    /// The first child that is a type, if there is one.
+    /// Example: `T` of `builtin # offset_of(T, f.g)`.
+    pub fn ty(&self) -> Option<ast::Type>
+        ensures { IsFirstChild ⟦<ast::Type as AstNode>⟧ self.now.syntax result }
+    {
+        support::child(&self.syntax)
+    }
+
     /// The first token `builtin` among the children, if there is one.
+    /// Example: `builtin` of `builtin # offset_of(T, f.g)`.
     pub fn builtin_token(&self) -> Option<SyntaxToken>
         ensures { result ≡ token_child SyntaxKind.BUILTIN_KW self.now.syntax }
     {
         support::token(&self.syntax, T![builtin])
     }
+
+    /// The first token `,` among the children, if there is one.
+    /// Example: `,` of `builtin # offset_of(T, f.g)`.
+    pub fn comma_token(&self) -> Option<SyntaxToken>
+        ensures { result ≡ token_child SyntaxKind.COMMA self.now.syntax }
+    {
+        support::token(&self.syntax, T![,])
+    }
+
+    /// The first token `(` among the children, if there is one.
+    /// Example: `(` of `builtin # offset_of(T, f.g)`.
+    pub fn l_paren_token(&self) -> Option<SyntaxToken>
+        ensures { result ≡ token_child SyntaxKind.L_PAREN self.now.syntax }
+    {
+        support::token(&self.syntax, T!['('])
+    }
+
+    /// The first token `#` among the children, if there is one.
+    /// Example: `#` of `builtin # offset_of(T, f.g)`.
+    pub fn pound_token(&self) -> Option<SyntaxToken>
+        ensures { result ≡ token_child SyntaxKind.POUND self.now.syntax }
+    {
+        support::token(&self.syntax, T![#])
+    }
+
+    /// The first token `)` among the children, if there is one.
+    /// Example: `)` of `builtin # offset_of(T, f.g)`.
+    pub fn r_paren_token(&self) -> Option<SyntaxToken>
+        ensures { result ≡ token_child SyntaxKind.R_PAREN self.now.syntax }
+    {
+        support::token(&self.syntax, T![')'])
+    }
 }
 
 impl ast::ParenExpr {
     /// The first child that is an expression, if there is one.
+    /// Example: `a` of `(a)`.
     pub fn expr(&self) -> Option<ast::Expr>
         ensures { IsFirstChild ⟦<ast::Expr as AstNode>⟧ self.now.syntax result }
     {
         support::child(&self.syntax)
     }
+
+    /// The first token `(` among the children, if there is one.
+    /// Example: `(` of `(a)`.
+    pub fn l_paren_token(&self) -> Option<SyntaxToken>
+        ensures { result ≡ token_child SyntaxKind.L_PAREN self.now.syntax }
+    {
+        support::token(&self.syntax, T!['('])
+    }
+
+    /// The first token `)` among the children, if there is one.
+    /// Example: `)` of `(a)`.
+    pub fn r_paren_token(&self) -> Option<SyntaxToken>
+        ensures { result ≡ token_child SyntaxKind.R_PAREN self.now.syntax }
+    {
+        support::token(&self.syntax, T![')'])
+    }
 }
 
 impl ast::PathExpr {
     /// The first child that is a path, if there is one.
+    /// Example: `a::b` of `a::b`.
     pub fn path(&self) -> Option<ast::Path>
         ensures { IsFirstChild ⟦<ast::Path as AstNode>⟧ self.now.syntax result }
     {
@@ -371,6 +470,7 @@ impl ast::PathExpr {
 
 impl ast::PrefixExpr {
     /// The first child that is an expression, if there is one.
+    /// Example: `a` of `-a`.
     pub fn expr(&self) -> Option<ast::Expr>
         ensures { IsFirstChild ⟦<ast::Expr as AstNode>⟧ self.now.syntax result }
     {
@@ -378,17 +478,11 @@ impl ast::PrefixExpr {
     }
 }
 
-impl ast::RecordExprField {
-    /// The first child that is an expression, if there is one.
-    pub fn expr(&self) -> Option<ast::Expr>
-        ensures { IsFirstChild ⟦<ast::Expr as AstNode>⟧ self.now.syntax result }
-    {
-        support::child(&self.syntax)
-    }
-
-    /// The first child that is a name reference, if there is one.
-    pub fn name_ref(&self) -> Option<ast::NameRef>
-        ensures { IsFirstChild ⟦<ast::NameRef as AstNode>⟧ self.now.syntax result }
+impl ast::RecordExpr {
+    /// The first child that is a path, if there is one.
+    /// Example: `S` of `S { f: a, ..b }`.
+    pub fn path(&self) -> Option<ast::Path>
+        ensures { IsFirstChild ⟦<ast::Path as AstNode>⟧ self.now.syntax result }
     {
         support::child(&self.syntax)
     }
@@ -396,6 +490,7 @@ impl ast::RecordExprField {
 
 impl ast::RefExpr {
     /// The first child that is an expression, if there is one.
+    /// Example: `a` of `&a`.
     pub fn expr(&self) -> Option<ast::Expr>
         ensures { IsFirstChild ⟦<ast::Expr as AstNode>⟧ self.now.syntax result }
     {
@@ -403,70 +498,33 @@ impl ast::RefExpr {
     }
 
     /// The first token `&` among the children, if there is one.
+    /// Example: `&` of `&a`.
     pub fn amp_token(&self) -> Option<SyntaxToken>
         ensures { result ≡ token_child SyntaxKind.AMP self.now.syntax }
     {
         support::token(&self.syntax, T![&])
     }
-}
 
-impl ast::ReturnExpr {
-    /// The first child that is an expression, if there is one.
-    pub fn expr(&self) -> Option<ast::Expr>
-        ensures { IsFirstChild ⟦<ast::Expr as AstNode>⟧ self.now.syntax result }
+    /// The first token `mut` among the children, if there is one.
+    /// Example: `mut` of `&mut a`.
+    pub fn mut_token(&self) -> Option<SyntaxToken>
+        ensures { result ≡ token_child SyntaxKind.MUT_KW self.now.syntax }
     {
-        support::child(&self.syntax)
+        support::token(&self.syntax, T![mut])
     }
 
-    /// The first token `return` among the children, if there is one.
-    pub fn return_token(&self) -> Option<SyntaxToken>
-        ensures { result ≡ token_child SyntaxKind.RETURN_KW self.now.syntax }
+    /// The first token `const` among the children, if there is one.
+    /// Example: `const` of `&raw const a`.
+    pub fn const_token(&self) -> Option<SyntaxToken>
+        ensures { result ≡ token_child SyntaxKind.CONST_KW self.now.syntax }
     {
-        support::token(&self.syntax, T![return])
-    }
-}
-
-impl ast::StmtList {
-    /// The children that are statements, in order.
-    pub fn statements(&self) -> AstChildren<ast::Stmt>
-        ensures { result ≡ typed_children ⟦<ast::Stmt as AstNode>⟧.casts self.now.syntax }
-    {
-        support::children(&self.syntax)
-    }
-
-    /// The first child that is an expression, if there is one.
-    pub fn tail_expr(&self) -> Option<ast::Expr>
-        ensures { IsFirstChild ⟦<ast::Expr as AstNode>⟧ self.now.syntax result }
-    {
-        support::child(&self.syntax)
-    }
-}
-
-impl ast::TryBlockModifier {
-    /// The first child that is a type, if there is one.
-    pub fn ty(&self) -> Option<ast::Type>
-        ensures { IsFirstChild ⟦<ast::Type as AstNode>⟧ self.now.syntax result }
-    {
-        support::child(&self.syntax)
-    }
-
-    /// The first token `bikeshed` among the children, if there is one.
-    pub fn bikeshed_token(&self) -> Option<SyntaxToken>
-        ensures { result ≡ token_child SyntaxKind.BIKESHED_KW self.now.syntax }
-    {
-        support::token(&self.syntax, T![bikeshed])
-    }
-
-    /// The first token `try` among the children, if there is one.
-    pub fn try_token(&self) -> Option<SyntaxToken>
-        ensures { result ≡ token_child SyntaxKind.TRY_KW self.now.syntax }
-    {
-        support::token(&self.syntax, T![try])
+        support::token(&self.syntax, T![const])
     }
 }
 
 impl ast::TryExpr {
     /// The first child that is an expression, if there is one.
+    /// Example: `a` of `a?`.
     pub fn expr(&self) -> Option<ast::Expr>
         ensures { IsFirstChild ⟦<ast::Expr as AstNode>⟧ self.now.syntax result }
     {
@@ -474,6 +532,7 @@ impl ast::TryExpr {
     }
 
     /// The first token `?` among the children, if there is one.
+    /// Example: `?` of `a?`.
     pub fn question_mark_token(&self) -> Option<SyntaxToken>
         ensures { result ≡ token_child SyntaxKind.QUESTION self.now.syntax }
     {
@@ -481,34 +540,38 @@ impl ast::TryExpr {
     }
 }
 
-impl ast::YeetExpr {
-    /// The first child that is an expression, if there is one.
-    pub fn expr(&self) -> Option<ast::Expr>
-        ensures { IsFirstChild ⟦<ast::Expr as AstNode>⟧ self.now.syntax result }
+impl ast::TupleExpr {
+    /// The children that are expressions, in order.
+    /// Example: `a` and `b` of `(a, b)`.
+    pub fn fields(&self) -> AstChildren<ast::Expr>
+        ensures { result ≡ typed_children ⟦<ast::Expr as AstNode>⟧.casts self.now.syntax }
     {
-        support::child(&self.syntax)
+        support::children(&self.syntax)
     }
 
-    /// The first token `do` among the children, if there is one.
-    pub fn do_token(&self) -> Option<SyntaxToken>
-        ensures { result ≡ token_child SyntaxKind.DO_KW self.now.syntax }
+    /// The first token `(` among the children, if there is one.
+    /// Example: `(` of `(a, b)`.
+    pub fn l_paren_token(&self) -> Option<SyntaxToken>
+        ensures { result ≡ token_child SyntaxKind.L_PAREN self.now.syntax }
     {
-        support::token(&self.syntax, T![do])
+        support::token(&self.syntax, T!['('])
+    }
+
+    /// The first token `)` among the children, if there is one.
+    /// Example: `)` of `(a, b)`.
+    pub fn r_paren_token(&self) -> Option<SyntaxToken>
+        ensures { result ≡ token_child SyntaxKind.R_PAREN self.now.syntax }
+    {
+        support::token(&self.syntax, T![')'])
     }
 }
 
-impl ast::YieldExpr {
-    /// The first child that is an expression, if there is one.
-    pub fn expr(&self) -> Option<ast::Expr>
-        ensures { IsFirstChild ⟦<ast::Expr as AstNode>⟧ self.now.syntax result }
+impl ast::UnderscoreExpr {
+    /// The first token `_` among the children, if there is one.
+    /// Example: `_` of `_`.
+    pub fn underscore_token(&self) -> Option<SyntaxToken>
+        ensures { result ≡ token_child SyntaxKind.UNDERSCORE self.now.syntax }
     {
-        support::child(&self.syntax)
-    }
-
-    /// The first token `yield` among the children, if there is one.
-    pub fn yield_token(&self) -> Option<SyntaxToken>
-        ensures { result ≡ token_child SyntaxKind.YIELD_KW self.now.syntax }
-    {
-        support::token(&self.syntax, T![yield])
+        support::token(&self.syntax, T![_])
     }
 }

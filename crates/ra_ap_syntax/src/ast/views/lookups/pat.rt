@@ -10,6 +10,7 @@ use lossless_tree::{SyntaxKind, SyntaxToken, T};
 
 impl ast::BoxPat {
     /// The first child that is a pattern, if there is one.
+    /// Example: `p` of `box p`.
     pub fn pat(&self) -> Option<ast::Pat>
         ensures { IsFirstChild ⟦<ast::Pat as AstNode>⟧ self.now.syntax result }
     {
@@ -17,8 +18,27 @@ impl ast::BoxPat {
     }
 }
 
+impl ast::ConstBlockPat {
+    /// The first child that is a block expression, if there is one.
+    /// Example: `{ b }` of `const { b }`.
+    pub fn block_expr(&self) -> Option<ast::BlockExpr>
+        ensures { IsFirstChild ⟦<ast::BlockExpr as AstNode>⟧ self.now.syntax result }
+    {
+        support::child(&self.syntax)
+    }
+
+    /// The first token `const` among the children, if there is one.
+    /// Example: `const` of `const { b }`.
+    pub fn const_token(&self) -> Option<SyntaxToken>
+        ensures { result ≡ token_child SyntaxKind.CONST_KW self.now.syntax }
+    {
+        support::token(&self.syntax, T![const])
+    }
+}
+
 impl ast::IdentPat {
     /// The first child that is a pattern, if there is one.
+    /// Example: `p` of `ref mut x @ p`.
     pub fn pat(&self) -> Option<ast::Pat>
         ensures { IsFirstChild ⟦<ast::Pat as AstNode>⟧ self.now.syntax result }
     {
@@ -26,6 +46,7 @@ impl ast::IdentPat {
     }
 
     /// The first token `@` among the children, if there is one.
+    /// Example: `@` of `ref mut x @ p`.
     pub fn at_token(&self) -> Option<SyntaxToken>
         ensures { result ≡ token_child SyntaxKind.AT self.now.syntax }
     {
@@ -33,6 +54,7 @@ impl ast::IdentPat {
     }
 
     /// The first token `mut` among the children, if there is one.
+    /// Example: `mut` of `ref mut x @ p`.
     pub fn mut_token(&self) -> Option<SyntaxToken>
         ensures { result ≡ token_child SyntaxKind.MUT_KW self.now.syntax }
     {
@@ -40,6 +62,7 @@ impl ast::IdentPat {
     }
 
     /// The first token `ref` among the children, if there is one.
+    /// Example: `ref` of `ref mut x @ p`.
     pub fn ref_token(&self) -> Option<SyntaxToken>
         ensures { result ≡ token_child SyntaxKind.REF_KW self.now.syntax }
     {
@@ -47,8 +70,101 @@ impl ast::IdentPat {
     }
 }
 
+impl ast::LiteralPat {
+    /// The first child that is a literal, if there is one.
+    /// Example: `1` of `-1`.
+    pub fn literal(&self) -> Option<ast::Literal>
+        ensures { IsFirstChild ⟦<ast::Literal as AstNode>⟧ self.now.syntax result }
+    {
+        support::child(&self.syntax)
+    }
+
+    /// The first token `-` among the children, if there is one.
+    /// Example: `-` of `-1`.
+    pub fn minus_token(&self) -> Option<SyntaxToken>
+        ensures { result ≡ token_child SyntaxKind.MINUS self.now.syntax }
+    {
+        support::token(&self.syntax, T![-])
+    }
+}
+
+impl ast::MacroPat {
+    /// The first child that is a macro call, if there is one.
+    /// Example: `m!(a)` of `m!(a)`.
+    pub fn macro_call(&self) -> Option<ast::MacroCall>
+        ensures { IsFirstChild ⟦<ast::MacroCall as AstNode>⟧ self.now.syntax result }
+    {
+        support::child(&self.syntax)
+    }
+}
+
+impl ast::OrPat {
+    /// The children that are patterns, in order.
+    /// Example: `p` and `q` of `p | q`.
+    pub fn pats(&self) -> AstChildren<ast::Pat>
+        ensures { result ≡ typed_children ⟦<ast::Pat as AstNode>⟧.casts self.now.syntax }
+    {
+        support::children(&self.syntax)
+    }
+
+    /// The first token `|` among the children, if there is one.
+    /// Example: `|` of `p | q`.
+    pub fn pipe_token(&self) -> Option<SyntaxToken>
+        ensures { result ≡ token_child SyntaxKind.PIPE self.now.syntax }
+    {
+        support::token(&self.syntax, T![|])
+    }
+}
+
+impl ast::ParenPat {
+    /// The first child that is a pattern, if there is one.
+    /// Example: `p` of `(p)`.
+    pub fn pat(&self) -> Option<ast::Pat>
+        ensures { IsFirstChild ⟦<ast::Pat as AstNode>⟧ self.now.syntax result }
+    {
+        support::child(&self.syntax)
+    }
+
+    /// The first token `(` among the children, if there is one.
+    /// Example: `(` of `(p)`.
+    pub fn l_paren_token(&self) -> Option<SyntaxToken>
+        ensures { result ≡ token_child SyntaxKind.L_PAREN self.now.syntax }
+    {
+        support::token(&self.syntax, T!['('])
+    }
+
+    /// The first token `)` among the children, if there is one.
+    /// Example: `)` of `(p)`.
+    pub fn r_paren_token(&self) -> Option<SyntaxToken>
+        ensures { result ≡ token_child SyntaxKind.R_PAREN self.now.syntax }
+    {
+        support::token(&self.syntax, T![')'])
+    }
+}
+
+impl ast::PathPat {
+    /// The first child that is a path, if there is one.
+    /// Example: `a::b` of `a::b`.
+    pub fn path(&self) -> Option<ast::Path>
+        ensures { IsFirstChild ⟦<ast::Path as AstNode>⟧ self.now.syntax result }
+    {
+        support::child(&self.syntax)
+    }
+}
+
+impl ast::RecordPat {
+    /// The first child that is a path, if there is one.
+    /// Example: `S` of `S { f: p, .. }`.
+    pub fn path(&self) -> Option<ast::Path>
+        ensures { IsFirstChild ⟦<ast::Path as AstNode>⟧ self.now.syntax result }
+    {
+        support::child(&self.syntax)
+    }
+}
+
 impl ast::RecordPatField {
     /// The first child that is a name reference, if there is one.
+    /// Example: `f` of `f: p`.
     pub fn name_ref(&self) -> Option<ast::NameRef>
         ensures { IsFirstChild ⟦<ast::NameRef as AstNode>⟧ self.now.syntax result }
     {
@@ -56,27 +172,150 @@ impl ast::RecordPatField {
     }
 
     /// The first child that is a pattern, if there is one.
+    /// Example: `p` of `f: p`.
     pub fn pat(&self) -> Option<ast::Pat>
         ensures { IsFirstChild ⟦<ast::Pat as AstNode>⟧ self.now.syntax result }
     {
         support::child(&self.syntax)
+    }
+
+    /// The first token `:` among the children, if there is one.
+    /// Example: `:` of `f: p`.
+    pub fn colon_token(&self) -> Option<SyntaxToken>
+        ensures { result ≡ token_child SyntaxKind.COLON self.now.syntax }
+    {
+        support::token(&self.syntax, T![:])
     }
 }
 
 impl ast::RefPat {
     /// The first child that is a pattern, if there is one.
+    /// Example: `p` of `&mut p`.
     pub fn pat(&self) -> Option<ast::Pat>
         ensures { IsFirstChild ⟦<ast::Pat as AstNode>⟧ self.now.syntax result }
     {
         support::child(&self.syntax)
     }
+
+    /// The first token `&` among the children, if there is one.
+    /// Example: `&` of `&mut p`.
+    pub fn amp_token(&self) -> Option<SyntaxToken>
+        ensures { result ≡ token_child SyntaxKind.AMP self.now.syntax }
+    {
+        support::token(&self.syntax, T![&])
+    }
+
+    /// The first token `mut` among the children, if there is one.
+    /// Example: `mut` of `&mut p`.
+    pub fn mut_token(&self) -> Option<SyntaxToken>
+        ensures { result ≡ token_child SyntaxKind.MUT_KW self.now.syntax }
+    {
+        support::token(&self.syntax, T![mut])
+    }
+}
+
+impl ast::RestPat {
+    /// The first token `..` among the children, if there is one.
+    /// Example: `..` of `..`.
+    pub fn dotdot_token(&self) -> Option<SyntaxToken>
+        ensures { result ≡ token_child SyntaxKind.DOT2 self.now.syntax }
+    {
+        support::token(&self.syntax, T![..])
+    }
 }
 
 impl ast::SlicePat {
     /// The children that are patterns, in order.
+    /// Example: `p` and `q` of `[p, q]`.
     pub fn pats(&self) -> AstChildren<ast::Pat>
         ensures { result ≡ typed_children ⟦<ast::Pat as AstNode>⟧.casts self.now.syntax }
     {
         support::children(&self.syntax)
+    }
+
+    /// The first token `[` among the children, if there is one.
+    /// Example: `[` of `[p, q]`.
+    pub fn l_brack_token(&self) -> Option<SyntaxToken>
+        ensures { result ≡ token_child SyntaxKind.L_BRACK self.now.syntax }
+    {
+        support::token(&self.syntax, T!['['])
+    }
+
+    /// The first token `]` among the children, if there is one.
+    /// Example: `]` of `[p, q]`.
+    pub fn r_brack_token(&self) -> Option<SyntaxToken>
+        ensures { result ≡ token_child SyntaxKind.R_BRACK self.now.syntax }
+    {
+        support::token(&self.syntax, T![']'])
+    }
+}
+
+impl ast::TuplePat {
+    /// The children that are patterns, in order.
+    /// Example: `p` and `q` of `(p, q)`.
+    pub fn fields(&self) -> AstChildren<ast::Pat>
+        ensures { result ≡ typed_children ⟦<ast::Pat as AstNode>⟧.casts self.now.syntax }
+    {
+        support::children(&self.syntax)
+    }
+
+    /// The first token `(` among the children, if there is one.
+    /// Example: `(` of `(p, q)`.
+    pub fn l_paren_token(&self) -> Option<SyntaxToken>
+        ensures { result ≡ token_child SyntaxKind.L_PAREN self.now.syntax }
+    {
+        support::token(&self.syntax, T!['('])
+    }
+
+    /// The first token `)` among the children, if there is one.
+    /// Example: `)` of `(p, q)`.
+    pub fn r_paren_token(&self) -> Option<SyntaxToken>
+        ensures { result ≡ token_child SyntaxKind.R_PAREN self.now.syntax }
+    {
+        support::token(&self.syntax, T![')'])
+    }
+}
+
+impl ast::TupleStructPat {
+    /// The children that are patterns, in order.
+    /// Example: `p` and `q` of `S(p, q)`.
+    pub fn fields(&self) -> AstChildren<ast::Pat>
+        ensures { result ≡ typed_children ⟦<ast::Pat as AstNode>⟧.casts self.now.syntax }
+    {
+        support::children(&self.syntax)
+    }
+
+    /// The first child that is a path, if there is one.
+    /// Example: `S` of `S(p, q)`.
+    pub fn path(&self) -> Option<ast::Path>
+        ensures { IsFirstChild ⟦<ast::Path as AstNode>⟧ self.now.syntax result }
+    {
+        support::child(&self.syntax)
+    }
+
+    /// The first token `(` among the children, if there is one.
+    /// Example: `(` of `S(p, q)`.
+    pub fn l_paren_token(&self) -> Option<SyntaxToken>
+        ensures { result ≡ token_child SyntaxKind.L_PAREN self.now.syntax }
+    {
+        support::token(&self.syntax, T!['('])
+    }
+
+    /// The first token `)` among the children, if there is one.
+    /// Example: `)` of `S(p, q)`.
+    pub fn r_paren_token(&self) -> Option<SyntaxToken>
+        ensures { result ≡ token_child SyntaxKind.R_PAREN self.now.syntax }
+    {
+        support::token(&self.syntax, T![')'])
+    }
+}
+
+impl ast::WildcardPat {
+    /// The first token `_` among the children, if there is one.
+    /// Example: `_` of `_`.
+    pub fn underscore_token(&self) -> Option<SyntaxToken>
+        ensures { result ≡ token_child SyntaxKind.UNDERSCORE self.now.syntax }
+    {
+        support::token(&self.syntax, T![_])
     }
 }

@@ -1,0 +1,30 @@
+-- `AsmOperand`: its kinds by their raw numbers, and the node of each variant. Made by `tests/views` from `views.txt`.
+use Rattle.std.specs.Prelude.{◌≡◌, ◌||◌, Bool, true, ℕ, nat_eq}
+use Rattle.std.proofs.lemmas.Bool.{eq-eqb}
+use Rattle.syntax_kind.specs.declared.syntax_kind.SyntaxKind.{SyntaxKind}
+use Rattle.syntax_kind.specs.Kinds.{kind_raw}
+use Rattle.rust_views.specs.declared.raw.TheConstants.{ASM_REG_OPERAND, ASM_LABEL, ASM_SYM, ASM_CONST}
+use Rattle.tree_model.specs.Cursor.{Cursor}
+use Rattle.ras_node.specs.Nodes.{kind_at}
+use Rattle.rust_views.specs.Sides.{or_left, or_right}
+use Rattle.rust_views.specs.declared.enums.asm_operand.AsmOperand.{AsmOperand}
+use Rattle.rust_views.specs.declared.enums.asm_operand.AsmOperand.TheVariants.{AsmRegOperand, AsmLabel, AsmSym, AsmConst}
+
+abbrev is_asm_operand_number : ℕ → Bool
+is_asm_operand_number n = nat_eq n ASM_REG_OPERAND || (nat_eq n ASM_LABEL || (nat_eq n ASM_SYM || nat_eq n ASM_CONST))
+
+abbrev pub is_asm_operand : SyntaxKind → Bool
+is_asm_operand kind = is_asm_operand_number (kind_raw kind)
+
+abbrev pub asm_operand_node : AsmOperand → Cursor
+asm_operand_node (AsmRegOperand it) = it.syntax
+asm_operand_node (AsmLabel it) = it.syntax
+asm_operand_node (AsmSym it) = it.syntax
+asm_operand_node (AsmConst it) = it.syntax
+
+-- its kind is one of these
+pub asm_operand_castable : (it : AsmOperand) → is_asm_operand (kind_at (asm_operand_node it)) ≡ true
+asm_operand_castable (AsmRegOperand it) = or_left _ _ (eq-eqb _ _ it.is)
+asm_operand_castable (AsmLabel it) = or_right _ _ (or_left _ _ (eq-eqb _ _ it.is))
+asm_operand_castable (AsmSym it) = or_right _ _ (or_right _ _ (or_left _ _ (eq-eqb _ _ it.is)))
+asm_operand_castable (AsmConst it) = or_right _ _ (or_right _ _ (or_right _ _ (eq-eqb _ _ it.is)))

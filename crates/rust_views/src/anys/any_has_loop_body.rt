@@ -1,0 +1,114 @@
+//! A loop: a node of a kind that has `HasLoopBody`. Made by `tests/views` from `views.txt`.
+ghost use Rattle.std.specs.Prelude.{◌≡◌, Some, true, ⊤, option_map};
+ghost use Rattle.tree_model.specs.Tree.{text};
+ghost use Rattle.tree_model.specs.Cursor.{focus};
+ghost use Rattle.lossless_tree.specs.Dump.{span_text};
+ghost use Rattle.std.specs.Cmp.{partial_equiv_from_equiv, on_equiv};
+ghost use Rattle.tree_model.specs.Equality.{is_same_cursor, cursor_hash};
+ghost use Rattle.tree_model.specs.EqualityLaws.{cursor_equivalence, cursors_alike};
+ghost use Rattle.ras_node.specs.Nodes.{kind_at};
+ghost use Rattle.ras_node.specs.Lookups.{if_of};
+ghost use Rattle.rust_views.specs.Sets.{has_loop_body};
+
+use ra_ap_syntax::ast::{AstNode, HasLoopBody};
+use ra_ap_syntax::{SyntaxKind, SyntaxNode};
+use ras_node::support;
+use std::alloc::AllocError;
+use std::fmt;
+use std::hash::{Hash, Hasher};
+
+/// A loop: a node of a kind that has `HasLoopBody`.
+#[derive(Drop)]
+pub struct AnyHasLoopBody {
+    syntax: SyntaxNode,
+    ghost is: { has_loop_body (kind_at syntax) ≡ true },
+}
+
+impl AnyHasLoopBody {
+    /// The node of a view that has `HasLoopBody`; `None` if no view of this library has it.
+    pub fn new<N: HasLoopBody>(it: &N) -> Option<AnyHasLoopBody>
+        ensures { option_map (λ it. it.syntax) result ≡ if_of has_loop_body (N.node it.now) }
+    {
+        Self::cast(support::share(it.syntax()))
+    }
+}
+
+impl AstNode for AnyHasLoopBody {
+    ghost casts = { has_loop_body };
+
+    ghost node = { λ it. it.syntax };
+
+    ghost castable = { λ it. it.is };
+
+    fn can_cast(kind: SyntaxKind) -> bool {
+        matches!(
+            kind,
+            SyntaxKind::FOR_EXPR | SyntaxKind::LOOP_EXPR | SyntaxKind::WHILE_EXPR
+        )
+    }
+
+    fn cast(syntax: SyntaxNode) -> Option<AnyHasLoopBody> {
+        if Self::can_cast(syntax.kind()) {
+            Some(AnyHasLoopBody { syntax })
+        } else {
+            None
+        }
+    }
+
+    fn syntax(&self) -> &SyntaxNode {
+        &self.syntax
+    }
+}
+
+impl Clone for AnyHasLoopBody {
+    ghost is_clone = { λ s copy. copy ≡ s };
+
+    ghost is_infallible = { λ _. ⊤ };
+
+    fn clone(&self) -> Result<AnyHasLoopBody, AllocError> {
+        let syntax = self.syntax.clone()?;
+        Ok(AnyHasLoopBody { syntax })
+    }
+}
+
+impl PartialEq for AnyHasLoopBody {
+    ghost eq = { λ a b. is_same_cursor a.syntax b.syntax };
+
+    ghost laws = { partial_equiv_from_equiv (on_equiv (λ it. it.syntax) cursor_equivalence) };
+
+    fn eq(&self, other: &AnyHasLoopBody) -> bool {
+        self.syntax == other.syntax
+    }
+}
+
+impl Eq for AnyHasLoopBody {
+    ghost laws = { on_equiv (λ it. it.syntax) cursor_equivalence };
+}
+
+impl Hash for AnyHasLoopBody {
+    ghost hash_input = { λ it. cursor_hash it.syntax };
+
+    ghost respects_eq = { λ a b same. cursors_alike a.syntax b.syntax same };
+
+    fn hash<H: Hasher>(&self, state: &mut H) {
+        self.syntax.hash(state);
+    }
+}
+
+impl fmt::Display for AnyHasLoopBody {
+    ghost output = { λ it. Some (text (focus it.syntax)) };
+
+    fn fmt<W: fmt::Write>(&self, f: &mut fmt::Formatter<W>) -> fmt::Result {
+        let text = self.syntax.as_str();
+        write!(f, "{text}")
+    }
+}
+
+/// The kind and the range, as the node prints.
+impl fmt::Debug for AnyHasLoopBody {
+    ghost debug_output = { λ it. Some (span_text it.syntax) };
+
+    fn fmt<W: fmt::Write>(&self, f: &mut fmt::Formatter<W>) -> fmt::Result {
+        fmt::Debug::fmt(self.syntax(), f)
+    }
+}

@@ -1,0 +1,6 @@
+//! Views of one of several kinds. Made by `tests/views` from `views.txt`.
+pub mod asm_operand;
+pub mod asm_piece;
+pub mod field_list;
+pub mod use_bound_generic_arg;
+pub mod variant_def;

@@ -1,0 +1,6 @@
+//! Lookups of children by their kinds. Made by `tests/views` from `views.txt`.
+pub mod asm;
+pub mod expr;
+pub mod item;
+pub mod pat;
+pub mod path;
