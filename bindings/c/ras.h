@@ -184,12 +184,12 @@ void ras_c_free(
     ras_handle *handle);
 
 /*
- * Finds the needless pairs of parentheses of a text of an edition, such as 2024: those whose contents need no parentheses in place of the
- * pair, in preorder of the tree.
+ * Finds the needless pairs of parentheses of a text of an edition, such as 2024, in preorder of the tree: those that
+ * rust_tree parens lists. All of them can be removed together.
  *
  * Returns RAS_OK, RAS_NOT_UTF8, RAS_TOO_LONG, RAS_NO_MEMORY, RAS_NO_ROOM or RAS_NO_EDITION. A range is that of a PAREN_EXPR, with both
- * parentheses. The test is on tokens: removing a pair from the text can join two tokens, as in (1).0. It is on each pair alone: two
- * pairs may not be removable together. rustc needs some of these pairs, for example around a macro call that is a statement.
+ * parentheses. Put a blank in place of a parenthesis whose neighbours would be joined, as in return(a). Pairs that rustc needs stay,
+ * for example around a macro call that is a statement. It usually takes a few parses of the text; at worst one for each pair that stays.
  */
 uint32_t ras_c_parens(
     const uint8_t *text,

@@ -101,6 +101,22 @@ static void names(void) {
     }
 }
 
+/* Without the pairs these texts have errors or mean something else. */
+static const char *const STAY[] = {
+    "fn f() { if let x = (a && b) {} }",
+    "fn f() { if (S {} == x) {} }",
+    "fn f() { for x in (S {}.f()) {} }",
+    "fn f() { match (a..{ 0 }) {} }",
+    "fn f() { ({ 0 } + 1); }",
+    "fn f() { let x = (a && b) else { return }; }",
+    "fn f() { let x = &(S {}) else { return }; }",
+    "fn f() { while (S {}.x) {} }",
+    "fn f() { for _ in (0..{3}) {} }",
+    "fn f() { (m! {}); }",
+    "fn f() { (continue) as u8; }",
+    "fn f() { match (|| S {}) { _ => {} } }",
+};
+
 static void tokens_and_parens(void) {
     ras_token_row tokens[64];
     uint32_t count = 0, length = 0, answer = 7;
@@ -110,6 +126,10 @@ static void tokens_and_parens(void) {
     owes(ras_c_tokens(BYTES(TEXT), 2024, tokens, 1, &count) == RAS_NO_ROOM && count > 1, "one token is too little room");
     ras_range pairs[4];
     owes(ras_c_version() == RAS_VERSION, "the header is that of the library");
+    for (size_t n = 0; n < sizeof STAY / sizeof *STAY; n++)
+        owes(ras_c_parens(BYTES(STAY[n]), 2024, pairs, 4, &count) == RAS_OK && count == 0, STAY[n]);
+    const char *many = "fn f() { (return); g((x), (y)); if let x = (a && b) {} }";
+    owes(ras_c_parens(BYTES(many), 2024, pairs, 4, &count) == RAS_OK && count == 3 && pairs[0].start == 9 && pairs[2].end == 29, "pairs are in order");
     const char *sum = "fn f() { (a * b) + c }";
     owes(ras_c_parens(BYTES(sum), 2024, pairs, 4, &count) == RAS_OK && count == 1 && pairs[0].start == 9, "a needless pair is found");
     owes(ras_c_parens(BYTES(sum), 2024, NULL, 0, &count) == RAS_NO_ROOM && count == 1, "no room for a pair");

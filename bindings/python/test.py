@@ -21,6 +21,23 @@ TEXTS = [
 ]
 
 
+# Without the pairs these texts have errors or mean something else.
+STAY = [
+    "if let x = (a && b) {}",
+    "if (S {} == x) {}",
+    "for x in (S {}.f()) {}",
+    "match (a..{ 0 }) {}",
+    "({ 0 } + 1);",
+    "let x = (a && b) else { return };",
+    "let x = &(S {}) else { return };",
+    "while (S {}.x) {}",
+    "for _ in (0..{3}) {}",
+    "(m! {});",
+    "(continue) as u8;",
+    "match (|| S {}) { _ => {} }",
+]
+
+
 def raised(call, *given):
     """The class of what a call raises."""
     try:
@@ -58,6 +75,10 @@ class Trees(unittest.TestCase):
     def test_needless_pairs_are_found(self):
         tree = ras.parse("fn f() { (a * b) + c; (a + b) * c; g((x)) }")
         self.assertEqual([it.text for it in tree.needless_parens()], ["(a * b)", "(x)"])
+
+    def test_needed_pairs_stay(self):
+        for text in STAY:
+            self.assertEqual(ras.parse(f"fn f() {{ {text} }}").needless_parens(), [], text)
 
     def test_texts_are_str_or_bytes(self):
         live = ras.Live("")

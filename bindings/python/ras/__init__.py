@@ -169,8 +169,15 @@ class Tree:
                 yield Element(self, n)
 
     def needless_parens(self):
-        """The pairs of parentheses that may go, in preorder: those whose inside needs none in their place."""
-        pairs, count = (_raw.Range * 16)(), ctypes.c_uint32()
+        """The needless pairs of parentheses, in preorder: those that `rust_tree parens` lists.
+
+        All of them can be removed together, with a blank in place of a parenthesis whose neighbours would be joined, as in `return(a)`.
+        The text is parsed again, usually a few times; at worst once for each pair that stays.
+
+        >>> parse("fn f() { if let x = (a && b) {} g((a * b) + c) }").needless_parens()
+        [PAREN_EXPR@34..41]
+        """
+        pairs, count = (_raw.Range * (len(self.data) // 64 + 16))(), ctypes.c_uint32()
         while not _had_room(_library.ras_c_parens(self.data, len(self.data), self.edition, pairs, len(pairs), ctypes.byref(count))):
             pairs = (_raw.Range * count.value)()
         wanted = {(it.start, it.end) for it in pairs[: count.value]}

@@ -227,9 +227,10 @@ impl Tree {
         &self.rows
     }
 
-    /// The pairs of parentheses that may go, each a `PAREN_EXPR`, in preorder: those whose inside needs none in their place.
+    /// The needless pairs of parentheses, each a `PAREN_EXPR`, in preorder: those that `rust_tree parens` lists.
     ///
-    /// That several of them may go at once is not said: after an edit, ask again. The text is parsed again.
+    /// All of them can be removed together, with a blank in place of a parenthesis whose neighbours would be joined, as in `return(a)`.
+    /// The text is parsed again, usually a few times; at worst once for each pair that stays.
     ///
     /// ```
     /// use ras::{Edition, Tree};
@@ -258,7 +259,7 @@ impl Tree {
 }
 
 fn needless_ranges(text: &str, edition: Edition) -> Result<Vec<Range>, ParseError> {
-    let mut ranges = vec![Range { start: 0, end: 0 }; 16];
+    let mut ranges = vec![Range { start: 0, end: 0 }; text.len() / 64 + 16];
     let mut count = 0;
     loop {
         // SAFETY: as in `Tree::parse`.

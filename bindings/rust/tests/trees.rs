@@ -130,6 +130,50 @@ fn needless_pairs_are_found() {
     assert_eq!(found, ["(a * b)", "(x)"]);
 }
 
+// Without the pairs these texts have errors or mean something else.
+const STAY: [&str; 12] = [
+    "fn f() { if let x = (a && b) {} }",
+    "fn f() { if (S {} == x) {} }",
+    "fn f() { for x in (S {}.f()) {} }",
+    "fn f() { match (a..{ 0 }) {} }",
+    "fn f() { ({ 0 } + 1); }",
+    "fn f() { let x = (a && b) else { return }; }",
+    "fn f() { let x = &(S {}) else { return }; }",
+    "fn f() { while (S {}.x) {} }",
+    "fn f() { for _ in (0..{3}) {} }",
+    "fn f() { (m! {}); }",
+    "fn f() { (continue) as u8; }",
+    "fn f() { match (|| S {}) { _ => {} } }",
+];
+
+#[test]
+fn needed_pairs_stay() {
+    for text in STAY {
+        let tree = tree(text);
+        assert_eq!(tree.needless_parens().unwrap(), [], "{text}");
+    }
+}
+
+#[test]
+fn pairs_can_be_removed_together() {
+    let text = format!("fn f() {{ {} }}", "((a)) + (b * c); x = (continue); ".repeat(100));
+    let tree = tree(&text);
+    let pairs = tree.needless_parens().unwrap();
+    assert_eq!(pairs.len(), 400);
+    let mut bytes = text.clone().into_bytes();
+    for pair in &pairs {
+        let range = pair.text_range();
+        for at in [usize::from(range.start()), usize::from(range.end()) - 1] {
+            assert!(matches!(bytes[at], b'(' | b')'));
+            bytes[at] = b' ';
+        }
+    }
+    let without = Tree::parse(String::from_utf8(bytes).unwrap(), Edition::CURRENT).unwrap();
+    assert!(without.errors().is_empty());
+    assert_eq!(without.needless_parens().unwrap(), []);
+    assert!(without.root().descendants().all(|it| it.kind() != SyntaxKind::PAREN_EXPR));
+}
+
 #[test]
 fn a_long_token_is_cut() {
     let shown = |text: &str| {

@@ -1,18 +1,21 @@
 //! Parentheses of the expressions of a text.
-ghost use Rattle.std.specs.Prelude.{◌≡◌, ◌<◌, ◌≤◌, ◌^◌, ◌⊎◌, ◌↔◌, ◌==◌, length, map, IfOk, IsUtf8, None, Some};
-ghost use Rattle.std.specs.List.{filter};
+ghost use Rattle.std.specs.Prelude.{◌≡◌, ◌<◌, ◌≤◌, ◌^◌, ◌⊎◌, ◌↔◌, ◌==◌, length, map, IfOk, IfErr, IsUtf8, None, Some};
 ghost use Rattle.ras_front_end.specs.Parsed.{Parsed};
-ghost use Rattle.operator_pairs.specs.Pairs.{is_needless, nodes_below};
 ghost use Rattle.ras_c.specs.Border.{edition_of, IsHanded, IsCounted};
 ghost use Rattle.ras_c.specs.Read.{IsReading};
 ghost use Rattle.tree_model.specs.Edit.{root_of};
-ghost use Rattle.ras_c.specs.Parens.{range_at, needless_of, spans, shows_term, is_term_over, node_over, range_from, ReadsBackAt};
+ghost use Rattle.ras_c.specs.Parens.{range_at, HasNeedless, Lists, spans, shows_term, is_term_over, node_over, range_from, ReadsBackAt};
 
 use crate::fill::hand;
 use crate::parsed::parsed;
-use crate::status::{NO_MEMORY, NO_PLACE, OK};
+use crate::root::Root;
+use crate::status::{NO_EDITION, NO_MEMORY, NO_PLACE, OK, edition_of};
 use lossless_tree::{SyntaxNode, TextRange, TextSize};
-use operator_pairs::needless::{is_needless, reads_back};
+use operator_pairs::needless::reads_back;
+use ras_front_end::{Edition, Entry};
+use ras_parsing::Parse;
+use rust_front::Rust;
+use rust_parens::find_needless;
 use std::alloc::{AllocError, Global};
 
 /// A range of the text, in bytes.
@@ -35,26 +38,57 @@ fn range_of(node: &SyntaxNode) -> Range
     }
 }
 
-fn needless_below(alloc: Global, root: &SyntaxNode) -> Result<Vec<Range>, AllocError>
-    ensures { IfOk result (λ found. found.items ≡ map range_at (filter is_needless (nodes_below root.now))) }
+fn ranges_of(alloc: Global, pairs: &[SyntaxNode]) -> Result<Vec<Range>, AllocError>
+    ensures { IfOk result (λ ranges. ranges.items ≡ map range_at pairs.now) }
 {
-    let mut found = Vec::new(alloc);
-    let mut nodes = root.descendants();
-    nodes.next();
-    for node in nodes {
-        if is_needless(&node) {
-            found.push(range_of(&node))?;
-        }
+    let mut ranges = Vec::new(alloc);
+    for pair in pairs {
+        ranges.push(range_of(pair))?;
     }
-    Ok(found)
+    Ok(ranges)
 }
 
-/// Finds the needless pairs of parentheses of a text of an edition, such as 2024: those whose contents need no parentheses in place of the
-/// pair, in preorder of the tree.
+// The ranges of the pairs of a parse that can all be removed together.
+#[tactic(auto, using(crate::proofs::ParensLemmas::found))]
+fn needless_ranges(
+    alloc: Global,
+    parse: &Parse<SyntaxNode>,
+    edition: Edition,
+) -> Result<Vec<Range>, AllocError>
+    ensures { IfOk result (λ ranges. HasNeedless edition parse.now (λ found. ranges.items ≡ found)) }
+{
+    let found = find_needless(alloc, &Rust, Entry::SourceFile, edition, parse)?;
+    ranges_of(alloc, &found.pairs)
+}
+
+// The same for a text, or the status of the refusal.
+#[tactic(auto, using(crate::proofs::ParensLemmas::lists))]
+fn listed(alloc: Global, text: &[u8], year: u32) -> Result<Vec<Range>, u32>
+    ensures found { IfOk result (λ ranges. Lists year text.now (λ found. ranges.items ≡ found)) }
+    ensures known { IfOk result (λ _. edition_of year ≡ None → ⊥) }
+    ensures text { IfOk result (λ _. IsUtf8 text.now) }
+    ensures utf8 { IfErr result (λ s. (s ≡ 1) ↔ (edition_of year ≡ None → ⊥) × (IsUtf8 text.now → ⊥)) }
+    ensures long { IfErr result (λ s. s ≡ 2 → 2 ^ 32 ≤ length text.now) }
+    ensures edition { IfErr result (λ s. (s ≡ 5) ↔ (edition_of year ≡ None)) }
+    ensures which { IfErr result (λ s. (s ≡ 1) ⊎ (s ≡ 2) ⊎ (s ≡ 3) ⊎ (s ≡ 5)) }
+{
+    let parse = parsed(alloc, text, year)?;
+    let Some(edition) = edition_of(year) else {
+        return Err(NO_EDITION);
+    };
+    match needless_ranges(alloc, &parse, edition) {
+        Ok(ranges) => Ok(ranges),
+        Err(_) => Err(NO_MEMORY),
+    }
+}
+
+/// Finds the needless pairs of parentheses of a text of an edition, such as 2024, in preorder of the tree: those that
+/// `rust_tree parens` lists. All of them can be removed together.
 ///
 /// Returns [`OK`], [`NOT_UTF8`], [`TOO_LONG`], [`NO_MEMORY`], [`NO_ROOM`] or [`NO_EDITION`]. A range is that of a `PAREN_EXPR`, with both
-/// parentheses. The test is on tokens: removing a pair from the text can join two tokens, as in `(1).0`. It is on each pair alone: two
-/// pairs may not be removable together. rustc needs some of these pairs, for example around a macro call that is a statement.
+/// parentheses. Put a blank in place of a parenthesis whose neighbours would be joined, as in `return(a)`. Pairs that rustc needs stay,
+/// for example around a macro call that is a statement. It usually takes a few parses of the text; at worst one for each pair that stays.
+#[tactic(auto, using(crate::proofs::ParensLemmas::at_ranges))]
 #[unsafe(no_mangle)]
 pub extern "C" fn ras_c_parens(
     alloc: Global,
@@ -63,21 +97,17 @@ pub extern "C" fn ras_c_parens(
     pairs: &mut [Range],
     count: &mut u32,
 ) -> u32
-    ensures done { result ≡ 0 → (p : Parsed) × IsReading edition text.now p × IsHanded (needless_of p) pairs.old pairs.new count.new }
-    ensures room { result ≡ 4 → (p : Parsed) × IsReading edition text.now p × IsCounted (needless_of p) pairs.old pairs.new count.new }
+    ensures done { result ≡ 0 → Lists edition text.now (λ found. IsHanded found pairs.old pairs.new count.new) }
+    ensures room { result ≡ 4 → Lists edition text.now (λ found. IsCounted found pairs.old pairs.new count.new) }
     ensures kept { (result ≡ 0 → ⊥) → (result ≡ 4 → ⊥) → (pairs.new ≡ pairs.old) × (count.new ≡ count.old) }
     ensures utf8 { (result ≡ 1) ↔ (edition_of edition ≡ None → ⊥) × (IsUtf8 text.now → ⊥) }
-    ensures long { result ≡ 2 → (2 ^ 32 ≤ length text.now) ⊎ ((p : Parsed) × IsReading edition text.now p × (2 ^ 32 ≤ length (needless_of p))) }
+    ensures long { result ≡ 2 → (2 ^ 32 ≤ length text.now) ⊎ Lists edition text.now (λ found. 2 ^ 32 ≤ length found) }
     ensures edition { (result ≡ 5) ↔ (edition_of edition ≡ None) }
     ensures which { result ≤ 5 }
 {
-    let parse = match parsed(alloc, text, edition) {
-        Ok(parse) => parse,
-        Err(status) => return status,
-    };
-    match needless_below(alloc, parse.root()) {
+    match listed(alloc, text, edition) {
         Ok(found) => hand(&found, pairs, count),
-        Err(_) => NO_MEMORY,
+        Err(status) => status,
     }
 }
 
@@ -144,7 +174,7 @@ pub extern "C" fn ras_c_reads_back(
     ensures edition { (result ≡ 5) ↔ (edition_of edition ≡ None) }
     ensures which { (result ≤ 3) ⊎ (5 ≤ result) × (result ≤ 6) }
 {
-    let parse = match parsed(alloc, text, edition) {
+    let parse: Parse<Root> = match parsed(alloc, text, edition) {
         Ok(parse) => parse,
         Err(status) => return status,
     };

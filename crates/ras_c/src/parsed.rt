@@ -3,7 +3,6 @@ ghost use Rattle.std.specs.Prelude.{◌≡◌, ◌<◌, ◌≤◌, ◌^◌, ◌�
 ghost use Rattle.ras_c.specs.Border.{edition_of};
 ghost use Rattle.ras_c.specs.Read.{IsReading};
 
-use crate::root::Root;
 use crate::status::{NO_EDITION, NO_MEMORY, NOT_UTF8, TOO_LONG, edition_of};
 use ras_front_end::{Entry, ParseError};
 use ras_parsing::{Parse, read};
@@ -11,7 +10,7 @@ use rust_front::Rust;
 use std::alloc::Global;
 
 /// The parse of a text, or the status of the refusal.
-pub(crate) fn parsed(alloc: Global, text: &[u8], edition: u32) -> Result<Parse<Root>, u32>
+pub(crate) fn parsed<T>(alloc: Global, text: &[u8], edition: u32) -> Result<Parse<T>, u32>
     ensures read { IfOk result (λ p. IsReading edition text.now p) }
     ensures known { IfOk result (λ _. edition_of edition ≡ None → ⊥) }
     ensures text { IfOk result (λ _. IsUtf8 text.now × (length text.now < 2 ^ 32)) }

@@ -1,2 +1,3 @@
 pub mod TriedLemmas
+pub mod AloneLemmas
 pub mod MarkLemmas

@@ -13,6 +13,7 @@ use Rattle.rust_report.specs.Steps.{steps_of}
 use Rattle.rust_parens.specs.declared.needless.Tried.{Tried}
 use Rattle.rust_parens.specs.Pairs.{may_go}
 use Rattle.rust_parens.specs.Texts.{marks_of, text_without}
+use Rattle.rust_parens.specs.Alone.{StaysAlone}
 
 -- a text without some pairs of a parse
 abbrev pub fixed : Parsed → List Cursor → List ℕ
@@ -33,15 +34,23 @@ pub record MayGo (front : Front) (entry : Entry) (edition : Edition) (old : Pars
   pub is_parse : IsParseOf (fixed old pairs) (front.parsed entry edition (fixed old pairs)) parse
   pub is_without : IsWithout old parse pairs
 
--- the text without them parses to another tree
+-- the text without them parses to another tree, or with another number of errors
 pub record ParsesApart (front : Front) (entry : Entry) (edition : Edition) (old : Parsed) (pairs : List Cursor) : Type 0 where
   pub parse : Parsed
   pub is_parse : IsParseOf (fixed old pairs) (front.parsed entry edition (fixed old pairs)) parse
   pub differs : IsWithout old parse pairs → ⊥
 
--- they may not: that, or the text without them is too long for a parse
+-- an expression around the last of them, parsed alone, shows that it stays beside the others
+pub record LastStays (front : Front) (edition : Edition) (old : Parsed) (pairs : List Cursor) : Type 0 where
+  pub before : List Cursor
+  pub last : List Cursor
+  pub are : pairs ≡ before ++ last
+  pub stays : StaysAlone front edition (length (text old.tree)) before last
+
+-- they may not: one of these, or the text without them is too long for a parse
 abbrev pub Refused : Front → Entry → Edition → Parsed → List Cursor → Type 0
-Refused front entry edition old pairs = (2 ^ 32 ≤ length (fixed old pairs)) ⊎ ParsesApart front entry edition old pairs
+Refused front entry edition old pairs =
+    (2 ^ 32 ≤ length (fixed old pairs)) ⊎ ParsesApart front entry edition old pairs ⊎ LastStays front edition old pairs
 
 -- the text without the pairs if they can be removed, otherwise None
 abbrev pub IsAnswer : Front → Entry → Edition → Parsed → List Cursor → Option (List ℕ) → Type 0

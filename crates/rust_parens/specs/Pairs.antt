@@ -1,9 +1,9 @@
 -- Pairs of parentheses that may go.
-use Rattle.std.specs.Prelude.{Bool, false, not, ◌&&◌, Option, Some, None, is_some, option_map}
+use Rattle.std.specs.Prelude.{Bool, false, not, ◌&&◌, ◌==◌, Option, Some, None, option_map}
 use Rattle.std.specs.Option.{option_and_then}
 use Rattle.syntax_kind.specs.declared.syntax_kind.TheConstants.SyntaxKind.{PAREN_EXPR, L_PAREN, R_PAREN}
 use Rattle.text_size.specs.TextRange.{Bounds}
-use Rattle.tree_model.specs.Cursor.{Cursor, parent_of, range_of}
+use Rattle.tree_model.specs.Cursor.{Cursor, parent_of, range_of, range_start}
 use Rattle.ras_node.specs.Nodes.{is_of_kind, typed_child, token_child}
 use Rattle.ras_node.specs.Sets.{is_expr}
 use Rattle.ras_prec.specs.Rules.{asks}
@@ -23,6 +23,14 @@ may_go_from (Some inside) (Some parent) pair = not (asks inside parent pair) && 
 abbrev pub inside_may_go : Cursor → Bool
 inside_may_go pair = may_go_from (typed_child is_expr pair) (parent_of pair) pair
 
--- a pair, with both its parentheses, around such an expression
+abbrev pub begins_at : Option (Bounds × Bounds) → Cursor → Bool
+begins_at None c = false
+begins_at (Some two) c = two.0.start == range_start c
+
+-- with both its parentheses, of which the first is where it begins: it has no attributes
+abbrev pub is_bare : Cursor → Bool
+is_bare c = begins_at (parens_of c) c
+
+-- such a pair around such an expression
 abbrev pub may_go : Cursor → Bool
-may_go c = is_of_kind PAREN_EXPR c && (is_some (parens_of c) && inside_may_go c)
+may_go c = is_of_kind PAREN_EXPR c && (is_bare c && inside_may_go c)

@@ -1,11 +1,18 @@
 -- Pairs that rustc needs, although rust-analyzer's parser reads the same tree without them. Source: the Rust Reference, "Macro
 -- invocation expressions", "Closure expressions", "Destructuring assignment" and "let statements".
-use Rattle.std.specs.Prelude.{Bool, false, not, ◌&&◌, ◌||◌, Option, Some, None, is_none}
+use Rattle.std.specs.Prelude.{ℕ, Bool, false, not, ◌&&◌, ◌||◌, Option, Some, None, is_none, slice_get}
 use Rattle.std.specs.List.{find}
-use Rattle.syntax_kind.specs.declared.syntax_kind.TheConstants.SyntaxKind.{MACRO_EXPR, EXPR_STMT, STMT_LIST, PAREN_EXPR, CONTINUE_EXPR, UNDERSCORE_EXPR, RANGE_EXPR, BLOCK_EXPR, CLOSURE_EXPR, ARG_LIST, LET_STMT, LET_ELSE}
-use Rattle.tree_model.specs.Cursor.{Cursor, at_node, following_of}
+use Rattle.std.specs.Option.{option_and_then}
+use Rattle.syntax_kind.specs.declared.syntax_kind.TheConstants.SyntaxKind.{MACRO_EXPR, EXPR_STMT, STMT_LIST, PAREN_EXPR, CONTINUE_EXPR, UNDERSCORE_EXPR, RANGE_EXPR, REF_EXPR, BLOCK_EXPR, CLOSURE_EXPR, ARG_LIST, ARRAY_EXPR, TUPLE_EXPR, RECORD_EXPR_FIELD, MATCH_ARM, LET_STMT, ELSE_KW, R_CURLY}
+use Rattle.tree_model.specs.declared.direction.Direction.TheVariants.{Next, Prev}
+use Rattle.tree_model.specs.Tree.{text}
+use Rattle.tree_model.specs.Cursor.{Cursor, focus, parent_of}
+use Rattle.tree_model.specs.NearestToken.{tokens_beyond}
+use Rattle.lossless_tree.specs.declared.cursor.element.NodeOrToken.TheVariants as element
 use Rattle.ras_node.specs.Nodes.{is_of_kind, typed_child}
 use Rattle.ras_node.specs.Sets.{is_expr}
+use Rattle.ras_algo.specs.Algo.{first_token_of, last_token_of, has_no_trivia_kind}
+use Rattle.rust_parens.specs.Words.{is_word}
 
 -- statements, and the last expression of a block, are in these, or in further pairs
 abbrev pub holds_statement : Cursor → Bool
@@ -14,10 +21,6 @@ holds_statement parent = is_of_kind EXPR_STMT parent || (is_of_kind STMT_LIST pa
 -- a macro call as a statement or at the end of a block
 abbrev pub is_statement_macro : Cursor → Cursor → Bool
 is_statement_macro inside parent = is_of_kind MACRO_EXPR inside && holds_statement parent
-
--- `continue` or `_`
-abbrev pub is_read_alone : Cursor → Bool
-is_read_alone inside = is_of_kind CONTINUE_EXPR inside || is_of_kind UNDERSCORE_EXPR inside
 
 -- `..` without ends
 abbrev pub is_full_range : Cursor → Bool
@@ -31,21 +34,71 @@ is_block (Some body) = is_of_kind BLOCK_EXPR body
 abbrev pub is_without_block : Cursor → Bool
 is_without_block inside = is_of_kind CLOSURE_EXPR inside && not (is_block (typed_child is_expr inside))
 
--- arguments, and the value of a `let`, are in these
+-- what is directly in one of these ends before a comma or a bracket
+abbrev pub is_bracket : Cursor → Bool
+is_bracket parent =
+    is_of_kind ARG_LIST parent || (is_of_kind ARRAY_EXPR parent || (is_of_kind TUPLE_EXPR parent
+    || (is_of_kind RECORD_EXPR_FIELD parent || is_of_kind MATCH_ARM parent)))
+
+-- or before a semicolon
 abbrev pub takes_closure : Cursor → Bool
-takes_closure parent = is_of_kind ARG_LIST parent || is_of_kind LET_STMT parent
+takes_closure parent =
+    is_bracket parent || (is_of_kind LET_STMT parent || (is_of_kind EXPR_STMT parent || is_of_kind STMT_LIST parent))
+
+abbrev pub takes_closure_at : Option Cursor → Bool
+takes_closure_at None = false
+takes_closure_at (Some above) = takes_closure above
+
+-- a `&` whose operand ends there
+abbrev pub is_reference_in : Cursor → Bool
+is_reference_in parent = is_of_kind REF_EXPR parent && takes_closure_at (parent_of parent)
 
 abbrev pub is_open_closure : Cursor → Cursor → Bool
-is_open_closure inside parent = is_without_block inside && not (takes_closure parent)
+is_open_closure inside parent = is_without_block inside && not (takes_closure parent || is_reference_in parent)
 
-abbrev pub is_read_otherwise : Cursor → Cursor → Bool
-is_read_otherwise inside parent =
-    is_read_alone inside || (is_full_range inside || (is_statement_macro inside parent || is_open_closure inside parent))
+-- the token after a pair that is neither white space nor a comment
+abbrev pub token_after : Cursor → Option Cursor
+token_after pair = option_and_then (λ last. find has_no_trivia_kind (tokens_beyond Next last)) (last_token_of (element.Node pair))
 
-abbrev pub is_else_of_let : Option Cursor → Bool
-is_else_of_let None = false
-is_else_of_let (Some next) = is_of_kind LET_ELSE next
+abbrev pub is_else : Option Cursor → Bool
+is_else None = false
+is_else (Some token) = is_of_kind ELSE_KW token
 
--- one of these, or anything before the `else` of a `let`
+abbrev pub is_before_else : Cursor → Bool
+is_before_else pair = is_else (token_after pair)
+
+-- the token before a pair that is neither white space nor a comment
+abbrev pub token_before : Cursor → Option Cursor
+token_before pair = option_and_then (λ first. find has_no_trivia_kind (tokens_beyond Prev first)) (first_token_of (element.Node pair))
+
+abbrev pub is_brace : Option Cursor → Bool
+is_brace None = false
+is_brace (Some token) = is_of_kind R_CURLY token
+
+abbrev pub is_after_brace : Cursor → Bool
+is_after_brace pair = is_brace (token_before pair)
+
+-- a letter, a digit, `_` or a byte beyond ASCII
+abbrev pub begins_with_word : Option ℕ → Bool
+begins_with_word None = false
+begins_with_word (Some byte) = is_word byte
+
+abbrev pub is_word_token : Option Cursor → Bool
+is_word_token None = false
+is_word_token (Some token) = begins_with_word (slice_get (text (focus token)) 0)
+
+abbrev pub is_before_word : Cursor → Bool
+is_before_word pair = is_word_token (token_after pair)
+
+-- `continue` before a word, which would be its label; of pairs in pairs, whatever follows
+abbrev pub is_before_label : Cursor → Cursor → Cursor → Bool
+is_before_label inside parent pair = is_of_kind CONTINUE_EXPR inside && (is_of_kind PAREN_EXPR parent || is_before_word pair)
+
+abbrev pub is_read_otherwise : Cursor → Cursor → Cursor → Bool
+is_read_otherwise inside parent pair =
+    is_of_kind UNDERSCORE_EXPR inside || (is_full_range inside || (is_statement_macro inside parent
+    || (is_open_closure inside parent || is_before_label inside parent pair)))
+
+-- one of these, or anything before an `else` or after a `}`
 abbrev pub is_needed_by_rustc : Cursor → Cursor → Cursor → Bool
-is_needed_by_rustc inside parent pair = is_read_otherwise inside parent || is_else_of_let (find at_node (following_of pair))
+is_needed_by_rustc inside parent pair = is_read_otherwise inside parent pair || (is_before_else pair || is_after_brace pair)

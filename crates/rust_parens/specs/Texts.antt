@@ -1,11 +1,12 @@
 -- A text without some pairs of parentheses.
-use Rattle.std.specs.Prelude.{ℕ, ◌-◌, ◌==◌, nat_le, Bool, true, false, ◌&&◌, ◌||◌, if◌then◌else◌, List, [], ◌∷◌, ◌++◌, length, map, replicate, set, Option, Some, None, slice_get}
+use Rattle.std.specs.Prelude.{ℕ, ◌-◌, ◌==◌, Bool, true, false, ◌&&◌, ◌||◌, if◌then◌else◌, List, [], ◌∷◌, ◌++◌, length, map, replicate, set, Option, Some, None, slice_get}
 use Rattle.text_size.specs.TextRange.{Bounds}
 use Rattle.tree_model.specs.Tree.{text}
 use Rattle.tree_model.specs.Cursor.{Cursor, focus, descendants_of}
 use Rattle.lossless_tree.specs.declared.cursor.element.NodeOrToken.TheVariants as element
 use Rattle.lossless_tree.specs.Element.{element_of}
 use Rattle.rust_report.specs.Steps.{Element, is_left_out}
+use Rattle.rust_parens.specs.Words.{is_word}
 use Rattle.rust_parens.specs.Pairs.{parens_of}
 
 -- ---- the marks of pairs
@@ -25,10 +26,6 @@ abbrev pub marks_of : ℕ → List Cursor → List Bool
 marks_of n pairs = marked (replicate n false) pairs
 
 -- ---- the tokens that are left, with blanks
-
--- a byte of a word: a letter, a digit, `_`, and each one beyond ASCII
-abbrev pub is_word : ℕ → Bool
-is_word b = (nat_le 48 b && nat_le b 57) || ((nat_le 65 b && nat_le b 90) || ((nat_le 97 b && nat_le b 122) || (b == 95 || nat_le 128 b)))
 
 -- a byte that a word takes in: one of a word, `"`, `'` or `#`
 abbrev pub is_taken : ℕ → Bool

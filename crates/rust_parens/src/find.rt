@@ -2,7 +2,7 @@
 ghost use Rattle.std.specs.Prelude.{◌≡◌, IfOk};
 ghost use Rattle.std.specs.List.{filter};
 ghost use Rattle.tree_model.specs.Cursor.{at_node, descendants_of};
-ghost use Rattle.rust_parens.specs.Pairs.{may_go, inside_may_go, parens_of};
+ghost use Rattle.rust_parens.specs.Pairs.{may_go, inside_may_go, is_bare, parens_of};
 
 use crate::rustc::is_needed_by_rustc;
 use lossless_tree::{SyntaxKind, SyntaxNode, TextRange};
@@ -37,15 +37,25 @@ fn inside_may_go(pair: &SyntaxNode) -> bool
     }
 }
 
-/// Whether a node is a pair of parentheses, with both parentheses, around an expression for which [`needs_parens_in_place_of`] returns
-/// false, and that [`is_needed_by_rustc`] does not keep.
+// Whether a pair has both parentheses, and begins with the first: attributes before it would be those of its contents.
+fn is_bare(pair: &SyntaxNode) -> bool
+    ensures { result ≡ is_bare pair.now }
+{
+    match parens_of(pair) {
+        None => false,
+        Some((open, _)) => open.start().raw() == pair.text_range().start().raw(),
+    }
+}
+
+/// Whether a node is a pair of parentheses, with both parentheses and without attributes, around an expression for which
+/// [`needs_parens_in_place_of`] returns false, and that [`is_needed_by_rustc`] does not keep.
 ///
 /// That test covers operators and statements. If the pair is in something else, such as the arm of a `match`, only a parse of the text
 /// without the pair shows that it is needless.
 pub fn may_go(node: &SyntaxNode) -> bool
     ensures { result ≡ may_go node.now }
 {
-    node.kind() == SyntaxKind::PAREN_EXPR && parens_of(node).is_some() && inside_may_go(node)
+    node.kind() == SyntaxKind::PAREN_EXPR && is_bare(node) && inside_may_go(node)
 }
 
 // Whether the contents of a pair need parentheses in place of the outermost of the pairs directly around it; false for a pair around

@@ -1,4 +1,5 @@
-//! Guesses which pairs of a text stay. A parse confirms each guess; a wrong guess costs time and changes no result.
+//! Guesses which pairs of a text stay, which parses then confirm. A wrong guess costs parses. It changes the result only where pairs can be
+//! removed together and not one after the other: then they go if all were guessed to go.
 ghost use Rattle.std.specs.Prelude.{◌≤◌, length, IfOk};
 
 use crate::find::is_needed_outside;
@@ -8,8 +9,11 @@ use ras_parsing::Parse;
 use rust_report::{Difference, Trivia, differences};
 use std::alloc::{AllocError, Global};
 
-// How many differences of two trees are used, until a guess was wrong.
-const WANTED: usize = 200;
+// How many differences of two trees are used, while most guesses are right.
+const WANTED: usize = 4096;
+
+// How many wrong guesses are borne, and for how many right ones a further one is.
+const BORNE: usize = 8;
 
 /// Which pairs of a list are guessed to stay.
 #[derive(Drop)]
@@ -18,8 +22,9 @@ pub(crate) struct Guess {
     needed: Vec<bool>,
     // One for each pair: whether a difference of two trees led to it.
     seen: Vec<bool>,
-    // How many differences are used after a parse.
-    wanted: usize,
+    // How many pairs stayed by a plan, and how many that a plan kept could be removed.
+    right: usize,
+    wrong: usize,
     // How many pairs are tried at once without a plan; 0 with one.
     step: usize,
 }
@@ -34,7 +39,8 @@ impl Guess {
         Ok(Guess {
             needed,
             seen: vec![in alloc; false; pairs.len()]?,
-            wanted: WANTED,
+            right: 0,
+            wrong: 0,
             step: 0,
         })
     }
@@ -43,37 +49,30 @@ impl Guess {
         matches!(self.needed.get(at), Some(true)) || matches!(self.seen.get(at), Some(true))
     }
 
-    /// For each of the last `len` pairs whether it is guessed to stay, up to the `room`-th that is.
-    pub(crate) fn stays_of(
-        &self,
-        alloc: Global,
-        len: usize,
-        room: usize,
-    ) -> Result<Vec<bool>, AllocError>
+    /// For each of the last `len` pairs whether it is guessed to stay.
+    pub(crate) fn stays_of(&self, alloc: Global, len: usize) -> Result<Vec<bool>, AllocError>
         requires { 1 ≤ len }
         ensures some { IfOk result (λ stays. 1 ≤ length stays.items) }
         ensures within { IfOk result (λ stays. length stays.items ≤ len) }
     {
         let first = self.needed.len().saturating_sub(len);
-        let mut left = room;
         let mut stays = Vec::new(alloc);
         stays.push(self.stays(first))?;
         while stays.len() < len {
-            if matches!(stays.last(), Some(true)) {
-                left = left.saturating_sub(1);
-                if left == 0 {
-                    break;
-                }
-            }
             let at = first.saturating_add(stays.len());
             stays.push(self.stays(at))?;
         }
         Ok(stays)
     }
 
+    // Whether most guesses were right.
+    fn is_good(&self) -> bool {
+        self.wrong <= BORNE.saturating_add(self.right / BORNE)
+    }
+
     /// How many differences of two trees are used.
     pub(crate) fn wanted(&self) -> usize {
-        self.wanted
+        if self.is_good() { WANTED } else { 1 }
     }
 
     /// Whether the next pairs are tried by a plan.
@@ -107,12 +106,15 @@ impl Guess {
         is_new
     }
 
-    /// Notes that a plan for `planned` pairs was followed for the first `tried`. If these are not all, a pair that was guessed to stay
-    /// could be removed.
-    pub(crate) fn was_followed(&mut self, planned: usize, tried: usize) {
+    /// Notes that a plan for `planned` pairs was followed for the first `tried`, of which `stayed` stay. If these are not all, the last of
+    /// them was guessed to stay and could be removed.
+    pub(crate) fn was_followed(&mut self, planned: usize, tried: usize, stayed: usize) {
+        self.right = self.right.saturating_add(stayed);
         if tried < planned {
-            self.wanted = 1;
-            self.seen.as_mut_slice().fill(false);
+            self.wrong = self.wrong.saturating_add(1);
+            if !self.is_good() {
+                self.seen.as_mut_slice().fill(false);
+            }
         }
     }
 

@@ -1,6 +1,7 @@
 //! Needless pairs of parentheses of a tree: by the tests of operators and statements, and by the parse of the text without them.
 #![tactic(auto)]
 
+mod alone;
 mod find;
 mod guess;
 mod needless;
@@ -8,6 +9,6 @@ mod rustc;
 mod text;
 
 pub use find::{may_go, pairs, parens_of};
-pub use needless::{LIMIT, Needless, Tried, find_needless};
+pub use needless::{Needless, Tried, find_needless};
 pub use rustc::is_needed_by_rustc;
 pub use text::text_without;

@@ -1,8 +1,9 @@
 //! The pairs of a text that can be removed together, and the text without them.
-ghost use Rattle.std.specs.Prelude.{◌≡◌, not, get_or, false, ◌≤◌, ◌<◌, ◌+◌, ◌↔◌, ◌++◌, map, length, is_some, IfOk, IfSome, OnOk, IsTrue, option_map, string_bytes};
+ghost use Rattle.std.specs.Prelude.{◌≡◌, not, get_or, false, ◌≤◌, ◌<◌, ◌↔◌, ◌++◌, map, length, is_some, IfOk, IfSome, OnOk, IsTrue, option_map, string_bytes};
 ghost use Rattle.rust_parens.specs.Needless.{IsMarkedOut, IsAnswer, AreTried, candidates_of, chosen, refused_of};
 ghost use Rattle.rust_parens.specs.Runs.{IsPlan, IsRun, as_tried, going, planned};
 
+use crate::alone::stays_alone;
 use crate::find::pairs;
 use crate::guess::{Guess, note_apart};
 use crate::text::{marks_of, text_without};
@@ -13,15 +14,12 @@ use ras_parsing::{Parse, read};
 use rust_report::{Difference, Trivia, first_difference};
 use std::alloc::{AllocError, Global};
 
-/// After this many pairs that stay, no further pairs are tried: each of them takes at least one parse.
-pub const LIMIT: usize = 200;
-
 /// A pair that was tried.
 #[derive(Drop)]
 pub struct Tried {
     /// The pair.
     pub pair: SyntaxNode,
-    /// Whether it can be removed, together with those before it that can.
+    /// Whether it can be removed. All that can be removed can be removed together.
     pub goes: bool,
 }
 
@@ -34,8 +32,6 @@ pub struct Needless {
     pub text: Option<String>,
     /// All pairs that were tried, in preorder: those that can be removed, and those that stay.
     pub tried: Vec<Tried>,
-    /// How many further pairs were not tried.
-    pub left: usize,
 }
 
 // Pairs that were tried beside the chosen ones, in order, and the text without the chosen pairs and without those of the tried ones that
@@ -141,6 +137,24 @@ impl<'a, F: FrontEnd> Trial<'a, F> {
         }
     }
 
+    // The text without the chosen pairs and this one, if this one can be removed beside them. `pair` has it alone.
+    #[tactic(auto, using(crate::proofs::AloneLemmas::refused))]
+    fn without_one(
+        &self,
+        alloc: Global,
+        chosen: &[SyntaxNode],
+        pair: &[SyntaxNode],
+        apart: &mut Vec<Difference>,
+    ) -> Result<Option<String>, AllocError>
+        ensures { IfOk result (λ o. IsAnswer (F.answers self.now.front.now) self.now.entry self.now.edition self.now.old.now (chosen.now ++ pair.now) (option_map string_bytes o)) }
+    {
+        let len = self.old.root().as_str().len();
+        if stays_alone(alloc, self.front, self.edition, len, chosen, pair)? {
+            return Ok(None);
+        }
+        self.without(alloc, chosen, pair, 0, apart)
+    }
+
     // Tries to remove the first pairs that are left beside the chosen ones: at most `step` of them, then half of these, down to one.
     fn halved_run(
         &self,
@@ -167,21 +181,20 @@ impl<'a, F: FrontEnd> Trial<'a, F> {
         run_of(alloc, pairs, text)
     }
 
-    // Guesses which of the pairs that are left stay, until the text without the others parses to the tree without them. The plan ends after
-    // `room` pairs that stay. Returns `None` if a parse suggests no further pair that may have to stay.
+    // Guesses which of the pairs that are left stay, until the text without the others parses to the tree without them. Returns `None` if
+    // a parse suggests no further pair that may have to stay.
     fn make_plan(
         &self,
         alloc: Global,
         chosen: &[SyntaxNode],
         rest: &[SyntaxNode],
         guess: &mut Guess,
-        room: usize,
     ) -> Result<Option<Plan>, AllocError>
         requires { 1 ≤ length rest.now }
         ensures { IfOk result (λ plan. IfSome plan (IsPlan (F.answers self.now.front.now) self.now.entry self.now.edition self.now.old.now chosen.now rest.now)) }
     {
-        for _turn in 0..=LIMIT {
-            let stays = guess.stays_of(alloc, rest.len(), room)?;
+        for _turn in 0..=rest.len() {
+            let stays = guess.stays_of(alloc, rest.len())?;
             let going = planned(alloc, stays.as_slice(), rest)?;
             if going.is_empty() {
                 return Ok(Some(Plan { stays, text: None }));
@@ -224,7 +237,7 @@ impl<'a, F: FrontEnd> Trial<'a, F> {
             let goes = goes_at(marks, at);
             if !goes {
                 let beside = before.as_slice();
-                let text = self.without(alloc, beside, pair, 0, &mut apart)?;
+                let text = self.without_one(alloc, beside, pair, &mut apart)?;
                 if text.is_some() {
                     note(&mut tried, pair, true)?;
                     return Ok(Run { tried, text });
@@ -246,17 +259,17 @@ impl<'a, F: FrontEnd> Trial<'a, F> {
         chosen: &[SyntaxNode],
         rest: &[SyntaxNode],
         guess: &mut Guess,
-        room: usize,
     ) -> Result<Run, AllocError>
         requires { 1 ≤ length rest.now }
         ensures { IfOk result (IsRun (F.answers self.now.front.now) self.now.entry self.now.edition self.now.old.now chosen.now rest.now) }
     {
         if guess.is_trusted() {
-            let plan = self.make_plan(alloc, chosen, rest, guess, room)?;
+            let plan = self.make_plan(alloc, chosen, rest, guess)?;
             if let Some(plan) = plan {
                 let count = plan.stays.len();
                 let run = self.planned_run(alloc, chosen, rest, plan)?;
-                guess.was_followed(count, run.tried.len());
+                let stayed = staying(&run.tried);
+                guess.was_followed(count, run.tried.len(), stayed);
                 return Ok(run);
             }
         }
@@ -333,13 +346,18 @@ fn staying(tried: &[Tried]) -> usize
 }
 
 /// The pairs of parentheses of a text that can be removed together. The pairs that [`pairs`](crate::pairs) returns are decided one after
-/// the other: a pair can be removed if the text without it, and without those before it that can, parses to the same tree without these
-/// pairs, apart from white space and comments, and with the same number of errors.
+/// the other: a pair stays if the text without it, and without those before it that can be removed, parses to another tree than this one
+/// without these pairs, apart from white space and comments, or with another number of errors; or if such an expression around it does
+/// so alone. The text without all that can be removed parses to the tree without them, with as many errors.
 ///
-/// All pairs are removed at once and the text is parsed. If that fails, the places where the trees differ suggest which pairs stay; one
-/// further parse confirms that the others go together, and one for each pair that stays confirms that it does. Without a suggestion,
-/// runs of pairs are tried and halved. So it usually takes a few parses of the text and one for each pair that stays, in time linear in
-/// the text for each of them. After [`LIMIT`] pairs that stay, the others are not tried.
+/// All pairs are removed at once and the text is parsed. If that fails, the places where the trees differ suggest which pairs stay, and
+/// a further parse confirms that the others go together. A pair that stays is confirmed by two parses of an expression around it, or,
+/// if none of the nearest shows it, by a parse of the text. Without a suggestion, runs of pairs are tried and halved. So it usually takes
+/// a few parses of the text, in linear time; at worst one for each pair that stays.
+///
+/// # Errors
+///
+/// `AllocError` if memory runs out.
 pub fn find_needless<F: FrontEnd>(
     alloc: Global,
     front: &F,
@@ -348,8 +366,7 @@ pub fn find_needless<F: FrontEnd>(
     old: &Parse<SyntaxNode>,
 ) -> Result<Needless, AllocError>
     ensures found { IfOk result (λ n. AreTried (F.answers front.now) entry edition old.now n.pairs.items n.tried.items (option_map string_bytes n.text)) }
-    ensures left { IfOk result (λ n. n.left + length n.tried.items ≡ length (candidates_of old.now)) }
-    ensures all { IfOk result (λ n. 0 < n.left → LIMIT ≤ length (refused_of n.tried.items)) }
+    ensures all { IfOk result (λ n. length n.tried.items ≡ length (candidates_of old.now)) }
 {
     let trial = Trial {
         front,
@@ -362,23 +379,18 @@ pub fn find_needless<F: FrontEnd>(
     let mut found = Vec::new(alloc);
     let mut tried = Vec::new(alloc);
     let mut text = None;
-    let mut refused = 0usize;
-    while tried.len() < candidates.len() && refused < LIMIT {
+    while tried.len() < candidates.len() {
         let rest = &candidates[tried.len()..];
         let beside = found.as_slice();
-        let room = LIMIT - refused;
-        let run = trial.next_run(alloc, beside, rest, &mut guess, room)?;
+        let run = trial.next_run(alloc, beside, rest, &mut guess)?;
         let more = run.tried.as_slice();
         add_chosen(&mut found, more)?;
         add_tried(&mut tried, more)?;
-        let all = tried.as_slice();
-        refused = staying(all);
         text = run.text.or(text);
     }
     Ok(Needless {
         pairs: found,
         text,
-        left: candidates.len() - tried.len(),
         tried,
     })
 }

@@ -1,9 +1,12 @@
 //! Pairs that rustc needs, although rust-analyzer's parser reads the same tree without them.
 ghost use Rattle.std.specs.Prelude.{◌≡◌};
 ghost use Rattle.ras_node.specs.Nodes.{is_of_kind};
-ghost use Rattle.rust_parens.specs.Rustc.{holds_statement, is_statement_macro, is_read_alone, is_full_range, is_block, is_without_block, takes_closure, is_open_closure, is_else_of_let, is_read_otherwise, is_needed_by_rustc};
+ghost use Rattle.rust_parens.specs.Rustc.{holds_statement, is_statement_macro, is_full_range, is_block, is_without_block, is_bracket, takes_closure, is_reference_in, is_open_closure, token_after, is_else, is_before_else, token_before, is_brace, is_after_brace, begins_with_word, is_word_token, is_before_word, is_before_label, is_read_otherwise, is_needed_by_rustc};
 
-use lossless_tree::{SyntaxKind, SyntaxNode};
+use crate::text::is_word;
+use lossless_tree::{NodeOrToken, SyntaxKind, SyntaxNode, SyntaxToken};
+use ras_algo::algo::{next_non_trivia_token, previous_non_trivia_token};
+use ras_node::support::share;
 use ras_prec_walks::parts::first_expr;
 
 fn is_a(node: &SyntaxNode, kind: SyntaxKind) -> bool
@@ -28,13 +31,6 @@ fn is_statement_macro(inside: &SyntaxNode, parent: &SyntaxNode) -> bool
     is_a(inside, SyntaxKind::MACRO_EXPR) && holds_statement(parent)
 }
 
-// `continue` and `_` are expressions to rustc in few places.
-fn is_read_alone(inside: &SyntaxNode) -> bool
-    ensures { result ≡ is_read_alone inside.now }
-{
-    is_a(inside, SyntaxKind::CONTINUE_EXPR) || is_a(inside, SyntaxKind::UNDERSCORE_EXPR)
-}
-
 // `(..) = t` is a range, and `.. = t` leaves out what it does not name.
 fn is_full_range(inside: &SyntaxNode) -> bool
     ensures { result ≡ is_full_range inside.now }
@@ -57,44 +53,139 @@ fn is_without_block(inside: &SyntaxNode) -> bool
     is_a(inside, SyntaxKind::CLOSURE_EXPR) && !is_block(first_expr(inside))
 }
 
+// What is directly in one of these ends before a comma or a bracket.
+fn is_bracket(parent: &SyntaxNode) -> bool
+    ensures { result ≡ is_bracket parent.now }
+{
+    is_a(parent, SyntaxKind::ARG_LIST)
+        || is_a(parent, SyntaxKind::ARRAY_EXPR)
+        || is_a(parent, SyntaxKind::TUPLE_EXPR)
+        || is_a(parent, SyntaxKind::RECORD_EXPR_FIELD)
+        || is_a(parent, SyntaxKind::MATCH_ARM)
+}
+
+// What is directly in one of these ends before a comma, a bracket or a semicolon.
 fn takes_closure(parent: &SyntaxNode) -> bool
     ensures { result ≡ takes_closure parent.now }
 {
-    is_a(parent, SyntaxKind::ARG_LIST) || is_a(parent, SyntaxKind::LET_STMT)
+    is_bracket(parent)
+        || is_a(parent, SyntaxKind::LET_STMT)
+        || is_a(parent, SyntaxKind::EXPR_STMT)
+        || is_a(parent, SyntaxKind::STMT_LIST)
+}
+
+// A `&` whose operand ends there.
+fn is_reference_in(parent: &SyntaxNode) -> bool
+    ensures { result ≡ is_reference_in parent.now }
+{
+    is_a(parent, SyntaxKind::REF_EXPR)
+        && match parent.parent() {
+            None => false,
+            Some(above) => takes_closure(&above),
+        }
 }
 
 // In `match (|| S {}) {`, rustc ends the closure before `{` if there are no parentheses.
 fn is_open_closure(inside: &SyntaxNode, parent: &SyntaxNode) -> bool
     ensures { result ≡ is_open_closure inside.now parent.now }
 {
-    is_without_block(inside) && !takes_closure(parent)
+    is_without_block(inside) && !(takes_closure(parent) || is_reference_in(parent))
 }
 
-// `let x = (continue) else {`: rustc allows few expressions before `else`.
-fn is_else_of_let(next: Option<SyntaxNode>) -> bool
-    ensures { result ≡ is_else_of_let next }
+// The token after a pair that is neither white space nor a comment.
+fn token_after(pair: &SyntaxNode) -> Option<SyntaxToken>
+    ensures { result ≡ token_after pair.now }
 {
-    match next {
+    next_non_trivia_token(NodeOrToken::Node(share(pair)))
+}
+
+fn is_else(token: Option<SyntaxToken>) -> bool
+    ensures { result ≡ is_else token }
+{
+    match token {
         None => false,
-        Some(next) => is_a(&next, SyntaxKind::LET_ELSE),
+        Some(token) => token.kind().to_raw() == SyntaxKind::ELSE_KW.to_raw(),
     }
 }
 
-fn is_read_otherwise(inside: &SyntaxNode, parent: &SyntaxNode) -> bool
-    ensures { result ≡ is_read_otherwise inside.now parent.now }
+// `let x = &(S {}) else {`: rustc allows few expressions before `else`.
+fn is_before_else(pair: &SyntaxNode) -> bool
+    ensures { result ≡ is_before_else pair.now }
 {
-    is_read_alone(inside)
+    is_else(token_after(pair))
+}
+
+// The token before a pair that is neither white space nor a comment.
+fn token_before(pair: &SyntaxNode) -> Option<SyntaxToken>
+    ensures { result ≡ token_before pair.now }
+{
+    previous_non_trivia_token(NodeOrToken::Node(share(pair)))
+}
+
+fn is_brace(token: Option<SyntaxToken>) -> bool
+    ensures { result ≡ is_brace token }
+{
+    match token {
+        None => false,
+        Some(token) => token.kind().to_raw() == SyntaxKind::R_CURLY.to_raw(),
+    }
+}
+
+// `async {} (a)` is a call to rustc, and two expressions to rust-analyzer.
+fn is_after_brace(pair: &SyntaxNode) -> bool
+    ensures { result ≡ is_after_brace pair.now }
+{
+    is_brace(token_before(pair))
+}
+
+fn begins_with_word(first: Option<u8>) -> bool
+    ensures { result ≡ begins_with_word first }
+{
+    match first {
+        None => false,
+        Some(byte) => is_word(byte),
+    }
+}
+
+fn is_word_token(token: Option<SyntaxToken>) -> bool
+    ensures { result ≡ is_word_token token }
+{
+    match token {
+        None => false,
+        Some(token) => begins_with_word(token.text().as_bytes().first().copied()),
+    }
+}
+
+fn is_before_word(pair: &SyntaxNode) -> bool
+    ensures { result ≡ is_before_word pair.now }
+{
+    is_word_token(token_after(pair))
+}
+
+// In `(continue) as u8`, rustc reads `as` as a label if there are no parentheses. Of pairs in pairs the innermost stays.
+fn is_before_label(inside: &SyntaxNode, parent: &SyntaxNode, pair: &SyntaxNode) -> bool
+    ensures { result ≡ is_before_label inside.now parent.now pair.now }
+{
+    is_a(inside, SyntaxKind::CONTINUE_EXPR)
+        && (is_a(parent, SyntaxKind::PAREN_EXPR) || is_before_word(pair))
+}
+
+fn is_read_otherwise(inside: &SyntaxNode, parent: &SyntaxNode, pair: &SyntaxNode) -> bool
+    ensures { result ≡ is_read_otherwise inside.now parent.now pair.now }
+{
+    is_a(inside, SyntaxKind::UNDERSCORE_EXPR)
         || is_full_range(inside)
         || is_statement_macro(inside, parent)
         || is_open_closure(inside, parent)
+        || is_before_label(inside, parent, pair)
 }
 
 /// Whether the contents of a pair are of a kind that rustc may read otherwise without the pair, although rust-analyzer's parser reads the
-/// same tree: a macro call as a statement or at the end of a block, `continue`, `_`, a range without ends, a closure whose body is not a
-/// block (unless the pair is an argument or the value of a `let`), and everything before the `else` of a `let`. Some of these pairs can
-/// be removed all the same.
+/// same tree: a macro call as a statement or at the end of a block, `continue` before a word, `_`, a range without ends, a closure whose
+/// body is not a block (unless a comma, a bracket or a semicolon follows the pair, perhaps with a `&` before it), everything before an
+/// `else`, and everything after a `}`. Some of these pairs can be removed all the same.
 pub fn is_needed_by_rustc(inside: &SyntaxNode, parent: &SyntaxNode, pair: &SyntaxNode) -> bool
     ensures { result ≡ is_needed_by_rustc inside.now parent.now pair.now }
 {
-    is_read_otherwise(inside, parent) || is_else_of_let(pair.next_sibling())
+    is_read_otherwise(inside, parent, pair) || is_before_else(pair) || is_after_brace(pair)
 }

@@ -1,6 +1,7 @@
 //! A text without some pairs of parentheses.
 ghost use Rattle.std.specs.Prelude.{◌≡◌, ◌++◌, IfOk, OnOk, set, true, string_bytes};
-ghost use Rattle.rust_parens.specs.Texts.{mark_two, marked, marks_of, is_word, is_taken, is_sign, takes_equals, grow, grow_at, blank, put, with_element, text_without};
+ghost use Rattle.rust_parens.specs.Words.{is_word};
+ghost use Rattle.rust_parens.specs.Texts.{mark_two, marked, marks_of, is_taken, is_sign, takes_equals, grow, grow_at, blank, put, with_element, text_without};
 
 use crate::find::parens_of;
 use lossless_tree::{NodeOrToken, SyntaxElement, SyntaxNode, TextRange};
@@ -49,8 +50,8 @@ pub(crate) fn marks_of(
     Ok(marks)
 }
 
-// Whether a byte belongs to a word: a letter, a digit, `_`, and each byte that is not ASCII.
-fn is_word(byte: u8) -> bool
+/// Whether a byte belongs to a word: a letter, a digit, `_`, and each byte that is not ASCII.
+pub(crate) fn is_word(byte: u8) -> bool
     ensures { result ≡ is_word byte }
 {
     (48 <= byte && byte <= 57)

@@ -97,13 +97,6 @@ fn parens<W: Write>(
     then: Then,
 ) -> Result<u64, Failure> {
     let found = parens::needless(rt.alloc(), source.text, asked.reading)?;
-    if found.left > 0 {
-        eprintln!(rt;
-            "rust_tree: {}: {} further pairs were not tried, since so many stay",
-            name(source.name),
-            found.left
-        )?;
-    }
     write_pairs(rt, out, source, &found, asked, then)
 }
 

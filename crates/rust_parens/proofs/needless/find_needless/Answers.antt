@@ -2,7 +2,7 @@ use Rattle.std.proofs.Common.{◌≡◌, ◌≤◌, ◌++◌, ap, ap₂, sym, su
 use Rattle.tree_model.specs.Cursor.{Cursor}
 use Rattle.ras_front_end.specs.Front.{Front}
 use Rattle.rust_parens.specs.declared.needless.Tried.{Tried}
-use Rattle.rust_parens.specs.Needless.{AreTried, candidates_of, chosen, refused_of}
+use Rattle.rust_parens.specs.Needless.{AreTried, candidates_of, chosen}
 use Rattle.rust_parens.proofs.TriedLemmas.{rest_of, noted, tried_within}
 use Rattle.rust_parens.proofs.needless.find_needless.Goals as goal
 
@@ -24,5 +24,4 @@ loop-trial-preserved g c =
       c.loop-trial.invariant.1,
       subst (λ n. length c.add_tried.new.tried.items ≤ n) (ap length (sym c.loop-trial.invariant.1))
           (tried_within front c.args.entry c.args.edition c.args.old.now c.add_chosen.new.found.items c.add_tried.new.tried.items (option_map string_bytes c.or-text.result) are),
-      c.staying-refused.ensures ∙ ap (λ k. length (refused_of k)) c.as_slice-all.ensures.value,
     )

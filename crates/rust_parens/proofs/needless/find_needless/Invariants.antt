@@ -1,6 +1,6 @@
 use Rattle.std.proofs.Common.{◌≡◌, ◌≤◌, ◌-◌, length, option_map}
 use Rattle.std.specs.Prelude.{string_bytes}
-use Rattle.rust_parens.specs.Needless.{AreTried, candidates_of, refused_of}
+use Rattle.rust_parens.specs.Needless.{AreTried, candidates_of}
 use Rattle.rust_parens.proofs.needless.find_needless.Given as goal
 
 abbrev pub invariant-loop-trial : goal.invariant-loop-trial
@@ -8,7 +8,6 @@ invariant-loop-trial g l =
     AreTried (g.F.FrontEnd.answers l.fn.front) l.fn.entry l.fn.edition l.fn.old l.found.items l.tried.items (option_map string_bytes l.text)
     × (l.candidates.items ≡ candidates_of l.fn.old)
     × (length l.tried.items ≤ length l.candidates.items)
-    × (l.refused ≡ length (refused_of l.tried.items))
 
 abbrev pub decreases-loop-trial : goal.decreases-loop-trial
 decreases-loop-trial g l = length l.candidates.items - length l.tried.items
