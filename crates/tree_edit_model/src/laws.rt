@@ -1,0 +1,20 @@
+//! Laws of changes of a tree. The functions do nothing: the contract is the law.
+ghost use Rattle.tree_edit_model.specs.Texts.{ChangedText};
+ghost use Rattle.tree_edit_model.specs.Moved.{KeptPlacesMove, UnchangedStays};
+
+/// The text of a tree with changes is the text with the edit that the changes are: of the text whose ranges are in order and do not
+/// overlap. So each byte outside of them stays.
+pub fn changed_text()
+    ensures { ChangedText }
+{}
+
+/// What is not replaced, nor inside something that is, is found at its new place: the same node or token, with the changes inside it
+/// made. So a subtree without changes is unchanged.
+pub fn kept_places_move()
+    ensures { KeptPlacesMove }
+{}
+
+/// A tree without changes is the same tree.
+pub fn unchanged_stays()
+    ensures { UnchangedStays }
+{}
