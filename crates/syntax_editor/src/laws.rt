@@ -1,0 +1,2 @@
+//! Laws of changes of a tree.
+pub use tree_edit_model::laws::{changed_text, kept_places_move, unchanged_stays};
