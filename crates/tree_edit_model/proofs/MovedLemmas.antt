@@ -1,11 +1,10 @@
 -- What is kept is found at its new place.
-use Rattle.std.proofs.Common.{◌≡◌, ℕ, zero, suc, ◌+◌, ◌<◌, ◌≤◌, List, [], ◌∷◌, length, refl, sym, ap, ◌∙◌, subst, arith, false, Bool}
+use Rattle.std.proofs.Common.{◌≡◌, ℕ, zero, suc, ◌+◌, ◌<◌, List, [], ◌∷◌, length, refl, ap, ◌∙◌, arith, false}
 use Rattle.std.specs.Prelude.{if◌then◌else◌}
-use Rattle.tree_model.specs.Tree.{Tree, node, token, Forest, nil, cons, Place, child_at, child_count, forest_of_children, subtree}
-use Rattle.tree_model.specs.Edit.{Within}
+use Rattle.tree_model.specs.Tree.{Tree, node, token, Forest, nil, cons, Place, child_at, child_count, subtree}
 use Rattle.tree_model.specs.Events.{append_forest}
 use Rattle.tree_edit_model.specs.Changes.{Change, forest_from, around, inside, below, changed_from, changed}
-use Rattle.tree_edit_model.specs.Moved.{changed_child, count_before, moved, IsKept, below_place, KeptPlacesMove}
+use Rattle.tree_edit_model.specs.Moved.{changed_child, count_before, moved, KeptPlacesMove}
 
 child_at-after : (f g : Forest) (j : ℕ) → child_at (append_forest f g) (child_count f + j) ≡ child_at g j
 child_at-after nil g j = let e : 0 + j ≡ j = omega arith in ap (child_at g) e
@@ -94,5 +93,5 @@ kept_places_move at (node x c) (i ∷ p) w k =
     let at_n : length (at []).first + n ≡ child_count F + n = omega (arith, count-from (at []).first) in
     let fits : n < child_count C = count_fits c at 0 i i w.0 z k.0 in
     let child : child_at (append_forest F (append_forest C L)) (length (at []).first + n) ≡ kept_child at i (child_at c i) =
-        ap (child_at (append_forest F (append_forest C L))) at_n ∙ child_at-after F (append_forest C L) n ∙ child_at-before C L n fits ∙ found_from c at 0 i i w.0 z k.0 in
+    ap (child_at (append_forest F (append_forest C L))) at_n ∙ child_at-after F (append_forest C L) n ∙ child_at-before C L n fits ∙ found_from c at 0 i i w.0 z k.0 in
     ap (λ u. subtree u (moved (below i at) (child_at c i) p)) child ∙ kept_places_move (below i at) (child_at c i) p w.1 k.1

@@ -1,14 +1,14 @@
 -- The text of a changed tree.
-use Rattle.std.proofs.Common.{◌≡◌, ℕ, zero, suc, ◌+◌, ◌-◌, ◌<◌, ◌≤◌, List, [], ◌∷◌, ◌++◌, length, take, drop, refl, sym, ap, ◌∙◌, subst, arith, append_assoc, append-nil, length-append, true, false, Bool, inl, inr}
+use Rattle.std.proofs.Common.{◌≡◌, ℕ, suc, ◌+◌, ◌-◌, ◌≤◌, List, [], ◌∷◌, ◌++◌, length, take, drop, refl, sym, ap, ◌∙◌, subst, arith, append_assoc, append-nil, length-append, true, false, inl, inr}
 use Rattle.std.specs.Prelude.{if◌then◌else◌}
 use Rattle.std.proofs.lemmas.Bool.{cases_Bool}
 use Rattle.std.proofs.Math.Seq.{take_at, drop_at, drop-drop, drop-length}
-use Rattle.tree_model.specs.Tree.{Tree, node, token, Forest, nil, cons, Place, text, forest_text, IsNode}
+use Rattle.tree_model.specs.Tree.{Tree, node, token, Forest, nil, cons, Place, forest_text}
 use Rattle.tree_model.specs.Events.{append_forest}
-use Rattle.text_edit.specs.Replacements.{Replacement, edited, InOrder}
+use Rattle.text_edit.specs.Replacements.{Replacement, InOrder}
 use Rattle.text_edit.proofs.Pass.{passed, EndWithin, edited_passed_within}
-use Rattle.tree_edit_model.specs.Changes.{Change, forest_from, around, inside, below, changed_from, changed}
-use Rattle.tree_edit_model.specs.Texts.{put, edits_around, edits_inside, edits_from, edits_of, ChangedText}
+use Rattle.tree_edit_model.specs.Changes.{Change, forest_from, around, inside, below, changed_from}
+use Rattle.tree_edit_model.specs.Texts.{put, edits_around, edits_inside, edits_from, ChangedText}
 
 pub forest_text-append : (f g : Forest) → forest_text (append_forest f g) ≡ forest_text f ++ forest_text g
 forest_text-append nil g = refl
@@ -56,7 +56,7 @@ around_passed : (s : List ℕ) (c : Change) (x : Tree) (a b : ℕ) (kept P : Lis
     → ((Q : List Replacement) → c.replaced ≡ false → passed s a (kept ++ (put b b c.after ∷ Q)) ≡ forest_text (cons x nil) ++ (txt c.after ++ passed s b Q))
     → passed s a (edits_around c a b kept ++ P) ≡ forest_text (around c x) ++ passed s b P
 around_passed s c x a b kept P h = elim (cases_Bool c.replaced) [
-  inl was ↦
+  | inl was ↦
       here s a a c.before (((if c.replaced then put a b c.instead ∷ [] else kept) ++ put b b c.after ∷ []) ++ P)
       ∙ ap (λ y. txt c.before ++ passed s a (((if y then put a b c.instead ∷ [] else kept) ++ put b b c.after ∷ []) ++ P)) was
       ∙ ap (λ l. txt c.before ++ l) (here s a b c.instead (put b b c.after ∷ P) ∙ ap (λ l. txt c.instead ++ l) (here s b b c.after P))
@@ -119,9 +119,9 @@ forest_passed (cons (node k f) r) s at i b P h =
     let long : e + length (forest_text r) ≡ b + length (t ++ forest_text r) = omega (arith, length-append t (forest_text r)) in
     ap (passed s b) (append_assoc (edits_around c b e (edits_inside c b e (edits_from (below i at) 0 b f))) (edits_from at (suc i) e r) P)
     ∙ around_passed s c x b e (edits_inside c b e (edits_from (below i at) 0 b f)) (edits_from at (suc i) e r ++ P) (λ Q stays.
-        inside_passed s c b e inner (edits_from (below i at) 0 b f) (put e e c.after ∷ Q) (λ R. forest_passed f s (below i at) 0 b R (record { rest = forest_text r ++ h.rest; is = split }))
-        ∙ ap (λ l. forest_text (inside c inner) ++ l) (here s e e c.after Q)
-        ∙ ap (λ l. l ++ (txt c.after ++ passed s e Q)) (sym (append-nil (forest_text (inside c inner)))))
+    inside_passed s c b e inner (edits_from (below i at) 0 b f) (put e e c.after ∷ Q) (λ R. forest_passed f s (below i at) 0 b R (record { rest = forest_text r ++ h.rest; is = split }))
+    ∙ ap (λ l. forest_text (inside c inner) ++ l) (here s e e c.after Q)
+    ∙ ap (λ l. l ++ (txt c.after ++ passed s e Q)) (sym (append-nil (forest_text (inside c inner)))))
     ∙ ap (λ l. forest_text (around c x) ++ l) (forest_passed r s at (suc i) e P (record { rest = h.rest; is = after_front s t (forest_text r ++ h.rest) b split }))
     ∙ sym (append_assoc (forest_text (around c x)) (forest_text (changed_from at (suc i) r)) (passed s (e + length (forest_text r)) P))
     ∙ ap (λ l. l ++ passed s (e + length (forest_text r)) P) (sym (forest_text-append (around c x) (changed_from at (suc i) r)))
@@ -192,8 +192,8 @@ changed_text at (node k c) =
     let all_kept : passed (forest_text c) n [] ≡ [] = drop-length (forest_text c) in (
       order,
       sym (edited_passed_within (forest_text c) 0 es (omega arith) order ends
-      ∙ ap (passed (forest_text c) 0) (sym (append-nil es))
-      ∙ inside_passed (forest_text c) (at []) 0 n (changed_from at 0 c) (edits_from at 0 0 c) [] (λ Q. forest_passed c (forest_text c) at 0 0 Q stands ∙ ap (λ m. forest_text (changed_from at 0 c) ++ passed (forest_text c) m Q) z)
-      ∙ ap (λ l. forest_text (inside (at []) (changed_from at 0 c)) ++ l) all_kept
-      ∙ append-nil (forest_text (inside (at []) (changed_from at 0 c)))),
+          ∙ ap (passed (forest_text c) 0) (sym (append-nil es))
+          ∙ inside_passed (forest_text c) (at []) 0 n (changed_from at 0 c) (edits_from at 0 0 c) [] (λ Q. forest_passed c (forest_text c) at 0 0 Q stands ∙ ap (λ m. forest_text (changed_from at 0 c) ++ passed (forest_text c) m Q) z)
+          ∙ ap (λ l. forest_text (inside (at []) (changed_from at 0 c)) ++ l) all_kept
+          ∙ append-nil (forest_text (inside (at []) (changed_from at 0 c)))),
     )

@@ -1,6 +1,6 @@
 -- A tree with many changes made at once: nodes and tokens put before, in the place of, after and inside its nodes and tokens.
 -- (Upstream: the changes of rust-analyzer's `SyntaxEditor`.)
-use Rattle.std.specs.Prelude.{ℕ, zero, suc, ◌<◌, ◌≤◌, length, get_or, List, [], ◌∷◌, Bool, true, false, if◌then◌else◌, Option, None, Some, refl}
+use Rattle.std.specs.Prelude.{ℕ, zero, suc, ◌<◌, ◌≤◌, length, get_or, List, [], ◌∷◌, Bool, false, if◌then◌else◌, Option, None, Some, refl}
 use Rattle.std.specs.Coded.{Coded, code_by, coded×, coded_bool, coded_list}
 use Rattle.tree_model.specs.Tree.{Tree, node, token, Forest, nil, cons, Place}
 use Rattle.tree_model.specs.Events.{append_forest}

@@ -1,6 +1,6 @@
 -- The edit of the text that changes of a tree are.
 use Rattle.std.specs.Prelude.{◌≡◌, ℕ, suc, ◌+◌, List, [], ◌∷◌, ◌++◌, length, if◌then◌else◌}
-use Rattle.tree_model.specs.Tree.{Tree, node, token, Forest, nil, cons, Place, text, forest_text, IsNode}
+use Rattle.tree_model.specs.Tree.{Tree, node, token, Forest, nil, cons, Place, text, forest_text}
 use Rattle.text_edit.specs.Replacements.{Replacement, edited, InOrder}
 use Rattle.tree_edit_model.specs.Changes.{Change, forest_from, below, changed}
 

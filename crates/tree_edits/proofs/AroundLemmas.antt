@@ -1,10 +1,10 @@
 -- The rows around a row: from parent to parent.
-use Rattle.std.proofs.Common.{◌≡◌, ℕ, suc, ◌+◌, ◌-◌, ◌<◌, ◌≤◌, List, [], ◌∷◌, refl, sym, ap, ◌∙◌, subst, arith, inl, inr}
-use Rattle.std.specs.Prelude.{Option, None, Some, option_map}
+use Rattle.std.proofs.Common.{◌≡◌, ℕ, ◌+◌, ◌-◌, ◌<◌, ◌≤◌, [], ◌∷◌, refl, sym, ap, ◌∙◌, arith, inl, inr}
+use Rattle.std.specs.Prelude.{None, Some, option_map}
 use Rattle.std.proofs.lemmas.Bool.{cases_lt}
 use Rattle.tree_model.specs.Tree.{Tree, cons, nil, size, Place, parent_place, subtree}
 use Rattle.tree_model.specs.Rows.{place_at, tree_at}
-use Rattle.tree_model.specs.Cursor.{Cursor, cursor_at, at_place, parent_of}
+use Rattle.tree_model.specs.Cursor.{cursor_at, at_place}
 use Rattle.tree_model.specs.Neighbours.{IsNearestAround}
 use Rattle.tree_model.proofs.TableLemmas.{at_row}
 use Rattle.tree_model.proofs.WalkLemmas.{place_below}

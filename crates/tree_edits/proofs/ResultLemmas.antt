@@ -1,5 +1,5 @@
 -- What a refused call says.
-use Rattle.std.proofs.Common.{◌≡◌, ◌≤◌, ◌^◌, ℕ, length, refl}
+use Rattle.std.proofs.Common.{◌≡◌, ◌≤◌, ◌^◌, length, refl}
 use Rattle.std.specs.Prelude.{Result, Ok, Err, IfErr, OnErr, IsErrOf}
 use Rattle.tree_model.specs.Tree.{text}
 use Rattle.tree_edits.specs.declared.error.ChangeError.{ChangeError}

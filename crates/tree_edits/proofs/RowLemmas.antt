@@ -2,8 +2,7 @@
 use Rattle.std.specs.Prelude.{Result, Ok, Err, OnOk, OnErr, All, IsTrue}
 use Rattle.std.proofs.Common.{◌≡◌, ℕ, zero, suc, ◌+◌, ◌<◌, List, [], ◌∷◌, length, get_or, refl, sym, ap, subst, ◌∙◌, arith, get_or-set_other, get_or-set_same, inl, inr, Bool, true, false}
 use Rattle.syntax_kind.specs.declared.syntax_kind.SyntaxKind.{SyntaxKind}
-use Rattle.tree_model.specs.Tree.{Tree, node, token, Forest, nil, cons, size, forest_size, Place, IsNode, IsToken, is_token}
-use Rattle.tree_model.specs.Rows.{place_at}
+use Rattle.tree_model.specs.Tree.{Tree, node, token, Forest, nil, cons, size, Place, IsToken, is_token}
 use Rattle.tree_model.proofs.At.{At, here, below, after, no_empty_place}
 use Rattle.tree_model.proofs.TableLemmas.{at_row}
 use Rattle.tree_edit_model.specs.Changes.{Change, change_at, no_change, numbered, MarksFit}

@@ -1,5 +1,5 @@
 -- The table of steps that are one tree, and a walk with changes, step by step.
-use Rattle.std.proofs.Common.{◌≡◌, ℕ, zero, suc, ◌+◌, ◌<◌, ◌≤◌, ◌^◌, List, [], ◌∷◌, ◌++◌, length, drop, get_or, refl, sym, ap, ◌∙◌, subst, arith, append_assoc, append-nil, filter_map, true, false, Bool}
+use Rattle.std.proofs.Common.{◌≡◌, ℕ, zero, suc, ◌+◌, ◌<◌, ◌≤◌, List, [], ◌∷◌, ◌++◌, length, drop, get_or, refl, sym, ap, ◌∙◌, subst, arith, append_assoc, append-nil, filter_map, true, false, Bool}
 use Rattle.std.specs.Prelude.{Option, None, Some, if◌then◌else◌, Result, Ok, Err, IsErrOf, IfOk, ◌↔◌}
 use Rattle.std.proofs.Common.{◌-◌}
 use Rattle.tree_edits.specs.declared.error.ChangeError.{ChangeError}

@@ -1,6 +1,6 @@
 -- What the walk of a tree adds is the changed tree.
-use Rattle.std.proofs.Common.{◌≡◌, ℕ, zero, suc, ◌+◌, ◌<◌, ◌≤◌, List, [], ◌∷◌, ◌++◌, length, map, refl, sym, ap, ◌∙◌, subst, arith, append_assoc, append-nil, true, false, Bool, ◌⊎◌, inl, inr}
-use Rattle.std.specs.Prelude.{if◌then◌else◌, Option, None, Some}
+use Rattle.std.proofs.Common.{◌≡◌, ℕ, zero, suc, ◌+◌, List, [], ◌∷◌, ◌++◌, map, refl, sym, ap, ◌∙◌, arith, append_assoc, append-nil, true, false, Bool, inl, inr}
+use Rattle.std.specs.Prelude.{if◌then◌else◌}
 use Rattle.std.specs.List.{flat_map}
 use Rattle.std.proofs.lemmas.Bool.{cases_Bool}
 use Rattle.std.proofs.lemmas.List.{map-append}
@@ -8,11 +8,11 @@ use Rattle.std.proofs.lemmas.Simd.{map-map}
 use Rattle.std.proofs.lemmas.List.Concat.{flat_map-append}
 use Rattle.std.proofs.lemmas.List.Folds.{flat_map-map}
 use Rattle.syntax_kind.specs.declared.syntax_kind.SyntaxKind.{SyntaxKind}
-use Rattle.tree_model.specs.Tree.{Tree, node, token, Forest, nil, cons, forest_of_children, child_at, Place, subtree, walk, walk_from, under, IsNode}
-use Rattle.tree_model.specs.Cursor.{Cursor, focus, at_place, walk_of, cursor_at}
+use Rattle.tree_model.specs.Tree.{Tree, node, token, Forest, nil, cons, child_at, Place, subtree, walk, walk_from, under, IsNode}
+use Rattle.tree_model.specs.Cursor.{Cursor, focus, at_place, walk_of}
 use Rattle.tree_model.specs.Events.{Event, enter, leaf, exit, events_of, append_forest}
 use Rattle.tree_model.proofs.EveryLaws.{subtree-append}
-use Rattle.tree_edit_model.specs.Changes.{Change, forest_from, around, inside, below, changed_from, changed, changed_whole}
+use Rattle.tree_edit_model.specs.Changes.{Change, forest_from, around, inside, changed_from, changed, changed_whole}
 use Rattle.tree_edits.specs.Walked.{step_events, events_from_all, events_inside, entered, left, skip_after, walked}
 
 -- ---- events of forests

@@ -1,8 +1,8 @@
 -- Which changes are refused, and why.
-use Rattle.std.specs.Prelude.{◌≡◌, ℕ, ◌+◌, ◌<◌, ◌≤◌, ◌^◌, true, ⊤, length, Result}
+use Rattle.std.specs.Prelude.{◌≡◌, ℕ, ◌+◌, ◌<◌, ◌≤◌, ◌^◌, true, ⊤, length}
 use Rattle.tree_model.specs.Tree.{Tree, IsToken, size, text}
 use Rattle.tree_model.specs.Rows.{tree_at}
-use Rattle.tree_edit_model.specs.Changes.{Change, no_change}
+use Rattle.tree_edit_model.specs.Changes.{no_change}
 use Rattle.tree_edits.specs.declared.change.Slot.{Slot}
 use Rattle.tree_edits.specs.declared.change.Slot.TheVariants.{Before, Instead, First, Last, After}
 use Rattle.tree_edits.specs.declared.error.ChangeError.{ChangeError}

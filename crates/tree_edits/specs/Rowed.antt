@@ -1,7 +1,7 @@
 -- The changes of rows as changes of places.
-use Rattle.std.specs.Prelude.{◌≡◌, ℕ, zero, suc, ◌+◌, List, [], ◌∷◌, Bool, false}
-use Rattle.tree_model.specs.Tree.{Tree, node, token, Forest, nil, cons, forest_size, Place}
-use Rattle.tree_edit_model.specs.Changes.{Change, change_at}
+use Rattle.std.specs.Prelude.{◌≡◌, ℕ, zero, suc, ◌+◌, [], ◌∷◌, false}
+use Rattle.tree_model.specs.Tree.{node, token, Forest, nil, cons, forest_size, Place}
+use Rattle.tree_edit_model.specs.Changes.{Change}
 
 -- the number of a place of a forest, in preorder
 abbrev pub row_of : Forest → Place → ℕ

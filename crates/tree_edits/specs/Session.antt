@@ -1,5 +1,5 @@
 -- The changes of a tree, by its rows: what a caller of this crate sees.
-use Rattle.std.specs.Prelude.{◌≡◌, ℕ, List, [], ◌∷◌, get_or, refl, length, All}
+use Rattle.std.specs.Prelude.{◌≡◌, ℕ, List, ◌∷◌, get_or, refl, length, All}
 use Rattle.std.specs.Coded.{Coded, code_by, coded×, coded_list}
 use Rattle.std.proofs.Math.ListN.{set}
 use Rattle.tree_model.specs.Tree.{Tree, cons, nil, Place, size}

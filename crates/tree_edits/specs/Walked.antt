@@ -1,6 +1,6 @@
 -- What each step of the walk of a tree adds to the new tree.
 use Rattle.std.specs.Prelude.{◌≡◌, ◌<◌, length, ℕ, zero, suc, List, [], ◌∷◌, ◌++◌, Bool, true, false, if◌then◌else◌}
-use Rattle.tree_model.specs.Tree.{Tree, node, token, Forest, nil, cons, Place, size, IsNode}
+use Rattle.tree_model.specs.Tree.{Tree, node, token, nil, cons, Place, size, IsNode}
 use Rattle.tree_model.specs.Rows.{place_at}
 use Rattle.tree_model.specs.Cursor.{Cursor, focus}
 use Rattle.tree_model.specs.Events.{Event, enter, leaf, exit, events_of}

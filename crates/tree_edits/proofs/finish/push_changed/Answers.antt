@@ -1,4 +1,4 @@
-use Rattle.std.proofs.Common.{◌≡◌, ◌≤◌, ◌<◌, ◌+◌, ◌∙◌, ◌++◌, ap, arith, true}
+use Rattle.std.proofs.Common.{◌++◌, ap, arith}
 use Rattle.tree_model.specs.Cursor.{cursor_at}
 use Rattle.tree_model.specs.Events.{events_of}
 use Rattle.tree_model.proofs.At.{some_row}

@@ -1,4 +1,4 @@
-use Rattle.std.proofs.Common.{◌≡◌, ◌<◌, ◌∙◌, ℕ, sym, ap, subst, arith, refl, inl, inr}
+use Rattle.std.proofs.Common.{◌<◌, ◌∙◌, ap, arith, inl, inr}
 use Rattle.std.proofs.lemmas.Bool.{cases_eq}
 use Rattle.tree_model.specs.Tree.{size}
 use Rattle.tree_model.proofs.EditLemmas.{within_rows}

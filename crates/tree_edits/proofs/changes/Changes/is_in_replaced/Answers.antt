@@ -1,6 +1,6 @@
-use Rattle.std.proofs.Common.{◌≡◌, ◌<◌, ◌∙◌, ℕ, sym, ap, subst, arith, refl, true, false}
+use Rattle.std.proofs.Common.{◌≡◌, ◌<◌, ◌∙◌, ℕ, sym, ap, subst, refl, true, false}
 use Rattle.std.specs.Prelude.{option_map, Some, None}
-use Rattle.tree_model.specs.Tree.{Tree, parent_place, size}
+use Rattle.tree_model.specs.Tree.{parent_place, size}
 use Rattle.tree_model.specs.Rows.{place_at}
 use Rattle.tree_edits.specs.Session.{Session, change_of}
 use Rattle.tree_edits.specs.Refused.{IsInside, IsReplacedAt, IsInReplaced}

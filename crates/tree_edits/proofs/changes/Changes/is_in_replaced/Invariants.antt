@@ -1,4 +1,4 @@
-use Rattle.std.proofs.Common.{◌≡◌, ◌<◌, ℕ}
+use Rattle.std.proofs.Common.{◌<◌, ℕ}
 use Rattle.tree_model.specs.Tree.{size}
 use Rattle.tree_edits.specs.Refused.{IsInside, IsReplacedAt}
 use Rattle.tree_edits.proofs.changes.Changes.is_in_replaced.Given as goal

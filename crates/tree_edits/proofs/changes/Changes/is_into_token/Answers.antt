@@ -1,4 +1,4 @@
-use Rattle.std.proofs.Common.{◌≡◌, ◌∙◌, ap}
+use Rattle.std.proofs.Common.{◌∙◌, ap}
 use Rattle.tree_model.specs.Tree.{is_token}
 use Rattle.tree_model.specs.Rows.{tree_at}
 use Rattle.tree_edits.proofs.RowLemmas.{is_token_tells}

@@ -1,4 +1,4 @@
-use Rattle.std.proofs.Common.{◌∙◌, sym, ap}
+use Rattle.std.proofs.Common.{◌∙◌, ap}
 use Rattle.tree_model.specs.Tree.{size}
 use Rattle.tree_edits.proofs.RowLemmas.{rows-length, new_rows}
 use Rattle.tree_edits.proofs.changes.Changes.new.Goals as goal

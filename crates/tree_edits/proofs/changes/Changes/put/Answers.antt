@@ -1,4 +1,4 @@
-use Rattle.std.proofs.Common.{◌≡◌, ◌<◌, ◌∙◌, ap, arith, length}
+use Rattle.std.proofs.Common.{◌<◌, ◌∙◌, ap, arith, length}
 use Rattle.std.specs.Prelude.{List}
 use Rattle.tree_model.specs.Tree.{Tree, size}
 use Rattle.tree_edit_model.specs.Changes.{Change}
