@@ -1,15 +1,14 @@
 -- Elements by rows.
-use Rattle.std.proofs.Common.{◌≡◌, ℕ, ◌+◌, ◌<◌, ◌≤◌, List, [], ◌∷◌, ◌++◌, length, drop, get_or, map, refl, sym, ap, ◌∙◌, subst, arith, append_assoc, append-nil}
+use Rattle.std.proofs.Common.{◌≡◌, ℕ, ◌+◌, ◌<◌, ◌≤◌, List, [], ◌∷◌, ◌++◌, length, drop, get_or, refl, sym, ap, ◌∙◌, subst, arith, append_assoc, append-nil}
 use Rattle.std.proofs.lemmas.List.{drop_more, drop_all}
-use Rattle.tree_model.specs.Tree.{Tree, node, token, cons, nil, size, IsNode, subtree, Place}
-use Rattle.tree_model.specs.Rows.{place_at, tree_at}
+use Rattle.tree_model.specs.Tree.{Tree, node, token, size, IsNode}
+use Rattle.tree_model.specs.Rows.{tree_at}
 use Rattle.tree_model.specs.Cursor.{Cursor, cursor_at, focus}
 use Rattle.tree_model.specs.Edit.{root_of}
 use Rattle.tree_model.proofs.TableLemmas.{at_row}
 use Rattle.lossless_tree.specs.declared.cursor.element.NodeOrToken.{NodeOrToken}
-use Rattle.lossless_tree.specs.declared.cursor.element.NodeOrToken.TheVariants.{Node, Token}
+use Rattle.lossless_tree.specs.declared.cursor.element.NodeOrToken.TheVariants.{Node}
 use Rattle.lossless_tree.specs.Element.{cursor_of, element_of}
-use Rattle.tree_edits.specs.Rowed.{row_of}
 use Rattle.tree_edits.proofs.RowLemmas.{row_at_place}
 use Rattle.tree_edits.specs.Session.{Session, at_of, result_of}
 use Rattle.tree_edit_model.proofs.TextLemmas.{changed_text}

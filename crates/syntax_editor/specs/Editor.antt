@@ -1,18 +1,17 @@
 -- Positions of elements in a tree that is changed, and what an editor answers.
 -- (Upstream: rust-analyzer's `syntax_editor::{SyntaxEditor, Position, SyntaxEdit}`.)
-use Rattle.std.specs.Prelude.{◌≡◌, List, [], map}
+use Rattle.std.specs.Prelude.{◌≡◌, List, map}
 use Rattle.tree_model.specs.Tree.{Tree, text}
 use Rattle.tree_model.specs.Cursor.{Cursor, focus}
 use Rattle.lossless_tree.specs.declared.cursor.element.NodeOrToken.{NodeOrToken}
 use Rattle.lossless_tree.specs.Element.{cursor_of}
-use Rattle.tree_edits.specs.declared.change.Slot.{Slot}
 use Rattle.tree_edits.specs.declared.change.Slot.TheVariants.{Before, Instead, First, Last, After}
 use Rattle.syntax_editor.specs.declared.position.Position.{Position}
 use Rattle.text_edit.specs.Replacements.{edited}
 use Rattle.tree_edit_model.specs.Texts.{edits_of}
 use Rattle.tree_edits.specs.declared.error.ChangeError.{ChangeError}
 use Rattle.tree_edits.specs.declared.error.ChangeError.TheVariants.{OtherTree}
-use Rattle.syntax_editor.specs.Spot.{Spot, spot_of}
+use Rattle.syntax_editor.specs.Spot.{spot_of}
 use Rattle.tree_edits.specs.Session.{Session, with_elements_at, at_of}
 use Rattle.tree_edits.specs.Refused.{IsTaken, IsRefused}
 
