@@ -1,0 +1,9 @@
+//! Tests of sessions of changes: random ones against a plain model, and each refusal.
+#![tactic(auto)]
+
+#[cfg(test)]
+mod model;
+#[cfg(test)]
+mod sessions;
+#[cfg(test)]
+mod texts;

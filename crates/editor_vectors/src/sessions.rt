@@ -1,0 +1,146 @@
+//! Random sessions of changes of one tree, and of elements of another one that are put in.
+use crate::model::{Model, Slot, print};
+use lossless_tree::{NodeOrToken, SyntaxElement, SyntaxNode};
+use plain_trees::PlainTree;
+use rand_core::Rng;
+use rand_pcg::Pcg32;
+use std::alloc::Global;
+use std::test::Fail;
+use syntax_editor::{ChangeError, Position, SyntaxEditor};
+
+const TREE: &str =
+    "SOURCE_FILE( FN( :fn :~ NAME( :f ) PARAM_LIST( :( PARAM( IDENT_PAT( NAME( :a ) ) ) :) ) :~ BLOCK_EXPR( STMT_LIST( :{ :} ) ) ) :~ STRUCT( :struct :~ NAME( ) :; ) NAME( NAME( NAME( :deep ) :x ) :y ) )";
+
+const PARTS: &str =
+    "NAME( IDENT:one LITERAL( :2 ) LITERAL( ) WHITESPACE:~ TUPLE_EXPR( :( LITERAL( :3 ) :) ) )";
+
+const SLOTS: [Slot; 5] = [
+    Slot::Before,
+    Slot::Instead,
+    Slot::First,
+    Slot::Last,
+    Slot::After,
+];
+
+#[derive(Drop)]
+struct Chance {
+    numbers: Pcg32,
+}
+
+impl Chance {
+    fn below(&mut self, n: usize) -> usize {
+        let word = self.numbers.next_u32() as usize;
+        if n == 0 { 0 } else { word % n }
+    }
+}
+
+fn position(element: &SyntaxElement, slot: Slot) -> Option<Position> {
+    match (slot, element) {
+        (Slot::Before, _) => Some(Position::before(element)),
+        (Slot::After, _) => Some(Position::after(element)),
+        (Slot::First, NodeOrToken::Node(node)) => Some(Position::first_child_of(node)),
+        (Slot::Last, NodeOrToken::Node(node)) => Some(Position::last_child_of(node)),
+        _ => None,
+    }
+}
+
+// One change by the editor and by the model; whether it was taken.
+fn change(
+    alloc: Global,
+    chance: &mut Chance,
+    editor: &mut SyntaxEditor,
+    model: &mut Model,
+    root: &SyntaxNode,
+    parts: &SyntaxNode,
+) -> Result<bool, Fail> {
+    let row = chance.below(model.len());
+    let slot = *SLOTS.as_slice().get(chance.below(5)).ok_or("a slot")?;
+    let element = root.element_at_row(row).ok_or("an element")?;
+    let mut elements = Vec::new(alloc);
+    let mut printed = String::new(alloc);
+    for _ in 0..chance.below(3) {
+        let part = parts.element_at_row(chance.below(9)).ok_or("a part")?;
+        print(alloc, &part, None, &mut printed)?;
+        elements.push(part)?;
+    }
+    let result = match position(&element, slot) {
+        Some(position) => editor.insert_all(position, elements.as_slice()),
+        None if slot != Slot::Instead => Err(ChangeError::Token),
+        None => match (elements.as_slice().first(), elements.len()) {
+            (None, _) => editor.delete(&element),
+            (Some(new), 1) => editor.replace(&element, new),
+            _ => editor.replace_with_many(&element, elements.as_slice()),
+        },
+    };
+    let expected = model.refusal(row, slot);
+    match (result, expected) {
+        (Ok(()), None) => {
+            model.add(row, slot, printed.as_str())?;
+            Ok(true)
+        }
+        (Err(error), Some(reason)) if error == reason => Ok(false),
+        (result, expected) => {
+            Err(Fail::from(format!(in alloc; "row {row}: {result:?}, not {expected:?}")?))
+        }
+    }
+}
+
+fn session(alloc: Global, seed: u64) -> Result<(usize, usize), Fail> {
+    let mut chance = Chance {
+        numbers: Pcg32::new(seed, 54),
+    };
+    let root = PlainTree::read(alloc, TREE)?.build(alloc)?;
+    let parts = PlainTree::read(alloc, PARTS)?.build(alloc)?;
+    let mut editor = SyntaxEditor::new(alloc, &root)?;
+    let mut model = Model::new(alloc, &root)?;
+    let mut taken = 0;
+    let mut refused = 0;
+    for _ in 0..1 + chance.below(50) {
+        if change(alloc, &mut chance, &mut editor, &mut model, &root, &parts)? {
+            taken += 1;
+        } else {
+            refused += 1;
+        }
+    }
+    let edit = editor.finish()?;
+    let mut expected = String::new(alloc);
+    print(alloc, &NodeOrToken::Node(root), Some(&model), &mut expected)?;
+    let mut found = String::new(alloc);
+    print(
+        alloc,
+        &NodeOrToken::Node(edit.new_root().clone()?),
+        None,
+        &mut found,
+    )?;
+    if expected.as_str() != found.as_str() {
+        return Err(Fail::from(format!(in alloc; "seed {seed}: {found}, not {expected}")?));
+    }
+    Ok((taken, refused))
+}
+
+#[test]
+fn random_sessions_are_as_the_model_says(rt: HostRuntime) -> Result<(), Fail> {
+    let mut taken = 0;
+    let mut refused = 0;
+    for seed in 0..200 {
+        let (more, not) = session(rt.alloc(), seed)?;
+        taken += more;
+        refused += not;
+    }
+    assert!(rt; taken > 1000 && refused > 500);
+    Ok(())
+}
+
+#[test]
+fn a_position_of_another_tree_is_refused(rt: HostRuntime) -> Result<(), Fail> {
+    let alloc = rt.alloc();
+    let root = PlainTree::read(alloc, TREE)?.build(alloc)?;
+    let equal = PlainTree::read(alloc, TREE)?.build(alloc)?;
+    let other = PlainTree::read(alloc, PARTS)?.build(alloc)?;
+    let mut editor = SyntaxEditor::new(alloc, &root)?;
+    let foreign = other.element_at_row(1).ok_or("an element")?;
+    assert_eq!(rt; editor.delete(&foreign), Err(ChangeError::OtherTree));
+    let twin = equal.element_at_row(1).ok_or("an element")?;
+    assert_eq!(rt; editor.delete(&twin), Ok(()));
+    Ok(())
+}

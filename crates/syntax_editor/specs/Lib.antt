@@ -1,0 +1,9 @@
+-- What the clauses of this crate cite of the crates below.
+pub use Rattle.text_edit.specs.Replacements
+pub use Rattle.tree_edit_model.specs.Changes
+pub use Rattle.tree_edit_model.specs.Texts
+pub use Rattle.tree_edit_model.specs.Moved
+pub use Rattle.tree_edits.specs.Session
+pub use Rattle.tree_edits.specs.Refused
+pub mod Spot
+pub mod Editor

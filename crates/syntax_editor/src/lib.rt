@@ -1,0 +1,12 @@
+//! Many changes of a syntax tree, collected and made at once.
+#![tactic(auto)]
+
+mod edit;
+mod editor;
+pub mod laws;
+mod position;
+
+pub use edit::SyntaxEdit;
+pub use editor::SyntaxEditor;
+pub use position::Position;
+pub use tree_edits::ChangeError;

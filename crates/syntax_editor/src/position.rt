@@ -1,0 +1,138 @@
+//! Where elements are put.
+ghost use Rattle.std.specs.Prelude.{◌≡◌, ◌<◌};
+ghost use Rattle.tree_model.specs.Tree.{size};
+ghost use Rattle.lossless_tree.specs.Element.{cursor_of};
+ghost use Rattle.syntax_editor.specs.Spot.{spot_of};
+ghost use Rattle.syntax_editor.specs.Editor.{before, after, instead_of, first_child_of, last_child_of};
+
+use lossless_tree::{NodeOrToken, SyntaxElement, SyntaxNode, SyntaxToken};
+use shared_pointer::Shared;
+use std::marker::Model;
+use tree_edits::Slot;
+use tree_rows::Table;
+
+/// The place of a node or token in the tree that is changed. A clause sees the tree and the row.
+#[derive(Drop)]
+pub(crate) struct Place {
+    table: Shared<Table>,
+    row: usize,
+}
+
+impl Model for Place {
+    ghost use Rattle.syntax_editor.specs.Spot.{Spot, spot_code};
+    ghost use Rattle.tree_model.specs.Rows.{IsRow};
+
+    ghost Value = { Spot };
+
+    ghost coded = { spot_code };
+
+    ghost view = { λ p. record { tree = p.table.value; row = p.row } };
+
+    ghost invariant = { λ p. IsRow p.table.value p.row };
+}
+
+impl Place {
+    // Where a node is.
+    fn of_node(node: &SyntaxNode) -> Place
+        ensures { result ≡ spot_of node.now }
+    {
+        Place {
+            table: node.table().share(),
+            row: node.row(),
+        }
+    }
+
+    // Where a token is.
+    fn of_token(token: &SyntaxToken) -> Place
+        ensures { result ≡ spot_of token.now }
+    {
+        Place {
+            table: token.table().share(),
+            row: token.row(),
+        }
+    }
+
+    // Where an element is.
+    pub fn of(element: &SyntaxElement) -> Place
+        ensures { result ≡ spot_of (cursor_of element.now) }
+    {
+        match element {
+            NodeOrToken::Node(node) => Place::of_node(node),
+            NodeOrToken::Token(token) => Place::of_token(token),
+        }
+    }
+
+    // The table of the whole tree.
+    pub fn table(&self) -> &Shared<Table>
+        ensures { result.now.value ≡ self.now.tree }
+    {
+        &self.table
+    }
+
+    // The row.
+    pub fn row(&self) -> usize
+        ensures value { result ≡ self.now.row }
+        ensures is_row { result < size self.now.tree }
+    {
+        self.row
+    }
+}
+
+/// A position in the tree that is changed, next to or inside an element of it.
+#[derive(Drop)]
+pub struct Position {
+    pub(crate) place: Place,
+    pub(crate) slot: Slot,
+}
+
+impl Position {
+    /// Right before an element.
+    pub fn before(element: &SyntaxElement) -> Position
+        ensures { result ≡ before element.now }
+    {
+        Position {
+            place: Place::of(element),
+            slot: Slot::Before,
+        }
+    }
+
+    /// Right after an element.
+    pub fn after(element: &SyntaxElement) -> Position
+        ensures { result ≡ after element.now }
+    {
+        Position {
+            place: Place::of(element),
+            slot: Slot::After,
+        }
+    }
+
+    // In the place of an element.
+    pub(crate) fn instead_of(element: &SyntaxElement) -> Position
+        ensures { result ≡ instead_of element.now }
+    {
+        Position {
+            place: Place::of(element),
+            slot: Slot::Instead,
+        }
+    }
+
+    /// Inside a node, before its first child; the node may be empty.
+    pub fn first_child_of(node: &SyntaxNode) -> Position
+        ensures { result ≡ first_child_of node.now }
+    {
+        Position {
+            place: Place::of_node(node),
+            slot: Slot::First,
+        }
+    }
+
+    /// Inside a node, after its last child; the node may be empty.
+    pub fn last_child_of(node: &SyntaxNode) -> Position
+        ensures { result ≡ last_child_of node.now }
+    {
+        Position {
+            place: Place::of_node(node),
+            slot: Slot::Last,
+        }
+    }
+}

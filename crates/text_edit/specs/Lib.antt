@@ -1,0 +1,3 @@
+pub mod Replacements
+pub mod Inverse
+pub mod Merge

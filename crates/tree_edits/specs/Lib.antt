@@ -1,0 +1,6 @@
+pub mod Walked
+pub mod Rowed
+pub mod Added
+pub mod Stored
+pub mod Session
+pub mod Refused

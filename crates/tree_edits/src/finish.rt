@@ -1,0 +1,89 @@
+//! The new tree.
+ghost use Rattle.std.specs.Prelude.{◌≡◌, ◌≤◌, ◌^◌, length, IfOk, IfErr, OnOk, IsErrOf, ◌++◌, ◌<◌, ◌+◌, ◌-◌, if◌then◌else◌, true};
+ghost use Rattle.tree_model.specs.Tree.{Place, text, size, IsNode};
+ghost use Rattle.tree_model.specs.Cursor.{cursor_at};
+ghost use Rattle.tree_model.specs.Events.{events_of};
+ghost use Rattle.tree_edit_model.specs.Changes.{Change, changed, changed_whole};
+ghost use Rattle.tree_edits.specs.Walked.{AreChangesOf, Stepped};
+ghost use Rattle.tree_edits.specs.declared.error.ChangeError.TheVariants.{TooLong, Memory};
+
+use crate::change::RowChanges;
+use crate::error::ChangeError;
+use crate::steps::Steps;
+use std::alloc::{AllocError, Global};
+use tree_rows::Table;
+
+// Appends what one step of a walk adds, where `skip` levels are open in a place that is replaced. Returns how many are open after.
+fn push_walked(
+    out: &mut Steps,
+    table: &Table,
+    changes: &RowChanges,
+    row: usize,
+    enters: bool,
+    skip: usize,
+) -> Result<usize, AllocError>
+    ghost at: { Place → Change }
+    requires are_changes { AreChangesOf at table.now changes.now.marks.items changes.now.changes.items }
+    requires is_row { row < size table.now }
+    requires fits { enters ≡ true → skip + 1 < 2 ^ 64 }
+    ensures made { IfOk result (Stepped at out.old out.new enters (cursor_at table.now row) skip) }
+    ensures level { IfOk result (λ after. after ≤ (if enters then skip + 1 else (skip - 1))) }
+{
+    if enters {
+        if skip > 0 {
+            return Ok(skip + 1);
+        }
+        let replaced = changes.push_entered(out, table, row)?;
+        return Ok(usize::from(replaced));
+    }
+    if skip == 0 {
+        changes.push_left(out, table, row)?;
+        return Ok(0);
+    }
+    if skip > 1 {
+        return Ok(skip - 1);
+    }
+    changes.push_after(out, row)?;
+    Ok(0)
+}
+
+// Appends the steps of the tree with its changes made.
+fn push_changed(out: &mut Steps, table: &Table, changes: &RowChanges) -> Result<(), AllocError>
+    ghost at: { Place → Change }
+    requires are_changes { AreChangesOf at table.now changes.now.marks.items changes.now.changes.items }
+    requires is_node { IsNode table.now }
+    ensures { OnOk result (out.new ≡ out.old ++ events_of (changed_whole at table.now)) }
+{
+    // For the proof: the number of rows fits.
+    let _count = table.len();
+    let mut next: usize = 0;
+    let mut innermost = None;
+    let mut skip: usize = 0;
+    while let Some(step) = table.walk_step(0, next, innermost) {
+        next = step.next;
+        innermost = step.innermost;
+        skip = push_walked(out, table, changes, step.row, step.enters, skip)?;
+    }
+    Ok(())
+}
+
+// The table of the tree with its changes made, in time linear in the old tree and the elements.
+pub(crate) fn changed_table(
+    alloc: Global,
+    table: &Table,
+    changes: &RowChanges,
+) -> Result<Table, ChangeError>
+    ghost at: { Place → Change }
+    requires are_changes { AreChangesOf at table.now changes.now.marks.items changes.now.changes.items }
+    requires is_node { IsNode table.now }
+    ensures ok { IfOk result (λ t. t ≡ changed at table.now) }
+    ensures too_long { IsErrOf result TooLong → 2 ^ 32 ≤ length (text (changed at table.now)) }
+    ensures short { OnOk result (length (text (changed at table.now)) < 2 ^ 32) }
+    ensures only { IfErr result (λ e. (e ≡ TooLong → ⊥) → e ≡ Memory) }
+{
+    let mut out = Steps::new(alloc);
+    match push_changed(&mut out, table, changes) {
+        Ok(()) => out.finish(alloc),
+        Err(_) => Err(ChangeError::Memory),
+    }
+}

@@ -1,0 +1,14 @@
+//! Many changes of a tree by its rows, made at once.
+#![tactic(auto)]
+
+mod change;
+mod changes;
+mod element;
+mod error;
+mod finish;
+mod steps;
+
+pub use change::Slot;
+pub use changes::Changes;
+pub use element::Element;
+pub use error::ChangeError;
