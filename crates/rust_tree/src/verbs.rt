@@ -375,7 +375,7 @@ fn command_of<'a>(alloc: Global, verb: &Verb) -> Result<Command<'a>, AllocError>
 pub fn program<'a>(alloc: Global) -> Result<Command<'a>, AllocError> {
     let mut program = Command::new(alloc, "rust_tree")
         .about("Parses Rust files without losing a byte")
-        .version("0.1.0 (proved with rattle-kit-13b and rattle-kit-13f)")
+        .version("0.1.0")
         .subcommand_required(true);
     for verb in &VERBS {
         program = program.subcommand(command_of(alloc, verb)?)?;
