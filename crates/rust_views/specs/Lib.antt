@@ -1,7 +1,7 @@
 pub mod AsmOperandCases
 pub mod AsmPieceCases
-pub mod Words
 pub mod FieldListCases
 pub mod Sets
+pub mod Sides
 pub mod UseBoundGenericArgCases
 pub mod VariantDefCases
