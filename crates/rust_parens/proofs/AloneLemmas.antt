@@ -1,5 +1,5 @@
 -- Pairs that stay by an expression around them.
-use Rattle.std.proofs.Common.{◌≡◌, ◌↔◌, ℕ, ◌≤◌, Bool, true, false, not, List, [], ◌∷◌, ◌++◌, length, IsTrue, refl, ap, subst}
+use Rattle.std.proofs.Common.{◌≡◌, ◌↔◌, ℕ, ◌≤◌, Bool, true, false, not, List, [], ◌∷◌, ◌++◌, length, IsTrue, refl, sym, ap, subst, ◌∙◌, get_or, inl, inr, arith}
 use Rattle.std.specs.Prelude.{◌^◌}
 use Rattle.tree_model.specs.Tree.{text}
 use Rattle.tree_model.specs.Cursor.{Cursor, ancestors_of}
@@ -9,7 +9,7 @@ use Rattle.ras_front_end.specs.declared.edition.Edition.{Edition}
 use Rattle.ras_front_end.specs.Front.{Front}
 use Rattle.ras_front_end.specs.Parsed.{Parsed, IsParseOf}
 use Rattle.rust_parens.specs.Texts.{marks_of, text_without}
-use Rattle.rust_parens.specs.Alone.{IsAlike, IsReadAlone, IsTold, StaysAlone}
+use Rattle.rust_parens.specs.Alone.{IsAlike, IsReadAlone, IsTold, IsToldAround, StaysAlone}
 use Rattle.rust_parens.specs.Needless.{Refused}
 
 append_nil : {A : Type 0} (l : List A) → l ++ [] ≡ l
@@ -46,19 +46,35 @@ told front edition around kept marks a false e ra rb h = record {
   fails = rb;
 }
 
-pub stays : (front : Front) (edition : Edition) (len : ℕ) (before pairs : List Cursor) (pair around : Cursor) (below above : List Cursor)
-    → pairs ≡ pair ∷ [] → ancestors_of pair ≡ below ++ around ∷ above
-    → IsTold front edition around (marks_of len (before ++ [])) (marks_of len (before ++ pairs))
-    → StaysAlone front edition len before pairs
-stays front edition len before pairs pair around below above one is told = record {
-  pair = pair;
+-- the ancestor that a walk is at tells them apart
+pub told_at : (front : Front) (edition : Edition) (pair around : Cursor) (below left above : List Cursor) (kept marks : List Bool)
+    → below ++ left ≡ ancestors_of pair → left ≡ around ∷ above → IsTold front edition around kept marks
+    → IsToldAround front edition pair kept marks
+told_at front edition pair around below left above kept marks e is told = record {
   around = around;
   below = below;
   above = above;
-  is_pair = one;
-  is_around = is;
-  is_told = subst (λ l. IsTold front edition around (marks_of len l) (marks_of len (before ++ pairs))) (append_nil before) told;
+  is_around = sym e ∙ ap (λ l. below ++ l) is;
+  is_told = told;
 }
+
+pub stays : (front : Front) (edition : Edition) (len : ℕ) (before pairs : List Cursor) (pair : Cursor) (kept marks : List Bool)
+    → length pairs ≡ 1 → pair ≡ get_or pairs 0 pair
+    → kept ≡ marks_of len (before ++ []) → marks ≡ marks_of len (before ++ pairs)
+    → IsToldAround front edition pair kept marks → StaysAlone front edition len before pairs
+stays front edition len before pairs pair kept marks one is k m told = record {
+  pair = pair;
+  is_pair = single pairs pair one is;
+  is_told =
+      subst (λ l. IsToldAround front edition pair (marks_of len l) (marks_of len (before ++ pairs))) (append_nil before)
+      (subst (λ l. IsToldAround front edition pair l (marks_of len (before ++ pairs))) k
+      (subst (λ l. IsToldAround front edition pair kept l) m told));
+}
+  where
+    single : (l : List Cursor) (x : Cursor) → length l ≡ 1 → x ≡ get_or l 0 x → l ≡ x ∷ []
+    single [] x e f = absurd (let bad : 0 ≡ 1 = e in omega (arith, bad))
+    single (y ∷ []) x e f = ap (λ z. z ∷ []) (sym f)
+    single (y ∷ (z ∷ l)) x e f = absurd (omega (arith, e))
 
 pub refused : (front : Front) (entry : Entry) (edition : Edition) (old : Parsed) (before pairs : List Cursor) (len : ℕ)
     → len ≡ length (text old.tree) → StaysAlone front edition len before pairs → Refused front entry edition old (before ++ pairs)

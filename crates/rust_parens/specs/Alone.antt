@@ -39,12 +39,16 @@ pub record IsTold (front : Front) (edition : Edition) (around : Cursor) (kept ma
   pub reads : ReadsAlone front edition around kept
   pub fails : FailsAlone front edition around marks
 
--- one of a pair's ancestors tells so that the pair stays, beside those before it that go; `pairs` has the pair alone
-pub record StaysAlone (front : Front) (edition : Edition) (len : ℕ) (before pairs : List Cursor) : Type 0 where
-  pub pair : Cursor
+-- one of a pair's ancestors, or itself, tells them apart
+pub record IsToldAround (front : Front) (edition : Edition) (pair : Cursor) (kept marks : List Bool) : Type 0 where
   pub around : Cursor
   pub below : List Cursor
   pub above : List Cursor
-  pub is_pair : pairs ≡ pair ∷ []
   pub is_around : ancestors_of pair ≡ below ++ around ∷ above
-  pub is_told : IsTold front edition around (marks_of len before) (marks_of len (before ++ pairs))
+  pub is_told : IsTold front edition around kept marks
+
+-- it tells so that the pair stays, beside those before it that go; `pairs` has the pair alone
+pub record StaysAlone (front : Front) (edition : Edition) (len : ℕ) (before pairs : List Cursor) : Type 0 where
+  pub pair : Cursor
+  pub is_pair : pairs ≡ pair ∷ []
+  pub is_told : IsToldAround front edition pair (marks_of len before) (marks_of len (before ++ pairs))

@@ -1,6 +1,6 @@
 //! Pairs that stay because an expression around them, parsed alone, has another tree without them.
 ghost use Rattle.std.specs.Prelude.{◌≡◌, ◌↔◌, ◌++◌, IsTrue, IfOk};
-ghost use Rattle.rust_parens.specs.Alone.{IsAlike, IsReadAlone, IsTold, StaysAlone};
+ghost use Rattle.rust_parens.specs.Alone.{IsAlike, IsReadAlone, IsTold, IsToldAround, StaysAlone};
 
 use crate::text::{marks_of, text_without};
 use lossless_tree::{SyntaxKind, SyntaxNode};
@@ -75,6 +75,34 @@ fn is_within(node: &SyntaxNode) -> bool {
         )
 }
 
+// Whether one of the nearest expressions around a pair tells the marks apart.
+#[tactic(auto, using(crate::proofs::AloneLemmas::told_at))]
+fn is_told_around<F: FrontEnd>(
+    alloc: Global,
+    front: &F,
+    edition: Edition,
+    pair: &SyntaxNode,
+    kept: &[bool],
+    marks: &[bool],
+) -> Result<bool, AllocError>
+    ensures { IfOk result (λ told. IsTrue told → IsToldAround (F.answers front.now) edition pair.now kept.now marks.now) }
+{
+    let mut left = TRIED;
+    for around in pair.ancestors() {
+        if left == 0 || !is_within(&around) {
+            return Ok(false);
+        }
+        left -= 1;
+        if is_tried(&around) {
+            let told = is_told(alloc, front, edition, &around, kept, marks)?;
+            if told {
+                return Ok(true);
+            }
+        }
+    }
+    Ok(false)
+}
+
 /// Whether an expression around a pair, one of the nearest, shows that the pair stays: without the pairs `before`, its text parses
 /// alone to its tree, and without this pair too it does not. `pair` has the pair alone; `len` is the length of the whole text.
 ///
@@ -93,23 +121,7 @@ pub(crate) fn stays_alone<F: FrontEnd>(
     if pair.len() != 1 {
         return Ok(false);
     }
-    let Some(first) = pair.first() else {
-        return Ok(false);
-    };
     let kept = marks_of(alloc, len, before, &[])?;
     let marks = marks_of(alloc, len, before, pair)?;
-    let mut left = TRIED;
-    for around in first.ancestors() {
-        if left == 0 || !is_within(&around) {
-            return Ok(false);
-        }
-        left -= 1;
-        if is_tried(&around) {
-            let told = is_told(alloc, front, edition, &around, &kept, &marks)?;
-            if told {
-                return Ok(true);
-            }
-        }
-    }
-    Ok(false)
+    is_told_around(alloc, front, edition, &pair[0], &kept, &marks)
 }
