@@ -84,3 +84,13 @@ refused front entry edition old before pairs len is so = inr (inr (record {
   are = refl;
   stays = subst (λ n. StaysAlone front edition n before pairs) is so;
 }))
+
+append_list : {A : Type 0} (l : List A) (x : A) (m : List A) → l ++ (x ∷ m) ≡ (l ++ x ∷ []) ++ m
+append_list [] x m = refl
+append_list (y ∷ l) x m = ap (λ k. y ∷ k) (append_list l x m)
+
+-- a walk over the ancestors of a pair, one further
+pub walked : (pair around : Cursor) (left rest : List Cursor) → (below : List Cursor) × (below ++ left ≡ ancestors_of pair)
+    → left ≡ around ∷ rest → (below : List Cursor) × (below ++ rest ≡ ancestors_of pair)
+walked pair around left rest before is =
+    (before.0 ++ around ∷ [], sym (append_list before.0 around rest) ∙ ap (λ l. before.0 ++ l) (sym is) ∙ before.1)
