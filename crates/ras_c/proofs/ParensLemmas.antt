@@ -27,6 +27,7 @@ inside e (Some x) = x
 
 pub lists : (year : ℕ) (text : List ℕ) (p : Parsed) (edition : Edition) (P : List Range → Type 0)
     → IsReading year text p → edition_of year ≡ Some edition → HasNeedless edition p P → Lists year text P
+unfolding inside
 lists year text p edition P r is has = record {
   edition = r.edition;
   edition_is = r.edition_is;
