@@ -163,9 +163,12 @@ class Writer:
             law = "eq-eqb _ _ it.is"
             if number < len(enum.variants) - 1:
                 law = f"or_left _ _ ({law})"
-            for _ in range(number):
-                law = f"or_right _ _ ({law})"
-            out += [f"{own}_castable ({variant} it) = {law}"]
+            # Where three sides or more are passed and none is left, the prover wants to be told which.
+            is_told = number > 2 and number == len(enum.variants) - 1
+            at = f"(kind_raw (kind_at ({own}_node ({variant} it))))"
+            for _, passed in reversed(enum.variants[:number]):
+                law = f"or_right (nat_eq {at} {self.kind(passed)}) _\n    ({law})" if is_told else f"or_right _ _ ({law})"
+            out += [f"{own}_castable ({variant} it) ={chr(10) + '    ' if is_told else ' '}{law}"]
         return out
 
     def holders(self, trait):

@@ -27,4 +27,8 @@ pub asm_operand_castable : (it : AsmOperand) → is_asm_operand (kind_at (asm_op
 asm_operand_castable (AsmRegOperand it) = or_left _ _ (eq-eqb _ _ it.is)
 asm_operand_castable (AsmLabel it) = or_right _ _ (or_left _ _ (eq-eqb _ _ it.is))
 asm_operand_castable (AsmSym it) = or_right _ _ (or_right _ _ (or_left _ _ (eq-eqb _ _ it.is)))
-asm_operand_castable (AsmConst it) = or_right _ _ (or_right _ _ (or_right _ _ (eq-eqb _ _ it.is)))
+asm_operand_castable (AsmConst it) =
+    or_right (nat_eq (kind_raw (kind_at (asm_operand_node (AsmConst it)))) ASM_REG_OPERAND) _
+    (or_right (nat_eq (kind_raw (kind_at (asm_operand_node (AsmConst it)))) ASM_LABEL) _
+    (or_right (nat_eq (kind_raw (kind_at (asm_operand_node (AsmConst it)))) ASM_SYM) _
+    (eq-eqb _ _ it.is)))
