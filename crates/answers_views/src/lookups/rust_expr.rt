@@ -61,10 +61,10 @@ fn of_record_expr_field_list(sheet: &mut Sheet, node: &SyntaxNode) -> Result<(),
     let Some(it) = cast_ref::<RecordExprFieldList>(node) else {
         return Ok(());
     };
+    sheet.nodes("RecordExprFieldList.attrs", it.attrs())?;
     sheet.nodes("RecordExprFieldList.fields", it.fields())?;
     sheet.node("RecordExprFieldList.spread", it.spread())?;
     sheet.token("RecordExprFieldList.dotdot_token", it.dotdot_token())?;
-    sheet.token("RecordExprFieldList.l_curly_token", it.l_curly_token())?;
     rest_of_record_expr_field_list(sheet, &it)
 }
 
@@ -72,8 +72,8 @@ fn rest_of_record_expr_field_list(
     sheet: &mut Sheet,
     it: &RecordExprFieldList,
 ) -> Result<(), AllocError> {
-    sheet.token("RecordExprFieldList.r_curly_token", it.r_curly_token())?;
-    sheet.nodes("RecordExprFieldList.attrs", it.attrs())
+    sheet.token("RecordExprFieldList.l_curly_token", it.l_curly_token())?;
+    sheet.token("RecordExprFieldList.r_curly_token", it.r_curly_token())
 }
 
 fn of_ref_expr(sheet: &mut Sheet, node: &SyntaxNode) -> Result<(), AllocError> {

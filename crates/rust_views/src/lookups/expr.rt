@@ -78,6 +78,13 @@ impl RecordExprExt for ast::RecordExpr {}
 
 /// The lookups of a `RecordExprFieldList`.
 pub trait RecordExprFieldListExt: AstNode {
+    /// The children that are attributes, in order.
+    final fn attrs(&self) -> AstChildren<ast::Attr>
+        ensures { result ≡ typed_children ⟦<ast::Attr as AstNode>⟧.casts (Self.node self.now) }
+    {
+        support::children(self.syntax())
+    }
+
     /// The children that are record expression fields, in order.
     /// Example: `f: a` of `{ f: a, ..b }`.
     final fn fields(&self) -> AstChildren<ast::RecordExprField>
@@ -116,14 +123,6 @@ pub trait RecordExprFieldListExt: AstNode {
         ensures { result ≡ token_child SyntaxKind.R_CURLY (Self.node self.now) }
     {
         support::token(self.syntax(), T!['}'])
-    }
-
-    /// The children that are attributes, in order.
-    /// Example: `#![a]` of `{ #![a] f: b }`.
-    final fn attrs(&self) -> AstChildren<ast::Attr>
-        ensures { result ≡ typed_children ⟦<ast::Attr as AstNode>⟧.casts (Self.node self.now) }
-    {
-        support::children(self.syntax())
     }
 }
 

@@ -137,7 +137,7 @@ calls! {
 
 calls! {
     RecordExprFieldList:
-    all attrs: Attr = "Example: `#![a]` of `{ #![a] f: b }`.",
+    all attrs: Attr = "",
     leaf dotdot_token: DOT2 = "Example: `..` of `{ f: a, ..b }`.",
     all fields: RecordExprField = "Example: `f: a` of `{ f: a, ..b }`.",
     leaf l_curly_token: L_CURLY = "Example: `{` of `{ f: a, ..b }`.",
