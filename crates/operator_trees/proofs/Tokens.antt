@@ -162,7 +162,7 @@ pub and_both : (a b : Bool) → (a && b) ≡ true → (a ≡ true) × (b ≡ tru
 and_both true b h = (refl, h)
 and_both false b h = absurd (no h)
 
-sound_right : (m : Meaning) → sound m ≡ true → is_right m ≡ true
+pub sound_right : (m : Meaning) → sound m ≡ true → is_right m ≡ true
 sound_right IsNothing h = h
 sound_right _ h = refl
 

@@ -6,7 +6,6 @@ use Rattle.std.specs.Str.Lines.{strip_carriage_return}
 use Rattle.text_size.specs.TextRange.{Bounds}
 use Rattle.line_index.specs.Lines.{line_feeds, IsLine}
 use Rattle.rust_report.specs.declared.texts.Excerpt.{Excerpt}
-use Rattle.rust_report.specs.declared.texts.TheConstants.{WIDEST, BEFORE, AFTER}
 
 abbrev pub is_feed : ℕ → Bool
 is_feed b = b == 10
@@ -33,10 +32,14 @@ pub record IsFloor (s : List ℕ) (o r : ℕ) : Type 0 where
   pub boundary : IsCharBoundary s r
   pub nearest : (i : ℕ) → r < i → i ≤ o → IsCharBoundary s i → ⊥
 
--- the part of a line around a place of it: all of a line that is not too wide, else from some bytes before the place to some bytes after it
+-- the most bytes of a line that is shown as a whole
+abbrev pub widest : ℕ
+widest = 240
+
+-- the part of a line around a place of it: all of a line that is not too wide, else from 80 bytes before the place to 160 bytes after it
 pub record IsWindow (line : List ℕ) (at first last : ℕ) : Type 0 where
-  pub short : length line ≤ WIDEST → (first ≡ 0) × (last ≡ length line)
-  pub long : WIDEST < length line → IsFloor line (at - BEFORE) first × IsFloor line (at + AFTER) last
+  pub short : length line ≤ widest → (first ≡ 0) × (last ≡ length line)
+  pub long : widest < length line → IsFloor line (at - 80) first × IsFloor line (at + 160) last
 
 -- the part of a line around the range from start to end, and the range in it
 pub record IsExcerpt (line : List ℕ) (start end : ℕ) (e : Excerpt) : Type 0 where

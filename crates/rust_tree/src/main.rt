@@ -26,7 +26,7 @@ mod tree;
 mod tree_json;
 mod verbs;
 
-use clap::ArgMatches;
+use clap::{ArgMatches, Error};
 use failure::Failure;
 use inputs::text_of;
 use job::Job;
@@ -165,14 +165,25 @@ fn run_diff(rt: &HostRuntime, matches: &ArgMatches) -> io::Result<u8> {
     }
 }
 
+// Prints the help or the error that a command line ends in. An error repeats words of the command line as they are, and a file may be
+// named `--\u{1b}[2J`. So that of the same words is printed, in which control characters are symbols. Returns the exit status.
+fn refuse(rt: &HostRuntime, error: &Error, words: &[String]) -> io::Result<u8> {
+    let mut shown = Vec::with_capacity(rt.alloc(), words.len())?;
+    for word in words {
+        shown.push(format!(in rt.alloc(); "{}", name(word.as_str()))?)?;
+    }
+    match verbs::program(rt.alloc())?.try_get_matches_from(shown.as_slice()) {
+        Err(error) => error.print(rt)?,
+        Ok(_) => eprintln!(rt; "rust_tree: invalid arguments")?,
+    }
+    Ok(u8::try_from(error.exit_code()).unwrap_or(USAGE))
+}
+
 // Runs the command of the command line. Returns the exit status.
 fn run(rt: &HostRuntime, words: &[String]) -> io::Result<u8> {
     let matches = match verbs::program(rt.alloc())?.try_get_matches_from(words) {
         Ok(matches) => matches,
-        Err(error) => {
-            error.print(rt)?;
-            return Ok(u8::try_from(error.exit_code()).unwrap_or(USAGE));
-        }
+        Err(error) => return refuse(rt, &error, words),
     };
     match matches.subcommand() {
         Some(("diff", matches)) => run_diff(rt, matches),
