@@ -24,6 +24,7 @@ pub use operator_pairs::laws::{
     one_term_of_the_tokens, operands_are_asked,
 };
 pub use ras_algo::laws::common_ancestor_is_deepest;
+pub use ras_node_ext::laws::attributes_are_those_of_the_source;
 pub use ras_prec::laws::{
     operator_trees_are_asked_by_operators, operator_trees_end_in_casts_by_two_tokens,
     operator_trees_have_their_precedence, precedences_ask_enough,

@@ -2,3 +2,4 @@ mod PathChains
 mod Downwards
 mod MetaChains
 mod Opened
+mod PassedNodes

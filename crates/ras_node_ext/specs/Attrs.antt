@@ -1,14 +1,16 @@
 -- The attributes and documentation comments of a node, and the node that holds its inner ones. (Rust Reference,
 -- "Attributes": an inner attribute, `#![..]`, applies to the item that it is in, an outer one to the item that follows it.)
-use Rattle.std.specs.Prelude.{Bool, true, false, not, ◌||◌, List, [], ◌++◌, Option, Some, None, is_some, if◌then◌else◌}
+use Rattle.std.specs.Prelude.{◌≡◌, map, option_map, Bool, true, false, not, ◌||◌, List, [], ◌++◌, Option, Some, None, is_some, if◌then◌else◌}
 use Rattle.std.specs.Option.{option_and_then, option_map_or}
 use Rattle.std.specs.List.{filter, find}
+use Rattle.std.specs.Iterator.{YieldsThen}
 use Rattle.syntax_kind.specs.declared.syntax_kind.SyntaxKind.{SyntaxKind}
 use Rattle.syntax_kind.specs.declared.syntax_kind.SyntaxKind.TheVariants.{Node, Token}
 use Rattle.syntax_kind.specs.declared.syntax_kind.node_kind.NodeKind.TheVariants as kind
 use Rattle.syntax_kind.specs.declared.syntax_kind.token_kind.TokenKind.TheVariants as token
 use Rattle.tree_model.specs.Cursor.{Cursor, children_of, at_node, parent_of}
-use Rattle.ras_node.specs.Nodes.{kind_at, is_of_kind, token_child, typed_children}
+use Rattle.ras_node.specs.Nodes.{kind_at, is_of_kind, has_kind_in, token_child, typed_children}
+use Rattle.ras_node_ext.specs.declared.attrs.AttrsIter.{AttrsIter}
 
 -- an inner one: an attribute with a `!`, a documentation comment with an inner comment token
 abbrev pub is_inner_by : SyntaxKind → Cursor → Bool
@@ -55,3 +57,14 @@ inner_holder_by _ c = None
 
 abbrev pub inner_holder : Cursor → Option Cursor
 inner_holder c = inner_holder_by (kind_at c) c
+
+-- the iterator that attributes are taken from
+abbrev pub attrs_source : {I V : Type 0} → AttrsIter I V → I
+attrs_source s = s.iter
+
+-- the source gave some that cannot be viewed so, and then what the call gives: the same node, or its end
+abbrev pub GivesAttr : {I V A B : Type 0} → (A → Cursor) → (SyntaxKind → Bool) → (B → Cursor) → (I → Option A → I → Type 0)
+    → AttrsIter I V → Option B → AttrsIter I V → Type 0
+GivesAttr {A = A} node casts view steps s r t =
+    (others : List A) × (next : Option A) × YieldsThen steps (attrs_source s) others next (attrs_source t)
+    × (filter (has_kind_in casts) (map node others) ≡ []) × (option_map view r ≡ option_map node next)

@@ -1,8 +1,8 @@
 //! The attributes and documentation comments of a node.
 ghost use Rattle.std.specs.Prelude.{◌≡◌};
-ghost use Rattle.std.specs.Iterator.{YieldsFirstBy, item_count};
+ghost use Rattle.std.specs.Iterator.{YieldsFirstBy, item_count, IsFinite};
 ghost use Rattle.std.specs.List.{filter};
-ghost use Rattle.ras_node_ext.specs.Attrs.{is_inner, stands, attrs_of, attrs_with_inner};
+ghost use Rattle.ras_node_ext.specs.Attrs.{is_inner, stands, attrs_of, attrs_with_inner, attrs_source, GivesAttr};
 ghost use Rattle.ras_node.specs.Nodes.{has_kind_in};
 
 use lossless_tree::{SyntaxKind, SyntaxNode};
@@ -167,64 +167,50 @@ impl<A: AstNode + Drop> Iterator for AttrsWithDoc<A> {
     }
 }
 
-/// The attributes and documentation comments of an owner that can be viewed as a `T`, in order. A clause sees the nodes
-/// that are left.
+/// The nodes that an iterator of attributes and documentation comments gives, those that can be viewed as a `T`, in order. It ends where
+/// that iterator ends.
 #[derive(Drop)]
-pub struct AttrsIter<A: AstNode, T: AstNode> {
-    inner: AttrsWithDoc<A>,
+pub struct AttrsIter<I, T> {
+    iter: I,
     view: PhantomData<T>,
 }
 
-impl<A: AstNode, T: AstNode> Model for AttrsIter<A, T> {
-    ghost use Rattle.std.specs.Prelude.{List};
-    ghost use Rattle.std.specs.List.{filter};
-    ghost use Rattle.std.specs.Coded.{coded_list};
-    ghost use Rattle.tree_model.specs.Cursor.{Cursor, cursor_code};
-    ghost use Rattle.ras_node.specs.Nodes.{has_kind_in};
-
-    ghost Value = { List Cursor };
-
-    ghost coded = { coded_list cursor_code };
-
-    ghost view = { λ a. filter (has_kind_in T.casts) a.inner };
-}
-
-impl<A: AstNode, T: AstNode> AttrsIter<A, T> {
-    /// The nodes left in `inner` that can be viewed as a `T`.
-    pub fn new(inner: AttrsWithDoc<A>) -> AttrsIter<A, T>
-        ensures { result ≡ filter (has_kind_in T.casts) inner }
+impl<I, T> AttrsIter<I, T> {
+    /// Those among what is left in `iter`.
+    pub fn new(iter: I) -> AttrsIter<I, T>
+        ensures { attrs_source result ≡ iter }
     {
         AttrsIter {
-            inner,
+            iter,
             view: PhantomData,
         }
     }
 }
 
-impl<A: AstNode, T: AstNode> Clone for AttrsIter<A, T> {
-    ghost use Rattle.std.specs.Prelude.{◌≡◌, ⊤};
+impl<I: Clone, T> Clone for AttrsIter<I, T> {
+    ghost is_clone = { λ s copy. I.is_clone (attrs_source s) (attrs_source copy) };
 
-    ghost is_clone = { λ s copy. copy ≡ s };
+    ghost is_infallible = { λ s. I.is_infallible (attrs_source s) };
 
-    ghost is_infallible = { λ _. ⊤ };
-
-    fn clone(&self) -> Result<AttrsIter<A, T>, AllocError> {
+    fn clone(&self) -> Result<AttrsIter<I, T>, AllocError> {
         Ok(AttrsIter {
-            inner: self.inner.clone()?,
+            iter: self.iter.clone()?,
             view: PhantomData,
         })
     }
 }
 
-impl<A: AstNode + Drop, T: AstNode> Iterator for AttrsIter<A, T> {
+impl<A: AstNode + Drop, I: Iterator<Item = A>, T: AstNode> Iterator for AttrsIter<I, T> {
     type Item = T;
 
-    ghost next_gives = { YieldsFirstBy T.node (λ left. left) };
+    ghost can_next = { λ s. I.can_next (attrs_source s) × IsFinite (I.remaining (attrs_source s)) };
 
-    ghost remaining = { item_count (λ left. left) };
+    ghost next_gives = { GivesAttr A.node T.casts T.node I.next_gives };
+
+    ghost remaining = { λ s. I.remaining (attrs_source s) };
 
     fn next(&mut self) -> Option<T> {
-        while let Some(attr) = self.inner.next() {
+        while let Some(attr) = self.iter.next() {
             if let Some(it) = support::recast::<A, T>(Some(attr)) {
                 return Some(it);
             }

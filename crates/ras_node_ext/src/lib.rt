@@ -8,6 +8,7 @@ mod bounds;
 pub mod chain;
 mod holder;
 mod impls;
+pub mod laws;
 mod metas;
 pub mod qualifiers;
 pub mod segments;

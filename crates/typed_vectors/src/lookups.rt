@@ -380,3 +380,32 @@ fn the_last_child_of_a_type(rt: HostRuntime) -> Result<(), Fail> {
         ),
     ])
 }
+
+// The texts of the attributes among some of these, from the last to the first: an iterator that is none of this library's.
+fn attributes_from_the_end(rt: &HostRuntime, owner: &ast::Struct) -> Option<String> {
+    let mut all = Vec::new(rt.alloc());
+    for it in owner.attrs_with_doc() {
+        all.push(it).ok()?;
+    }
+    let mut text = String::new(rt.alloc());
+    for it in ast::AttrsIter::new(all.into_iter().rev()) {
+        add_barred(&mut text, it.syntax().as_str())?;
+    }
+    Some(text)
+}
+
+#[test]
+fn attributes_of_any_iterator(rt: HostRuntime) -> Result<(), Fail> {
+    let owner: ast::Struct = view(
+        &rt,
+        "STRUCT( DOC_COMMENT( OUTER_DOC_COMMENT:///a ) ATTR( POUND:#1 ) DOC_COMMENT( OUTER_DOC_COMMENT:///b ) ATTR( POUND:#2 ) STRUCT_KW:struct )",
+    )?;
+    let without: ast::Struct = view(
+        &rt,
+        "STRUCT( DOC_COMMENT( OUTER_DOC_COMMENT:///a ) STRUCT_KW:struct )",
+    )?;
+    all_hold(&[
+        ("in its order", is(attributes_from_the_end(&rt, &owner), "#2|#1|")),
+        ("none", is(attributes_from_the_end(&rt, &without), "")),
+    ])
+}

@@ -2,10 +2,9 @@
 //! no memory.
 ghost use Rattle.std.specs.Prelude.{◌≡◌};
 ghost use Rattle.ras_node.specs.Lookups.{IsFirstChild, IsViewOf, loop_body};
-ghost use Rattle.std.specs.List.{filter};
-ghost use Rattle.ras_node.specs.Nodes.{has_kind_in, typed_children};
+ghost use Rattle.ras_node.specs.Nodes.{typed_children};
 ghost use Rattle.ra_ap_syntax.specs.Words.{AreChildren};
-ghost use Rattle.ras_node_ext.specs.Attrs.{inner_holder, attrs_with_inner};
+ghost use Rattle.ras_node_ext.specs.Attrs.{inner_holder, attrs_source, attrs_with_inner};
 
 use crate::ast::{self, AstChildren, AstNode, AttrsIter, AttrsWithDoc, support};
 use lossless_tree::SyntaxNode;
@@ -73,8 +72,8 @@ pub fn attrs_with_doc_including_inner<H: HasAttrs>(owner: &H) -> AttrsWithDoc
 }
 
 /// The outer attributes of an owner, and then the inner ones, in order, without documentation comments.
-pub fn attrs_including_inner<H: HasAttrs>(owner: &H) -> AttrsIter
-    ensures { result ≡ filter (has_kind_in ⟦<ast::Attr as AstNode>⟧.casts) (attrs_with_inner ⟦<ast::AnyAttr as AstNode>⟧.casts (H.node owner.now) (inner_holder (H.node owner.now))) }
+pub fn attrs_including_inner<H: HasAttrs>(owner: &H) -> AttrsIter<AttrsWithDoc>
+    ensures { attrs_source result ≡ attrs_with_inner ⟦<ast::AnyAttr as AstNode>⟧.casts (H.node owner.now) (inner_holder (H.node owner.now)) }
 {
     AttrsIter::new(attrs_with_doc_including_inner(owner))
 }

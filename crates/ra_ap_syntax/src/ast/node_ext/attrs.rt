@@ -20,8 +20,12 @@ use ras_token_ext::{AttrKind, CommentShape};
 /// The attributes and documentation comments of a node that can have some, inner ones too, in order.
 pub type AttrsWithDoc = ras_node_ext::AttrsWithDoc<AnyAttr>;
 
-/// The attributes among these, in order.
-pub type AttrsIter = ras_node_ext::AttrsIter<AnyAttr, ast::Attr>;
+/// The attributes among those that an iterator of attributes and documentation comments gives, in order: `AttrsIter::new(iter)` takes any
+/// iterator of [`AnyAttr`], and ends where that ends.
+///
+/// Which attributes come is a law where a list says what is left in `iter`, as for [`AttrsWithDoc`]:
+/// [`attributes_are_those_of_the_source`](crate::laws::attributes_are_those_of_the_source).
+pub type AttrsIter<I> = ras_node_ext::AttrsIter<I, ast::Attr>;
 
 /// The token trees and tokens in a token tree, in order, without its first child, whatever it is, closing delimiters, white
 /// space and comments.
