@@ -66,7 +66,7 @@ taken p c cs yes-c = ap (λ b. if b then c ∷ filter p cs else filter p cs) yes
 pub filtered : {S W A B : Type 0} (node : A → Cursor) (casts : SyntaxKind → Bool) (view : B → Cursor) (rest : S → List Cursor) (source : W → S) (s t : W) (r : Option B)
     → ((b : B) → has_kind_in casts (view b) ≡ true)
     → ((others : List A) × (next : Option A) × YieldsThen (YieldsFirstBy node rest) (source s) others next (source t)
-        × (filter (has_kind_in casts) (map node others) ≡ []) × (option_map view r ≡ option_map node next))
+    × (filter (has_kind_in casts) (map node others) ≡ []) × (option_map view r ≡ option_map node next))
     → YieldsFirstBy view (λ it. filter (has_kind_in casts) (rest (source it))) s r t
 filtered node casts view rest source s t None castable (others, None, (u, y, step), none, same) =
     let front = in_front node rest others (source s) u y in
@@ -79,5 +79,5 @@ filtered node casts view rest source s t (Some b) castable (others, Some x, (u, 
     let one : view b ≡ node x = cc in
     let yes-x : has_kind_in casts (node x) ≡ true = sym (ap (has_kind_in casts) one) ∙ castable b in
     let left = ap (filter (has_kind_in casts)) front ∙ filter_behind (has_kind_in casts) (map node others) (rest u) none ∙ ap (filter (has_kind_in casts)) step
-        ∙ taken (has_kind_in casts) (node x) (rest (source t)) yes-x in
+    ∙ taken (has_kind_in casts) (node x) (rest (source t)) yes-x in
     left ∙ ap (λ k. k ∷ filter (has_kind_in casts) (rest (source t))) (sym one)

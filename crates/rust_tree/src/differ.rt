@@ -85,12 +85,12 @@ fn found(
     alloc: Global,
     old: Source<'_>,
     new: Source<'_>,
-    reading: Reading,
+    readings: (Reading, Reading),
     trivia: Trivia,
     count: usize,
 ) -> Result<Vec<Difference>, Failure> {
-    let old = parsed(alloc, old.text, reading)?;
-    let new = parsed(alloc, new.text, reading)?;
+    let old = parsed(alloc, old.text, readings.0)?;
+    let new = parsed(alloc, new.text, readings.1)?;
     Ok(differences(alloc, old.root(), &[], new.root(), trivia, count)?)
 }
 
@@ -100,10 +100,10 @@ pub fn show<W: Write>(
     out: &mut W,
     old: Source<'_>,
     new: Source<'_>,
-    reading: Reading,
+    readings: (Reading, Reading),
     trivia: Trivia,
     limit: usize,
 ) -> Result<Told, Failure> {
-    let found = found(alloc, old, new, reading, trivia, limit.saturating_add(1))?;
+    let found = found(alloc, old, new, readings, trivia, limit.saturating_add(1))?;
     write_all(alloc, out, old, new, found.as_slice(), limit)
 }

@@ -1,6 +1,7 @@
 //! The files that a command line names.
 
 use crate::shown::name;
+use std::alloc::Global;
 use std::collections::BTreeSet;
 use std::io::ErrorKind;
 use std::path::Path;
@@ -20,6 +21,10 @@ pub fn text_of(rt: &HostRuntime, name: &str) -> io::Result<String> {
 pub struct Search {
     /// Whether links are followed.
     pub follow: bool,
+    /// Whether files and folders are read whose names begin with a dot.
+    pub hidden: bool,
+    /// Whether cargo's folders `target` are read.
+    pub target: bool,
 }
 
 /// What a search of a folder found.
@@ -65,6 +70,31 @@ fn target_of(rt: &HostRuntime, path: &str) -> Kind {
     }
 }
 
+// Whether a folder is one that cargo builds in: it is named `target` and has the tag of a folder of caches.
+fn is_target(rt: &HostRuntime, path: Path<'_>) -> io::Result<bool> {
+    if !path.file_name().is_some_and(|name| name == "target") {
+        return Ok(false);
+    }
+    let tag = format!(in rt.alloc(); "{}/CACHEDIR.TAG", path.as_str())?;
+    Ok(fs::metadata(rt, tag.as_str()).is_ok())
+}
+
+// Whether a search passes over an entry of a folder.
+fn is_left_out(
+    rt: &HostRuntime,
+    path: Path<'_>,
+    is_folder: bool,
+    search: Search,
+) -> io::Result<bool> {
+    if !search.hidden && path.file_name().is_some_and(|name| name.starts_with('.')) {
+        return Ok(true);
+    }
+    if search.target || !is_folder {
+        return Ok(false);
+    }
+    is_target(rt, path)
+}
+
 impl Walk {
     // Adds what a folder has. A name that is not UTF-8 is reported and counted as lost.
     fn list(&mut self, rt: &HostRuntime, folder: &str, search: Search) -> io::Result<()> {
@@ -84,6 +114,9 @@ impl Walk {
                 }
             };
             let file_type = entry.file_type()?;
+            if is_left_out(rt, entry.path(), file_type.is_dir(), search)? {
+                continue;
+            }
             let path = String::from_str(rt.alloc(), entry.path().as_str())?;
             let kind = if search.follow && file_type.is_symlink() {
                 target_of(rt, path.as_str())
@@ -118,7 +151,7 @@ impl Walk {
     }
 }
 
-/// The `.rs` files below a folder, sorted by their paths. Links are followed only if the search says so; then each folder is searched once,
+/// The `.rs` files below a folder, sorted by their paths, without what the search leaves out. Links are followed only if the search says so; then each folder is searched once,
 /// however many links lead to it. A folder that cannot be read, and a name that is not UTF-8, are reported on standard error and counted in
 /// `lost`.
 pub fn files_below(
@@ -147,6 +180,33 @@ pub fn files_below(
     let mut files = walk.files;
     files.sort()?;
     Ok(files)
+}
+
+/// The files that a run has read, by their real paths: a file that is named twice is read once.
+#[derive(Drop)]
+pub struct Read {
+    seen: BTreeSet<String>,
+}
+
+impl Read {
+    /// No files yet.
+    pub fn new(alloc: Global) -> Read {
+        Read {
+            seen: BTreeSet::new(alloc),
+        }
+    }
+
+    /// Whether a file was read before. It is noted. Standard input, and a file that is not there, never were.
+    pub fn was_read(&mut self, rt: &HostRuntime, path: &str) -> io::Result<bool> {
+        if path == "-" {
+            return Ok(false);
+        }
+        let Ok(real) = fs::canonicalize(rt, path) else {
+            return Ok(false);
+        };
+        let real = String::from_str(rt.alloc(), real.as_str())?;
+        Ok(!self.seen.insert(real)?)
+    }
 }
 
 /// Whether this is the name of a folder.

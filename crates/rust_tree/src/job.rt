@@ -1,15 +1,17 @@
 //! The commands on files, and their run over all files.
 
 use crate::check::check;
+use crate::editions::{Choice, Manifests};
 use crate::failure::Failure;
 use crate::highlight::Ink;
-use crate::inputs::{files_below, is_folder, text_of};
+use crate::inputs::{Read, files_below, is_folder, text_of};
 use crate::options::Asked;
 use crate::session::{Noun, Session, UNREAD};
 use crate::shown::name;
 use crate::source::Source;
 use crate::tree::Showing;
 use crate::{fix, highlight, outline, parens, query, tokens, tree};
+use ras_front_end::Edition;
 use rust_parens::Needless;
 use rust_report::Step;
 use std::io;
@@ -53,6 +55,37 @@ pub struct Job {
     pub task: Task,
     /// How the files are read, and the reports written.
     pub asked: Asked,
+}
+
+// What a run keeps from file to file.
+#[derive(Drop)]
+struct Progress {
+    session: Session,
+    manifests: Manifests,
+    // If the command line names several files or folders: a file may be among them twice.
+    read: Option<Read>,
+}
+
+impl Progress {
+    fn new(rt: &HostRuntime, edition: Choice, has_several: bool) -> Progress {
+        Progress {
+            session: Session::new(rt),
+            manifests: Manifests::new(rt.alloc(), edition),
+            read: if has_several {
+                Some(Read::new(rt.alloc()))
+            } else {
+                None
+            },
+        }
+    }
+
+    // Whether a file was read before. It is noted.
+    fn was_read(&mut self, rt: &HostRuntime, path: &str) -> io::Result<bool> {
+        match &mut self.read {
+            Some(read) => read.was_read(rt, path),
+            None => Ok(false),
+        }
+    }
 }
 
 // Writes what is done with the pairs of a text. Returns their number.
@@ -118,8 +151,9 @@ impl Job {
         rt: &HostRuntime,
         out: &mut W,
         source: Source<'_>,
+        asked: Asked,
     ) -> Result<u64, Failure> {
-        let (alloc, asked) = (rt.alloc(), self.asked);
+        let alloc = rt.alloc();
         match &self.task {
             Task::Tree { showing } => tree::show(alloc, out, source, asked.reading, showing),
             Task::Check => check(alloc, out, source, asked),
@@ -137,9 +171,12 @@ impl Job {
         rt: &HostRuntime,
         out: &mut W,
         source: Source<'_>,
+        edition: Edition,
         session: &mut Session,
     ) -> io::Result<()> {
-        match self.report(rt, out, source) {
+        let mut asked = self.asked;
+        asked.reading.edition = edition;
+        match self.report(rt, out, source, asked) {
             Ok(found) => {
                 session.read(source.text.len(), found);
                 session.show_progress(rt)
@@ -160,8 +197,11 @@ impl Job {
         out: &mut W,
         path: &str,
         folder: Option<&str>,
-        session: &mut Session,
+        progress: &mut Progress,
     ) -> io::Result<()> {
+        if progress.was_read(rt, path)? {
+            return Ok(());
+        }
         match text_of(rt, path) {
             Ok(text) => {
                 let source = Source {
@@ -169,10 +209,11 @@ impl Job {
                     folder,
                     text: text.as_str(),
                 };
-                self.reported(rt, out, source, session)
+                let edition = progress.manifests.edition_of(rt, path)?;
+                self.reported(rt, out, source, edition, &mut progress.session)
             }
             Err(error) => {
-                session.fail(UNREAD);
+                progress.session.fail(UNREAD);
                 eprintln!(rt; "rust_tree: {}: {error}", name(path))
             }
         }
@@ -184,14 +225,14 @@ impl Job {
         rt: &HostRuntime,
         out: &mut W,
         folder: &str,
-        session: &mut Session,
+        progress: &mut Progress,
     ) -> io::Result<()> {
         let mut lost = 0;
         for file in &files_below(rt, folder, self.asked.search, &mut lost)? {
-            self.file(rt, out, file.as_str(), Some(folder), session)?;
+            self.file(rt, out, file.as_str(), Some(folder), progress)?;
         }
         if lost > 0 {
-            session.fail(UNREAD);
+            progress.session.fail(UNREAD);
         }
         Ok(())
     }
@@ -212,16 +253,16 @@ impl Job {
         names: &[&str],
     ) -> io::Result<Session> {
         let start = Instant::now(rt)?;
-        let mut session = Session::new(rt);
+        let mut progress = Progress::new(rt, self.asked.edition, names.len() > 1);
         for name in names {
             if is_folder(rt, name) {
-                self.folder(rt, out, name, &mut session)?;
+                self.folder(rt, out, name, &mut progress)?;
             } else {
-                self.file(rt, out, name, None, &mut session)?;
+                self.file(rt, out, name, None, &mut progress)?;
             }
         }
         out.flush()?;
-        session.tell(rt, self.noun(), start)?;
-        Ok(session)
+        progress.session.tell(rt, self.noun(), start)?;
+        Ok(progress.session)
     }
 }

@@ -3,6 +3,7 @@
 
 mod check;
 mod differ;
+mod editions;
 mod failure;
 mod fix;
 mod highlight;
@@ -27,10 +28,11 @@ mod tree_json;
 mod verbs;
 
 use clap::{ArgMatches, Error};
+use editions::Manifests;
 use failure::Failure;
 use inputs::text_of;
 use job::Job;
-use options::{Asked, limit, reading};
+use options::{Asked, edition, limit, reading};
 use rust_report::Trivia;
 use session::{FOUND, Session, UNREAD, USAGE};
 use shown::name;
@@ -41,11 +43,17 @@ use std::{env, io};
 use style::Style;
 use task::task_of;
 
+// Whether the environment asks for a terminal without colours: `NO_COLOR` is set to any text but an empty one, or the terminal is `dumb`.
+fn is_plain_terminal(rt: &HostRuntime) -> bool {
+    env::var(rt, "NO_COLOR").is_ok_and(|it| !it.is_empty())
+        || env::var(rt, "TERM").is_ok_and(|it| it.as_str() == "dumb")
+}
+
 fn style_of(rt: &HostRuntime, matches: &ArgMatches) -> Style {
     let has_colours = match matches.get_str("color") {
         Some("always") => true,
         Some("never") => false,
-        _ => rt.stdout().is_terminal(),
+        _ => rt.stdout().is_terminal() && !is_plain_terminal(rt),
     };
     if has_colours {
         Style::Colours
@@ -100,13 +108,17 @@ fn write_differences<W: Write>(
     new: Source<'_>,
     matches: &ArgMatches,
 ) -> Result<u8, Failure> {
+    let mut manifests = Manifests::new(rt.alloc(), edition(matches));
+    let mut readings = (reading(matches), reading(matches));
+    readings.0.edition = manifests.edition_of(rt, old.name)?;
+    readings.1.edition = manifests.edition_of(rt, new.name)?;
     let trivia = if matches.get_flag("no-trivia") {
         Trivia::Aside
     } else {
         Trivia::Kept
     };
     let limit = limit(matches);
-    let told = differ::show(rt.alloc(), out, old, new, reading(matches), trivia, limit)?;
+    let told = differ::show(rt.alloc(), out, old, new, readings, trivia, limit)?;
     out.flush()?;
     if told.more {
         eprintln!(rt; "rust_tree: the trees differ at further places; --limit N shows more")?;

@@ -1,10 +1,12 @@
 //! The options of a command line.
 
+use crate::editions::Choice;
 use crate::highlight::Ink;
 use crate::inputs::Search;
 use crate::source::Reading;
 use crate::style::Style;
 use crate::tree::{Drawing, Part, Showing};
+use cargo_editions::edition_named;
 use clap::ArgMatches;
 use ras_front_end::{Edition, Entry};
 use rust_report::{place_of, range_of};
@@ -23,8 +25,10 @@ pub enum Form {
 /// How files are read, and how reports on them are written.
 #[derive(Clone, Copy, Debug)]
 pub struct Asked {
-    /// How a text is parsed.
+    /// How a text is parsed, but for its edition.
     pub reading: Reading,
+    /// How the edition of a file is chosen.
+    pub edition: Choice,
     /// The form of a report.
     pub format: Form,
     /// Whether a report has colours.
@@ -40,23 +44,32 @@ impl Asked {
     pub fn of(style: Style, matches: &ArgMatches) -> Asked {
         Asked {
             reading: reading(matches),
+            edition: choice_of(matches.get_str("edition")),
             format: form_of(matches),
             style,
             max_errors: max_errors(matches),
             search: Search {
                 follow: matches.get_flag("follow"),
+                hidden: matches.get_flag("hidden"),
+                target: matches.get_flag("no-ignore"),
             },
         }
     }
 }
 
-fn edition_of(name: Option<&str>) -> Edition {
+fn choice_of(name: Option<&str>) -> Choice {
     match name {
-        Some("2015") => Edition::Edition2015,
-        Some("2018") => Edition::Edition2018,
-        Some("2021") => Edition::Edition2021,
-        _ => Edition::Edition2024,
+        Some(name) => match edition_named(name) {
+            Some(edition) => Choice::Only(edition),
+            None => Choice::Auto,
+        },
+        None => Choice::Auto,
     }
+}
+
+/// How the edition of a file is chosen.
+pub fn edition(matches: &ArgMatches) -> Choice {
+    choice_of(matches.get_str("edition"))
 }
 
 fn entry_of(name: Option<&str>) -> Entry {
@@ -66,10 +79,10 @@ fn entry_of(name: Option<&str>) -> Entry {
     }
 }
 
-/// How a command parses its files.
+/// How a command parses its files. The edition is the newest here: it is chosen for each file.
 pub fn reading(matches: &ArgMatches) -> Reading {
     Reading {
-        edition: edition_of(matches.get_str("edition")),
+        edition: Edition::CURRENT,
         entry: entry_of(matches.get_str("entry")),
         validates: !matches.get_flag("no-validation"),
     }

@@ -84,10 +84,10 @@ const PATTERN: Row = Row {
 
 const EDITION: Row = Row {
     name: "edition",
-    takes: Takes::OneOf(&["2015", "2018", "2021", "2024"]),
-    default: Some("2024"),
+    takes: Takes::OneOf(&["auto", "2015", "2018", "2021", "2024"]),
+    default: Some("auto"),
     conflicts: &[],
-    help: "The Rust edition",
+    help: "The Rust edition; `auto`: that of the nearest Cargo.toml above each file, or 2024",
 };
 
 const ENTRY: Row = Row {
@@ -128,6 +128,22 @@ const FOLLOW: Row = Row {
     default: None,
     conflicts: &[],
     help: "Follows links that are found in a folder; `--fix` then writes only below that folder",
+};
+
+const HIDDEN: Row = Row {
+    name: "hidden",
+    takes: Takes::Nothing,
+    default: None,
+    conflicts: &[],
+    help: "Reads files and folders that are found in a folder and whose names begin with a dot",
+};
+
+const NO_IGNORE: Row = Row {
+    name: "no-ignore",
+    takes: Takes::Nothing,
+    default: None,
+    conflicts: &[],
+    help: "Reads the folders `target` too in which cargo builds",
 };
 
 const MAX_ERRORS: Row = Row {
@@ -257,6 +273,8 @@ static VERBS: [Verb; 8] = [
             NO_TRIVIA,
             STATS,
             FOLLOW,
+            HIDDEN,
+            NO_IGNORE,
             EDITION,
             COLOR,
             QUIET,
@@ -273,6 +291,8 @@ static VERBS: [Verb; 8] = [
             NO_VALIDATION,
             MAX_ERRORS,
             FOLLOW,
+            HIDDEN,
+            NO_IGNORE,
             EDITION,
             COLOR,
             QUIET,
@@ -283,25 +303,33 @@ static VERBS: [Verb; 8] = [
         name: "outline",
         about: "Lists the items of each file, each before the items in it",
         example: "Example: rust_tree outline src/lib.rs",
-        rows: &[FORMAT, FOLLOW, EDITION, COLOR, QUIET, FILES],
+        rows: &[
+            FORMAT, FOLLOW, HIDDEN, NO_IGNORE, EDITION, COLOR, QUIET, FILES,
+        ],
     },
     Verb {
         name: "parens",
         about: "Lists the pairs of parentheses without which a file parses to the same tree; the exit status is 1 if there is one",
         example: "Example: rust_tree parens --diff src",
-        rows: &[FORMAT, DIFF, FIX, FOLLOW, EDITION, COLOR, QUIET, FILES],
+        rows: &[
+            FORMAT, DIFF, FIX, FOLLOW, HIDDEN, NO_IGNORE, EDITION, COLOR, QUIET, FILES,
+        ],
     },
     Verb {
         name: "tokens",
         about: "Lists the lexer's tokens of each file, and its errors",
         example: "Example: rust_tree tokens src/main.rs",
-        rows: &[FORMAT, FOLLOW, EDITION, COLOR, QUIET, FILES],
+        rows: &[
+            FORMAT, FOLLOW, HIDDEN, NO_IGNORE, EDITION, COLOR, QUIET, FILES,
+        ],
     },
     Verb {
         name: "query",
         about: "Finds nodes and tokens by kind and place; the exit status is 1 if there is one",
         example: "Example: rust_tree query 'FN > NAME' src",
-        rows: &[FORMAT, PATTERN, FOLLOW, EDITION, COLOR, QUIET, FILES],
+        rows: &[
+            FORMAT, PATTERN, FOLLOW, HIDDEN, NO_IGNORE, EDITION, COLOR, QUIET, FILES,
+        ],
     },
     Verb {
         name: "highlight",

@@ -405,7 +405,10 @@ fn attributes_of_any_iterator(rt: HostRuntime) -> Result<(), Fail> {
         "STRUCT( DOC_COMMENT( OUTER_DOC_COMMENT:///a ) STRUCT_KW:struct )",
     )?;
     all_hold(&[
-        ("in its order", is(attributes_from_the_end(&rt, &owner), "#2|#1|")),
+        (
+            "in its order",
+            is(attributes_from_the_end(&rt, &owner), "#2|#1|"),
+        ),
         ("none", is(attributes_from_the_end(&rt, &without), "")),
     ])
 }
