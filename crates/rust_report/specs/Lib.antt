@@ -14,3 +14,4 @@ pub mod Counts
 pub mod Shown
 pub mod Labels
 pub mod Numbers
+pub mod Messages

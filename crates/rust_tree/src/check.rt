@@ -5,9 +5,8 @@ use crate::json;
 use crate::options::{Asked, Form};
 use crate::shown::{name, write_place};
 use crate::source::{Source, move_to, parsed, spot, spots};
-use crate::style::Style;
 use ras_front_end::SyntaxError;
-use rust_report::{Escaped, Marks, Medium, Spots, excerpt_at};
+use rust_report::{Escaped, Marks, Medium, Spots, excerpt_at, plain_message};
 use serde::Serialize;
 use std::alloc::Global;
 use std::io;
@@ -26,18 +25,28 @@ struct ErrorRecord<'a> {
     message: &'a str,
 }
 
+// The message of an error in the words that are asked for.
+fn message_of<'e>(error: &'e SyntaxError, asked: Asked) -> &'e str {
+    if asked.is_upstream {
+        error.message()
+    } else {
+        plain_message(error.message())
+    }
+}
+
 // Writes the line that an error is in, or the part of a long line around it, and marks the error in the line below.
 fn write_text<W: Write>(
     out: &mut W,
     path: &str,
     spots: &mut Spots<'_>,
     error: &SyntaxError,
-    style: Style,
+    asked: Asked,
 ) -> io::Result<()> {
+    let style = asked.style;
     let from = move_to(spots, error.range().start());
     let (red, plain) = (style.red(), style.plain());
     write_place(out, path, from, style)?;
-    writeln!(out, "{red}{}{plain}", name(error.message()))?;
+    writeln!(out, "{red}{}{plain}", name(message_of(error, asked)))?;
     let excerpt = excerpt_at(spots.lines(), error.range());
     writeln!(out, "{:>5} | {excerpt}", from.line)?;
     writeln!(out, "      | {red}{}{plain}", Marks { excerpt })
@@ -71,6 +80,7 @@ fn write_github<W: Write>(
     name: &str,
     spots: &mut Spots<'_>,
     error: &SyntaxError,
+    asked: Asked,
 ) -> io::Result<()> {
     let from = move_to(spots, error.range().start());
     let to = spot(spots, error.range().end());
@@ -79,7 +89,7 @@ fn write_github<W: Write>(
         medium: Medium::Parameter,
     };
     let message = Escaped {
-        text: error.message(),
+        text: message_of(error, asked),
         medium: Medium::Message,
     };
     write!(out, "::error file={file},")?;
@@ -107,9 +117,9 @@ fn write_all<W: Write>(
         }
         left -= 1;
         match asked.format {
-            Form::Text => write_text(out, name, &mut spots, error, asked.style)?,
+            Form::Text => write_text(out, name, &mut spots, error, asked)?,
             Form::Json => write_json(alloc, out, name, &mut spots, error)?,
-            Form::Github => write_github(out, name, &mut spots, error)?,
+            Form::Github => write_github(out, name, &mut spots, error, asked)?,
         }
     }
     Ok(errors.len() as u64)

@@ -35,6 +35,8 @@ pub struct Asked {
     pub style: Style,
     /// The most errors of a file that are listed.
     pub max_errors: usize,
+    /// Whether messages are those of rust-analyzer's parser.
+    pub is_upstream: bool,
     /// How folders are searched.
     pub search: Search,
 }
@@ -48,6 +50,7 @@ impl Asked {
             format: form_of(matches),
             style,
             max_errors: max_errors(matches),
+            is_upstream: matches.get_str("messages") == Some("upstream"),
             search: Search {
                 follow: matches.get_flag("follow"),
                 hidden: matches.get_flag("hidden"),

@@ -154,6 +154,14 @@ const MAX_ERRORS: Row = Row {
     help: "The number of errors of each file that are listed",
 };
 
+const MESSAGES: Row = Row {
+    name: "messages",
+    takes: Takes::OneOf(&["plain", "upstream"]),
+    default: Some("plain"),
+    conflicts: &[],
+    help: "The words of messages: `plain`, or those of rust-analyzer's parser, which names kinds",
+};
+
 const FORMAT: Row = Row {
     name: "format",
     takes: Takes::OneOf(&["text", "json"]),
@@ -290,6 +298,7 @@ static VERBS: [Verb; 8] = [
             ENTRY,
             NO_VALIDATION,
             MAX_ERRORS,
+            MESSAGES,
             FOLLOW,
             HIDDEN,
             NO_IGNORE,
