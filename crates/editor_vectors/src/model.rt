@@ -25,6 +25,17 @@ struct RowModel {
     first: String,
     last: String,
     after: String,
+    rows: Counts,
+}
+
+// How many nodes and tokens are put into each slot.
+#[derive(Clone, Copy, Drop)]
+struct Counts {
+    before: usize,
+    instead: usize,
+    first: usize,
+    last: usize,
+    after: usize,
 }
 
 /// What is done at each row.
@@ -52,6 +63,13 @@ impl Model {
                 first: String::new(alloc),
                 last: String::new(alloc),
                 after: String::new(alloc),
+                rows: Counts {
+                    before: 0,
+                    instead: 0,
+                    first: 0,
+                    last: 0,
+                    after: 0,
+                },
             })?;
             row += 1;
         }
@@ -115,9 +133,16 @@ impl Model {
         None
     }
 
-    /// Makes a change.
-    pub fn add(&mut self, row: usize, slot: Slot, printed: &str) -> Result<(), Fail> {
+    /// Makes a change: puts printed elements, which are so many nodes and tokens, into a slot.
+    pub fn add(&mut self, row: usize, slot: Slot, printed: &str, count: usize) -> Result<(), Fail> {
         let model = self.rows.get_mut(row).ok_or("no such row")?;
+        match slot {
+            Slot::Before => model.rows.before += count,
+            Slot::First => model.rows.first += count,
+            Slot::Last => model.rows.last += count,
+            Slot::After => model.rows.after += count,
+            Slot::Instead => model.rows.instead += count,
+        }
         match slot {
             Slot::Before => model.before.push_str(printed)?,
             Slot::First => model.first.push_str(printed)?,
@@ -132,11 +157,63 @@ impl Model {
     }
 }
 
-fn row_of(element: &SyntaxElement) -> usize {
+/// The row of an element in its tree.
+pub fn row_of(element: &SyntaxElement) -> usize {
     match element {
         NodeOrToken::Node(node) => node.row(),
         NodeOrToken::Token(token) => token.row(),
     }
+}
+
+/// How many nodes and tokens an element has, itself counted.
+pub fn count(element: &SyntaxElement) -> usize {
+    let mut sum = 1;
+    if let NodeOrToken::Node(node) = element {
+        for child in node.children_with_tokens() {
+            sum += count(&child);
+        }
+    }
+    sum
+}
+
+/// Appends the row in the new tree of each node and token of an element, or `None` where it is not kept; `next` is the new row
+/// that comes next.
+pub fn new_rows(
+    element: &SyntaxElement,
+    model: &Model,
+    kept: bool,
+    next: &mut usize,
+    out: &mut Vec<Option<usize>>,
+) -> Result<(), Fail> {
+    let change = model
+        .rows
+        .as_slice()
+        .get(row_of(element))
+        .ok_or("no such row")?;
+    let stays = kept && !change.replaced;
+    if kept {
+        *next += change.rows.before;
+    }
+    if stays {
+        out.push(Some(*next))?;
+        *next += 1 + change.rows.first;
+    } else {
+        out.push(None)?;
+    }
+    if let NodeOrToken::Node(node) = element {
+        for child in node.children_with_tokens() {
+            new_rows(&child, model, stays, next, out)?;
+        }
+    }
+    if stays {
+        *next += change.rows.last;
+    } else if kept {
+        *next += change.rows.instead;
+    }
+    if kept {
+        *next += change.rows.after;
+    }
+    Ok(())
 }
 
 /// Prints an element, with the changes of a model if there is one.

@@ -1,12 +1,12 @@
 //! Random sessions of changes of one tree, and of elements of another one that are put in.
-use crate::model::{Model, Slot, print};
+use crate::model::{Model, Slot, count, new_rows, print, row_of};
 use lossless_tree::{NodeOrToken, SyntaxElement, SyntaxNode};
 use plain_trees::PlainTree;
 use rand_core::Rng;
 use rand_pcg::Pcg32;
 use std::alloc::Global;
 use std::test::Fail;
-use syntax_editor::{ChangeError, Position, SyntaxEditor};
+use syntax_editor::{ChangeError, Position, SyntaxEdit, SyntaxEditor};
 
 const TREE: &str =
     "SOURCE_FILE( FN( :fn :~ NAME( :f ) PARAM_LIST( :( PARAM( IDENT_PAT( NAME( :a ) ) ) :) ) :~ BLOCK_EXPR( STMT_LIST( :{ :} ) ) ) :~ STRUCT( :struct :~ NAME( ) :; ) NAME( NAME( NAME( :deep ) :x ) :y ) )";
@@ -58,9 +58,11 @@ fn change(
     let element = root.element_at_row(row).ok_or("an element")?;
     let mut elements = Vec::new(alloc);
     let mut printed = String::new(alloc);
+    let mut rows = 0;
     for _ in 0..chance.below(3) {
         let part = parts.element_at_row(chance.below(9)).ok_or("a part")?;
         print(alloc, &part, None, &mut printed)?;
+        rows += count(&part);
         elements.push(part)?;
     }
     let result = match position(&element, slot) {
@@ -75,7 +77,7 @@ fn change(
     let expected = model.refusal(row, slot);
     match (result, expected) {
         (Ok(()), None) => {
-            model.add(row, slot, printed.as_str())?;
+            model.add(row, slot, printed.as_str(), rows)?;
             Ok(true)
         }
         (Err(error), Some(reason)) if error == reason => Ok(false),
@@ -83,6 +85,59 @@ fn change(
             Err(Fail::from(format!(in alloc; "row {row}: {result:?}, not {expected:?}")?))
         }
     }
+}
+
+// The edit of the text makes the new text from the old one, and its inverse the old one from the new one; no part of it changes nothing.
+fn text_edit_is_the_difference(alloc: Global, edit: &SyntaxEdit) -> Result<(), Fail> {
+    let text_edit = edit.text_edit(alloc)?;
+    let old = edit.old_root().text().as_str();
+    let new = text_edit.apply(alloc, old)?;
+    if new.as_str() != edit.new_root().text().as_str() {
+        return Err(Fail::from("the edited text is not the new one"));
+    }
+    let inverse = text_edit.invert(alloc, old)?;
+    if inverse.apply(alloc, new.as_str())?.as_str() != old {
+        return Err(Fail::from("the inverse does not give the old text"));
+    }
+    for indel in text_edit.iter() {
+        if indel.deleted().is_empty() && indel.inserted().is_empty() {
+            return Err(Fail::from("an indel changes nothing"));
+        }
+    }
+    Ok(())
+}
+
+// Each element of the old tree is found in the new one where the model says, or not at all.
+fn kept_elements_are_found(
+    alloc: Global,
+    edit: &SyntaxEdit,
+    root: &SyntaxNode,
+    model: &Model,
+) -> Result<(), Fail> {
+    let mut expected = Vec::new(alloc);
+    let mut next = 0;
+    new_rows(
+        &NodeOrToken::Node(root.clone()?),
+        model,
+        true,
+        &mut next,
+        &mut expected,
+    )?;
+    let mapping = edit.mapping(alloc)?;
+    for (row, place) in expected.as_slice().iter().enumerate() {
+        let old = root.element_at_row(row).ok_or("an element")?;
+        let new = mapping.old_to_new(&old);
+        let found = new.as_ref().map(row_of);
+        if found != *place {
+            return Err(Fail::from(format!(in alloc; "row {row}: {found:?}, not {place:?}")?));
+        }
+        if let Some(new) = new
+            && new.kind() != old.kind()
+        {
+            return Err(Fail::from(format!(in alloc; "row {row}: another kind")?));
+        }
+    }
+    Ok(())
 }
 
 fn session(alloc: Global, seed: u64) -> Result<(usize, usize), Fail> {
@@ -103,6 +158,8 @@ fn session(alloc: Global, seed: u64) -> Result<(usize, usize), Fail> {
         }
     }
     let edit = editor.finish()?;
+    text_edit_is_the_difference(alloc, &edit)?;
+    kept_elements_are_found(alloc, &edit, &root, &model)?;
     let mut expected = String::new(alloc);
     print(alloc, &NodeOrToken::Node(root), Some(&model), &mut expected)?;
     let mut found = String::new(alloc);

@@ -1,1 +1,3 @@
 pub mod SpotLemmas
+pub mod EditLemmas
+pub mod MappingLemmas

@@ -12,7 +12,8 @@ use Rattle.tree_edit_model.specs.Texts.{edits_of}
 use Rattle.tree_edits.specs.declared.error.ChangeError.{ChangeError}
 use Rattle.tree_edits.specs.declared.error.ChangeError.TheVariants.{OtherTree}
 use Rattle.syntax_editor.specs.Spot.{spot_of}
-use Rattle.tree_edits.specs.Session.{Session, with_elements_at, at_of}
+use Rattle.tree_edit_model.specs.Moved.{moved, IsKept}
+use Rattle.tree_edits.specs.Session.{Session, with_elements_at, at_of, result_of}
 use Rattle.tree_edits.specs.Refused.{IsTaken, IsRefused}
 
 -- what an element is
@@ -56,3 +57,11 @@ IsRefusedAt s p e = (p.place.tree ≡ s.tree) × IsRefused s p.place.row p.slot 
 -- the text of the changed tree is the old text with the edit that the changes are
 abbrev pub IsEditedText : Session → Tree → Type 0
 IsEditedText s t = text t ≡ edited (text s.tree) (edits_of (at_of s) s.tree)
+
+-- the cursor is one of the old tree, and neither what is there nor anything around it is replaced
+abbrev pub IsKeptCursor : Session → Cursor → Type 0
+IsKeptCursor s c = (c.tree ≡ s.tree) × IsKept (at_of s) c.place
+
+-- where it is in the new tree
+abbrev pub new_cursor : Session → Cursor → Cursor
+new_cursor s c = record { tree = result_of s; place = moved (at_of s) s.tree c.place }

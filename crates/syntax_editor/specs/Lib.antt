@@ -5,5 +5,6 @@ pub use Rattle.tree_edit_model.specs.Texts
 pub use Rattle.tree_edit_model.specs.Moved
 pub use Rattle.tree_edits.specs.Session
 pub use Rattle.tree_edits.specs.Refused
+pub use Rattle.tree_edits.specs.Kept
 pub mod Spot
 pub mod Editor

@@ -9,9 +9,8 @@ ghost use Rattle.tree_edits.specs.declared.error.ChangeError.TheVariants.{Memory
 ghost use Rattle.syntax_editor.specs.Editor.{tree_of, trees_of, instead_of, with_trees, IsTakenAt, IsRefusedAt, IsEditedText};
 
 use crate::edit::SyntaxEdit;
-use crate::position::{Place, Position};
+use crate::position::{Position, is_in_tree};
 use lossless_tree::{NodeOrToken, SyntaxElement, SyntaxNode};
-use shared_pointer::Shared;
 use std::alloc::{AllocError, Global};
 use std::marker::Model;
 use tree_edits::{ChangeError, Changes, Element};
@@ -46,13 +45,6 @@ impl Model for SyntaxEditor {
     ghost use Rattle.tree_model.specs.Edit.{root_of};
 
     ghost invariant = { λ e. e.root ≡ root_of e.changes.tree };
-}
-
-// Whether two tables have one tree.
-fn is_one_tree(one: &Table, other: &Table) -> bool
-    ensures { IsTrue result ↔ (one.now ≡ other.now) }
-{
-    *one == *other
 }
 
 // A node or token, to be put into a tree.
@@ -128,20 +120,12 @@ impl SyntaxEditor {
         })
     }
 
-    // Whether a place is one of the tree that is changed.
-    fn is_in_tree(&self, place: &Place) -> bool
-        ensures { IsTrue result ↔ (place.now.tree ≡ self.now.tree) }
-    {
-        let here = self.changes.table();
-        Shared::ptr_eq(place.table(), here) || is_one_tree(place.table().as_ref(), here.as_ref())
-    }
-
     // Why a change at a position is not taken, if it is not.
     fn check(&self, position: &Position) -> Result<(), ChangeError>
         ensures ok { OnOk result (IsTakenAt self.now position.now) }
         ensures err { IfErr result (IsRefusedAt self.now position.now) }
     {
-        if !self.is_in_tree(&position.place) {
+        if !is_in_tree(&self.changes, &position.place) {
             return Err(ChangeError::OtherTree);
         }
         self.changes.check(position.place.row(), position.slot)
@@ -237,6 +221,7 @@ impl SyntaxEditor {
     pub fn finish(self) -> Result<SyntaxEdit, ChangeError>
         ensures old { IfOk result (λ edit. edit.old_root ≡ root_of self.tree) }
         ensures new { IfOk result (λ edit. edit.new_root ≡ root_of (result_of self)) }
+        ensures changes { IfOk result (λ edit. edit.changes ≡ self) }
         ensures text { IfOk result (λ edit. IsEditedText self (focus edit.new_root)) }
         ensures short { OnOk result (IsShort self) }
         ensures refused { IfErr result (IsNotMade self) }
@@ -245,6 +230,7 @@ impl SyntaxEditor {
         Ok(SyntaxEdit {
             old_root: self.root,
             new_root: new_root(self.alloc, table)?,
+            changes: self.changes,
         })
     }
 }

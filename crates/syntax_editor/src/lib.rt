@@ -4,9 +4,11 @@
 mod edit;
 mod editor;
 pub mod laws;
+mod mapping;
 mod position;
 
 pub use edit::SyntaxEdit;
 pub use editor::SyntaxEditor;
+pub use mapping::SyntaxMapping;
 pub use position::Position;
 pub use tree_edits::ChangeError;

@@ -1,6 +1,7 @@
 //! Where elements are put.
-ghost use Rattle.std.specs.Prelude.{◌≡◌, ◌<◌};
+ghost use Rattle.std.specs.Prelude.{◌≡◌, ◌<◌, ◌↔◌, IsTrue};
 ghost use Rattle.tree_model.specs.Tree.{size};
+ghost use Rattle.tree_model.specs.Cursor.{cursor_at};
 ghost use Rattle.lossless_tree.specs.Element.{cursor_of};
 ghost use Rattle.syntax_editor.specs.Spot.{spot_of};
 ghost use Rattle.syntax_editor.specs.Editor.{before, after, instead_of, first_child_of, last_child_of};
@@ -8,7 +9,7 @@ ghost use Rattle.syntax_editor.specs.Editor.{before, after, instead_of, first_ch
 use lossless_tree::{NodeOrToken, SyntaxElement, SyntaxNode, SyntaxToken};
 use shared_pointer::Shared;
 use std::marker::Model;
-use tree_edits::Slot;
+use tree_edits::{Changes, Slot};
 use tree_rows::Table;
 
 /// The place of a node or token in the tree that is changed. A clause sees the tree and the row.
@@ -34,7 +35,8 @@ impl Model for Place {
 impl Place {
     // Where a node is.
     fn of_node(node: &SyntaxNode) -> Place
-        ensures { result ≡ spot_of node.now }
+        ensures spot { result ≡ spot_of node.now }
+        ensures cursor { cursor_at result.tree result.row ≡ node.now }
     {
         Place {
             table: node.table().share(),
@@ -44,7 +46,8 @@ impl Place {
 
     // Where a token is.
     fn of_token(token: &SyntaxToken) -> Place
-        ensures { result ≡ spot_of token.now }
+        ensures spot { result ≡ spot_of token.now }
+        ensures cursor { cursor_at result.tree result.row ≡ token.now }
     {
         Place {
             table: token.table().share(),
@@ -54,7 +57,8 @@ impl Place {
 
     // Where an element is.
     pub fn of(element: &SyntaxElement) -> Place
-        ensures { result ≡ spot_of (cursor_of element.now) }
+        ensures spot { result ≡ spot_of (cursor_of element.now) }
+        ensures cursor { cursor_at result.tree result.row ≡ cursor_of element.now }
     {
         match element {
             NodeOrToken::Node(node) => Place::of_node(node),
@@ -76,6 +80,21 @@ impl Place {
     {
         self.row
     }
+}
+
+// Whether two tables have one tree.
+fn is_one_tree(one: &Table, other: &Table) -> bool
+    ensures { IsTrue result ↔ (one.now ≡ other.now) }
+{
+    *one == *other
+}
+
+// Whether a place is one of the tree that is changed.
+pub(crate) fn is_in_tree(changes: &Changes, place: &Place) -> bool
+    ensures { IsTrue result ↔ (place.now.tree ≡ changes.now.tree) }
+{
+    let here = changes.table();
+    Shared::ptr_eq(place.table(), here) || is_one_tree(place.table().as_ref(), here.as_ref())
 }
 
 /// A position in the tree that is changed, next to or inside an element of it.

@@ -2,3 +2,4 @@ pub mod Pass
 pub mod Order
 pub mod Offsets
 pub mod Undo
+pub mod Empty

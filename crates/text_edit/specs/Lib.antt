@@ -1,3 +1,4 @@
 pub mod Replacements
 pub mod Inverse
 pub mod Merge
+pub mod Empty

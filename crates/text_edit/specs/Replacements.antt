@@ -1,6 +1,6 @@
 -- Edits of a text: ranges of it, each replaced by another text.
 -- (Upstream: rust-analyzer's `TextEdit` and `Indel`.)
-use Rattle.std.specs.Prelude.{ℕ, ◌+◌, ◌-◌, ◌<◌, ◌≤◌, ◌^◌, List, [], ◌∷◌, ◌++◌, length, take, drop, nat_le, nat_lt, if◌then◌else◌, ⊤, refl, All, IsCharBoundary, Option, Some, None, get_or}
+use Rattle.std.specs.Prelude.{ℕ, ◌+◌, ◌-◌, ◌<◌, ◌≤◌, ◌^◌, List, [], ◌∷◌, ◌++◌, length, take, drop, nat_le, nat_lt, nat_eq, Bool, false, if◌then◌else◌, ⊤, refl, All, IsCharBoundary, Option, Some, None, get_or}
 use Rattle.std.specs.List.{Any}
 use Rattle.std.specs.Coded.{Coded, code_by, coded×, coded_ℕ, coded_list}
 use Rattle.text_size.specs.TextRange.{Bounds}
@@ -51,6 +51,15 @@ with_one (d ∷ ds) e = if nat_le d.delete.end e.delete.start then d ∷ with_on
 abbrev pub with_all : List Replacement → List Replacement → List Replacement
 with_all ds [] = ds
 with_all ds (e ∷ es) = with_all (with_one ds e) es
+
+-- nothing is inserted, and nothing deleted
+abbrev pub is_empty : Replacement → Bool
+is_empty e = if nat_eq (length e.insert) 0 then nat_eq e.delete.start e.delete.end else false
+
+-- those that insert or delete something
+abbrev pub nonempty : List Replacement → List Replacement
+nonempty [] = []
+nonempty (e ∷ es) = if is_empty e then nonempty es else e ∷ nonempty es
 
 -- the range ends after the text
 abbrev pub IsPastEnd : List ℕ → Replacement → Type 0

@@ -1,6 +1,6 @@
 //! A range of a text, and what replaces it.
 ghost use Rattle.std.specs.Prelude.{◌≡◌, ◌≤◌, ◌<◌, ◌^◌, string_bytes, []};
-ghost use Rattle.text_edit.specs.Replacements.{insertion};
+ghost use Rattle.text_edit.specs.Replacements.{insertion, is_empty};
 
 use std::alloc::Global;
 use std::marker::Model;
@@ -69,6 +69,13 @@ impl Indel {
         ensures { result ≡ self.now.delete }
     {
         self.delete
+    }
+
+    /// Whether it changes nothing: nothing is inserted, and the range is empty.
+    pub fn is_empty(&self) -> bool
+        ensures { result ≡ is_empty self.now }
+    {
+        self.insert.is_empty() && self.delete.is_empty()
     }
 
     // Where the range starts.

@@ -2,7 +2,7 @@
 ghost use Rattle.std.specs.Prelude.{◌≡◌, ◌↔◌, ◌∷◌, ◌++◌, ◌+◌, Some, [], length, IfOk, IfErr, OnOk, OnErr, IsErrOf, IsTrue, string_bytes};
 ghost use Rattle.std.specs.List.{Any};
 ghost use Rattle.std.specs.Slice.Iter.{iter_rest};
-ghost use Rattle.text_edit.specs.Replacements.{Replacement, Overlaps, edited, insertion, with_one, with_all, IsEditOf, IsRefused, moved_offset, fitting};
+ghost use Rattle.text_edit.specs.Replacements.{Replacement, InOrder, Overlaps, edited, insertion, with_one, with_all, IsEditOf, IsRefused, moved_offset, fitting};
 ghost use Rattle.text_edit.specs.Replacements.{Overlap as overlaps};
 ghost use Rattle.text_edit.specs.Inverse.{inverted};
 ghost use Rattle.text_edit.specs.declared.error.OverlapError.TheVariants.{Overlap};
@@ -63,6 +63,15 @@ impl TextEdit {
         TextEdit {
             indels: Vec::new(alloc),
         }
+    }
+
+    /// The edit of replacements that are in the order of the text and do not overlap; [`TextEdit::add`] takes them in any order. Takes
+    /// constant time.
+    pub fn from_ordered(indels: Vec<Indel>) -> TextEdit
+        requires { InOrder 0 indels.items }
+        ensures { result ≡ indels.items }
+    {
+        TextEdit { indels }
     }
 
     // The edit of one replacement.

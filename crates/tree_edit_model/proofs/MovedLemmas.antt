@@ -6,37 +6,37 @@ use Rattle.tree_model.specs.Events.{append_forest}
 use Rattle.tree_edit_model.specs.Changes.{Change, forest_from, around, inside, below, changed_from, changed}
 use Rattle.tree_edit_model.specs.Moved.{changed_child, count_before, moved, KeptPlacesMove}
 
-child_at-after : (f g : Forest) (j : ℕ) → child_at (append_forest f g) (child_count f + j) ≡ child_at g j
+pub child_at-after : (f g : Forest) (j : ℕ) → child_at (append_forest f g) (child_count f + j) ≡ child_at g j
 child_at-after nil g j = let e : 0 + j ≡ j = omega arith in ap (child_at g) e
 child_at-after (cons t r) g j = let e : suc (child_count r) + j ≡ suc (child_count r + j) = omega arith in ap (child_at (cons t (append_forest r g))) e ∙ child_at-after r g j
 
-child_at-before : (f g : Forest) (j : ℕ) → j < child_count f → child_at (append_forest f g) j ≡ child_at f j
+pub child_at-before : (f g : Forest) (j : ℕ) → j < child_count f → child_at (append_forest f g) j ≡ child_at f j
 child_at-before nil g j h = absurd (omega arith)
 child_at-before (cons t r) g zero h = refl
 child_at-before (cons t r) g (suc j) h = child_at-before r g j (omega (arith, h))
 
-count-append : (f g : Forest) → child_count (append_forest f g) ≡ child_count f + child_count g
+pub count-append : (f g : Forest) → child_count (append_forest f g) ≡ child_count f + child_count g
 count-append nil g = omega arith
 count-append (cons t r) g = omega (arith, count-append r g)
 
-count-from : (ts : List Tree) → child_count (forest_from ts) ≡ length ts
+pub count-from : (ts : List Tree) → child_count (forest_from ts) ≡ length ts
 count-from [] = refl
 count-from (t ∷ ts) = ap suc (count-from ts)
 
 -- child number i of the old tree, as it is kept
-kept_child : (Place → Change) → ℕ → Tree → Tree
+unfoldable pub kept_child : (Place → Change) → ℕ → Tree → Tree
 kept_child at i t = changed (below i at) t
 
-around_kept : (c : Change) (x : Tree) → c.replaced ≡ false → around c x ≡ append_forest (forest_from c.before) (append_forest (cons x nil) (forest_from c.after))
+pub around_kept : (c : Change) (x : Tree) → c.replaced ≡ false → around c x ≡ append_forest (forest_from c.before) (append_forest (cons x nil) (forest_from c.after))
 around_kept c x e = ap (λ b. append_forest (forest_from c.before) (append_forest (if b then forest_from c.instead else cons x nil) (forest_from c.after))) e
 
-child_kept : (at : Place → Change) (i : ℕ) (t : Tree) → (at (i ∷ [])).replaced ≡ false
+pub child_kept : (at : Place → Change) (i : ℕ) (t : Tree) → (at (i ∷ [])).replaced ≡ false
     → changed_child at i t ≡ append_forest (forest_from (at (i ∷ [])).before) (append_forest (cons (kept_child at i t) nil) (forest_from (at (i ∷ [])).after))
 unfolding kept_child
 child_kept at i (token k t) e = around_kept (at (i ∷ [])) (token k t) e
 child_kept at i (node k c) e = around_kept (at (i ∷ [])) (node k (inside (at (i ∷ [])) (changed_from (below i at) 0 c))) e
 
-changed_from-cons : (at : Place → Change) (i : ℕ) (t : Tree) (r : Forest) → changed_from at i (cons t r) ≡ append_forest (changed_child at i t) (changed_from at (suc i) r)
+pub changed_from-cons : (at : Place → Change) (i : ℕ) (t : Tree) (r : Forest) → changed_from at i (cons t r) ≡ append_forest (changed_child at i t) (changed_from at (suc i) r)
 changed_from-cons at i (token k t) r = refl
 changed_from-cons at i (node k c) r = refl
 
@@ -48,7 +48,7 @@ found_in_child c x g =
     let fits : length c.before < child_count (append_forest B R) = omega (arith, count-append B R, count-from c.before) in
     child_at-before (append_forest B R) g (length c.before) fits ∙ ap (child_at (append_forest B R)) n ∙ child_at-after B R 0
 
-found_from : (f : Forest) (at : Place → Change) (i j m : ℕ) → j < child_count f → m ≡ i + j → (at (m ∷ [])).replaced ≡ false → child_at (changed_from at i f) (count_before at i f j + length (at (m ∷ [])).before) ≡ kept_child at m (child_at f j)
+pub found_from : (f : Forest) (at : Place → Change) (i j m : ℕ) → j < child_count f → m ≡ i + j → (at (m ∷ [])).replaced ≡ false → child_at (changed_from at i f) (count_before at i f j + length (at (m ∷ [])).before) ≡ kept_child at m (child_at f j)
 found_from nil at i j m h is e = absurd (omega arith)
 found_from (cons t r) at i zero m h is e =
     let c : Change = at (m ∷ []) in
@@ -68,7 +68,7 @@ found_from (cons t r) at i (suc j) m h is e =
     ∙ child_at-after (changed_child at i t) (changed_from at (suc i) r) n
     ∙ found_from r at (suc i) j m (omega (arith, h)) (omega (arith, is)) e
 
-count_fits : (f : Forest) (at : Place → Change) (i j m : ℕ) → j < child_count f → m ≡ i + j → (at (m ∷ [])).replaced ≡ false → count_before at i f j + length (at (m ∷ [])).before < child_count (changed_from at i f)
+pub count_fits : (f : Forest) (at : Place → Change) (i j m : ℕ) → j < child_count f → m ≡ i + j → (at (m ∷ [])).replaced ≡ false → count_before at i f j + length (at (m ∷ [])).before < child_count (changed_from at i f)
 count_fits nil at i j m h is e = absurd (omega arith)
 count_fits (cons t r) at i zero m h is e =
     let c : Change = at (m ∷ []) in

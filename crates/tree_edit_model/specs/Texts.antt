@@ -1,7 +1,7 @@
 -- The edit of the text that changes of a tree are.
 use Rattle.std.specs.Prelude.{◌≡◌, ℕ, suc, ◌+◌, List, [], ◌∷◌, ◌++◌, length, if◌then◌else◌}
 use Rattle.tree_model.specs.Tree.{Tree, node, token, Forest, nil, cons, Place, text, forest_text}
-use Rattle.text_edit.specs.Replacements.{Replacement, edited, InOrder}
+use Rattle.text_edit.specs.Replacements.{Replacement, edited, InOrder, nonempty}
 use Rattle.tree_edit_model.specs.Changes.{Change, forest_from, below, changed}
 
 -- the bytes from a to b replaced by the texts of trees
@@ -28,6 +28,10 @@ edits_from at i b (cons (node k c) r) =
 abbrev pub edits_of : (Place → Change) → Tree → List Replacement
 edits_of at (node k c) = edits_inside (at []) 0 (length (forest_text c)) (edits_from at 0 0 c)
 edits_of at (token k t) = []
+
+-- the same, without what changes nothing
+abbrev pub text_edit_of : (Place → Change) → Tree → List Replacement
+text_edit_of at t = nonempty (edits_of at t)
 
 -- the text of the changed tree is the edited text: outside of the pieces each byte stays
 abbrev pub ChangedText : Type 0

@@ -4,3 +4,6 @@ pub mod RowLemmas
 pub mod StoreLemmas
 pub mod AroundLemmas
 pub mod ResultLemmas
+pub mod EditLemmas
+pub mod KeptLemmas
+pub mod PlaceLemmas

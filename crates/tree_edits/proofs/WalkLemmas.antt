@@ -30,22 +30,22 @@ events_of-append (cons (node k c) r) g =
 
 -- ---- a walk with no changes
 
-lifted : (Place → Place) → Bool × Place → Bool × Place
+unfoldable pub lifted : (Place → Place) → Bool × Place → Bool × Place
 lifted q w = (w.0, q w.1)
 
 -- the trees at the places from child number i on are those of the forest
 pub IsForestAt : (Place → Tree) → ℕ → Forest → Type 0
 IsForestAt g i f = (j : ℕ) (p : Place) → g ((i + j) ∷ p) ≡ subtree (child_at f j) p
 
-first_is : (g : Place → Tree) (i : ℕ) (t : Tree) (r : Forest) → IsForestAt g i (cons t r) → g (i ∷ []) ≡ t
+pub first_is : (g : Place → Tree) (i : ℕ) (t : Tree) (r : Forest) → IsForestAt g i (cons t r) → g (i ∷ []) ≡ t
 unfolding IsForestAt
 first_is g i t r h = let e : i ≡ i + 0 = omega arith in ap (λ n. g (n ∷ [])) e ∙ h 0 []
 
-rest_is : (g : Place → Tree) (i : ℕ) (t : Tree) (r : Forest) → IsForestAt g i (cons t r) → IsForestAt g (suc i) r
+pub rest_is : (g : Place → Tree) (i : ℕ) (t : Tree) (r : Forest) → IsForestAt g i (cons t r) → IsForestAt g (suc i) r
 unfolding IsForestAt
 rest_is g i t r h = λ j p. let e : suc i + j ≡ i + suc j = omega arith in ap (λ n. g (n ∷ p)) e ∙ h (suc j) p
 
-below_is : (g : Place → Tree) (i : ℕ) (k : SyntaxKind) (c r : Forest) → IsForestAt g i (cons (node k c) r) → IsForestAt (λ p. g (i ∷ p)) 0 c
+pub below_is : (g : Place → Tree) (i : ℕ) (k : SyntaxKind) (c r : Forest) → IsForestAt g i (cons (node k c) r) → IsForestAt (λ p. g (i ∷ p)) 0 c
 unfolding IsForestAt
 below_is g i k c r h = λ j p. let e : i ≡ i + 0 = omega arith in let z : 0 + j ≡ j = omega arith in ap (λ n. g (n ∷ ((0 + j) ∷ p))) e ∙ h 0 ((0 + j) ∷ p) ∙ ap (λ n. subtree (child_at c n) p) z
 
@@ -69,7 +69,7 @@ steps-walk_from (cons (node k c) r) g i h =
     ∙ ap (λ l. step_events (g (i ∷ [])) true ++ (events_of c ++ (step_events (g (i ∷ [])) false ++ l))) rest
     ∙ ap (λ x. step_events x true ++ (events_of c ++ (step_events x false ++ events_of r))) e
 
-children_are : (k : SyntaxKind) (c : Forest) → IsForestAt (subtree (node k c)) 0 c
+pub children_are : (k : SyntaxKind) (c : Forest) → IsForestAt (subtree (node k c)) 0 c
 unfolding IsForestAt
 children_are k c = λ j p. let z : 0 + j ≡ j = omega arith in ap (λ n. subtree (child_at c n) p) z
 
@@ -116,7 +116,7 @@ emits at g (suc zero) ((false, p) ∷ w) = events_from_all (at p).after ++ emits
 emits at g (suc (suc s)) ((false, p) ∷ w) = emits at g (suc s) w
 
 -- the walk of a node's children, and what follows
-parts : (q : Place → Place) (i : ℕ) (c r : Forest) (v : List (Bool × Place)) →
+pub parts : (q : Place → Place) (i : ℕ) (c r : Forest) (v : List (Bool × Place)) →
     map (lifted q) (map (under i) (walk_from 0 c) ++ (false, i ∷ []) ∷ walk_from (suc i) r) ++ v
     ≡ map (lifted (λ p. q (i ∷ p))) (walk_from 0 c) ++ (false, q (i ∷ [])) ∷ (map (lifted q) (walk_from (suc i) r) ++ v)
 unfolding lifted
@@ -241,7 +241,7 @@ makes (cons (node k c) r) at g q i v h =
     ∙ sym (append_assoc (events_of made) (events_of rest) (emits at g 0 v))
     ∙ ap (λ l. l ++ emits at g 0 v) (sym (events_of-append made rest))
 
-map-lifted : (ws : List (Bool × Place)) → map (lifted (λ p. p)) ws ≡ ws
+pub map-lifted : (ws : List (Bool × Place)) → map (lifted (λ p. p)) ws ≡ ws
 unfolding lifted
 map-lifted [] = refl
 map-lifted (w ∷ ws) = ap (λ l. w ∷ l) (map-lifted ws)
@@ -258,7 +258,7 @@ emits-walk at (node k c) =
     })
     ∙ append-nil (events_of (around (at []) (node k (inside (at []) inner))))
 
-cursor : Tree → Bool × Place → Bool × Cursor
+unfoldable pub cursor : Tree → Bool × Place → Bool × Cursor
 cursor t w = (w.0, record { tree = t; place = w.1 })
 
 walked-emits : (ws : List (Bool × Place)) (at : Place → Change) (t : Tree) (s : ℕ) → walked at s (map (cursor t) ws) ≡ emits at (subtree t) s ws

@@ -4,3 +4,5 @@ pub mod Added
 pub mod Stored
 pub mod Session
 pub mod Refused
+pub mod Edited
+pub mod Kept

@@ -143,7 +143,7 @@ impl RowChanges {
     }
 
     // The change of a row, if it has one.
-    fn at(&self, row: usize) -> Option<&RowChange>
+    pub(crate) fn at(&self, row: usize) -> Option<&RowChange>
         requires { row < length self.now.marks.items }
         ensures { change_or_none (option_copied result) ≡ change_at self.now.marks.items self.now.changes.items row }
     {

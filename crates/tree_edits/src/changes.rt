@@ -1,17 +1,22 @@
 //! The changes of a tree.
 ghost use Rattle.std.specs.Prelude.{◌≡◌, ◌↔◌, ◌<◌, IfOk, IfErr, OnOk, OnErr, IsTrue};
 ghost use Rattle.tree_model.specs.Tree.{size, IsNode};
-ghost use Rattle.tree_edits.specs.Session.{IsNew, with_elements_at, result_of};
+ghost use Rattle.tree_edit_model.specs.Texts.{text_edit_of};
+ghost use Rattle.tree_edits.specs.Session.{IsNew, with_elements_at, result_of, at_of};
+ghost use Rattle.tree_edits.specs.Kept.{new_rows_of};
 ghost use Rattle.tree_edits.specs.Refused.{IsBesideRoot, IsInner, IsIntoToken, IsAtReplaced, IsInReplaced, HasChangeInside, IsOverChange, IsTaken, IsRefused, IsShort, IsNotMade};
 ghost use Rattle.tree_edits.specs.declared.error.ChangeError.TheVariants.{Memory};
 
 use crate::change::{RowChanges, Slot};
+use crate::edits::edits;
 use crate::element::Element;
 use crate::error::ChangeError;
 use crate::finish::changed_table;
+use crate::places::new_rows;
 use shared_pointer::Shared;
 use std::alloc::{AllocError, Global};
 use std::marker::Model;
+use text_edit::TextEdit;
 use tree_rows::Table;
 
 /// The changes of a tree, by its rows. A clause sees the tree, and what is changed at each row.
@@ -208,6 +213,31 @@ impl Changes {
     {
         self.rows.add(alloc, row, slot, elements)?;
         Ok(())
+    }
+
+    /// The edit of the text that the changes are, without replacements that change nothing. Takes time linear in the tree and the
+    /// texts of the elements.
+    ///
+    /// # Errors
+    ///
+    /// `AllocError` if memory runs out.
+    pub fn text_edit(&self, alloc: Global) -> Result<TextEdit, AllocError>
+        ensures { IfOk result (λ edit. edit ≡ text_edit_of (at_of self.now) self.now.tree) }
+    {
+        let indels = edits(alloc, self.table.as_ref(), &self.rows)?;
+        Ok(TextEdit::from_ordered(indels))
+    }
+
+    /// The number of each row in the new tree, counted from 1, or 0 for a row that is replaced or inside one that is. Takes time
+    /// linear in the tree and the number of elements.
+    ///
+    /// # Errors
+    ///
+    /// `AllocError` if memory runs out: it takes 8 bytes for each row.
+    pub fn new_rows(&self, alloc: Global) -> Result<Vec<usize>, AllocError>
+        ensures { IfOk result (λ rows. rows.items ≡ new_rows_of (at_of self.now) self.now.tree) }
+    {
+        new_rows(alloc, self.table.as_ref(), &self.rows)
     }
 
     /// The table of the tree with the changes made. Takes time linear in the old tree and the elements.

@@ -1,6 +1,6 @@
 //! Nodes and tokens of other trees that are put into a tree.
 ghost use Rattle.std.specs.Prelude.{◌≡◌, ◌++◌, ◌<◌, OnOk};
-ghost use Rattle.tree_model.specs.Tree.{size, cons, nil};
+ghost use Rattle.tree_model.specs.Tree.{size, text, cons, nil};
 ghost use Rattle.tree_model.specs.Rows.{tree_at};
 ghost use Rattle.tree_model.specs.Events.{events_of};
 ghost use Rattle.tree_edit_model.specs.Changes.{forest_from};
@@ -43,6 +43,20 @@ impl Element {
             table: table.share(),
             row,
         }
+    }
+
+    /// Its text.
+    pub(crate) fn text(&self) -> &str
+        ensures { result.now ≡ text self.now }
+    {
+        self.table.text_at(self.row)
+    }
+
+    /// How many nodes and tokens it has, itself counted.
+    pub(crate) fn len(&self) -> usize
+        ensures { result ≡ size self.now }
+    {
+        self.table.size_at(self.row)
     }
 
     /// Appends its steps.

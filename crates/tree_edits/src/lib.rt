@@ -3,9 +3,11 @@
 
 mod change;
 mod changes;
+mod edits;
 mod element;
 mod error;
 mod finish;
+mod places;
 mod steps;
 
 pub use change::Slot;

@@ -1,0 +1,50 @@
+//! Where what a session of changes keeps is in the new tree.
+ghost use Rattle.std.specs.Prelude.{◌≡◌, ◌↔◌, None, IfSome, suc, ◌<◌};
+ghost use Rattle.tree_model.specs.Tree.{size};
+ghost use Rattle.tree_model.specs.Rows.{place_at};
+ghost use Rattle.tree_edits.specs.Session.{at_of};
+ghost use Rattle.tree_edits.specs.Kept.{new_row, new_rows_of};
+ghost use Rattle.lossless_tree.specs.Element.{cursor_of, element_of};
+ghost use Rattle.syntax_editor.specs.Editor.{IsKeptCursor, new_cursor};
+
+use crate::edit::SyntaxEdit;
+use crate::position::{Place, is_in_tree};
+use lossless_tree::SyntaxElement;
+
+/// Where what was kept is in the new tree.
+#[derive(Drop)]
+pub struct SyntaxMapping<'e> {
+    pub(crate) edit: &'e SyntaxEdit,
+    pub(crate) rows: Vec<usize>,
+    ghost are_rows: { rows.items ≡ new_rows_of (at_of edit.now.changes) edit.now.changes.tree },
+}
+
+impl<'e> SyntaxMapping<'e> {
+    // The row in the new tree of what is at a place, if it is one of the old tree and kept.
+    fn new_row(&self, place: &Place) -> Option<usize>
+        ensures some { IfSome result (λ n. new_row (at_of self.now.edit.now.changes) place.now.tree (place_at place.now.tree place.now.row) ≡ suc n) }
+        ensures tree { IfSome result (λ n. place.now.tree ≡ self.now.edit.now.changes.tree) }
+        ensures none { result ≡ None → place.now.tree ≡ self.now.edit.now.changes.tree → new_row (at_of self.now.edit.now.changes) place.now.tree (place_at place.now.tree place.now.row) ≡ 0 }
+    {
+        if is_in_tree(&self.edit.changes, place) {
+            self.rows[place.row()].checked_sub(1)
+        } else {
+            None
+        }
+    }
+
+    /// The element of the new tree that an element of the old tree has become: the same node or token, with the changes inside it
+    /// made. `None` if it was replaced or deleted, or is inside something that was, or is of another tree.
+    ///
+    /// In the tree of `fn f() {}`, where the name is replaced and an attribute is put before `fn`, it gives the `fn` of the new tree
+    /// for the old one, and `None` for the name. Takes constant time; where the element is one of another tree in memory, the call
+    /// first compares the two trees.
+    pub fn old_to_new(&self, element: &SyntaxElement) -> Option<SyntaxElement>
+        ensures some { IfSome result (λ new. new ≡ element_of (new_cursor self.now.edit.now.changes (cursor_of element.now))) }
+        ensures kept { IfSome result (λ new. IsKeptCursor self.now.edit.now.changes (cursor_of element.now)) }
+        ensures none { result ≡ None → IsKeptCursor self.now.edit.now.changes (cursor_of element.now) → ⊥ }
+    {
+        let row = self.new_row(&Place::of(element))?;
+        self.edit.new_root.element_at_row(row)
+    }
+}
