@@ -128,6 +128,13 @@ fn kept_elements_are_found(
         let old = root.element_at_row(row).ok_or("an element")?;
         let new = mapping.old_to_new(&old);
         let found = new.as_ref().map(row_of);
+        let again = match &old {
+            NodeOrToken::Node(node) => mapping.old_to_new_node(node).map(|it| it.row()),
+            NodeOrToken::Token(token) => mapping.old_to_new_token(token).map(|it| it.row()),
+        };
+        if found != again {
+            return Err(Fail::from(format!(in alloc; "row {row}: {found:?}, then {again:?}")?));
+        }
         if found != *place {
             return Err(Fail::from(format!(in alloc; "row {row}: {found:?}, not {place:?}")?));
         }

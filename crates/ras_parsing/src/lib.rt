@@ -6,6 +6,7 @@
 mod balanced;
 mod build;
 mod builder;
+mod edits;
 mod error_list;
 mod file;
 mod merge;

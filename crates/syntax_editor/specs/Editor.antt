@@ -4,11 +4,11 @@ use Rattle.std.specs.Prelude.{◌≡◌, List, map}
 use Rattle.tree_model.specs.Tree.{Tree, text}
 use Rattle.tree_model.specs.Cursor.{Cursor, focus}
 use Rattle.lossless_tree.specs.declared.cursor.element.NodeOrToken.{NodeOrToken}
-use Rattle.lossless_tree.specs.Element.{cursor_of}
+use Rattle.lossless_tree.specs.Element.{cursor_of, element_of}
 use Rattle.tree_edits.specs.declared.change.Slot.TheVariants.{Before, Instead, First, Last, After}
 use Rattle.syntax_editor.specs.declared.position.Position.{Position}
-use Rattle.text_edit.specs.Replacements.{edited}
-use Rattle.tree_edit_model.specs.Texts.{edits_of}
+use Rattle.text_edit.specs.Replacements.{Replacement, edited}
+use Rattle.tree_edit_model.specs.Texts.{edits_of, text_edit_of}
 use Rattle.tree_edits.specs.declared.error.ChangeError.{ChangeError}
 use Rattle.tree_edits.specs.declared.error.ChangeError.TheVariants.{OtherTree}
 use Rattle.syntax_editor.specs.Spot.{spot_of}
@@ -58,10 +58,24 @@ IsRefusedAt s p e = (p.place.tree ≡ s.tree) × IsRefused s p.place.row p.slot 
 abbrev pub IsEditedText : Session → Tree → Type 0
 IsEditedText s t = text t ≡ edited (text s.tree) (edits_of (at_of s) s.tree)
 
+-- the edit of the text that a session is
+abbrev pub text_edit_of_session : Session → List Replacement
+text_edit_of_session s = text_edit_of (at_of s) s.tree
+
+-- the edit turns the text at one cursor into that at another
+abbrev pub Turns : Cursor → Cursor → List Replacement → Type 0
+Turns old new es = text (focus new) ≡ edited (text (focus old)) es
+
 -- the cursor is one of the old tree, and neither what is there nor anything around it is replaced
 abbrev pub IsKeptCursor : Session → Cursor → Type 0
 IsKeptCursor s c = (c.tree ≡ s.tree) × IsKept (at_of s) c.place
 
+abbrev pub IsKeptElement : Session → NodeOrToken Cursor Cursor → Type 0
+IsKeptElement s e = IsKeptCursor s (cursor_of e)
+
 -- where it is in the new tree
 abbrev pub new_cursor : Session → Cursor → Cursor
 new_cursor s c = record { tree = result_of s; place = moved (at_of s) s.tree c.place }
+
+abbrev pub new_element : Session → NodeOrToken Cursor Cursor → NodeOrToken Cursor Cursor
+new_element s e = element_of (new_cursor s (cursor_of e))

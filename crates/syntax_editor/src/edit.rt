@@ -1,11 +1,8 @@
 //! What a session of changes gives.
 ghost use Rattle.std.specs.Prelude.{◌≡◌, IfOk};
-ghost use Rattle.tree_model.specs.Cursor.{focus};
 ghost use Rattle.tree_model.specs.Edit.{root_of};
-ghost use Rattle.tree_model.specs.Tree.{text};
-ghost use Rattle.text_edit.specs.Replacements.{edited};
-ghost use Rattle.tree_edit_model.specs.Texts.{text_edit_of};
-ghost use Rattle.tree_edits.specs.Session.{at_of, result_of};
+ghost use Rattle.tree_edits.specs.Session.{result_of};
+ghost use Rattle.syntax_editor.specs.Editor.{text_edit_of_session, Turns};
 
 use crate::mapping::SyntaxMapping;
 use lossless_tree::SyntaxNode;
@@ -62,8 +59,8 @@ impl SyntaxEdit {
     ///
     /// `AllocError` if memory runs out.
     pub fn text_edit(&self, alloc: Global) -> Result<TextEdit, AllocError>
-        ensures edit { IfOk result (λ edit. edit ≡ text_edit_of (at_of self.now.changes) self.now.changes.tree) }
-        ensures text { IfOk result (λ edit. text (focus self.now.new_root) ≡ edited (text (focus self.now.old_root)) edit) }
+        ensures edit { IfOk result (λ edit. edit ≡ text_edit_of_session self.now.changes) }
+        ensures text { IfOk result (Turns self.now.old_root self.now.new_root) }
     {
         self.changes.text_edit(alloc)
     }

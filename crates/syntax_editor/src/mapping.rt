@@ -1,15 +1,13 @@
 //! Where what a session of changes keeps is in the new tree.
-ghost use Rattle.std.specs.Prelude.{◌≡◌, ◌↔◌, None, IfSome, suc, ◌<◌};
-ghost use Rattle.tree_model.specs.Tree.{size};
+ghost use Rattle.std.specs.Prelude.{◌≡◌, None, IfSome, suc};
 ghost use Rattle.tree_model.specs.Rows.{place_at};
 ghost use Rattle.tree_edits.specs.Session.{at_of};
 ghost use Rattle.tree_edits.specs.Kept.{new_row, new_rows_of};
-ghost use Rattle.lossless_tree.specs.Element.{cursor_of, element_of};
-ghost use Rattle.syntax_editor.specs.Editor.{IsKeptCursor, new_cursor};
+ghost use Rattle.syntax_editor.specs.Editor.{IsKeptCursor, IsKeptElement, new_cursor, new_element};
 
 use crate::edit::SyntaxEdit;
 use crate::position::{Place, is_in_tree};
-use lossless_tree::SyntaxElement;
+use lossless_tree::{SyntaxElement, SyntaxNode, SyntaxToken};
 
 /// Where what was kept is in the new tree.
 #[derive(Drop)]
@@ -40,11 +38,36 @@ impl<'e> SyntaxMapping<'e> {
     /// for the old one, and `None` for the name. Takes constant time; where the element is one of another tree in memory, the call
     /// first compares the two trees.
     pub fn old_to_new(&self, element: &SyntaxElement) -> Option<SyntaxElement>
-        ensures some { IfSome result (λ new. new ≡ element_of (new_cursor self.now.edit.now.changes (cursor_of element.now))) }
-        ensures kept { IfSome result (λ new. IsKeptCursor self.now.edit.now.changes (cursor_of element.now)) }
-        ensures none { result ≡ None → IsKeptCursor self.now.edit.now.changes (cursor_of element.now) → ⊥ }
+        ensures some { IfSome result (λ new. new ≡ new_element self.now.edit.now.changes element.now) }
+        ensures kept { IfSome result (λ new. IsKeptElement self.now.edit.now.changes element.now) }
+        ensures none { result ≡ None → IsKeptElement self.now.edit.now.changes element.now → ⊥ }
     {
         let row = self.new_row(&Place::of(element))?;
         self.edit.new_root.element_at_row(row)
+    }
+    /// The same for a node.
+    pub fn old_to_new_node(&self, node: &SyntaxNode) -> Option<SyntaxNode>
+        ensures some { IfSome result (λ new. new ≡ new_cursor self.now.edit.now.changes node.now) }
+        ensures kept { IfSome result (λ new. IsKeptCursor self.now.edit.now.changes node.now) }
+        ensures none { result ≡ None → IsKeptCursor self.now.edit.now.changes node.now → ⊥ }
+    {
+        // For the proof: what is at the place is a node.
+        node.placed();
+        let row = self.new_row(&Place::of_node(node))?;
+        let element = self.edit.new_root.element_at_row(row)?;
+        element.into_node()
+    }
+
+    /// The same for a token.
+    pub fn old_to_new_token(&self, token: &SyntaxToken) -> Option<SyntaxToken>
+        ensures some { IfSome result (λ new. new ≡ new_cursor self.now.edit.now.changes token.now) }
+        ensures kept { IfSome result (λ new. IsKeptCursor self.now.edit.now.changes token.now) }
+        ensures none { result ≡ None → IsKeptCursor self.now.edit.now.changes token.now → ⊥ }
+    {
+        // For the proof: what is at the place is a token.
+        token.placed();
+        let row = self.new_row(&Place::of_token(token))?;
+        let element = self.edit.new_root.element_at_row(row)?;
+        element.into_token()
     }
 }

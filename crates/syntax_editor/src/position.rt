@@ -34,7 +34,7 @@ impl Model for Place {
 
 impl Place {
     // Where a node is.
-    fn of_node(node: &SyntaxNode) -> Place
+    pub fn of_node(node: &SyntaxNode) -> Place
         ensures spot { result ≡ spot_of node.now }
         ensures cursor { cursor_at result.tree result.row ≡ node.now }
     {
@@ -45,7 +45,7 @@ impl Place {
     }
 
     // Where a token is.
-    fn of_token(token: &SyntaxToken) -> Place
+    pub fn of_token(token: &SyntaxToken) -> Place
         ensures spot { result ≡ spot_of token.now }
         ensures cursor { cursor_at result.tree result.row ≡ token.now }
     {

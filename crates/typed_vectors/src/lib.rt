@@ -7,6 +7,8 @@ mod algo;
 #[cfg(test)]
 mod casts;
 #[cfg(test)]
+mod edits;
+#[cfg(test)]
 mod elsewhere;
 mod functions;
 #[cfg(test)]
