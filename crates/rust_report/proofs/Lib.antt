@@ -10,3 +10,4 @@ pub mod ChangesLemmas
 pub mod RolesLemmas
 pub mod LabelsLemmas
 pub mod NumbersLemmas
+mod DepthLemmas

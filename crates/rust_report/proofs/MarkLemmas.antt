@@ -4,7 +4,7 @@ use Rattle.std.specs.List.{list_any, range_with_len}
 use Rattle.std.proofs.lemmas.List.FromFn.{get_or-map-range_with_len, length-map-range_with_len, map-range_with_len_more}
 use Rattle.tree_model.specs.Tree.{Tree, size, parent_place}
 use Rattle.tree_model.specs.Rows.{place_at}
-use Rattle.tree_model.specs.Cursor.{Cursor, cursor_at, parent_of, ancestors_of, ancestors_from, at_place}
+use Rattle.tree_model.specs.Cursor.{Cursor, cursor_at, parent_of, ancestors_from, at_place}
 use Rattle.tree_model.proofs.AncestorLemmas.{ancestors_of-step}
 use Rattle.rust_report.specs.declared.pattern.Step.{Step}
 use Rattle.std.proofs.Common.{◌==◌, ◌≤◌, ◌+◌, ◌-◌, cond, replicate, drop, zero, suc}
@@ -21,7 +21,7 @@ use Rattle.std.proofs.lemmas.Bool.{false≢true}
 use Rattle.std.specs.List.{filter}
 use Rattle.ras_node.specs.Nodes.{kind_at}
 use Rattle.lossless_tree.specs.declared.cursor.element.NodeOrToken.{NodeOrToken}
-use Rattle.lossless_tree.specs.Element.{element_of, cursor_of}
+use Rattle.lossless_tree.specs.Element.{element_of}
 use Rattle.lossless_tree.proofs.NodeLists.{cursor_of-element_by}
 use Rattle.tree_model.specs.Cursor.{focus}
 use Rattle.rust_report.specs.declared.pattern.Link.{Link}

@@ -15,3 +15,4 @@ pub mod Shown
 pub mod Labels
 pub mod Numbers
 pub mod Messages
+pub mod Depths

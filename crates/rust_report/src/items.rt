@@ -4,11 +4,15 @@ ghost use Rattle.std.specs.List.{filter};
 ghost use Rattle.tree_model.specs.Cursor.{at_node, descendants_of, ancestors_of};
 ghost use Rattle.lossless_tree.specs.declared.cursor.element.NodeOrToken.TheVariants.{Node, Token};
 ghost use Rattle.ras_node.specs.Nodes.{typed_child, token_child, has_kind_in};
+ghost use Rattle.tree_model.specs.Tree.{size};
+ghost use Rattle.rust_report.specs.Depths.{depths_of};
 ghost use Rattle.rust_report.specs.Outlines.{is_listed, is_name, is_path, is_abi, is_unheaded, word_of, label_of, depth_of, row_of};
 
+use crate::depths::{depths, number_at};
 use lossless_tree::{NodeOrToken, SyntaxElement, SyntaxKind, SyntaxNode};
 use ras_node::KindSet;
 use ras_node::support::{share, token};
+use shared_pointer::Shared;
 use std::alloc::{AllocError, Global};
 
 /// An item, its name, and how deep it is.
@@ -182,17 +186,30 @@ fn depth_of(item: &SyntaxNode) -> usize
     depth
 }
 
-fn row_of(item: SyntaxNode) -> Row
+// How many items are around a node; `depths` has this for each row of the root's tree.
+fn depth_in(depths: &[usize], root: &SyntaxNode, node: &SyntaxNode) -> usize
+    requires { depths.now ≡ depths_of root.now.tree (size root.now.tree) }
+    ensures { result ≡ depth_of node.now }
+{
+    if Shared::ptr_eq(node.table(), root.table()) {
+        number_at(depths, node.row())
+    } else {
+        depth_of(node)
+    }
+}
+
+fn row_of(depths: &[usize], root: &SyntaxNode, item: SyntaxNode) -> Row
+    requires { depths.now ≡ depths_of root.now.tree (size root.now.tree) }
     ensures { result ≡ row_of item }
 {
     let name = name_of(&item);
-    let depth = depth_of(&item);
+    let depth = depth_in(depths, root, &item);
     Row { item, name, depth }
 }
 
 /// The items of a tree in the order of the text, each before the items in it.
 ///
-/// Takes time linear in the tree, and for each item linear in its children and its depth in the tree.
+/// Takes time and memory linear in the whole tree.
 ///
 /// # Errors
 ///
@@ -200,10 +217,11 @@ fn row_of(item: SyntaxNode) -> Row
 pub fn outline(alloc: Global, root: &SyntaxNode) -> Result<Vec<Row>, AllocError>
     ensures { IfOk result (λ rows. rows.items ≡ map row_of (filter (has_kind_in is_listed) (filter at_node (descendants_of root.now)))) }
 {
+    let depths = depths(alloc, root.table().as_ref())?;
     let mut rows = Vec::new(alloc);
     for node in root.descendants() {
         if is_listed(node.kind()) {
-            rows.push(row_of(node))?;
+            rows.push(row_of(depths.as_slice(), root, node))?;
         }
     }
     Ok(rows)

@@ -5,6 +5,7 @@
 mod asked;
 mod changes;
 mod counts;
+mod depths;
 mod escapes;
 mod items;
 mod labels;

@@ -1,4 +1,4 @@
-use Rattle.std.proofs.Common.{◌≡◌, ◌<◌, ◌∷◌, [], ◌++◌, ℕ, length, Bool, true, false, List, refl, sym, ap, ◌∙◌, arith}
+use Rattle.std.proofs.Common.{false, sym, ◌∙◌, arith}
 use Rattle.rust_report.specs.Marks.{fits_row, fits_up}
 use Rattle.tree_model.specs.Tree.{size}
 use Rattle.rust_report.proofs.MarkLemmas.{marks_length, mark_at, alone, marked_here, marked_above}

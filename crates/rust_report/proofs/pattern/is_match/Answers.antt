@@ -1,4 +1,4 @@
-use Rattle.std.proofs.Common.{◌≡◌, ◌<◌, ◌∷◌, [], ◌++◌, ℕ, length, Bool, true, false, List, refl, sym, ap, ◌∙◌, arith}
+use Rattle.std.proofs.Common.{false, arith}
 use Rattle.rust_report.specs.Marks.{reaches}
 use Rattle.tree_model.specs.Tree.{size}
 use Rattle.rust_report.proofs.MarkLemmas.{marks_length, mark_at, parent_reaches}

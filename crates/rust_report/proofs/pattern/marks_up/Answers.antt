@@ -1,4 +1,4 @@
-use Rattle.std.proofs.Common.{◌≡◌, ◌∷◌, length, ap, ◌∙◌, arith}
+use Rattle.std.proofs.Common.{◌≡◌, length, ap, ◌∙◌, arith}
 use Rattle.tree_model.specs.Tree.{size}
 use Rattle.rust_report.specs.Marks.{fits_up}
 use Rattle.rust_report.proofs.MarkLemmas.{one_more, room}

@@ -1,4 +1,4 @@
-use Rattle.std.proofs.Common.{◌≡◌, ◌≤◌, ℕ, ◌-◌, ◌+◌, length, map, drop}
+use Rattle.std.proofs.Common.{◌≡◌, ◌≤◌, ◌-◌, length}
 use Rattle.std.proofs.Common.{◌∷◌}
 use Rattle.tree_model.specs.Tree.{size}
 use Rattle.rust_report.specs.Marks.{marks_of, fits_row}

@@ -1,4 +1,4 @@
-use Rattle.std.proofs.Common.{◌≡◌, ◌<◌, ◌∷◌, [], ◌++◌, ℕ, length, Bool, true, false, List, refl, sym, ap, ◌∙◌, arith}
+use Rattle.std.proofs.Common.{false, sym, ◌∙◌, arith}
 use Rattle.rust_report.specs.Patterns.{fits_at}
 use Rattle.rust_report.specs.Marks.{fits_row, element_at}
 use Rattle.tree_model.specs.Tree.{size}

@@ -1,4 +1,4 @@
-use Rattle.std.proofs.Common.{◌≡◌, ◌≤◌, ℕ, ◌-◌, ◌+◌, length, map, drop}
+use Rattle.std.proofs.Common.{◌≡◌, ◌≤◌, ◌-◌, map}
 use Rattle.std.specs.List.{filter, range_with_len}
 use Rattle.tree_model.specs.Tree.{size}
 use Rattle.rust_report.specs.Patterns.{fits_at}
