@@ -7,10 +7,11 @@
 //! [`run`] ends on every grammar and every input, in time and memory linear in the tokens.
 #![tactic(auto)]
 
+mod alone;
 mod event;
 mod grammar;
 mod machine;
 
 pub use event::{Event, Part};
 pub use grammar::{Grammar, Level, Op, Power, Sight, Test, View};
-pub use machine::run;
+pub use machine::{run, run_alone};

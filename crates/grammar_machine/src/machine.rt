@@ -1,7 +1,9 @@
 //! The machine. It has two stacks, of calls and of marks, and no recursion, and it ends whatever the grammar is.
-ghost use Rattle.std.specs.Prelude.{◌≡◌, OnOk, IfOk, length, slice_get};
+ghost use Rattle.std.specs.Prelude.{◌≡◌, OnOk, IfOk, length, slice_get, option_map, nat_eq, if◌then◌else◌, Some, None};
+ghost use Rattle.grammar_machine.specs.Alone.{alone_of};
 ghost use Rattle.grammar_machine.specs.Running.{tables_of, stacks_of, state_of, saturated_of, seen_as_of, end_as_of, signs_of_view, seen_at_of, ahead_of, has_of, target_of, kind_of, power_of, is_some, operator_view_of, holds_of, goto_of, goto_if_of, level_for_of, enter_of, bind_of, frame_of, first_of, make_of, start_of, open_of, forget_of, wrap_of, close_of, longer_of, extend_of, call_of, returned_of, take_of, expect_of, piece_of, leaf_of, return_of, obey_of, nothing_of, begin_of, fuel_of, events_of};
 
+use crate::alone::stays;
 use crate::event::{Event, Part};
 use crate::grammar::{Grammar, Level, Op, Power, Sight, Test, View};
 use std::alloc::{AllocError, Global};
@@ -19,7 +21,7 @@ const STEPS_A_TOKEN: usize = 1200;
 
 /// Where the machine is.
 #[derive(Clone, Copy, Debug)]
-struct Place {
+pub(crate) struct Place {
     /// The next operation.
     next: u32,
     /// The next token.
@@ -647,4 +649,47 @@ pub fn run(
         }
     }
     Ok(made.events)
+}
+
+// The events of a run that stopped, if it stopped right behind the last token.
+fn at_the_end(place: Place, made: Made, sights: &[Sight]) -> Option<Vec<Event>>
+    ensures { option_map (λ v. v.items) result ≡ (if nat_eq place.at (length sights.now) then Some made.events.items else None) }
+{
+    if place.at == sights.len() {
+        Some(made.events)
+    } else {
+        None
+    }
+}
+
+/// Runs a rule over the tokens of a piece of a text. Returns the events of [`run`] if the rule stops right behind the last token and
+/// no operation looked at what stands before the first token or behind the last; otherwise `None`.
+///
+/// So what was made of the piece does not depend on the text around it. The only error is out of memory.
+pub fn run_alone(
+    alloc: Global,
+    grammar: &Grammar,
+    rule: usize,
+    sights: &[Sight],
+) -> Result<Option<Vec<Event>>, AllocError>
+    ensures { IfOk result (λ events. option_map (λ v. v.items) events ≡ alone_of (tables_of grammar.now) rule sights.now) }
+{
+    let mut place = Place::new(rule);
+    let mut made = Made::new(alloc, sights.len().saturating_mul(3))?;
+    for _step in 0..fuel(sights) {
+        match grammar.ops.get(place.next as usize) {
+            None => return Ok(at_the_end(place, made, sights)),
+            Some(op) => {
+                if !stays(op, place.at, sights) {
+                    return Ok(None);
+                }
+                place.next = place.next.wrapping_add(1);
+                obey(&mut place, &mut made, grammar, sights, op)?;
+            }
+        }
+    }
+    match grammar.ops.get(place.next as usize) {
+        None => Ok(at_the_end(place, made, sights)),
+        Some(_) => Ok(None),
+    }
 }

@@ -7,6 +7,7 @@ mod macros;
 mod parsing;
 
 pub use ast::{AstNode, AstToken, SourceFile};
+pub use exact_front::ExactFront;
 pub use literal_escape as unescape;
 pub use lossless_tree::{
     Ancestors, Descendants, DescendantsWithTokens, Direction, FinishError, Language, NodeOrToken,
@@ -20,6 +21,9 @@ pub use ras_front_end::{
     Edition, Entry, FrontEnd, Output, ParseError, Reparser, Step, SyntaxError,
 };
 pub use ras_parsing::{FileView, OkError, Parse, SyntaxTreeBuilder, utils};
+
+/// A source file that is edited again and again, and its parse.
+pub type Document<F> = ras_parsing::Document<SourceFile, F>;
 
 /// Matches a node against typed views. The first arm is taken whose view casts and whose guard, if any, is true.
 ///

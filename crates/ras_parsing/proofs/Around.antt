@@ -20,7 +20,7 @@ use Rattle.ras_parsing.specs.Rereading.{IsAround}
 
 -- ---- what is in a list
 
-later_in : {X : Type 0} (x a : X) (xs : List X) → Contains xs a → Contains (x ∷ xs) a
+pub later_in : {X : Type 0} (x a : X) (xs : List X) → Contains xs a → Contains (x ∷ xs) a
 later_in x a xs h = (suc h.0, omega (arith, h.1), h.2)
 
 at_tree : (c a : Cursor) (ps : List Place) (k : ℕ) → k < length ps → get_or (map (at_place c) ps) k a ≡ a → a.tree ≡ c.tree

@@ -10,3 +10,5 @@ pub mod TokenPaths
 pub mod BlockPaths
 pub mod Blocks
 pub mod ElementKinds
+pub mod ExactPaths
+pub mod OrderedInText

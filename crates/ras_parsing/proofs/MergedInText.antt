@@ -8,20 +8,20 @@ use Rattle.ras_parsing.specs.Edit.{Edit}
 use Rattle.ras_front_end.specs.Fault.{Fault, LiesIn}
 use Rattle.ras_parsing.specs.Reparse.{kept_fault, kept_faults, moved, merged}
 
-none : (P : Fault → Type 0) → All P []
+pub none : (P : Fault → Type 0) → All P []
 none P = λ k d h. absurd (omega (arith, h))
 
 one_at : (P : Fault → Type 0) (x : Fault) → P x → (k : ℕ) (d : Fault) → k < 1 → P (get_or (x ∷ []) k d)
 one_at P x p zero d h = p
 one_at P x p (suc k) d h = absurd (omega (arith, h))
 
-one : (P : Fault → Type 0) (x : Fault) → P x → All P (x ∷ [])
+pub one : (P : Fault → Type 0) (x : Fault) → P x → All P (x ∷ [])
 one P x p = λ k d h. one_at P x p k d h
 
-le_true : (a b : ℕ) → nat_le a b ≡ true → a ≤ b
+pub le_true : (a b : ℕ) → nat_le a b ≡ true → a ≤ b
 le_true a b e = grind (arith, nat_tests)
 
-by_test : (x : Bool) (P : List Fault → Type 0) (p q : List Fault) → (x ≡ true → P p) → (x ≡ false → P q) → P (if x then p else q)
+pub by_test : (x : Bool) (P : List Fault → Type 0) (p q : List Fault) → (x ≡ true → P p) → (x ≡ false → P q) → P (if x then p else q)
 by_test true P p q f g = f refl
 by_test false P p q f g = g refl
 
@@ -48,7 +48,7 @@ kept_all replaced edit n m w (f ∷ fs) v =
     (kept_in replaced edit n m w f (v 0 f (omega arith)))
     (kept_all replaced edit n m w fs (λ k d h. v (suc k) d (omega (arith, h))))
 
-moved_all : (from p m : ℕ) → from + p ≤ m → (fs : List Fault) → All (LiesIn p) fs → All (LiesIn m) (map (moved from) fs)
+pub moved_all : (from p m : ℕ) → from + p ≤ m → (fs : List Fault) → All (LiesIn p) fs → All (LiesIn m) (map (moved from) fs)
 moved_all from p m h [] w = none (LiesIn m)
 moved_all from p m h (f ∷ fs) w =
     let v : LiesIn p f = w 0 f (omega arith) in

@@ -6,3 +6,5 @@ pub mod Rereading
 pub mod AllErrors
 pub mod OkCases
 pub mod Names
+pub mod Document
+pub mod ExactSteps

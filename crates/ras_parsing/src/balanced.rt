@@ -4,13 +4,13 @@ ghost use Rattle.ras_front_end.specs.Balanced.{opens_brace, closes_brace, open_a
 
 use syntax_kind::SyntaxKind;
 
-fn opens_brace(kind: SyntaxKind) -> bool
+pub(crate) fn opens_brace(kind: SyntaxKind) -> bool
     ensures { result ≡ opens_brace kind }
 {
     matches!(kind, SyntaxKind::L_CURLY)
 }
 
-fn closes_brace(kind: SyntaxKind) -> bool
+pub(crate) fn closes_brace(kind: SyntaxKind) -> bool
     ensures { result ≡ closes_brace kind }
 {
     matches!(kind, SyntaxKind::R_CURLY)

@@ -6,16 +6,20 @@
 mod balanced;
 mod build;
 mod builder;
+mod document;
 mod edits;
 mod error_list;
+mod exact;
 mod file;
 mod merge;
 mod ok_error;
+mod ordered;
 mod parse;
 mod reparse;
 pub mod utils;
 
 pub use builder::SyntaxTreeBuilder;
+pub use document::Document;
 pub use file::FileView;
 pub use ok_error::OkError;
 pub use parse::{Parse, read};

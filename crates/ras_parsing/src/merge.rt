@@ -7,7 +7,7 @@ use std::alloc::{AllocError, Global};
 use text_size::{TextRange, TextSize};
 
 // The new offset, after an edit, of a byte that follows it.
-fn shifted(offset: TextSize, delete: TextRange, insert: &str) -> TextSize
+pub(crate) fn shifted(offset: TextSize, delete: TextRange, insert: &str) -> TextSize
     requires behind { delete.end ≤ offset }
     requires short { shifted (record { delete = delete; insert = insert.now }) offset < 2 ^ 32 }
     ensures { result ≡ shifted (record { delete = delete; insert = insert.now }) offset }
@@ -40,7 +40,7 @@ fn keep(
 }
 
 // The error of a piece, as an error of the text around it.
-fn moved(error: SyntaxError, by: TextSize) -> SyntaxError
+pub(crate) fn moved(error: SyntaxError, by: TextSize) -> SyntaxError
     requires { error.range.end + by < 2 ^ 32 }
     ensures { result ≡ moved by error }
 {

@@ -238,7 +238,7 @@ struct NewBlock {
     text: String,
 }
 
-fn is_too_long(root: &SyntaxNode, delete: TextRange, insert: &str) -> bool
+pub(crate) fn is_too_long(root: &SyntaxNode, delete: TextRange, insert: &str) -> bool
     requires root { IsRoot root.now }
     requires edit { IsEditOf (text root.now.tree) (record { delete = delete; insert = insert.now }) }
     ensures { IsTrue result ↔ (2 ^ 32 ≤ length (edited (text root.now.tree) (record { delete = delete; insert = insert.now }))) }
@@ -248,7 +248,7 @@ fn is_too_long(root: &SyntaxNode, delete: TextRange, insert: &str) -> bool
 }
 
 // The text of a node or token that starts at a byte of the whole text, after an edit of the whole text inside of it.
-fn edited_text(
+pub(crate) fn edited_text(
     alloc: Global,
     piece: &str,
     start: TextSize,

@@ -1,7 +1,6 @@
 //! Random edits of a text: what is typed, deleted and pasted.
+use crate::chance::{Chance, Edit, edited};
 use ra_ap_syntax::{Edition, NodeOrToken, Parse, SourceFile, TextRange, TextSize};
-use rand_core::Rng;
-use rand_pcg::Pcg32;
 use rust_front::Rust;
 use std::alloc::Global;
 
@@ -52,54 +51,13 @@ const TYPED: [&str; 40] = [
 /// Makes edits and counts what came of them.
 #[derive(Drop)]
 pub struct Edits {
-    chance: Pcg32,
+    chance: Chance,
     tokens: u64,
     blocks: u64,
     all: u64,
     different: u64,
     other_errors: u64,
     wrong_texts: u64,
-}
-
-// The bytes that go, and the text that comes.
-#[derive(Drop)]
-struct Edit {
-    start: u32,
-    end: u32,
-    insert: String,
-}
-
-// The nearest character boundary before or at an offset.
-fn boundary(text: &str, offset: usize) -> usize {
-    let mut at = offset.min(text.len());
-    for _step in 0..4 {
-        if text.is_char_boundary(at) {
-            return at;
-        }
-        at = at.saturating_sub(1);
-    }
-    0
-}
-
-fn short(offset: usize) -> u32 {
-    u32::try_from(offset).unwrap_or(u32::MAX)
-}
-
-// What comes in place of what goes, if anything does.
-fn inserted<'a>(kind: usize, typed: &'a str, piece: &'a str) -> &'a str {
-    match kind {
-        0 | 1 => "",
-        2 | 3 => piece,
-        _ => typed,
-    }
-}
-
-fn edited(alloc: Global, text: &str, edit: &Edit) -> anyhow::Result<String> {
-    let mut new = String::new(alloc);
-    new.push_str(text.get(..edit.start as usize).unwrap_or(""))?;
-    new.push_str(edit.insert.as_str())?;
-    new.push_str(text.get(edit.end as usize..).unwrap_or(""))?;
-    Ok(new)
 }
 
 // A number made of the errors of a parse, whatever their order.
@@ -119,7 +77,7 @@ impl Edits {
     /// Edits by the numbers that follow a seed.
     pub fn new(seed: u64) -> Edits {
         Edits {
-            chance: Pcg32::new(seed, 54),
+            chance: Chance::new(seed),
             tokens: 0,
             blocks: 0,
             all: 0,
@@ -127,40 +85,6 @@ impl Edits {
             other_errors: 0,
             wrong_texts: 0,
         }
-    }
-
-    // A number below n; 0 where n is 0.
-    fn below(&mut self, n: usize) -> usize {
-        let word = self.chance.next_u32() as usize;
-        if n == 0 { 0 } else { word % n }
-    }
-
-    // A piece of the text of less than so many bytes, from any place on.
-    fn span(&mut self, text: &str, most: usize) -> (usize, usize) {
-        let start = boundary(text, self.below(text.len().saturating_add(1)));
-        let end = boundary(text, start.saturating_add(self.below(most))).max(start);
-        (start, end)
-    }
-
-    fn typed(&mut self) -> &'static str {
-        match TYPED.get(self.below(40)) {
-            Some(word) => word,
-            None => "a",
-        }
-    }
-
-    // Half of all edits type something, the others delete, paste a piece of the text, or put it in place of another.
-    fn choose(&mut self, alloc: Global, text: &str) -> anyhow::Result<Edit> {
-        let kind = self.below(8);
-        let (start, end) = self.span(text, if kind == 1 { 200 } else { 8 });
-        let (from, to) = self.span(text, 80);
-        let piece = text.get(from..to).unwrap_or("");
-        let insert = inserted(kind, self.typed(), piece);
-        Ok(Edit {
-            start: short(start),
-            end: short(if kind < 4 && kind != 2 { end } else { start }),
-            insert: format!(in alloc; "{insert}")?,
-        })
     }
 
     /// Makes so many edits of one file, each of the text as it is.
@@ -174,7 +98,7 @@ impl Edits {
     ) -> anyhow::Result<()> {
         let parse = SourceFile::parse(rt.alloc(), text, &Rust, edition)?;
         for _edit in 0..count {
-            let edit = self.choose(rt.alloc(), text)?;
+            let edit = self.chance.edit(rt.alloc(), text, &TYPED)?;
             if !self.is_kept(rt.alloc(), &parse, text, &edit, edition)? {
                 println!(rt;
                     "{path} {edition:?} {}..{} {:?}",

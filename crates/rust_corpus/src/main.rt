@@ -7,11 +7,18 @@
 //! For `edits` a line may also be `tiny` or `rust`, a tab and a short text, in which `\n` is a newline: every range of it is replaced
 //! by each of six words, and every token too. What differs from a plain model is printed, and then the status is 1. The lines of
 //! `data/texts` take a minute.
+//!
+//! `documents N SEED` makes N random edits of each file, each on a new `Document`, and N more, one after the other, on one. Every range
+//! of a short text of a line `rust` is replaced by each of thirty words. After each edit the document's tree and its errors, in their
+//! order, have to be those of a new parse; if not, the edit is printed, and the status is 1. `edits` does the same with its files, and
+//! with the text of a line `document`, a tab and a short text.
 #![tactic(auto)]
 
+mod chance;
 mod edits;
 mod every_edit;
 mod operators;
+mod sessions;
 
 use every_edit::EveryEdit;
 use ra_ap_syntax::Edition;
@@ -29,12 +36,29 @@ fn edition_of(word: &str) -> Edition {
     }
 }
 
+// What the first argument asks.
+#[derive(Clone, Copy, PartialEq, Eq)]
+enum Command {
+    Edits,
+    Documents,
+    Operators,
+}
+
+fn command_of(word: &str) -> Command {
+    match word {
+        "edits" => Command::Edits,
+        "documents" => Command::Documents,
+        _ => Command::Operators,
+    }
+}
+
 // What the first argument asks, and what was found so far.
 #[derive(Drop)]
 struct Asked {
-    is_edits: bool,
+    command: Command,
     count: u64,
     edits: edits::Edits,
+    sessions: sessions::Sessions,
     every: EveryEdit,
     operators: operators::Operators,
 }
@@ -45,30 +69,38 @@ impl Asked {
             return Ok(());
         };
         let edition = edition_of(edition);
-        if self.is_edits {
-            self.edits
-                .try_file(rt, path, text.as_str(), edition, self.count)
-        } else {
-            self.operators.ask_file(rt, path, text.as_str(), edition)
+        let text = text.as_str();
+        match self.command {
+            Command::Operators => return self.operators.ask_file(rt, path, text, edition),
+            Command::Edits => self.edits.try_file(rt, path, text, edition, self.count)?,
+            Command::Documents => {}
         }
+        self.sessions.try_file(rt, path, text, edition, self.count)
     }
 
     fn line(&mut self, rt: &HostRuntime, line: &str) -> anyhow::Result<()> {
         let (word, rest) = line.split_once('\t').unwrap_or(("2024", line));
         let text = rest.replace(rt.alloc(), "\\n", "\n")?;
         match word {
+            "document" => self.sessions.try_text(rt, text.as_str()),
             "tiny" => self.every.try_text(rt, &Tiny, text.as_str()),
-            "rust" => self.every.try_text(rt, &Rust, text.as_str()),
+            "rust" => match self.command {
+                Command::Documents => self.sessions.try_text(rt, text.as_str()),
+                _ => self.every.try_text(rt, &Rust, text.as_str()),
+            },
             _ => self.file(rt, word, rest),
         }
     }
 
     fn tell(&self, rt: &HostRuntime) -> anyhow::Result<()> {
-        if self.is_edits {
-            self.edits.tell(rt)?;
-            self.every.tell(rt)
-        } else {
-            self.operators.tell(rt)
+        match self.command {
+            Command::Operators => self.operators.tell(rt),
+            Command::Documents => self.sessions.tell(rt),
+            Command::Edits => {
+                self.edits.tell(rt)?;
+                self.every.tell(rt)?;
+                self.sessions.tell(rt)
+            }
         }
     }
 }
@@ -80,9 +112,12 @@ fn main(rt: HostRuntime) -> anyhow::Result<ExitCode> {
         .get(index)
         .map_or(1, |word| word.parse::<u64>().unwrap_or(1));
     let mut asked = Asked {
-        is_edits: words.get(1).map_or(false, |word| word.as_str() == "edits"),
+        command: words
+            .get(1)
+            .map_or(Command::Operators, |word| command_of(word.as_str())),
         count: number(2),
         edits: edits::Edits::new(number(3)),
+        sessions: sessions::Sessions::new(number(3)),
         every: EveryEdit::default(),
         operators: operators::Operators::default(),
     };
@@ -90,7 +125,7 @@ fn main(rt: HostRuntime) -> anyhow::Result<ExitCode> {
         asked.line(&rt, line)?;
     }
     asked.tell(&rt)?;
-    Ok(if asked.every.is_wrong() {
+    Ok(if asked.every.is_wrong() || asked.sessions.is_wrong() {
         ExitCode::FAILURE
     } else {
         ExitCode::SUCCESS

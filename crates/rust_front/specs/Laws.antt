@@ -38,7 +38,7 @@ errors_lie text n (e ∷ es) h =
     All-cons (LiesIn n) (lexer_error_of text e) (map (lexer_error_of text) es) one (errors_lie text n es (All-tail (ErrorLiesIn n) e es h))
 
 -- whatever the events are
-keeps : (is_root : SyntaxKind → Type 0) (root : SyntaxKind) (events : List Event) (e : Edition) (text : List ℕ) → is_root root → IsUtf8 text → length text < 2 ^ 32
+pub keeps : (is_root : SyntaxKind → Type 0) (root : SyntaxKind) (events : List Event) (e : Edition) (text : List ℕ) → is_root root → IsUtf8 text → length text < 2 ^ 32
     → Keeps is_root text (reading_with root text (tokens_of e text) (errors_of e text) events)
 unfolding reading_with
 keeps is_root root events e text h u l =

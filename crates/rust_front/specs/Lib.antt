@@ -3,3 +3,5 @@ pub mod Roots
 pub mod Messages
 pub mod Front
 pub mod Laws
+pub mod Exact
+pub mod ExactLaws

@@ -46,6 +46,22 @@ reparser_on k (Some n) = Some (record { kind = k; number = n })
 abbrev pub chosen_of : SyntaxKind → Option SyntaxKind → Option SyntaxKind → Option Reparser
 chosen_of k first parent = reparser_on k (number_of k first parent)
 
+-- the number of the rule of the nodes between braces that one rule makes wherever they are
+abbrev pub exact_number_of : SyntaxKind → Option ℕ
+exact_number_of (Node node.STMT_LIST) = Some 10
+exact_number_of (Node node.RECORD_FIELD_LIST) = Some 1
+exact_number_of (Node node.MATCH_ARM_LIST) = Some 4
+exact_number_of (Node node.USE_TREE_LIST) = Some 5
+exact_number_of (Node node.EXTERN_ITEM_LIST) = Some 6
+exact_number_of (Node node.TOKEN_TREE) = Some 7
+exact_number_of (Node node.ASSOC_ITEM_LIST) = Some 8
+exact_number_of (Node node.ITEM_LIST) = Some 9
+exact_number_of (OTHER n) = other_rule_of n
+exact_number_of _ = None
+
+abbrev pub exact_chosen_of : SyntaxKind → Option Reparser
+exact_chosen_of k = reparser_on k (exact_number_of k)
+
 abbrev pub rule_by_number : ℕ → Rule
 rule_by_number n =
     if nat_eq n 0 then rule.BlockExpr
@@ -57,4 +73,5 @@ rule_by_number n =
     else (if nat_eq n 6 then rule.ExternItemList
     else (if nat_eq n 7 then rule.TokenTree
     else (if nat_eq n 8 then rule.AssocItemList
-    else rule.ItemList))))))))
+    else (if nat_eq n 10 then rule.StmtList
+    else rule.ItemList)))))))))

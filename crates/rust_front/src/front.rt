@@ -6,11 +6,13 @@ ghost use Rattle.rust_lexer.specs.Lexing.{tokens_of, errors_of};
 ghost use Rattle.rust_grammar.specs.Seeing.{sights_of};
 ghost use Rattle.rust_front.specs.Front.{kinds_of, made_with, reading_with, nothing_read, whole_of, whole_piece_of, parsed_of, piece_of, single_of_text};
 
+use crate::exact::{exact_piece, has_head};
 use crate::message::{lexer_errors, lexer_message};
-use crate::piece::{reparser_of, rule_by};
+use crate::piece::{exact_reparser_of, reparser_of, rule_by};
 use crate::report::reported;
 use crate::root::{attaching, root_kind, rule_of_entry};
 use event_layout::{lay_out, outermost};
+use exact_front::ExactFront;
 use grammar_machine::{Event, run};
 use ras_front_end::{Edition, Entry, FrontEnd, Output, Reparser};
 use rust_grammar::{Rule, grammar, rule_of, sights};
@@ -51,7 +53,7 @@ fn events(
 }
 
 #[tactic(auto, unfolding(crate::specs::Front::reading_with))]
-fn assemble(
+pub(crate) fn assemble(
     alloc: Global,
     root: SyntaxKind,
     text: &str,
@@ -66,7 +68,7 @@ fn assemble(
     Ok(Output { steps, errors })
 }
 
-fn is_short(text: &str) -> bool
+pub(crate) fn is_short(text: &str) -> bool
     ensures { result ≡ nat_lt (length text.now) (2 ^ 32) }
 {
     text.len() < 1 << 32
@@ -215,5 +217,32 @@ impl FrontEnd for Rust {
 
     fn is_strict_keyword(&self, kind: SyntaxKind, edition: Edition) -> bool {
         is_strict_keyword(kind, edition)
+    }
+}
+
+impl ExactFront for Rust {
+    ghost use Rattle.rust_front.specs.Exact.{rust_exact};
+    ghost use Rattle.rust_front.specs.ExactLaws.{rust_exact_kept};
+
+    ghost exact = { λ _. rust_exact };
+
+    ghost exact_kept = { λ _. rust_exact_kept };
+
+    fn has_head(&self, text: &str) -> bool {
+        has_head(text)
+    }
+
+    fn exact_reparser(&self, kind: SyntaxKind) -> Option<Reparser> {
+        exact_reparser_of(kind)
+    }
+
+    fn exact_piece(
+        &self,
+        alloc: Global,
+        reparser: Reparser,
+        text: &str,
+        edition: Edition,
+    ) -> Result<Option<Output>, AllocError> {
+        exact_piece(alloc, reparser, text, edition)
     }
 }

@@ -1,6 +1,7 @@
 //! Rust's front end: parses a text by the whole grammar into a lossless tree, with rust-analyzer's error messages.
 #![tactic(auto)]
 
+mod exact;
 mod front;
 mod message;
 mod piece;

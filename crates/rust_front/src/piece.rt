@@ -1,6 +1,6 @@
 //! The nodes that can be parsed again by themselves.
 ghost use Rattle.std.specs.Prelude.{◌≡◌};
-ghost use Rattle.rust_front.specs.Pieces.{has_assoc_items_of, is_braced_of, other_rule_of, number_of, chosen_of, rule_by_number};
+ghost use Rattle.rust_front.specs.Pieces.{has_assoc_items_of, is_braced_of, other_rule_of, number_of, chosen_of, exact_number_of, exact_chosen_of, rule_by_number};
 
 use ras_front_end::Reparser;
 use rust_grammar::Rule;
@@ -27,6 +27,8 @@ const TOKEN_TREE: u32 = 7;
 const ASSOC_ITEM_LIST: u32 = 8;
 
 const ITEM_LIST: u32 = 9;
+
+const STMT_LIST: u32 = 10;
 
 // A list of associated items belongs to an `impl` or a trait.
 fn has_assoc_items(parent: Option<SyntaxKind>) -> bool
@@ -87,6 +89,34 @@ pub fn reparser_of(
     }
 }
 
+fn exact_number_of(kind: SyntaxKind) -> Option<u32>
+    ensures { result ≡ exact_number_of kind }
+{
+    match kind {
+        SyntaxKind::STMT_LIST => Some(STMT_LIST),
+        SyntaxKind::RECORD_FIELD_LIST => Some(RECORD_FIELD_LIST),
+        SyntaxKind::MATCH_ARM_LIST => Some(MATCH_ARM_LIST),
+        SyntaxKind::USE_TREE_LIST => Some(USE_TREE_LIST),
+        SyntaxKind::EXTERN_ITEM_LIST => Some(EXTERN_ITEM_LIST),
+        SyntaxKind::TOKEN_TREE => Some(TOKEN_TREE),
+        SyntaxKind::ASSOC_ITEM_LIST => Some(ASSOC_ITEM_LIST),
+        SyntaxKind::ITEM_LIST => Some(ITEM_LIST),
+        SyntaxKind::OTHER(number) => other_rule(number),
+        _ => None,
+    }
+}
+
+/// The reparser of the nodes between braces that are parsed by themselves as in the text, or `None` for other kinds. A block is one of
+/// its `STMT_LIST`, which one rule makes wherever it is; a `BLOCK_EXPR` is made in several ways.
+pub fn exact_reparser_of(kind: SyntaxKind) -> Option<Reparser>
+    ensures { result ≡ exact_chosen_of kind }
+{
+    match exact_number_of(kind) {
+        None => None,
+        Some(number) => Some(Reparser { kind, number }),
+    }
+}
+
 /// The grammar's rule for a reparser.
 pub fn rule_by(number: u32) -> Rule
     ensures { result ≡ rule_by_number number }
@@ -101,6 +131,7 @@ pub fn rule_by(number: u32) -> Rule
         EXTERN_ITEM_LIST => Rule::ExternItemList,
         TOKEN_TREE => Rule::TokenTree,
         ASSOC_ITEM_LIST => Rule::AssocItemList,
+        STMT_LIST => Rule::StmtList,
         _ => Rule::ItemList,
     }
 }

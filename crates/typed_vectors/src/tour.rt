@@ -2,8 +2,8 @@
 use ra_ap_syntax::ast::{self, ArithOp, BinaryOp, HasModuleItem, HasName};
 use ra_ap_syntax::unescape::unescape_str;
 use ra_ap_syntax::{
-    AstNode, AstPtr, Edition, SourceFile, SyntaxKind, SyntaxNode, TextRange, TextSize, TreeBuilder,
-    algo, match_ast,
+    AstNode, AstPtr, Document, Edition, SourceFile, SyntaxKind, SyntaxNode, TextRange, TextSize,
+    TreeBuilder, algo, match_ast,
 };
 use rust_front::Rust;
 use std::alloc::Global;
@@ -84,6 +84,26 @@ fn an_edit_reads_a_token_anew(rt: HostRuntime) -> Result<(), Fail> {
     let (new, range) = edited.ok_or("the whole text has to be parsed again")?;
     assert!(rt; range == name);
     assert_eq!(rt; new.syntax_node().as_str(), "fn bar() {}");
+    Ok(())
+}
+
+#[test]
+fn a_document_is_edited(rt: HostRuntime) -> Result<(), Fail> {
+    let alloc = rt.alloc();
+    let text = "fn f() { a }";
+    let argument = TextRange::new(TextSize::new(9), TextSize::new(10));
+    let mut document = Document::new(alloc, Rust, text, Edition::CURRENT)?;
+    let range = document.edit(alloc, argument, "b")?;
+    let parse = document.parse();
+    assert!(rt; range == TextRange::new(TextSize::new(7), TextSize::new(12)));
+    assert_eq!(rt; parse.syntax_node().as_str(), "fn f() { b }");
+    let name = TextRange::new(TextSize::new(3), TextSize::new(4));
+    let range = document.edit(alloc, name, "g")?;
+    assert!(rt; range == TextRange::up_to(TextSize::new(12)));
+    assert_eq!(rt; document.text(), "fn g() { b }");
+    assert!(rt;
+        *document.parse() == SourceFile::parse(alloc, "fn g() { b }", &Rust, Edition::CURRENT)?
+    );
     Ok(())
 }
 

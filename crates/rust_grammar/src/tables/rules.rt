@@ -57,6 +57,8 @@ pub enum Rule {
     ExternItemList,
     /// The rule `token_tree`.
     TokenTree,
+    /// The rule `stmt_list`.
+    StmtList,
 }
 
 /// The number of the rule's first operation.
@@ -64,31 +66,32 @@ pub fn rule_of(rule: Rule) -> usize
     ensures { result ≡ first_op rule }
 {
     match rule {
-        Rule::SourceFile => 2720,
-        Rule::MacroItems => 2741,
-        Rule::MacroStmts => 2758,
-        Rule::WholePattern => 2764,
-        Rule::WholeType => 2772,
-        Rule::WholeExpr => 2780,
-        Rule::WholeMeta => 2788,
-        Rule::FragmentVis => 2796,
+        Rule::SourceFile => 2738,
+        Rule::MacroItems => 2759,
+        Rule::MacroStmts => 2776,
+        Rule::WholePattern => 2782,
+        Rule::WholeType => 2790,
+        Rule::WholeExpr => 2798,
+        Rule::WholeMeta => 2806,
+        Rule::FragmentVis => 2814,
         Rule::BlockExpr => 2140,
-        Rule::FragmentStmt => 2797,
+        Rule::FragmentStmt => 2815,
         Rule::Pattern => 1200,
         Rule::PatternSingle => 1213,
         Rule::Type => 770,
-        Rule::FragmentExpr => 2798,
-        Rule::FragmentPath => 2799,
-        Rule::FragmentItem => 2800,
-        Rule::FragmentMeta => 2801,
-        Rule::RecordFields => 3337,
+        Rule::FragmentExpr => 2816,
+        Rule::FragmentPath => 2817,
+        Rule::FragmentItem => 2818,
+        Rule::FragmentMeta => 2819,
+        Rule::RecordFields => 3355,
         Rule::RecordExprFields => 1944,
-        Rule::Variants => 3439,
+        Rule::Variants => 3457,
         Rule::MatchArms => 2283,
-        Rule::UseTreeList => 3188,
-        Rule::ItemList => 2802,
-        Rule::AssocItemList => 3648,
-        Rule::ExternItemList => 2820,
+        Rule::UseTreeList => 3206,
+        Rule::ItemList => 2820,
+        Rule::AssocItemList => 3666,
+        Rule::ExternItemList => 2838,
         Rule::TokenTree => 133,
+        Rule::StmtList => 2624,
     }
 }

@@ -1,0 +1,19 @@
+-- Which pieces of a text a front end reads by themselves as in the text, as functions of their arguments.
+use Rattle.std.specs.Prelude.{◌≡◌, ℕ, ◌<◌, ◌^◌, List, length, Option, Some, IsUtf8, Bool}
+use Rattle.syntax_kind.specs.declared.syntax_kind.SyntaxKind.{SyntaxKind}
+use Rattle.ras_front_end.specs.declared.edition.Edition.{Edition}
+use Rattle.ras_front_end.specs.declared.edition.Reparser.{Reparser}
+use Rattle.ras_front_end.specs.Reading.{Reading}
+use Rattle.ras_front_end.specs.Keeps.{Keeps}
+
+pub record Exact : Type 0 where
+  pub has_head : List ℕ → Bool
+  pub chosen : SyntaxKind → Option Reparser
+  pub piece : Reparser → Edition → List ℕ → Option Reading
+
+-- the steps of a piece build one tree of the reparser's kind, for texts of fewer than 2^32 bytes
+pub record ExactKeeps (exact : Exact) : Type 0 where
+  pub piece_kept :
+      (reparser : Reparser) (edition : Edition) (text : List ℕ) (reading : Reading)
+      → IsUtf8 text → length text < 2 ^ 32 → exact.piece reparser edition text ≡ Some reading
+      → Keeps (λ root. root ≡ reparser.kind) text reading

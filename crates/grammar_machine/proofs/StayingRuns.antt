@@ -1,0 +1,107 @@
+-- Runs that look at the tokens alone, operation by operation.
+use Rattle.std.proofs.Common.{◌≡◌, ℕ, zero, suc, ◌<◌, ◌≤◌, List, ap, ◌∙◌, sym, refl, add-one, ◌+◌, Bool, true, false, nat_le, arith}
+use Rattle.std.specs.Prelude.{Option, Some, None, slice_get, length, ◌&&◌, nat_eq, reverse, if◌then◌else◌}
+use Rattle.std.proofs.lemmas.Bool.{leb-false}
+use Rattle.std.proofs.lemmas.Bool.Decides.{nat_tests}
+use Rattle.grammar_machine.specs.declared.event.Event.{Event}
+use Rattle.grammar_machine.specs.declared.grammar.Sight.{Sight}
+use Rattle.grammar_machine.specs.declared.grammar.Op.{Op}
+use Rattle.grammar_machine.specs.Running.{Tables, State, runs, begin_of, run_of, fuel_of}
+use Rattle.grammar_machine.specs.Alone.{stays_on, stays_at, stays_until, is_none_of, is_over_of, alone_of}
+use Rattle.grammar_machine.proofs.Running.{runs-done}
+
+pub stays-none : (g : Tables) (ts : List Sight) (s : State) → stays_until 0 g ts s ≡ true
+unfolding stays_until
+stays-none g ts s = refl
+
+stays-suc : (n : ℕ) (g : Tables) (ts : List Sight) (s : State) → stays_until (suc n) g ts s ≡ (stays_until n g ts s && stays_at g ts (runs n g ts s))
+unfolding stays_until
+stays-suc n g ts s = refl
+
+both : (a b : Bool) → a ≡ true → b ≡ true → (a && b) ≡ true
+both true b p q = q
+both false b p q = p
+
+second : (a b : Bool) → b ≡ false → (a && b) ≡ false
+second true b q = q
+second false b q = refl
+
+first : (a b : Bool) → a ≡ false → (a && b) ≡ false
+first true b p = (let bad : true ≡ false = p in cc)
+first false b p = refl
+
+pub stays-more : (n : ℕ) (g : Tables) (ts : List Sight) (s : State) → stays_until n g ts s ≡ true → stays_at g ts (runs n g ts s) ≡ true → stays_until (n + 1) g ts s ≡ true
+stays-more n g ts s p q = rw add-one (stays-suc n g ts s ∙ both (stays_until n g ts s) (stays_at g ts (runs n g ts s)) p q)
+
+at_most : (m n : ℕ) → nat_le n m ≡ true → n ≤ m
+at_most m n q = grind (arith, nat_tests)
+
+-- where there is no operation, nothing is looked at
+pub stays-done : (m n : ℕ) (g : Tables) (ts : List Sight) (s : State) → n ≤ m → slice_get g.ops (runs n g ts s).place.next ≡ None → stays_until n g ts s ≡ true → stays_until m g ts s ≡ true
+stays-done zero n g ts s h e p =
+    let none : 0 ≡ n = omega (arith, h) in
+    ap (λ k. stays_until k g ts s) none ∙ p
+stays-done (suc m) n g ts s h e p = by_test (λ w. stays-done m n g ts s w e p) (nat_le n m) refl
+  where
+    last : nat_le n m ≡ false → suc m ≡ n
+    last q = let above : m < n = leb-false n m q in omega (arith, h, above)
+
+    quiet : n ≤ m → stays_at g ts (runs m g ts s) ≡ true
+    quiet w = ap (λ (x : State). stays_at g ts x) (runs-done m n g ts s w e) ∙ ap (λ o. stays_on o (runs n g ts s).place.at (length ts)) e
+
+    by_test : (n ≤ m → stays_until m g ts s ≡ true) → (b : Bool) → nat_le n m ≡ b → stays_until (suc m) g ts s ≡ true
+    by_test earlier true q = stays-suc m g ts s ∙ both (stays_until m g ts s) (stays_at g ts (runs m g ts s)) (earlier (at_most m n q)) (quiet (at_most m n q))
+    by_test earlier false q = ap (λ k. stays_until k g ts s) (last q) ∙ p
+
+-- where an operation looks at something else, all longer runs do
+pub strays : (m n : ℕ) (g : Tables) (ts : List Sight) (s : State) → n < m → stays_at g ts (runs n g ts s) ≡ false → stays_until m g ts s ≡ false
+strays zero n g ts s h e = absurd (omega (arith, h))
+strays (suc m) n g ts s h e = by_test (λ w. strays m n g ts s w e) (nat_le m n) refl
+  where
+    below : nat_le m n ≡ false → n < m
+    below q = leb-false m n q
+
+    same : nat_le m n ≡ true → m ≡ n
+    same q = let w = at_most n m q in omega (arith, h, w)
+
+    by_test : (n < m → stays_until m g ts s ≡ false) → (b : Bool) → nat_le m n ≡ b → stays_until (suc m) g ts s ≡ false
+    by_test earlier false q = stays-suc m g ts s ∙ first (stays_until m g ts s) (stays_at g ts (runs m g ts s)) (earlier (below q))
+    by_test earlier true q = stays-suc m g ts s ∙ second (stays_until m g ts s) (stays_at g ts (runs m g ts s)) (ap (λ k. stays_at g ts (runs k g ts s)) (same q) ∙ e)
+
+choose_both : (a b c : Bool) (x y : Option (List Event)) → a ≡ true → b ≡ true → x ≡ y → (if c then x else None) ≡ (if (a && (b && c)) then y else None)
+choose_both true true c x y p q e = ap (λ z. if c then z else None) e
+choose_both true false c x y p q e = (let bad : false ≡ true = q in cc)
+choose_both false b c x y p q e = (let bad : false ≡ true = p in cc)
+
+choose_first : (a b : Bool) (y : Option (List Event)) → a ≡ false → None ≡ (if (a && b) then y else None)
+choose_first true b y p = (let bad : true ≡ false = p in cc)
+choose_first false b y p = refl
+
+choose_second : (a b c : Bool) (y : Option (List Event)) → b ≡ false → None ≡ (if (a && (b && c)) then y else None)
+choose_second true true c y p = (let bad : true ≡ false = p in cc)
+choose_second true false c y p = refl
+choose_second false b c y p = refl
+
+-- a run that stopped after k operations, of which each looked at the tokens alone
+pub alone-over : (g : Tables) (rule : ℕ) (ts : List Sight) (k : ℕ) (s : State) (items : List Event) → s ≡ runs k g ts (begin_of rule) → k ≤ fuel_of (length ts) → slice_get g.ops s.place.next ≡ None
+    → stays_until k g ts (begin_of rule) ≡ true → items ≡ reverse s.made.events → (if nat_eq s.place.at (length ts) then Some items else None) ≡ alone_of g rule ts
+alone-over g rule ts k s items is h e p q =
+    let stopped : slice_get g.ops (runs k g ts (begin_of rule)).place.next ≡ None = ap (λ (x : State). slice_get g.ops x.place.next) (sym is) ∙ e in
+    let all : s ≡ run_of g rule ts = is ∙ sym (runs-done (fuel_of (length ts)) k g ts (begin_of rule) h stopped) in
+    let quiet : stays_until (fuel_of (length ts)) g ts (begin_of rule) ≡ true = stays-done (fuel_of (length ts)) k g ts (begin_of rule) h stopped p in
+    let over : is_over_of g (run_of g rule ts) ≡ true = ap (λ (x : State). is_over_of g x) (sym all) ∙ ap is_none_of e in
+    ap (λ (x : State). if nat_eq x.place.at (length ts) then Some items else None) all
+    ∙ choose_both (stays_until (fuel_of (length ts)) g ts (begin_of rule)) (is_over_of g (run_of g rule ts)) (nat_eq (run_of g rule ts).place.at (length ts)) (Some items) (Some (reverse (run_of g rule ts).made.events)) quiet over
+    (ap Some (q ∙ ap (λ (x : State). reverse x.made.events) all))
+
+-- one that looked at something else
+pub alone-strays : (g : Tables) (rule : ℕ) (ts : List Sight) (k : ℕ) (s : State) → s ≡ runs k g ts (begin_of rule) → k < fuel_of (length ts) → stays_at g ts s ≡ false → None ≡ alone_of g rule ts
+alone-strays g rule ts k s is h e =
+    choose_first (stays_until (fuel_of (length ts)) g ts (begin_of rule)) (is_over_of g (run_of g rule ts) && nat_eq (run_of g rule ts).place.at (length ts)) (Some (reverse (run_of g rule ts).made.events))
+    (strays (fuel_of (length ts)) k g ts (begin_of rule) h (ap (λ (x : State). stays_at g ts x) (sym is) ∙ e))
+
+-- one that did not stop
+pub alone-goes_on : (g : Tables) (rule : ℕ) (ts : List Sight) (k : ℕ) (s : State) (o : Op) → s ≡ runs k g ts (begin_of rule) → k ≡ fuel_of (length ts) → slice_get g.ops s.place.next ≡ Some o → None ≡ alone_of g rule ts
+alone-goes_on g rule ts k s o is h e =
+    choose_second (stays_until (fuel_of (length ts)) g ts (begin_of rule)) (is_over_of g (run_of g rule ts)) (nat_eq (run_of g rule ts).place.at (length ts)) (Some (reverse (run_of g rule ts).made.events))
+    (ap (λ (x : State). is_over_of g x) (ap (λ n. runs n g ts (begin_of rule)) (sym h) ∙ sym is) ∙ ap is_none_of e)

@@ -1,0 +1,173 @@
+//! A text that is edited, with its parse.
+ghost use Rattle.std.specs.Prelude.{◌≡◌, ◌↔◌, ◌<◌, ◌≤◌, ◌^◌, length, IfOk, IfErr, OnOk, OnErr};
+ghost use Rattle.tree_model.specs.Tree.{text};
+ghost use Rattle.ras_front_end.specs.declared.parse_error.ParseError.TheVariants.{TooLong};
+ghost use Rattle.ras_parsing.specs.Edit.{IsEditOf, edited};
+ghost use Rattle.ras_parsing.specs.Document.{IsReadOf, IsEdited};
+
+use crate::build::build_output;
+use crate::exact::{Counted, exact_path, parser_errors, with_exact};
+use crate::file::FileView;
+use crate::parse::Parse;
+use crate::reparse::{edited_text, is_too_long};
+use exact_front::ExactFront;
+use lossless_tree::{TextRange, TextSize};
+use ras_front_end::{Edition, Entry, FrontEnd, ParseError};
+use std::alloc::Global;
+
+/// A text that is edited again and again, and its parse by a front end in an edition.
+///
+/// After each edit the parse is meant to be that of the new text: the tree, and the errors in their order, that a parse of the new text
+/// from the beginning would give. [`Document::edit`] parses one block again where the front end can tell that this is enough
+/// (see [`ExactFront`]), and otherwise the whole text.
+///
+/// What is proved: the text of the parse is always the text after all edits; where the whole text was parsed, the parse is that of the
+/// text; where a block was parsed, the tree is the old one with the tree of the block's new text in its place, and the errors are the
+/// old ones around it and the new ones in it, in this order. That this is the parse of the whole text is not proved: it rests on
+/// [`ExactFront`], whose promise is tested for Rust, but is no law. [`Parse::reparse`] is for parses that no document keeps, and
+/// makes less sure.
+///
+/// A failed edit leaves the document unchanged.
+#[derive(Drop)]
+pub struct Document<T, F: Drop> {
+    front: F,
+    edition: Edition,
+    parse: Parse<T>,
+    // the first errors are the parser's, so many; those behind are the lexer's
+    parser_errors: usize,
+}
+
+// The parse of a text as a file.
+fn read_counted<T, F: FrontEnd>(
+    alloc: Global,
+    front: &F,
+    text: &str,
+    edition: Edition,
+) -> Result<Counted<T>, ParseError>
+    requires { length text.now < 2 ^ 32 }
+    ensures new { IfOk result (λ n. IsReadOf (F.answers front.now) edition text.now n.parse n.parser_errors) }
+    ensures range { IfOk result (λ n. n.range ≡ record { start = 0; end = length text.now }) }
+    ensures refused { IfErr result (λ e. (e ≡ TooLong) ↔ (2 ^ 32 ≤ length text.now)) }
+{
+    let output = front.parse(alloc, Entry::SourceFile, text, edition)?;
+    let parser_errors = parser_errors(&output.steps);
+    let built = build_output(alloc, text, output)?;
+    let parse = Parse::from_parts(alloc, built.root, built.errors)?;
+    Ok(Counted {
+        parse,
+        parser_errors,
+        range: TextRange::up_to(TextSize::new(text.len() as u32)),
+    })
+}
+
+impl<T: FileView, F: ExactFront + Drop> Document<T, F> {
+    /// The parse of a text as a file.
+    ///
+    /// Returns `TooLong` if the text is longer than 4,294,967,295 bytes; this is checked first. Takes the time of the front end, and
+    /// time linear in the text.
+    pub fn new(
+        alloc: Global,
+        front: F,
+        text: &str,
+        edition: Edition,
+    ) -> Result<Document<T, F>, ParseError>
+        ensures parsed { IfOk result (λ d. IsReadOf (F.answers front) edition text.now d.parse d.parser_errors) }
+        ensures front { IfOk result (λ d. d.front ≡ front) }
+        ensures edition { IfOk result (λ d. d.edition ≡ edition) }
+        ensures accepted { OnOk result (length text.now < 2 ^ 32) }
+        ensures refused { IfErr result (λ e. (e ≡ TooLong) ↔ (2 ^ 32 ≤ length text.now)) }
+    {
+        if text.len() > u32::MAX as usize {
+            return Err(ParseError::TooLong);
+        }
+        let new = read_counted(alloc, &front, text, edition)?;
+        Ok(Document {
+            front,
+            edition,
+            parse: new.parse,
+            parser_errors: new.parser_errors,
+        })
+    }
+
+    /// The parse of the text.
+    pub fn parse(&self) -> &Parse<T>
+        ensures { result.now ≡ self.now.parse }
+    {
+        &self.parse
+    }
+
+    /// The text.
+    pub fn text(&self) -> &str
+        ensures { result.now ≡ text self.now.parse.tree }
+    {
+        self.parse.root().as_str()
+    }
+
+    /// The edition.
+    pub fn edition(&self) -> Edition
+        ensures { result ≡ self.now.edition }
+    {
+        self.edition
+    }
+
+    /// Replaces the bytes in `delete` by `insert`. Returns the range of the new text that was parsed again: that of one block, or the
+    /// whole text. Old parses that were cloned stay as they are.
+    ///
+    /// With Rust's front end, `b` for 9..10 of `fn f() { a }` parses `{ b }` and returns 7..12; `g` for 3..4 parses the whole text.
+    ///
+    /// The range must be in the text, on character boundaries. Returns `TooLong` if the new text is longer than 4,294,967,295 bytes;
+    /// this is checked first. If an error is returned, the document is unchanged.
+    ///
+    /// The text and the tree are copied once, as by `SyntaxNode::replace_with`; beside that it takes the time of the front end for what
+    /// is parsed again. A block that turns out to be no exact piece is read once, in vain.
+    pub fn edit(
+        &mut self,
+        alloc: Global,
+        delete: TextRange,
+        insert: &str,
+    ) -> Result<TextRange, ParseError>
+        requires { IsEditOf (text self.old.parse.tree) (record { delete = delete; insert = insert.now }) }
+        ensures answer { IfOk result (IsEdited (F.answers self.old.front) (F.exact self.old.front) self.old.edition self.old.parse self.old.parser_errors (record { delete = delete; insert = insert.now }) self.new.parse self.new.parser_errors) }
+        ensures same_text { OnOk result (text self.new.parse.tree ≡ edited (text self.old.parse.tree) (record { delete = delete; insert = insert.now })) }
+        ensures front { self.new.front ≡ self.old.front }
+        ensures edition { self.new.edition ≡ self.old.edition }
+        ensures unchanged { OnErr result (self.new ≡ self.old) }
+        ensures accepted { OnOk result (length (edited (text self.old.parse.tree) (record { delete = delete; insert = insert.now })) < 2 ^ 32) }
+        ensures refused { IfErr result (λ e. (e ≡ TooLong) ↔ (2 ^ 32 ≤ length (edited (text self.old.parse.tree) (record { delete = delete; insert = insert.now })))) }
+    {
+        if is_too_long(self.parse.root(), delete, insert) {
+            return Err(ParseError::TooLong);
+        }
+        let new = match exact_path(
+            alloc,
+            &self.parse,
+            self.parser_errors,
+            &self.front,
+            delete,
+            insert,
+            self.edition,
+        )? {
+            Some(piece) => with_exact(
+                alloc,
+                &self.parse,
+                self.parser_errors,
+                piece,
+                delete,
+                insert,
+            )?,
+            None => {
+                let whole = self.parse.root().as_str();
+                let text = edited_text(alloc, whole, TextSize::new(0), delete, insert)?;
+                read_counted(alloc, &self.front, text.as_str(), self.edition)?
+            }
+        };
+        let Counted {
+            parse,
+            parser_errors,
+            range,
+        } = new;
+        self.parse = parse;
+        self.parser_errors = parser_errors;
+        Ok(range)
+    }
+}

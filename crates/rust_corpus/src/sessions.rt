@@ -1,0 +1,262 @@
+//! Sessions of edits of a document: after each, its tree and its errors are compared with those of a new parse of its text.
+
+use crate::chance::{Chance, Edit, edited};
+use ra_ap_syntax::{Document, Edition, Parse, SourceFile, TextRange, TextSize};
+use rust_front::Rust;
+use std::alloc::Global;
+
+// What comes in place of every range of a short text.
+const WORDS: [&str; 30] = [
+    "", "a", " ", "\n", "\n\n", "{", "}", "{}", "(", ")", "[", "\"", "'", "'a", "#", "#[a]", "//",
+    "/*", "*/", "1.", "+", ";", ",", "=>", "x\"a\"", "\"(//\"", "---\n", "union ", "dyn ", "r#\"",
+];
+
+// What a user types, and what changes how other text is read.
+const TYPED: [&str; 84] = [
+    "a",
+    "x1",
+    "_",
+    "é",
+    " ",
+    "\n",
+    "\n\n",
+    "(",
+    ")",
+    "{",
+    "}",
+    "[",
+    "]",
+    "<",
+    ">",
+    "\"",
+    "'",
+    "'a",
+    "#",
+    "!",
+    ";",
+    ",",
+    ".",
+    "..",
+    ":",
+    "::",
+    "=",
+    "==",
+    "&",
+    "|",
+    "+",
+    "-",
+    "*",
+    "/",
+    "//",
+    "/*",
+    "*/",
+    "r#\"",
+    "fn f() {}",
+    "let a = 1;",
+    "auto ",
+    "default ",
+    "union ",
+    "safe",
+    "raw",
+    "macro_rules",
+    "dyn",
+    "builtin",
+    "yeet",
+    "async ",
+    "unsafe ",
+    "const ",
+    "r",
+    "b",
+    "0",
+    "1e",
+    "#[",
+    "#![a]",
+    "#[a]\n",
+    "/// d\n",
+    "//! d\n",
+    "{}",
+    "[]",
+    "()",
+    "=>",
+    "else ",
+    "if a {",
+    "match a {",
+    "'a: ",
+    "#![",
+    "\\",
+    "pub ",
+    "---\n",
+    "#!/bin/sh\n",
+    "x\"a\"",
+    "\"(//\"",
+    "k#a",
+    "'r#a",
+    "1.",
+    "// c\n",
+    "/* c */",
+    "b'",
+    "c\"",
+    "\r\n",
+];
+
+/// Makes edits of documents, and counts what came of them.
+#[derive(Drop)]
+pub struct Sessions {
+    chance: Chance,
+    blocks: u64,
+    all: u64,
+    trees: u64,
+    errors: u64,
+    texts: u64,
+}
+
+fn more(count: &mut u64) {
+    *count = count.saturating_add(1);
+}
+
+// Whether a parse has the errors of another one in their order: those that are stored, and all.
+fn has_errors(
+    alloc: Global,
+    found: &Parse<SourceFile>,
+    whole: &Parse<SourceFile>,
+) -> anyhow::Result<bool> {
+    Ok(found.stored() == whole.stored() && found.errors(alloc)? == whole.errors(alloc)?)
+}
+
+impl Sessions {
+    /// Edits by the numbers that follow a seed.
+    pub fn new(seed: u64) -> Sessions {
+        Sessions {
+            chance: Chance::new(seed),
+            blocks: 0,
+            all: 0,
+            trees: 0,
+            errors: 0,
+            texts: 0,
+        }
+    }
+
+    /// Makes so many edits of a text, each of a new document; and as many more, one after the other, of one document.
+    pub fn try_file(
+        &mut self,
+        rt: &HostRuntime,
+        path: &str,
+        text: &str,
+        edition: Edition,
+        count: u64,
+    ) -> anyhow::Result<()> {
+        for _edit in 0..count {
+            let mut document = Document::new(rt.alloc(), Rust, text, edition)?;
+            self.try_any(rt, path, &mut document)?;
+        }
+        let mut document = Document::new(rt.alloc(), Rust, text, edition)?;
+        for _edit in 0..count {
+            self.try_any(rt, path, &mut document)?;
+        }
+        Ok(())
+    }
+
+    /// Replaces every range of a text by every word.
+    pub fn try_text(&mut self, rt: &HostRuntime, text: &str) -> anyhow::Result<()> {
+        let len = u32::try_from(text.len())?;
+        for start in 0..=len {
+            for end in start..=len {
+                for word in WORDS {
+                    let edit = Edit {
+                        start,
+                        end,
+                        insert: format!(in rt.alloc(); "{word}")?,
+                    };
+                    let mut document = Document::new(rt.alloc(), Rust, text, Edition::CURRENT)?;
+                    self.try_edit(rt, "every edit", &mut document, &edit)?;
+                }
+            }
+        }
+        Ok(())
+    }
+
+    // Makes an edit by chance.
+    fn try_any(
+        &mut self,
+        rt: &HostRuntime,
+        path: &str,
+        document: &mut Document<Rust>,
+    ) -> anyhow::Result<()> {
+        let edit = self.chance.edit(rt.alloc(), document.text(), &TYPED)?;
+        self.try_edit(rt, path, document, &edit)
+    }
+
+    // Makes an edit on a document, and prints it if its parse is not that of its text.
+    fn try_edit(
+        &mut self,
+        rt: &HostRuntime,
+        path: &str,
+        document: &mut Document<Rust>,
+        edit: &Edit,
+    ) -> anyhow::Result<()> {
+        let old = document.text();
+        let (start, end) = (edit.start, edit.end);
+        if start > end
+            || !old.is_char_boundary(start as usize)
+            || !old.is_char_boundary(end as usize)
+        {
+            return Ok(());
+        }
+        let before = format!(in rt.alloc(); "{old}")?;
+        let new = edited(rt.alloc(), old, edit)?;
+        let delete = TextRange::new(TextSize::new(start), TextSize::new(end));
+        let range = document.edit(rt.alloc(), delete, edit.insert.as_str())?;
+        let is_all = range.start().raw() == 0 && range.end().raw() as usize == new.len();
+        more(if is_all {
+            &mut self.all
+        } else {
+            &mut self.blocks
+        });
+        if !self.is_parse(rt.alloc(), document, new.as_str())? {
+            println!(rt;
+                "document: {path} {:?} {start}..{end} {:?} in {before:?}",
+                document.edition(),
+                edit.insert
+            )?;
+        }
+        Ok(())
+    }
+
+    // Whether the parse of a document is that of its text, which has to be this one.
+    fn is_parse(
+        &mut self,
+        alloc: Global,
+        document: &Document<Rust>,
+        text: &str,
+    ) -> anyhow::Result<bool> {
+        let whole = SourceFile::parse(alloc, text, &Rust, document.edition())?;
+        let parse = document.parse();
+        if document.text() != text {
+            more(&mut self.texts);
+            return Ok(false);
+        }
+        if parse.syntax_node() != whole.syntax_node() {
+            more(&mut self.trees);
+            return Ok(false);
+        }
+        if !has_errors(alloc, parse, &whole)? {
+            more(&mut self.errors);
+            return Ok(false);
+        }
+        Ok(true)
+    }
+
+    /// Whether a document had another parse than its text.
+    pub fn is_wrong(&self) -> bool {
+        self.trees > 0 || self.errors > 0 || self.texts > 0
+    }
+
+    /// Prints the counts.
+    pub fn tell(&self, rt: &HostRuntime) -> anyhow::Result<()> {
+        println!(rt;
+            "documents: {} edits of a block, {} of all; {} trees differ from those of a new parse, {} have other errors, {} texts are wrong",
+            self.blocks, self.all, self.trees, self.errors, self.texts
+        )?;
+        Ok(())
+    }
+}
