@@ -2,14 +2,9 @@
 //!
 //! A line is a tree, or a heading that begins with `#`. The words are parted by a space: `KIND(` enters a node, `)` leaves it, and
 //! `KIND:text` is a token. After a line that makes no tree is `no tree`.
-//!
-//! With the argument `count` standard input lists files of Rust, a line each: an edition, a tab and a path. A line for each accessor says
-//! for how many of the nodes that were asked it returned a value. `None`, an empty list and `false` are no values. A kind of node is asked no
-//! more once each call that its nodes are asked has returned a value.
 #![tactic(auto)]
 
 mod attrs;
-mod counts;
 mod exprs;
 mod items;
 mod lookups;
@@ -19,11 +14,10 @@ mod rules;
 mod sheet;
 
 use crate::sheet::Sheet;
-use ra_ap_syntax::{Edition, FinishError, SourceFile, SyntaxKind, SyntaxNode, TreeBuilder};
-use rust_front::Rust;
+use ra_ap_syntax::{FinishError, SyntaxKind, SyntaxNode, TreeBuilder};
 use std::alloc::{AllocError, Global};
+use std::io;
 use std::process::ExitCode;
-use std::{env, fs, io};
 
 // Why a line gives no tree.
 #[derive(Drop)]
@@ -67,19 +61,15 @@ fn read_tree(alloc: Global, words: &str) -> Result<SyntaxNode, Unread> {
     Ok(builder.finish()?)
 }
 
-fn accessors(sheet: &mut Sheet, node: &SyntaxNode) -> Result<(), AllocError> {
-    exprs::answers(sheet, node)?;
-    items::answers(sheet, node)?;
-    paths::answers(sheet, node)?;
-    attrs::answers(sheet, node)?;
-    loops::answers(sheet, node)?;
-    lookups::answers(sheet, node)
-}
-
 fn answers(sheet: &mut Sheet, root: &SyntaxNode) -> Result<(), AllocError> {
     for node in root.descendants() {
         sheet.head(&node)?;
-        accessors(sheet, &node)?;
+        exprs::answers(sheet, &node)?;
+        items::answers(sheet, &node)?;
+        paths::answers(sheet, &node)?;
+        attrs::answers(sheet, &node)?;
+        loops::answers(sheet, &node)?;
+        lookups::answers(sheet, &node)?;
         rules::answers(sheet, &node)?;
     }
     rules::violations(sheet, root)
@@ -110,64 +100,7 @@ fn answers_of_input(rt: &HostRuntime) -> Result<Sheet, AllocError> {
     Ok(sheet)
 }
 
-fn edition_of(word: &str) -> Edition {
-    match word {
-        "2015" => Edition::Edition2015,
-        "2018" => Edition::Edition2018,
-        "2021" => Edition::Edition2021,
-        _ => Edition::Edition2024,
-    }
-}
-
-fn count_nodes(sheet: &mut Sheet, root: &SyntaxNode) -> Result<(), AllocError> {
-    for node in root.descendants() {
-        if sheet
-            .counts()
-            .is_some_and(|counts| counts.begin(node.kind()))
-        {
-            accessors(sheet, &node)?;
-            if let Some(counts) = sheet.counts() {
-                counts.end(node.kind())?;
-            }
-        }
-    }
-    Ok(())
-}
-
-fn count_file(rt: &HostRuntime, sheet: &mut Sheet, line: &str) -> io::Result<()> {
-    let (edition, path) = line.split_once('\t').unwrap_or(("2024", line));
-    let Ok(text) = fs::read_to_string(rt, path) else {
-        return println!(rt; "not read: {path}");
-    };
-    match SourceFile::parse(rt.alloc(), text.as_str(), &Rust, edition_of(edition)) {
-        Ok(parse) => Ok(count_nodes(sheet, &parse.syntax_node())?),
-        Err(_error) => println!(rt; "not parsed: {path}"),
-    }
-}
-
-fn count_files(rt: &HostRuntime) -> io::Result<()> {
-    let mut sheet = Sheet::counting(rt.alloc());
-    let list = io::read_to_string(rt.alloc(), rt.reader())?;
-    for line in list.lines() {
-        count_file(rt, &mut sheet, line)?;
-    }
-    match sheet.counts() {
-        Some(counts) => counts.tell(rt),
-        None => Ok(()),
-    }
-}
-
-fn is_asked_to_count(rt: &HostRuntime) -> bool {
-    env::args(rt)
-        .ok()
-        .and_then(|mut words| words.nth(1))
-        .is_some_and(|word| word.as_str() == "count")
-}
-
 fn main(rt: HostRuntime) -> ExitCode {
-    if is_asked_to_count(&rt) {
-        return ExitCode::from(count_files(&rt).is_err() as u8);
-    }
     let printed = match answers_of_input(&rt) {
         Ok(sheet) => print!(rt; "{}", sheet.as_str()),
         Err(AllocError) => print!(rt; "out of memory\n"),

@@ -1,19 +1,16 @@
 // The output for a tree: a line for each answer.
 ghost use Rattle.std.specs.Iterator.{IsFinite};
 
-use crate::counts::Counts;
 use ra_ap_syntax::ast::{AstNode, AstToken};
 use ra_ap_syntax::{NodeOrToken, SyntaxKind, SyntaxNode, SyntaxToken, TextRange};
 use std::alloc::{AllocError, Global};
 use std::fmt::{Debug, Display, Write};
 
-/// The lines that are written so far. An answer is `-` where there is none, and a list is in brackets. Or the calls are counted, and
-/// there are no lines.
+/// The lines that are written so far. An answer is `-` where there is none, and a list is in brackets.
 #[derive(Drop)]
 pub struct Sheet {
     alloc: Global,
     text: String,
-    counts: Option<Counts>,
 }
 
 // The initial capacity in bytes: enough for the output of a few trees.
@@ -25,31 +22,7 @@ impl Sheet {
         Ok(Sheet {
             alloc,
             text: String::with_capacity(alloc, ROOM)?,
-            counts: None,
         })
-    }
-
-    /// A sheet that counts calls.
-    pub fn counting(alloc: Global) -> Sheet {
-        Sheet {
-            alloc,
-            text: String::new(alloc),
-            counts: Some(Counts::new(alloc)),
-        }
-    }
-
-    /// The calls that were counted.
-    pub fn counts(&mut self) -> Option<&mut Counts> {
-        self.counts.as_mut()
-    }
-
-    // Counts a call, if calls are counted. Returns whether they are.
-    fn is_counted(&mut self, call: &str, is_value: bool) -> Result<bool, AllocError> {
-        let Some(counts) = self.counts.as_mut() else {
-            return Ok(false);
-        };
-        counts.add(call, is_value)?;
-        Ok(true)
     }
 
     /// The allocator, for calls that take memory.
@@ -98,18 +71,12 @@ impl Sheet {
     }
 
     fn node_line(&mut self, call: &str, node: &SyntaxNode) -> Result<(), AllocError> {
-        if self.is_counted(call, true)? {
-            return Ok(());
-        }
         self.call(call)?;
         self.one_node(node)?;
         self.text.push('\n')
     }
 
     fn token_line(&mut self, call: &str, token: &SyntaxToken) -> Result<(), AllocError> {
-        if self.is_counted(call, true)? {
-            return Ok(());
-        }
         self.call(call)?;
         self.one_token(token)?;
         self.text.push('\n')
@@ -117,9 +84,6 @@ impl Sheet {
 
     /// The name of an answer.
     pub fn word(&mut self, call: &str, word: &str) -> Result<(), AllocError> {
-        if self.is_counted(call, !matches!(word, "-" | "false"))? {
-            return Ok(());
-        }
         self.call(call)?;
         self.text.push(' ')?;
         self.line(word)
@@ -137,9 +101,6 @@ impl Sheet {
 
     /// The answer of a call that gives a kind.
     pub fn kind(&mut self, call: &str, kind: SyntaxKind) -> Result<(), AllocError> {
-        if self.is_counted(call, true)? {
-            return Ok(());
-        }
         self.call(call)?;
         writeln!(&mut self.text, " {kind}")
     }
@@ -153,18 +114,12 @@ impl Sheet {
         let Some(it) = found else {
             return self.word(call, "-");
         };
-        if self.is_counted(call, true)? {
-            return Ok(());
-        }
         self.call(call)?;
         writeln!(&mut self.text, " {it:?}")
     }
 
     /// The text of an answer.
     pub fn shown<D: Display + Drop>(&mut self, call: &str, answer: D) -> Result<(), AllocError> {
-        if self.is_counted(call, true)? {
-            return Ok(());
-        }
         self.call(call)?;
         writeln!(&mut self.text, " \"{answer}\"")
     }
@@ -174,9 +129,6 @@ impl Sheet {
         let Some(text) = found else {
             return self.word(call, "-");
         };
-        if self.is_counted(call, true)? {
-            return Ok(());
-        }
         self.call(call)?;
         writeln!(&mut self.text, " \"{text}\"")
     }
@@ -261,13 +213,8 @@ impl Sheet {
     ) -> Result<(), AllocError>
         requires { I.can_next found × IsFinite (I.remaining found) }
     {
-        let mut found = found;
-        let first = found.next();
-        if self.is_counted(call, first.is_some())? {
-            return Ok(());
-        }
         self.list(call)?;
-        for it in first.into_iter().chain(found) {
+        for it in found {
             self.one_node(it.syntax())?;
         }
         self.text.push_str(" ]\n")
@@ -275,9 +222,6 @@ impl Sheet {
 
     /// The answer of a call that gives a list of nodes.
     pub fn slice<N: AstNode + Drop>(&mut self, call: &str, found: &[N]) -> Result<(), AllocError> {
-        if self.is_counted(call, !found.is_empty())? {
-            return Ok(());
-        }
         self.list(call)?;
         for it in found {
             self.one_node(it.syntax())?;
@@ -305,13 +249,8 @@ impl Sheet {
     ) -> Result<(), AllocError>
         requires { I.can_next found × IsFinite (I.remaining found) }
     {
-        let mut found = found;
-        let first = found.next();
-        if self.is_counted(call, first.is_some())? {
-            return Ok(());
-        }
         self.list(call)?;
-        for it in first.into_iter().chain(found) {
+        for it in found {
             self.one_token(&it)?;
         }
         self.text.push_str(" ]\n")
@@ -332,13 +271,8 @@ impl Sheet {
     ) -> Result<(), AllocError>
         requires { I.can_next found × IsFinite (I.remaining found) }
     {
-        let mut found = found;
-        let first = found.next();
-        if self.is_counted(call, first.is_some())? {
-            return Ok(());
-        }
         self.list(call)?;
-        for it in first.into_iter().chain(found) {
+        for it in found {
             self.one_or_gap(it)?;
         }
         self.text.push_str(" ]\n")
@@ -362,13 +296,8 @@ impl Sheet {
     ) -> Result<(), AllocError>
         requires { I.can_next found × IsFinite (I.remaining found) }
     {
-        let mut found = found;
-        let first = found.next();
-        if self.is_counted(call, first.is_some())? {
-            return Ok(());
-        }
         self.list(call)?;
-        for it in first.into_iter().chain(found) {
+        for it in found {
             self.one_part(it)?;
         }
         self.text.push_str(" ]\n")

@@ -2,12 +2,11 @@
 ghost use Rattle.std.specs.Prelude.{◌≡◌};
 ghost use Rattle.ras_node.specs.Lookups.{grandparent_of, view_in};
 ghost use Rattle.ras_node.specs.Nodes.{kind_at};
-ghost use Rattle.ra_ap_syntax.specs.ExprCases.{expr_node};
+ghost use Rattle.ra_ap_syntax.specs.ExprCases.{expr_node, IsExpr, expr_kinds};
 ghost use Rattle.ras_expr_ext.specs.ExprParts.{unless_lone_block, second_as, third_as};
 ghost use Rattle.ras_prec_walks.specs.Along.{is_block_like};
 ghost use Rattle.ra_ap_syntax.specs.ControlViews.{IsBlockExpr, IsMatchExpr, block_expr_kinds, match_expr_kinds};
 ghost use Rattle.ra_ap_syntax.specs.ElseBranchCases.{IsElseBranch, else_branch_kinds};
-ghost use Rattle.ra_ap_syntax.specs.ExprCases.{IsExpr, expr_kinds};
 
 use crate::ast::{self, AstNode, ElseBranch, support};
 

@@ -1,11 +1,15 @@
 //! Fields in field accesses and in record expressions.
-ghost use Rattle.std.specs.Prelude.{◌≡◌, option_map};
-ghost use Rattle.ras_expr_ext.specs.ExprParts.{index_token, shorthand_name};
+ghost use Rattle.std.specs.Prelude.{◌≡◌, option_map, drop};
+ghost use Rattle.ras_expr_ext.specs.ExprParts.{index_token, shorthand_name, record_field_name, record_field_around, if_part_is};
 ghost use Rattle.ra_ap_syntax.specs.ExprShapes.{field_shape, field_access};
 ghost use Rattle.ra_ap_syntax.specs.Accessors.{expr_field_around, expr_field_name, expr_field_named, lone_name, nearest_above};
 ghost use Rattle.ra_ap_syntax.specs.ExprViews.{IsRecordExpr, record_expr_kinds};
 ghost use Rattle.ra_ap_syntax.specs.PathViews.{IsNameRef, name_ref_kinds};
 ghost use Rattle.ra_ap_syntax.specs.StmtViews.{IsRecordExprField};
+ghost use Rattle.std.specs.List.{find};
+ghost use Rattle.std.specs.Option.{option_and_then};
+ghost use Rattle.tree_model.specs.Cursor.{ancestors_of};
+ghost use Rattle.ras_node.specs.Nodes.{has_kind_in};
 
 use crate::ast::{self, AstNode, support};
 use lossless_tree::SyntaxToken;

@@ -7,8 +7,7 @@ ghost use Rattle.tree_model.specs.Cursor.{Cursor};
 ghost use Rattle.ras_node.specs.Nodes.{kind_at, typed_child};
 ghost use Rattle.ras_operators.specs.OperatorTexts.{unary_op, range_op, binary_op};
 ghost use Rattle.ras_expr_ext.specs.ExprParts.{first_child_token, binary_operator, range_operator, range_start_of, range_end_of, bound_before};
-ghost use Rattle.ra_ap_syntax.specs.ExprCases.{expr_node};
-ghost use Rattle.ra_ap_syntax.specs.ExprCases.{IsExpr, IsFirstExpr, expr_kinds};
+ghost use Rattle.ra_ap_syntax.specs.ExprCases.{expr_node, IsExpr, IsFirstExpr, expr_kinds};
 
 use crate::ast::{self, AstNode, BinaryOp, RangeOp, UnaryOp, support};
 use lossless_tree::{SyntaxNode, SyntaxToken};

@@ -2,9 +2,8 @@
 ghost use Rattle.std.specs.Prelude.{◌≡◌};
 ghost use Rattle.std.specs.Iterator.{YieldsFirstBy, item_count};
 ghost use Rattle.ras_node.specs.Lookups.{typed_child_in, typed_children_in};
-ghost use Rattle.ra_ap_syntax.specs.StmtCases.{stmt_node};
+ghost use Rattle.ra_ap_syntax.specs.StmtCases.{stmt_node, stmt_kinds};
 ghost use Rattle.ra_ap_syntax.specs.ExprCases.{IsExpr, expr_kinds};
-ghost use Rattle.ra_ap_syntax.specs.StmtCases.{stmt_kinds};
 ghost use Rattle.ra_ap_syntax.specs.StmtViews.{stmt_list_kinds};
 
 use crate::ast::{self, AstChildren, AstNode};

@@ -5,7 +5,7 @@ ghost use Rattle.ras_node.specs.Lookups.{grandparent_of, view_in};
 ghost use Rattle.ras_node.specs.Nodes.{token_child, typed_child};
 ghost use Rattle.ra_ap_syntax.specs.ItemCases.{item_node};
 ghost use Rattle.ra_ap_syntax.specs.TypeOrConstParamCases.{type_or_const_param_node};
-ghost use Rattle.ras_node_ext.specs.NodeParts.{trait_of, self_type_of, impl_around, macro_args, macro_body, if_kind, impl_trait};
+ghost use Rattle.ras_node_ext.specs.NodeParts.{trait_of, self_type_of, impl_around, macro_args, macro_body, if_kind, impl_trait, generic_params_of};
 ghost use Rattle.ra_ap_syntax.specs.NodeShapes.{struct_shape, struct_kind, self_param_kind, visibility_shape, inner_visibility, visibility_kind, seen_by_words, seen_in_path, in_path};
 ghost use Rattle.ra_ap_syntax.specs.Accessors.{fields_of, item_generic_params};
 ghost use Rattle.ra_ap_syntax.specs.AttrViews.{IsTokenTree, token_tree_kinds};

@@ -1,14 +1,15 @@
 //! Attributes and their metas.
-ghost use Rattle.std.specs.Prelude.{◌≡◌, ℕ, List, Option, Some, None, [], map, option_map, string_bytes, IfOk};
+ghost use Rattle.std.specs.Prelude.{◌≡◌, ℕ, List, Option, Some, None, [], map, option_map, string_bytes, IfOk, drop};
 ghost use Rattle.std.specs.Option.{option_and_then, option_map_or};
-ghost use Rattle.tree_model.specs.Cursor.{Cursor};
-ghost use Rattle.ras_node_ext.specs.Metas.{opened};
-ghost use Rattle.ra_ap_syntax.specs.MetaCases.{meta_node};
-ghost use Rattle.ra_ap_syntax.specs.AttrParts.{simple_path, atom_of, call_in};
+ghost use Rattle.tree_model.specs.Cursor.{Cursor, ancestors_of};
+ghost use Rattle.ras_node_ext.specs.Metas.{opened, IsMetaPath, IsMetaName};
+ghost use Rattle.ra_ap_syntax.specs.MetaCases.{meta_node, meta_kinds};
+ghost use Rattle.ra_ap_syntax.specs.AttrParts.{simple_path, atom_of, call_in, simple_atom, simple_call};
 ghost use Rattle.ra_ap_syntax.specs.Accessors.{IsNameOfMeta, IsPathOfMeta, call_with, meta_atom, meta_call, meta_in, nearest_above, path_atom};
-ghost use Rattle.ra_ap_syntax.specs.AttrViews.{IsAttr, attr_kinds};
-ghost use Rattle.ra_ap_syntax.specs.MetaCases.{meta_kinds};
+ghost use Rattle.ra_ap_syntax.specs.AttrViews.{IsAttr, IsFirstTokenTree, attr_kinds};
 ghost use Rattle.ra_ap_syntax.specs.PathViews.{IsPath, path_kinds};
+ghost use Rattle.std.specs.List.{find};
+ghost use Rattle.ras_node.specs.Nodes.{has_kind_in, typed_child};
 
 use crate::ast::{self, AstNode, Meta, support};
 use lossless_tree::{SyntaxKind, SyntaxNode};
@@ -37,6 +38,13 @@ fn with_tree(name: Option<String>, tree: ast::TokenTree) -> Option<(String, ast:
         Some(name) => Some((name, tree)),
         None => None,
     }
+}
+
+// The first child that is a token tree: by the word of clauses, in which the prover finds it again.
+fn first_tree(parent: &SyntaxNode) -> Option<ast::TokenTree>
+    ensures { IsFirstTokenTree parent.now result }
+{
+    support::child(parent)
 }
 
 // The name of a meta that is one name with arguments, and the arguments.
@@ -90,7 +98,7 @@ impl Meta {
         if self.syntax().kind() != SyntaxKind::TOKEN_TREE_META {
             return Ok(None);
         }
-        let Some(tree) = support::child::<ast::TokenTree>(self.syntax()) else {
+        let Some(tree) = first_tree(self.syntax()) else {
             return Ok(None);
         };
         call_in(alloc, self.syntax(), tree)

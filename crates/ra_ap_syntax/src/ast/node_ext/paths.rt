@@ -20,13 +20,27 @@ pub type Segments = ras_node_ext::Segments<ast::Path, ast::PathSegment>;
 /// The qualifiers of a path, the nearest first.
 pub type Qualifiers = ras_node_ext::Qualifiers<ast::Path>;
 
+// The segments of a path.
+fn segments_of(path: ast::Path) -> Segments
+    ensures { AreSegments path_kinds path_segment_kinds path.syntax result }
+{
+    Segments::new(path)
+}
+
+// The end of the chain of qualifiers.
+fn end_of(path: ast::Path) -> ast::Path
+    ensures { IsFirstQualifier path_kinds path.syntax result.syntax }
+{
+    ras_node_ext::first_qualifier_or_self(path)
+}
+
 impl ast::Path {
     /// The segments, from that of the deepest qualifier outwards to its own, through the paths that are within this one's
     /// range. They end at a path without a segment.
     pub fn segments(&self) -> Segments
         ensures { AreSegments path_kinds path_segment_kinds self.now.syntax result }
     {
-        Segments::new(support::copy(self))
+        segments_of(support::copy(self))
     }
 
     /// The qualifiers, the nearest first: `a::b` and `a` of `a::b::c`.
@@ -48,7 +62,7 @@ impl ast::Path {
     pub fn first_qualifier_or_self(&self) -> ast::Path
         ensures { IsFirstQualifier path_kinds self.now.syntax result.syntax }
     {
-        ras_node_ext::first_qualifier_or_self(support::copy(self))
+        end_of(support::copy(self))
     }
 
     /// The segment at the end of the chain of qualifiers, if that path has one: `a` of `a::b::c`.

@@ -1,17 +1,17 @@
 //! Patterns.
-ghost use Rattle.std.specs.Prelude.{◌≡◌, IfOk, map, option_map, not, is_some};
+ghost use Rattle.std.specs.Prelude.{◌≡◌, IfOk, map, option_map, not, is_some, drop};
 ghost use Rattle.std.specs.List.{find};
-ghost use Rattle.tree_model.specs.Cursor.{parent_of};
+ghost use Rattle.tree_model.specs.Cursor.{parent_of, ancestors_of};
 ghost use Rattle.ras_node.specs.Lookups.{view_in, grandparent_of};
-ghost use Rattle.ras_node.specs.Nodes.{typed_child, typed_children, kind_at};
+ghost use Rattle.ras_node.specs.Nodes.{typed_child, typed_children, kind_at, has_kind_in};
 ghost use Rattle.ras_node_ext.specs.Slices.{is_rest, before_rest, behind_rest};
-ghost use Rattle.ra_ap_syntax.specs.PatCases.{pat_node};
-ghost use Rattle.ras_node_ext.specs.NodeParts.{leading_pipe, bound_name, bound_in_box, is_simple_ident, if_kind};
+ghost use Rattle.ra_ap_syntax.specs.PatCases.{pat_node, pat_kinds};
+ghost use Rattle.ras_node_ext.specs.NodeParts.{leading_pipe, bound_name, bound_in_box, is_simple_ident, if_kind, pat_field_name, if_its_part_is};
 ghost use Rattle.ra_ap_syntax.specs.Accessors.{field_name_in_pat, if_named, nearest_above};
 ghost use Rattle.ra_ap_syntax.specs.NameOrNameRefCases.{IsNameOrNameRef};
-ghost use Rattle.ra_ap_syntax.specs.PatCases.{pat_kinds};
 ghost use Rattle.ra_ap_syntax.specs.PatViews.{IsRecordPat, IsRecordPatField, record_pat_field_kinds, record_pat_kinds};
-ghost use Rattle.ra_ap_syntax.specs.PathViews.{IsName, name_kinds};
+ghost use Rattle.ra_ap_syntax.specs.PathViews.{IsFirstName, IsName, name_kinds};
+ghost use Rattle.std.specs.Option.{option_and_then};
 
 use crate::ast::{self, AstNode, HasName, NameOrNameRef, support};
 use lossless_tree::{SyntaxKind, SyntaxNode, SyntaxToken};
@@ -76,13 +76,20 @@ fn has_no_pattern<N: AstNode + Drop>(parent: &SyntaxNode) -> bool
     }
 }
 
+// The first child that is a name: by the word of clauses, in which the prover finds it again.
+fn first_name(parent: &SyntaxNode) -> Option<ast::Name>
+    ensures { IsFirstName parent.now result }
+{
+    support::child(parent)
+}
+
 // The name in a `box` pattern whose pattern is a name.
 fn bound_in_box<N: AstNode + Drop>(boxed: &SyntaxNode) -> Option<ast::Name>
     ensures { IsName (bound_in_box name_kinds N.casts boxed.now) result }
 {
     let inner = support::child::<N>(boxed)?;
     if inner.syntax().kind() == SyntaxKind::IDENT_PAT {
-        support::child(inner.syntax())
+        first_name(inner.syntax())
     } else {
         None
     }

@@ -2,14 +2,14 @@
 ghost use Rattle.std.specs.Prelude.{◌≡◌, option_map, is_some, ◌||◌, not};
 ghost use Rattle.ras_node.specs.Nodes.{typed_child, typed_children, kind_at};
 ghost use Rattle.ras_node_ext.specs.Bounds.{lifetime_bounds};
-ghost use Rattle.ra_ap_syntax.specs.TypeCases.{ty_node};
+ghost use Rattle.ra_ap_syntax.specs.TypeCases.{ty_node, type_kinds};
 ghost use Rattle.ra_ap_syntax.specs.NodeShapes.{bound_shape, bound_kind, bound_of_for, bound_without_path};
 ghost use Rattle.ra_ap_syntax.specs.Accessors.{type_generic_args};
 ghost use Rattle.ra_ap_syntax.specs.GenericViews.{IsGenericArgList, for_binder_kinds, lifetime_arg_kinds, lifetime_param_kinds, type_bound_kinds, type_bound_list_kinds, use_bound_generic_args_kinds};
-ghost use Rattle.ra_ap_syntax.specs.PathViews.{lifetime_kinds};
+ghost use Rattle.ra_ap_syntax.specs.PathViews.{IsFirstPath, lifetime_kinds};
 ghost use Rattle.ra_ap_syntax.specs.TyViews.{for_type_kinds, path_type_kinds};
-ghost use Rattle.ra_ap_syntax.specs.TypeCases.{type_kinds};
 ghost use Rattle.ra_ap_syntax.specs.TypeOrConstParamCases.{type_or_const_param_kinds};
+ghost use Rattle.ras_node_ext.specs.NodeParts.{generic_args_of};
 
 use crate::ast::{self, AstChildren, AstNode, HasGenericArgs, HasTypeBounds, support};
 use lossless_tree::SyntaxNode;
@@ -64,6 +64,13 @@ impl ast::TypeBound {
     }
 }
 
+// The first child that is a path: by the word of clauses, in which the prover finds it again.
+fn first_path(parent: &SyntaxNode) -> Option<ast::Path>
+    ensures { IsFirstPath parent.now result }
+{
+    support::child(parent)
+}
+
 impl ast::Type {
     /// The generic arguments of a path type: those of the segment of its path; `None` for other types.
     pub fn generic_arg_list(&self) -> Option<ast::GenericArgList>
@@ -72,7 +79,7 @@ impl ast::Type {
         if !ast::PathType::can_cast(self.syntax().kind()) {
             return None;
         }
-        let path = support::child::<ast::Path>(self.syntax())?;
+        let path = first_path(self.syntax())?;
         path.segment()?.generic_arg_list()
     }
 

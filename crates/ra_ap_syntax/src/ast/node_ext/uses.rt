@@ -45,6 +45,15 @@ impl ast::Use {
     }
 }
 
+// The outermost use tree around a tree.
+fn top_of(tree: ast::UseTree) -> ast::UseTree
+    ensures { result.syntax
+        ≡ top_tree_from use_tree_list_kinds use_tree_kinds tree.syntax
+        (drop 1 (ancestors_of tree.syntax)) }
+{
+    ras_node_ext::top_use_tree::<ast::UseTreeList, ast::UseTree>(tree)
+}
+
 impl ast::UseTree {
     /// Whether it has neither a `*` nor a list.
     pub fn is_simple_path(&self) -> bool
@@ -63,7 +72,7 @@ impl ast::UseTree {
             ≡ top_tree_from use_tree_list_kinds use_tree_kinds self.now.syntax
             (drop 1 (ancestors_of self.now.syntax)) }
     {
-        ras_node_ext::top_use_tree::<ast::UseTreeList, ast::UseTree>(support::copy(self))
+        top_of(support::copy(self))
     }
 
     /// The list that it is in: the parent, if that is a list.
