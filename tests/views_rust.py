@@ -1,7 +1,7 @@
 """Writes the crate `rust_views`: the views of the kinds that have no constant in `SyntaxKind`, from crates/rust_views/views.txt."""
 import os
 
-from views_text import MADE, WIDTH, by_name, call, cited, listed, of_ast, snake, word
+from views_text import MADE, WIDTH, by_name, call, cited, listed, of_ast, snake, word, words_head, words_of, words_of_kinds
 
 CRATE = os.path.join("crates", "rust_views")
 CURSORS = [
@@ -51,10 +51,22 @@ def indented(lines, depth=2):
 
 
 class Writer:
-    """The files of a table and of the table below it. `texts` has the templates that `tests/views` shares."""
+    """The files of a table and of the table below it. `templates` are those that `tests/views` shares, `firsts` the views that a lookup
+    returns the first child of, and `spec_below` gives the spec with the words of a view of the table below."""
 
-    def __init__(self, table, filled, templates):
+    def __init__(self, table, filled, templates, firsts, spec_below):
         self.table, self.below, self.filled, self.templates = table, table.below, filled, templates
+        self.firsts, self.spec_below = firsts, spec_below
+
+    def spec_of(self, name):
+        """The spec with the words of a view."""
+        if name not in self.table.kinds and name not in self.table.enums:
+            return self.spec_below(name)
+        return f"Rattle.rust_views.specs.{f'{name}Cases' if name in self.table.enums else self.views_of(self.table.kinds[name].section)}"
+
+    @staticmethod
+    def views_of(section):
+        return f"{section.capitalize()}Views"
 
     def view(self, name):
         """How the crate names a view: those of `ra_ap_syntax` by their module."""
@@ -81,7 +93,7 @@ class Writer:
         lookups = [lookup for it in views for lookup in it.lookups]
         ways = {it.way for it in lookups}
         out = [f"//! Lookups in {self.table.sections[section]}. {MADE}"]
-        out += cited(lookups, "(Self.node self.now)", self.view)
+        out += cited(lookups, "(Self.node self.now)", self.spec_of)
         others = sorted({it.of for it in lookups if it.is_other})
         out += [f"ghost use Rattle.rust_kinds.specs.declared.kinds.TheConstants.{{{', '.join(others)}}};"] if others else []
         names = [it.of for it in lookups if it.way != "token"] + [it.name for it in views]
@@ -143,11 +155,12 @@ class Writer:
         """The spec of an enum: its kinds, the node of each variant, and that its kind is one of these."""
         name, own = enum.name, word(enum.name)
         declared = f"Rattle.rust_views.specs.declared.enums.{own}.{name}"
-        out = [f"-- `{name}`: its kinds by their raw numbers, and the node of each variant. {MADE}"]
-        out += ["use Rattle.std.specs.Prelude.{◌≡◌, ◌||◌, Bool, true, ℕ, nat_eq}", "use Rattle.std.proofs.lemmas.Bool.{eq-eqb}"]
+        out = [f"-- `{name}`: its kinds by their raw numbers, the node of each variant, and words of clauses. {MADE}"]
+        out += ["use Rattle.std.specs.Prelude.{◌≡◌, ◌||◌, Bool, true, ℕ, nat_eq, Option, option_map}", "use Rattle.std.proofs.lemmas.Bool.{eq-eqb}"]
         out += ["use Rattle.syntax_kind.specs.declared.syntax_kind.SyntaxKind.{SyntaxKind}", "use Rattle.syntax_kind.specs.Kinds.{kind_raw}"]
         out += self.numbers([of for _, of in enum.variants])
-        out += ["use Rattle.tree_model.specs.Cursor.{Cursor}", "use Rattle.ras_node.specs.Nodes.{kind_at}"]
+        out += ["use Rattle.tree_model.specs.Cursor.{Cursor}"]
+        out += [f"use Rattle.ras_node.specs.Nodes.{{kind_at{', typed_child' if name in self.firsts else ''}}}"]
         out += ["use Rattle.rust_views.specs.Sides.{or_left, or_right}"]
         out += [f"use {declared}.{{{name}}}", f"use {declared}.TheVariants.{{{', '.join(variant for variant, _ in enum.variants)}}}"]
         *tests, whole = [f"nat_eq n {self.kind(of)}" for _, of in enum.variants]
@@ -169,7 +182,13 @@ class Writer:
             for _, passed in reversed(enum.variants[:number]):
                 law = f"or_right (nat_eq {at} {self.kind(passed)}) _\n    ({law})" if is_told else f"or_right _ _ ({law})"
             out += [f"{own}_castable ({variant} it) ={chr(10) + '    ' if is_told else ' '}{law}"]
-        return out
+        return out + words_of(name, name, f"= is_{own}", f"{own}_node", self.firsts)
+
+    def views_spec(self, section):
+        """The spec with the words of clauses of the views of a section."""
+        kinds = sorted((it for it in self.table.kinds.values() if it.section == section), key=lambda it: it.name)
+        out = [f"-- Words of clauses for the views of {self.table.sections[section]}: the kinds of each, and what is one. {MADE}"]
+        return out + words_head(kinds, self.firsts, "rust_views", "ra_ap_syntax.specs.declared.ast.typed") + words_of_kinds(kinds, self.firsts)
 
     def holders(self, trait):
         """The views of kinds that have a trait."""
@@ -268,4 +287,6 @@ class Writer:
         out |= {os.path.join("anys", snake(it.name)): self.any(it) for it in self.table.anys.values()}
         files = {os.path.join(src, f"{name}.rt"): lines for name, lines in out.items()}
         files |= {os.path.join(specs, f"{it.name}Cases.antt"): self.cases(it) for it in self.table.enums.values()}
+        every = sorted({it.section for it in self.table.kinds.values()})
+        files |= {os.path.join(specs, f"{self.views_of(it)}.antt"): self.views_spec(it) for it in every}
         return files | {os.path.join(specs, "Sets.antt"): self.sets()}

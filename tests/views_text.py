@@ -41,6 +41,10 @@ def meaning(name):
     return f"list of {' '.join(words[:-1])}s" if words[-1] == "list" else " ".join(words)
 
 
+def article(said):
+    return "an" if said[0] in "aeiouAEIOU" and not said.lower().startswith(("use", "union")) else "a"
+
+
 def sentence(lookup):
     """The documentation of a lookup."""
     if lookup.doc:
@@ -52,7 +56,7 @@ def sentence(lookup):
     if lookup.way == "all":
         return f"The children that are {meaning(lookup.of)}s, in order."
     said = meaning(lookup.of)
-    return f"The {lookup.way} child that is {'an' if said[0] in 'aeiou' and not said.startswith('use') else 'a'} {said}, if there is one."
+    return f"The {lookup.way} child that is {article(said)} {said}, if there is one."
 
 
 def listed(head, names, indent=""):
@@ -103,52 +107,96 @@ def view(name):
     return f"ast::{name}"
 
 
+def kinds_of(name):
+    """The word for the kinds of a view in clauses: `expr_kinds`."""
+    return f"{snake(name)}_kinds"
+
+
+def clause_of(lookup, place):
+    """The clause of a lookup, and the words of its view that it cites."""
+    of = lookup.of
+    if lookup.way == "first":
+        return f"IsFirst{of} {place} result", [f"IsFirst{of}"]
+    if lookup.way == "second":
+        return f"Is{of} (second_typed_child {kinds_of(of)} {place}) result", [f"Is{of}", kinds_of(of)]
+    if lookup.way == "all":
+        return f"result ≡ typed_children {kinds_of(of)} {place}", [kinds_of(of)]
+    return f"result ≡ token_child {of if lookup.is_other else f'SyntaxKind.{of}'} {place}", []
+
+
 def call(lookup, head, place, node, view=view):
     """A lookup as a function."""
     of = view(lookup.of)
-    if lookup.way == "first":
-        answer, found = f"Option<{of}>", "support::child(%s)"
-        clause = f"IsFirstChild ⟦<{of} as AstNode>⟧ {place} result"
-    elif lookup.way == "second":
-        answer, found = f"Option<{of}>", "support::second_child(%s)"
-        clause = f"IsSecondChild ⟦<{of} as AstNode>⟧ {place} result"
+    if lookup.way == "token":
+        quote = f"'{lookup.text}'" if lookup.text and lookup.text in "(){}[]$" else lookup.text
+        kind = lookup.of if lookup.is_other else f"SyntaxKind::{lookup.of}"
+        answer, found = "Option<SyntaxToken>", f"support::token(%s, {f'T![{quote}]' if quote and not lookup.is_other else kind})"
     elif lookup.way == "all":
         answer, found = f"AstChildren<{of}>", "support::children(%s)"
-        clause = f"result ≡ typed_children ⟦<{of} as AstNode>⟧.casts {place}"
-        if len(clause) > WIDTH - len("        ensures {  }"):
-            clause = f"AreChildren ⟦<{of} as AstNode>⟧ {place} result"
     else:
-        quote = f"'{lookup.text}'" if lookup.text and lookup.text in "(){}[]$" else lookup.text
-        kind = lookup.of if lookup.is_other else f"SyntaxKind.{lookup.of}"
-        answer, found = "Option<SyntaxToken>", f"support::token(%s, {f'T![{quote}]' if quote and not lookup.is_other else kind.replace('.', '::')})"
-        clause = f"result ≡ token_child {kind} {place}"
+        answer, found = f"Option<{of}>", f"support::{'child' if lookup.way == 'first' else 'second_child'}(%s)"
     return [
         f"    /// {sentence(lookup)}",
         *shown(lookup),
         f"    {head} {lookup.name}(&self) -> {answer}",
-        f"        ensures {{ {clause} }}",
+        f"        ensures {{ {clause_of(lookup, place)[0]} }}",
         "    {",
         f"        {found % node}",
         "    }",
     ]
 
 
-def cited(lookups, place, view=view):
-    """What a file with these lookups imports for their clauses."""
-    said = "\n".join(line for it in lookups for line in call(it, "", place, "", view))
+def cited(lookups, place, spec_of):
+    """What a file with these lookups imports for their clauses. `spec_of` gives the spec that has the words of a view."""
+    clauses = [clause_of(it, place) for it in lookups]
+    said = "\n".join(clause for clause, _ in clauses)
     out = ["ghost use Rattle.std.specs.Prelude.{◌≡◌};"] if "result ≡" in said else []
-    files = {"ras_node.specs.Lookups": ["IsFirstChild"], "ras_node.specs.Nodes": ["token_child", "typed_children"]}
-    for file, words in (files | {"ra_ap_syntax.specs.Words": ["AreChildren", "IsSecondChild"]}).items():
-        found = [it for it in words if f" {it} " in said]
-        out += [f"ghost use Rattle.{file}.{{{', '.join(found)}}};"] if found else []
+    files = {"Lookups": ["second_typed_child"], "Nodes": ["token_child", "typed_children"]}
+    for file, words in files.items():
+        found = [it for it in words if f"{it} " in said.replace("(", "")]
+        out += [f"ghost use Rattle.ras_node.specs.{file}.{{{', '.join(found)}}};"] if found else []
+    specs = {}
+    for lookup, (_, words) in zip(lookups, clauses):
+        specs.setdefault(spec_of(lookup.of) if words else None, set()).update(words)
+    specs.pop(None, None)
+    return out + [f"ghost use {spec}.{{{', '.join(sorted(specs[spec]))}}};" for spec in sorted(specs)]
+
+
+def words_of(name, type_of, kinds, node, firsts):
+    """The definitions that clauses cite of a view. `firsts` are the views that a lookup returns the first child of."""
+    out = ["", f"abbrev pub {kinds_of(name)} : SyntaxKind → Bool", f"{kinds_of(name)} {kinds}"]
+    out += ["", f"-- r is the view of the node at c as {article(name)} `{name}`; there is none if there is no node"]
+    out += [f"abbrev pub Is{name} : Option Cursor → Option {type_of} → Type 0", f"Is{name} c r = option_map {node} r ≡ c"]
+    if name in firsts:
+        out += ["", f"abbrev pub IsFirst{name} : Cursor → Option {type_of} → Type 0"]
+        out += [f"IsFirst{name} c r = Is{name} (typed_child {kinds_of(name)} c) r"]
     return out
 
 
-def uses_of(lookups, place, traits=False):
+def words_head(kinds, firsts, numbers, typed):
+    """What a spec with the words of these kinds imports. `numbers` is the crate that has their raw numbers, and `typed` where their type is."""
+    out = ["use Rattle.std.specs.Prelude.{◌≡◌, Bool, Option, nat_eq, option_map}"]
+    out += ["use Rattle.syntax_kind.specs.declared.syntax_kind.SyntaxKind.{SyntaxKind}", "use Rattle.syntax_kind.specs.Kinds.{kind_raw}"]
+    out += [f"use Rattle.{numbers}.specs.declared.raw.TheConstants.{{{', '.join(it.kind for it in kinds)}}}"]
+    out += ["use Rattle.tree_model.specs.Cursor.{Cursor}"]
+    out += ["use Rattle.ras_node.specs.Nodes.{typed_child}"] if any(it.name in firsts for it in kinds) else []
+    return out + [f"use Rattle.{typed}.Typed.{{Typed}}"]
+
+
+def words_of_kinds(kinds, firsts):
+    """The words of the views of these kinds."""
+    return [
+        line
+        for it in kinds
+        for line in words_of(it.name, f"(Typed {it.kind})", f"= λ kind. nat_eq (kind_raw kind) {it.kind}", "(λ it. it.syntax)", firsts)
+    ]
+
+
+def uses_of(lookups, place, spec_of, traits=False):
     """What a file of `ra_ap_syntax` with these lookups imports."""
     ways = {it.way for it in lookups}
-    names = ["self"] + ["AstChildren"] * ("all" in ways) + ["AstNode"] * (traits or bool(ways - {"token"})) + ["support"]
-    out = [*cited(lookups, place), "", f"use crate::ast::{{{', '.join(names)}}};"]
+    names = ["self"] + ["AstChildren"] * ("all" in ways) + ["AstNode"] * traits + ["support"]
+    out = [*cited(lookups, place, spec_of), "", f"use crate::ast::{{{', '.join(names)}}};"]
     tokens = [it for it in lookups if it.way == "token"]
     if tokens:
         out += listed("use lossless_tree::", ["SyntaxKind", "SyntaxToken"] + ["T"] * any(it.text for it in tokens))

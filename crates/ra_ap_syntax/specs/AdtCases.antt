@@ -1,6 +1,7 @@
--- `Adt`: the node of each variant, and that its kind is one of the enum's. Made by `tests/views` from `views.txt`.
-use Rattle.std.specs.Prelude.{◌≡◌, true}
+-- `Adt`: the node of each variant, that its kind is one of the enum's, and words of clauses. Made by `tests/views` from `views.txt`.
+use Rattle.std.specs.Prelude.{◌≡◌, Bool, true, Option, option_map}
 use Rattle.std.proofs.Common.{refl}
+use Rattle.syntax_kind.specs.declared.syntax_kind.SyntaxKind.{SyntaxKind}
 use Rattle.syntax_kind.specs.declared.syntax_kind.SyntaxKind.TheVariants.{Node}
 use Rattle.syntax_kind.specs.declared.syntax_kind.node_kind.NodeKind.TheVariants as kind
 use Rattle.tree_model.specs.Cursor.{Cursor}
@@ -20,3 +21,10 @@ pub adt_castable : (it : Adt) → is_adt (kind_at (adt_node it)) ≡ true
 adt_castable (Enum it) = by_number is_adt _ (Node kind.ENUM) it.is refl
 adt_castable (Struct it) = by_number is_adt _ (Node kind.STRUCT) it.is refl
 adt_castable (Union it) = by_number is_adt _ (Node kind.UNION) it.is refl
+
+abbrev pub adt_kinds : SyntaxKind → Bool
+adt_kinds = is_adt
+
+-- r is the view of the node at c as an `Adt`; there is none if there is no node
+abbrev pub IsAdt : Option Cursor → Option Adt → Type 0
+IsAdt c r = option_map adt_node r ≡ c

@@ -1,6 +1,7 @@
--- `AnyAttr`: the node of each variant, and that its kind is one of the enum's. Made by `tests/views` from `views.txt`.
-use Rattle.std.specs.Prelude.{◌≡◌, true}
+-- `AnyAttr`: the node of each variant, that its kind is one of the enum's, and words of clauses. Made by `tests/views` from `views.txt`.
+use Rattle.std.specs.Prelude.{◌≡◌, Bool, true, Option, option_map}
 use Rattle.std.proofs.Common.{refl}
+use Rattle.syntax_kind.specs.declared.syntax_kind.SyntaxKind.{SyntaxKind}
 use Rattle.syntax_kind.specs.declared.syntax_kind.SyntaxKind.TheVariants.{Node}
 use Rattle.syntax_kind.specs.declared.syntax_kind.node_kind.NodeKind.TheVariants as kind
 use Rattle.tree_model.specs.Cursor.{Cursor}
@@ -18,3 +19,10 @@ any_attr_node (DocComment it) = it.syntax
 pub any_attr_castable : (it : AnyAttr) → is_any_attr (kind_at (any_attr_node it)) ≡ true
 any_attr_castable (Attr it) = by_number is_any_attr _ (Node kind.ATTR) it.is refl
 any_attr_castable (DocComment it) = by_number is_any_attr _ (Node kind.DOC_COMMENT) it.is refl
+
+abbrev pub any_attr_kinds : SyntaxKind → Bool
+any_attr_kinds = is_any_attr
+
+-- r is the view of the node at c as an `AnyAttr`; there is none if there is no node
+abbrev pub IsAnyAttr : Option Cursor → Option AnyAttr → Type 0
+IsAnyAttr c r = option_map any_attr_node r ≡ c

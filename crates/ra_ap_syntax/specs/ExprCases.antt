@@ -1,10 +1,11 @@
--- `Expr`: the node of each variant, and that its kind is one of the enum's. Made by `tests/views` from `views.txt`.
-use Rattle.std.specs.Prelude.{◌≡◌, true}
+-- `Expr`: the node of each variant, that its kind is one of the enum's, and words of clauses. Made by `tests/views` from `views.txt`.
+use Rattle.std.specs.Prelude.{◌≡◌, Bool, true, Option, option_map}
 use Rattle.std.proofs.Common.{refl}
+use Rattle.syntax_kind.specs.declared.syntax_kind.SyntaxKind.{SyntaxKind}
 use Rattle.syntax_kind.specs.declared.syntax_kind.SyntaxKind.TheVariants.{Node}
 use Rattle.syntax_kind.specs.declared.syntax_kind.node_kind.NodeKind.TheVariants as kind
 use Rattle.tree_model.specs.Cursor.{Cursor}
-use Rattle.ras_node.specs.Nodes.{kind_at}
+use Rattle.ras_node.specs.Nodes.{kind_at, typed_child}
 use Rattle.ras_node.specs.KindSets.{by_number}
 use Rattle.ra_ap_syntax.specs.declared.ast.views.expr.Expr.{Expr}
 use Rattle.ra_ap_syntax.specs.declared.ast.views.expr.Expr.TheVariants.{ArrayExpr, AsmExpr, AwaitExpr, BecomeExpr, BinExpr, BlockExpr, BreakExpr, CallExpr, CastExpr, CfgPredExpr, ClosureExpr, ContinueExpr, FieldExpr, ForExpr, FormatArgsExpr, IfExpr, IncludeBytesExpr, IndexExpr, LetExpr, Literal, LoopExpr, MacroExpr, MatchExpr, MethodCallExpr, OffsetOfExpr, ParenExpr, PathExpr, PrefixExpr, RangeExpr, RecordExpr, RefExpr, ReturnExpr, TryExpr, TupleExpr, UnderscoreExpr, WhileExpr, YeetExpr, YieldExpr}
@@ -90,3 +91,13 @@ expr_castable (UnderscoreExpr it) = by_number is_expr _ (Node kind.UNDERSCORE_EX
 expr_castable (WhileExpr it) = by_number is_expr _ (Node kind.WHILE_EXPR) it.is refl
 expr_castable (YeetExpr it) = by_number is_expr _ (Node kind.YEET_EXPR) it.is refl
 expr_castable (YieldExpr it) = by_number is_expr _ (Node kind.YIELD_EXPR) it.is refl
+
+abbrev pub expr_kinds : SyntaxKind → Bool
+expr_kinds = is_expr
+
+-- r is the view of the node at c as an `Expr`; there is none if there is no node
+abbrev pub IsExpr : Option Cursor → Option Expr → Type 0
+IsExpr c r = option_map expr_node r ≡ c
+
+abbrev pub IsFirstExpr : Cursor → Option Expr → Type 0
+IsFirstExpr c r = IsExpr (typed_child expr_kinds c) r

@@ -1,6 +1,7 @@
--- `ExternItem`: the node of each variant, and that its kind is one of the enum's. Made by `tests/views` from `views.txt`.
-use Rattle.std.specs.Prelude.{◌≡◌, true}
+-- `ExternItem`: the node of each variant, that its kind is one of the enum's, and words of clauses. Made by `tests/views` from `views.txt`.
+use Rattle.std.specs.Prelude.{◌≡◌, Bool, true, Option, option_map}
 use Rattle.std.proofs.Common.{refl}
+use Rattle.syntax_kind.specs.declared.syntax_kind.SyntaxKind.{SyntaxKind}
 use Rattle.syntax_kind.specs.declared.syntax_kind.SyntaxKind.TheVariants.{Node}
 use Rattle.syntax_kind.specs.declared.syntax_kind.node_kind.NodeKind.TheVariants as kind
 use Rattle.tree_model.specs.Cursor.{Cursor}
@@ -22,3 +23,10 @@ extern_item_castable (Static it) = by_number is_extern_item _ (Node kind.STATIC)
 extern_item_castable (Fn it) = by_number is_extern_item _ (Node kind.FN) it.is refl
 extern_item_castable (MacroCall it) = by_number is_extern_item _ (Node kind.MACRO_CALL) it.is refl
 extern_item_castable (TypeAlias it) = by_number is_extern_item _ (Node kind.TYPE_ALIAS) it.is refl
+
+abbrev pub extern_item_kinds : SyntaxKind → Bool
+extern_item_kinds = is_extern_item
+
+-- r is the view of the node at c as an `ExternItem`; there is none if there is no node
+abbrev pub IsExternItem : Option Cursor → Option ExternItem → Type 0
+IsExternItem c r = option_map extern_item_node r ≡ c

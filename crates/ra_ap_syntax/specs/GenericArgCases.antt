@@ -1,6 +1,7 @@
--- `GenericArg`: the node of each variant, and that its kind is one of the enum's. Made by `tests/views` from `views.txt`.
-use Rattle.std.specs.Prelude.{◌≡◌, true}
+-- `GenericArg`: the node of each variant, that its kind is one of the enum's, and words of clauses. Made by `tests/views` from `views.txt`.
+use Rattle.std.specs.Prelude.{◌≡◌, Bool, true, Option, option_map}
 use Rattle.std.proofs.Common.{refl}
+use Rattle.syntax_kind.specs.declared.syntax_kind.SyntaxKind.{SyntaxKind}
 use Rattle.syntax_kind.specs.declared.syntax_kind.SyntaxKind.TheVariants.{Node}
 use Rattle.syntax_kind.specs.declared.syntax_kind.node_kind.NodeKind.TheVariants as kind
 use Rattle.tree_model.specs.Cursor.{Cursor}
@@ -22,3 +23,10 @@ generic_arg_castable (TypeArg it) = by_number is_generic_arg _ (Node kind.TYPE_A
 generic_arg_castable (AssocTypeArg it) = by_number is_generic_arg _ (Node kind.ASSOC_TYPE_ARG) it.is refl
 generic_arg_castable (LifetimeArg it) = by_number is_generic_arg _ (Node kind.LIFETIME_ARG) it.is refl
 generic_arg_castable (ConstArg it) = by_number is_generic_arg _ (Node kind.CONST_ARG) it.is refl
+
+abbrev pub generic_arg_kinds : SyntaxKind → Bool
+generic_arg_kinds = is_generic_arg
+
+-- r is the view of the node at c as a `GenericArg`; there is none if there is no node
+abbrev pub IsGenericArg : Option Cursor → Option GenericArg → Type 0
+IsGenericArg c r = option_map generic_arg_node r ≡ c

@@ -1,6 +1,7 @@
--- `GenericParam`: the node of each variant, and that its kind is one of the enum's. Made by `tests/views` from `views.txt`.
-use Rattle.std.specs.Prelude.{◌≡◌, true}
+-- `GenericParam`: the node of each variant, that its kind is one of the enum's, and words of clauses. Made by `tests/views` from `views.txt`.
+use Rattle.std.specs.Prelude.{◌≡◌, Bool, true, Option, option_map}
 use Rattle.std.proofs.Common.{refl}
+use Rattle.syntax_kind.specs.declared.syntax_kind.SyntaxKind.{SyntaxKind}
 use Rattle.syntax_kind.specs.declared.syntax_kind.SyntaxKind.TheVariants.{Node}
 use Rattle.syntax_kind.specs.declared.syntax_kind.node_kind.NodeKind.TheVariants as kind
 use Rattle.tree_model.specs.Cursor.{Cursor}
@@ -20,3 +21,10 @@ pub generic_param_castable : (it : GenericParam) → is_generic_param (kind_at (
 generic_param_castable (LifetimeParam it) = by_number is_generic_param _ (Node kind.LIFETIME_PARAM) it.is refl
 generic_param_castable (TypeParam it) = by_number is_generic_param _ (Node kind.TYPE_PARAM) it.is refl
 generic_param_castable (ConstParam it) = by_number is_generic_param _ (Node kind.CONST_PARAM) it.is refl
+
+abbrev pub generic_param_kinds : SyntaxKind → Bool
+generic_param_kinds = is_generic_param
+
+-- r is the view of the node at c as a `GenericParam`; there is none if there is no node
+abbrev pub IsGenericParam : Option Cursor → Option GenericParam → Type 0
+IsGenericParam c r = option_map generic_param_node r ≡ c

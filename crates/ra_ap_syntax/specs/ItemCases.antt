@@ -1,6 +1,7 @@
--- `Item`: the node of each variant, and that its kind is one of the enum's. Made by `tests/views` from `views.txt`.
-use Rattle.std.specs.Prelude.{◌≡◌, true}
+-- `Item`: the node of each variant, that its kind is one of the enum's, and words of clauses. Made by `tests/views` from `views.txt`.
+use Rattle.std.specs.Prelude.{◌≡◌, Bool, true, Option, option_map}
 use Rattle.std.proofs.Common.{refl}
+use Rattle.syntax_kind.specs.declared.syntax_kind.SyntaxKind.{SyntaxKind}
 use Rattle.syntax_kind.specs.declared.syntax_kind.SyntaxKind.TheVariants.{Node}
 use Rattle.syntax_kind.specs.declared.syntax_kind.node_kind.NodeKind.TheVariants as kind
 use Rattle.tree_model.specs.Cursor.{Cursor}
@@ -48,3 +49,10 @@ item_castable (Trait it) = by_number is_item _ (Node kind.TRAIT) it.is refl
 item_castable (TypeAlias it) = by_number is_item _ (Node kind.TYPE_ALIAS) it.is refl
 item_castable (Union it) = by_number is_item _ (Node kind.UNION) it.is refl
 item_castable (Use it) = by_number is_item _ (Node kind.USE) it.is refl
+
+abbrev pub item_kinds : SyntaxKind → Bool
+item_kinds = is_item
+
+-- r is the view of the node at c as an `Item`; there is none if there is no node
+abbrev pub IsItem : Option Cursor → Option Item → Type 0
+IsItem c r = option_map item_node r ≡ c

@@ -108,3 +108,14 @@ pub mod Words
 pub mod ExprShapes
 pub mod NodeShapes
 pub mod AttrParts
+pub mod AttrViews
+pub mod ControlViews
+pub mod ExprViews
+pub mod GenericViews
+pub mod ItemViews
+pub mod PartViews
+pub mod PatViews
+pub mod PathViews
+pub mod StmtViews
+pub mod TyViews
+pub mod Accessors

@@ -1,6 +1,7 @@
--- `Macro`: the node of each variant, and that its kind is one of the enum's. Made by `tests/views` from `views.txt`.
-use Rattle.std.specs.Prelude.{◌≡◌, true}
+-- `Macro`: the node of each variant, that its kind is one of the enum's, and words of clauses. Made by `tests/views` from `views.txt`.
+use Rattle.std.specs.Prelude.{◌≡◌, Bool, true, Option, option_map}
 use Rattle.std.proofs.Common.{refl}
+use Rattle.syntax_kind.specs.declared.syntax_kind.SyntaxKind.{SyntaxKind}
 use Rattle.syntax_kind.specs.declared.syntax_kind.SyntaxKind.TheVariants.{Node}
 use Rattle.syntax_kind.specs.declared.syntax_kind.node_kind.NodeKind.TheVariants as kind
 use Rattle.tree_model.specs.Cursor.{Cursor}
@@ -18,3 +19,10 @@ macro_node (MacroDef it) = it.syntax
 pub macro_castable : (it : Macro) → is_macro (kind_at (macro_node it)) ≡ true
 macro_castable (MacroRules it) = by_number is_macro _ (Node kind.MACRO_RULES) it.is refl
 macro_castable (MacroDef it) = by_number is_macro _ (Node kind.MACRO_DEF) it.is refl
+
+abbrev pub macro_kinds : SyntaxKind → Bool
+macro_kinds = is_macro
+
+-- r is the view of the node at c as a `Macro`; there is none if there is no node
+abbrev pub IsMacro : Option Cursor → Option Macro → Type 0
+IsMacro c r = option_map macro_node r ≡ c

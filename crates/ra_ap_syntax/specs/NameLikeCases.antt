@@ -1,6 +1,7 @@
--- `NameLike`: the node of each variant, and that its kind is one of the enum's. Made by `tests/views` from `views.txt`.
-use Rattle.std.specs.Prelude.{◌≡◌, true}
+-- `NameLike`: the node of each variant, that its kind is one of the enum's, and words of clauses. Made by `tests/views` from `views.txt`.
+use Rattle.std.specs.Prelude.{◌≡◌, Bool, true, Option, option_map}
 use Rattle.std.proofs.Common.{refl}
+use Rattle.syntax_kind.specs.declared.syntax_kind.SyntaxKind.{SyntaxKind}
 use Rattle.syntax_kind.specs.declared.syntax_kind.SyntaxKind.TheVariants.{Node}
 use Rattle.syntax_kind.specs.declared.syntax_kind.node_kind.NodeKind.TheVariants as kind
 use Rattle.tree_model.specs.Cursor.{Cursor}
@@ -20,3 +21,10 @@ pub name_like_castable : (it : NameLike) → is_name_like (kind_at (name_like_no
 name_like_castable (NameRef it) = by_number is_name_like _ (Node kind.NAME_REF) it.is refl
 name_like_castable (Name it) = by_number is_name_like _ (Node kind.NAME) it.is refl
 name_like_castable (Lifetime it) = by_number is_name_like _ (Node kind.LIFETIME) it.is refl
+
+abbrev pub name_like_kinds : SyntaxKind → Bool
+name_like_kinds = is_name_like
+
+-- r is the view of the node at c as a `NameLike`; there is none if there is no node
+abbrev pub IsNameLike : Option Cursor → Option NameLike → Type 0
+IsNameLike c r = option_map name_like_node r ≡ c

@@ -1,10 +1,11 @@
--- `Pat`: the node of each variant, and that its kind is one of the enum's. Made by `tests/views` from `views.txt`.
-use Rattle.std.specs.Prelude.{◌≡◌, true}
+-- `Pat`: the node of each variant, that its kind is one of the enum's, and words of clauses. Made by `tests/views` from `views.txt`.
+use Rattle.std.specs.Prelude.{◌≡◌, Bool, true, Option, option_map}
 use Rattle.std.proofs.Common.{refl}
+use Rattle.syntax_kind.specs.declared.syntax_kind.SyntaxKind.{SyntaxKind}
 use Rattle.syntax_kind.specs.declared.syntax_kind.SyntaxKind.TheVariants.{Node}
 use Rattle.syntax_kind.specs.declared.syntax_kind.node_kind.NodeKind.TheVariants as kind
 use Rattle.tree_model.specs.Cursor.{Cursor}
-use Rattle.ras_node.specs.Nodes.{kind_at}
+use Rattle.ras_node.specs.Nodes.{kind_at, typed_child}
 use Rattle.ras_node.specs.KindSets.{by_number}
 use Rattle.ra_ap_syntax.specs.declared.ast.views.pat.Pat.{Pat}
 use Rattle.ra_ap_syntax.specs.declared.ast.views.pat.Pat.TheVariants.{BoxPat, ConstBlockPat, IdentPat, LiteralPat, MacroPat, OrPat, ParenPat, PathPat, RangePat, RecordPat, RefPat, RestPat, SlicePat, TuplePat, TupleStructPat, WildcardPat}
@@ -46,3 +47,13 @@ pat_castable (SlicePat it) = by_number is_pat _ (Node kind.SLICE_PAT) it.is refl
 pat_castable (TuplePat it) = by_number is_pat _ (Node kind.TUPLE_PAT) it.is refl
 pat_castable (TupleStructPat it) = by_number is_pat _ (Node kind.TUPLE_STRUCT_PAT) it.is refl
 pat_castable (WildcardPat it) = by_number is_pat _ (Node kind.WILDCARD_PAT) it.is refl
+
+abbrev pub pat_kinds : SyntaxKind → Bool
+pat_kinds = is_pat
+
+-- r is the view of the node at c as a `Pat`; there is none if there is no node
+abbrev pub IsPat : Option Cursor → Option Pat → Type 0
+IsPat c r = option_map pat_node r ≡ c
+
+abbrev pub IsFirstPat : Cursor → Option Pat → Type 0
+IsFirstPat c r = IsPat (typed_child pat_kinds c) r

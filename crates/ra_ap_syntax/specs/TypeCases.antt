@@ -1,10 +1,11 @@
--- `Type`: the node of each variant, and that its kind is one of the enum's. Made by `tests/views` from `views.txt`.
-use Rattle.std.specs.Prelude.{◌≡◌, true}
+-- `Type`: the node of each variant, that its kind is one of the enum's, and words of clauses. Made by `tests/views` from `views.txt`.
+use Rattle.std.specs.Prelude.{◌≡◌, Bool, true, Option, option_map}
 use Rattle.std.proofs.Common.{refl}
+use Rattle.syntax_kind.specs.declared.syntax_kind.SyntaxKind.{SyntaxKind}
 use Rattle.syntax_kind.specs.declared.syntax_kind.SyntaxKind.TheVariants.{Node}
 use Rattle.syntax_kind.specs.declared.syntax_kind.node_kind.NodeKind.TheVariants as kind
 use Rattle.tree_model.specs.Cursor.{Cursor}
-use Rattle.ras_node.specs.Nodes.{kind_at}
+use Rattle.ras_node.specs.Nodes.{kind_at, typed_child}
 use Rattle.ras_node.specs.KindSets.{by_number}
 use Rattle.ra_ap_syntax.specs.declared.ast.views.ty.«Type».{«Type»}
 use Rattle.ra_ap_syntax.specs.declared.ast.views.ty.«Type».TheVariants.{ArrayType, DynTraitType, FnPtrType, ForType, ImplTraitType, InferType, MacroType, NeverType, ParenType, PathType, PtrType, RefType, SliceType, TupleType}
@@ -42,3 +43,13 @@ ty_castable (PtrType it) = by_number is_ty _ (Node kind.PTR_TYPE) it.is refl
 ty_castable (RefType it) = by_number is_ty _ (Node kind.REF_TYPE) it.is refl
 ty_castable (SliceType it) = by_number is_ty _ (Node kind.SLICE_TYPE) it.is refl
 ty_castable (TupleType it) = by_number is_ty _ (Node kind.TUPLE_TYPE) it.is refl
+
+abbrev pub type_kinds : SyntaxKind → Bool
+type_kinds = is_ty
+
+-- r is the view of the node at c as a `Type`; there is none if there is no node
+abbrev pub IsType : Option Cursor → Option «Type» → Type 0
+IsType c r = option_map ty_node r ≡ c
+
+abbrev pub IsFirstType : Cursor → Option «Type» → Type 0
+IsFirstType c r = IsType (typed_child type_kinds c) r

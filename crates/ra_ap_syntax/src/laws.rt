@@ -40,13 +40,18 @@ pub use ras_tokens::laws::names_of_tokens;
 ///
 /// Any tokens may follow the tree, except `<` or `<<` if the term, or the term without the pair, ends in a cast's name.
 pub fn the_operator_theorem()
-    ensures readings { (r : Cursor) (t : Term) → meaning (focus r) ≡ IsTerm t → MayStandBefore (leaves_behind r.tree r.place) t
+    ensures readings { (r : Cursor) (t : Term)
+        → meaning (focus r) ≡ IsTerm t → MayStandBefore (leaves_behind r.tree r.place) t
         → IsOneReadingOf (leaves_of (focus r)) t ↔ NoOperandNeedsAny r t }
-    ensures pairs { (r : Cursor) (t : Term) (i : ℕ) (q : List ℕ) (d : Demand) (e : Term) → meaning (focus r) ≡ IsTerm t → operand t (i ∷ q) ≡ some_part d (Paren e)
-        → MayGoBefore (leaves_behind r.tree r.place) t (i ∷ q) → IsOneReadingOf (leaves_of (focus r)) t
+    ensures pairs { (r : Cursor) (t : Term) (i : ℕ) (q : List ℕ) (d : Demand) (e : Term)
+        → meaning (focus r) ≡ IsTerm t → operand t (i ∷ q) ≡ some_part d (Paren e)
+        → MayGoBefore (leaves_behind r.tree r.place) t (i ∷ q)
+        → IsOneReadingOf (leaves_of (focus r)) t
         → InsideNeedsNone r t (i ∷ q) ↔ ReadsWithout t (i ∷ q) }
-    ensures tokens { (r : Cursor) (t : Term) (q : List ℕ) (d : Demand) (e : Term) → meaning (focus r) ≡ IsTerm t → operand t q ≡ some_part d (Paren e)
+    ensures tokens { (r : Cursor) (t : Term) (q : List ℕ) (d : Demand) (e : Term)
+        → meaning (focus r) ≡ IsTerm t → operand t q ≡ some_part d (Paren e)
         → (before : List Token)
-        × (leaves_of (focus r) ≡ before ++ (fixed token.L_PAREN ∷ (tokens e ++ (fixed token.R_PAREN ∷ tokens_behind q t))))
+        × (leaves_of (focus r)
+        ≡ before ++ (fixed token.L_PAREN ∷ (tokens e ++ (fixed token.R_PAREN ∷ tokens_behind q t))))
         × (tokens (without q t) ≡ before ++ (tokens e ++ tokens_behind q t)) }
 {}

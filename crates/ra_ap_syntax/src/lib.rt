@@ -34,7 +34,8 @@ macro_rules! match_ast {
     }) => {
         match &$node {
             matched => {
-                $( if let Some($it) = $crate::ast::cast_ref::<$($path)::+>(matched) $(&& $guard)? { $res } else )*
+                $( if let Some($it) = $crate::ast::cast_ref::<$($path)::+>(matched)
+                    $(&& $guard)? { $res } else )*
                 { $rest }
             }
         }

@@ -25,7 +25,8 @@ impl SourceFile {
         front: &F,
         edition: Edition,
     ) -> Result<Parse<SourceFile>, ParseError>
-        ensures parsed { IfOk result (IsParseOf text.now ((F.answers front.now).parsed entry.SourceFile edition text.now)) }
+        ensures parsed { IfOk result
+            (IsParseOf text.now ((F.answers front.now).parsed entry.SourceFile edition text.now)) }
         ensures root { IfOk result (λ p. IsRootOf entry.SourceFile (kind_of p.tree)) }
         ensures in_text { IfOk result ErrorsLieIn }
         ensures accepted { OnOk result (length text.now < 2 ^ 32) }
@@ -48,7 +49,8 @@ impl Expr {
         front: &F,
         edition: Edition,
     ) -> Result<Parse<Expr>, ParseError>
-        ensures parsed { IfOk result (IsParseOf text.now ((F.answers front.now).parsed entry.Expr edition text.now)) }
+        ensures parsed { IfOk result
+            (IsParseOf text.now ((F.answers front.now).parsed entry.Expr edition text.now)) }
         ensures root { IfOk result (λ p. IsRootOf entry.Expr (kind_of p.tree)) }
         ensures in_text { IfOk result ErrorsLieIn }
         ensures accepted { OnOk result (length text.now < 2 ^ 32) }

@@ -1,11 +1,11 @@
--- `AsmOperand`: its kinds by their raw numbers, and the node of each variant. Made by `tests/views` from `views.txt`.
-use Rattle.std.specs.Prelude.{◌≡◌, ◌||◌, Bool, true, ℕ, nat_eq}
+-- `AsmOperand`: its kinds by their raw numbers, the node of each variant, and words of clauses. Made by `tests/views` from `views.txt`.
+use Rattle.std.specs.Prelude.{◌≡◌, ◌||◌, Bool, true, ℕ, nat_eq, Option, option_map}
 use Rattle.std.proofs.lemmas.Bool.{eq-eqb}
 use Rattle.syntax_kind.specs.declared.syntax_kind.SyntaxKind.{SyntaxKind}
 use Rattle.syntax_kind.specs.Kinds.{kind_raw}
 use Rattle.rust_views.specs.declared.raw.TheConstants.{ASM_REG_OPERAND, ASM_LABEL, ASM_SYM, ASM_CONST}
 use Rattle.tree_model.specs.Cursor.{Cursor}
-use Rattle.ras_node.specs.Nodes.{kind_at}
+use Rattle.ras_node.specs.Nodes.{kind_at, typed_child}
 use Rattle.rust_views.specs.Sides.{or_left, or_right}
 use Rattle.rust_views.specs.declared.enums.asm_operand.AsmOperand.{AsmOperand}
 use Rattle.rust_views.specs.declared.enums.asm_operand.AsmOperand.TheVariants.{AsmRegOperand, AsmLabel, AsmSym, AsmConst}
@@ -32,3 +32,13 @@ asm_operand_castable (AsmConst it) =
     (or_right (nat_eq (kind_raw (kind_at (asm_operand_node (AsmConst it)))) ASM_LABEL) _
     (or_right (nat_eq (kind_raw (kind_at (asm_operand_node (AsmConst it)))) ASM_SYM) _
     (eq-eqb _ _ it.is)))
+
+abbrev pub asm_operand_kinds : SyntaxKind → Bool
+asm_operand_kinds = is_asm_operand
+
+-- r is the view of the node at c as an `AsmOperand`; there is none if there is no node
+abbrev pub IsAsmOperand : Option Cursor → Option AsmOperand → Type 0
+IsAsmOperand c r = option_map asm_operand_node r ≡ c
+
+abbrev pub IsFirstAsmOperand : Cursor → Option AsmOperand → Type 0
+IsFirstAsmOperand c r = IsAsmOperand (typed_child asm_operand_kinds c) r

@@ -1,5 +1,5 @@
--- `AsmPiece`: its kinds by their raw numbers, and the node of each variant. Made by `tests/views` from `views.txt`.
-use Rattle.std.specs.Prelude.{◌≡◌, ◌||◌, Bool, true, ℕ, nat_eq}
+-- `AsmPiece`: its kinds by their raw numbers, the node of each variant, and words of clauses. Made by `tests/views` from `views.txt`.
+use Rattle.std.specs.Prelude.{◌≡◌, ◌||◌, Bool, true, ℕ, nat_eq, Option, option_map}
 use Rattle.std.proofs.lemmas.Bool.{eq-eqb}
 use Rattle.syntax_kind.specs.declared.syntax_kind.SyntaxKind.{SyntaxKind}
 use Rattle.syntax_kind.specs.Kinds.{kind_raw}
@@ -26,3 +26,10 @@ pub asm_piece_castable : (it : AsmPiece) → is_asm_piece (kind_at (asm_piece_no
 asm_piece_castable (AsmOperandNamed it) = or_left _ _ (eq-eqb _ _ it.is)
 asm_piece_castable (AsmClobberAbi it) = or_right _ _ (or_left _ _ (eq-eqb _ _ it.is))
 asm_piece_castable (AsmOptions it) = or_right _ _ (or_right _ _ (eq-eqb _ _ it.is))
+
+abbrev pub asm_piece_kinds : SyntaxKind → Bool
+asm_piece_kinds = is_asm_piece
+
+-- r is the view of the node at c as an `AsmPiece`; there is none if there is no node
+abbrev pub IsAsmPiece : Option Cursor → Option AsmPiece → Type 0
+IsAsmPiece c r = option_map asm_piece_node r ≡ c

@@ -1,11 +1,11 @@
--- `FieldList`: its kinds by their raw numbers, and the node of each variant. Made by `tests/views` from `views.txt`.
-use Rattle.std.specs.Prelude.{◌≡◌, ◌||◌, Bool, true, ℕ, nat_eq}
+-- `FieldList`: its kinds by their raw numbers, the node of each variant, and words of clauses. Made by `tests/views` from `views.txt`.
+use Rattle.std.specs.Prelude.{◌≡◌, ◌||◌, Bool, true, ℕ, nat_eq, Option, option_map}
 use Rattle.std.proofs.lemmas.Bool.{eq-eqb}
 use Rattle.syntax_kind.specs.declared.syntax_kind.SyntaxKind.{SyntaxKind}
 use Rattle.syntax_kind.specs.Kinds.{kind_raw}
 use Rattle.syntax_kind.specs.declared.raw.TheConstants.{RECORD_FIELD_LIST, TUPLE_FIELD_LIST}
 use Rattle.tree_model.specs.Cursor.{Cursor}
-use Rattle.ras_node.specs.Nodes.{kind_at}
+use Rattle.ras_node.specs.Nodes.{kind_at, typed_child}
 use Rattle.rust_views.specs.Sides.{or_left, or_right}
 use Rattle.rust_views.specs.declared.enums.field_list.FieldList.{FieldList}
 use Rattle.rust_views.specs.declared.enums.field_list.FieldList.TheVariants.{RecordFieldList, TupleFieldList}
@@ -24,3 +24,13 @@ field_list_node (TupleFieldList it) = it.syntax
 pub field_list_castable : (it : FieldList) → is_field_list (kind_at (field_list_node it)) ≡ true
 field_list_castable (RecordFieldList it) = or_left _ _ (eq-eqb _ _ it.is)
 field_list_castable (TupleFieldList it) = or_right _ _ (eq-eqb _ _ it.is)
+
+abbrev pub field_list_kinds : SyntaxKind → Bool
+field_list_kinds = is_field_list
+
+-- r is the view of the node at c as a `FieldList`; there is none if there is no node
+abbrev pub IsFieldList : Option Cursor → Option FieldList → Type 0
+IsFieldList c r = option_map field_list_node r ≡ c
+
+abbrev pub IsFirstFieldList : Cursor → Option FieldList → Type 0
+IsFirstFieldList c r = IsFieldList (typed_child field_list_kinds c) r

@@ -1,6 +1,11 @@
 pub mod AsmOperandCases
 pub mod AsmPieceCases
+pub mod AsmViews
+pub mod ExprViews
 pub mod FieldListCases
+pub mod ItemViews
+pub mod PatViews
+pub mod PathViews
 pub mod Sets
 pub mod Sides
 pub mod UseBoundGenericArgCases

@@ -1,5 +1,5 @@
--- `UseBoundGenericArg`: its kinds by their raw numbers, and the node of each variant. Made by `tests/views` from `views.txt`.
-use Rattle.std.specs.Prelude.{◌≡◌, ◌||◌, Bool, true, ℕ, nat_eq}
+-- `UseBoundGenericArg`: its kinds by their raw numbers, the node of each variant, and words of clauses. Made by `tests/views` from `views.txt`.
+use Rattle.std.specs.Prelude.{◌≡◌, ◌||◌, Bool, true, ℕ, nat_eq, Option, option_map}
 use Rattle.std.proofs.lemmas.Bool.{eq-eqb}
 use Rattle.syntax_kind.specs.declared.syntax_kind.SyntaxKind.{SyntaxKind}
 use Rattle.syntax_kind.specs.Kinds.{kind_raw}
@@ -25,3 +25,10 @@ pub use_bound_generic_arg_castable : (it : UseBoundGenericArg) →
     is_use_bound_generic_arg (kind_at (use_bound_generic_arg_node it)) ≡ true
 use_bound_generic_arg_castable (Lifetime it) = or_left _ _ (eq-eqb _ _ it.is)
 use_bound_generic_arg_castable (NameRef it) = or_right _ _ (eq-eqb _ _ it.is)
+
+abbrev pub use_bound_generic_arg_kinds : SyntaxKind → Bool
+use_bound_generic_arg_kinds = is_use_bound_generic_arg
+
+-- r is the view of the node at c as a `UseBoundGenericArg`; there is none if there is no node
+abbrev pub IsUseBoundGenericArg : Option Cursor → Option UseBoundGenericArg → Type 0
+IsUseBoundGenericArg c r = option_map use_bound_generic_arg_node r ≡ c

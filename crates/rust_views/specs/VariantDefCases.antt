@@ -1,5 +1,5 @@
--- `VariantDef`: its kinds by their raw numbers, and the node of each variant. Made by `tests/views` from `views.txt`.
-use Rattle.std.specs.Prelude.{◌≡◌, ◌||◌, Bool, true, ℕ, nat_eq}
+-- `VariantDef`: its kinds by their raw numbers, the node of each variant, and words of clauses. Made by `tests/views` from `views.txt`.
+use Rattle.std.specs.Prelude.{◌≡◌, ◌||◌, Bool, true, ℕ, nat_eq, Option, option_map}
 use Rattle.std.proofs.lemmas.Bool.{eq-eqb}
 use Rattle.syntax_kind.specs.declared.syntax_kind.SyntaxKind.{SyntaxKind}
 use Rattle.syntax_kind.specs.Kinds.{kind_raw}
@@ -26,3 +26,10 @@ pub variant_def_castable : (it : VariantDef) → is_variant_def (kind_at (varian
 variant_def_castable (Struct it) = or_left _ _ (eq-eqb _ _ it.is)
 variant_def_castable (Union it) = or_right _ _ (or_left _ _ (eq-eqb _ _ it.is))
 variant_def_castable (Variant it) = or_right _ _ (or_right _ _ (eq-eqb _ _ it.is))
+
+abbrev pub variant_def_kinds : SyntaxKind → Bool
+variant_def_kinds = is_variant_def
+
+-- r is the view of the node at c as a `VariantDef`; there is none if there is no node
+abbrev pub IsVariantDef : Option Cursor → Option VariantDef → Type 0
+IsVariantDef c r = option_map variant_def_node r ≡ c

@@ -54,12 +54,17 @@ impl ast::Expr {
     /// it or it is below `&&`.
     pub fn needs_parens_in(&self, parent: &SyntaxNode) -> bool
         ensures asks { result ≡ asks (expr_node self.now) parent.now (expr_node self.now) }
-        ensures fits { (r : Cursor) (t : Term) (i : ℕ) (q : List ℕ) (held : Part) → meaning (focus r) ≡ IsTerm t → operand t (i ∷ q) ≡ Some held
-            → expr_node self.now ≡ operand_cursor r t (i ∷ q) → parent_of (expr_node self.now) ≡ Some parent.now
+        ensures fits { (r : Cursor) (t : Term) (i : ℕ) (q : List ℕ) (held : Part)
+            → meaning (focus r) ≡ IsTerm t → operand t (i ∷ q) ≡ Some held
+            → expr_node self.now ≡ operand_cursor r t (i ∷ q)
+            → parent_of (expr_node self.now) ≡ Some parent.now
             → result ≡ false ↔ FitsPlace held.demand (angle_behind r t (i ∷ q)) held.term }
-        ensures alone { (r : Cursor) (t : Term) (i : ℕ) (q : List ℕ) (held : Part) → meaning (focus r) ≡ IsTerm t → operand t (i ∷ q) ≡ Some held
-            → expr_node self.now ≡ operand_cursor r t (i ∷ q) → parent_of (expr_node self.now) ≡ Some parent.now
-            → begins_with_angle (leaves_behind r.tree r.place) ≡ false → result ≡ false ↔ Fits t (i ∷ q) }
+        ensures alone { (r : Cursor) (t : Term) (i : ℕ) (q : List ℕ) (held : Part)
+            → meaning (focus r) ≡ IsTerm t → operand t (i ∷ q) ≡ Some held
+            → expr_node self.now ≡ operand_cursor r t (i ∷ q)
+            → parent_of (expr_node self.now) ≡ Some parent.now
+            → begins_with_angle (leaves_behind r.tree r.place) ≡ false
+            → result ≡ false ↔ Fits t (i ∷ q) }
     {
         ras_prec::rules::needs_parens_in(self.syntax(), parent)
     }
@@ -72,14 +77,19 @@ impl ast::Expr {
     /// term without it; and that term is then their only reading.
     pub fn needs_parens_in_place_of(&self, parent: &SyntaxNode, place: &SyntaxNode) -> bool
         ensures asks { result ≡ asks (expr_node self.now) parent.now place.now }
-        ensures fits { (r : Cursor) (t s : Term) (i : ℕ) (q : List ℕ) (held : Part) → meaning (focus r) ≡ IsTerm t → operand t (i ∷ q) ≡ Some held
-            → place.now ≡ operand_cursor r t (i ∷ q) → parent_of place.now ≡ Some parent.now → meaning (focus (expr_node self.now)) ≡ IsTerm s
+        ensures fits { (r : Cursor) (t s : Term) (i : ℕ) (q : List ℕ) (held : Part)
+            → meaning (focus r) ≡ IsTerm t → operand t (i ∷ q) ≡ Some held
+            → place.now ≡ operand_cursor r t (i ∷ q) → parent_of place.now ≡ Some parent.now
+            → meaning (focus (expr_node self.now)) ≡ IsTerm s
             → result ≡ false ↔ FitsPlace held.demand (angle_behind r t (i ∷ q)) s }
-        ensures pairs { (r : Cursor) (t : Term) (i : ℕ) (q : List ℕ) (d : Demand) (e : Term) → meaning (focus r) ≡ IsTerm t → operand t (i ∷ q) ≡ some_part d (Paren e)
-            → place.now ≡ operand_cursor r t (i ∷ q) → parent_of place.now ≡ Some parent.now → meaning (focus (expr_node self.now)) ≡ IsTerm e
+        ensures pairs { (r : Cursor) (t : Term) (i : ℕ) (q : List ℕ) (d : Demand) (e : Term)
+            → meaning (focus r) ≡ IsTerm t → operand t (i ∷ q) ≡ some_part d (Paren e)
+            → place.now ≡ operand_cursor r t (i ∷ q) → parent_of place.now ≡ Some parent.now
+            → meaning (focus (expr_node self.now)) ≡ IsTerm e
             → Reads 0 (tokens t) t → MayGoBefore (leaves_behind r.tree r.place) t (i ∷ q)
             → (result ≡ false ↔ Reads 0 (tokens (without (i ∷ q) t)) (without (i ∷ q) t))
-            × (result ≡ false → (u : Term) → Reads 0 (tokens (without (i ∷ q) t)) u → u ≡ without (i ∷ q) t) }
+            × (result ≡ false → (u : Term)
+            → Reads 0 (tokens (without (i ∷ q) t)) u → u ≡ without (i ∷ q) t) }
     {
         ras_prec::rules::needs_parens_in_place_of(self.syntax(), parent, place)
     }
@@ -88,7 +98,8 @@ impl ast::Expr {
 impl ast::Type {
     /// Whether the type needs parentheses below a parent: a `dyn` or `impl` type in a cast, after `&` or in a pointer type.
     pub fn needs_parens_in(&self, parent: &SyntaxNode) -> bool
-        ensures { result ≡ (is_dyn_or_impl (kind_at (ty_node self.now)) && is_pointing (kind_at parent.now)) }
+        ensures { result
+            ≡ (is_dyn_or_impl (kind_at (ty_node self.now)) && is_pointing (kind_at parent.now)) }
     {
         ras_operators::node::type_needs_parens_in(self.syntax(), parent)
     }
@@ -101,9 +112,11 @@ impl ast::Type {
 /// [`ast::Expr::needs_parens_in`]. Takes no memory, and time linear in the expression.
 pub fn reads_back(expr: &ast::Expr) -> Option<bool>
     ensures reads { ReadsBack result (shown (focus (expr_node expr.now))) }
-    ensures fits { IfSome result (λ b. (t : Term) → meaning (focus (expr_node expr.now)) ≡ IsTerm t → b ≡ true ↔ ((q : List ℕ) → Fits t q)) }
+    ensures fits { IfSome result (λ b. (t : Term) → meaning (focus (expr_node expr.now)) ≡ IsTerm t
+        → b ≡ true ↔ ((q : List ℕ) → Fits t q)) }
     ensures tied { IfSome result (λ b. (t : Term) → meaning (focus (expr_node expr.now)) ≡ IsTerm t
-        → MayStandBefore (leaves_behind (expr_node expr.now).tree (expr_node expr.now).place) t → b ≡ true ↔ NoOperandNeedsAny (expr_node expr.now) t) }
+        → MayStandBefore (leaves_behind (expr_node expr.now).tree (expr_node expr.now).place) t
+        → b ≡ true ↔ NoOperandNeedsAny (expr_node expr.now) t) }
 {
     ras_prec::needless::reads_back(expr.syntax())
 }
@@ -118,7 +131,9 @@ pub fn needless_parens(
     alloc: Global,
     expr: &ast::Expr,
 ) -> Result<Option<Vec<ast::ParenExpr>>, AllocError>
-    ensures { IfOk result (λ answer. NeedlessOf (expr_node expr.now) (option_map (λ found. map (λ pair. pair.syntax) found.items) answer) (shown (focus (expr_node expr.now)))) }
+    ensures { IfOk result (λ answer. NeedlessOf (expr_node expr.now)
+        (option_map (λ found. map (λ pair. pair.syntax) found.items) answer)
+        (shown (focus (expr_node expr.now)))) }
 {
     ras_prec::needless::needless_parens::<ast::ParenExpr>(alloc, expr.syntax())
 }

@@ -1,11 +1,15 @@
 //! The shared traits that need more than lookups. Each call takes time linear in the number of children that it passes, and
 //! no memory.
 ghost use Rattle.std.specs.Prelude.{◌≡◌};
-ghost use Rattle.ras_node.specs.Lookups.{IsFirstChild, IsViewOf, loop_body};
+ghost use Rattle.ras_node.specs.Lookups.{loop_body};
 ghost use Rattle.std.specs.List.{filter};
 ghost use Rattle.ras_node.specs.Nodes.{has_kind_in, typed_children};
-ghost use Rattle.ra_ap_syntax.specs.Words.{AreChildren};
 ghost use Rattle.ras_node_ext.specs.Attrs.{inner_holder, attrs_with_inner};
+ghost use Rattle.ra_ap_syntax.specs.Accessors.{all_attrs};
+ghost use Rattle.ra_ap_syntax.specs.AnyAttrCases.{any_attr_kinds};
+ghost use Rattle.ra_ap_syntax.specs.AttrViews.{attr_kinds, doc_comment_kinds};
+ghost use Rattle.ra_ap_syntax.specs.ControlViews.{IsBlockExpr, block_expr_kinds};
+ghost use Rattle.ra_ap_syntax.specs.StmtViews.{IsFirstLabel};
 
 use crate::ast::{self, AstChildren, AstNode, AttrsIter, AttrsWithDoc, support};
 use lossless_tree::SyntaxNode;
@@ -15,7 +19,7 @@ pub trait HasLoopBody: AstNode {
     /// The body. For a `loop` it is the first block among the children. The first block of a `for` or a `while` may be its
     /// iterator or condition, so there the body is the second block, or the first if there is only one.
     final fn loop_body(&self) -> Option<ast::BlockExpr>
-        ensures { IsViewOf ⟦<ast::BlockExpr as AstNode>⟧ (loop_body ⟦<ast::BlockExpr as AstNode>⟧.casts (Self.node self.now)) result }
+        ensures { IsBlockExpr (loop_body block_expr_kinds (Self.node self.now)) result }
     {
         ras_expr_ext::loop_body(self.syntax())
     }
@@ -23,7 +27,7 @@ pub trait HasLoopBody: AstNode {
     /// The first child that is a label, if there is one.
     /// Example: `'a:` of `'a: loop {}`.
     final fn label(&self) -> Option<ast::Label>
-        ensures { IsFirstChild ⟦<ast::Label as AstNode>⟧ (Self.node self.now) result }
+        ensures { IsFirstLabel (Self.node self.now) result }
     {
         support::child(self.syntax())
     }
@@ -34,7 +38,7 @@ pub trait HasAttrs: AstNode {
     /// The children that are attributes, in order.
     /// Example: `#[a]` and `#[b]` of `#[a] #[b]\n/// c\nfn f() {}`.
     final fn attrs(&self) -> AstChildren<ast::Attr>
-        ensures { result ≡ typed_children ⟦<ast::Attr as AstNode>⟧.casts (Self.node self.now) }
+        ensures { result ≡ typed_children attr_kinds (Self.node self.now) }
     {
         support::children(self.syntax())
     }
@@ -42,7 +46,7 @@ pub trait HasAttrs: AstNode {
     /// The children that are doc comments, in order.
     /// Example: `/// c` of `#[a] #[b]\n/// c\nfn f() {}`.
     final fn doc_comments(&self) -> AstChildren<ast::DocComment>
-        ensures { AreChildren ⟦<ast::DocComment as AstNode>⟧ (Self.node self.now) result }
+        ensures { result ≡ typed_children doc_comment_kinds (Self.node self.now) }
     {
         support::children(self.syntax())
     }
@@ -50,7 +54,7 @@ pub trait HasAttrs: AstNode {
     /// The children that are attributes or doc comments, in order.
     /// Example: `#[a]`, `#[b]` and `/// c` of `#[a] #[b]\n/// c\nfn f() {}`.
     final fn attrs_with_doc(&self) -> AstChildren<ast::AnyAttr>
-        ensures { result ≡ typed_children ⟦<ast::AnyAttr as AstNode>⟧.casts (Self.node self.now) }
+        ensures { result ≡ typed_children any_attr_kinds (Self.node self.now) }
     {
         support::children(self.syntax())
     }
@@ -67,14 +71,14 @@ pub trait HasAttrs: AstNode {
 
 /// The outer attributes and documentation comments of an owner, and then the inner ones, in order.
 pub fn attrs_with_doc_including_inner<H: HasAttrs>(owner: &H) -> AttrsWithDoc
-    ensures { result ≡ attrs_with_inner ⟦<ast::AnyAttr as AstNode>⟧.casts (H.node owner.now) (inner_holder (H.node owner.now)) }
+    ensures { result ≡ all_attrs (H.node owner.now) }
 {
     AttrsWithDoc::new(owner.syntax(), owner.inner_attributes_node())
 }
 
 /// The outer attributes of an owner, and then the inner ones, in order, without documentation comments.
 pub fn attrs_including_inner<H: HasAttrs>(owner: &H) -> AttrsIter
-    ensures { result ≡ filter (has_kind_in ⟦<ast::Attr as AstNode>⟧.casts) (attrs_with_inner ⟦<ast::AnyAttr as AstNode>⟧.casts (H.node owner.now) (inner_holder (H.node owner.now))) }
+    ensures { result ≡ filter (has_kind_in attr_kinds) (all_attrs (H.node owner.now)) }
 {
     AttrsIter::new(attrs_with_doc_including_inner(owner))
 }

@@ -1,5 +1,5 @@
 //! The views of the nodes of one kind.
-ghost use Rattle.std.specs.Prelude.{◌≡◌, ◌↔◌, IsTrue, IfSome, Some, nat_eq, is_some, ⊤};
+ghost use Rattle.std.specs.Prelude.{◌≡◌, ◌↔◌, IsTrue, IfSome, Some, nat_eq, ⊤, is_some};
 ghost use Rattle.std.proofs.lemmas.Bool.{eq-eqb};
 ghost use Rattle.syntax_kind.specs.Kinds.{kind_raw, IsKind};
 ghost use Rattle.tree_model.specs.Tree.{text};
@@ -32,7 +32,8 @@ impl<const K: u32> AstNode for Typed<K> {
 
     fn kind() -> Option<SyntaxKind>
         ensures exact { (k : SyntaxKind) → IsKind k → (result ≡ Some k) ↔ (kind_raw k ≡ K) }
-        ensures only { IfSome result (λ only. (k : SyntaxKind) → IsTrue (nat_eq (kind_raw k) K) ↔ (k ≡ only)) }
+        ensures only { IfSome result (λ only. (k : SyntaxKind)
+            → IsTrue (nat_eq (kind_raw k) K) ↔ (k ≡ only)) }
     {
         SyntaxKind::from_raw(K)
     }

@@ -1,8 +1,13 @@
 //! Lookups in inline assembly. Made by `tests/views` from `views.txt`.
 ghost use Rattle.std.specs.Prelude.{◌≡◌};
-ghost use Rattle.ras_node.specs.Lookups.{IsFirstChild};
+ghost use Rattle.ras_node.specs.Lookups.{second_typed_child};
 ghost use Rattle.ras_node.specs.Nodes.{token_child, typed_children};
-ghost use Rattle.ra_ap_syntax.specs.Words.{IsSecondChild};
+ghost use Rattle.ra_ap_syntax.specs.ControlViews.{IsFirstBlockExpr};
+ghost use Rattle.ra_ap_syntax.specs.ExprCases.{IsExpr, IsFirstExpr, expr_kinds};
+ghost use Rattle.ra_ap_syntax.specs.PathViews.{IsFirstName, IsFirstNameRef, IsFirstPath};
+ghost use Rattle.rust_views.specs.AsmOperandCases.{IsFirstAsmOperand};
+ghost use Rattle.rust_views.specs.AsmPieceCases.{asm_piece_kinds};
+ghost use Rattle.rust_views.specs.AsmViews.{IsFirstAsmDirSpec, IsFirstAsmOperandExpr, IsFirstAsmRegSpec, asm_option_kinds};
 ghost use Rattle.rust_kinds.specs.declared.kinds.TheConstants.{ASM_KW, ATT_SYNTAX_KW, CLOBBER_ABI_KW, GLOBAL_ASM_KW, INLATEOUT_KW, INOUT_KW, LABEL_KW, LATEOUT_KW, MAY_UNWIND_KW, NAKED_ASM_KW, NOMEM_KW, NORETURN_KW, NOSTACK_KW, OPTIONS_KW, OUT_KW, PRESERVES_FLAGS_KW, PURE_KW, RAW_KW, READONLY_KW, SYM_KW};
 
 use crate::{
@@ -60,7 +65,7 @@ pub trait AsmConstExt: AstNode {
     /// The first child that is an expression, if there is one.
     /// Example: `b` of `const b`.
     final fn expr(&self) -> Option<ast::Expr>
-        ensures { IsFirstChild ⟦<ast::Expr as AstNode>⟧ (Self.node self.now) result }
+        ensures { IsFirstExpr (Self.node self.now) result }
     {
         support::child(self.syntax())
     }
@@ -126,7 +131,7 @@ pub trait AsmExprExt: AstNode {
     /// The children that are asm pieces, in order.
     /// Example: `out(r) c` of `builtin # asm("a", "b", out(r) c)`.
     final fn asm_pieces(&self) -> AstChildren<AsmPiece>
-        ensures { result ≡ typed_children ⟦<AsmPiece as AstNode>⟧.casts (Self.node self.now) }
+        ensures { result ≡ typed_children asm_piece_kinds (Self.node self.now) }
     {
         support::children(self.syntax())
     }
@@ -163,7 +168,7 @@ pub trait AsmLabelExt: AstNode {
     /// The first child that is a block expression, if there is one.
     /// Example: `{ b }` of `label { b }`.
     final fn block_expr(&self) -> Option<ast::BlockExpr>
-        ensures { IsFirstChild ⟦<ast::BlockExpr as AstNode>⟧ (Self.node self.now) result }
+        ensures { IsFirstBlockExpr (Self.node self.now) result }
     {
         support::child(self.syntax())
     }
@@ -184,7 +189,7 @@ pub trait AsmOperandExprExt: AstNode {
     /// The first child that is an expression, if there is one.
     /// Example: `b` of `b => c`.
     final fn in_expr(&self) -> Option<ast::Expr>
-        ensures { IsFirstChild ⟦<ast::Expr as AstNode>⟧ (Self.node self.now) result }
+        ensures { IsFirstExpr (Self.node self.now) result }
     {
         support::child(self.syntax())
     }
@@ -192,7 +197,7 @@ pub trait AsmOperandExprExt: AstNode {
     /// The second child that is an expression, if there is one.
     /// Example: `c` of `b => c`.
     final fn out_expr(&self) -> Option<ast::Expr>
-        ensures { IsSecondChild ⟦<ast::Expr as AstNode>⟧ (Self.node self.now) result }
+        ensures { IsExpr (second_typed_child expr_kinds (Self.node self.now)) result }
     {
         support::second_child(self.syntax())
     }
@@ -213,7 +218,7 @@ pub trait AsmOperandNamedExt: AstNode {
     /// The first child that is an asm operand, if there is one.
     /// Example: `const c` of `b = const c`.
     final fn asm_operand(&self) -> Option<AsmOperand>
-        ensures { IsFirstChild ⟦<AsmOperand as AstNode>⟧ (Self.node self.now) result }
+        ensures { IsFirstAsmOperand (Self.node self.now) result }
     {
         support::child(self.syntax())
     }
@@ -221,7 +226,7 @@ pub trait AsmOperandNamedExt: AstNode {
     /// The first child that is a name, if there is one.
     /// Example: `b` of `b = const c`.
     final fn name(&self) -> Option<ast::Name>
-        ensures { IsFirstChild ⟦<ast::Name as AstNode>⟧ (Self.node self.now) result }
+        ensures { IsFirstName (Self.node self.now) result }
     {
         support::child(self.syntax())
     }
@@ -319,7 +324,7 @@ pub trait AsmOptionsExt: AstNode {
     /// The children that are asm options, in order.
     /// Example: `pure` and `nomem` of `options(pure, nomem)`.
     final fn asm_options(&self) -> AstChildren<AsmOption>
-        ensures { result ≡ typed_children ⟦<AsmOption as AstNode>⟧.casts (Self.node self.now) }
+        ensures { result ≡ typed_children asm_option_kinds (Self.node self.now) }
     {
         support::children(self.syntax())
     }
@@ -364,7 +369,7 @@ pub trait AsmRegOperandExt: AstNode {
     /// The first child that is an asm dir spec, if there is one.
     /// Example: `in` of `in(r) b`.
     final fn asm_dir_spec(&self) -> Option<AsmDirSpec>
-        ensures { IsFirstChild ⟦<AsmDirSpec as AstNode>⟧ (Self.node self.now) result }
+        ensures { IsFirstAsmDirSpec (Self.node self.now) result }
     {
         support::child(self.syntax())
     }
@@ -372,7 +377,7 @@ pub trait AsmRegOperandExt: AstNode {
     /// The first child that is an asm operand expression, if there is one.
     /// Example: `b` of `in(r) b`.
     final fn asm_operand_expr(&self) -> Option<AsmOperandExpr>
-        ensures { IsFirstChild ⟦<AsmOperandExpr as AstNode>⟧ (Self.node self.now) result }
+        ensures { IsFirstAsmOperandExpr (Self.node self.now) result }
     {
         support::child(self.syntax())
     }
@@ -380,7 +385,7 @@ pub trait AsmRegOperandExt: AstNode {
     /// The first child that is an asm reg spec, if there is one.
     /// Example: `r` of `in(r) b`.
     final fn asm_reg_spec(&self) -> Option<AsmRegSpec>
-        ensures { IsFirstChild ⟦<AsmRegSpec as AstNode>⟧ (Self.node self.now) result }
+        ensures { IsFirstAsmRegSpec (Self.node self.now) result }
     {
         support::child(self.syntax())
     }
@@ -409,7 +414,7 @@ pub trait AsmRegSpecExt: AstNode {
     /// The first child that is a name reference, if there is one.
     /// Example: `r` of `r`.
     final fn name_ref(&self) -> Option<ast::NameRef>
-        ensures { IsFirstChild ⟦<ast::NameRef as AstNode>⟧ (Self.node self.now) result }
+        ensures { IsFirstNameRef (Self.node self.now) result }
     {
         support::child(self.syntax())
     }
@@ -430,7 +435,7 @@ pub trait AsmSymExt: AstNode {
     /// The first child that is a path, if there is one.
     /// Example: `b` of `sym b`.
     final fn path(&self) -> Option<ast::Path>
-        ensures { IsFirstChild ⟦<ast::Path as AstNode>⟧ (Self.node self.now) result }
+        ensures { IsFirstPath (Self.node self.now) result }
     {
         support::child(self.syntax())
     }

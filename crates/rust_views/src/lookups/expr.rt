@@ -1,8 +1,10 @@
 //! Lookups in expressions. Made by `tests/views` from `views.txt`.
 ghost use Rattle.std.specs.Prelude.{◌≡◌};
-ghost use Rattle.ras_node.specs.Lookups.{IsFirstChild};
 ghost use Rattle.ras_node.specs.Nodes.{token_child, typed_children};
-ghost use Rattle.ra_ap_syntax.specs.Words.{AreChildren};
+ghost use Rattle.ra_ap_syntax.specs.AttrViews.{attr_kinds};
+ghost use Rattle.ra_ap_syntax.specs.ExprCases.{IsFirstExpr};
+ghost use Rattle.ra_ap_syntax.specs.StmtViews.{record_expr_field_kinds};
+ghost use Rattle.rust_views.specs.ExprViews.{IsFirstFormatArgsArgName, IsFirstRecordExprFieldList};
 ghost use Rattle.rust_kinds.specs.declared.kinds.TheConstants.{FORMAT_ARGS_KW, OFFSET_OF_KW, RAW_KW};
 
 use crate::{FormatArgsArgName, RecordExprFieldList};
@@ -16,7 +18,7 @@ pub trait FormatArgsArgExt: AstNode {
     /// The first child that is a format arguments argument name, if there is one.
     /// Example: `a =` of `a = b`.
     final fn arg_name(&self) -> Option<FormatArgsArgName>
-        ensures { IsFirstChild ⟦<FormatArgsArgName as AstNode>⟧ (Self.node self.now) result }
+        ensures { IsFirstFormatArgsArgName (Self.node self.now) result }
     {
         support::child(self.syntax())
     }
@@ -68,7 +70,7 @@ pub trait RecordExprExt: AstNode {
     /// The first child that is a list of record expression fields, if there is one.
     /// Example: `{ f: a, ..b }` of `S { f: a, ..b }`.
     final fn record_expr_field_list(&self) -> Option<RecordExprFieldList>
-        ensures { IsFirstChild ⟦<RecordExprFieldList as AstNode>⟧ (Self.node self.now) result }
+        ensures { IsFirstRecordExprFieldList (Self.node self.now) result }
     {
         support::child(self.syntax())
     }
@@ -80,7 +82,7 @@ impl RecordExprExt for ast::RecordExpr {}
 pub trait RecordExprFieldListExt: AstNode {
     /// The children that are attributes, in order.
     final fn attrs(&self) -> AstChildren<ast::Attr>
-        ensures { result ≡ typed_children ⟦<ast::Attr as AstNode>⟧.casts (Self.node self.now) }
+        ensures { result ≡ typed_children attr_kinds (Self.node self.now) }
     {
         support::children(self.syntax())
     }
@@ -88,7 +90,7 @@ pub trait RecordExprFieldListExt: AstNode {
     /// The children that are record expression fields, in order.
     /// Example: `f: a` of `{ f: a, ..b }`.
     final fn fields(&self) -> AstChildren<ast::RecordExprField>
-        ensures { AreChildren ⟦<ast::RecordExprField as AstNode>⟧ (Self.node self.now) result }
+        ensures { result ≡ typed_children record_expr_field_kinds (Self.node self.now) }
     {
         support::children(self.syntax())
     }
@@ -96,7 +98,7 @@ pub trait RecordExprFieldListExt: AstNode {
     /// The first child that is an expression, if there is one.
     /// Example: `b` of `{ f: a, ..b }`.
     final fn spread(&self) -> Option<ast::Expr>
-        ensures { IsFirstChild ⟦<ast::Expr as AstNode>⟧ (Self.node self.now) result }
+        ensures { IsFirstExpr (Self.node self.now) result }
     {
         support::child(self.syntax())
     }

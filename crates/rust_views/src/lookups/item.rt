@@ -1,7 +1,11 @@
 //! Lookups in items and their parts. Made by `tests/views` from `views.txt`.
 ghost use Rattle.std.specs.Prelude.{◌≡◌};
-ghost use Rattle.ras_node.specs.Lookups.{IsFirstChild};
 ghost use Rattle.ras_node.specs.Nodes.{token_child, typed_children};
+ghost use Rattle.ra_ap_syntax.specs.ItemCases.{item_kinds};
+ghost use Rattle.ra_ap_syntax.specs.PartViews.{variant_kinds};
+ghost use Rattle.ra_ap_syntax.specs.PathViews.{IsFirstName};
+ghost use Rattle.rust_views.specs.FieldListCases.{IsFirstFieldList};
+ghost use Rattle.rust_views.specs.ItemViews.{IsFirstRename, IsFirstVariantList};
 ghost use Rattle.rust_kinds.specs.declared.kinds.TheConstants.{FRONTMATTER, SAFE_KW, SHEBANG};
 
 use crate::{FieldList, MacroItems, Rename, VariantList};
@@ -15,7 +19,7 @@ pub trait EnumExt: AstNode {
     /// The first child that is a list of variants, if there is one.
     /// Example: `{ A, B }` of `enum E { A, B }`.
     final fn variant_list(&self) -> Option<VariantList>
-        ensures { IsFirstChild ⟦<VariantList as AstNode>⟧ (Self.node self.now) result }
+        ensures { IsFirstVariantList (Self.node self.now) result }
     {
         support::child(self.syntax())
     }
@@ -28,7 +32,7 @@ pub trait ExternCrateExt: AstNode {
     /// The first child that is a rename, if there is one.
     /// Example: `as b` of `extern crate a as b;`.
     final fn rename(&self) -> Option<Rename>
-        ensures { IsFirstChild ⟦<Rename as AstNode>⟧ (Self.node self.now) result }
+        ensures { IsFirstRename (Self.node self.now) result }
     {
         support::child(self.syntax())
     }
@@ -53,7 +57,7 @@ impl FnExt for ast::Fn {}
 pub trait MacroItemsExt: AstNode {
     /// The children that are items, in order.
     final fn items(&self) -> AstChildren<ast::Item>
-        ensures { result ≡ typed_children ⟦<ast::Item as AstNode>⟧.casts (Self.node self.now) }
+        ensures { result ≡ typed_children item_kinds (Self.node self.now) }
     {
         support::children(self.syntax())
     }
@@ -66,7 +70,7 @@ pub trait RenameExt: AstNode {
     /// The first child that is a name, if there is one.
     /// Example: `b` of `as b`.
     final fn name(&self) -> Option<ast::Name>
-        ensures { IsFirstChild ⟦<ast::Name as AstNode>⟧ (Self.node self.now) result }
+        ensures { IsFirstName (Self.node self.now) result }
     {
         support::child(self.syntax())
     }
@@ -129,7 +133,7 @@ pub trait StructExt: AstNode {
     /// The first child that is a list of fields, if there is one.
     /// Example: `(T)` of `struct S(T);`.
     final fn field_list(&self) -> Option<FieldList>
-        ensures { IsFirstChild ⟦<FieldList as AstNode>⟧ (Self.node self.now) result }
+        ensures { IsFirstFieldList (Self.node self.now) result }
     {
         support::child(self.syntax())
     }
@@ -142,7 +146,7 @@ pub trait UseTreeExt: AstNode {
     /// The first child that is a rename, if there is one.
     /// Example: `as b` of `a as b`.
     final fn rename(&self) -> Option<Rename>
-        ensures { IsFirstChild ⟦<Rename as AstNode>⟧ (Self.node self.now) result }
+        ensures { IsFirstRename (Self.node self.now) result }
     {
         support::child(self.syntax())
     }
@@ -155,7 +159,7 @@ pub trait VariantExt: AstNode {
     /// The first child that is a list of fields, if there is one.
     /// Example: `(T)` of `A(T)`.
     final fn field_list(&self) -> Option<FieldList>
-        ensures { IsFirstChild ⟦<FieldList as AstNode>⟧ (Self.node self.now) result }
+        ensures { IsFirstFieldList (Self.node self.now) result }
     {
         support::child(self.syntax())
     }
@@ -168,7 +172,7 @@ pub trait VariantListExt: AstNode {
     /// The children that are variants, in order.
     /// Example: `A` and `B` of `{ A, B }`.
     final fn variants(&self) -> AstChildren<ast::Variant>
-        ensures { result ≡ typed_children ⟦<ast::Variant as AstNode>⟧.casts (Self.node self.now) }
+        ensures { result ≡ typed_children variant_kinds (Self.node self.now) }
     {
         support::children(self.syntax())
     }

@@ -1,8 +1,8 @@
 //! Lookups in patterns. Made by `tests/views` from `views.txt`.
 ghost use Rattle.std.specs.Prelude.{◌≡◌};
-ghost use Rattle.ras_node.specs.Lookups.{IsFirstChild};
-ghost use Rattle.ras_node.specs.Nodes.{token_child};
-ghost use Rattle.ra_ap_syntax.specs.Words.{AreChildren};
+ghost use Rattle.ras_node.specs.Nodes.{token_child, typed_children};
+ghost use Rattle.ra_ap_syntax.specs.PatViews.{IsFirstRestPat, record_pat_field_kinds};
+ghost use Rattle.rust_views.specs.PatViews.{IsFirstRecordPatFieldList};
 ghost use Rattle.rust_kinds.specs.declared.kinds.TheConstants.{BOX_KW};
 
 use crate::RecordPatFieldList;
@@ -29,7 +29,7 @@ pub trait RecordPatExt: AstNode {
     /// The first child that is a list of record pattern fields, if there is one.
     /// Example: `{ f: p, .. }` of `S { f: p, .. }`.
     final fn record_pat_field_list(&self) -> Option<RecordPatFieldList>
-        ensures { IsFirstChild ⟦<RecordPatFieldList as AstNode>⟧ (Self.node self.now) result }
+        ensures { IsFirstRecordPatFieldList (Self.node self.now) result }
     {
         support::child(self.syntax())
     }
@@ -42,7 +42,7 @@ pub trait RecordPatFieldListExt: AstNode {
     /// The children that are record pattern fields, in order.
     /// Example: `f: p` of `{ f: p, .. }`.
     final fn fields(&self) -> AstChildren<ast::RecordPatField>
-        ensures { AreChildren ⟦<ast::RecordPatField as AstNode>⟧ (Self.node self.now) result }
+        ensures { result ≡ typed_children record_pat_field_kinds (Self.node self.now) }
     {
         support::children(self.syntax())
     }
@@ -50,7 +50,7 @@ pub trait RecordPatFieldListExt: AstNode {
     /// The first child that is a rest pattern, if there is one.
     /// Example: `..` of `{ f: p, .. }`.
     final fn rest_pat(&self) -> Option<ast::RestPat>
-        ensures { IsFirstChild ⟦<ast::RestPat as AstNode>⟧ (Self.node self.now) result }
+        ensures { IsFirstRestPat (Self.node self.now) result }
     {
         support::child(self.syntax())
     }

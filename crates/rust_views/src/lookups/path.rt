@@ -1,8 +1,9 @@
 //! Lookups in paths, generic arguments and bounds. Made by `tests/views` from `views.txt`.
 ghost use Rattle.std.specs.Prelude.{◌≡◌};
-ghost use Rattle.ras_node.specs.Lookups.{IsFirstChild};
 ghost use Rattle.ras_node.specs.Nodes.{token_child, typed_children};
-ghost use Rattle.ra_ap_syntax.specs.Words.{AreChildren};
+ghost use Rattle.ra_ap_syntax.specs.GenericViews.{type_arg_kinds};
+ghost use Rattle.rust_views.specs.PathViews.{IsFirstParenthesizedArgList, IsFirstReturnTypeSyntax};
+ghost use Rattle.rust_views.specs.UseBoundGenericArgCases.{use_bound_generic_arg_kinds};
 
 use crate::{ParenthesizedArgList, ReturnTypeSyntax, UseBoundGenericArg};
 use ra_ap_syntax::ast::{self, AstChildren, AstNode};
@@ -14,7 +15,7 @@ pub trait AssocTypeArgExt: AstNode {
     /// The first child that is a return type syntax, if there is one.
     /// Example: `(..)` of `C(..): T`.
     final fn return_type_syntax(&self) -> Option<ReturnTypeSyntax>
-        ensures { IsFirstChild ⟦<ReturnTypeSyntax as AstNode>⟧ (Self.node self.now) result }
+        ensures { IsFirstReturnTypeSyntax (Self.node self.now) result }
     {
         support::child(self.syntax())
     }
@@ -27,7 +28,7 @@ pub trait ParenthesizedArgListExt: AstNode {
     /// The children that are type arguments, in order.
     /// Example: `T` and `U` of `::(T, U)`.
     final fn type_args(&self) -> AstChildren<ast::TypeArg>
-        ensures { result ≡ typed_children ⟦<ast::TypeArg as AstNode>⟧.casts (Self.node self.now) }
+        ensures { result ≡ typed_children type_arg_kinds (Self.node self.now) }
     {
         support::children(self.syntax())
     }
@@ -64,7 +65,7 @@ pub trait PathSegmentExt: AstNode {
     /// The first child that is a list of parenthesized arguments, if there is one.
     /// Example: `(T)` of `Fn(T) -> U`.
     final fn parenthesized_arg_list(&self) -> Option<ParenthesizedArgList>
-        ensures { IsFirstChild ⟦<ParenthesizedArgList as AstNode>⟧ (Self.node self.now) result }
+        ensures { IsFirstParenthesizedArgList (Self.node self.now) result }
     {
         support::child(self.syntax())
     }
@@ -72,7 +73,7 @@ pub trait PathSegmentExt: AstNode {
     /// The first child that is a return type syntax, if there is one.
     /// Example: `(..)` of `f(..)`.
     final fn return_type_syntax(&self) -> Option<ReturnTypeSyntax>
-        ensures { IsFirstChild ⟦<ReturnTypeSyntax as AstNode>⟧ (Self.node self.now) result }
+        ensures { IsFirstReturnTypeSyntax (Self.node self.now) result }
     {
         support::child(self.syntax())
     }
@@ -114,7 +115,7 @@ pub trait UseBoundGenericArgsExt: AstNode {
     /// The children that are use bound generic arguments, in order.
     /// Example: `'a` and `T` of `<'a, T>`.
     final fn use_bound_generic_args(&self) -> AstChildren<UseBoundGenericArg>
-        ensures { AreChildren ⟦<UseBoundGenericArg as AstNode>⟧ (Self.node self.now) result }
+        ensures { result ≡ typed_children use_bound_generic_arg_kinds (Self.node self.now) }
     {
         support::children(self.syntax())
     }

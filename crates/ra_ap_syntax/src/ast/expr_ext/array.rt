@@ -1,7 +1,8 @@
 //! Array and index expressions.
 ghost use Rattle.std.specs.Prelude.{◌≡◌};
-ghost use Rattle.ras_node.specs.Lookups.{IsFirstChild, IsViewOf, second_typed_child};
+ghost use Rattle.ras_node.specs.Lookups.{second_typed_child};
 ghost use Rattle.ra_ap_syntax.specs.ExprShapes.{array_shape, array_kind};
+ghost use Rattle.ra_ap_syntax.specs.ExprCases.{IsExpr, IsFirstExpr, expr_kinds};
 
 use crate::ast::{self, AstChildren, AstNode, support};
 
@@ -21,7 +22,7 @@ impl ast::ArrayExpr {
     /// If a `;` is a child, the repeated value and the number, which are the first and the second expression; otherwise the
     /// list of the expressions.
     pub fn kind(&self) -> ArrayExprKind
-        ensures { array_shape result ≡ array_kind ⟦<ast::Expr as AstNode>⟧.casts self.now.syntax }
+        ensures { array_shape result ≡ array_kind expr_kinds self.now.syntax }
     {
         if self.semicolon_token().is_some() {
             return ArrayExprKind::Repeat {
@@ -36,14 +37,14 @@ impl ast::ArrayExpr {
 impl ast::IndexExpr {
     /// The indexed expression: the first expression, if there is one.
     pub fn base(&self) -> Option<ast::Expr>
-        ensures { IsFirstChild ⟦<ast::Expr as AstNode>⟧ self.now.syntax result }
+        ensures { IsFirstExpr self.now.syntax result }
     {
         support::child(&self.syntax)
     }
 
     /// The index: the second expression, if there is one.
     pub fn index(&self) -> Option<ast::Expr>
-        ensures { IsViewOf ⟦<ast::Expr as AstNode>⟧ (second_typed_child ⟦<ast::Expr as AstNode>⟧.casts self.now.syntax) result }
+        ensures { IsExpr (second_typed_child expr_kinds self.now.syntax) result }
     {
         support::second_child(&self.syntax)
     }

@@ -3,6 +3,9 @@ ghost use Rattle.std.specs.Prelude.{◌≡◌, option_map};
 ghost use Rattle.ras_node_ext.specs.Attrs.{may_carry_attributes};
 ghost use Rattle.ras_expr_ext.specs.ExprParts.{is_standalone};
 ghost use Rattle.ras_expr_ext.specs.Modifiers.{modifier_shape, block_modifier};
+ghost use Rattle.ra_ap_syntax.specs.ExprCases.{expr_kinds};
+ghost use Rattle.ra_ap_syntax.specs.StmtViews.{label_kinds, try_block_modifier_kinds};
+ghost use Rattle.ra_ap_syntax.specs.TypeCases.{ty_node, type_kinds};
 
 use crate::ast::{self, AstNode};
 
@@ -12,7 +15,8 @@ pub type BlockModifier = ras_expr_ext::BlockModifier<ast::Type, ast::Label>;
 impl ast::BlockExpr {
     /// The first of these that the block has: `gen` with or without `async`, `async`, `unsafe`, `try`, `const`, a label.
     pub fn modifier(&self) -> Option<BlockModifier>
-        ensures { option_map (modifier_shape ⟦<ast::Type as AstNode>⟧.node ⟦<ast::Label as AstNode>⟧.node) result ≡ block_modifier ⟦<ast::TryBlockModifier as AstNode>⟧.casts ⟦<ast::Type as AstNode>⟧.casts ⟦<ast::Label as AstNode>⟧.casts self.now.syntax }
+        ensures { option_map (modifier_shape ty_node (λ it. it.syntax)) result
+            ≡ block_modifier try_block_modifier_kinds type_kinds label_kinds self.now.syntax }
     {
         ras_expr_ext::block_modifier::<ast::TryBlockModifier, ast::Type, ast::Label>(&self.syntax)
     }
@@ -21,7 +25,7 @@ impl ast::BlockExpr {
     /// has no parent; if the parent is a `for` or an `if` and no other expression is first there; and if the parent is any
     /// node except a `for`, `if`, `let` with `else`, function, `while`, `loop` or constant pattern.
     pub fn is_standalone(&self) -> bool
-        ensures { result ≡ is_standalone ⟦<ast::Expr as AstNode>⟧.casts self.now.syntax }
+        ensures { result ≡ is_standalone expr_kinds self.now.syntax }
     {
         ras_expr_ext::is_standalone::<ast::Expr>(&self.syntax)
     }

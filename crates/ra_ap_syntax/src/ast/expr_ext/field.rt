@@ -1,12 +1,15 @@
 //! Fields in field accesses and in record expressions.
 ghost use Rattle.std.specs.Prelude.{◌≡◌, option_map, drop};
+ghost use Rattle.ras_expr_ext.specs.ExprParts.{index_token, shorthand_name, record_field_name, record_field_around, if_part_is};
+ghost use Rattle.ra_ap_syntax.specs.ExprShapes.{field_shape, field_access};
+ghost use Rattle.ra_ap_syntax.specs.Accessors.{expr_field_around, expr_field_name, expr_field_named, lone_name, nearest_above};
+ghost use Rattle.ra_ap_syntax.specs.ExprViews.{IsRecordExpr, record_expr_kinds};
+ghost use Rattle.ra_ap_syntax.specs.PathViews.{IsNameRef, name_ref_kinds};
+ghost use Rattle.ra_ap_syntax.specs.StmtViews.{IsRecordExprField};
 ghost use Rattle.std.specs.List.{find};
 ghost use Rattle.std.specs.Option.{option_and_then};
 ghost use Rattle.tree_model.specs.Cursor.{ancestors_of};
-ghost use Rattle.ras_node.specs.Lookups.{IsViewOf};
 ghost use Rattle.ras_node.specs.Nodes.{has_kind_in};
-ghost use Rattle.ras_expr_ext.specs.ExprParts.{index_token, record_field_name, record_field_around, if_part_is, shorthand_name};
-ghost use Rattle.ra_ap_syntax.specs.ExprShapes.{field_shape, field_access};
 
 use crate::ast::{self, AstNode, support};
 use lossless_tree::SyntaxToken;
@@ -31,7 +34,7 @@ impl ast::FieldExpr {
 
     /// The field's name, otherwise its number, or `None` if it has neither.
     pub fn field_access(&self) -> Option<FieldKind>
-        ensures { option_map field_shape result ≡ field_access ⟦<ast::NameRef as AstNode>⟧.casts self.now.syntax }
+        ensures { option_map field_shape result ≡ field_access name_ref_kinds self.now.syntax }
     {
         if let Some(name) = self.name_ref() {
             return Some(FieldKind::Name(name));
@@ -42,7 +45,7 @@ impl ast::FieldExpr {
 
 // The name of a path that is only one name.
 fn shorthand_name(path: &ast::Path) -> Option<ast::NameRef>
-    ensures { IsViewOf ⟦<ast::NameRef as AstNode>⟧ (shorthand_name ⟦<ast::Path as AstNode>⟧.casts ⟦<ast::PathSegment as AstNode>⟧.casts ⟦<ast::NameRef as AstNode>⟧.casts path.now.syntax) result }
+    ensures { IsNameRef (lone_name path.now.syntax) result }
 {
     if path.qualifier().is_some() {
         return None;
@@ -53,7 +56,7 @@ fn shorthand_name(path: &ast::Path) -> Option<ast::NameRef>
 impl ast::RecordExprField {
     /// The field's name. In the short form `S { x }` it is the name in the path `x`.
     pub fn field_name(&self) -> Option<ast::NameRef>
-        ensures { IsViewOf ⟦<ast::NameRef as AstNode>⟧ (record_field_name ⟦<ast::Expr as AstNode>⟧.casts ⟦<ast::PathExpr as AstNode>⟧.casts ⟦<ast::Path as AstNode>⟧.casts ⟦<ast::PathSegment as AstNode>⟧.casts ⟦<ast::NameRef as AstNode>⟧.casts self.now.syntax) result }
+        ensures { IsNameRef (expr_field_name self.now.syntax) result }
     {
         if let Some(name) = self.name_ref() {
             return Some(name);
@@ -64,7 +67,7 @@ impl ast::RecordExprField {
 
     /// The field around a name: the name's parent, otherwise the fourth node above it, if that is one.
     pub fn for_name_ref(name_ref: &ast::NameRef) -> Option<ast::RecordExprField>
-        ensures { IsViewOf ⟦<ast::RecordExprField as AstNode>⟧ (record_field_around ⟦<ast::RecordExprField as AstNode>⟧.casts name_ref.now.syntax) result }
+        ensures { IsRecordExprField (expr_field_around name_ref.now.syntax) result }
     {
         if let Some(field) = support::parent_as(&name_ref.syntax) {
             return Some(field);
@@ -75,7 +78,7 @@ impl ast::RecordExprField {
 
     /// The field around a name, if the name is the field's.
     pub fn for_field_name(field_name: &ast::NameRef) -> Option<ast::RecordExprField>
-        ensures { IsViewOf ⟦<ast::RecordExprField as AstNode>⟧ (option_and_then (if_part_is field_name.now.syntax (record_field_name ⟦<ast::Expr as AstNode>⟧.casts ⟦<ast::PathExpr as AstNode>⟧.casts ⟦<ast::Path as AstNode>⟧.casts ⟦<ast::PathSegment as AstNode>⟧.casts ⟦<ast::NameRef as AstNode>⟧.casts)) (record_field_around ⟦<ast::RecordExprField as AstNode>⟧.casts field_name.now.syntax)) result }
+        ensures { IsRecordExprField (expr_field_named field_name.now.syntax) result }
     {
         let field = ast::RecordExprField::for_name_ref(field_name)?;
         let name = field.field_name()?;
@@ -88,7 +91,7 @@ impl ast::RecordExprField {
 
     /// The record that it is a field of: the nearest record expression above it.
     pub fn parent_record_lit(&self) -> Option<ast::RecordExpr>
-        ensures { IsViewOf ⟦<ast::RecordExpr as AstNode>⟧ (find (has_kind_in ⟦<ast::RecordExpr as AstNode>⟧.casts) (drop 1 (ancestors_of self.now.syntax))) result }
+        ensures { IsRecordExpr (nearest_above record_expr_kinds self.now.syntax) result }
     {
         support::ancestor_as(&self.syntax)
     }

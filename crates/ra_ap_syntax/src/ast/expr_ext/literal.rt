@@ -20,7 +20,8 @@ impl ast::Literal {
     /// The kind of literal that [`token`](Self::token) is, or `None` if there is no token or its kind is not that of a
     /// literal.
     pub fn kind(&self) -> Option<LiteralKind>
-        ensures { option_map literal_shape result ≡ option_and_then (λ t. literal_by (kind_at t) t) (literal_token self.now.syntax) }
+        ensures { option_map literal_shape result
+            ≡ option_and_then (λ t. literal_by (kind_at t) t) (literal_token self.now.syntax) }
     {
         LiteralKind::of_token(self.token()?)
     }

@@ -1,13 +1,13 @@
 //! Operators and their operands.
 ghost use Rattle.std.specs.Prelude.{◌≡◌, Bool, Option, option_map, is_some, not};
 ghost use Rattle.std.specs.Option.{option_and_then};
-ghost use Rattle.ras_node.specs.Lookups.{IsFirstChild, IsViewOf, second_typed_child};
+ghost use Rattle.ras_node.specs.Lookups.{second_typed_child};
 ghost use Rattle.syntax_kind.specs.declared.syntax_kind.SyntaxKind.{SyntaxKind};
 ghost use Rattle.tree_model.specs.Cursor.{Cursor};
 ghost use Rattle.ras_node.specs.Nodes.{kind_at, typed_child};
 ghost use Rattle.ras_operators.specs.OperatorTexts.{unary_op, range_op, binary_op};
 ghost use Rattle.ras_expr_ext.specs.ExprParts.{first_child_token, binary_operator, range_operator, range_start_of, range_end_of, bound_before};
-ghost use Rattle.ra_ap_syntax.specs.ExprCases.{expr_node};
+ghost use Rattle.ra_ap_syntax.specs.ExprCases.{expr_node, IsExpr, IsFirstExpr, expr_kinds};
 
 use crate::ast::{self, AstNode, BinaryOp, RangeOp, UnaryOp, support};
 use lossless_tree::{SyntaxNode, SyntaxToken};
@@ -23,7 +23,8 @@ impl ast::PrefixExpr {
 
     /// The prefix operator of that token, or `None` if it is not one.
     pub fn op_kind(&self) -> Option<UnaryOp>
-        ensures { result ≡ option_and_then (λ t. unary_op (kind_at t)) (first_child_token self.now.syntax) }
+        ensures { result
+            ≡ option_and_then (λ t. unary_op (kind_at t)) (first_child_token self.now.syntax) }
     {
         unary_op(self.op_token()?.kind())
     }
@@ -32,7 +33,9 @@ impl ast::PrefixExpr {
 impl ast::BinExpr {
     /// The first token that is a binary operator, and the operator.
     pub fn op_details(&self) -> Option<(SyntaxToken, BinaryOp)>
-        ensures { result ≡ option_and_then (λ t. option_map (λ o. (t, o)) (binary_op (kind_at t))) (binary_operator self.now.syntax) }
+        ensures { result
+            ≡ option_and_then (λ t. option_map (λ o. (t, o)) (binary_op (kind_at t)))
+            (binary_operator self.now.syntax) }
     {
         let token = self.op_token()?;
         let operator = binary_op(token.kind())?;
@@ -41,7 +44,8 @@ impl ast::BinExpr {
 
     /// The operator of the first token that is a binary operator.
     pub fn op_kind(&self) -> Option<BinaryOp>
-        ensures { result ≡ option_and_then (λ t. binary_op (kind_at t)) (binary_operator self.now.syntax) }
+        ensures { result
+            ≡ option_and_then (λ t. binary_op (kind_at t)) (binary_operator self.now.syntax) }
     {
         binary_op(self.op_token()?.kind())
     }
@@ -55,22 +59,23 @@ impl ast::BinExpr {
 
     /// The first expression, if there is one.
     pub fn lhs(&self) -> Option<ast::Expr>
-        ensures { IsFirstChild ⟦<ast::Expr as AstNode>⟧ self.now.syntax result }
+        ensures { IsFirstExpr self.now.syntax result }
     {
         support::child(&self.syntax)
     }
 
     /// The second expression, if there is one.
     pub fn rhs(&self) -> Option<ast::Expr>
-        ensures { IsViewOf ⟦<ast::Expr as AstNode>⟧ (second_typed_child ⟦<ast::Expr as AstNode>⟧.casts self.now.syntax) result }
+        ensures { IsExpr (second_typed_child expr_kinds self.now.syntax) result }
     {
         support::second_child(&self.syntax)
     }
 
     /// The first and the second expression, each if there is one.
     pub fn sub_exprs(&self) -> (Option<ast::Expr>, Option<ast::Expr>)
-        ensures left { option_map expr_node result.0 ≡ typed_child ⟦<ast::Expr as AstNode>⟧.casts self.now.syntax }
-        ensures right { option_map expr_node result.1 ≡ second_typed_child ⟦<ast::Expr as AstNode>⟧.casts self.now.syntax }
+        ensures left { option_map expr_node result.0 ≡ typed_child expr_kinds self.now.syntax }
+        ensures right { option_map expr_node result.1
+            ≡ second_typed_child expr_kinds self.now.syntax }
     {
         (self.lhs(), self.rhs())
     }
@@ -93,11 +98,13 @@ pub trait RangeItem {
 
     /// The end after the operator. Returns `None` if there is no operator or nothing after it.
     fn end(&self) -> Option<Self::Bound>
-        ensures { option_map Self.Bound.node result ≡ range_end_of Self.Bound.casts (range self.now) };
+        ensures { option_map Self.Bound.node result
+            ≡ range_end_of Self.Bound.casts (range self.now) };
 
     /// The operator, or `None` if there is none.
     fn op_kind(&self) -> Option<RangeOp>
-        ensures { result ≡ option_and_then (λ t. range_op (kind_at t)) (range_operator (range self.now)) };
+        ensures { result
+            ≡ option_and_then (λ t. range_op (kind_at t)) (range_operator (range self.now)) };
 
     /// The first `..` or `..=`.
     fn op_token(&self) -> Option<SyntaxToken>
@@ -169,7 +176,7 @@ fn has_no_child<N: AstNode + Drop>(parent: &SyntaxNode) -> bool
 impl ast::RangeExpr {
     /// Whether it has no end at all, as `..` alone: no child is an expression.
     pub fn is_range_full(&self) -> bool
-        ensures { result ≡ not (is_some (typed_child ⟦<ast::Expr as AstNode>⟧.casts self.now.syntax)) }
+        ensures { result ≡ not (is_some (typed_child expr_kinds self.now.syntax)) }
     {
         has_no_child::<ast::Expr>(&self.syntax)
     }

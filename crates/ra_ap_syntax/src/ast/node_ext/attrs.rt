@@ -1,17 +1,19 @@
 //! Attributes, documentation comments and token trees.
 ghost use Rattle.std.specs.Prelude.{◌≡◌, map, option_map};
-ghost use Rattle.std.specs.Option.{option_and_then};
 ghost use Rattle.tree_model.specs.Cursor.{focus, children_of, parent_of};
 ghost use Rattle.lossless_tree.specs.Element.{element_of};
 ghost use Rattle.lossless_tree.specs.Trees.{child_text};
 ghost use Rattle.ras_node_ext.specs.Attrs.{is_inner};
 ghost use Rattle.ras_node_ext.specs.TokenTrees.{trees_and_tokens};
-ghost use Rattle.ras_node.specs.Lookups.{IsViewOf, view_in};
-ghost use Rattle.ras_node_ext.specs.NodeParts.{left_delimiter, right_delimiter, is_opening, is_closing};
-ghost use Rattle.ras_node_ext.specs.NodeParts.{has_token, if_in};
+ghost use Rattle.ras_node.specs.Lookups.{view_in};
+ghost use Rattle.ras_node_ext.specs.NodeParts.{left_delimiter, right_delimiter, is_opening, is_closing, if_in};
+ghost use Rattle.ras_node_ext.specs.NodeParts.{has_token};
 ghost use Rattle.ra_ap_syntax.specs.NodeShapes.{atom_shape, atom_key};
 ghost use Rattle.ra_ap_syntax.specs.AnyAttrCases.{any_attr_node};
 ghost use Rattle.ra_ap_syntax.specs.AttrParts.{kind_by, doc_shape, doc_text, doc_token};
+ghost use Rattle.ra_ap_syntax.specs.AttrViews.{token_tree_kinds};
+ghost use Rattle.ra_ap_syntax.specs.MetaCases.{IsMeta, meta_kinds};
+ghost use Rattle.std.specs.Option.{option_and_then};
 
 use crate::ast::{self, AnyAttr, AnyComment, AstNode, AstToken, support};
 use lossless_tree::{SyntaxKind, SyntaxToken};
@@ -150,14 +152,15 @@ impl ast::TokenTree {
 
     /// The children that are token trees or tokens, in order.
     pub fn token_trees_and_tokens(&self) -> TokenTreesAndTokens
-        ensures { result ≡ trees_and_tokens ⟦<ast::TokenTree as AstNode>⟧.casts (map element_of (children_of self.now.syntax)) }
+        ensures { result
+            ≡ trees_and_tokens token_tree_kinds (map element_of (children_of self.now.syntax)) }
     {
         TokenTreesAndTokens::new(&self.syntax)
     }
 
     /// The meta that it is in: the parent, if that is a meta.
     pub fn parent_meta(&self) -> Option<ast::Meta>
-        ensures { IsViewOf ⟦<ast::Meta as AstNode>⟧ (view_in ⟦<ast::Meta as AstNode>⟧.casts (parent_of self.now.syntax)) result }
+        ensures { IsMeta (view_in meta_kinds (parent_of self.now.syntax)) result }
     {
         support::parent_as(&self.syntax)
     }

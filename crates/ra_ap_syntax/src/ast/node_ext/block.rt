@@ -1,8 +1,10 @@
 //! Blocks.
 ghost use Rattle.std.specs.Prelude.{◌≡◌};
 ghost use Rattle.std.specs.Iterator.{YieldsFirstBy, item_count};
-ghost use Rattle.ras_node.specs.Lookups.{IsViewOf, typed_child_in, typed_children_in};
-ghost use Rattle.ra_ap_syntax.specs.StmtCases.{stmt_node};
+ghost use Rattle.ras_node.specs.Lookups.{typed_child_in, typed_children_in};
+ghost use Rattle.ra_ap_syntax.specs.StmtCases.{stmt_node, stmt_kinds};
+ghost use Rattle.ra_ap_syntax.specs.ExprCases.{IsExpr, expr_kinds};
+ghost use Rattle.ra_ap_syntax.specs.StmtViews.{stmt_list_kinds};
 
 use crate::ast::{self, AstChildren, AstNode};
 use std::marker::Model;
@@ -43,7 +45,7 @@ impl Iterator for Statements {
 impl ast::BlockExpr {
     /// The statements of its list, in order; the result is empty if it has no list.
     pub fn statements(&self) -> Statements
-        ensures { result ≡ typed_children_in ⟦<ast::StmtList as AstNode>⟧.casts ⟦<ast::Stmt as AstNode>⟧.casts self.now.syntax }
+        ensures { result ≡ typed_children_in stmt_list_kinds stmt_kinds self.now.syntax }
     {
         let left = match self.stmt_list() {
             Some(list) => Some(list.statements()),
@@ -54,7 +56,7 @@ impl ast::BlockExpr {
 
     /// The first child of its list that is an expression: in a well-formed block its value. Statements are in nodes of their own.
     pub fn tail_expr(&self) -> Option<ast::Expr>
-        ensures { IsViewOf ⟦<ast::Expr as AstNode>⟧ (typed_child_in ⟦<ast::StmtList as AstNode>⟧.casts ⟦<ast::Expr as AstNode>⟧.casts self.now.syntax) result }
+        ensures { IsExpr (typed_child_in stmt_list_kinds expr_kinds self.now.syntax) result }
     {
         self.stmt_list()?.tail_expr()
     }

@@ -30,7 +30,8 @@ impl ast::NameRef {
 
     /// The text as the number of a tuple's field, as std parses a `usize`; `None` for other texts.
     pub fn as_tuple_field(&self) -> Option<usize>
-        ensures text { (name : List ℕ) → child_text (focus self.now.syntax) 0 ≡ Some name → IsTupleField name result }
+        ensures text { (name : List ℕ) → child_text (focus self.now.syntax) 0 ≡ Some name
+            → IsTupleField name result }
         ensures none { child_text (focus self.now.syntax) 0 ≡ None → result ≡ None }
     {
         ras_token_ext::tuple_field(self.text()?)
@@ -88,7 +89,8 @@ impl NameLike {
 impl NameOrNameRef {
     /// The text of the first child, if that is a token.
     pub fn text(&self) -> Option<&str>
-        ensures { option_map (λ s. s.now) result ≡ child_text (focus (name_or_name_ref_node self.now)) 0 }
+        ensures { option_map (λ s. s.now) result
+            ≡ child_text (focus (name_or_name_ref_node self.now)) 0 }
     {
         self.syntax().child_text(0)
     }

@@ -2,11 +2,14 @@
 ghost use Rattle.std.specs.Prelude.{◌≡◌, option_map, drop};
 ghost use Rattle.tree_model.specs.Cursor.{parent_of, ancestors_of};
 ghost use Rattle.ras_node_ext.specs.Path.{AreSegments, IsFirstQualifier, IsQualifierEnd, IsFirstSegment, qualifiers_of, top_from};
-ghost use Rattle.ras_node.specs.Lookups.{IsViewOf, view_in};
+ghost use Rattle.ras_node.specs.Lookups.{view_in};
 ghost use Rattle.ras_node_ext.specs.NodeParts.{single_segment, single_name, name_token, qualifying_trait};
 ghost use Rattle.ra_ap_syntax.specs.NodeShapes.{segment_shape, segment_kind, name_by_kind, anchored};
-ghost use Rattle.ras_node.specs.Nodes.{kind_at};
 ghost use Rattle.ras_node_ext.specs.NodeParts.{first_token_kind};
+ghost use Rattle.ra_ap_syntax.specs.PathViews.{IsNameRef, IsPath, IsPathSegment, name_ref_kinds, path_kinds, path_segment_kinds, type_anchor_kinds};
+ghost use Rattle.ra_ap_syntax.specs.TyViews.{IsPathType, path_type_kinds};
+ghost use Rattle.ra_ap_syntax.specs.TypeCases.{type_kinds};
+ghost use Rattle.ras_node.specs.Nodes.{kind_at};
 
 use crate::ast::{self, AstNode, support};
 use lossless_tree::{SyntaxKind, SyntaxNode, SyntaxToken};
@@ -17,18 +20,32 @@ pub type Segments = ras_node_ext::Segments<ast::Path, ast::PathSegment>;
 /// The qualifiers of a path, the nearest first.
 pub type Qualifiers = ras_node_ext::Qualifiers<ast::Path>;
 
+// The segments of a path.
+fn segments_of(path: ast::Path) -> Segments
+    ensures { AreSegments path_kinds path_segment_kinds path.syntax result }
+{
+    Segments::new(path)
+}
+
+// The end of the chain of qualifiers.
+fn end_of(path: ast::Path) -> ast::Path
+    ensures { IsFirstQualifier path_kinds path.syntax result.syntax }
+{
+    ras_node_ext::first_qualifier_or_self(path)
+}
+
 impl ast::Path {
     /// The segments, from that of the deepest qualifier outwards to its own, through the paths that are within this one's
     /// range. They end at a path without a segment.
     pub fn segments(&self) -> Segments
-        ensures { AreSegments ⟦<ast::Path as AstNode>⟧.casts ⟦<ast::PathSegment as AstNode>⟧.casts self.now.syntax result }
+        ensures { AreSegments path_kinds path_segment_kinds self.now.syntax result }
     {
-        Segments::new(support::copy(self))
+        segments_of(support::copy(self))
     }
 
     /// The qualifiers, the nearest first: `a::b` and `a` of `a::b::c`.
     pub fn qualifiers(&self) -> Qualifiers
-        ensures { result ≡ qualifiers_of ⟦<ast::Path as AstNode>⟧.casts self.now.syntax }
+        ensures { result ≡ qualifiers_of path_kinds self.now.syntax }
     {
         Qualifiers::new(self)
     }
@@ -36,21 +53,22 @@ impl ast::Path {
     /// The end of the chain of qualifiers: `a` of `a::b::c`. Returns `None` if the path has no qualifier. Takes time linear
     /// in their number.
     pub fn first_qualifier(&self) -> Option<ast::Path>
-        ensures { IsQualifierEnd ⟦<ast::Path as AstNode>⟧.casts self.now.syntax (option_map (λ it. it.syntax) result) }
+        ensures { IsQualifierEnd path_kinds self.now.syntax (option_map (λ it. it.syntax) result) }
     {
         ras_node_ext::first_qualifier(self)
     }
 
     /// The end of the chain of qualifiers; this path if it has none. Takes time linear in their number.
     pub fn first_qualifier_or_self(&self) -> ast::Path
-        ensures { IsFirstQualifier ⟦<ast::Path as AstNode>⟧.casts self.now.syntax result.syntax }
+        ensures { IsFirstQualifier path_kinds self.now.syntax result.syntax }
     {
-        ras_node_ext::first_qualifier_or_self(support::copy(self))
+        end_of(support::copy(self))
     }
 
     /// The segment at the end of the chain of qualifiers, if that path has one: `a` of `a::b::c`.
     pub fn first_segment(&self) -> Option<ast::PathSegment>
-        ensures { IsFirstSegment ⟦<ast::Path as AstNode>⟧.casts ⟦<ast::PathSegment as AstNode>⟧.casts self.now.syntax (option_map (λ it. it.syntax) result) }
+        ensures { IsFirstSegment path_kinds path_segment_kinds self.now.syntax
+            (option_map (λ it. it.syntax) result) }
     {
         self.first_qualifier_or_self().segment()
     }
@@ -58,21 +76,23 @@ impl ast::Path {
     /// The outermost path that this path is a qualifier of, directly or not; the path itself if it is not a qualifier. Takes
     /// time linear in the number of paths between.
     pub fn top_path(&self) -> ast::Path
-        ensures { result.syntax ≡ top_from ⟦<ast::Path as AstNode>⟧.casts self.now.syntax (drop 1 (ancestors_of self.now.syntax)) }
+        ensures { result.syntax
+            ≡ top_from path_kinds self.now.syntax (drop 1 (ancestors_of self.now.syntax)) }
     {
         ras_node_ext::top_path(support::copy(self))
     }
 
     /// The path that it is the qualifier of: the parent, if that is a path.
     pub fn parent_path(&self) -> Option<ast::Path>
-        ensures { IsViewOf ⟦<ast::Path as AstNode>⟧ (view_in ⟦<ast::Path as AstNode>⟧.casts (parent_of self.now.syntax)) result }
+        ensures { IsPath (view_in path_kinds (parent_of self.now.syntax)) result }
     {
         support::parent_as(&self.syntax)
     }
 
     /// The segment of a path without a qualifier.
     pub fn as_single_segment(&self) -> Option<ast::PathSegment>
-        ensures { IsViewOf ⟦<ast::PathSegment as AstNode>⟧ (single_segment ⟦<ast::Path as AstNode>⟧.casts ⟦<ast::PathSegment as AstNode>⟧.casts self.now.syntax) result }
+        ensures { IsPathSegment
+            (single_segment path_kinds path_segment_kinds self.now.syntax) result }
     {
         if self.qualifier().is_some() {
             return None;
@@ -82,7 +102,8 @@ impl ast::Path {
 
     /// The name in the segment of a path without a qualifier.
     pub fn as_single_name_ref(&self) -> Option<ast::NameRef>
-        ensures { IsViewOf ⟦<ast::NameRef as AstNode>⟧ (single_name ⟦<ast::Path as AstNode>⟧.casts ⟦<ast::PathSegment as AstNode>⟧.casts ⟦<ast::NameRef as AstNode>⟧.casts self.now.syntax) result }
+        ensures { IsNameRef
+            (single_name path_kinds path_segment_kinds name_ref_kinds self.now.syntax) result }
     {
         self.as_single_segment()?.name_ref()
     }
@@ -123,7 +144,7 @@ fn name_by_kind(name: ast::NameRef) -> PathSegmentKind
 
 // `<T as U>`: the first type, and the second if it is a path type.
 fn anchored(anchor: &SyntaxNode) -> PathSegmentKind
-    ensures { segment_shape result ≡ anchored ⟦<ast::Type as AstNode>⟧.casts ⟦<ast::PathType as AstNode>⟧.casts anchor.now }
+    ensures { segment_shape result ≡ anchored type_kinds path_type_kinds anchor.now }
 {
     PathSegmentKind::Ty {
         type_ref: support::child(anchor),
@@ -135,7 +156,9 @@ impl ast::PathSegment {
     /// The kind of segment, by the first token of its name; without a name, by its anchor `<T as U>`. `None` if it has
     /// neither.
     pub fn kind(&self) -> Option<PathSegmentKind>
-        ensures { option_map segment_shape result ≡ segment_kind ⟦<ast::NameRef as AstNode>⟧.casts ⟦<ast::TypeAnchor as AstNode>⟧.casts ⟦<ast::Type as AstNode>⟧.casts ⟦<ast::PathType as AstNode>⟧.casts self.now.syntax }
+        ensures { option_map segment_shape result
+            ≡ segment_kind name_ref_kinds type_anchor_kinds type_kinds path_type_kinds
+            self.now.syntax }
     {
         if let Some(name) = self.name_ref() {
             return Some(name_by_kind(name));
@@ -146,14 +169,15 @@ impl ast::PathSegment {
 
     /// The path that it is the segment of: the parent, if that is a path.
     pub fn parent_path(&self) -> Option<ast::Path>
-        ensures { IsViewOf ⟦<ast::Path as AstNode>⟧ (view_in ⟦<ast::Path as AstNode>⟧.casts (parent_of self.now.syntax)) result }
+        ensures { IsPath (view_in path_kinds (parent_of self.now.syntax)) result }
     {
         support::parent_as(&self.syntax)
     }
 
     /// The trait of `<T as Trait>`: the second path type in the anchor, otherwise the first.
     pub fn qualifying_trait(&self) -> Option<ast::PathType>
-        ensures { IsViewOf ⟦<ast::PathType as AstNode>⟧ (qualifying_trait ⟦<ast::TypeAnchor as AstNode>⟧.casts ⟦<ast::PathType as AstNode>⟧.casts self.now.syntax) result }
+        ensures { IsPathType
+            (qualifying_trait type_anchor_kinds path_type_kinds self.now.syntax) result }
     {
         let anchor = self.type_anchor()?;
         match support::second_child(&anchor.syntax) {
@@ -164,28 +188,28 @@ impl ast::PathSegment {
 
     /// The first token `crate` in its name.
     pub fn crate_token(&self) -> Option<SyntaxToken>
-        ensures { result ≡ name_token ⟦<ast::NameRef as AstNode>⟧.casts SyntaxKind.CRATE_KW self.now.syntax }
+        ensures { result ≡ name_token name_ref_kinds SyntaxKind.CRATE_KW self.now.syntax }
     {
         self.name_ref()?.crate_token()
     }
 
     /// The first token `self` in its name.
     pub fn self_token(&self) -> Option<SyntaxToken>
-        ensures { result ≡ name_token ⟦<ast::NameRef as AstNode>⟧.casts SyntaxKind.SELF_KW self.now.syntax }
+        ensures { result ≡ name_token name_ref_kinds SyntaxKind.SELF_KW self.now.syntax }
     {
         self.name_ref()?.self_token()
     }
 
     /// The first token `Self` in its name.
     pub fn self_type_token(&self) -> Option<SyntaxToken>
-        ensures { result ≡ name_token ⟦<ast::NameRef as AstNode>⟧.casts SyntaxKind.SELF_TYPE_KW self.now.syntax }
+        ensures { result ≡ name_token name_ref_kinds SyntaxKind.SELF_TYPE_KW self.now.syntax }
     {
         self.name_ref()?.self_type_token()
     }
 
     /// The first token `super` in its name.
     pub fn super_token(&self) -> Option<SyntaxToken>
-        ensures { result ≡ name_token ⟦<ast::NameRef as AstNode>⟧.casts SyntaxKind.SUPER_KW self.now.syntax }
+        ensures { result ≡ name_token name_ref_kinds SyntaxKind.SUPER_KW self.now.syntax }
     {
         self.name_ref()?.super_token()
     }

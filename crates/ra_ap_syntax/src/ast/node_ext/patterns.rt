@@ -1,13 +1,17 @@
 //! Patterns.
-ghost use Rattle.std.specs.Prelude.{◌≡◌, IfOk, map, option_map, drop, not, is_some};
+ghost use Rattle.std.specs.Prelude.{◌≡◌, IfOk, map, option_map, not, is_some, drop};
 ghost use Rattle.std.specs.List.{find};
-ghost use Rattle.std.specs.Option.{option_and_then};
-ghost use Rattle.tree_model.specs.Cursor.{ancestors_of, parent_of};
-ghost use Rattle.ras_node.specs.Lookups.{IsViewOf, view_in, grandparent_of};
-ghost use Rattle.ras_node.specs.Nodes.{typed_child, typed_children, has_kind_in, kind_at};
+ghost use Rattle.tree_model.specs.Cursor.{parent_of, ancestors_of};
+ghost use Rattle.ras_node.specs.Lookups.{view_in, grandparent_of};
+ghost use Rattle.ras_node.specs.Nodes.{typed_child, typed_children, kind_at, has_kind_in};
 ghost use Rattle.ras_node_ext.specs.Slices.{is_rest, before_rest, behind_rest};
-ghost use Rattle.ra_ap_syntax.specs.PatCases.{pat_node};
-ghost use Rattle.ras_node_ext.specs.NodeParts.{leading_pipe, bound_name, bound_in_box, pat_field_name, if_its_part_is, is_simple_ident, if_kind};
+ghost use Rattle.ra_ap_syntax.specs.PatCases.{pat_node, pat_kinds};
+ghost use Rattle.ras_node_ext.specs.NodeParts.{leading_pipe, bound_name, bound_in_box, is_simple_ident, if_kind, pat_field_name, if_its_part_is};
+ghost use Rattle.ra_ap_syntax.specs.Accessors.{field_name_in_pat, if_named, nearest_above};
+ghost use Rattle.ra_ap_syntax.specs.NameOrNameRefCases.{IsNameOrNameRef};
+ghost use Rattle.ra_ap_syntax.specs.PatViews.{IsRecordPat, IsRecordPatField, record_pat_field_kinds, record_pat_kinds};
+ghost use Rattle.ra_ap_syntax.specs.PathViews.{IsFirstName, IsName, name_kinds};
+ghost use Rattle.std.specs.Option.{option_and_then};
 
 use crate::ast::{self, AstNode, HasName, NameOrNameRef, support};
 use lossless_tree::{SyntaxKind, SyntaxNode, SyntaxToken};
@@ -36,9 +40,12 @@ impl ast::SlicePat {
     ///
     /// It takes memory for the two lists.
     pub fn components(&self, alloc: Global) -> Result<SlicePatComponents, AllocError>
-        ensures prefix { IfOk result (λ parts. map pat_node parts.prefix.items ≡ before_rest ⟦<ast::Pat as AstNode>⟧.casts (typed_children ⟦<ast::Pat as AstNode>⟧.casts self.now.syntax)) }
-        ensures slice { IfOk result (λ parts. option_map pat_node parts.slice ≡ find (is_rest ⟦<ast::Pat as AstNode>⟧.casts) (typed_children ⟦<ast::Pat as AstNode>⟧.casts self.now.syntax)) }
-        ensures suffix { IfOk result (λ parts. map pat_node parts.suffix.items ≡ behind_rest ⟦<ast::Pat as AstNode>⟧.casts (typed_children ⟦<ast::Pat as AstNode>⟧.casts self.now.syntax)) }
+        ensures prefix { IfOk result (λ parts. map pat_node parts.prefix.items
+            ≡ before_rest pat_kinds (typed_children pat_kinds self.now.syntax)) }
+        ensures slice { IfOk result (λ parts. option_map pat_node parts.slice
+            ≡ find (is_rest pat_kinds) (typed_children pat_kinds self.now.syntax)) }
+        ensures suffix { IfOk result (λ parts. map pat_node parts.suffix.items
+            ≡ behind_rest pat_kinds (typed_children pat_kinds self.now.syntax)) }
     {
         ras_node_ext::slice_components(alloc, &self.syntax)
     }
@@ -47,7 +54,7 @@ impl ast::SlicePat {
 impl ast::IdentPat {
     /// Whether it is only a name: it has no `@`, `mut` or `ref`, and no pattern after an `@`.
     pub fn is_simple_ident(&self) -> bool
-        ensures { result ≡ is_simple_ident ⟦<ast::Pat as AstNode>⟧.casts self.now.syntax }
+        ensures { result ≡ is_simple_ident pat_kinds self.now.syntax }
     {
         if self.at_token().is_some() || self.mut_token().is_some() {
             return false;
@@ -69,13 +76,20 @@ fn has_no_pattern<N: AstNode + Drop>(parent: &SyntaxNode) -> bool
     }
 }
 
+// The first child that is a name: by the word of clauses, in which the prover finds it again.
+fn first_name(parent: &SyntaxNode) -> Option<ast::Name>
+    ensures { IsFirstName parent.now result }
+{
+    support::child(parent)
+}
+
 // The name in a `box` pattern whose pattern is a name.
 fn bound_in_box<N: AstNode + Drop>(boxed: &SyntaxNode) -> Option<ast::Name>
-    ensures { IsViewOf ⟦<ast::Name as AstNode>⟧ (bound_in_box ⟦<ast::Name as AstNode>⟧.casts N.casts boxed.now) result }
+    ensures { IsName (bound_in_box name_kinds N.casts boxed.now) result }
 {
     let inner = support::child::<N>(boxed)?;
     if inner.syntax().kind() == SyntaxKind::IDENT_PAT {
-        support::child(inner.syntax())
+        first_name(inner.syntax())
     } else {
         None
     }
@@ -83,7 +97,7 @@ fn bound_in_box<N: AstNode + Drop>(boxed: &SyntaxNode) -> Option<ast::Name>
 
 // The name that a pattern binds, also after `box`.
 fn bound_name(pat: &SyntaxNode) -> Option<ast::Name>
-    ensures { IsViewOf ⟦<ast::Name as AstNode>⟧ (bound_name ⟦<ast::Name as AstNode>⟧.casts ⟦<ast::Pat as AstNode>⟧.casts pat.now) result }
+    ensures { IsName (bound_name name_kinds pat_kinds pat.now) result }
 {
     match pat.kind() {
         SyntaxKind::IDENT_PAT => support::child(pat),
@@ -94,7 +108,7 @@ fn bound_name(pat: &SyntaxNode) -> Option<ast::Name>
 
 // The name that a viewed pattern binds.
 fn name_bound_by<N: AstNode + Drop>(pat: N) -> Option<ast::Name>
-    ensures { IsViewOf ⟦<ast::Name as AstNode>⟧ (bound_name ⟦<ast::Name as AstNode>⟧.casts ⟦<ast::Pat as AstNode>⟧.casts (N.node pat)) result }
+    ensures { IsName (bound_name name_kinds pat_kinds (N.node pat)) result }
 {
     bound_name(pat.syntax())
 }
@@ -102,7 +116,7 @@ fn name_bound_by<N: AstNode + Drop>(pat: N) -> Option<ast::Name>
 impl ast::RecordPatField {
     /// The field's name: its own, or the name that its pattern binds, also after `box`.
     pub fn field_name(&self) -> Option<NameOrNameRef>
-        ensures { IsViewOf ⟦<NameOrNameRef as AstNode>⟧ (pat_field_name ⟦<ast::NameRef as AstNode>⟧.casts ⟦<ast::Name as AstNode>⟧.casts ⟦<ast::Pat as AstNode>⟧.casts self.now.syntax) result }
+        ensures { IsNameOrNameRef (field_name_in_pat self.now.syntax) result }
     {
         if let Some(name) = self.name_ref() {
             return Some(NameOrNameRef::NameRef(name));
@@ -112,14 +126,18 @@ impl ast::RecordPatField {
 
     /// The field that is a name's parent, if the name is the field's.
     pub fn for_field_name_ref(field_name: &ast::NameRef) -> Option<ast::RecordPatField>
-        ensures { IsViewOf ⟦<ast::RecordPatField as AstNode>⟧ (option_and_then (if_its_part_is field_name.now.syntax (pat_field_name ⟦<ast::NameRef as AstNode>⟧.casts ⟦<ast::Name as AstNode>⟧.casts ⟦<ast::Pat as AstNode>⟧.casts)) (view_in ⟦<ast::RecordPatField as AstNode>⟧.casts (parent_of field_name.now.syntax))) result }
+        ensures { IsRecordPatField
+            (if_named field_name.now.syntax
+            (view_in record_pat_field_kinds (parent_of field_name.now.syntax))) result }
     {
         if_named(support::parent_as(&field_name.syntax), &field_name.syntax)
     }
 
     /// The field that is the parent of a name's pattern, if the name is the field's.
     pub fn for_field_name(field_name: &ast::Name) -> Option<ast::RecordPatField>
-        ensures { IsViewOf ⟦<ast::RecordPatField as AstNode>⟧ (option_and_then (if_its_part_is field_name.now.syntax (pat_field_name ⟦<ast::NameRef as AstNode>⟧.casts ⟦<ast::Name as AstNode>⟧.casts ⟦<ast::Pat as AstNode>⟧.casts)) (view_in ⟦<ast::RecordPatField as AstNode>⟧.casts (grandparent_of field_name.now.syntax))) result }
+        ensures { IsRecordPatField
+            (if_named field_name.now.syntax
+            (view_in record_pat_field_kinds (grandparent_of field_name.now.syntax))) result }
     {
         if_named(
             support::grandparent_as(&field_name.syntax),
@@ -129,7 +147,7 @@ impl ast::RecordPatField {
 
     /// The record that it is a field of: the nearest record pattern above it.
     pub fn parent_record_pat(&self) -> Option<ast::RecordPat>
-        ensures { IsViewOf ⟦<ast::RecordPat as AstNode>⟧ (find (has_kind_in ⟦<ast::RecordPat as AstNode>⟧.casts) (drop 1 (ancestors_of self.now.syntax))) result }
+        ensures { IsRecordPat (nearest_above record_pat_kinds self.now.syntax) result }
     {
         support::ancestor_as(&self.syntax)
     }
@@ -137,7 +155,7 @@ impl ast::RecordPatField {
 
 // The field, if this node is its name.
 fn if_named(field: Option<ast::RecordPatField>, name: &SyntaxNode) -> Option<ast::RecordPatField>
-    ensures { IsViewOf ⟦<ast::RecordPatField as AstNode>⟧ (option_and_then (if_its_part_is name.now (pat_field_name ⟦<ast::NameRef as AstNode>⟧.casts ⟦<ast::Name as AstNode>⟧.casts ⟦<ast::Pat as AstNode>⟧.casts)) (option_map (λ it. it.syntax) field)) result }
+    ensures { IsRecordPatField (if_named name.now (option_map (λ it. it.syntax) field)) result }
 {
     let field = field?;
     let own = field.field_name()?;

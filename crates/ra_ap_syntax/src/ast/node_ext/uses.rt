@@ -8,9 +8,10 @@ ghost use Rattle.lossless_tree.specs.Element.{element_of};
 ghost use Rattle.ras_node.specs.PartSets.{is_comma};
 ghost use Rattle.ras_node.specs.Searches.{tokens_among};
 ghost use Rattle.ras_node_ext.specs.Path.{top_tree_from};
-ghost use Rattle.ras_node.specs.Lookups.{IsViewOf, view_in};
+ghost use Rattle.ras_node.specs.Lookups.{view_in};
 ghost use Rattle.ras_node.specs.Nodes.{typed_child};
 ghost use Rattle.ras_node_ext.specs.NodeParts.{is_glob, is_simple_path, has_token};
+ghost use Rattle.ra_ap_syntax.specs.PartViews.{IsUseTree, IsUseTreeList, use_tree_kinds, use_tree_list_kinds};
 
 use crate::ast::{self, AstNode, support};
 use lossless_tree::SyntaxKind;
@@ -22,7 +23,7 @@ pub type Commas = TokenChildren<CommaTokens>;
 
 // Whether a use tree has a `*`, and no list.
 fn is_glob(tree: &ast::UseTree) -> bool
-    ensures { result ≡ is_glob ⟦<ast::UseTreeList as AstNode>⟧.casts tree.now.syntax }
+    ensures { result ≡ is_glob use_tree_list_kinds tree.now.syntax }
 {
     if tree.use_tree_list().is_some() {
         return false;
@@ -33,7 +34,9 @@ fn is_glob(tree: &ast::UseTree) -> bool
 impl ast::Use {
     /// Whether it imports all of one module: its tree has a `*`, and no list.
     pub fn is_simple_glob(&self) -> bool
-        ensures { result ≡ option_map_or (is_glob ⟦<ast::UseTreeList as AstNode>⟧.casts) (typed_child ⟦<ast::UseTree as AstNode>⟧.casts self.now.syntax) false }
+        ensures { result
+            ≡ option_map_or (is_glob use_tree_list_kinds)
+            (typed_child use_tree_kinds self.now.syntax) false }
     {
         match self.use_tree() {
             Some(tree) => is_glob(&tree),
@@ -42,10 +45,19 @@ impl ast::Use {
     }
 }
 
+// The outermost use tree around a tree.
+fn top_of(tree: ast::UseTree) -> ast::UseTree
+    ensures { result.syntax
+        ≡ top_tree_from use_tree_list_kinds use_tree_kinds tree.syntax
+        (drop 1 (ancestors_of tree.syntax)) }
+{
+    ras_node_ext::top_use_tree::<ast::UseTreeList, ast::UseTree>(tree)
+}
+
 impl ast::UseTree {
     /// Whether it has neither a `*` nor a list.
     pub fn is_simple_path(&self) -> bool
-        ensures { result ≡ is_simple_path ⟦<ast::UseTreeList as AstNode>⟧.casts self.now.syntax }
+        ensures { result ≡ is_simple_path use_tree_list_kinds self.now.syntax }
     {
         if self.use_tree_list().is_some() {
             return false;
@@ -56,14 +68,16 @@ impl ast::UseTree {
     /// The outermost use tree around it, through lists of use trees; this tree if it is not in such a list. Takes time
     /// linear in the number of trees between.
     pub fn top_use_tree(&self) -> ast::UseTree
-        ensures { result.syntax ≡ top_tree_from ⟦<ast::UseTreeList as AstNode>⟧.casts ⟦<ast::UseTree as AstNode>⟧.casts self.now.syntax (drop 1 (ancestors_of self.now.syntax)) }
+        ensures { result.syntax
+            ≡ top_tree_from use_tree_list_kinds use_tree_kinds self.now.syntax
+            (drop 1 (ancestors_of self.now.syntax)) }
     {
-        ras_node_ext::top_use_tree::<ast::UseTreeList, ast::UseTree>(support::copy(self))
+        top_of(support::copy(self))
     }
 
     /// The list that it is in: the parent, if that is a list.
     pub fn parent_use_tree_list(&self) -> Option<ast::UseTreeList>
-        ensures { IsViewOf ⟦<ast::UseTreeList as AstNode>⟧ (view_in ⟦<ast::UseTreeList as AstNode>⟧.casts (parent_of self.now.syntax)) result }
+        ensures { IsUseTreeList (view_in use_tree_list_kinds (parent_of self.now.syntax)) result }
     {
         support::parent_as(&self.syntax)
     }
@@ -72,7 +86,7 @@ impl ast::UseTree {
 impl ast::UseTreeList {
     /// The use tree of the list: the parent, if that is a use tree.
     pub fn parent_use_tree(&self) -> Option<ast::UseTree>
-        ensures { IsViewOf ⟦<ast::UseTree as AstNode>⟧ (view_in ⟦<ast::UseTree as AstNode>⟧.casts (parent_of self.now.syntax)) result }
+        ensures { IsUseTree (view_in use_tree_kinds (parent_of self.now.syntax)) result }
     {
         support::parent_as(&self.syntax)
     }

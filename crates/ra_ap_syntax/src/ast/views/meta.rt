@@ -1,7 +1,8 @@
 //! The contents of an attribute. Made by `tests/views` from `views.txt`.
 ghost use Rattle.std.specs.Prelude.{◌≡◌, Some};
-ghost use Rattle.ras_node.specs.Lookups.{IsFirstChild};
 ghost use Rattle.ras_node.specs.Nodes.{token_child};
+ghost use Rattle.ra_ap_syntax.specs.AttrViews.{IsFirstTokenTree};
+ghost use Rattle.ra_ap_syntax.specs.ExprCases.{IsFirstExpr};
 ghost use Rattle.tree_model.specs.Tree.{text};
 ghost use Rattle.tree_model.specs.Cursor.{focus};
 ghost use Rattle.lossless_tree.specs.Dump.{span_text};
@@ -30,7 +31,7 @@ impl Meta {
     /// The first child that is an expression, if there is one.
     /// Example: `b` of `a = b`.
     pub fn expr(&self) -> Option<ast::Expr>
-        ensures { IsFirstChild ⟦<ast::Expr as AstNode>⟧ (meta_node self.now) result }
+        ensures { IsFirstExpr (meta_node self.now) result }
     {
         support::child(self.syntax())
     }
@@ -46,7 +47,7 @@ impl Meta {
     /// The first child that is a token tree, if there is one.
     /// Example: `(b)` of `a(b)`.
     pub fn token_tree(&self) -> Option<ast::TokenTree>
-        ensures { IsFirstChild ⟦<ast::TokenTree as AstNode>⟧ (meta_node self.now) result }
+        ensures { IsFirstTokenTree (meta_node self.now) result }
     {
         support::child(self.syntax())
     }

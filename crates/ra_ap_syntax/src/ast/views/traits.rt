@@ -1,8 +1,12 @@
 //! The lookups that several types share. Made by `tests/views` from `views.txt`.
 //! Each call takes time linear in the number of children that it passes, and no memory.
 ghost use Rattle.std.specs.Prelude.{◌≡◌};
-ghost use Rattle.ras_node.specs.Lookups.{IsFirstChild};
 ghost use Rattle.ras_node.specs.Nodes.{token_child, typed_children};
+ghost use Rattle.ra_ap_syntax.specs.GenericViews.{IsFirstGenericArgList, IsFirstGenericParamList, IsFirstTypeBoundList, IsFirstWhereClause};
+ghost use Rattle.ra_ap_syntax.specs.ItemCases.{item_kinds};
+ghost use Rattle.ra_ap_syntax.specs.PartViews.{IsFirstVisibility};
+ghost use Rattle.ra_ap_syntax.specs.PathViews.{IsFirstName};
+ghost use Rattle.ra_ap_syntax.specs.StmtViews.{IsFirstArgList};
 
 use crate::ast::{self, AstChildren, AstNode, support};
 use lossless_tree::{SyntaxKind, SyntaxToken, T};
@@ -12,7 +16,7 @@ pub trait HasName: AstNode {
     /// The first child that is a name, if there is one.
     /// Example: `f` of `fn f() {}`.
     final fn name(&self) -> Option<ast::Name>
-        ensures { IsFirstChild ⟦<ast::Name as AstNode>⟧ (Self.node self.now) result }
+        ensures { IsFirstName (Self.node self.now) result }
     {
         support::child(self.syntax())
     }
@@ -23,7 +27,7 @@ pub trait HasVisibility: AstNode {
     /// The first child that is a visibility, if there is one.
     /// Example: `pub` of `pub fn f() {}`.
     final fn visibility(&self) -> Option<ast::Visibility>
-        ensures { IsFirstChild ⟦<ast::Visibility as AstNode>⟧ (Self.node self.now) result }
+        ensures { IsFirstVisibility (Self.node self.now) result }
     {
         support::child(self.syntax())
     }
@@ -34,7 +38,7 @@ pub trait HasArgList: AstNode {
     /// The first child that is a list of arguments, if there is one.
     /// Example: `(a)` of `f(a)`.
     final fn arg_list(&self) -> Option<ast::ArgList>
-        ensures { IsFirstChild ⟦<ast::ArgList as AstNode>⟧ (Self.node self.now) result }
+        ensures { IsFirstArgList (Self.node self.now) result }
     {
         support::child(self.syntax())
     }
@@ -45,7 +49,7 @@ pub trait HasModuleItem: AstNode {
     /// The children that are items, in order.
     /// Example: `fn f() {}` and `struct S;` of `fn f() {} struct S;`.
     final fn items(&self) -> AstChildren<ast::Item>
-        ensures { result ≡ typed_children ⟦<ast::Item as AstNode>⟧.casts (Self.node self.now) }
+        ensures { result ≡ typed_children item_kinds (Self.node self.now) }
     {
         support::children(self.syntax())
     }
@@ -56,7 +60,7 @@ pub trait HasGenericParams: AstNode {
     /// The first child that is a list of generic parameters, if there is one.
     /// Example: `<T>` of `fn f<T>() where T: U {}`.
     final fn generic_param_list(&self) -> Option<ast::GenericParamList>
-        ensures { IsFirstChild ⟦<ast::GenericParamList as AstNode>⟧ (Self.node self.now) result }
+        ensures { IsFirstGenericParamList (Self.node self.now) result }
     {
         support::child(self.syntax())
     }
@@ -64,7 +68,7 @@ pub trait HasGenericParams: AstNode {
     /// The first child that is a `where` clause, if there is one.
     /// Example: `where T: U` of `fn f<T>() where T: U {}`.
     final fn where_clause(&self) -> Option<ast::WhereClause>
-        ensures { IsFirstChild ⟦<ast::WhereClause as AstNode>⟧ (Self.node self.now) result }
+        ensures { IsFirstWhereClause (Self.node self.now) result }
     {
         support::child(self.syntax())
     }
@@ -75,7 +79,7 @@ pub trait HasGenericArgs: AstNode {
     /// The first child that is a list of generic arguments, if there is one.
     /// Example: `::<T>` of `a.f::<T>()`.
     final fn generic_arg_list(&self) -> Option<ast::GenericArgList>
-        ensures { IsFirstChild ⟦<ast::GenericArgList as AstNode>⟧ (Self.node self.now) result }
+        ensures { IsFirstGenericArgList (Self.node self.now) result }
     {
         support::child(self.syntax())
     }
@@ -86,7 +90,7 @@ pub trait HasTypeBounds: AstNode {
     /// The first child that is a list of type bounds, if there is one.
     /// Example: `U + V` of `T: U + V`.
     final fn type_bound_list(&self) -> Option<ast::TypeBoundList>
-        ensures { IsFirstChild ⟦<ast::TypeBoundList as AstNode>⟧ (Self.node self.now) result }
+        ensures { IsFirstTypeBoundList (Self.node self.now) result }
     {
         support::child(self.syntax())
     }

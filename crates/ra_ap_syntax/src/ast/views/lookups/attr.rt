@@ -2,17 +2,20 @@
 //! Each call takes time linear in the number of children that it passes, and no memory.
 //! The names are those of rust-analyzer.
 ghost use Rattle.std.specs.Prelude.{◌≡◌};
-ghost use Rattle.ras_node.specs.Lookups.{IsFirstChild};
 ghost use Rattle.ras_node.specs.Nodes.{token_child, typed_children};
+ghost use Rattle.ra_ap_syntax.specs.AttrViews.{IsFirstTokenTree};
+ghost use Rattle.ra_ap_syntax.specs.ExprCases.{IsFirstExpr};
+ghost use Rattle.ra_ap_syntax.specs.MetaCases.{IsFirstMeta, meta_kinds};
+ghost use Rattle.ra_ap_syntax.specs.PathViews.{IsFirstPath};
 
-use crate::ast::{self, AstChildren, AstNode, support};
+use crate::ast::{self, AstChildren, support};
 use lossless_tree::{SyntaxKind, SyntaxToken, T};
 
 impl ast::Attr {
     /// The first child that is a meta item, if there is one.
     /// Example: `a` of `#[a]`.
     pub fn meta(&self) -> Option<ast::Meta>
-        ensures { IsFirstChild ⟦<ast::Meta as AstNode>⟧ self.now.syntax result }
+        ensures { IsFirstMeta self.now.syntax result }
     {
         support::child(&self.syntax)
     }
@@ -80,7 +83,7 @@ impl ast::CfgAttrMeta {
     /// The children that are meta items, in order.
     /// Example: `m` of `cfg_attr(p, m)`.
     pub fn metas(&self) -> AstChildren<ast::Meta>
-        ensures { result ≡ typed_children ⟦<ast::Meta as AstNode>⟧.casts self.now.syntax }
+        ensures { result ≡ typed_children meta_kinds self.now.syntax }
     {
         support::children(&self.syntax)
     }
@@ -150,7 +153,7 @@ impl ast::KeyValueMeta {
     /// The first child that is an expression, if there is one.
     /// Example: `b` of `a = b`.
     pub fn expr(&self) -> Option<ast::Expr>
-        ensures { IsFirstChild ⟦<ast::Expr as AstNode>⟧ self.now.syntax result }
+        ensures { IsFirstExpr self.now.syntax result }
     {
         support::child(&self.syntax)
     }
@@ -158,7 +161,7 @@ impl ast::KeyValueMeta {
     /// The first child that is a path, if there is one.
     /// Example: `a` of `a = b`.
     pub fn path(&self) -> Option<ast::Path>
-        ensures { IsFirstChild ⟦<ast::Path as AstNode>⟧ self.now.syntax result }
+        ensures { IsFirstPath self.now.syntax result }
     {
         support::child(&self.syntax)
     }
@@ -176,7 +179,7 @@ impl ast::PathMeta {
     /// The first child that is a path, if there is one.
     /// Example: `a::b` of `a::b`.
     pub fn path(&self) -> Option<ast::Path>
-        ensures { IsFirstChild ⟦<ast::Path as AstNode>⟧ self.now.syntax result }
+        ensures { IsFirstPath self.now.syntax result }
     {
         support::child(&self.syntax)
     }
@@ -236,7 +239,7 @@ impl ast::TokenTreeMeta {
     /// The first child that is a path, if there is one.
     /// Example: `a` of `a(b)`.
     pub fn path(&self) -> Option<ast::Path>
-        ensures { IsFirstChild ⟦<ast::Path as AstNode>⟧ self.now.syntax result }
+        ensures { IsFirstPath self.now.syntax result }
     {
         support::child(&self.syntax)
     }
@@ -244,7 +247,7 @@ impl ast::TokenTreeMeta {
     /// The first child that is a token tree, if there is one.
     /// Example: `(b)` of `a(b)`.
     pub fn token_tree(&self) -> Option<ast::TokenTree>
-        ensures { IsFirstChild ⟦<ast::TokenTree as AstNode>⟧ self.now.syntax result }
+        ensures { IsFirstTokenTree self.now.syntax result }
     {
         support::child(&self.syntax)
     }
@@ -254,7 +257,7 @@ impl ast::UnsafeMeta {
     /// The first child that is a meta item, if there is one.
     /// Example: `m` of `unsafe(m)`.
     pub fn meta(&self) -> Option<ast::Meta>
-        ensures { IsFirstChild ⟦<ast::Meta as AstNode>⟧ self.now.syntax result }
+        ensures { IsFirstMeta self.now.syntax result }
     {
         support::child(&self.syntax)
     }

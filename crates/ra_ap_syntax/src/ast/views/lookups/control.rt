@@ -2,17 +2,20 @@
 //! Each call takes time linear in the number of children that it passes, and no memory.
 //! The names are those of rust-analyzer.
 ghost use Rattle.std.specs.Prelude.{◌≡◌};
-ghost use Rattle.ras_node.specs.Lookups.{IsFirstChild};
 ghost use Rattle.ras_node.specs.Nodes.{token_child};
+ghost use Rattle.ra_ap_syntax.specs.ExprCases.{IsFirstExpr};
+ghost use Rattle.ra_ap_syntax.specs.PatCases.{IsFirstPat};
+ghost use Rattle.ra_ap_syntax.specs.PathViews.{IsFirstLifetime};
+ghost use Rattle.ra_ap_syntax.specs.StmtViews.{IsFirstLabel, IsFirstMatchArmList, IsFirstStmtList, IsFirstTryBlockModifier};
 
-use crate::ast::{self, AstNode, support};
+use crate::ast::{self, support};
 use lossless_tree::{SyntaxKind, SyntaxToken, T};
 
 impl ast::BecomeExpr {
     /// The first child that is an expression, if there is one.
     /// Example: `f(a)` of `become f(a)`.
     pub fn expr(&self) -> Option<ast::Expr>
-        ensures { IsFirstChild ⟦<ast::Expr as AstNode>⟧ self.now.syntax result }
+        ensures { IsFirstExpr self.now.syntax result }
     {
         support::child(&self.syntax)
     }
@@ -30,7 +33,7 @@ impl ast::BlockExpr {
     /// The first child that is a list of statements, if there is one.
     /// Example: `{ a; b }` of `{ a; b }`.
     pub fn stmt_list(&self) -> Option<ast::StmtList>
-        ensures { IsFirstChild ⟦<ast::StmtList as AstNode>⟧ self.now.syntax result }
+        ensures { IsFirstStmtList self.now.syntax result }
     {
         support::child(&self.syntax)
     }
@@ -38,7 +41,7 @@ impl ast::BlockExpr {
     /// The first child that is a label, if there is one.
     /// Example: `'a:` of `'a: {}`.
     pub fn label(&self) -> Option<ast::Label>
-        ensures { IsFirstChild ⟦<ast::Label as AstNode>⟧ self.now.syntax result }
+        ensures { IsFirstLabel self.now.syntax result }
     {
         support::child(&self.syntax)
     }
@@ -46,7 +49,7 @@ impl ast::BlockExpr {
     /// The first child that is the modifier of a `try` block, if there is one.
     /// Example: `try bikeshed T` of `try bikeshed T {}`.
     pub fn try_block_modifier(&self) -> Option<ast::TryBlockModifier>
-        ensures { IsFirstChild ⟦<ast::TryBlockModifier as AstNode>⟧ self.now.syntax result }
+        ensures { IsFirstTryBlockModifier self.now.syntax result }
     {
         support::child(&self.syntax)
     }
@@ -96,7 +99,7 @@ impl ast::BreakExpr {
     /// The first child that is an expression, if there is one.
     /// Example: `b` of `break 'a b`.
     pub fn expr(&self) -> Option<ast::Expr>
-        ensures { IsFirstChild ⟦<ast::Expr as AstNode>⟧ self.now.syntax result }
+        ensures { IsFirstExpr self.now.syntax result }
     {
         support::child(&self.syntax)
     }
@@ -104,7 +107,7 @@ impl ast::BreakExpr {
     /// The first child that is a lifetime, if there is one.
     /// Example: `'a` of `break 'a b`.
     pub fn lifetime(&self) -> Option<ast::Lifetime>
-        ensures { IsFirstChild ⟦<ast::Lifetime as AstNode>⟧ self.now.syntax result }
+        ensures { IsFirstLifetime self.now.syntax result }
     {
         support::child(&self.syntax)
     }
@@ -122,7 +125,7 @@ impl ast::ContinueExpr {
     /// The first child that is a lifetime, if there is one.
     /// Example: `'a` of `continue 'a`.
     pub fn lifetime(&self) -> Option<ast::Lifetime>
-        ensures { IsFirstChild ⟦<ast::Lifetime as AstNode>⟧ self.now.syntax result }
+        ensures { IsFirstLifetime self.now.syntax result }
     {
         support::child(&self.syntax)
     }
@@ -140,7 +143,7 @@ impl ast::ForExpr {
     /// The first child that is a pattern, if there is one.
     /// Example: `p` of `for p in a { b }`.
     pub fn pat(&self) -> Option<ast::Pat>
-        ensures { IsFirstChild ⟦<ast::Pat as AstNode>⟧ self.now.syntax result }
+        ensures { IsFirstPat self.now.syntax result }
     {
         support::child(&self.syntax)
     }
@@ -184,7 +187,7 @@ impl ast::LetExpr {
     /// The first child that is an expression, if there is one.
     /// Example: `a` of `let p = a`.
     pub fn expr(&self) -> Option<ast::Expr>
-        ensures { IsFirstChild ⟦<ast::Expr as AstNode>⟧ self.now.syntax result }
+        ensures { IsFirstExpr self.now.syntax result }
     {
         support::child(&self.syntax)
     }
@@ -192,7 +195,7 @@ impl ast::LetExpr {
     /// The first child that is a pattern, if there is one.
     /// Example: `p` of `let p = a`.
     pub fn pat(&self) -> Option<ast::Pat>
-        ensures { IsFirstChild ⟦<ast::Pat as AstNode>⟧ self.now.syntax result }
+        ensures { IsFirstPat self.now.syntax result }
     {
         support::child(&self.syntax)
     }
@@ -228,7 +231,7 @@ impl ast::MatchExpr {
     /// The first child that is an expression, if there is one.
     /// Example: `a` of `match a { p => b }`.
     pub fn expr(&self) -> Option<ast::Expr>
-        ensures { IsFirstChild ⟦<ast::Expr as AstNode>⟧ self.now.syntax result }
+        ensures { IsFirstExpr self.now.syntax result }
     {
         support::child(&self.syntax)
     }
@@ -236,7 +239,7 @@ impl ast::MatchExpr {
     /// The first child that is a list of match arms, if there is one.
     /// Example: `{ p => b }` of `match a { p => b }`.
     pub fn match_arm_list(&self) -> Option<ast::MatchArmList>
-        ensures { IsFirstChild ⟦<ast::MatchArmList as AstNode>⟧ self.now.syntax result }
+        ensures { IsFirstMatchArmList self.now.syntax result }
     {
         support::child(&self.syntax)
     }
@@ -254,7 +257,7 @@ impl ast::ReturnExpr {
     /// The first child that is an expression, if there is one.
     /// Example: `a` of `return a`.
     pub fn expr(&self) -> Option<ast::Expr>
-        ensures { IsFirstChild ⟦<ast::Expr as AstNode>⟧ self.now.syntax result }
+        ensures { IsFirstExpr self.now.syntax result }
     {
         support::child(&self.syntax)
     }
@@ -282,7 +285,7 @@ impl ast::YeetExpr {
     /// The first child that is an expression, if there is one.
     /// Example: `a` of `do yeet a`.
     pub fn expr(&self) -> Option<ast::Expr>
-        ensures { IsFirstChild ⟦<ast::Expr as AstNode>⟧ self.now.syntax result }
+        ensures { IsFirstExpr self.now.syntax result }
     {
         support::child(&self.syntax)
     }
@@ -308,7 +311,7 @@ impl ast::YieldExpr {
     /// The first child that is an expression, if there is one.
     /// Example: `a` of `yield a`.
     pub fn expr(&self) -> Option<ast::Expr>
-        ensures { IsFirstChild ⟦<ast::Expr as AstNode>⟧ self.now.syntax result }
+        ensures { IsFirstExpr self.now.syntax result }
     {
         support::child(&self.syntax)
     }

@@ -2,17 +2,24 @@
 //! Each call takes time linear in the number of children that it passes, and no memory.
 //! The names are those of rust-analyzer.
 ghost use Rattle.std.specs.Prelude.{◌≡◌};
-ghost use Rattle.ras_node.specs.Lookups.{IsFirstChild};
 ghost use Rattle.ras_node.specs.Nodes.{token_child, typed_children};
+ghost use Rattle.ra_ap_syntax.specs.ExprCases.{IsFirstExpr, expr_kinds};
+ghost use Rattle.ra_ap_syntax.specs.GenericViews.{IsFirstForBinder};
+ghost use Rattle.ra_ap_syntax.specs.ItemViews.{IsFirstMacroCall};
+ghost use Rattle.ra_ap_syntax.specs.PartViews.{IsFirstParamList};
+ghost use Rattle.ra_ap_syntax.specs.PathViews.{IsFirstNameRef, IsFirstPath, name_ref_kinds};
+ghost use Rattle.ra_ap_syntax.specs.StmtViews.{format_args_arg_kinds};
+ghost use Rattle.ra_ap_syntax.specs.TyViews.{IsFirstRetType};
+ghost use Rattle.ra_ap_syntax.specs.TypeCases.{IsFirstType};
 
-use crate::ast::{self, AstChildren, AstNode, support};
+use crate::ast::{self, AstChildren, support};
 use lossless_tree::{SyntaxKind, SyntaxToken, T};
 
 impl ast::ArrayExpr {
     /// The first child that is an expression, if there is one.
     /// Example: `a` of `[a, b]`.
     pub fn expr(&self) -> Option<ast::Expr>
-        ensures { IsFirstChild ⟦<ast::Expr as AstNode>⟧ self.now.syntax result }
+        ensures { IsFirstExpr self.now.syntax result }
     {
         support::child(&self.syntax)
     }
@@ -20,7 +27,7 @@ impl ast::ArrayExpr {
     /// The children that are expressions, in order.
     /// Example: `a` and `b` of `[a, b]`.
     pub fn exprs(&self) -> AstChildren<ast::Expr>
-        ensures { result ≡ typed_children ⟦<ast::Expr as AstNode>⟧.casts self.now.syntax }
+        ensures { result ≡ typed_children expr_kinds self.now.syntax }
     {
         support::children(&self.syntax)
     }
@@ -54,7 +61,7 @@ impl ast::AsmExpr {
     /// The children that are expressions, in order.
     /// Example: `"a"` and `"b"` of `builtin # asm("a", "b", out(r) c)`.
     pub fn template(&self) -> AstChildren<ast::Expr>
-        ensures { result ≡ typed_children ⟦<ast::Expr as AstNode>⟧.casts self.now.syntax }
+        ensures { result ≡ typed_children expr_kinds self.now.syntax }
     {
         support::children(&self.syntax)
     }
@@ -104,7 +111,7 @@ impl ast::AwaitExpr {
     /// The first child that is an expression, if there is one.
     /// Example: `a` of `a.await`.
     pub fn expr(&self) -> Option<ast::Expr>
-        ensures { IsFirstChild ⟦<ast::Expr as AstNode>⟧ self.now.syntax result }
+        ensures { IsFirstExpr self.now.syntax result }
     {
         support::child(&self.syntax)
     }
@@ -130,7 +137,7 @@ impl ast::CallExpr {
     /// The first child that is an expression, if there is one.
     /// Example: `f` of `f(a, b)`.
     pub fn expr(&self) -> Option<ast::Expr>
-        ensures { IsFirstChild ⟦<ast::Expr as AstNode>⟧ self.now.syntax result }
+        ensures { IsFirstExpr self.now.syntax result }
     {
         support::child(&self.syntax)
     }
@@ -140,7 +147,7 @@ impl ast::CastExpr {
     /// The first child that is an expression, if there is one.
     /// Example: `a` of `a as T`.
     pub fn expr(&self) -> Option<ast::Expr>
-        ensures { IsFirstChild ⟦<ast::Expr as AstNode>⟧ self.now.syntax result }
+        ensures { IsFirstExpr self.now.syntax result }
     {
         support::child(&self.syntax)
     }
@@ -148,7 +155,7 @@ impl ast::CastExpr {
     /// The first child that is a type, if there is one.
     /// Example: `T` of `a as T`.
     pub fn ty(&self) -> Option<ast::Type>
-        ensures { IsFirstChild ⟦<ast::Type as AstNode>⟧ self.now.syntax result }
+        ensures { IsFirstType self.now.syntax result }
     {
         support::child(&self.syntax)
     }
@@ -166,7 +173,7 @@ impl ast::ClosureExpr {
     /// The first child that is an expression, if there is one.
     /// Example: `{ b }` of `|a| -> T { b }`.
     pub fn body(&self) -> Option<ast::Expr>
-        ensures { IsFirstChild ⟦<ast::Expr as AstNode>⟧ self.now.syntax result }
+        ensures { IsFirstExpr self.now.syntax result }
     {
         support::child(&self.syntax)
     }
@@ -174,7 +181,7 @@ impl ast::ClosureExpr {
     /// The first child that is a list of parameters, if there is one.
     /// Example: `|a|` of `|a| -> T { b }`.
     pub fn param_list(&self) -> Option<ast::ParamList>
-        ensures { IsFirstChild ⟦<ast::ParamList as AstNode>⟧ self.now.syntax result }
+        ensures { IsFirstParamList self.now.syntax result }
     {
         support::child(&self.syntax)
     }
@@ -182,7 +189,7 @@ impl ast::ClosureExpr {
     /// The first child that is a return type, if there is one.
     /// Example: `-> T` of `|a| -> T { b }`.
     pub fn ret_type(&self) -> Option<ast::RetType>
-        ensures { IsFirstChild ⟦<ast::RetType as AstNode>⟧ self.now.syntax result }
+        ensures { IsFirstRetType self.now.syntax result }
     {
         support::child(&self.syntax)
     }
@@ -190,7 +197,7 @@ impl ast::ClosureExpr {
     /// The first child that is a `for` binder, if there is one.
     /// Example: `for<'a>` of `for<'a> |b| c`.
     pub fn for_binder(&self) -> Option<ast::ForBinder>
-        ensures { IsFirstChild ⟦<ast::ForBinder as AstNode>⟧ self.now.syntax result }
+        ensures { IsFirstForBinder self.now.syntax result }
     {
         support::child(&self.syntax)
     }
@@ -240,7 +247,7 @@ impl ast::FieldExpr {
     /// The first child that is an expression, if there is one.
     /// Example: `a` of `a.f`.
     pub fn expr(&self) -> Option<ast::Expr>
-        ensures { IsFirstChild ⟦<ast::Expr as AstNode>⟧ self.now.syntax result }
+        ensures { IsFirstExpr self.now.syntax result }
     {
         support::child(&self.syntax)
     }
@@ -248,7 +255,7 @@ impl ast::FieldExpr {
     /// The first child that is a name reference, if there is one.
     /// Example: `f` of `a.f`.
     pub fn name_ref(&self) -> Option<ast::NameRef>
-        ensures { IsFirstChild ⟦<ast::NameRef as AstNode>⟧ self.now.syntax result }
+        ensures { IsFirstNameRef self.now.syntax result }
     {
         support::child(&self.syntax)
     }
@@ -266,7 +273,7 @@ impl ast::FormatArgsExpr {
     /// The children that are arguments of a format, in order.
     /// Example: `a = b` of `builtin # format_args("{}", a = b)`.
     pub fn args(&self) -> AstChildren<ast::FormatArgsArg>
-        ensures { result ≡ typed_children ⟦<ast::FormatArgsArg as AstNode>⟧.casts self.now.syntax }
+        ensures { result ≡ typed_children format_args_arg_kinds self.now.syntax }
     {
         support::children(&self.syntax)
     }
@@ -274,7 +281,7 @@ impl ast::FormatArgsExpr {
     /// The first child that is an expression, if there is one.
     /// Example: `"{}"` of `builtin # format_args("{}", a = b)`.
     pub fn template(&self) -> Option<ast::Expr>
-        ensures { IsFirstChild ⟦<ast::Expr as AstNode>⟧ self.now.syntax result }
+        ensures { IsFirstExpr self.now.syntax result }
     {
         support::child(&self.syntax)
     }
@@ -342,7 +349,7 @@ impl ast::MacroExpr {
     /// The first child that is a macro call, if there is one.
     /// Example: `m!(a)` of `m!(a)`.
     pub fn macro_call(&self) -> Option<ast::MacroCall>
-        ensures { IsFirstChild ⟦<ast::MacroCall as AstNode>⟧ self.now.syntax result }
+        ensures { IsFirstMacroCall self.now.syntax result }
     {
         support::child(&self.syntax)
     }
@@ -352,7 +359,7 @@ impl ast::MethodCallExpr {
     /// The first child that is a name reference, if there is one.
     /// Example: `f` of `a.f::<T>(b)`.
     pub fn name_ref(&self) -> Option<ast::NameRef>
-        ensures { IsFirstChild ⟦<ast::NameRef as AstNode>⟧ self.now.syntax result }
+        ensures { IsFirstNameRef self.now.syntax result }
     {
         support::child(&self.syntax)
     }
@@ -360,7 +367,7 @@ impl ast::MethodCallExpr {
     /// The first child that is an expression, if there is one.
     /// Example: `a` of `a.f::<T>(b)`.
     pub fn receiver(&self) -> Option<ast::Expr>
-        ensures { IsFirstChild ⟦<ast::Expr as AstNode>⟧ self.now.syntax result }
+        ensures { IsFirstExpr self.now.syntax result }
     {
         support::child(&self.syntax)
     }
@@ -378,7 +385,7 @@ impl ast::OffsetOfExpr {
     /// The children that are name references, in order.
     /// Example: `f` and `g` of `builtin # offset_of(T, f.g)`.
     pub fn fields(&self) -> AstChildren<ast::NameRef>
-        ensures { result ≡ typed_children ⟦<ast::NameRef as AstNode>⟧.casts self.now.syntax }
+        ensures { result ≡ typed_children name_ref_kinds self.now.syntax }
     {
         support::children(&self.syntax)
     }
@@ -386,7 +393,7 @@ impl ast::OffsetOfExpr {
     /// The first child that is a type, if there is one.
     /// Example: `T` of `builtin # offset_of(T, f.g)`.
     pub fn ty(&self) -> Option<ast::Type>
-        ensures { IsFirstChild ⟦<ast::Type as AstNode>⟧ self.now.syntax result }
+        ensures { IsFirstType self.now.syntax result }
     {
         support::child(&self.syntax)
     }
@@ -436,7 +443,7 @@ impl ast::ParenExpr {
     /// The first child that is an expression, if there is one.
     /// Example: `a` of `(a)`.
     pub fn expr(&self) -> Option<ast::Expr>
-        ensures { IsFirstChild ⟦<ast::Expr as AstNode>⟧ self.now.syntax result }
+        ensures { IsFirstExpr self.now.syntax result }
     {
         support::child(&self.syntax)
     }
@@ -462,7 +469,7 @@ impl ast::PathExpr {
     /// The first child that is a path, if there is one.
     /// Example: `a::b` of `a::b`.
     pub fn path(&self) -> Option<ast::Path>
-        ensures { IsFirstChild ⟦<ast::Path as AstNode>⟧ self.now.syntax result }
+        ensures { IsFirstPath self.now.syntax result }
     {
         support::child(&self.syntax)
     }
@@ -472,7 +479,7 @@ impl ast::PrefixExpr {
     /// The first child that is an expression, if there is one.
     /// Example: `a` of `-a`.
     pub fn expr(&self) -> Option<ast::Expr>
-        ensures { IsFirstChild ⟦<ast::Expr as AstNode>⟧ self.now.syntax result }
+        ensures { IsFirstExpr self.now.syntax result }
     {
         support::child(&self.syntax)
     }
@@ -482,7 +489,7 @@ impl ast::RecordExpr {
     /// The first child that is a path, if there is one.
     /// Example: `S` of `S { f: a, ..b }`.
     pub fn path(&self) -> Option<ast::Path>
-        ensures { IsFirstChild ⟦<ast::Path as AstNode>⟧ self.now.syntax result }
+        ensures { IsFirstPath self.now.syntax result }
     {
         support::child(&self.syntax)
     }
@@ -492,7 +499,7 @@ impl ast::RefExpr {
     /// The first child that is an expression, if there is one.
     /// Example: `a` of `&a`.
     pub fn expr(&self) -> Option<ast::Expr>
-        ensures { IsFirstChild ⟦<ast::Expr as AstNode>⟧ self.now.syntax result }
+        ensures { IsFirstExpr self.now.syntax result }
     {
         support::child(&self.syntax)
     }
@@ -526,7 +533,7 @@ impl ast::TryExpr {
     /// The first child that is an expression, if there is one.
     /// Example: `a` of `a?`.
     pub fn expr(&self) -> Option<ast::Expr>
-        ensures { IsFirstChild ⟦<ast::Expr as AstNode>⟧ self.now.syntax result }
+        ensures { IsFirstExpr self.now.syntax result }
     {
         support::child(&self.syntax)
     }
@@ -544,7 +551,7 @@ impl ast::TupleExpr {
     /// The children that are expressions, in order.
     /// Example: `a` and `b` of `(a, b)`.
     pub fn fields(&self) -> AstChildren<ast::Expr>
-        ensures { result ≡ typed_children ⟦<ast::Expr as AstNode>⟧.casts self.now.syntax }
+        ensures { result ≡ typed_children expr_kinds self.now.syntax }
     {
         support::children(&self.syntax)
     }

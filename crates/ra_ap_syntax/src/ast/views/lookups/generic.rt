@@ -2,16 +2,23 @@
 //! Each call takes time linear in the number of children that it passes, and no memory.
 //! The names are those of rust-analyzer.
 ghost use Rattle.std.specs.Prelude.{◌≡◌};
-ghost use Rattle.ras_node.specs.Lookups.{IsFirstChild};
 ghost use Rattle.ras_node.specs.Nodes.{token_child, typed_children};
+ghost use Rattle.ra_ap_syntax.specs.ExprCases.{IsFirstExpr};
+ghost use Rattle.ra_ap_syntax.specs.GenericArgCases.{generic_arg_kinds};
+ghost use Rattle.ra_ap_syntax.specs.GenericParamCases.{generic_param_kinds};
+ghost use Rattle.ra_ap_syntax.specs.GenericViews.{IsFirstConstArg, IsFirstForBinder, IsFirstGenericParamList, IsFirstUseBoundGenericArgs, type_bound_kinds, where_pred_kinds};
+ghost use Rattle.ra_ap_syntax.specs.PartViews.{IsFirstParamList};
+ghost use Rattle.ra_ap_syntax.specs.PathViews.{IsFirstLifetime, IsFirstNameRef};
+ghost use Rattle.ra_ap_syntax.specs.TyViews.{IsFirstRetType};
+ghost use Rattle.ra_ap_syntax.specs.TypeCases.{IsFirstType};
 
-use crate::ast::{self, AstChildren, AstNode, support};
+use crate::ast::{self, AstChildren, support};
 use lossless_tree::{SyntaxKind, SyntaxToken, T};
 
 impl ast::AssocTypeArg {
     /// The first child that is a list of parameters, if there is one.
     pub fn param_list(&self) -> Option<ast::ParamList>
-        ensures { IsFirstChild ⟦<ast::ParamList as AstNode>⟧ self.now.syntax result }
+        ensures { IsFirstParamList self.now.syntax result }
     {
         support::child(&self.syntax)
     }
@@ -19,7 +26,7 @@ impl ast::AssocTypeArg {
     /// The first child that is a name reference, if there is one.
     /// Example: `C` of `C = T`.
     pub fn name_ref(&self) -> Option<ast::NameRef>
-        ensures { IsFirstChild ⟦<ast::NameRef as AstNode>⟧ self.now.syntax result }
+        ensures { IsFirstNameRef self.now.syntax result }
     {
         support::child(&self.syntax)
     }
@@ -27,7 +34,7 @@ impl ast::AssocTypeArg {
     /// The first child that is a type, if there is one.
     /// Example: `T` of `C = T`.
     pub fn ty(&self) -> Option<ast::Type>
-        ensures { IsFirstChild ⟦<ast::Type as AstNode>⟧ self.now.syntax result }
+        ensures { IsFirstType self.now.syntax result }
     {
         support::child(&self.syntax)
     }
@@ -43,7 +50,7 @@ impl ast::AssocTypeArg {
     /// The first child that is a const argument, if there is one.
     /// Example: `1` of `C = 1`.
     pub fn const_arg(&self) -> Option<ast::ConstArg>
-        ensures { IsFirstChild ⟦<ast::ConstArg as AstNode>⟧ self.now.syntax result }
+        ensures { IsFirstConstArg self.now.syntax result }
     {
         support::child(&self.syntax)
     }
@@ -51,7 +58,7 @@ impl ast::AssocTypeArg {
     /// The first child that is a return type, if there is one.
     /// Example: `-> E` of `C(D) -> E = T`.
     pub fn ret_type(&self) -> Option<ast::RetType>
-        ensures { IsFirstChild ⟦<ast::RetType as AstNode>⟧ self.now.syntax result }
+        ensures { IsFirstRetType self.now.syntax result }
     {
         support::child(&self.syntax)
     }
@@ -61,7 +68,7 @@ impl ast::ConstArg {
     /// The first child that is an expression, if there is one.
     /// Example: `1` of `1`.
     pub fn expr(&self) -> Option<ast::Expr>
-        ensures { IsFirstChild ⟦<ast::Expr as AstNode>⟧ self.now.syntax result }
+        ensures { IsFirstExpr self.now.syntax result }
     {
         support::child(&self.syntax)
     }
@@ -71,7 +78,7 @@ impl ast::ConstParam {
     /// The first child that is a const argument, if there is one.
     /// Example: `1` of `const N: T = 1`.
     pub fn default_val(&self) -> Option<ast::ConstArg>
-        ensures { IsFirstChild ⟦<ast::ConstArg as AstNode>⟧ self.now.syntax result }
+        ensures { IsFirstConstArg self.now.syntax result }
     {
         support::child(&self.syntax)
     }
@@ -79,7 +86,7 @@ impl ast::ConstParam {
     /// The first child that is a type, if there is one.
     /// Example: `T` of `const N: T = 1`.
     pub fn ty(&self) -> Option<ast::Type>
-        ensures { IsFirstChild ⟦<ast::Type as AstNode>⟧ self.now.syntax result }
+        ensures { IsFirstType self.now.syntax result }
     {
         support::child(&self.syntax)
     }
@@ -113,7 +120,7 @@ impl ast::ForBinder {
     /// The first child that is a list of generic parameters, if there is one.
     /// Example: `<'a>` of `for<'a>`.
     pub fn generic_param_list(&self) -> Option<ast::GenericParamList>
-        ensures { IsFirstChild ⟦<ast::GenericParamList as AstNode>⟧ self.now.syntax result }
+        ensures { IsFirstGenericParamList self.now.syntax result }
     {
         support::child(&self.syntax)
     }
@@ -131,7 +138,7 @@ impl ast::GenericArgList {
     /// The children that are generic arguments, in order.
     /// Example: `'a` and `T` of `::<'a, T>`.
     pub fn generic_args(&self) -> AstChildren<ast::GenericArg>
-        ensures { result ≡ typed_children ⟦<ast::GenericArg as AstNode>⟧.casts self.now.syntax }
+        ensures { result ≡ typed_children generic_arg_kinds self.now.syntax }
     {
         support::children(&self.syntax)
     }
@@ -165,7 +172,7 @@ impl ast::GenericParamList {
     /// The children that are generic parameters, in order.
     /// Example: `'a` and `T` of `<'a, T>`.
     pub fn generic_params(&self) -> AstChildren<ast::GenericParam>
-        ensures { result ≡ typed_children ⟦<ast::GenericParam as AstNode>⟧.casts self.now.syntax }
+        ensures { result ≡ typed_children generic_param_kinds self.now.syntax }
     {
         support::children(&self.syntax)
     }
@@ -191,7 +198,7 @@ impl ast::LifetimeArg {
     /// The first child that is a lifetime, if there is one.
     /// Example: `'a` of `'a`.
     pub fn lifetime(&self) -> Option<ast::Lifetime>
-        ensures { IsFirstChild ⟦<ast::Lifetime as AstNode>⟧ self.now.syntax result }
+        ensures { IsFirstLifetime self.now.syntax result }
     {
         support::child(&self.syntax)
     }
@@ -201,7 +208,7 @@ impl ast::LifetimeParam {
     /// The first child that is a lifetime, if there is one.
     /// Example: `'a` of `'a: 'b`.
     pub fn lifetime(&self) -> Option<ast::Lifetime>
-        ensures { IsFirstChild ⟦<ast::Lifetime as AstNode>⟧ self.now.syntax result }
+        ensures { IsFirstLifetime self.now.syntax result }
     {
         support::child(&self.syntax)
     }
@@ -211,7 +218,7 @@ impl ast::TypeArg {
     /// The first child that is a type, if there is one.
     /// Example: `T` of `T`.
     pub fn ty(&self) -> Option<ast::Type>
-        ensures { IsFirstChild ⟦<ast::Type as AstNode>⟧ self.now.syntax result }
+        ensures { IsFirstType self.now.syntax result }
     {
         support::child(&self.syntax)
     }
@@ -221,7 +228,7 @@ impl ast::TypeBound {
     /// The first child that is a `for` binder, if there is one.
     /// Example: `for<'a>` of `for<'a> ?T`.
     pub fn for_binder(&self) -> Option<ast::ForBinder>
-        ensures { IsFirstChild ⟦<ast::ForBinder as AstNode>⟧ self.now.syntax result }
+        ensures { IsFirstForBinder self.now.syntax result }
     {
         support::child(&self.syntax)
     }
@@ -229,7 +236,7 @@ impl ast::TypeBound {
     /// The first child that is a type, if there is one.
     /// Example: `T` of `for<'a> ?T`.
     pub fn ty(&self) -> Option<ast::Type>
-        ensures { IsFirstChild ⟦<ast::Type as AstNode>⟧ self.now.syntax result }
+        ensures { IsFirstType self.now.syntax result }
     {
         support::child(&self.syntax)
     }
@@ -285,7 +292,7 @@ impl ast::TypeBound {
     /// The first child that is a lifetime, if there is one.
     /// Example: `'a` of `'a`.
     pub fn lifetime(&self) -> Option<ast::Lifetime>
-        ensures { IsFirstChild ⟦<ast::Lifetime as AstNode>⟧ self.now.syntax result }
+        ensures { IsFirstLifetime self.now.syntax result }
     {
         support::child(&self.syntax)
     }
@@ -293,7 +300,7 @@ impl ast::TypeBound {
     /// The first child that is the generic arguments of a `use` bound, if there is one.
     /// Example: `<'a, T>` of `use<'a, T>`.
     pub fn use_bound_generic_args(&self) -> Option<ast::UseBoundGenericArgs>
-        ensures { IsFirstChild ⟦<ast::UseBoundGenericArgs as AstNode>⟧ self.now.syntax result }
+        ensures { IsFirstUseBoundGenericArgs self.now.syntax result }
     {
         support::child(&self.syntax)
     }
@@ -311,7 +318,7 @@ impl ast::TypeBoundList {
     /// The children that are type bounds, in order.
     /// Example: `T` and `U` of `T + U`.
     pub fn bounds(&self) -> AstChildren<ast::TypeBound>
-        ensures { result ≡ typed_children ⟦<ast::TypeBound as AstNode>⟧.casts self.now.syntax }
+        ensures { result ≡ typed_children type_bound_kinds self.now.syntax }
     {
         support::children(&self.syntax)
     }
@@ -321,7 +328,7 @@ impl ast::TypeParam {
     /// The first child that is a type, if there is one.
     /// Example: `U` of `T = U`.
     pub fn default_type(&self) -> Option<ast::Type>
-        ensures { IsFirstChild ⟦<ast::Type as AstNode>⟧ self.now.syntax result }
+        ensures { IsFirstType self.now.syntax result }
     {
         support::child(&self.syntax)
     }
@@ -357,7 +364,7 @@ impl ast::WhereClause {
     /// The children that are `where` predicates, in order.
     /// Example: `T: U` and `V: W` of `where T: U, V: W`.
     pub fn predicates(&self) -> AstChildren<ast::WherePred>
-        ensures { result ≡ typed_children ⟦<ast::WherePred as AstNode>⟧.casts self.now.syntax }
+        ensures { result ≡ typed_children where_pred_kinds self.now.syntax }
     {
         support::children(&self.syntax)
     }
@@ -375,7 +382,7 @@ impl ast::WherePred {
     /// The first child that is a `for` binder, if there is one.
     /// Example: `for<'a>` of `for<'a> T: U`.
     pub fn for_binder(&self) -> Option<ast::ForBinder>
-        ensures { IsFirstChild ⟦<ast::ForBinder as AstNode>⟧ self.now.syntax result }
+        ensures { IsFirstForBinder self.now.syntax result }
     {
         support::child(&self.syntax)
     }
@@ -383,7 +390,7 @@ impl ast::WherePred {
     /// The first child that is a type, if there is one.
     /// Example: `T` of `for<'a> T: U`.
     pub fn ty(&self) -> Option<ast::Type>
-        ensures { IsFirstChild ⟦<ast::Type as AstNode>⟧ self.now.syntax result }
+        ensures { IsFirstType self.now.syntax result }
     {
         support::child(&self.syntax)
     }
@@ -391,7 +398,7 @@ impl ast::WherePred {
     /// The first child that is a lifetime, if there is one.
     /// Example: `'a` of `'a: 'b`.
     pub fn lifetime(&self) -> Option<ast::Lifetime>
-        ensures { IsFirstChild ⟦<ast::Lifetime as AstNode>⟧ self.now.syntax result }
+        ensures { IsFirstLifetime self.now.syntax result }
     {
         support::child(&self.syntax)
     }

@@ -2,17 +2,23 @@
 //! Each call takes time linear in the number of children that it passes, and no memory.
 //! The names are those of rust-analyzer.
 ghost use Rattle.std.specs.Prelude.{◌≡◌};
-ghost use Rattle.ras_node.specs.Lookups.{IsFirstChild};
 ghost use Rattle.ras_node.specs.Nodes.{token_child};
+ghost use Rattle.ra_ap_syntax.specs.AttrViews.{IsFirstTokenTree};
+ghost use Rattle.ra_ap_syntax.specs.ControlViews.{IsFirstBlockExpr};
+ghost use Rattle.ra_ap_syntax.specs.ExprCases.{IsFirstExpr};
+ghost use Rattle.ra_ap_syntax.specs.PartViews.{IsFirstAbi, IsFirstAssocItemList, IsFirstExternItemList, IsFirstItemList, IsFirstParamList, IsFirstRecordFieldList, IsFirstUseTree};
+ghost use Rattle.ra_ap_syntax.specs.PathViews.{IsFirstNameRef, IsFirstPath};
+ghost use Rattle.ra_ap_syntax.specs.TyViews.{IsFirstRetType};
+ghost use Rattle.ra_ap_syntax.specs.TypeCases.{IsFirstType};
 
-use crate::ast::{self, AstNode, support};
+use crate::ast::{self, support};
 use lossless_tree::{SyntaxKind, SyntaxToken, T};
 
 impl ast::Const {
     /// The first child that is an expression, if there is one.
     /// Example: `a` of `const A: T = a;`.
     pub fn body(&self) -> Option<ast::Expr>
-        ensures { IsFirstChild ⟦<ast::Expr as AstNode>⟧ self.now.syntax result }
+        ensures { IsFirstExpr self.now.syntax result }
     {
         support::child(&self.syntax)
     }
@@ -20,7 +26,7 @@ impl ast::Const {
     /// The first child that is a type, if there is one.
     /// Example: `T` of `const A: T = a;`.
     pub fn ty(&self) -> Option<ast::Type>
-        ensures { IsFirstChild ⟦<ast::Type as AstNode>⟧ self.now.syntax result }
+        ensures { IsFirstType self.now.syntax result }
     {
         support::child(&self.syntax)
     }
@@ -85,10 +91,10 @@ impl ast::Enum {
 }
 
 impl ast::ExternBlock {
-    /// The first child that is a ABI, if there is one.
+    /// The first child that is an ABI, if there is one.
     /// Example: `extern "C"` of `unsafe extern "C" { fn f(); }`.
     pub fn abi(&self) -> Option<ast::Abi>
-        ensures { IsFirstChild ⟦<ast::Abi as AstNode>⟧ self.now.syntax result }
+        ensures { IsFirstAbi self.now.syntax result }
     {
         support::child(&self.syntax)
     }
@@ -96,7 +102,7 @@ impl ast::ExternBlock {
     /// The first child that is a list of extern items, if there is one.
     /// Example: `{ fn f(); }` of `unsafe extern "C" { fn f(); }`.
     pub fn extern_item_list(&self) -> Option<ast::ExternItemList>
-        ensures { IsFirstChild ⟦<ast::ExternItemList as AstNode>⟧ self.now.syntax result }
+        ensures { IsFirstExternItemList self.now.syntax result }
     {
         support::child(&self.syntax)
     }
@@ -114,7 +120,7 @@ impl ast::ExternCrate {
     /// The first child that is a name reference, if there is one.
     /// Example: `a` of `extern crate a as b;`.
     pub fn name_ref(&self) -> Option<ast::NameRef>
-        ensures { IsFirstChild ⟦<ast::NameRef as AstNode>⟧ self.now.syntax result }
+        ensures { IsFirstNameRef self.now.syntax result }
     {
         support::child(&self.syntax)
     }
@@ -148,7 +154,7 @@ impl ast::Fn {
     /// The first child that is a block expression, if there is one.
     /// Example: `{ b }` of `fn f(a: T) -> U { b }`.
     pub fn body(&self) -> Option<ast::BlockExpr>
-        ensures { IsFirstChild ⟦<ast::BlockExpr as AstNode>⟧ self.now.syntax result }
+        ensures { IsFirstBlockExpr self.now.syntax result }
     {
         support::child(&self.syntax)
     }
@@ -156,7 +162,7 @@ impl ast::Fn {
     /// The first child that is a list of parameters, if there is one.
     /// Example: `(a: T)` of `fn f(a: T) -> U { b }`.
     pub fn param_list(&self) -> Option<ast::ParamList>
-        ensures { IsFirstChild ⟦<ast::ParamList as AstNode>⟧ self.now.syntax result }
+        ensures { IsFirstParamList self.now.syntax result }
     {
         support::child(&self.syntax)
     }
@@ -164,7 +170,7 @@ impl ast::Fn {
     /// The first child that is a return type, if there is one.
     /// Example: `-> U` of `fn f(a: T) -> U { b }`.
     pub fn ret_type(&self) -> Option<ast::RetType>
-        ensures { IsFirstChild ⟦<ast::RetType as AstNode>⟧ self.now.syntax result }
+        ensures { IsFirstRetType self.now.syntax result }
     {
         support::child(&self.syntax)
     }
@@ -201,10 +207,10 @@ impl ast::Fn {
         support::token(&self.syntax, T![gen])
     }
 
-    /// The first child that is a ABI, if there is one.
+    /// The first child that is an ABI, if there is one.
     /// Example: `extern "C"` of `unsafe extern "C" fn f() {}`.
     pub fn abi(&self) -> Option<ast::Abi>
-        ensures { IsFirstChild ⟦<ast::Abi as AstNode>⟧ self.now.syntax result }
+        ensures { IsFirstAbi self.now.syntax result }
     {
         support::child(&self.syntax)
     }
@@ -238,7 +244,7 @@ impl ast::Impl {
     /// The first child that is a list of associated items, if there is one.
     /// Example: `{ fn f() {} }` of `impl T for U { fn f() {} }`.
     pub fn assoc_item_list(&self) -> Option<ast::AssocItemList>
-        ensures { IsFirstChild ⟦<ast::AssocItemList as AstNode>⟧ self.now.syntax result }
+        ensures { IsFirstAssocItemList self.now.syntax result }
     {
         support::child(&self.syntax)
     }
@@ -296,7 +302,7 @@ impl ast::MacroCall {
     /// The first child that is a path, if there is one.
     /// Example: `m` of `m!(a);`.
     pub fn path(&self) -> Option<ast::Path>
-        ensures { IsFirstChild ⟦<ast::Path as AstNode>⟧ self.now.syntax result }
+        ensures { IsFirstPath self.now.syntax result }
     {
         support::child(&self.syntax)
     }
@@ -304,7 +310,7 @@ impl ast::MacroCall {
     /// The first child that is a token tree, if there is one.
     /// Example: `(a)` of `m!(a);`.
     pub fn token_tree(&self) -> Option<ast::TokenTree>
-        ensures { IsFirstChild ⟦<ast::TokenTree as AstNode>⟧ self.now.syntax result }
+        ensures { IsFirstTokenTree self.now.syntax result }
     {
         support::child(&self.syntax)
     }
@@ -340,7 +346,7 @@ impl ast::MacroRules {
     /// The first child that is a token tree, if there is one.
     /// Example: `{ () => {} }` of `macro_rules! m { () => {} }`.
     pub fn token_tree(&self) -> Option<ast::TokenTree>
-        ensures { IsFirstChild ⟦<ast::TokenTree as AstNode>⟧ self.now.syntax result }
+        ensures { IsFirstTokenTree self.now.syntax result }
     {
         support::child(&self.syntax)
     }
@@ -366,7 +372,7 @@ impl ast::Module {
     /// The first child that is a list of items, if there is one.
     /// Example: `{ fn f() {} }` of `mod m { fn f() {} }`.
     pub fn item_list(&self) -> Option<ast::ItemList>
-        ensures { IsFirstChild ⟦<ast::ItemList as AstNode>⟧ self.now.syntax result }
+        ensures { IsFirstItemList self.now.syntax result }
     {
         support::child(&self.syntax)
     }
@@ -392,7 +398,7 @@ impl ast::Static {
     /// The first child that is an expression, if there is one.
     /// Example: `a` of `static A: T = a;`.
     pub fn body(&self) -> Option<ast::Expr>
-        ensures { IsFirstChild ⟦<ast::Expr as AstNode>⟧ self.now.syntax result }
+        ensures { IsFirstExpr self.now.syntax result }
     {
         support::child(&self.syntax)
     }
@@ -400,7 +406,7 @@ impl ast::Static {
     /// The first child that is a type, if there is one.
     /// Example: `T` of `static A: T = a;`.
     pub fn ty(&self) -> Option<ast::Type>
-        ensures { IsFirstChild ⟦<ast::Type as AstNode>⟧ self.now.syntax result }
+        ensures { IsFirstType self.now.syntax result }
     {
         support::child(&self.syntax)
     }
@@ -476,7 +482,7 @@ impl ast::Trait {
     /// The first child that is a list of associated items, if there is one.
     /// Example: `{ fn f(); }` of `trait T { fn f(); }`.
     pub fn assoc_item_list(&self) -> Option<ast::AssocItemList>
-        ensures { IsFirstChild ⟦<ast::AssocItemList as AstNode>⟧ self.now.syntax result }
+        ensures { IsFirstAssocItemList self.now.syntax result }
     {
         support::child(&self.syntax)
     }
@@ -526,7 +532,7 @@ impl ast::TypeAlias {
     /// The first child that is a type, if there is one.
     /// Example: `T` of `type A = T;`.
     pub fn ty(&self) -> Option<ast::Type>
-        ensures { IsFirstChild ⟦<ast::Type as AstNode>⟧ self.now.syntax result }
+        ensures { IsFirstType self.now.syntax result }
     {
         support::child(&self.syntax)
     }
@@ -568,7 +574,7 @@ impl ast::Union {
     /// The first child that is a list of record fields, if there is one.
     /// Example: `{ f: T }` of `union U { f: T }`.
     pub fn record_field_list(&self) -> Option<ast::RecordFieldList>
-        ensures { IsFirstChild ⟦<ast::RecordFieldList as AstNode>⟧ self.now.syntax result }
+        ensures { IsFirstRecordFieldList self.now.syntax result }
     {
         support::child(&self.syntax)
     }
@@ -586,7 +592,7 @@ impl ast::Use {
     /// The first child that is a use tree, if there is one.
     /// Example: `a::b` of `use a::b;`.
     pub fn use_tree(&self) -> Option<ast::UseTree>
-        ensures { IsFirstChild ⟦<ast::UseTree as AstNode>⟧ self.now.syntax result }
+        ensures { IsFirstUseTree self.now.syntax result }
     {
         support::child(&self.syntax)
     }

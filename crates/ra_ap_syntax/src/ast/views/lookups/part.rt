@@ -2,10 +2,18 @@
 //! Each call takes time linear in the number of children that it passes, and no memory.
 //! The names are those of rust-analyzer.
 ghost use Rattle.std.specs.Prelude.{◌≡◌};
-ghost use Rattle.ras_node.specs.Lookups.{IsFirstChild};
 ghost use Rattle.ras_node.specs.Nodes.{token_child, typed_children};
+ghost use Rattle.ra_ap_syntax.specs.AssocItemCases.{assoc_item_kinds};
+ghost use Rattle.ra_ap_syntax.specs.ExprCases.{IsFirstExpr};
+ghost use Rattle.ra_ap_syntax.specs.ExternItemCases.{extern_item_kinds};
+ghost use Rattle.ra_ap_syntax.specs.GenericViews.{IsFirstConstArg};
+ghost use Rattle.ra_ap_syntax.specs.PartViews.{IsFirstSelfParam, IsFirstUseTreeList, IsFirstVisibilityInner, param_kinds, record_field_kinds, tuple_field_kinds, use_tree_kinds};
+ghost use Rattle.ra_ap_syntax.specs.PatCases.{IsFirstPat};
+ghost use Rattle.ra_ap_syntax.specs.PathViews.{IsFirstLifetime, IsFirstPath};
+ghost use Rattle.ra_ap_syntax.specs.StmtCases.{stmt_kinds};
+ghost use Rattle.ra_ap_syntax.specs.TypeCases.{IsFirstType};
 
-use crate::ast::{self, AstChildren, AstNode, support};
+use crate::ast::{self, AstChildren, support};
 use lossless_tree::{SyntaxKind, SyntaxToken, T};
 
 impl ast::Abi {
@@ -30,7 +38,7 @@ impl ast::AssocItemList {
     /// The children that are associated items, in order.
     /// Example: `fn f() {}` of `{ fn f() {} }`.
     pub fn assoc_items(&self) -> AstChildren<ast::AssocItem>
-        ensures { result ≡ typed_children ⟦<ast::AssocItem as AstNode>⟧.casts self.now.syntax }
+        ensures { result ≡ typed_children assoc_item_kinds self.now.syntax }
     {
         support::children(&self.syntax)
     }
@@ -56,7 +64,7 @@ impl ast::ExternItemList {
     /// The children that are extern items, in order.
     /// Example: `fn f();` of `{ fn f(); }`.
     pub fn extern_items(&self) -> AstChildren<ast::ExternItem>
-        ensures { result ≡ typed_children ⟦<ast::ExternItem as AstNode>⟧.casts self.now.syntax }
+        ensures { result ≡ typed_children extern_item_kinds self.now.syntax }
     {
         support::children(&self.syntax)
     }
@@ -99,14 +107,14 @@ impl ast::ItemList {
 impl ast::MacroStmts {
     /// The first child that is an expression, if there is one.
     pub fn expr(&self) -> Option<ast::Expr>
-        ensures { IsFirstChild ⟦<ast::Expr as AstNode>⟧ self.now.syntax result }
+        ensures { IsFirstExpr self.now.syntax result }
     {
         support::child(&self.syntax)
     }
 
     /// The children that are statements, in order.
     pub fn statements(&self) -> AstChildren<ast::Stmt>
-        ensures { result ≡ typed_children ⟦<ast::Stmt as AstNode>⟧.casts self.now.syntax }
+        ensures { result ≡ typed_children stmt_kinds self.now.syntax }
     {
         support::children(&self.syntax)
     }
@@ -116,7 +124,7 @@ impl ast::Param {
     /// The first child that is a pattern, if there is one.
     /// Example: `a` of `a: T`.
     pub fn pat(&self) -> Option<ast::Pat>
-        ensures { IsFirstChild ⟦<ast::Pat as AstNode>⟧ self.now.syntax result }
+        ensures { IsFirstPat self.now.syntax result }
     {
         support::child(&self.syntax)
     }
@@ -124,7 +132,7 @@ impl ast::Param {
     /// The first child that is a type, if there is one.
     /// Example: `T` of `a: T`.
     pub fn ty(&self) -> Option<ast::Type>
-        ensures { IsFirstChild ⟦<ast::Type as AstNode>⟧ self.now.syntax result }
+        ensures { IsFirstType self.now.syntax result }
     {
         support::child(&self.syntax)
     }
@@ -150,7 +158,7 @@ impl ast::ParamList {
     /// The children that are parameters, in order.
     /// Example: `a: T` and `b: U` of `(self, a: T, b: U)`.
     pub fn params(&self) -> AstChildren<ast::Param>
-        ensures { result ≡ typed_children ⟦<ast::Param as AstNode>⟧.casts self.now.syntax }
+        ensures { result ≡ typed_children param_kinds self.now.syntax }
     {
         support::children(&self.syntax)
     }
@@ -158,7 +166,7 @@ impl ast::ParamList {
     /// The first child that is a self parameter, if there is one.
     /// Example: `self` of `(self, a: T, b: U)`.
     pub fn self_param(&self) -> Option<ast::SelfParam>
-        ensures { IsFirstChild ⟦<ast::SelfParam as AstNode>⟧ self.now.syntax result }
+        ensures { IsFirstSelfParam self.now.syntax result }
     {
         support::child(&self.syntax)
     }
@@ -200,7 +208,7 @@ impl ast::RecordField {
     /// The first child that is a const argument, if there is one.
     /// Example: `1` of `f: T = 1`.
     pub fn default_val(&self) -> Option<ast::ConstArg>
-        ensures { IsFirstChild ⟦<ast::ConstArg as AstNode>⟧ self.now.syntax result }
+        ensures { IsFirstConstArg self.now.syntax result }
     {
         support::child(&self.syntax)
     }
@@ -208,7 +216,7 @@ impl ast::RecordField {
     /// The first child that is a type, if there is one.
     /// Example: `T` of `f: T = 1`.
     pub fn ty(&self) -> Option<ast::Type>
-        ensures { IsFirstChild ⟦<ast::Type as AstNode>⟧ self.now.syntax result }
+        ensures { IsFirstType self.now.syntax result }
     {
         support::child(&self.syntax)
     }
@@ -242,7 +250,7 @@ impl ast::RecordFieldList {
     /// The children that are record fields, in order.
     /// Example: `f: T` and `g: U` of `{ f: T, g: U }`.
     pub fn fields(&self) -> AstChildren<ast::RecordField>
-        ensures { result ≡ typed_children ⟦<ast::RecordField as AstNode>⟧.casts self.now.syntax }
+        ensures { result ≡ typed_children record_field_kinds self.now.syntax }
     {
         support::children(&self.syntax)
     }
@@ -268,7 +276,7 @@ impl ast::SelfParam {
     /// The first child that is a lifetime, if there is one.
     /// Example: `'a` of `&'a mut self`.
     pub fn lifetime(&self) -> Option<ast::Lifetime>
-        ensures { IsFirstChild ⟦<ast::Lifetime as AstNode>⟧ self.now.syntax result }
+        ensures { IsFirstLifetime self.now.syntax result }
     {
         support::child(&self.syntax)
     }
@@ -292,7 +300,7 @@ impl ast::SelfParam {
     /// The first child that is a type, if there is one.
     /// Example: `T` of `self: T`.
     pub fn ty(&self) -> Option<ast::Type>
-        ensures { IsFirstChild ⟦<ast::Type as AstNode>⟧ self.now.syntax result }
+        ensures { IsFirstType self.now.syntax result }
     {
         support::child(&self.syntax)
     }
@@ -310,7 +318,7 @@ impl ast::TupleField {
     /// The first child that is a type, if there is one.
     /// Example: `T` of `T`.
     pub fn ty(&self) -> Option<ast::Type>
-        ensures { IsFirstChild ⟦<ast::Type as AstNode>⟧ self.now.syntax result }
+        ensures { IsFirstType self.now.syntax result }
     {
         support::child(&self.syntax)
     }
@@ -320,7 +328,7 @@ impl ast::TupleFieldList {
     /// The children that are tuple fields, in order.
     /// Example: `T` and `U` of `(T, U)`.
     pub fn fields(&self) -> AstChildren<ast::TupleField>
-        ensures { result ≡ typed_children ⟦<ast::TupleField as AstNode>⟧.casts self.now.syntax }
+        ensures { result ≡ typed_children tuple_field_kinds self.now.syntax }
     {
         support::children(&self.syntax)
     }
@@ -346,7 +354,7 @@ impl ast::UseTree {
     /// The first child that is a path, if there is one.
     /// Example: `a` of `a::{b, c}`.
     pub fn path(&self) -> Option<ast::Path>
-        ensures { IsFirstChild ⟦<ast::Path as AstNode>⟧ self.now.syntax result }
+        ensures { IsFirstPath self.now.syntax result }
     {
         support::child(&self.syntax)
     }
@@ -354,7 +362,7 @@ impl ast::UseTree {
     /// The first child that is a list of use trees, if there is one.
     /// Example: `{b, c}` of `a::{b, c}`.
     pub fn use_tree_list(&self) -> Option<ast::UseTreeList>
-        ensures { IsFirstChild ⟦<ast::UseTreeList as AstNode>⟧ self.now.syntax result }
+        ensures { IsFirstUseTreeList self.now.syntax result }
     {
         support::child(&self.syntax)
     }
@@ -380,7 +388,7 @@ impl ast::UseTreeList {
     /// The children that are use trees, in order.
     /// Example: `b` and `c` of `{b, c}`.
     pub fn use_trees(&self) -> AstChildren<ast::UseTree>
-        ensures { result ≡ typed_children ⟦<ast::UseTree as AstNode>⟧.casts self.now.syntax }
+        ensures { result ≡ typed_children use_tree_kinds self.now.syntax }
     {
         support::children(&self.syntax)
     }
@@ -406,7 +414,7 @@ impl ast::Variant {
     /// The first child that is a const argument, if there is one.
     /// Example: `1` of `A = 1`.
     pub fn const_arg(&self) -> Option<ast::ConstArg>
-        ensures { IsFirstChild ⟦<ast::ConstArg as AstNode>⟧ self.now.syntax result }
+        ensures { IsFirstConstArg self.now.syntax result }
     {
         support::child(&self.syntax)
     }
@@ -424,7 +432,7 @@ impl ast::Visibility {
     /// The first child that is the inside of a visibility, if there is one.
     /// Example: `(in a)` of `pub(in a)`.
     pub fn visibility_inner(&self) -> Option<ast::VisibilityInner>
-        ensures { IsFirstChild ⟦<ast::VisibilityInner as AstNode>⟧ self.now.syntax result }
+        ensures { IsFirstVisibilityInner self.now.syntax result }
     {
         support::child(&self.syntax)
     }
@@ -442,7 +450,7 @@ impl ast::VisibilityInner {
     /// The first child that is a path, if there is one.
     /// Example: `a` of `(in a)`.
     pub fn path(&self) -> Option<ast::Path>
-        ensures { IsFirstChild ⟦<ast::Path as AstNode>⟧ self.now.syntax result }
+        ensures { IsFirstPath self.now.syntax result }
     {
         support::child(&self.syntax)
     }

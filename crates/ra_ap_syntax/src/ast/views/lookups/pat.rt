@@ -2,17 +2,21 @@
 //! Each call takes time linear in the number of children that it passes, and no memory.
 //! The names are those of rust-analyzer.
 ghost use Rattle.std.specs.Prelude.{◌≡◌};
-ghost use Rattle.ras_node.specs.Lookups.{IsFirstChild};
 ghost use Rattle.ras_node.specs.Nodes.{token_child, typed_children};
+ghost use Rattle.ra_ap_syntax.specs.ControlViews.{IsFirstBlockExpr};
+ghost use Rattle.ra_ap_syntax.specs.ExprViews.{IsFirstLiteral};
+ghost use Rattle.ra_ap_syntax.specs.ItemViews.{IsFirstMacroCall};
+ghost use Rattle.ra_ap_syntax.specs.PatCases.{IsFirstPat, pat_kinds};
+ghost use Rattle.ra_ap_syntax.specs.PathViews.{IsFirstNameRef, IsFirstPath};
 
-use crate::ast::{self, AstChildren, AstNode, support};
+use crate::ast::{self, AstChildren, support};
 use lossless_tree::{SyntaxKind, SyntaxToken, T};
 
 impl ast::BoxPat {
     /// The first child that is a pattern, if there is one.
     /// Example: `p` of `box p`.
     pub fn pat(&self) -> Option<ast::Pat>
-        ensures { IsFirstChild ⟦<ast::Pat as AstNode>⟧ self.now.syntax result }
+        ensures { IsFirstPat self.now.syntax result }
     {
         support::child(&self.syntax)
     }
@@ -22,7 +26,7 @@ impl ast::ConstBlockPat {
     /// The first child that is a block expression, if there is one.
     /// Example: `{ b }` of `const { b }`.
     pub fn block_expr(&self) -> Option<ast::BlockExpr>
-        ensures { IsFirstChild ⟦<ast::BlockExpr as AstNode>⟧ self.now.syntax result }
+        ensures { IsFirstBlockExpr self.now.syntax result }
     {
         support::child(&self.syntax)
     }
@@ -40,7 +44,7 @@ impl ast::IdentPat {
     /// The first child that is a pattern, if there is one.
     /// Example: `p` of `ref mut x @ p`.
     pub fn pat(&self) -> Option<ast::Pat>
-        ensures { IsFirstChild ⟦<ast::Pat as AstNode>⟧ self.now.syntax result }
+        ensures { IsFirstPat self.now.syntax result }
     {
         support::child(&self.syntax)
     }
@@ -74,7 +78,7 @@ impl ast::LiteralPat {
     /// The first child that is a literal, if there is one.
     /// Example: `1` of `-1`.
     pub fn literal(&self) -> Option<ast::Literal>
-        ensures { IsFirstChild ⟦<ast::Literal as AstNode>⟧ self.now.syntax result }
+        ensures { IsFirstLiteral self.now.syntax result }
     {
         support::child(&self.syntax)
     }
@@ -92,7 +96,7 @@ impl ast::MacroPat {
     /// The first child that is a macro call, if there is one.
     /// Example: `m!(a)` of `m!(a)`.
     pub fn macro_call(&self) -> Option<ast::MacroCall>
-        ensures { IsFirstChild ⟦<ast::MacroCall as AstNode>⟧ self.now.syntax result }
+        ensures { IsFirstMacroCall self.now.syntax result }
     {
         support::child(&self.syntax)
     }
@@ -102,7 +106,7 @@ impl ast::OrPat {
     /// The children that are patterns, in order.
     /// Example: `p` and `q` of `p | q`.
     pub fn pats(&self) -> AstChildren<ast::Pat>
-        ensures { result ≡ typed_children ⟦<ast::Pat as AstNode>⟧.casts self.now.syntax }
+        ensures { result ≡ typed_children pat_kinds self.now.syntax }
     {
         support::children(&self.syntax)
     }
@@ -120,7 +124,7 @@ impl ast::ParenPat {
     /// The first child that is a pattern, if there is one.
     /// Example: `p` of `(p)`.
     pub fn pat(&self) -> Option<ast::Pat>
-        ensures { IsFirstChild ⟦<ast::Pat as AstNode>⟧ self.now.syntax result }
+        ensures { IsFirstPat self.now.syntax result }
     {
         support::child(&self.syntax)
     }
@@ -146,7 +150,7 @@ impl ast::PathPat {
     /// The first child that is a path, if there is one.
     /// Example: `a::b` of `a::b`.
     pub fn path(&self) -> Option<ast::Path>
-        ensures { IsFirstChild ⟦<ast::Path as AstNode>⟧ self.now.syntax result }
+        ensures { IsFirstPath self.now.syntax result }
     {
         support::child(&self.syntax)
     }
@@ -156,7 +160,7 @@ impl ast::RecordPat {
     /// The first child that is a path, if there is one.
     /// Example: `S` of `S { f: p, .. }`.
     pub fn path(&self) -> Option<ast::Path>
-        ensures { IsFirstChild ⟦<ast::Path as AstNode>⟧ self.now.syntax result }
+        ensures { IsFirstPath self.now.syntax result }
     {
         support::child(&self.syntax)
     }
@@ -166,7 +170,7 @@ impl ast::RecordPatField {
     /// The first child that is a name reference, if there is one.
     /// Example: `f` of `f: p`.
     pub fn name_ref(&self) -> Option<ast::NameRef>
-        ensures { IsFirstChild ⟦<ast::NameRef as AstNode>⟧ self.now.syntax result }
+        ensures { IsFirstNameRef self.now.syntax result }
     {
         support::child(&self.syntax)
     }
@@ -174,7 +178,7 @@ impl ast::RecordPatField {
     /// The first child that is a pattern, if there is one.
     /// Example: `p` of `f: p`.
     pub fn pat(&self) -> Option<ast::Pat>
-        ensures { IsFirstChild ⟦<ast::Pat as AstNode>⟧ self.now.syntax result }
+        ensures { IsFirstPat self.now.syntax result }
     {
         support::child(&self.syntax)
     }
@@ -192,7 +196,7 @@ impl ast::RefPat {
     /// The first child that is a pattern, if there is one.
     /// Example: `p` of `&mut p`.
     pub fn pat(&self) -> Option<ast::Pat>
-        ensures { IsFirstChild ⟦<ast::Pat as AstNode>⟧ self.now.syntax result }
+        ensures { IsFirstPat self.now.syntax result }
     {
         support::child(&self.syntax)
     }
@@ -228,7 +232,7 @@ impl ast::SlicePat {
     /// The children that are patterns, in order.
     /// Example: `p` and `q` of `[p, q]`.
     pub fn pats(&self) -> AstChildren<ast::Pat>
-        ensures { result ≡ typed_children ⟦<ast::Pat as AstNode>⟧.casts self.now.syntax }
+        ensures { result ≡ typed_children pat_kinds self.now.syntax }
     {
         support::children(&self.syntax)
     }
@@ -254,7 +258,7 @@ impl ast::TuplePat {
     /// The children that are patterns, in order.
     /// Example: `p` and `q` of `(p, q)`.
     pub fn fields(&self) -> AstChildren<ast::Pat>
-        ensures { result ≡ typed_children ⟦<ast::Pat as AstNode>⟧.casts self.now.syntax }
+        ensures { result ≡ typed_children pat_kinds self.now.syntax }
     {
         support::children(&self.syntax)
     }
@@ -280,7 +284,7 @@ impl ast::TupleStructPat {
     /// The children that are patterns, in order.
     /// Example: `p` and `q` of `S(p, q)`.
     pub fn fields(&self) -> AstChildren<ast::Pat>
-        ensures { result ≡ typed_children ⟦<ast::Pat as AstNode>⟧.casts self.now.syntax }
+        ensures { result ≡ typed_children pat_kinds self.now.syntax }
     {
         support::children(&self.syntax)
     }
@@ -288,7 +292,7 @@ impl ast::TupleStructPat {
     /// The first child that is a path, if there is one.
     /// Example: `S` of `S(p, q)`.
     pub fn path(&self) -> Option<ast::Path>
-        ensures { IsFirstChild ⟦<ast::Path as AstNode>⟧ self.now.syntax result }
+        ensures { IsFirstPath self.now.syntax result }
     {
         support::child(&self.syntax)
     }

@@ -2,10 +2,12 @@
 //! Each call takes time linear in the number of children that it passes, and no memory.
 //! The names are those of rust-analyzer.
 ghost use Rattle.std.specs.Prelude.{◌≡◌};
-ghost use Rattle.ras_node.specs.Lookups.{IsFirstChild};
 ghost use Rattle.ras_node.specs.Nodes.{token_child};
+ghost use Rattle.ra_ap_syntax.specs.PathViews.{IsFirstNameRef, IsFirstPath, IsFirstPathSegment, IsFirstTypeAnchor};
+ghost use Rattle.ra_ap_syntax.specs.TyViews.{IsFirstPathType, IsFirstRetType};
+ghost use Rattle.ra_ap_syntax.specs.TypeCases.{IsFirstType};
 
-use crate::ast::{self, AstNode, support};
+use crate::ast::{self, support};
 use lossless_tree::{SyntaxKind, SyntaxToken, T};
 
 impl ast::Lifetime {
@@ -90,7 +92,7 @@ impl ast::Path {
     /// The first child that is a path, if there is one.
     /// Example: `a` of `a::b`.
     pub fn qualifier(&self) -> Option<ast::Path>
-        ensures { IsFirstChild ⟦<ast::Path as AstNode>⟧ self.now.syntax result }
+        ensures { IsFirstPath self.now.syntax result }
     {
         support::child(&self.syntax)
     }
@@ -98,7 +100,7 @@ impl ast::Path {
     /// The first child that is a path segment, if there is one.
     /// Example: `b` of `a::b`.
     pub fn segment(&self) -> Option<ast::PathSegment>
-        ensures { IsFirstChild ⟦<ast::PathSegment as AstNode>⟧ self.now.syntax result }
+        ensures { IsFirstPathSegment self.now.syntax result }
     {
         support::child(&self.syntax)
     }
@@ -116,7 +118,7 @@ impl ast::PathSegment {
     /// The first child that is a name reference, if there is one.
     /// Example: `a` of `::a`.
     pub fn name_ref(&self) -> Option<ast::NameRef>
-        ensures { IsFirstChild ⟦<ast::NameRef as AstNode>⟧ self.now.syntax result }
+        ensures { IsFirstNameRef self.now.syntax result }
     {
         support::child(&self.syntax)
     }
@@ -132,7 +134,7 @@ impl ast::PathSegment {
     /// The first child that is a return type, if there is one.
     /// Example: `-> U` of `Fn(T) -> U`.
     pub fn ret_type(&self) -> Option<ast::RetType>
-        ensures { IsFirstChild ⟦<ast::RetType as AstNode>⟧ self.now.syntax result }
+        ensures { IsFirstRetType self.now.syntax result }
     {
         support::child(&self.syntax)
     }
@@ -140,7 +142,7 @@ impl ast::PathSegment {
     /// The first child that is a type anchor, if there is one.
     /// Example: `<T as U>` of `<T as U>`.
     pub fn type_anchor(&self) -> Option<ast::TypeAnchor>
-        ensures { IsFirstChild ⟦<ast::TypeAnchor as AstNode>⟧ self.now.syntax result }
+        ensures { IsFirstTypeAnchor self.now.syntax result }
     {
         support::child(&self.syntax)
     }
@@ -150,7 +152,7 @@ impl ast::TypeAnchor {
     /// The first child that is a path type, if there is one.
     /// Example: `T` of `<T as U>`.
     pub fn path_type(&self) -> Option<ast::PathType>
-        ensures { IsFirstChild ⟦<ast::PathType as AstNode>⟧ self.now.syntax result }
+        ensures { IsFirstPathType self.now.syntax result }
     {
         support::child(&self.syntax)
     }
@@ -158,7 +160,7 @@ impl ast::TypeAnchor {
     /// The first child that is a type, if there is one.
     /// Example: `T` of `<T as U>`.
     pub fn ty(&self) -> Option<ast::Type>
-        ensures { IsFirstChild ⟦<ast::Type as AstNode>⟧ self.now.syntax result }
+        ensures { IsFirstType self.now.syntax result }
     {
         support::child(&self.syntax)
     }

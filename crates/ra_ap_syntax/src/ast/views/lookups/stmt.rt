@@ -2,17 +2,23 @@
 //! Each call takes time linear in the number of children that it passes, and no memory.
 //! The names are those of rust-analyzer.
 ghost use Rattle.std.specs.Prelude.{◌≡◌};
-ghost use Rattle.ras_node.specs.Lookups.{IsFirstChild};
 ghost use Rattle.ras_node.specs.Nodes.{token_child, typed_children};
+ghost use Rattle.ra_ap_syntax.specs.ControlViews.{IsFirstBlockExpr};
+ghost use Rattle.ra_ap_syntax.specs.ExprCases.{IsFirstExpr, expr_kinds};
+ghost use Rattle.ra_ap_syntax.specs.PatCases.{IsFirstPat};
+ghost use Rattle.ra_ap_syntax.specs.PathViews.{IsFirstLifetime, IsFirstNameRef};
+ghost use Rattle.ra_ap_syntax.specs.StmtCases.{stmt_kinds};
+ghost use Rattle.ra_ap_syntax.specs.StmtViews.{IsFirstLetElse, IsFirstMatchGuard, match_arm_kinds};
+ghost use Rattle.ra_ap_syntax.specs.TypeCases.{IsFirstType};
 
-use crate::ast::{self, AstChildren, AstNode, support};
+use crate::ast::{self, AstChildren, support};
 use lossless_tree::{SyntaxKind, SyntaxToken, T};
 
 impl ast::ArgList {
     /// The children that are expressions, in order.
     /// Example: `a` and `b` of `(a, b)`.
     pub fn args(&self) -> AstChildren<ast::Expr>
-        ensures { result ≡ typed_children ⟦<ast::Expr as AstNode>⟧.casts self.now.syntax }
+        ensures { result ≡ typed_children expr_kinds self.now.syntax }
     {
         support::children(&self.syntax)
     }
@@ -38,7 +44,7 @@ impl ast::ExprStmt {
     /// The first child that is an expression, if there is one.
     /// Example: `a` of `a;`.
     pub fn expr(&self) -> Option<ast::Expr>
-        ensures { IsFirstChild ⟦<ast::Expr as AstNode>⟧ self.now.syntax result }
+        ensures { IsFirstExpr self.now.syntax result }
     {
         support::child(&self.syntax)
     }
@@ -56,7 +62,7 @@ impl ast::FormatArgsArg {
     /// The first child that is an expression, if there is one.
     /// Example: `b` of `a = b`.
     pub fn expr(&self) -> Option<ast::Expr>
-        ensures { IsFirstChild ⟦<ast::Expr as AstNode>⟧ self.now.syntax result }
+        ensures { IsFirstExpr self.now.syntax result }
     {
         support::child(&self.syntax)
     }
@@ -66,7 +72,7 @@ impl ast::Label {
     /// The first child that is a lifetime, if there is one.
     /// Example: `'a` of `'a:`.
     pub fn lifetime(&self) -> Option<ast::Lifetime>
-        ensures { IsFirstChild ⟦<ast::Lifetime as AstNode>⟧ self.now.syntax result }
+        ensures { IsFirstLifetime self.now.syntax result }
     {
         support::child(&self.syntax)
     }
@@ -84,7 +90,7 @@ impl ast::LetElse {
     /// The first child that is a block expression, if there is one.
     /// Example: `{ b }` of `else { b }`.
     pub fn block_expr(&self) -> Option<ast::BlockExpr>
-        ensures { IsFirstChild ⟦<ast::BlockExpr as AstNode>⟧ self.now.syntax result }
+        ensures { IsFirstBlockExpr self.now.syntax result }
     {
         support::child(&self.syntax)
     }
@@ -102,7 +108,7 @@ impl ast::LetStmt {
     /// The first child that is an expression, if there is one.
     /// Example: `a` of `let p: T = a else { b };`.
     pub fn initializer(&self) -> Option<ast::Expr>
-        ensures { IsFirstChild ⟦<ast::Expr as AstNode>⟧ self.now.syntax result }
+        ensures { IsFirstExpr self.now.syntax result }
     {
         support::child(&self.syntax)
     }
@@ -110,7 +116,7 @@ impl ast::LetStmt {
     /// The first child that is the `else` of a `let`, if there is one.
     /// Example: `else { b }` of `let p: T = a else { b };`.
     pub fn let_else(&self) -> Option<ast::LetElse>
-        ensures { IsFirstChild ⟦<ast::LetElse as AstNode>⟧ self.now.syntax result }
+        ensures { IsFirstLetElse self.now.syntax result }
     {
         support::child(&self.syntax)
     }
@@ -118,7 +124,7 @@ impl ast::LetStmt {
     /// The first child that is a pattern, if there is one.
     /// Example: `p` of `let p: T = a else { b };`.
     pub fn pat(&self) -> Option<ast::Pat>
-        ensures { IsFirstChild ⟦<ast::Pat as AstNode>⟧ self.now.syntax result }
+        ensures { IsFirstPat self.now.syntax result }
     {
         support::child(&self.syntax)
     }
@@ -126,7 +132,7 @@ impl ast::LetStmt {
     /// The first child that is a type, if there is one.
     /// Example: `T` of `let p: T = a else { b };`.
     pub fn ty(&self) -> Option<ast::Type>
-        ensures { IsFirstChild ⟦<ast::Type as AstNode>⟧ self.now.syntax result }
+        ensures { IsFirstType self.now.syntax result }
     {
         support::child(&self.syntax)
     }
@@ -176,7 +182,7 @@ impl ast::MatchArm {
     /// The first child that is an expression, if there is one.
     /// Example: `b` of `p if a => b,`.
     pub fn expr(&self) -> Option<ast::Expr>
-        ensures { IsFirstChild ⟦<ast::Expr as AstNode>⟧ self.now.syntax result }
+        ensures { IsFirstExpr self.now.syntax result }
     {
         support::child(&self.syntax)
     }
@@ -184,7 +190,7 @@ impl ast::MatchArm {
     /// The first child that is a match guard, if there is one.
     /// Example: `if a` of `p if a => b,`.
     pub fn guard(&self) -> Option<ast::MatchGuard>
-        ensures { IsFirstChild ⟦<ast::MatchGuard as AstNode>⟧ self.now.syntax result }
+        ensures { IsFirstMatchGuard self.now.syntax result }
     {
         support::child(&self.syntax)
     }
@@ -192,7 +198,7 @@ impl ast::MatchArm {
     /// The first child that is a pattern, if there is one.
     /// Example: `p` of `p if a => b,`.
     pub fn pat(&self) -> Option<ast::Pat>
-        ensures { IsFirstChild ⟦<ast::Pat as AstNode>⟧ self.now.syntax result }
+        ensures { IsFirstPat self.now.syntax result }
     {
         support::child(&self.syntax)
     }
@@ -218,7 +224,7 @@ impl ast::MatchArmList {
     /// The children that are match arms, in order.
     /// Example: `p => b,` and `q => c` of `{ p => b, q => c }`.
     pub fn arms(&self) -> AstChildren<ast::MatchArm>
-        ensures { result ≡ typed_children ⟦<ast::MatchArm as AstNode>⟧.casts self.now.syntax }
+        ensures { result ≡ typed_children match_arm_kinds self.now.syntax }
     {
         support::children(&self.syntax)
     }
@@ -244,7 +250,7 @@ impl ast::MatchGuard {
     /// The first child that is an expression, if there is one.
     /// Example: `a` of `if a`.
     pub fn condition(&self) -> Option<ast::Expr>
-        ensures { IsFirstChild ⟦<ast::Expr as AstNode>⟧ self.now.syntax result }
+        ensures { IsFirstExpr self.now.syntax result }
     {
         support::child(&self.syntax)
     }
@@ -262,7 +268,7 @@ impl ast::RecordExprField {
     /// The first child that is an expression, if there is one.
     /// Example: `a` of `f: a`.
     pub fn expr(&self) -> Option<ast::Expr>
-        ensures { IsFirstChild ⟦<ast::Expr as AstNode>⟧ self.now.syntax result }
+        ensures { IsFirstExpr self.now.syntax result }
     {
         support::child(&self.syntax)
     }
@@ -270,7 +276,7 @@ impl ast::RecordExprField {
     /// The first child that is a name reference, if there is one.
     /// Example: `f` of `f: a`.
     pub fn name_ref(&self) -> Option<ast::NameRef>
-        ensures { IsFirstChild ⟦<ast::NameRef as AstNode>⟧ self.now.syntax result }
+        ensures { IsFirstNameRef self.now.syntax result }
     {
         support::child(&self.syntax)
     }
@@ -288,7 +294,7 @@ impl ast::StmtList {
     /// The children that are statements, in order.
     /// Example: `a;` and `fn g() {}` of `{ a; fn g() {} b }`.
     pub fn statements(&self) -> AstChildren<ast::Stmt>
-        ensures { result ≡ typed_children ⟦<ast::Stmt as AstNode>⟧.casts self.now.syntax }
+        ensures { result ≡ typed_children stmt_kinds self.now.syntax }
     {
         support::children(&self.syntax)
     }
@@ -296,7 +302,7 @@ impl ast::StmtList {
     /// The first child that is an expression, if there is one.
     /// Example: `b` of `{ a; fn g() {} b }`.
     pub fn tail_expr(&self) -> Option<ast::Expr>
-        ensures { IsFirstChild ⟦<ast::Expr as AstNode>⟧ self.now.syntax result }
+        ensures { IsFirstExpr self.now.syntax result }
     {
         support::child(&self.syntax)
     }
@@ -322,7 +328,7 @@ impl ast::TryBlockModifier {
     /// The first child that is a type, if there is one.
     /// Example: `T` of `try bikeshed T`.
     pub fn ty(&self) -> Option<ast::Type>
-        ensures { IsFirstChild ⟦<ast::Type as AstNode>⟧ self.now.syntax result }
+        ensures { IsFirstType self.now.syntax result }
     {
         support::child(&self.syntax)
     }

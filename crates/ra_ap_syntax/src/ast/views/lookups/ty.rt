@@ -2,17 +2,22 @@
 //! Each call takes time linear in the number of children that it passes, and no memory.
 //! The names are those of rust-analyzer.
 ghost use Rattle.std.specs.Prelude.{◌≡◌};
-ghost use Rattle.ras_node.specs.Lookups.{IsFirstChild};
 ghost use Rattle.ras_node.specs.Nodes.{token_child, typed_children};
+ghost use Rattle.ra_ap_syntax.specs.GenericViews.{IsFirstConstArg, IsFirstForBinder, IsFirstTypeBoundList};
+ghost use Rattle.ra_ap_syntax.specs.ItemViews.{IsFirstMacroCall};
+ghost use Rattle.ra_ap_syntax.specs.PartViews.{IsFirstAbi, IsFirstParamList};
+ghost use Rattle.ra_ap_syntax.specs.PathViews.{IsFirstLifetime, IsFirstPath};
+ghost use Rattle.ra_ap_syntax.specs.TyViews.{IsFirstRetType};
+ghost use Rattle.ra_ap_syntax.specs.TypeCases.{IsFirstType, type_kinds};
 
-use crate::ast::{self, AstChildren, AstNode, support};
+use crate::ast::{self, AstChildren, support};
 use lossless_tree::{SyntaxKind, SyntaxToken, T};
 
 impl ast::ArrayType {
     /// The first child that is a const argument, if there is one.
     /// Example: `1` of `[T; 1]`.
     pub fn const_arg(&self) -> Option<ast::ConstArg>
-        ensures { IsFirstChild ⟦<ast::ConstArg as AstNode>⟧ self.now.syntax result }
+        ensures { IsFirstConstArg self.now.syntax result }
     {
         support::child(&self.syntax)
     }
@@ -20,7 +25,7 @@ impl ast::ArrayType {
     /// The first child that is a type, if there is one.
     /// Example: `T` of `[T; 1]`.
     pub fn ty(&self) -> Option<ast::Type>
-        ensures { IsFirstChild ⟦<ast::Type as AstNode>⟧ self.now.syntax result }
+        ensures { IsFirstType self.now.syntax result }
     {
         support::child(&self.syntax)
     }
@@ -54,7 +59,7 @@ impl ast::DynTraitType {
     /// The first child that is a list of type bounds, if there is one.
     /// Example: `T + U` of `dyn T + U`.
     pub fn type_bound_list(&self) -> Option<ast::TypeBoundList>
-        ensures { IsFirstChild ⟦<ast::TypeBoundList as AstNode>⟧ self.now.syntax result }
+        ensures { IsFirstTypeBoundList self.now.syntax result }
     {
         support::child(&self.syntax)
     }
@@ -83,10 +88,10 @@ impl ast::FnPtrType {
         support::token(&self.syntax, T![const])
     }
 
-    /// The first child that is a ABI, if there is one.
+    /// The first child that is an ABI, if there is one.
     /// Example: `extern "C"` of `unsafe extern "C" fn(T) -> U`.
     pub fn abi(&self) -> Option<ast::Abi>
-        ensures { IsFirstChild ⟦<ast::Abi as AstNode>⟧ self.now.syntax result }
+        ensures { IsFirstAbi self.now.syntax result }
     {
         support::child(&self.syntax)
     }
@@ -94,7 +99,7 @@ impl ast::FnPtrType {
     /// The first child that is a list of parameters, if there is one.
     /// Example: `(T)` of `unsafe extern "C" fn(T) -> U`.
     pub fn param_list(&self) -> Option<ast::ParamList>
-        ensures { IsFirstChild ⟦<ast::ParamList as AstNode>⟧ self.now.syntax result }
+        ensures { IsFirstParamList self.now.syntax result }
     {
         support::child(&self.syntax)
     }
@@ -102,7 +107,7 @@ impl ast::FnPtrType {
     /// The first child that is a return type, if there is one.
     /// Example: `-> U` of `unsafe extern "C" fn(T) -> U`.
     pub fn ret_type(&self) -> Option<ast::RetType>
-        ensures { IsFirstChild ⟦<ast::RetType as AstNode>⟧ self.now.syntax result }
+        ensures { IsFirstRetType self.now.syntax result }
     {
         support::child(&self.syntax)
     }
@@ -128,7 +133,7 @@ impl ast::ForType {
     /// The first child that is a `for` binder, if there is one.
     /// Example: `for<'a>` of `for<'a> fn(&'a T)`.
     pub fn for_binder(&self) -> Option<ast::ForBinder>
-        ensures { IsFirstChild ⟦<ast::ForBinder as AstNode>⟧ self.now.syntax result }
+        ensures { IsFirstForBinder self.now.syntax result }
     {
         support::child(&self.syntax)
     }
@@ -136,7 +141,7 @@ impl ast::ForType {
     /// The first child that is a type, if there is one.
     /// Example: `fn(&'a T)` of `for<'a> fn(&'a T)`.
     pub fn ty(&self) -> Option<ast::Type>
-        ensures { IsFirstChild ⟦<ast::Type as AstNode>⟧ self.now.syntax result }
+        ensures { IsFirstType self.now.syntax result }
     {
         support::child(&self.syntax)
     }
@@ -146,7 +151,7 @@ impl ast::ImplTraitType {
     /// The first child that is a list of type bounds, if there is one.
     /// Example: `T + U` of `impl T + U`.
     pub fn type_bound_list(&self) -> Option<ast::TypeBoundList>
-        ensures { IsFirstChild ⟦<ast::TypeBoundList as AstNode>⟧ self.now.syntax result }
+        ensures { IsFirstTypeBoundList self.now.syntax result }
     {
         support::child(&self.syntax)
     }
@@ -174,7 +179,7 @@ impl ast::MacroType {
     /// The first child that is a macro call, if there is one.
     /// Example: `m!(a)` of `m!(a)`.
     pub fn macro_call(&self) -> Option<ast::MacroCall>
-        ensures { IsFirstChild ⟦<ast::MacroCall as AstNode>⟧ self.now.syntax result }
+        ensures { IsFirstMacroCall self.now.syntax result }
     {
         support::child(&self.syntax)
     }
@@ -194,7 +199,7 @@ impl ast::ParenType {
     /// The first child that is a type, if there is one.
     /// Example: `T` of `(T)`.
     pub fn ty(&self) -> Option<ast::Type>
-        ensures { IsFirstChild ⟦<ast::Type as AstNode>⟧ self.now.syntax result }
+        ensures { IsFirstType self.now.syntax result }
     {
         support::child(&self.syntax)
     }
@@ -220,7 +225,7 @@ impl ast::PathType {
     /// The first child that is a path, if there is one.
     /// Example: `a::T` of `a::T`.
     pub fn path(&self) -> Option<ast::Path>
-        ensures { IsFirstChild ⟦<ast::Path as AstNode>⟧ self.now.syntax result }
+        ensures { IsFirstPath self.now.syntax result }
     {
         support::child(&self.syntax)
     }
@@ -230,7 +235,7 @@ impl ast::PtrType {
     /// The first child that is a type, if there is one.
     /// Example: `T` of `*const T`.
     pub fn ty(&self) -> Option<ast::Type>
-        ensures { IsFirstChild ⟦<ast::Type as AstNode>⟧ self.now.syntax result }
+        ensures { IsFirstType self.now.syntax result }
     {
         support::child(&self.syntax)
     }
@@ -264,7 +269,7 @@ impl ast::RefType {
     /// The first child that is a lifetime, if there is one.
     /// Example: `'a` of `&'a mut T`.
     pub fn lifetime(&self) -> Option<ast::Lifetime>
-        ensures { IsFirstChild ⟦<ast::Lifetime as AstNode>⟧ self.now.syntax result }
+        ensures { IsFirstLifetime self.now.syntax result }
     {
         support::child(&self.syntax)
     }
@@ -272,7 +277,7 @@ impl ast::RefType {
     /// The first child that is a type, if there is one.
     /// Example: `T` of `&'a mut T`.
     pub fn ty(&self) -> Option<ast::Type>
-        ensures { IsFirstChild ⟦<ast::Type as AstNode>⟧ self.now.syntax result }
+        ensures { IsFirstType self.now.syntax result }
     {
         support::child(&self.syntax)
     }
@@ -298,7 +303,7 @@ impl ast::RetType {
     /// The first child that is a type, if there is one.
     /// Example: `T` of `-> T`.
     pub fn ty(&self) -> Option<ast::Type>
-        ensures { IsFirstChild ⟦<ast::Type as AstNode>⟧ self.now.syntax result }
+        ensures { IsFirstType self.now.syntax result }
     {
         support::child(&self.syntax)
     }
@@ -316,7 +321,7 @@ impl ast::SliceType {
     /// The first child that is a type, if there is one.
     /// Example: `T` of `[T]`.
     pub fn ty(&self) -> Option<ast::Type>
-        ensures { IsFirstChild ⟦<ast::Type as AstNode>⟧ self.now.syntax result }
+        ensures { IsFirstType self.now.syntax result }
     {
         support::child(&self.syntax)
     }
@@ -342,7 +347,7 @@ impl ast::TupleType {
     /// The children that are types, in order.
     /// Example: `T` and `U` of `(T, U)`.
     pub fn fields(&self) -> AstChildren<ast::Type>
-        ensures { result ≡ typed_children ⟦<ast::Type as AstNode>⟧.casts self.now.syntax }
+        ensures { result ≡ typed_children type_kinds self.now.syntax }
     {
         support::children(&self.syntax)
     }
