@@ -31,7 +31,7 @@ def build_wheel(wheel_directory, config_settings=None, metadata_directory=None):
     tag = f"py3-none-{sysconfig.get_platform().replace('-', '_').replace('.', '_')}"
     info = f"{NAME}-{VERSION}.dist-info"
     with tempfile.TemporaryDirectory() as folder:
-        files = {f"ras/{name}": os.path.join(HERE, "ras", name) for name in ("__init__.py", "_raw.py")}
+        files = {f"ras/{name}": os.path.join(HERE, "ras", name) for name in ("__init__.py", "__init__.pyi", "_raw.py", "py.typed")}
         files["ras/libras.so"] = shared_object(folder)
         parts = {name: open(path, "rb").read() for name, path in files.items()}
     parts[f"{info}/METADATA"] = METADATA.encode()

@@ -1,7 +1,9 @@
 #!/usr/bin/env python3
 """Tests the module: what trees owe whatever the text is, and what some texts give."""
+import ast
 import copy
 import doctest
+import inspect
 import os
 import pickle
 import random
@@ -170,6 +172,28 @@ import ras
 def load_tests(loader, tests, pattern):
     tests.addTests(doctest.DocTestSuite(ras))
     return tests
+
+
+class Types(unittest.TestCase):
+    def test_each_name_has_its_types(self):
+        """The file of types is installed, and has the names and parameters of the module."""
+        folder = os.path.dirname(ras.__file__)
+        self.assertTrue(os.path.exists(os.path.join(folder, "py.typed")))
+        with open(os.path.join(folder, "__init__.pyi"), encoding="utf-8") as file:
+            told = ast.parse(file.read())
+        functions = {it.name: [arg.arg for arg in it.args.args] for it in told.body if isinstance(it, ast.FunctionDef)}
+        for name, parameters in functions.items():
+            self.assertEqual(list(inspect.signature(inspect.unwrap(getattr(ras, name))).parameters), parameters, name)
+        classes = {it.name: it for it in told.body if isinstance(it, ast.ClassDef)}
+        self.assertEqual({*functions, *classes}, set(ras.__all__))
+        for name, of in classes.items():
+            members = {it.name: [arg.arg for arg in it.args.args] for it in of.body if isinstance(it, ast.FunctionDef)}
+            known = vars(getattr(ras, name))
+            for member, parameters in members.items():
+                if not isinstance(known[member], property):
+                    self.assertEqual(list(inspect.signature(known[member]).parameters), parameters, f"{name}.{member}")
+            public = {it for it in known if not it.startswith("_")} - {"tree", "row"} if name == "Element" else {it for it in known if not it.startswith("_")}
+            self.assertLessEqual(public, {*members}, name)
 
 
 if __name__ == "__main__":
