@@ -48,31 +48,53 @@ fn needs_pair(alloc: Global, operand: &ast::Expr) -> Result<bool, ParseError> {
     }
 }
 
-// The call in place of a comparison; `None` if it is no comparison with `None`.
-fn call_for(alloc: Global, node: &SyntaxNode) -> Result<Option<SyntaxNode>, ParseError> {
-    let Some(comparison) = ast::BinExpr::cast(node.clone()?) else {
-        return Ok(None);
-    };
-    let (Some(method), Some(operand)) = (method_for(&comparison), comparison.lhs()) else {
-        return Ok(None);
-    };
+// An operand with a call behind it, in a pair of parentheses if it needs one there.
+fn call_text(alloc: Global, operand: &ast::Expr, method: &str) -> Result<String, ParseError> {
     let text = operand.syntax().as_str();
-    let call = if needs_pair(alloc, &operand)? {
-        format!(in alloc; "({text}).{method}()")?
+    if needs_pair(alloc, operand)? {
+        Ok(format!(in alloc; "({text}).{method}()")?)
     } else {
-        format!(in alloc; "{text}.{method}()")?
-    };
-    expression(alloc, call.as_str())
+        Ok(format!(in alloc; "{text}.{method}()")?)
+    }
 }
 
-// Puts the call in the place of a comparison. One inside a comparison that is replaced stays as it is: a second run changes it.
-fn change(editor: &mut SyntaxEditor, alloc: Global, node: SyntaxNode) -> Option<()> {
-    let Some(call) = call_for(alloc, &node).ok()? else {
-        return Some(());
+// The call of a method of an operand.
+fn call_of(
+    alloc: Global,
+    operand: &ast::Expr,
+    method: &str,
+) -> Result<Option<SyntaxNode>, ParseError> {
+    let text = call_text(alloc, operand, method)?;
+    expression(alloc, text.as_str())
+}
+
+// The call in place of a comparison; `None` if it is no comparison with `None`.
+fn call_for(alloc: Global, comparison: &ast::BinExpr) -> Result<Option<SyntaxNode>, ParseError> {
+    let Some(method) = method_for(comparison) else {
+        return Ok(None);
     };
-    match editor.replace(&NodeOrToken::Node(node), &NodeOrToken::Node(call)) {
+    match comparison.lhs() {
+        Some(operand) => call_of(alloc, &operand, method),
+        None => Ok(None),
+    }
+}
+
+// Puts a call in the place of a comparison. One inside a comparison that is replaced stays as it is: a second run changes it.
+fn put(editor: &mut SyntaxEditor, old: SyntaxNode, call: SyntaxNode) -> Option<()> {
+    match editor.replace(&NodeOrToken::Node(old), &NodeOrToken::Node(call)) {
         Ok(()) | Err(ChangeError::InReplaced) => Some(()),
         Err(_) => None,
+    }
+}
+
+// Changes a node if it is a comparison with `None`.
+fn change(editor: &mut SyntaxEditor, alloc: Global, node: SyntaxNode) -> Option<()> {
+    let Some(comparison) = ast::BinExpr::cast(node.clone().ok()?) else {
+        return Some(());
+    };
+    match call_for(alloc, &comparison).ok()? {
+        Some(call) => put(editor, node, call),
+        None => Some(()),
     }
 }
 
