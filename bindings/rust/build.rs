@@ -1,6 +1,7 @@
 //! Finds the proved static library, and links it. It runs nothing and writes nothing.
 //!
-//! It is `libras_c.a` in the folder that `RAS_C_DIR` names; else in the repository's `crates/ras_c/out`, where `./run --lib` puts it.
+//! It is `libras_c.a` in the folder that `RAS_C_DIR` names; else in the folder `lib` of what `./run --lib --dist` made, if the crate is in
+//! that; else in the repository's `crates/ras_c/out`, where `./run --lib` puts it.
 use std::env;
 use std::fs;
 use std::path::{Path, PathBuf};
@@ -26,7 +27,8 @@ fn main() {
     let here = PathBuf::from(env::var_os("CARGO_MANIFEST_DIR").expect("cargo names the package's folder"));
     println!("cargo:rerun-if-env-changed=RAS_C_DIR");
     println!("cargo:rerun-if-changed=build.rs");
-    let folder = env::var_os("RAS_C_DIR").map_or_else(|| here.join("../../crates/ras_c/out"), PathBuf::from);
+    let beside = || [here.join("../../lib"), here.join("../../crates/ras_c/out")].into_iter().find(|it| it.join(ARCHIVE).exists());
+    let folder = env::var_os("RAS_C_DIR").map(PathBuf::from).or_else(beside).unwrap_or_else(|| here.join("../../crates/ras_c/out"));
     println!("cargo:rerun-if-changed={}", folder.join(ARCHIVE).display());
     match holds(&folder) {
         Ok(()) => {

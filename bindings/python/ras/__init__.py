@@ -169,7 +169,7 @@ class Tree:
                 yield Element(self, n)
 
     def needless_parens(self):
-        """The needless pairs of parentheses, in preorder: those that `rust_tree parens` lists.
+        """The needless pairs of parentheses, in preorder: those that `rust_tree parens --all --mixed` lists.
 
         All of them can be removed together, with a blank in place of a parenthesis whose neighbours would be joined, as in `return(a)`.
         The text is parsed again, usually a few times; at worst once for each pair that stays.

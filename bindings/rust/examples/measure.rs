@@ -1,5 +1,5 @@
-//! Times the library: the least processor time of some rounds of reading a file, of a walk over all nodes and tokens of its tree, of an
-//! edit of the name in its middle, and of copying the tree after it.
+//! Times the library: the least processor time of some rounds of reading a file, of walks over all nodes and tokens of its tree, which borrow
+//! it or own a share of it, of an edit of the name in its middle, and of copying the tree after it.
 use ras::{Edition, Live, SyntaxKind, Tree};
 use std::hint::black_box;
 use std::time::Duration;
@@ -42,10 +42,14 @@ fn main() -> Result<(), Box<dyn std::error::Error>> {
     let tree = Tree::parse(&*text, Edition::CURRENT)?;
     let read = least(rounds, || Tree::parse(&*text, Edition::CURRENT).map(|it| it.rows().len()));
     let walk = least(rounds, || tree.root().descendants_with_tokens().fold(0, |sum, it| sum ^ it.kind().number() as usize ^ it.text().len()));
+    let owned = least(rounds, || {
+        tree.syntax_node().descendants_with_tokens().fold(0, |sum, it| sum ^ it.kind().number() as usize ^ it.text().len())
+    });
     let (bytes, rows) = (text.len(), tree.rows().len());
     println!("bytes {bytes} rows {rows} errors {}", tree.errors().len());
     println!("read: {:.2} ns/byte", read.as_nanos() as f64 / bytes.max(1) as f64);
     println!("walk: {:.2} ns/row, {:.2} ns/byte", walk.as_nanos() as f64 / rows as f64, walk.as_nanos() as f64 / bytes.max(1) as f64);
+    println!("walk of owned nodes: {:.2} ns/row", owned.as_nanos() as f64 / rows as f64);
     let mut names = tree.root().tokens().filter(|it| it.kind() == SyntaxKind::IDENT);
     if let Some(name) = names.find(|it| usize::from(it.text_range().start()) >= bytes / 2) {
         let mut live = Live::parse(&*text, Edition::CURRENT)?;

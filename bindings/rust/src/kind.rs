@@ -1,72 +1,175 @@
 //! Kinds of nodes and tokens.
+use crate::Edition;
+use crate::kinds::{CONTEXTUAL, KEYWORDS, PUNCTUATION};
 use std::fmt;
 
-/// The kind of a node or token, as `SyntaxKind::FN`; [`T!`](crate::T) names those of punctuation and keywords by their text.
-///
-/// It prints as its name.
-#[derive(Clone, Copy, PartialEq, Eq, PartialOrd, Ord, Hash)]
-pub struct SyntaxKind(u32);
+pub use crate::kinds::SyntaxKind;
 
-// A constant for each kind, and a table of their numbers and names.
+// The enum of all kinds, the lists of those with small numbers and of the others, and their names.
 macro_rules! kinds {
-    ($table:ident $($(#[$doc:meta])* $name:ident = $number:literal,)*) => {
-        impl $crate::SyntaxKind {
-            $(
-                $(#[$doc])*
-                #[doc = concat!("`", stringify!($name), "`.")]
-                pub const $name: $crate::SyntaxKind = $crate::SyntaxKind::from_number($number);
-            )*
+    ($($(#[$doc:meta])* $name:ident = $number:literal,)* ; $($(#[$odoc:meta])* $other:ident = $onumber:literal,)*) => {
+        /// The kind of a node or token, as `SyntaxKind::FN`; [`T!`](crate::T) names those of punctuation and keywords by their text.
+        ///
+        /// It prints as its name.
+        ///
+        /// ```
+        /// use ras::SyntaxKind::{self, *};
+        ///
+        /// fn is_function_or_constant(kind: SyntaxKind) -> bool {
+        ///     matches!(kind, FN | CONST)
+        /// }
+        /// assert!(is_function_or_constant(FN));
+        /// assert_eq!(VARIANT_LIST.to_string(), "VARIANT_LIST");
+        /// ```
+        #[derive(Clone, Copy, PartialEq, Eq, PartialOrd, Ord, Hash)]
+        #[allow(non_camel_case_types, clippy::upper_case_acronyms)]
+        #[repr(u32)]
+        pub enum SyntaxKind {
+            $($(#[$doc])* #[doc = concat!("`", stringify!($name), "`.")] $name = $number,)*
+            $($(#[$odoc])* #[doc = concat!("`", stringify!($other), "`.")] $other = $onumber,)*
         }
 
-        pub(crate) const $table: &[(u32, &str)] = &[$(($number, stringify!($name))),*];
+        // The kinds whose numbers are their places here.
+        pub(crate) const KNOWN: &[SyntaxKind] = &[$(SyntaxKind::$name),*];
+        // The others, by their numbers.
+        pub(crate) const OTHERS: &[SyntaxKind] = &[$(SyntaxKind::$other),*];
+
+        impl SyntaxKind {
+            /// Its name, as `"FN"`.
+            pub const fn name(self) -> &'static str {
+                match self {
+                    $(SyntaxKind::$name => stringify!($name),)*
+                    $(SyntaxKind::$other => stringify!($other),)*
+                }
+            }
+        }
     };
 }
 pub(crate) use kinds;
 
 impl SyntaxKind {
-    /// The kind with this number, which a row has.
-    pub const fn from_number(number: u32) -> SyntaxKind {
-        SyntaxKind(number)
+    /// The kind with this number, which a row has; `None` if no kind has it.
+    pub fn from_number(number: u32) -> Option<SyntaxKind> {
+        use crate::kinds::{KNOWN, OTHERS};
+        match KNOWN.get(number as usize) {
+            Some(kind) => Some(*kind),
+            None => OTHERS.binary_search_by_key(&number, |it| it.number()).ok().map(|at| OTHERS[at]),
+        }
     }
 
     /// Its number.
     pub const fn number(self) -> u32 {
-        self.0
-    }
-
-    /// Its name, as `"FN"`; `None` if no kind has its number.
-    pub fn name(self) -> Option<&'static str> {
-        use crate::kinds::{KNOWN, OTHERS};
-        match KNOWN.get(self.0 as usize) {
-            Some((_, name)) => Some(name),
-            None => OTHERS.iter().find(|(number, _)| *number == self.0).map(|(_, name)| *name),
-        }
+        self as u32
     }
 
     /// The kind with this name, if there is one. It takes time in the number of kinds.
     pub fn from_name(name: &str) -> Option<SyntaxKind> {
         use crate::kinds::{KNOWN, OTHERS};
-        let mut all = KNOWN.iter().chain(OTHERS);
-        all.find(|(_, of)| *of == name).map(|(number, _)| SyntaxKind(*number))
+        KNOWN.iter().chain(OTHERS).copied().find(|it| it.name() == name)
     }
 
     /// Whether it is that of white space or of a comment that documents nothing.
-    pub fn is_trivia(self) -> bool {
+    pub const fn is_trivia(self) -> bool {
         matches!(self, SyntaxKind::WHITESPACE | SyntaxKind::COMMENT)
+    }
+
+    /// Whether it is that of a punctuation, as `T![+]`; `_` is one.
+    pub fn is_punct(self) -> bool {
+        PUNCTUATION.contains(&self)
+    }
+
+    /// Whether it is that of the token of a literal: a number, a character, a byte or a string.
+    pub const fn is_literal(self) -> bool {
+        use SyntaxKind::*;
+        matches!(self, BYTE | BYTE_STRING | CHAR | C_STRING | FLOAT_NUMBER | INT_NUMBER | STRING)
+    }
+
+    /// Whether it is that of a word that is a keyword in the edition, everywhere or only in some places, as `union`.
+    pub fn is_keyword(self, edition: Edition) -> bool {
+        self.is_strict_keyword(edition) || self.is_contextual_keyword(edition)
+    }
+
+    /// Whether it is that of a word that is a keyword everywhere in the edition. Reserved words are, as `abstract`.
+    pub fn is_strict_keyword(self, edition: Edition) -> bool {
+        KEYWORDS.iter().any(|(_, kind, since)| *kind == self && *since <= edition)
+    }
+
+    /// Whether it is that of a word that is a keyword only in some places, as `union`. In Rust 2015 `dyn` is one too.
+    pub fn is_contextual_keyword(self, edition: Edition) -> bool {
+        self == SyntaxKind::DYN_KW && edition == Edition::Edition2015 || CONTEXTUAL.iter().any(|(_, kind)| *kind == self)
+    }
+
+    /// Whether it is that of an identifier, or of a word that is a keyword in the newest edition.
+    pub fn is_any_identifier(self) -> bool {
+        self == SyntaxKind::IDENT || self.is_keyword(Edition::CURRENT)
+    }
+
+    /// The kind of a word that is a keyword everywhere in the edition; `None` for other texts.
+    ///
+    /// ```
+    /// use ras::{Edition, SyntaxKind};
+    ///
+    /// assert_eq!(SyntaxKind::from_keyword("gen", Edition::Edition2024), Some(SyntaxKind::GEN_KW));
+    /// assert_eq!(SyntaxKind::from_keyword("gen", Edition::Edition2021), None);
+    /// ```
+    pub fn from_keyword(text: &str, edition: Edition) -> Option<SyntaxKind> {
+        let (_, kind, since) = KEYWORDS[KEYWORDS.binary_search_by_key(&text, |it| it.0).ok()?];
+        (since <= edition).then_some(kind)
+    }
+
+    /// The kind of a word that is a keyword only in some places; `None` for other texts.
+    pub fn from_contextual_keyword(text: &str, edition: Edition) -> Option<SyntaxKind> {
+        if text == "dyn" && edition == Edition::Edition2015 {
+            return Some(SyntaxKind::DYN_KW);
+        }
+        Some(CONTEXTUAL[CONTEXTUAL.binary_search_by_key(&text, |it| it.0).ok()?].1)
+    }
+
+    /// The kind of a punctuation of one character; `None` for other characters.
+    pub fn from_char(sign: char) -> Option<SyntaxKind> {
+        use SyntaxKind::*;
+        Some(match sign {
+            '$' => DOLLAR,
+            ';' => SEMICOLON,
+            ',' => COMMA,
+            '(' => L_PAREN,
+            ')' => R_PAREN,
+            '{' => L_CURLY,
+            '}' => R_CURLY,
+            '[' => L_BRACK,
+            ']' => R_BRACK,
+            '<' => L_ANGLE,
+            '>' => R_ANGLE,
+            '@' => AT,
+            '#' => POUND,
+            '~' => TILDE,
+            '?' => QUESTION,
+            '&' => AMP,
+            '|' => PIPE,
+            '+' => PLUS,
+            '*' => STAR,
+            '/' => SLASH,
+            '^' => CARET,
+            '%' => PERCENT,
+            '_' => UNDERSCORE,
+            '.' => DOT,
+            ':' => COLON,
+            '=' => EQ,
+            '!' => BANG,
+            '-' => MINUS,
+            _ => return None,
+        })
     }
 }
 
 impl fmt::Display for SyntaxKind {
     fn fmt(&self, f: &mut fmt::Formatter<'_>) -> fmt::Result {
-        match self.name() {
-            Some(name) => f.write_str(name),
-            None => write!(f, "OTHER({})", self.0.wrapping_sub(65_536)),
-        }
+        f.write_str(self.name())
     }
 }
 
 impl fmt::Debug for SyntaxKind {
     fn fmt(&self, f: &mut fmt::Formatter<'_>) -> fmt::Result {
-        write!(f, "{self}")
+        f.write_str(self.name())
     }
 }

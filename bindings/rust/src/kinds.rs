@@ -1,8 +1,8 @@
-//! The kinds and their numbers. Written by bindings/make.
+//! The kinds and their numbers, and the words. Written by bindings/make.
+use crate::Edition::{self, *};
 use crate::kind::kinds;
 
 kinds! {
-    KNOWN
     WHITESPACE = 0,
     COMMENT = 1,
     INNER_DOC_COMMENT = 2,
@@ -267,10 +267,7 @@ kinds! {
     VISIBILITY_INNER = 261,
     TOKEN_TREE = 262,
     MACRO_STMTS = 263,
-}
-
-kinds! {
-    OTHERS
+    ;
     /// A front matter at a file's start, with its fences.
     FRONTMATTER = 65536,
     /// The line `#!..` at a file's start.
@@ -383,7 +380,156 @@ kinds! {
     VARIANT_LIST = 65811,
 }
 
+// The kinds of punctuation.
+pub(crate) const PUNCTUATION: [SyntaxKind; 52] = [
+    SyntaxKind::SEMICOLON,
+    SyntaxKind::COMMA,
+    SyntaxKind::L_PAREN,
+    SyntaxKind::R_PAREN,
+    SyntaxKind::L_CURLY,
+    SyntaxKind::R_CURLY,
+    SyntaxKind::L_BRACK,
+    SyntaxKind::R_BRACK,
+    SyntaxKind::L_ANGLE,
+    SyntaxKind::R_ANGLE,
+    SyntaxKind::AT,
+    SyntaxKind::POUND,
+    SyntaxKind::DOLLAR,
+    SyntaxKind::TILDE,
+    SyntaxKind::QUESTION,
+    SyntaxKind::AMP,
+    SyntaxKind::PIPE,
+    SyntaxKind::PLUS,
+    SyntaxKind::STAR,
+    SyntaxKind::SLASH,
+    SyntaxKind::CARET,
+    SyntaxKind::PERCENT,
+    SyntaxKind::UNDERSCORE,
+    SyntaxKind::DOT,
+    SyntaxKind::DOT2,
+    SyntaxKind::DOT3,
+    SyntaxKind::DOT2EQ,
+    SyntaxKind::COLON,
+    SyntaxKind::COLON2,
+    SyntaxKind::EQ,
+    SyntaxKind::EQ2,
+    SyntaxKind::FAT_ARROW,
+    SyntaxKind::BANG,
+    SyntaxKind::NEQ,
+    SyntaxKind::MINUS,
+    SyntaxKind::THIN_ARROW,
+    SyntaxKind::LTEQ,
+    SyntaxKind::GTEQ,
+    SyntaxKind::PLUSEQ,
+    SyntaxKind::MINUSEQ,
+    SyntaxKind::PIPEEQ,
+    SyntaxKind::AMPEQ,
+    SyntaxKind::CARETEQ,
+    SyntaxKind::SLASHEQ,
+    SyntaxKind::STAREQ,
+    SyntaxKind::PERCENTEQ,
+    SyntaxKind::AMP2,
+    SyntaxKind::PIPE2,
+    SyntaxKind::SHL,
+    SyntaxKind::SHR,
+    SyntaxKind::SHLEQ,
+    SyntaxKind::SHREQ,
+];
+
+// The words that are keywords everywhere, sorted, each with the edition since which it is one.
+pub(crate) const KEYWORDS: [(&str, SyntaxKind, Edition); 52] = [
+    ("Self", SyntaxKind::SELF_TYPE_KW, Edition2015),
+    ("abstract", SyntaxKind::ABSTRACT_KW, Edition2015),
+    ("as", SyntaxKind::AS_KW, Edition2015),
+    ("async", SyntaxKind::ASYNC_KW, Edition2018),
+    ("await", SyntaxKind::AWAIT_KW, Edition2018),
+    ("become", SyntaxKind::BECOME_KW, Edition2015),
+    ("box", SyntaxKind::BOX_KW, Edition2015),
+    ("break", SyntaxKind::BREAK_KW, Edition2015),
+    ("const", SyntaxKind::CONST_KW, Edition2015),
+    ("continue", SyntaxKind::CONTINUE_KW, Edition2015),
+    ("crate", SyntaxKind::CRATE_KW, Edition2015),
+    ("do", SyntaxKind::DO_KW, Edition2015),
+    ("dyn", SyntaxKind::DYN_KW, Edition2018),
+    ("else", SyntaxKind::ELSE_KW, Edition2015),
+    ("enum", SyntaxKind::ENUM_KW, Edition2015),
+    ("extern", SyntaxKind::EXTERN_KW, Edition2015),
+    ("false", SyntaxKind::FALSE_KW, Edition2015),
+    ("final", SyntaxKind::FINAL_KW, Edition2015),
+    ("fn", SyntaxKind::FN_KW, Edition2015),
+    ("for", SyntaxKind::FOR_KW, Edition2015),
+    ("gen", SyntaxKind::GEN_KW, Edition2024),
+    ("if", SyntaxKind::IF_KW, Edition2015),
+    ("impl", SyntaxKind::IMPL_KW, Edition2015),
+    ("in", SyntaxKind::IN_KW, Edition2015),
+    ("let", SyntaxKind::LET_KW, Edition2015),
+    ("loop", SyntaxKind::LOOP_KW, Edition2015),
+    ("macro", SyntaxKind::MACRO_KW, Edition2015),
+    ("match", SyntaxKind::MATCH_KW, Edition2015),
+    ("mod", SyntaxKind::MOD_KW, Edition2015),
+    ("move", SyntaxKind::MOVE_KW, Edition2015),
+    ("mut", SyntaxKind::MUT_KW, Edition2015),
+    ("override", SyntaxKind::OVERRIDE_KW, Edition2015),
+    ("priv", SyntaxKind::PRIV_KW, Edition2015),
+    ("pub", SyntaxKind::PUB_KW, Edition2015),
+    ("ref", SyntaxKind::REF_KW, Edition2015),
+    ("return", SyntaxKind::RETURN_KW, Edition2015),
+    ("self", SyntaxKind::SELF_KW, Edition2015),
+    ("static", SyntaxKind::STATIC_KW, Edition2015),
+    ("struct", SyntaxKind::STRUCT_KW, Edition2015),
+    ("super", SyntaxKind::SUPER_KW, Edition2015),
+    ("trait", SyntaxKind::TRAIT_KW, Edition2015),
+    ("true", SyntaxKind::TRUE_KW, Edition2015),
+    ("try", SyntaxKind::TRY_KW, Edition2018),
+    ("type", SyntaxKind::TYPE_KW, Edition2015),
+    ("typeof", SyntaxKind::TYPEOF_KW, Edition2015),
+    ("unsafe", SyntaxKind::UNSAFE_KW, Edition2015),
+    ("unsized", SyntaxKind::UNSIZED_KW, Edition2015),
+    ("use", SyntaxKind::USE_KW, Edition2015),
+    ("virtual", SyntaxKind::VIRTUAL_KW, Edition2015),
+    ("where", SyntaxKind::WHERE_KW, Edition2015),
+    ("while", SyntaxKind::WHILE_KW, Edition2015),
+    ("yield", SyntaxKind::YIELD_KW, Edition2015),
+];
+
+// The words that are keywords only in some places, sorted.
+pub(crate) const CONTEXTUAL: [(&str, SyntaxKind); 32] = [
+    ("asm", SyntaxKind::ASM_KW),
+    ("att_syntax", SyntaxKind::ATT_SYNTAX_KW),
+    ("auto", SyntaxKind::AUTO_KW),
+    ("bikeshed", SyntaxKind::BIKESHED_KW),
+    ("builtin", SyntaxKind::BUILTIN_KW),
+    ("cfg", SyntaxKind::CFG_KW),
+    ("cfg_attr", SyntaxKind::CFG_ATTR_KW),
+    ("clobber_abi", SyntaxKind::CLOBBER_ABI_KW),
+    ("default", SyntaxKind::DEFAULT_KW),
+    ("format_args", SyntaxKind::FORMAT_ARGS_KW),
+    ("global_asm", SyntaxKind::GLOBAL_ASM_KW),
+    ("inlateout", SyntaxKind::INLATEOUT_KW),
+    ("inout", SyntaxKind::INOUT_KW),
+    ("label", SyntaxKind::LABEL_KW),
+    ("lateout", SyntaxKind::LATEOUT_KW),
+    ("macro_rules", SyntaxKind::MACRO_RULES_KW),
+    ("may_unwind", SyntaxKind::MAY_UNWIND_KW),
+    ("naked_asm", SyntaxKind::NAKED_ASM_KW),
+    ("nomem", SyntaxKind::NOMEM_KW),
+    ("noreturn", SyntaxKind::NORETURN_KW),
+    ("nostack", SyntaxKind::NOSTACK_KW),
+    ("offset_of", SyntaxKind::OFFSET_OF_KW),
+    ("options", SyntaxKind::OPTIONS_KW),
+    ("out", SyntaxKind::OUT_KW),
+    ("preserves_flags", SyntaxKind::PRESERVES_FLAGS_KW),
+    ("pure", SyntaxKind::PURE_KW),
+    ("raw", SyntaxKind::RAW_KW),
+    ("readonly", SyntaxKind::READONLY_KW),
+    ("safe", SyntaxKind::SAFE_KW),
+    ("sym", SyntaxKind::SYM_KW),
+    ("union", SyntaxKind::UNION_KW),
+    ("yeet", SyntaxKind::YEET_KW),
+];
+
 /// The kind of a punctuation or a keyword, by its text: `T![+]` is `SyntaxKind::PLUS`, and `T!['(']` is `SyntaxKind::L_PAREN`.
+/// The kinds of other tokens have their names, as `T![ident]`.
 #[macro_export]
 macro_rules! T {
     [;] => { $crate::SyntaxKind::SEMICOLON };
@@ -489,4 +635,17 @@ macro_rules! T {
     [while] => { $crate::SyntaxKind::WHILE_KW };
     [yeet] => { $crate::SyntaxKind::YEET_KW };
     [yield] => { $crate::SyntaxKind::YIELD_KW };
+    [whitespace] => { $crate::SyntaxKind::WHITESPACE };
+    [comment] => { $crate::SyntaxKind::COMMENT };
+    [inner_doc_comment] => { $crate::SyntaxKind::INNER_DOC_COMMENT };
+    [outer_doc_comment] => { $crate::SyntaxKind::OUTER_DOC_COMMENT };
+    [ident] => { $crate::SyntaxKind::IDENT };
+    [lifetime_ident] => { $crate::SyntaxKind::LIFETIME_IDENT };
+    [int_number] => { $crate::SyntaxKind::INT_NUMBER };
+    [float_number] => { $crate::SyntaxKind::FLOAT_NUMBER };
+    [char] => { $crate::SyntaxKind::CHAR };
+    [byte] => { $crate::SyntaxKind::BYTE };
+    [string] => { $crate::SyntaxKind::STRING };
+    [byte_string] => { $crate::SyntaxKind::BYTE_STRING };
+    [c_string] => { $crate::SyntaxKind::C_STRING };
 }

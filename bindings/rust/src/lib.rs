@@ -1,7 +1,10 @@
 //! Lossless syntax trees for Rust, over a parser of which each function is proved.
 //!
-//! [`Tree::parse`] reads a text. There is a tree whatever the text is, each byte of the text is in one token of it, and
-//! [`Tree::errors`] lists what is wrong. A [`Node`] and a [`Token`] are places in a tree; [`ast`] has them by type.
+//! [`SourceFile::parse`] reads a text, with the names of rust-analyzer's crate: [`SyntaxNode`], [`SyntaxToken`], [`ast`], [`algo`],
+//! [`SyntaxNodePtr`]. [`Tree::parse`] reads one too, and returns an error if it has no tree. There is a tree whatever the text is, each
+//! byte of the text is in one token of it, and [`Tree::errors`] lists what is wrong.
+//!
+//! Nodes own a share of their tree, or borrow it: [`NodeRef`] is for fast walks.
 //!
 //! ```
 //! use ras::{Edition, SyntaxKind, Tree};
@@ -18,31 +21,62 @@
 //!
 //! What is proved is the library beneath, `crates/ras_c` of the repository: that the rows are those of the tree that the proved
 //! parser makes of the text, and that an edit is that of `Parse::reparse`. This crate, which reads the rows, is tested, not proved.
+pub mod algo;
 pub mod ast;
+mod either;
 mod heap;
+mod iter;
 mod kind;
 mod kinds;
 mod live;
 mod node;
 mod parse;
+mod ptr;
 mod range;
 mod raw;
 mod tree;
 mod version;
 
+pub use ast::{AstNode, AstToken, SourceFile};
+pub use either::Either;
+pub use iter::{Children, ChildrenWithTokens, Descendants, DescendantsWithTokens, Preorder, PreorderWithTokens, TokenAtOffset, WalkEvent};
 pub use kind::SyntaxKind;
 pub use live::{EditError, Live};
-pub use node::{Children, Descendants, Direction, Node, NodeOrToken, Token};
-pub use range::{TextRange, TextSize};
-pub use raw::FlatRow;
-pub use tree::{Edition, ParseError, SyntaxError, TokenAtOffset, Tree};
-
-pub use ast::{AstNode, AstToken, SourceFile};
+pub use node::{Direction, ElementRef, Node, NodeOrToken, NodeRef, SyntaxElement, SyntaxNode, SyntaxToken, Token, TokenRef};
 pub use parse::Parse;
+pub use ptr::{AstPtr, SyntaxNodePtr};
+pub use range::{TextLen, TextRange, TextSize};
+pub use raw::FlatRow;
+pub use tree::{Edition, ParseError, SyntaxError, Tree};
 
-/// A node, by the name that rust-analyzer's crate has for it.
-pub type SyntaxNode<'t> = Node<'t>;
-/// A token, by the name that rust-analyzer's crate has for it.
-pub type SyntaxToken<'t> = Token<'t>;
-/// A node or a token, by the name that rust-analyzer's crate has for it.
-pub type SyntaxElement<'t> = NodeOrToken<'t>;
+/// The children of a node, by the name that rust-analyzer's crate has for them.
+pub type SyntaxNodeChildren = Children<SyntaxNode>;
+/// The children of a node, tokens too, by the name that rust-analyzer's crate has for them.
+pub type SyntaxElementChildren = ChildrenWithTokens<SyntaxNode>;
+
+/// A `match` by the types that a node may have, in order: `match_ast!(match node { ast::Fn(it) => .., _ => .. })`.
+///
+/// ```
+/// use ras::ast::{self, AstNode, HasName};
+/// use ras::{Edition, SourceFile, match_ast};
+///
+/// let file = SourceFile::parse("struct S; fn f() {}", Edition::CURRENT).tree();
+/// let named = file.syntax().children().filter_map(|node| {
+///     match_ast! {
+///         match node {
+///             ast::Fn(it) => it.name(),
+///             ast::Struct(it) => it.name(),
+///             _ => None,
+///         }
+///     }
+/// });
+/// assert_eq!(named.map(|it| it.to_string()).collect::<Vec<_>>(), ["S", "f"]);
+/// ```
+#[macro_export]
+macro_rules! match_ast {
+    (match $node:ident { $($arms:tt)* }) => { $crate::match_ast!(match ($node) { $($arms)* }) };
+    (match ($node:expr) { $($($path:ident)::+ ($it:pat) => $result:expr,)* _ => $other:expr $(,)? }) => {{
+        $(if let Some($it) = $($path::)+cast($node.clone()) { $result } else)*
+        { $other }
+    }};
+}

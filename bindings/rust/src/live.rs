@@ -94,7 +94,7 @@ impl Live {
             raw::ras_c_edit(self.handle.get_mut(), self.edition.year(), start, end, insert.as_ptr(), insert.len())
         } {
             raw::OK => {
-                self.text.replace_range(std::ops::Range::from(delete), insert);
+                self.text.replace_range(std::ops::Range::<usize>::from(delete), insert);
                 Ok(())
             }
             raw::NO_PLACE => Err(EditError::NoPlace),

@@ -1,126 +1,28 @@
 //! Nodes and tokens: places in a tree.
+//!
+//! [`SyntaxNode`] and [`SyntaxToken`] own a share of their tree, [`NodeRef`] and [`TokenRef`] borrow it. The calls are the same: each is
+//! defined once, in the traits [`Node`] and [`Token`], over the rows of the tree.
+use crate::iter::{Children, ChildrenWithTokens, Descendants, DescendantsWithTokens, Preorder, PreorderWithTokens, TokenAtOffset};
 use crate::kind::SyntaxKind;
 use crate::range::{TextRange, TextSize};
-use crate::raw::FlatRow;
-use crate::tree::{TokenAtOffset, Tree};
+use crate::tree::Tree;
 use std::borrow::Cow;
 use std::fmt;
 use std::hash::{Hash, Hasher};
-use std::iter::{FusedIterator, successors};
+use std::iter::successors;
 
-// What the number of a token's kind has more than that of a node's.
-const TOKEN: u32 = 1 << 31;
+pub(crate) mod place {
+    use crate::tree::Tree;
 
-// A place of a tree: a node's or a token's.
-#[derive(Clone, Copy)]
-pub(crate) struct Place<'t> {
-    tree: &'t Tree,
-    row: u32,
-}
-
-impl<'t> Place<'t> {
-    fn at(self, row: u32) -> Place<'t> {
-        Place { row, ..self }
-    }
-
-    fn row(self) -> &'t FlatRow {
-        &self.tree.rows[self.row as usize]
-    }
-
-    fn is_token(self) -> bool {
-        self.row().kind >= TOKEN
-    }
-
-    fn kind(self) -> SyntaxKind {
-        SyntaxKind::from_number(self.row().kind % TOKEN)
-    }
-
-    fn text_range(self) -> TextRange {
-        let row = self.row();
-        let end = match self.tree.rows.get(row.subtree_end as usize) {
-            Some(behind) => behind.start,
-            None => self.tree.text().len() as u32,
-        };
-        TextRange::new(row.start.into(), end.into())
-    }
-
-    fn text(self) -> &'t str {
-        &self.tree.text()[std::ops::Range::from(self.text_range())]
-    }
-
-    fn parent(self) -> Option<Node<'t>> {
-        (self.row > 0).then(|| Node { place: self.at(self.row().parent) })
-    }
-
-    fn next_sibling_or_token(self) -> Option<NodeOrToken<'t>> {
-        let behind = self.row().subtree_end;
-        (behind < self.parent()?.place.row().subtree_end).then(|| self.at(behind).element())
-    }
-
-    fn prev_sibling_or_token(self) -> Option<NodeOrToken<'t>> {
-        let parent = self.parent()?.place.row;
-        let before = self.row - 1;
-        (before > parent).then(|| self.at(before).up_to_child_of(parent).element())
-    }
-
-    // The place on the way up whose parent is at this row.
-    fn up_to_child_of(self, row: u32) -> Place<'t> {
-        let mut place = self;
-        while place.row().parent != row {
-            place = place.at(place.row().parent);
-        }
-        place
-    }
-
-    fn element(self) -> NodeOrToken<'t> {
-        if self.is_token() {
-            NodeOrToken::Token(Token { place: self })
-        } else {
-            NodeOrToken::Node(Node { place: self })
-        }
+    // A row of a tree.
+    pub trait Place: Clone {
+        fn tree_of(&self) -> &Tree;
+        fn row_number(&self) -> u32;
     }
 }
+use place::Place;
 
-impl PartialEq for Place<'_> {
-    fn eq(&self, other: &Self) -> bool {
-        self.row == other.row && std::ptr::eq(self.tree, other.tree)
-    }
-}
-
-impl Eq for Place<'_> {}
-
-impl Hash for Place<'_> {
-    fn hash<H: Hasher>(&self, state: &mut H) {
-        self.row.hash(state);
-    }
-}
-
-/// A node of a tree. Copying one costs nothing.
-///
-/// Two are equal if they are the same place of the same tree.
-#[derive(Clone, Copy, PartialEq, Eq, Hash)]
-pub struct Node<'t> {
-    place: Place<'t>,
-}
-
-/// A token of a tree. Copying one costs nothing.
-///
-/// Two are equal if they are the same place of the same tree.
-#[derive(Clone, Copy, PartialEq, Eq, Hash)]
-pub struct Token<'t> {
-    place: Place<'t>,
-}
-
-/// A node or a token.
-#[derive(Clone, Copy, PartialEq, Eq, Hash)]
-pub enum NodeOrToken<'t> {
-    /// A node.
-    Node(Node<'t>),
-    /// A token.
-    Token(Token<'t>),
-}
-
-/// A direction among siblings.
+/// A direction among siblings or tokens.
 #[derive(Clone, Copy, Debug, PartialEq, Eq, Hash)]
 pub enum Direction {
     /// To later ones.
@@ -129,60 +31,598 @@ pub enum Direction {
     Prev,
 }
 
-// The calls that nodes, tokens and elements have in common.
-macro_rules! place_calls {
-    ($name:ident, $what:literal) => {
-        impl<'t> $name<'t> {
-            #[doc = concat!("The kind of the ", $what, ".")]
-            pub fn kind(self) -> SyntaxKind {
-                self.place().kind()
+/// A node, which owns a share of its tree or borrows it: a [`SyntaxNode`] or a [`NodeRef`]. Code that is to work with both takes this
+/// as a bound; the calls are those that both types have of their own.
+pub trait Node: Place + Eq + Hash + fmt::Debug + fmt::Display {
+    /// The tokens that go with it.
+    type Token: Token<Node = Self>;
+
+    #[doc(hidden)]
+    fn node_at(&self, row: u32) -> Self;
+
+    #[doc(hidden)]
+    fn token_at(&self, row: u32) -> Self::Token;
+
+    #[doc(hidden)]
+    fn element_at(&self, row: u32) -> NodeOrToken<Self, Self::Token> {
+        if self.tree_of().is_token(row) { NodeOrToken::Token(self.token_at(row)) } else { NodeOrToken::Node(self.node_at(row)) }
+    }
+
+    /// The kind of the node.
+    fn kind(&self) -> SyntaxKind {
+        self.tree_of().kind_of(self.row_number())
+    }
+
+    /// The range of the node in the text, in bytes.
+    fn text_range(&self) -> TextRange {
+        self.tree_of().range_of(self.row_number())
+    }
+
+    /// The text of the node, a slice of the tree's text.
+    fn text(&self) -> &str {
+        self.tree_of().text_of(self.row_number())
+    }
+
+    /// The node that it is a child of; `None` for the root.
+    fn parent(&self) -> Option<Self> {
+        self.tree_of().parent_of(self.row_number()).map(|row| self.node_at(row))
+    }
+
+    /// This node, its parent, and so on up to the root.
+    fn ancestors(&self) -> impl Iterator<Item = Self> {
+        successors(Some(self.clone()), Node::parent)
+    }
+
+    /// The first child, node or token.
+    fn first_child_or_token(&self) -> Option<NodeOrToken<Self, Self::Token>> {
+        self.tree_of().first_child_of(self.row_number()).map(|row| self.element_at(row))
+    }
+
+    /// The last child, node or token.
+    fn last_child_or_token(&self) -> Option<NodeOrToken<Self, Self::Token>> {
+        self.tree_of().last_child_of(self.row_number()).map(|row| self.element_at(row))
+    }
+
+    /// The next sibling, node or token.
+    fn next_sibling_or_token(&self) -> Option<NodeOrToken<Self, Self::Token>> {
+        self.tree_of().next_sibling_of(self.row_number()).map(|row| self.element_at(row))
+    }
+
+    /// The sibling before, node or token.
+    fn prev_sibling_or_token(&self) -> Option<NodeOrToken<Self, Self::Token>> {
+        self.tree_of().prev_sibling_of(self.row_number()).map(|row| self.element_at(row))
+    }
+
+    /// The children, nodes and tokens, in order.
+    fn children_with_tokens(&self) -> ChildrenWithTokens<Self> {
+        ChildrenWithTokens::of(self.clone())
+    }
+
+    /// The child nodes, in order.
+    fn children(&self) -> Children<Self> {
+        Children(self.children_with_tokens())
+    }
+
+    /// This node and all nodes and tokens below it, in preorder.
+    fn descendants_with_tokens(&self) -> DescendantsWithTokens<Self> {
+        DescendantsWithTokens::of(self.clone())
+    }
+
+    /// The first token of this node.
+    fn first_token(&self) -> Option<Self::Token> {
+        let (tree, row) = (self.tree_of(), self.row_number());
+        (row..tree.end_of(row)).find(|it| tree.is_token(*it)).map(|it| self.token_at(it))
+    }
+
+    /// The last token of this node.
+    fn last_token(&self) -> Option<Self::Token> {
+        let (tree, row) = (self.tree_of(), self.row_number());
+        (row..tree.end_of(row)).rev().find(|it| tree.is_token(*it)).map(|it| self.token_at(it))
+    }
+}
+
+/// A token, which owns a share of its tree or borrows it: a [`SyntaxToken`] or a [`TokenRef`].
+pub trait Token: Place + Eq + Hash + fmt::Debug + fmt::Display {
+    /// The nodes that go with it.
+    type Node: Node<Token = Self>;
+
+    #[doc(hidden)]
+    fn node_at(&self, row: u32) -> Self::Node;
+
+    #[doc(hidden)]
+    fn token_at(&self, row: u32) -> Self;
+
+    /// The kind of the token.
+    fn kind(&self) -> SyntaxKind {
+        self.tree_of().kind_of(self.row_number())
+    }
+
+    /// The range of the token in the text, in bytes.
+    fn text_range(&self) -> TextRange {
+        self.tree_of().range_of(self.row_number())
+    }
+
+    /// The text of the token, a slice of the tree's text.
+    fn text(&self) -> &str {
+        self.tree_of().text_of(self.row_number())
+    }
+
+    /// The node that it is a child of; `None` only if the text's whole tree is a token.
+    fn parent(&self) -> Option<Self::Node> {
+        self.tree_of().parent_of(self.row_number()).map(|row| self.node_at(row))
+    }
+
+    /// The next token of the tree.
+    fn next_token(&self) -> Option<Self> {
+        let tree = self.tree_of();
+        let behind = tree.rows().len() as u32;
+        (self.row_number() + 1..behind).find(|it| tree.is_token(*it)).map(|it| self.token_at(it))
+    }
+
+    /// The token before it in the tree.
+    fn prev_token(&self) -> Option<Self> {
+        let tree = self.tree_of();
+        (0..self.row_number()).rev().find(|it| tree.is_token(*it)).map(|it| self.token_at(it))
+    }
+}
+
+/// A node or a token.
+#[derive(Clone, Copy, PartialEq, Eq, Hash)]
+pub enum NodeOrToken<N, T> {
+    /// A node.
+    Node(N),
+    /// A token.
+    Token(T),
+}
+
+impl<N, T> NodeOrToken<N, T> {
+    /// The node; `None` for a token.
+    pub fn into_node(self) -> Option<N> {
+        match self {
+            NodeOrToken::Node(node) => Some(node),
+            NodeOrToken::Token(_) => None,
+        }
+    }
+
+    /// The token; `None` for a node.
+    pub fn into_token(self) -> Option<T> {
+        match self {
+            NodeOrToken::Node(_) => None,
+            NodeOrToken::Token(token) => Some(token),
+        }
+    }
+
+    /// The node; `None` for a token.
+    pub fn as_node(&self) -> Option<&N> {
+        match self {
+            NodeOrToken::Node(node) => Some(node),
+            NodeOrToken::Token(_) => None,
+        }
+    }
+
+    /// The token; `None` for a node.
+    pub fn as_token(&self) -> Option<&T> {
+        match self {
+            NodeOrToken::Node(_) => None,
+            NodeOrToken::Token(token) => Some(token),
+        }
+    }
+}
+
+impl<N: Node> NodeOrToken<N, N::Token> {
+    fn place(&self) -> (&Tree, u32) {
+        match self {
+            NodeOrToken::Node(node) => (node.tree_of(), node.row_number()),
+            NodeOrToken::Token(token) => (token.tree_of(), token.row_number()),
+        }
+    }
+
+    fn at(&self, row: u32) -> NodeOrToken<N, N::Token> {
+        match self {
+            NodeOrToken::Node(node) => node.element_at(row),
+            NodeOrToken::Token(token) if token.tree_of().is_token(row) => NodeOrToken::Token(token.token_at(row)),
+            NodeOrToken::Token(token) => NodeOrToken::Node(token.node_at(row)),
+        }
+    }
+
+    /// The kind.
+    pub fn kind(&self) -> SyntaxKind {
+        let (tree, row) = self.place();
+        tree.kind_of(row)
+    }
+
+    /// The range in the text, in bytes.
+    pub fn text_range(&self) -> TextRange {
+        let (tree, row) = self.place();
+        tree.range_of(row)
+    }
+
+    /// The text, a slice of the tree's text.
+    pub fn text(&self) -> &str {
+        let (tree, row) = self.place();
+        tree.text_of(row)
+    }
+
+    /// The node that it is a child of; `None` for the root.
+    pub fn parent(&self) -> Option<N> {
+        match self {
+            NodeOrToken::Node(node) => node.parent(),
+            NodeOrToken::Token(token) => token.parent(),
+        }
+    }
+
+    /// The nodes above it, the nearest first; of a node, itself is the first.
+    pub fn ancestors(&self) -> impl Iterator<Item = N> + use<N> {
+        let first = match self {
+            NodeOrToken::Node(node) => Some(node.clone()),
+            NodeOrToken::Token(token) => token.parent(),
+        };
+        successors(first, Node::parent)
+    }
+
+    /// The next sibling, node or token.
+    pub fn next_sibling_or_token(&self) -> Option<NodeOrToken<N, N::Token>> {
+        let (tree, row) = self.place();
+        tree.next_sibling_of(row).map(|row| self.at(row))
+    }
+
+    /// The sibling before, node or token. It climbs from the row before, so it takes time in the depth there.
+    pub fn prev_sibling_or_token(&self) -> Option<NodeOrToken<N, N::Token>> {
+        let (tree, row) = self.place();
+        tree.prev_sibling_of(row).map(|row| self.at(row))
+    }
+
+    /// It, and its siblings in a direction.
+    pub fn siblings_with_tokens(&self, direction: Direction) -> impl Iterator<Item = NodeOrToken<N, N::Token>> + use<N> {
+        successors(Some(self.clone()), move |it| match direction {
+            Direction::Next => it.next_sibling_or_token(),
+            Direction::Prev => it.prev_sibling_or_token(),
+        })
+    }
+}
+
+impl<N: fmt::Display, T: fmt::Display> fmt::Display for NodeOrToken<N, T> {
+    fn fmt(&self, f: &mut fmt::Formatter<'_>) -> fmt::Result {
+        match self {
+            NodeOrToken::Node(node) => node.fmt(f),
+            NodeOrToken::Token(token) => token.fmt(f),
+        }
+    }
+}
+
+impl<N: fmt::Debug, T: fmt::Debug> fmt::Debug for NodeOrToken<N, T> {
+    fn fmt(&self, f: &mut fmt::Formatter<'_>) -> fmt::Result {
+        match self {
+            NodeOrToken::Node(node) => node.fmt(f),
+            NodeOrToken::Token(token) => token.fmt(f),
+        }
+    }
+}
+
+// The types of nodes and tokens that hold a tree in one way, with their calls.
+macro_rules! places {
+    ($(#[$node_doc:meta])* $node:ident, $(#[$token_doc:meta])* $token:ident, [$($life:lifetime)?] $tree:ty) => {
+        $(#[$node_doc])*
+        #[derive(Clone)]
+        pub struct $node$(<$life>)? {
+            tree: $tree,
+            row: u32,
+        }
+
+        $(#[$token_doc])*
+        #[derive(Clone)]
+        pub struct $token$(<$life>)? {
+            tree: $tree,
+            row: u32,
+        }
+
+        impl$(<$life>)? Node for $node$(<$life>)? {
+            type Token = $token$(<$life>)?;
+
+            fn node_at(&self, row: u32) -> Self {
+                $node { tree: Clone::clone(&self.tree), row }
             }
 
-            #[doc = concat!("The range of the ", $what, " in the text, in bytes.")]
-            pub fn text_range(self) -> TextRange {
-                self.place().text_range()
-            }
-
-            #[doc = concat!("The text of the ", $what, ", a slice of the tree's text.")]
-            pub fn text(self) -> &'t str {
-                self.place().text()
-            }
-
-            #[doc = concat!("The node that the ", $what, " is a child of; `None` for the root.")]
-            pub fn parent(self) -> Option<Node<'t>> {
-                self.place().parent()
-            }
-
-            /// The next sibling, node or token.
-            pub fn next_sibling_or_token(self) -> Option<NodeOrToken<'t>> {
-                self.place().next_sibling_or_token()
-            }
-
-            /// The sibling before, node or token. It climbs from the row before, so it takes time in the depth there.
-            pub fn prev_sibling_or_token(self) -> Option<NodeOrToken<'t>> {
-                self.place().prev_sibling_or_token()
-            }
-
-            #[doc = concat!("The ", $what, ", and its siblings in a direction.")]
-            pub fn siblings_with_tokens(self, direction: Direction) -> impl Iterator<Item = NodeOrToken<'t>> + use<'t> {
-                successors(Some(self.place().element()), move |it| match direction {
-                    Direction::Next => it.next_sibling_or_token(),
-                    Direction::Prev => it.prev_sibling_or_token(),
-                })
-            }
-
-            #[doc = concat!("The number of the ", $what, "'s row in [`Tree::rows`](crate::Tree::rows).")]
-            pub fn row(self) -> usize {
-                self.place().row as usize
-            }
-
-            #[doc = concat!("The tree that the ", $what, " is a place of.")]
-            pub fn tree(self) -> &'t Tree {
-                self.place().tree
+            fn token_at(&self, row: u32) -> Self::Token {
+                $token { tree: Clone::clone(&self.tree), row }
             }
         }
 
-        impl fmt::Display for $name<'_> {
+        impl$(<$life>)? Token for $token$(<$life>)? {
+            type Node = $node$(<$life>)?;
+
+            fn node_at(&self, row: u32) -> Self::Node {
+                $node { tree: Clone::clone(&self.tree), row }
+            }
+
+            fn token_at(&self, row: u32) -> Self {
+                $token { tree: Clone::clone(&self.tree), row }
+            }
+        }
+
+        impl$(<$life>)? $node$(<$life>)? {
+            pub(crate) fn at(tree: $tree, row: u32) -> Self {
+                $node { tree, row }
+            }
+
+            /// The kind of the node.
+            pub fn kind(&self) -> SyntaxKind {
+                Node::kind(self)
+            }
+
+            /// The range of the node in the text, in bytes.
+            pub fn text_range(&self) -> TextRange {
+                Node::text_range(self)
+            }
+
+            /// The node that it is a child of; `None` for the root.
+            pub fn parent(&self) -> Option<Self> {
+                Node::parent(self)
+            }
+
+            /// This node, its parent, and so on up to the root.
+            pub fn ancestors(&self) -> impl Iterator<Item = Self> + use<$($life)?> {
+                successors(Some(self.clone()), Node::parent)
+            }
+
+            /// The first child, node or token.
+            pub fn first_child_or_token(&self) -> Option<NodeOrToken<Self, <Self as Node>::Token>> {
+                Node::first_child_or_token(self)
+            }
+
+            /// The last child, node or token. It climbs from the last row of the subtree, so it takes time in the depth there.
+            pub fn last_child_or_token(&self) -> Option<NodeOrToken<Self, <Self as Node>::Token>> {
+                Node::last_child_or_token(self)
+            }
+
+            /// The first child node.
+            pub fn first_child(&self) -> Option<Self> {
+                self.children().next()
+            }
+
+            /// The last child node.
+            pub fn last_child(&self) -> Option<Self> {
+                let last = self.last_child_or_token()?;
+                last.siblings_with_tokens(Direction::Prev).find_map(NodeOrToken::into_node)
+            }
+
+            /// The next sibling, node or token.
+            pub fn next_sibling_or_token(&self) -> Option<NodeOrToken<Self, <Self as Node>::Token>> {
+                Node::next_sibling_or_token(self)
+            }
+
+            /// The sibling before, node or token. It climbs from the row before, so it takes time in the depth there.
+            pub fn prev_sibling_or_token(&self) -> Option<NodeOrToken<Self, <Self as Node>::Token>> {
+                Node::prev_sibling_or_token(self)
+            }
+
+            /// The next sibling that is a node.
+            pub fn next_sibling(&self) -> Option<Self> {
+                self.siblings(Direction::Next).nth(1)
+            }
+
+            /// The nearest sibling before that is a node.
+            pub fn prev_sibling(&self) -> Option<Self> {
+                self.siblings(Direction::Prev).nth(1)
+            }
+
+            /// This node, and its siblings in a direction that are nodes.
+            pub fn siblings(&self, direction: Direction) -> impl Iterator<Item = Self> + use<$($life)?> {
+                self.siblings_with_tokens(direction).filter_map(NodeOrToken::into_node)
+            }
+
+            /// This node, and its siblings in a direction, nodes and tokens.
+            pub fn siblings_with_tokens(&self, direction: Direction) -> impl Iterator<Item = NodeOrToken<Self, <Self as Node>::Token>> + use<$($life)?> {
+                NodeOrToken::<Self, <Self as Node>::Token>::Node(self.clone()).siblings_with_tokens(direction)
+            }
+
+            /// The children, nodes and tokens, in order.
+            pub fn children_with_tokens(&self) -> ChildrenWithTokens<Self> {
+                Node::children_with_tokens(self)
+            }
+
+            /// The child nodes, in order.
+            pub fn children(&self) -> Children<Self> {
+                Node::children(self)
+            }
+
+            /// This node and all nodes and tokens below it, in preorder.
+            pub fn descendants_with_tokens(&self) -> DescendantsWithTokens<Self> {
+                Node::descendants_with_tokens(self)
+            }
+
+            /// This node and all nodes below it, in preorder.
+            pub fn descendants(&self) -> Descendants<Self> {
+                Descendants(Node::descendants_with_tokens(self))
+            }
+
+            /// A walk that enters and leaves this node and each node below it. It can pass over what is below a node.
+            ///
+            /// ```
+            /// use ras::{Edition, SyntaxKind, Tree, WalkEvent};
+            ///
+            /// let tree = Tree::parse("fn f() { fn g() {} } fn h() {}", Edition::CURRENT)?;
+            /// let mut walk = tree.root().preorder();
+            /// let mut outer = Vec::new();
+            /// while let Some(step) = walk.next() {
+            ///     if let WalkEvent::Enter(node) = step {
+            ///         if node.kind() == SyntaxKind::FN {
+            ///             outer.push(node.text_range().start().raw());
+            ///             walk.skip_subtree();
+            ///         }
+            ///     }
+            /// }
+            /// assert_eq!(outer, [0, 21]);
+            /// # Ok::<(), ras::ParseError>(())
+            /// ```
+            pub fn preorder(&self) -> Preorder<Self> {
+                Preorder(self.preorder_with_tokens())
+            }
+
+            /// A walk that enters and leaves this node and each node and token below it.
+            pub fn preorder_with_tokens(&self) -> PreorderWithTokens<Self> {
+                PreorderWithTokens::of(self.clone())
+            }
+
+            /// The tokens of this node, in order.
+            pub fn tokens(&self) -> impl Iterator<Item = <Self as Node>::Token> + use<$($life)?> {
+                self.descendants_with_tokens().filter_map(NodeOrToken::into_token)
+            }
+
+            /// The first token of this node.
+            pub fn first_token(&self) -> Option<<Self as Node>::Token> {
+                Node::first_token(self)
+            }
+
+            /// The last token of this node.
+            pub fn last_token(&self) -> Option<<Self as Node>::Token> {
+                Node::last_token(self)
+            }
+
+            /// The tokens of this node that touch an offset of the tree's text: none outside of the node's text, and two if the offset
+            /// is between two tokens. It takes time in the logarithm of the number of rows.
+            ///
+            /// ```
+            /// use ras::{Edition, Tree};
+            ///
+            /// let tree = Tree::parse("fn f() {}", Edition::CURRENT)?;
+            /// let tokens: Vec<_> = tree.root().token_at_offset(3.into()).map(|it| it.text().len()).collect();
+            /// assert_eq!(tokens, [1, 1]);
+            /// # Ok::<(), ras::ParseError>(())
+            /// ```
+            pub fn token_at_offset(&self, offset: TextSize) -> TokenAtOffset<<Self as Node>::Token> {
+                self.tree_of().tokens_at(self.row, offset).map(|row| Node::token_at(self, row))
+            }
+
+            /// The smallest node or token below this node, or the node itself, whose range contains the whole of a range that is not
+            /// empty. It takes time in the number of children passed.
+            pub fn covering_element(&self, range: TextRange) -> NodeOrToken<Self, <Self as Node>::Token> {
+                self.element_at(self.tree_of().covering(self.row, range))
+            }
+
+            /// The number of the node's row in [`Tree::rows`](crate::Tree::rows).
+            pub fn row(&self) -> usize {
+                self.row as usize
+            }
+        }
+
+        impl$(<$life>)? $token$(<$life>)? {
+            /// The kind of the token.
+            pub fn kind(&self) -> SyntaxKind {
+                Token::kind(self)
+            }
+
+            /// The range of the token in the text, in bytes.
+            pub fn text_range(&self) -> TextRange {
+                Token::text_range(self)
+            }
+
+            /// The node that it is a child of.
+            pub fn parent(&self) -> Option<<Self as Token>::Node> {
+                Token::parent(self)
+            }
+
+            /// The token's parent, its parent, and so on up to the root.
+            pub fn parent_ancestors(&self) -> impl Iterator<Item = <Self as Token>::Node> + use<$($life)?> {
+                successors(self.parent(), Node::parent)
+            }
+
+            /// The next sibling, node or token.
+            pub fn next_sibling_or_token(&self) -> Option<NodeOrToken<<Self as Token>::Node, Self>> {
+                NodeOrToken::<<Self as Token>::Node, Self>::Token(self.clone()).next_sibling_or_token()
+            }
+
+            /// The sibling before, node or token. It climbs from the row before, so it takes time in the depth there.
+            pub fn prev_sibling_or_token(&self) -> Option<NodeOrToken<<Self as Token>::Node, Self>> {
+                NodeOrToken::<<Self as Token>::Node, Self>::Token(self.clone()).prev_sibling_or_token()
+            }
+
+            /// This token, and its siblings in a direction, nodes and tokens.
+            pub fn siblings_with_tokens(&self, direction: Direction) -> impl Iterator<Item = NodeOrToken<<Self as Token>::Node, Self>> + use<$($life)?> {
+                NodeOrToken::<<Self as Token>::Node, Self>::Token(self.clone()).siblings_with_tokens(direction)
+            }
+
+            /// The next token of the tree.
+            pub fn next_token(&self) -> Option<Self> {
+                Token::next_token(self)
+            }
+
+            /// The token before it in the tree.
+            pub fn prev_token(&self) -> Option<Self> {
+                Token::prev_token(self)
+            }
+
+            /// The number of the token's row in [`Tree::rows`](crate::Tree::rows).
+            pub fn row(&self) -> usize {
+                self.row as usize
+            }
+        }
+
+        impl$(<$life>)? Place for $node$(<$life>)? {
+            fn tree_of(&self) -> &Tree {
+                &self.tree
+            }
+
+            fn row_number(&self) -> u32 {
+                self.row
+            }
+        }
+
+        impl$(<$life>)? Place for $token$(<$life>)? {
+            fn tree_of(&self) -> &Tree {
+                &self.tree
+            }
+
+            fn row_number(&self) -> u32 {
+                self.row
+            }
+        }
+
+        places!(@both $node $($life)?);
+        places!(@both $token $($life)?);
+
+        impl$(<$life>)? From<$node$(<$life>)?> for NodeOrToken<$node$(<$life>)?, $token$(<$life>)?> {
+            fn from(node: $node$(<$life>)?) -> Self {
+                NodeOrToken::Node(node)
+            }
+        }
+
+        impl$(<$life>)? From<$token$(<$life>)?> for NodeOrToken<$node$(<$life>)?, $token$(<$life>)?> {
+            fn from(token: $token$(<$life>)?) -> Self {
+                NodeOrToken::Token(token)
+            }
+        }
+
+        impl$(<$life>)? fmt::Debug for $node$(<$life>)? {
+            /// `FN@0..9`, and by `{:#?}` a line for each node and token of its subtree.
+            fn fmt(&self, f: &mut fmt::Formatter<'_>) -> fmt::Result {
+                if f.alternate() { dump(&self.tree, self.row, f) } else { write_row(&self.tree, self.row, f) }
+            }
+        }
+
+        impl$(<$life>)? fmt::Debug for $token$(<$life>)? {
+            /// `IDENT@3..4 "f"`. Of a text of 25 bytes or more, the first 21 to 24 are shown, as rust-analyzer's crate shows them.
+            fn fmt(&self, f: &mut fmt::Formatter<'_>) -> fmt::Result {
+                write_row(&self.tree, self.row, f)
+            }
+        }
+    };
+    (@both $name:ident $($life:lifetime)?) => {
+        impl$(<$life>)? PartialEq for $name$(<$life>)? {
+            fn eq(&self, other: &Self) -> bool {
+                self.row == other.row && self.tree.is_same(&other.tree)
+            }
+        }
+
+        impl$(<$life>)? Eq for $name$(<$life>)? {}
+
+        impl$(<$life>)? Hash for $name$(<$life>)? {
+            fn hash<H: Hasher>(&self, state: &mut H) {
+                self.row.hash(state);
+            }
+        }
+
+        impl$(<$life>)? fmt::Display for $name$(<$life>)? {
             fn fmt(&self, f: &mut fmt::Formatter<'_>) -> fmt::Result {
                 f.write_str(self.text())
             }
@@ -190,205 +630,86 @@ macro_rules! place_calls {
     };
 }
 
-place_calls!(Node, "node");
-place_calls!(Token, "token");
-place_calls!(NodeOrToken, "node or token");
-
-impl<'t> Node<'t> {
-    pub(crate) fn at(tree: &'t Tree, row: u32) -> Node<'t> {
-        Node { place: Place { tree, row } }
-    }
-
-    fn place(self) -> Place<'t> {
-        self.place
-    }
-
-    /// This node, its parent, and so on up to the root.
-    pub fn ancestors(self) -> impl Iterator<Item = Node<'t>> + use<'t> {
-        successors(Some(self), |it| it.parent())
-    }
-
-    /// The first child, node or token.
-    pub fn first_child_or_token(self) -> Option<NodeOrToken<'t>> {
-        let first = self.place.row + 1;
-        (first < self.place.row().subtree_end).then(|| self.place.at(first).element())
-    }
-
-    /// The last child, node or token. It climbs from the last row of the subtree, so it takes time in the depth there.
-    pub fn last_child_or_token(self) -> Option<NodeOrToken<'t>> {
-        let last = self.place.row().subtree_end - 1;
-        (last > self.place.row).then(|| self.place.at(last).up_to_child_of(self.place.row).element())
-    }
-
-    /// The first child node.
-    pub fn first_child(self) -> Option<Node<'t>> {
-        self.children().next()
-    }
-
-    /// The last child node.
-    pub fn last_child(self) -> Option<Node<'t>> {
-        let last = self.last_child_or_token()?;
-        last.siblings_with_tokens(Direction::Prev).find_map(NodeOrToken::into_node)
-    }
-
-    /// The next sibling that is a node.
-    pub fn next_sibling(self) -> Option<Node<'t>> {
-        self.siblings(Direction::Next).nth(1)
-    }
-
-    /// The nearest sibling before that is a node.
-    pub fn prev_sibling(self) -> Option<Node<'t>> {
-        self.siblings(Direction::Prev).nth(1)
-    }
-
-    /// This node, and its siblings in a direction that are nodes.
-    pub fn siblings(self, direction: Direction) -> impl Iterator<Item = Node<'t>> + use<'t> {
-        self.siblings_with_tokens(direction).filter_map(NodeOrToken::into_node)
-    }
-
-    /// The children, nodes and tokens, in order.
-    pub fn children_with_tokens(self) -> Children<'t> {
-        Children { place: self.place, next: self.place.row + 1, behind: self.place.row().subtree_end }
-    }
-
-    /// The child nodes, in order.
-    pub fn children(self) -> impl Iterator<Item = Node<'t>> + use<'t> {
-        self.children_with_tokens().filter_map(NodeOrToken::into_node)
-    }
-
-    /// This node and all nodes and tokens below it, in preorder.
-    pub fn descendants_with_tokens(self) -> Descendants<'t> {
-        Descendants { place: self.place, next: self.place.row, behind: self.place.row().subtree_end }
-    }
-
-    /// This node and all nodes below it, in preorder.
-    pub fn descendants(self) -> impl Iterator<Item = Node<'t>> + use<'t> {
-        self.descendants_with_tokens().filter_map(NodeOrToken::into_node)
-    }
-
-    /// The tokens of this node, in order.
-    pub fn tokens(self) -> impl Iterator<Item = Token<'t>> + use<'t> {
-        self.descendants_with_tokens().filter_map(NodeOrToken::into_token)
-    }
-
-    /// The first token of this node.
-    pub fn first_token(self) -> Option<Token<'t>> {
-        self.tokens().next()
-    }
-
-    /// The last token of this node.
-    pub fn last_token(self) -> Option<Token<'t>> {
-        self.descendants_with_tokens().rev().find_map(NodeOrToken::into_token)
-    }
-
-    /// The tokens of this node that touch an offset of the tree's text: none outside of the node's text, and two if the offset
-    /// is between two tokens. It takes time in the logarithm of the number of rows.
+places!(
+    /// A node of a tree, which owns a share of it: it may be kept, sent to another thread and shared. Copying one counts one more owner.
     ///
-    /// ```
-    /// use ras::{Edition, Tree};
+    /// Two are equal if they are the same place of the same tree. For walks over a whole tree [`NodeRef`] is faster.
+    SyntaxNode,
+    /// A token of a tree, which owns a share of it.
     ///
-    /// let tree = Tree::parse("fn f() {}", Edition::CURRENT)?;
-    /// let tokens: Vec<_> = tree.root().token_at_offset(3.into()).map(|it| it.text()).collect();
-    /// assert_eq!(tokens, [" ", "f"]);
-    /// # Ok::<(), ras::ParseError>(())
-    /// ```
-    pub fn token_at_offset(self, offset: TextSize) -> TokenAtOffset<'t> {
-        if !self.text_range().contains_inclusive(offset) {
-            return TokenAtOffset::None;
-        }
-        let (first, behind) = (self.place.row as usize, self.place.row().subtree_end as usize);
-        let rows = &self.place.tree.rows[first..behind];
-        let count = rows.partition_point(|row| row.start <= offset.raw());
-        let before = Descendants { place: self.place, next: self.place.row, behind: (first + count) as u32 };
-        let mut tokens = before.rev().filter_map(NodeOrToken::into_token).filter(|it| !it.text_range().is_empty());
-        match tokens.next() {
-            None => TokenAtOffset::None,
-            Some(last) if last.text_range().start() < offset => TokenAtOffset::Single(last),
-            Some(right) => match tokens.next() {
-                None => TokenAtOffset::Single(right),
-                Some(left) => TokenAtOffset::Between(left, right),
-            },
-        }
-    }
+    /// Two are equal if they are the same place of the same tree.
+    SyntaxToken,
+    [] Tree
+);
+places!(
+    /// A node of a tree, which borrows the tree. Copying one costs nothing.
+    ///
+    /// Two are equal if they are the same place of the same tree.
+    #[derive(Copy)]
+    NodeRef,
+    /// A token of a tree, which borrows the tree. Copying one costs nothing.
+    ///
+    /// Two are equal if they are the same place of the same tree.
+    #[derive(Copy)]
+    TokenRef,
+    ['t] &'t Tree
+);
 
-    /// The smallest node or token below this node, or the node itself, whose range contains the whole of a range that is not
-    /// empty. It takes time in the number of children passed.
-    pub fn covering_element(self, range: TextRange) -> NodeOrToken<'t> {
-        let mut node = self;
-        loop {
-            match node.children_with_tokens().find(|it| it.text_range().contains_range(range)) {
-                Some(NodeOrToken::Node(child)) => node = child,
-                Some(NodeOrToken::Token(token)) => return NodeOrToken::Token(token),
-                None => return NodeOrToken::Node(node),
+/// A node or a token that owns a share of its tree.
+pub type SyntaxElement = NodeOrToken<SyntaxNode, SyntaxToken>;
+/// A node or a token that borrows its tree.
+pub type ElementRef<'t> = NodeOrToken<NodeRef<'t>, TokenRef<'t>>;
+
+// The calls whose results live as long as what owns the tree.
+macro_rules! owned_calls {
+    ($name:ident) => {
+        impl $name {
+            /// The text, a slice of the tree's text.
+            pub fn text(&self) -> &str {
+                self.tree.text_of(self.row)
+            }
+
+            /// The tree that it is a place of.
+            pub fn tree(&self) -> &Tree {
+                &self.tree
             }
         }
-    }
+    };
+}
 
-    // What `{:#?}` writes: a line for each node and token.
-    fn dump(self, f: &mut fmt::Formatter<'_>, depth: usize) -> fmt::Result {
-        let mut depths = vec![(self.place.row().subtree_end, depth)];
-        for element in self.descendants_with_tokens() {
-            while depths.last().is_some_and(|(behind, _)| *behind <= element.place().row) {
-                depths.pop();
+owned_calls!(SyntaxNode);
+owned_calls!(SyntaxToken);
+
+macro_rules! borrowed_calls {
+    ($name:ident, $owned:ident) => {
+        impl<'t> $name<'t> {
+            /// The text, a slice of the tree's text.
+            pub fn text(self) -> &'t str {
+                self.tree.text_of(self.row)
             }
-            let depth = depths.len() - 1;
-            match element {
-                NodeOrToken::Node(node) if node == self => {
-                    writeln!(f, "{node:?}")?;
-                }
-                NodeOrToken::Node(node) => {
-                    writeln!(f, "{:1$}{node:?}", "", 2 * (depth + 1))?;
-                    depths.push((node.place.row().subtree_end, depth + 1));
-                }
-                NodeOrToken::Token(token) => writeln!(f, "{:1$}{token:?}", "", 2 * (depth + 1))?,
+
+            /// The tree that it is a place of.
+            pub fn tree(self) -> &'t Tree {
+                self.tree
+            }
+
+            /// The same place, with a share of the tree.
+            pub fn owned(self) -> $owned {
+                $owned { tree: Tree::clone(self.tree), row: self.row }
             }
         }
-        Ok(())
-    }
-}
 
-impl fmt::Debug for Node<'_> {
-    /// `FN@0..9`, and by `{:#?}` a line for each node and token of its subtree.
-    fn fmt(&self, f: &mut fmt::Formatter<'_>) -> fmt::Result {
-        if f.alternate() {
-            // The lines themselves are written without the flag.
-            return f.write_str(&Dump(*self).to_string());
+        impl $owned {
+            /// The same place, which borrows the tree.
+            pub fn as_ref(&self) -> $name<'_> {
+                $name { tree: &self.tree, row: self.row }
+            }
         }
-        write!(f, "{}@{}", self.kind(), self.text_range())
-    }
+    };
 }
 
-struct Dump<'t>(Node<'t>);
-
-impl fmt::Display for Dump<'_> {
-    fn fmt(&self, f: &mut fmt::Formatter<'_>) -> fmt::Result {
-        self.0.dump(f, 0)
-    }
-}
-
-impl<'t> Token<'t> {
-    fn place(self) -> Place<'t> {
-        self.place
-    }
-
-    /// The token's parent, its parent, and so on up to the root.
-    pub fn parent_ancestors(self) -> impl Iterator<Item = Node<'t>> + use<'t> {
-        successors(self.parent(), |it| it.parent())
-    }
-
-    /// The next token of the tree.
-    pub fn next_token(self) -> Option<Token<'t>> {
-        let behind = self.place.tree.rows.len() as u32;
-        let mut later = Descendants { place: self.place, next: self.place.row + 1, behind };
-        later.find_map(NodeOrToken::into_token)
-    }
-
-    /// The token before it in the tree.
-    pub fn prev_token(self) -> Option<Token<'t>> {
-        let earlier = Descendants { place: self.place, next: 0, behind: self.place.row };
-        earlier.rev().find_map(NodeOrToken::into_token)
-    }
-}
+borrowed_calls!(NodeRef, SyntaxNode);
+borrowed_calls!(TokenRef, SyntaxToken);
 
 // The part of a token's text that a dump shows: all of fewer than 25 bytes, else up to the first end of a character from 21 bytes on.
 fn shown(text: &str) -> Cow<'_, str> {
@@ -399,122 +720,31 @@ fn shown(text: &str) -> Cow<'_, str> {
     format!("{} ...", &text[..end]).into()
 }
 
-impl fmt::Debug for Token<'_> {
-    /// `IDENT@3..4 "f"`. Of a text of 25 bytes or more, the first 21 to 24 are shown, as rust-analyzer's crate shows them.
-    fn fmt(&self, f: &mut fmt::Formatter<'_>) -> fmt::Result {
-        write!(f, "{}@{} {:?}", self.kind(), self.text_range(), shown(self.text()))
-    }
+fn write_row(tree: &Tree, row: u32, f: &mut fmt::Formatter<'_>) -> fmt::Result {
+    write!(f, "{}@{}", tree.kind_of(row), tree.range_of(row))?;
+    if tree.is_token(row) { write!(f, " {:?}", shown(tree.text_of(row))) } else { Ok(()) }
 }
 
-impl<'t> NodeOrToken<'t> {
-    fn place(self) -> Place<'t> {
-        match self {
-            NodeOrToken::Node(node) => node.place,
-            NodeOrToken::Token(token) => token.place,
+// What `{:#?}` writes: a line for each node and token.
+fn dump(tree: &Tree, root: u32, f: &mut fmt::Formatter<'_>) -> fmt::Result {
+    struct Line<'t>(&'t Tree, u32);
+
+    impl fmt::Display for Line<'_> {
+        fn fmt(&self, f: &mut fmt::Formatter<'_>) -> fmt::Result {
+            write_row(self.0, self.1, f)
         }
     }
 
-    /// The node; `None` for a token.
-    pub fn into_node(self) -> Option<Node<'t>> {
-        match self {
-            NodeOrToken::Node(node) => Some(node),
-            NodeOrToken::Token(_) => None,
+    // Where the subtrees end that are open.
+    let mut ends: Vec<u32> = Vec::new();
+    for row in root..tree.end_of(root) {
+        while ends.last().is_some_and(|behind| *behind <= row) {
+            ends.pop();
+        }
+        f.write_str(&format!("{:1$}{2}\n", "", 2 * ends.len(), Line(tree, row)))?;
+        if !tree.is_token(row) {
+            ends.push(tree.end_of(row));
         }
     }
-
-    /// The token; `None` for a node.
-    pub fn into_token(self) -> Option<Token<'t>> {
-        match self {
-            NodeOrToken::Node(_) => None,
-            NodeOrToken::Token(token) => Some(token),
-        }
-    }
-
-    /// The node; `None` for a token.
-    pub fn as_node(&self) -> Option<&Node<'t>> {
-        match self {
-            NodeOrToken::Node(node) => Some(node),
-            NodeOrToken::Token(_) => None,
-        }
-    }
-
-    /// The token; `None` for a node.
-    pub fn as_token(&self) -> Option<&Token<'t>> {
-        match self {
-            NodeOrToken::Node(_) => None,
-            NodeOrToken::Token(token) => Some(token),
-        }
-    }
+    Ok(())
 }
-
-impl fmt::Debug for NodeOrToken<'_> {
-    fn fmt(&self, f: &mut fmt::Formatter<'_>) -> fmt::Result {
-        match self {
-            NodeOrToken::Node(node) => node.fmt(f),
-            NodeOrToken::Token(token) => token.fmt(f),
-        }
-    }
-}
-
-/// The children of a node, nodes and tokens, in order.
-#[derive(Clone)]
-pub struct Children<'t> {
-    place: Place<'t>,
-    next: u32,
-    behind: u32,
-}
-
-impl<'t> Iterator for Children<'t> {
-    type Item = NodeOrToken<'t>;
-
-    fn next(&mut self) -> Option<NodeOrToken<'t>> {
-        if self.next >= self.behind {
-            return None;
-        }
-        let child = self.place.at(self.next);
-        self.next = child.row().subtree_end;
-        Some(child.element())
-    }
-}
-
-impl FusedIterator for Children<'_> {}
-
-/// A node and all below it, nodes and tokens, in preorder.
-#[derive(Clone)]
-pub struct Descendants<'t> {
-    place: Place<'t>,
-    next: u32,
-    behind: u32,
-}
-
-impl<'t> Iterator for Descendants<'t> {
-    type Item = NodeOrToken<'t>;
-
-    fn next(&mut self) -> Option<NodeOrToken<'t>> {
-        if self.next >= self.behind {
-            return None;
-        }
-        let place = self.place.at(self.next);
-        self.next += 1;
-        Some(place.element())
-    }
-
-    fn size_hint(&self) -> (usize, Option<usize>) {
-        let left = (self.behind - self.next) as usize;
-        (left, Some(left))
-    }
-}
-
-impl DoubleEndedIterator for Descendants<'_> {
-    fn next_back(&mut self) -> Option<Self::Item> {
-        if self.next >= self.behind {
-            return None;
-        }
-        self.behind -= 1;
-        Some(self.place.at(self.behind).element())
-    }
-}
-
-impl ExactSizeIterator for Descendants<'_> {}
-
-impl FusedIterator for Descendants<'_> {}

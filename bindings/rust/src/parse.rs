@@ -1,44 +1,88 @@
 //! Parses as rust-analyzer's crate has them.
 use crate::ast::{AstNode, SourceFile};
-use crate::node::Node;
+use crate::node::SyntaxNode;
 use crate::tree::{Edition, ParseError, SyntaxError, Tree};
+use std::fmt;
+use std::marker::PhantomData;
 
 /// The result of parsing: a tree, and its errors.
 ///
-/// It is a [`Tree`] by the names that rust-analyzer's crate has. A file and its nodes borrow from it.
-#[derive(Clone, Debug, PartialEq, Eq)]
-pub struct Parse {
+/// It is a [`Tree`] by the names that rust-analyzer's crate has.
+pub struct Parse<T = SourceFile> {
     tree: Tree,
+    view: PhantomData<fn() -> T>,
 }
 
-impl Parse {
-    /// The root as a file.
-    pub fn tree(&self) -> SourceFile<'_> {
-        SourceFile::cast(self.tree.root()).expect("the root of a text is a file")
-    }
-
+impl<T> Parse<T> {
     /// The root.
-    pub fn syntax_node(&self) -> Node<'_> {
-        self.tree.root()
+    pub fn syntax_node(&self) -> SyntaxNode {
+        self.tree.syntax_node()
     }
 
     /// What is wrong with the text: the errors of the parser, those of the lexer, and then what breaks rules beyond the grammar.
-    pub fn errors(&self) -> &[SyntaxError] {
-        self.tree.errors()
+    pub fn errors(&self) -> Vec<SyntaxError> {
+        self.tree.errors().to_vec()
     }
 
-    /// The file if there are no errors; else the errors.
-    pub fn ok(&self) -> Result<SourceFile<'_>, &[SyntaxError]> {
-        if self.errors().is_empty() { Ok(self.tree()) } else { Err(self.errors()) }
+    /// The same parse, of which the root has no type.
+    pub fn to_syntax(self) -> Parse<SyntaxNode> {
+        Parse { tree: self.tree, view: PhantomData }
     }
 
-    /// The tree itself.
+    /// The tree itself, whose nodes may borrow it.
     pub fn into_tree(self) -> Tree {
         self.tree
     }
 }
 
-impl SourceFile<'_> {
+impl<T: AstNode> Parse<T> {
+    /// The root by its type.
+    pub fn tree(&self) -> T {
+        T::cast(self.tree.syntax_node()).expect("a parse is made for the type of its root")
+    }
+
+    /// The root by its type if there are no errors; else the errors.
+    pub fn ok(self) -> Result<T, Vec<SyntaxError>> {
+        if self.tree.errors().is_empty() { Ok(self.tree()) } else { Err(self.errors()) }
+    }
+}
+
+impl Parse<SyntaxNode> {
+    /// The same parse with a type of its root; `None` if the root is not of this type.
+    pub fn cast<A: AstNode>(self) -> Option<Parse<A>> {
+        A::can_cast(self.syntax_node().kind()).then_some(Parse { tree: self.tree, view: PhantomData })
+    }
+}
+
+impl Parse<SourceFile> {
+    /// The tree as a dump, and a line for each error.
+    pub fn debug_dump(&self) -> String {
+        let errors = self.tree.errors().iter().map(|it| format!("error {:?}: {it}\n", it.range()));
+        format!("{:#?}{}", self.tree.root(), errors.collect::<String>())
+    }
+}
+
+impl<T> Clone for Parse<T> {
+    fn clone(&self) -> Self {
+        Parse { tree: self.tree.clone(), view: PhantomData }
+    }
+}
+
+impl<T> PartialEq for Parse<T> {
+    fn eq(&self, other: &Self) -> bool {
+        self.tree == other.tree
+    }
+}
+
+impl<T> Eq for Parse<T> {}
+
+impl<T> fmt::Debug for Parse<T> {
+    fn fmt(&self, f: &mut fmt::Formatter<'_>) -> fmt::Result {
+        f.debug_struct("Parse").field("tree", &self.tree).finish()
+    }
+}
+
+impl SourceFile {
     /// The parse of a text, read as a file.
     ///
     /// ```
@@ -51,9 +95,9 @@ impl SourceFile<'_> {
     /// # Panics
     ///
     /// It panics if the text has 2^32 bytes or more, or if memory runs out; [`Tree::parse`] returns an error instead.
-    pub fn parse(text: &str, edition: Edition) -> Parse {
+    pub fn parse(text: &str, edition: Edition) -> Parse<SourceFile> {
         match Tree::parse(text, edition) {
-            Ok(tree) => Parse { tree },
+            Ok(tree) => Parse { tree, view: PhantomData },
             Err(error @ (ParseError::TooLong | ParseError::Memory)) => panic!("{error}"),
         }
     }

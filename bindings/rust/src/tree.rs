@@ -1,11 +1,14 @@
 //! A text and its tree.
-use crate::node::{Node, Token};
+use crate::iter::TokenAtOffset;
+use crate::node::{NodeRef, SyntaxNode, TokenRef};
 use crate::range::{TextRange, TextSize};
 use crate::raw::{self, Counts, ErrorRow, FlatRow, Range};
+use crate::{SyntaxKind, iter};
 use std::fmt;
+use std::sync::Arc;
 
 /// An edition of Rust. Which words are keywords depends on it.
-#[derive(Clone, Copy, Debug, PartialEq, Eq, Hash)]
+#[derive(Clone, Copy, Debug, PartialEq, Eq, PartialOrd, Ord, Hash)]
 pub enum Edition {
     /// Rust 2015.
     Edition2015,
@@ -20,6 +23,8 @@ pub enum Edition {
 impl Edition {
     /// The newest edition, Rust 2024.
     pub const CURRENT: Edition = Edition::Edition2024;
+    /// The newest edition, by the other name that rust-analyzer has for it.
+    pub const LATEST: Edition = Edition::CURRENT;
 
     pub(crate) fn year(self) -> u32 {
         match self {
@@ -96,8 +101,11 @@ impl std::error::Error for SyntaxError {}
 
 /// A text, its lossless tree, and what is wrong with it.
 ///
-/// There is a tree whatever the text is, and each byte of the text is in one token of it. A tree is plain data: it may be sent
-/// to another thread, and shared with others.
+/// There is a tree whatever the text is, and each byte of the text is in one token of it. A tree is shared, plain data that never
+/// changes: copying one costs nothing, and it may be sent to other threads.
+///
+/// [`root`](Tree::root) gives nodes that borrow the tree, which is fastest; [`syntax_node`](Tree::syntax_node) gives nodes that own a
+/// share of it.
 ///
 /// ```
 /// use ras::{Edition, Tree};
@@ -108,13 +116,19 @@ impl std::error::Error for SyntaxError {}
 /// assert_eq!(tree.errors()[0].range().to_string(), "15..15");
 /// # Ok::<(), ras::ParseError>(())
 /// ```
-#[derive(Clone, PartialEq, Eq)]
-pub struct Tree {
+#[derive(Clone)]
+pub struct Tree(Arc<Inner>);
+
+#[derive(PartialEq, Eq)]
+struct Inner {
     text: Box<str>,
     edition: Edition,
-    pub(crate) rows: Box<[FlatRow]>,
+    rows: Box<[FlatRow]>,
     errors: Box<[SyntaxError]>,
 }
+
+// What the number of a token's kind has more than that of a node's.
+const TOKEN: u32 = 1 << 31;
 
 // What the library writes for a text.
 pub(crate) struct Room {
@@ -199,35 +213,45 @@ impl Tree {
             &room.messages[..counts.messages as usize],
             counts.violations as usize,
         );
-        Ok(Tree { text, edition, rows: room.rows.into(), errors })
+        Ok(Tree(Arc::new(Inner { text, edition, rows: room.rows.into(), errors })))
     }
 
-    /// The root, a `SOURCE_FILE`.
-    pub fn root(&self) -> Node<'_> {
-        Node::at(self, 0)
+    /// The root, a `SOURCE_FILE`, which borrows the tree.
+    pub fn root(&self) -> NodeRef<'_> {
+        NodeRef::at(self, 0)
+    }
+
+    /// The root, as a node that owns a share of the tree.
+    pub fn syntax_node(&self) -> SyntaxNode {
+        SyntaxNode::at(self.clone(), 0)
     }
 
     /// The text, as it was given.
     pub fn text(&self) -> &str {
-        &self.text
+        &self.0.text
     }
 
     /// The edition that the text was read as.
     pub fn edition(&self) -> Edition {
-        self.edition
+        self.0.edition
     }
 
     /// What is wrong with the text: the errors of the parser, those of the lexer, and then what breaks rules beyond the grammar.
     pub fn errors(&self) -> &[SyntaxError] {
-        &self.errors
+        &self.0.errors
+    }
+
+    /// Whether both are one tree: copies of one result of a parse.
+    pub fn is_same(&self, other: &Tree) -> bool {
+        Arc::ptr_eq(&self.0, &other.0)
     }
 
     /// The rows of the tree, as plain numbers: one for each node and token, in preorder.
     pub fn rows(&self) -> &[FlatRow] {
-        &self.rows
+        &self.0.rows
     }
 
-    /// The needless pairs of parentheses, each a `PAREN_EXPR`, in preorder: those that `rust_tree parens` lists.
+    /// The needless pairs of parentheses, each a `PAREN_EXPR`, in preorder: those that `rust_tree parens --all --mixed` lists.
     ///
     /// All of them can be removed together, with a blank in place of a parenthesis whose neighbours would be joined, as in `return(a)`.
     /// The text is parsed again, usually a few times; at worst once for each pair that stays.
@@ -241,9 +265,9 @@ impl Tree {
     /// assert_eq!(pairs[0].text(), "(a * b)");
     /// # Ok::<(), ras::ParseError>(())
     /// ```
-    pub fn needless_parens(&self) -> Result<Vec<Node<'_>>, ParseError> {
-        let ranges = needless_ranges(&self.text, self.edition)?;
-        let mut pairs = self.root().descendants().filter(|it| it.kind() == crate::SyntaxKind::PAREN_EXPR);
+    pub fn needless_parens(&self) -> Result<Vec<NodeRef<'_>>, ParseError> {
+        let ranges = needless_ranges(self.text(), self.edition())?;
+        let mut pairs = self.root().descendants().filter(|it| it.kind() == SyntaxKind::PAREN_EXPR);
         // Both go in preorder, and no two pairs have one range.
         let found = ranges.iter().filter_map(|range| {
             let range = TextRange::new(range.start.into(), range.end.into());
@@ -253,7 +277,7 @@ impl Tree {
     }
 
     /// The tokens that touch an offset: none past the text's end, two if it is between two tokens.
-    pub fn token_at_offset(&self, offset: TextSize) -> TokenAtOffset<'_> {
+    pub fn token_at_offset(&self, offset: TextSize) -> TokenAtOffset<TokenRef<'_>> {
         self.root().token_at_offset(offset)
     }
 }
@@ -280,45 +304,110 @@ impl fmt::Debug for Tree {
     }
 }
 
-/// The tokens at an offset, as an iterator in their order.
-#[derive(Clone, Copy, Debug, PartialEq, Eq)]
-pub enum TokenAtOffset<'t> {
-    /// There is none: the offset is past the end of the node's text, or before its start.
-    None,
-    /// One: the offset is inside of it, or at an end of the text.
-    Single(Token<'t>),
-    /// Two: the offset is between them.
-    Between(Token<'t>, Token<'t>),
-}
-
-impl<'t> TokenAtOffset<'t> {
-    /// The token, of two the left one.
-    pub fn left_biased(self) -> Option<Token<'t>> {
-        match self {
-            TokenAtOffset::None => None,
-            TokenAtOffset::Single(token) | TokenAtOffset::Between(token, _) => Some(token),
-        }
-    }
-
-    /// The token, of two the right one.
-    pub fn right_biased(self) -> Option<Token<'t>> {
-        match self {
-            TokenAtOffset::None => None,
-            TokenAtOffset::Single(token) | TokenAtOffset::Between(_, token) => Some(token),
-        }
+impl PartialEq for Tree {
+    /// Whether texts, editions, rows and errors are equal. It takes time linear in the text, unless both are one tree.
+    fn eq(&self, other: &Tree) -> bool {
+        self.is_same(other) || self.0 == other.0
     }
 }
 
-impl<'t> Iterator for TokenAtOffset<'t> {
-    type Item = Token<'t>;
+impl Eq for Tree {}
 
-    fn next(&mut self) -> Option<Token<'t>> {
-        let (first, rest) = match *self {
-            TokenAtOffset::None => return None,
-            TokenAtOffset::Single(token) => (token, TokenAtOffset::None),
-            TokenAtOffset::Between(left, right) => (left, TokenAtOffset::Single(right)),
+// The steps from row to row.
+impl Tree {
+    fn row(&self, row: u32) -> &FlatRow {
+        &self.0.rows[row as usize]
+    }
+
+    pub(crate) fn end_of(&self, row: u32) -> u32 {
+        self.row(row).subtree_end
+    }
+
+    pub(crate) fn start_of(&self, row: u32) -> TextSize {
+        self.row(row).start.into()
+    }
+
+    pub(crate) fn is_token(&self, row: u32) -> bool {
+        self.row(row).kind >= TOKEN
+    }
+
+    pub(crate) fn kind_of(&self, row: u32) -> SyntaxKind {
+        SyntaxKind::from_number(self.row(row).kind % TOKEN).expect("the library's kinds are compared with those of this crate")
+    }
+
+    pub(crate) fn range_of(&self, row: u32) -> TextRange {
+        let end = match self.0.rows.get(self.end_of(row) as usize) {
+            Some(behind) => behind.start,
+            None => self.0.text.len() as u32,
         };
-        *self = rest;
-        Some(first)
+        TextRange::new(self.start_of(row), end.into())
+    }
+
+    pub(crate) fn text_of(&self, row: u32) -> &str {
+        &self.0.text[self.range_of(row)]
+    }
+
+    pub(crate) fn parent_of(&self, row: u32) -> Option<u32> {
+        (row > 0).then(|| self.row(row).parent)
+    }
+
+    pub(crate) fn first_child_of(&self, row: u32) -> Option<u32> {
+        (row + 1 < self.end_of(row)).then_some(row + 1)
+    }
+
+    // It climbs from the last row of the subtree.
+    pub(crate) fn last_child_of(&self, row: u32) -> Option<u32> {
+        let last = self.end_of(row) - 1;
+        (last > row).then(|| self.child_above(last, row))
+    }
+
+    pub(crate) fn next_sibling_of(&self, row: u32) -> Option<u32> {
+        let behind = self.end_of(row);
+        (behind < self.end_of(self.parent_of(row)?)).then_some(behind)
+    }
+
+    pub(crate) fn prev_sibling_of(&self, row: u32) -> Option<u32> {
+        let parent = self.parent_of(row)?;
+        (row - 1 > parent).then(|| self.child_above(row - 1, parent))
+    }
+
+    // The row on the way up whose parent is `parent`.
+    fn child_above(&self, row: u32, parent: u32) -> u32 {
+        let mut row = row;
+        while self.row(row).parent != parent {
+            row = self.row(row).parent;
+        }
+        row
+    }
+
+    // The rows of tokens that touch an offset, in the subtree of a row.
+    pub(crate) fn tokens_at(&self, row: u32, offset: TextSize) -> TokenAtOffset<u32> {
+        if !self.range_of(row).contains_inclusive(offset) {
+            return TokenAtOffset::None;
+        }
+        let (first, behind) = (row as usize, self.end_of(row) as usize);
+        let count = self.0.rows[first..behind].partition_point(|it| it.start <= offset.raw());
+        let earlier = (row..row + count as u32).rev();
+        let mut tokens = earlier.filter(|it| self.is_token(*it) && !self.range_of(*it).is_empty());
+        match tokens.next() {
+            None => TokenAtOffset::None,
+            Some(last) if self.start_of(last) < offset => TokenAtOffset::Single(last),
+            Some(right) => match tokens.next() {
+                None => TokenAtOffset::Single(right),
+                Some(left) => TokenAtOffset::Between(left, right),
+            },
+        }
+    }
+
+    // The row of the smallest node or token below a row, or the row itself, whose range contains the whole of a range.
+    pub(crate) fn covering(&self, row: u32, range: TextRange) -> u32 {
+        let mut row = row;
+        while let Some(child) = iter::rows_of_children(self, row).find(|it| self.range_of(*it).contains_range(range)) {
+            row = child;
+            if self.is_token(row) {
+                break;
+            }
+        }
+        row
     }
 }

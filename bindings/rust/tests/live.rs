@@ -83,7 +83,7 @@ fn each_edit_gives_the_tree_of_the_edited_text() {
         }
         let (delete, insert) = (random.of(&places), random.of(inserts));
         edited.edit(delete, insert).unwrap();
-        text.replace_range(std::ops::Range::from(delete), insert);
+        text.replace_range(std::ops::Range::<usize>::from(delete), insert);
         assert_eq!(edited.text(), text);
         let parse = SourceFile::parse(&text, Edition::CURRENT);
         assert!(parse.errors().is_empty(), "{:?}\n{text}", parse.errors());
@@ -105,7 +105,7 @@ fn each_tree_has_the_edited_text() {
         let end = (start + random.below(6)).min(offsets.len() - 1);
         let (delete, insert) = (range(offsets[start], offsets[end]), random.of(&INSERTS));
         edited.edit(delete, insert).unwrap();
-        text.replace_range(std::ops::Range::from(delete), insert);
+        text.replace_range(std::ops::Range::<usize>::from(delete), insert);
         let tree = edited.tree().unwrap();
         assert_eq!((edited.text(), tree.text()), (&*text, &*text));
         assert_eq!(tree.root().kind(), SyntaxKind::SOURCE_FILE);

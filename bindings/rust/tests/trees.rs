@@ -1,6 +1,6 @@
 //! Trees of texts: what a tree owes whatever the text is, and dumps that were read.
 use ras::ast::{self, AstNode, HasName};
-use ras::{Direction, Edition, NodeOrToken, SyntaxKind, T, TextRange, TokenAtOffset, Tree};
+use ras::{Direction, Edition, NodeOrToken, SourceFile, SyntaxKind, SyntaxNode, SyntaxNodePtr, T, TextRange, TokenAtOffset, Tree, WalkEvent, algo};
 
 const TEXTS: [&str; 8] = [
     "",
@@ -117,9 +117,10 @@ fn editions_have_their_words() {
 #[test]
 fn kinds_have_names() {
     for kind in [SyntaxKind::FN, SyntaxKind::WHITESPACE, SyntaxKind::VARIANT_LIST, T![=>], T!['(']] {
-        assert_eq!(SyntaxKind::from_name(kind.name().unwrap()), Some(kind));
+        assert_eq!(SyntaxKind::from_name(kind.name()), Some(kind));
+        assert_eq!(SyntaxKind::from_number(kind.number()), Some(kind));
     }
-    assert_eq!(SyntaxKind::from_number(300).name(), None);
+    assert_eq!(SyntaxKind::from_number(300), None);
     assert_eq!(SyntaxKind::from_name("NO_SUCH_KIND"), None);
 }
 
@@ -198,7 +199,10 @@ fn a_covering_element_is_the_smallest() {
 #[test]
 fn views_have_their_parts() {
     let tree = tree("impl S { fn f(&self) { g(1, 2) } }");
-    let function = tree.root().descendants().find_map(ast::Fn::cast).unwrap();
+    let function = tree.syntax_node().descendants().find_map(ast::Fn::cast).unwrap();
+    let borrowed = tree.root().descendants().find_map(ast::borrowed::Fn::cast).unwrap();
+    assert_eq!(borrowed.name().unwrap().text(), "f");
+    assert_eq!(borrowed.syntax().owned(), *function.syntax());
     assert_eq!(function.name().unwrap().to_string(), "f");
     let body = function.body().and_then(|it| it.stmt_list()).and_then(|it| it.tail_expr());
     let Some(ast::Expr::CallExpr(call)) = body else { panic!("the body ends in a call") };
@@ -221,4 +225,124 @@ fn long_texts_have_room() {
     assert_eq!(tree.root().text().len(), text.len());
     assert!(tree.errors().len() >= 3000);
     assert!(tree.errors().iter().all(|it| !it.message().is_empty()));
+}
+
+#[test]
+fn owned_and_borrowed_nodes_agree() {
+    for text in TEXTS {
+        let tree = tree(text);
+        let owned: Vec<_> = tree.syntax_node().descendants_with_tokens().collect();
+        let borrowed: Vec<_> = tree.root().descendants_with_tokens().collect();
+        assert_eq!(owned.len(), borrowed.len());
+        for (one, other) in owned.iter().zip(&borrowed) {
+            assert_eq!((one.kind(), one.text_range(), one.text()), (other.kind(), other.text_range(), other.text()));
+            let (one, other) = (one.next_sibling_or_token(), other.next_sibling_or_token());
+            assert_eq!(one.map(|it| it.text_range()), other.map(|it| it.text_range()));
+        }
+    }
+}
+
+#[test]
+fn nodes_outlive_what_they_were_made_from() {
+    let name = {
+        let file = SourceFile::parse("mod m { fn f() {} }", Edition::CURRENT).tree();
+        file.syntax().descendants().find_map(ast::Fn::cast).unwrap().name().unwrap()
+    };
+    assert_eq!(name.text(), "f");
+    let above = std::thread::spawn(move || name.syntax().ancestors().map(|it| it.kind()).collect::<Vec<_>>()).join().unwrap();
+    assert_eq!(above, [SyntaxKind::NAME, SyntaxKind::FN, SyntaxKind::ITEM_LIST, SyntaxKind::MODULE, SyntaxKind::SOURCE_FILE]);
+}
+
+#[test]
+fn walks_enter_and_leave() {
+    for text in TEXTS {
+        let root = tree(text).syntax_node();
+        let mut open = Vec::new();
+        let mut entered = Vec::new();
+        for step in root.preorder_with_tokens() {
+            match step {
+                WalkEvent::Enter(it) => {
+                    open.push(it.clone());
+                    entered.push(it);
+                }
+                WalkEvent::Leave(it) => assert_eq!(open.pop(), Some(it)),
+            }
+        }
+        assert!(open.is_empty());
+        assert_eq!(entered, root.descendants_with_tokens().collect::<Vec<_>>());
+        let nodes: Vec<_> = root.preorder().filter_map(|it| if let WalkEvent::Enter(it) = it { Some(it) } else { None }).collect();
+        assert_eq!(nodes, root.descendants().collect::<Vec<_>>());
+        // Passing over each node's subtree leaves the root and its children.
+        let mut walk = root.preorder();
+        let mut outer = Vec::new();
+        while let Some(step) = walk.next() {
+            if let WalkEvent::Enter(node) = step {
+                if node != root {
+                    walk.skip_subtree();
+                }
+                outer.push(node);
+            }
+        }
+        assert_eq!(outer, std::iter::once(root.clone()).chain(root.children()).collect::<Vec<_>>());
+    }
+}
+
+#[test]
+fn nodes_are_found_again() {
+    for text in TEXTS {
+        let (root, again) = (tree(text).syntax_node(), tree(text).syntax_node());
+        for node in root.descendants() {
+            let found = SyntaxNodePtr::new(&node).to_node(&again);
+            assert_eq!((found.kind(), found.text_range()), (node.kind(), node.text_range()));
+        }
+    }
+    let pointer = SyntaxNodePtr::new(&tree("fn f() {}").syntax_node().first_child().unwrap());
+    assert_eq!(pointer.try_to_node(&tree("struct S;").syntax_node()), None);
+}
+
+fn above(node: &SyntaxNode, other: &SyntaxNode) -> SyntaxNode {
+    node.ancestors().find(|it| other.ancestors().any(|other| other == *it)).unwrap()
+}
+
+#[test]
+fn searches_equal_their_definitions() {
+    for text in TEXTS {
+        let root = tree(text).syntax_node();
+        let nodes: Vec<_> = root.descendants().collect();
+        for node in &nodes {
+            for other in &nodes {
+                assert_eq!(algo::least_common_ancestor(node, other), Some(above(node, other)));
+            }
+            let first = node.first_token().and_then(|it| it.prev_token());
+            let earlier = std::iter::successors(first, |it| it.prev_token()).find(|it| !it.kind().is_trivia());
+            assert_eq!(algo::previous_non_trivia_token(node.clone()), earlier);
+            let siblings: Vec<_> = node.siblings(Direction::Next).skip(1).filter(|it| it.kind() == node.kind()).collect();
+            let neighbor = ast::Expr::cast(node.clone()).and_then(|it| algo::neighbor(&it, Direction::Next));
+            if let Some(neighbor) = neighbor {
+                assert!(siblings.is_empty() || neighbor.syntax().text_range().start() <= siblings[0].text_range().start());
+            }
+        }
+        for offset in 0..=text.len() as u32 {
+            let found: Vec<_> = algo::ancestors_at_offset(&root, offset.into()).collect();
+            let mut wanted: Vec<_> = root.token_at_offset(offset.into()).flat_map(|it| it.parent_ancestors().collect::<Vec<_>>()).collect();
+            wanted.sort_by_key(|it| it.text_range().len());
+            assert_eq!(found, wanted, "{text:?} at {offset}");
+        }
+    }
+    let other = tree(TEXTS[1]).syntax_node();
+    assert_eq!(algo::least_common_ancestor(&other, &tree(TEXTS[1]).syntax_node()), None);
+}
+
+#[test]
+fn words_are_keywords_by_edition() {
+    use SyntaxKind::*;
+    for (text, edition, kind) in [("fn", Edition::Edition2015, Some(FN_KW)), ("async", Edition::Edition2015, None), ("async", Edition::Edition2018, Some(ASYNC_KW)), ("union", Edition::CURRENT, None)] {
+        assert_eq!(SyntaxKind::from_keyword(text, edition), kind);
+    }
+    assert_eq!(SyntaxKind::from_contextual_keyword("union", Edition::CURRENT), Some(UNION_KW));
+    assert!(DYN_KW.is_contextual_keyword(Edition::Edition2015) && !DYN_KW.is_contextual_keyword(Edition::CURRENT));
+    assert!(T![+].is_punct() && !T![fn].is_punct() && INT_NUMBER.is_literal() && IDENT.is_any_identifier());
+    for sign in "$;,(){}[]<>@#~?&|+*/^%_.:=!-".chars() {
+        assert!(SyntaxKind::from_char(sign).is_some_and(|it| it.is_punct()), "{sign}");
+    }
 }

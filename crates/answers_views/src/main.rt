@@ -2,6 +2,8 @@
 //!
 //! A line is a tree, or a heading that begins with `#`. The words are parted by a space: `KIND(` enters a node, `)` leaves it, and
 //! `KIND:text` is a token. After a line that makes no tree is `no tree`.
+//!
+//! With the argument `texts` a line is a text of Rust, in which `\n` is a newline. What is printed is what is printed for its tree.
 #![tactic(auto)]
 
 mod attrs;
@@ -12,12 +14,13 @@ mod loops;
 mod paths;
 mod rules;
 mod sheet;
+mod texts;
 
 use crate::sheet::Sheet;
 use ra_ap_syntax::{FinishError, SyntaxKind, SyntaxNode, TreeBuilder};
 use std::alloc::{AllocError, Global};
-use std::io;
 use std::process::ExitCode;
+use std::{env, io};
 
 // Why a line gives no tree.
 #[derive(Drop)]
@@ -72,7 +75,7 @@ fn answers(sheet: &mut Sheet, root: &SyntaxNode) -> Result<(), AllocError> {
         lookups::answers(sheet, &node)?;
         rules::answers(sheet, &node)?;
     }
-    rules::violations(sheet, root)
+    Ok(())
 }
 
 fn answer_line(sheet: &mut Sheet, line: &str) -> Result<(), AllocError> {
@@ -81,7 +84,10 @@ fn answer_line(sheet: &mut Sheet, line: &str) -> Result<(), AllocError> {
         return Ok(());
     }
     match read_tree(sheet.alloc(), line) {
-        Ok(root) => answers(sheet, &root),
+        Ok(root) => {
+            answers(sheet, &root)?;
+            rules::violations(sheet, &root)
+        }
         Err(Unread::Memory) => Err(AllocError),
         Err(Unread::NoTree) => sheet.line("no tree"),
     }
@@ -100,8 +106,24 @@ fn answers_of_input(rt: &HostRuntime) -> Result<Sheet, AllocError> {
     Ok(sheet)
 }
 
+// Whether the first argument asks for texts.
+fn is_texts(rt: &HostRuntime) -> bool {
+    match env::args(rt) {
+        Ok(mut words) => words.nth(1).is_some_and(|word| word.as_str() == "texts"),
+        Err(_error) => false,
+    }
+}
+
+fn answers_of(rt: &HostRuntime) -> Result<Sheet, AllocError> {
+    if is_texts(rt) {
+        texts::answers_of_texts(rt)
+    } else {
+        answers_of_input(rt)
+    }
+}
+
 fn main(rt: HostRuntime) -> ExitCode {
-    let printed = match answers_of_input(&rt) {
+    let printed = match answers_of(&rt) {
         Ok(sheet) => print!(rt; "{}", sheet.as_str()),
         Err(AllocError) => print!(rt; "out of memory\n"),
     };

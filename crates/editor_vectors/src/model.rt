@@ -133,6 +133,27 @@ impl Model {
         None
     }
 
+    /// The rows of the siblings from one row to another, or `None` if the last is neither the first nor a later sibling.
+    pub fn run(
+        &self,
+        alloc: Global,
+        first: usize,
+        last: usize,
+    ) -> Result<Option<Vec<usize>>, Fail> {
+        let parent = self.rows.as_slice().get(first).ok_or("no such row")?.parent;
+        let mut run = Vec::new(alloc);
+        for (row, model) in self.rows.as_slice().iter().enumerate() {
+            if first <= row && row <= last && model.parent == parent {
+                run.push(row)?;
+            }
+        }
+        if run.as_slice().last() == Some(&last) {
+            Ok(Some(run))
+        } else {
+            Ok(None)
+        }
+    }
+
     /// Makes a change: puts printed elements, which are so many nodes and tokens, into a slot.
     pub fn add(&mut self, row: usize, slot: Slot, printed: &str, count: usize) -> Result<(), Fail> {
         let model = self.rows.get_mut(row).ok_or("no such row")?;

@@ -6,7 +6,7 @@ use rand_core::Rng;
 use rand_pcg::Pcg32;
 use std::alloc::Global;
 use std::test::Fail;
-use syntax_editor::{ChangeError, Position, SyntaxEdit, SyntaxEditor};
+use syntax_editor::{ChangeError, Position, SyntaxAnnotation, SyntaxEdit, SyntaxEditor};
 
 const TREE: &str =
     "SOURCE_FILE( FN( :fn :~ NAME( :f ) PARAM_LIST( :( PARAM( IDENT_PAT( NAME( :a ) ) ) :) ) :~ BLOCK_EXPR( STMT_LIST( :{ :} ) ) ) :~ STRUCT( :struct :~ NAME( ) :; ) NAME( NAME( NAME( :deep ) :x ) :y ) )";
@@ -87,6 +87,112 @@ fn change(
     }
 }
 
+// The same for a run of siblings.
+fn run_change(
+    alloc: Global,
+    chance: &mut Chance,
+    editor: &mut SyntaxEditor,
+    model: &mut Model,
+    root: &SyntaxNode,
+    parts: &SyntaxNode,
+) -> Result<bool, Fail> {
+    let first = chance.below(model.len());
+    let start = root.element_at_row(first).ok_or("an element")?;
+    let mut end = root.element_at_row(first).ok_or("an element")?;
+    for _ in 0..chance.below(4) {
+        if let Some(next) = end.next_sibling_or_token() {
+            end = next;
+        }
+    }
+    if chance.below(6) == 0 {
+        end = root
+            .element_at_row(chance.below(model.len()))
+            .ok_or("an element")?;
+    }
+    let last = row_of(&end);
+    let mut elements = Vec::new(alloc);
+    let mut printed = String::new(alloc);
+    let mut rows = 0;
+    for _ in 0..chance.below(3) {
+        let part = parts.element_at_row(chance.below(9)).ok_or("a part")?;
+        print(alloc, &part, None, &mut printed)?;
+        rows += count(&part);
+        elements.push(part)?;
+    }
+    let result = if elements.is_empty() {
+        editor.delete_all(&start, &end)
+    } else {
+        editor.replace_all(&start, &end, elements.as_slice())
+    };
+    let run = model.run(alloc, first, last)?;
+    let expected = match &run {
+        Some(run) => run
+            .as_slice()
+            .iter()
+            .find_map(|row| model.refusal(*row, Slot::Instead)),
+        None => Some(ChangeError::NotSiblings),
+    };
+    match (result, expected, run) {
+        (Ok(()), None, Some(run)) => {
+            for row in run.as_slice() {
+                model.add(*row, Slot::Instead, "", 0)?;
+            }
+            model.add(first, Slot::Instead, printed.as_str(), rows)?;
+            Ok(true)
+        }
+        (Err(error), Some(reason), _) if error == reason => Ok(false),
+        (result, expected, _) => {
+            Err(Fail::from(format!(in alloc;
+                "rows {first} to {last}: {result:?}, not {expected:?}"
+            )?))
+        }
+    }
+}
+
+// An annotated row, and which annotation it has.
+#[derive(Clone, Copy)]
+struct Marked {
+    row: usize,
+    which: usize,
+}
+
+// Each annotation finds the rows that the model says, in the order of the calls.
+fn annotations_are_found(
+    alloc: Global,
+    edit: &SyntaxEdit,
+    annotations: &[SyntaxAnnotation],
+    marked: &[Marked],
+    places: &[Option<usize>],
+) -> Result<usize, Fail> {
+    let mapping = edit.mapping(alloc)?;
+    let mut sum = 0;
+    for (which, annotation) in annotations.iter().enumerate() {
+        let mut expected = Vec::new(alloc);
+        for mark in marked {
+            if mark.which == which
+                && let Some(row) = *places.get(mark.row).ok_or("a row")?
+            {
+                expected.push(row)?;
+            }
+        }
+        let mut found = Vec::new(alloc);
+        for element in edit.find_annotation(alloc, *annotation)? {
+            found.push(row_of(&element))?;
+        }
+        let mut again = Vec::new(alloc);
+        for element in mapping.find_annotation(alloc, *annotation)? {
+            again.push(row_of(&element))?;
+        }
+        if found.as_slice() != expected.as_slice() || again.as_slice() != expected.as_slice() {
+            return Err(Fail::from(format!(in alloc;
+                "annotation {which}: {found:?}, not {expected:?}"
+            )?));
+        }
+        sum += expected.len();
+    }
+    Ok(sum)
+}
+
 // The edit of the text makes the new text from the old one, and its inverse the old one from the new one; no part of it changes nothing.
 fn text_edit_is_the_difference(alloc: Global, edit: &SyntaxEdit) -> Result<(), Fail> {
     let text_edit = edit.text_edit(alloc)?;
@@ -113,7 +219,7 @@ fn kept_elements_are_found(
     edit: &SyntaxEdit,
     root: &SyntaxNode,
     model: &Model,
-) -> Result<(), Fail> {
+) -> Result<Vec<Option<usize>>, Fail> {
     let mut expected = Vec::new(alloc);
     let mut next = 0;
     new_rows(
@@ -144,10 +250,19 @@ fn kept_elements_are_found(
             return Err(Fail::from(format!(in alloc; "row {row}: another kind")?));
         }
     }
-    Ok(())
+    Ok(expected)
 }
 
-fn session(alloc: Global, seed: u64) -> Result<(usize, usize), Fail> {
+// What the sessions did.
+#[derive(Clone, Copy)]
+struct Sums {
+    taken: usize,
+    refused: usize,
+    runs: usize,
+    found: usize,
+}
+
+fn session(alloc: Global, seed: u64, sums: &mut Sums) -> Result<(), Fail> {
     let mut chance = Chance {
         numbers: Pcg32::new(seed, 54),
     };
@@ -155,18 +270,43 @@ fn session(alloc: Global, seed: u64) -> Result<(usize, usize), Fail> {
     let parts = PlainTree::read(alloc, PARTS)?.build(alloc)?;
     let mut editor = SyntaxEditor::new(alloc, &root)?;
     let mut model = Model::new(alloc, &root)?;
-    let mut taken = 0;
-    let mut refused = 0;
+    let mut annotations = Vec::new(alloc);
+    for _ in 0..3 {
+        annotations.push(editor.new_annotation()?)?;
+    }
+    let mut marked = Vec::new(alloc);
     for _ in 0..1 + chance.below(50) {
-        if change(alloc, &mut chance, &mut editor, &mut model, &root, &parts)? {
-            taken += 1;
+        if chance.below(3) == 0 {
+            let row = chance.below(model.len());
+            let which = chance.below(2);
+            let element = root.element_at_row(row).ok_or("an element")?;
+            let annotation = *annotations.as_slice().get(which).ok_or("an annotation")?;
+            editor.add_annotation(&element, annotation)?;
+            marked.push(Marked { row, which })?;
+        }
+        let is_run = chance.below(4) == 0;
+        let taken = if is_run {
+            run_change(alloc, &mut chance, &mut editor, &mut model, &root, &parts)?
         } else {
-            refused += 1;
+            change(alloc, &mut chance, &mut editor, &mut model, &root, &parts)?
+        };
+        if taken {
+            sums.taken += 1;
+            sums.runs += usize::from(is_run);
+        } else {
+            sums.refused += 1;
         }
     }
     let edit = editor.finish()?;
     text_edit_is_the_difference(alloc, &edit)?;
-    kept_elements_are_found(alloc, &edit, &root, &model)?;
+    let places = kept_elements_are_found(alloc, &edit, &root, &model)?;
+    sums.found += annotations_are_found(
+        alloc,
+        &edit,
+        annotations.as_slice(),
+        marked.as_slice(),
+        places.as_slice(),
+    )?;
     let mut expected = String::new(alloc);
     print(alloc, &NodeOrToken::Node(root), Some(&model), &mut expected)?;
     let mut found = String::new(alloc);
@@ -179,19 +319,22 @@ fn session(alloc: Global, seed: u64) -> Result<(usize, usize), Fail> {
     if expected.as_str() != found.as_str() {
         return Err(Fail::from(format!(in alloc; "seed {seed}: {found}, not {expected}")?));
     }
-    Ok((taken, refused))
+    Ok(())
 }
 
 #[test]
 fn random_sessions_are_as_the_model_says(rt: HostRuntime) -> Result<(), Fail> {
-    let mut taken = 0;
-    let mut refused = 0;
+    let mut sums = Sums {
+        taken: 0,
+        refused: 0,
+        runs: 0,
+        found: 0,
+    };
     for seed in 0..60 {
-        let (more, not) = session(rt.alloc(), seed)?;
-        taken += more;
-        refused += not;
+        session(rt.alloc(), seed, &mut sums)?;
     }
-    assert!(rt; taken > 300 && refused > 150);
+    assert!(rt; sums.taken > 300 && sums.refused > 150);
+    assert!(rt; sums.runs > 40 && sums.found > 100);
     Ok(())
 }
 
@@ -205,6 +348,42 @@ fn a_position_of_another_tree_is_refused(rt: HostRuntime) -> Result<(), Fail> {
     let foreign = other.element_at_row(1).ok_or("an element")?;
     assert_eq!(rt; editor.delete(&foreign), Err(ChangeError::OtherTree));
     let twin = equal.element_at_row(1).ok_or("an element")?;
+    let last = root.element_at_row(1).ok_or("an element")?;
+    let annotation = editor.new_annotation()?;
+    assert_eq!(rt;
+        editor.replace_all(&foreign, &last, &[]),
+        Err(ChangeError::OtherTree)
+    );
+    assert_eq!(rt;
+        editor.delete_all(&last, &foreign),
+        Err(ChangeError::OtherTree)
+    );
+    assert_eq!(rt;
+        editor.add_annotation(&foreign, annotation),
+        Err(ChangeError::OtherTree)
+    );
+    assert_eq!(rt; editor.add_annotation(&twin, annotation), Ok(()));
+    let unchanged = editor.finish()?;
+    assert_eq!(rt; unchanged.new_root().text().as_str(), root.text().as_str());
+    assert_eq!(rt; unchanged.find_annotation(alloc, annotation)?.len(), 1);
+    let mut editor = SyntaxEditor::new(alloc, &root)?;
     assert_eq!(rt; editor.delete(&twin), Ok(()));
+    Ok(())
+}
+
+#[test]
+fn annotations_of_an_editor_differ(rt: HostRuntime) -> Result<(), Fail> {
+    let alloc = rt.alloc();
+    let root = PlainTree::read(alloc, TREE)?.build(alloc)?;
+    let mut editor = SyntaxEditor::new(alloc, &root)?;
+    let first = editor.new_annotation()?;
+    let second = editor.new_annotation()?;
+    assert!(rt; first != second);
+    let element = root.element_at_row(2).ok_or("an element")?;
+    editor.add_annotation(&element, second)?;
+    editor.add_annotation(&element, second)?;
+    let edit = editor.finish()?;
+    assert_eq!(rt; edit.find_annotation(alloc, first)?.len(), 0);
+    assert_eq!(rt; edit.find_annotation(alloc, second)?.len(), 2);
     Ok(())
 }

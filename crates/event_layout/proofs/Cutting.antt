@@ -72,7 +72,7 @@ pub record Goes (n : ℕ) (ts : List Token) (s : List ℕ) : Type 0 where
   pub is_text : IsUtf8 (take n s)
   pub behind : IsCut ts (drop n s)
 
-goes_on : (t : Token) (ts : List Token) (a : ℕ) (s : List ℕ) → Goes a (t ∷ ts) s → Goes (a + t.len) ts s
+pub goes_on : (t : Token) (ts : List Token) (a : ℕ) (s : List ℕ) → Goes a (t ∷ ts) s → Goes (a + t.len) ts s
 goes_on t ts a s h =
     let c = h.behind in
     let long : t.len + a ≤ length s = omega (arith, c.0, h.within, length-drop a s) in

@@ -94,7 +94,7 @@ goes_kept root text k n ts s l h g =
     let short : length (drop n (drop s.position text)) < 2 ^ 32 = omega (arith, l, length-drop n (drop s.position text), length-drop s.position text) in
     leaf_kept root text k n ts 0 s l h g.within g.is_text (from_start ts (drop n (drop s.position text)) short g.behind) (omega arith)
 
-first_goes : (c : ℕ) (t : RawToken) (ts : List RawToken) (r : List ℕ) → IsCutFrom c (t ∷ ts) r → Goes (t.len - c) ts r
+pub first_goes : (c : ℕ) (t : RawToken) (ts : List RawToken) (r : List ℕ) → IsCutFrom c (t ∷ ts) r → Goes (t.len - c) ts r
 first_goes c t ts r h = record { within = h.1; is_text = h.2; behind = h.3 }
 
 pass_on_kept : (root : SyntaxKind) (text : List ℕ) (ts : List RawToken) (s : Laying) → length text < 2 ^ 32 → s.rest ≡ ts → Kept root text s → Kept root text (pass_on ts s)
@@ -166,7 +166,7 @@ enter_on_kept root text k true s h = record {
   lie = h.lie;
 }
 
-enter_kept : (root : SyntaxKind) (text : List ℕ) (k : SyntaxKind) (s : Laying) → Kept root text s → Kept root text (enter_of k s)
+pub enter_kept : (root : SyntaxKind) (text : List ℕ) (k : SyntaxKind) (s : Laying) → Kept root text s → Kept root text (enter_of k s)
 enter_kept root text k s h = enter_on_kept root text k (nat_lt s.depth (2 ^ 64 - 1)) s h
 
 one_less : (d : ℕ) → 0 < d → balance d (ends ∷ []) ≡ Some (d - 1)
@@ -239,7 +239,7 @@ obey_kept root g (Piece p last) number s l h = piece_event_kept root g.bytes p l
 obey_kept root g (Node k from) number s l h = node_event_kept root g.bytes (nat_eq number g.root) s h
 obey_kept root g (Error m) number s l h = fault_kept root g.bytes m s h
 
-obey_at_kept : (root : SyntaxKind) (g : Given) (o : Option Event) (number : ℕ) (s : Laying) → length g.bytes < 2 ^ 32 → Kept root g.bytes s → Kept root g.bytes (obey_at_of g o number s)
+pub obey_at_kept : (root : SyntaxKind) (g : Given) (o : Option Event) (number : ℕ) (s : Laying) → length g.bytes < 2 ^ 32 → Kept root g.bytes s → Kept root g.bytes (obey_at_of g o number s)
 obey_at_kept root g None number s l h = h
 obey_at_kept root g (Some e) number s l h = obey_kept root g e number s l h
 

@@ -103,7 +103,7 @@ ended root text s l h =
       no_depth = omega (arith, exited_depth p.depth p);
     }
 
-started : (root : SyntaxKind) (g : Given) (ts : List RawToken) → length g.bytes < 2 ^ 32 → IsCut ts g.bytes → Kept root g.bytes (start_of root g ts)
+pub started : (root : SyntaxKind) (g : Given) (ts : List RawToken) → length g.bytes < 2 ^ 32 → IsCut ts g.bytes → Kept root g.bytes (start_of root g ts)
 started root g ts l c = record {
   inner = [];
   steps_are = refl;

@@ -3,3 +3,7 @@ pub mod Cutting
 pub mod Keeping
 pub mod Laying
 pub mod Kept
+pub mod Chains
+pub mod Walking
+pub mod Seeing
+pub mod Making

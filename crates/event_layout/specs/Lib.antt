@@ -1,3 +1,4 @@
 pub mod Starts
 pub mod Trivia
 pub mod Layout
+pub mod Made

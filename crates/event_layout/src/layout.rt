@@ -3,6 +3,7 @@ ghost use Rattle.std.specs.Prelude.{position, nat_eq, ◌≡◌, ◌-◌, ◌≤
 ghost use Rattle.ras_front_end.specs.Reading.{front_step, front_steps};
 ghost use Rattle.token_layout.specs.Laid.{IsCut, Laid};
 ghost use Rattle.event_layout.specs.Layout.{laying_of, given_of, kind_of_part, len_of_part, cut_at, is_node_of, is_node_at, added, leaf_of, pass_of, pass_all_of, pass_trivia_of, join_of, joined_len, piece_of, enter_of, exit_of, exit_all_of, begin_of, begin_at_of, fault_of, obey_of, advance_of, finish_of, root_of, outermost_of, moves, moves_of, start_of, laid_with, laid_of};
+ghost use Rattle.event_layout.specs.Made.{without_trivia, only_tokens, made_of};
 
 use crate::starts::{Starts, find_starts};
 use crate::trivia::{behind, first, later, lead, outside, part};
@@ -484,6 +485,16 @@ pub fn lay_out(
 ) -> Result<LaidOut, AllocError>
     ensures steps { IfOk result (λ l. front_steps l.steps.items ≡ (laid_of root attaching.now text.now tokens.now events.now).steps) }
     ensures faults { IfOk result (λ l. l.faults.items ≡ (laid_of root attaching.now text.now tokens.now events.now).faults) }
+    // white space and comments aside, the nodes and tokens are those of the events, in order
+    ensures of_events { IfOk result (λ l.
+        length text.now < 2 ^ 32 → IsCut tokens.now text.now → length events.now < 2 ^ 32 →
+        without_trivia (front_steps l.steps.items)
+        ≡ without_trivia (made_of root tokens.now text.now events.now)) }
+    // all tokens are the lexer's, in order, but for those that events join or part
+    ensures all_tokens { IfOk result (λ l.
+        length text.now < 2 ^ 32 → IsCut tokens.now text.now → length events.now < 2 ^ 32 →
+        only_tokens (front_steps l.steps.items)
+        ≡ only_tokens (made_of root tokens.now text.now events.now)) }
     ensures one_tree { IfOk result (λ l. length text.now < 2 ^ 32 → IsCut tokens.now text.now → Laid root text.now (front_steps l.steps.items)) }
     ensures in_text { IfOk result (λ l. length text.now < 2 ^ 32 → IsCut tokens.now text.now → All (λ f. f.position ≤ length text.now) l.faults.items) }
 {

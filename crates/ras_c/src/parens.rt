@@ -83,7 +83,7 @@ fn listed(alloc: Global, text: &[u8], year: u32) -> Result<Vec<Range>, u32>
 }
 
 /// Finds the needless pairs of parentheses of a text of an edition, such as 2024, in preorder of the tree: those that
-/// `rust_tree parens` lists. All of them can be removed together.
+/// `rust_tree parens --all --mixed` lists. All of them can be removed together.
 ///
 /// Returns [`OK`], [`NOT_UTF8`], [`TOO_LONG`], [`NO_MEMORY`], [`NO_ROOM`] or [`NO_EDITION`]. A range is that of a `PAREN_EXPR`, with both
 /// parentheses. Put a blank in place of a parenthesis whose neighbours would be joined, as in `return(a)`. Pairs that rustc needs stay,

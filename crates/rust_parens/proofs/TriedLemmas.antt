@@ -14,7 +14,7 @@ use Rattle.ras_front_end.specs.Front.{Front}
 use Rattle.ras_front_end.specs.Parsed.{Parsed}
 use Rattle.rust_parens.specs.declared.needless.Tried.{Tried}
 use Rattle.rust_parens.specs.declared.needless.Run.{Run}
-use Rattle.rust_parens.specs.Needless.{fixed, MayGo, Refused, chosen, IsAnswer, with_pair, AreSorted, candidates_of, IsFixed, AreTried}
+use Rattle.rust_parens.specs.Needless.{fixed, MayGo, Refused, chosen, IsAnswer, with_pair, AreSorted, IsFixed, AreTriedAmong}
 use Rattle.rust_parens.specs.Runs.{as_tried, going, planned, IsText, ArePlan, AreRun, IsRun}
 
 abbrev pair_of : Tried → Cursor
@@ -321,23 +321,23 @@ fixed_more front entry edition old found more None s h e =
     subst (λ k. IsFixed front entry edition old k (option_map string_bytes s)) (sym (append_nil found) ∙ ap (λ k. found ++ k) (sym e)) h
 fixed_more front entry edition old found more (Some new) s h e = e
 
-pub noted : (front : Front) (entry : Entry) (edition : Edition) (old : Parsed) (found beside : List Cursor) (tried more : List Tried) (o s : Option (String Global)) (rest : List Cursor)
-    → AreTried front entry edition old found tried (option_map string_bytes s) → rest ≡ drop (length tried) (candidates_of old)
+pub noted : (front : Front) (entry : Entry) (edition : Edition) (old : Parsed) (candidates found beside : List Cursor) (tried more : List Tried) (o s : Option (String Global)) (rest : List Cursor)
+    → AreTriedAmong front entry edition old candidates found tried (option_map string_bytes s) → rest ≡ drop (length tried) candidates
     → beside ≡ found → AreRun front entry edition old beside rest more (option_map string_bytes o)
-    → AreTried front entry edition old (found ++ chosen more) (tried ++ more) (option_map string_bytes (option_or o s))
-noted front entry edition old found beside tried more o s rest h left same is' =
+    → AreTriedAmong front entry edition old candidates (found ++ chosen more) (tried ++ more) (option_map string_bytes (option_or o s))
+noted front entry edition old candidates found beside tried more o s rest h left same is' =
     let is : AreRun front entry edition old found rest more (option_map string_bytes o) = subst (λ k. AreRun front entry edition old k rest more (option_map string_bytes o)) same is' in record {
       in_order =
-          in_order (candidates_of old) tried more (drop (length more) rest) h.in_order
+          in_order candidates tried more (drop (length more) rest) h.in_order
           (sym left ∙ sym (take-append-drop (length more) rest) ∙ ap (λ k. k ++ drop (length more) rest) (sym is.in_order));
       going = ap (λ k. k ++ chosen more) h.going ∙ sym (chosen_append tried more);
       sorted = sorted_append (Refused front entry edition old) [] tried more h.sorted (subst (λ k. AreSorted (Refused front entry edition old) k more) h.going is.sorted);
       text = fixed_more front entry edition old found (chosen more) o s h.text is.text;
     }
 
-pub tried_within : (front : Front) (entry : Entry) (edition : Edition) (old : Parsed) (found : List Cursor) (tried : List Tried) (s : Option (List ℕ))
-    → AreTried front entry edition old found tried s → length tried ≤ length (candidates_of old)
-tried_within front entry edition old found tried s h =
-    let are : length tried ≡ min (length tried) (length (candidates_of old)) =
-    sym (length-map tried pair_of) ∙ ap length h.in_order ∙ length-take (length tried) (candidates_of old) in
-    subst (λ n. n ≤ length (candidates_of old)) (sym are) (min-le_right (length tried) (length (candidates_of old)))
+pub tried_within : (front : Front) (entry : Entry) (edition : Edition) (old : Parsed) (candidates found : List Cursor) (tried : List Tried) (s : Option (List ℕ))
+    → AreTriedAmong front entry edition old candidates found tried s → length tried ≤ length candidates
+tried_within front entry edition old candidates found tried s h =
+    let are : length tried ≡ min (length tried) (length candidates) =
+    sym (length-map tried pair_of) ∙ ap length h.in_order ∙ length-take (length tried) candidates in
+    subst (λ n. n ≤ length candidates) (sym are) (min-le_right (length tried) (length candidates))

@@ -88,9 +88,13 @@ abbrev pub IsFixed : Front → Entry → Edition → Parsed → List Cursor → 
 IsFixed front entry edition old pairs None = pairs ≡ []
 IsFixed front entry edition old pairs (Some s) = (s ≡ fixed old pairs) × MayGo front entry edition old pairs
 
--- the candidates that were tried, in order
-pub record AreTried (front : Front) (entry : Entry) (edition : Edition) (old : Parsed) (pairs : List Cursor) (tried : List Tried) (s : Option (List ℕ)) : Type 0 where
-  pub in_order : map (λ t. t.pair) tried ≡ take (length tried) (candidates_of old)
+-- the first of some candidates were tried, in order
+pub record AreTriedAmong (front : Front) (entry : Entry) (edition : Edition) (old : Parsed) (candidates pairs : List Cursor) (tried : List Tried) (s : Option (List ℕ)) : Type 0 where
+  pub in_order : map (λ t. t.pair) tried ≡ take (length tried) candidates
   pub going : pairs ≡ chosen tried
   pub sorted : AreSorted (Refused front entry edition old) [] tried
   pub text : IsFixed front entry edition old pairs s
+
+-- the first of all candidates were
+abbrev pub AreTried : Front → Entry → Edition → Parsed → List Cursor → List Tried → Option (List ℕ) → Type 0
+AreTried front entry edition old pairs tried s = AreTriedAmong front entry edition old (candidates_of old) pairs tried s

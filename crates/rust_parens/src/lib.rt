@@ -5,10 +5,12 @@ mod alone;
 mod find;
 mod guess;
 mod needless;
+mod place;
 mod rustc;
 mod text;
 
 pub use find::{may_go, pairs, parens_of};
-pub use needless::{Needless, Tried, find_needless};
+pub use needless::{Needless, Tried, find_needless, find_needless_among};
+pub use place::{PairPlace, place_of};
 pub use rustc::is_needed_by_rustc;
 pub use text::text_without;

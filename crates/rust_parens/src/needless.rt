@@ -1,6 +1,6 @@
 //! The pairs of a text that can be removed together, and the text without them.
 ghost use Rattle.std.specs.Prelude.{◌≡◌, not, get_or, false, ◌≤◌, ◌<◌, ◌↔◌, ◌++◌, map, length, is_some, IfOk, IfSome, OnOk, IsTrue, option_map, string_bytes};
-ghost use Rattle.rust_parens.specs.Needless.{IsMarkedOut, IsAnswer, AreTried, candidates_of, chosen, refused_of};
+ghost use Rattle.rust_parens.specs.Needless.{IsMarkedOut, IsAnswer, AreTried, AreTriedAmong, candidates_of, chosen, refused_of};
 ghost use Rattle.rust_parens.specs.Runs.{IsPlan, IsRun, as_tried, going, planned};
 
 use crate::alone::stays_alone;
@@ -345,6 +345,49 @@ fn staying(tried: &[Tried]) -> usize
     count
 }
 
+/// The pairs among these candidates that can be removed together, as [`find_needless`] returns them for all candidates of a text. The
+/// candidates are pairs of the parse, in preorder; other pairs stay.
+///
+/// # Errors
+///
+/// `AllocError` if memory runs out.
+pub fn find_needless_among<F: FrontEnd>(
+    alloc: Global,
+    front: &F,
+    entry: Entry,
+    edition: Edition,
+    old: &Parse<SyntaxNode>,
+    candidates: Vec<SyntaxNode>,
+) -> Result<Needless, AllocError>
+    ensures found { IfOk result (λ n. AreTriedAmong (F.answers front.now) entry edition old.now candidates.items n.pairs.items n.tried.items (option_map string_bytes n.text)) }
+    ensures all { IfOk result (λ n. length n.tried.items ≡ length candidates.items) }
+{
+    let trial = Trial {
+        front,
+        entry,
+        edition,
+        old,
+    };
+    let mut guess = Guess::new(alloc, candidates.as_slice())?;
+    let mut found = Vec::new(alloc);
+    let mut tried = Vec::new(alloc);
+    let mut text = None;
+    while tried.len() < candidates.len() {
+        let rest = &candidates[tried.len()..];
+        let beside = found.as_slice();
+        let run = trial.next_run(alloc, beside, rest, &mut guess)?;
+        let more = run.tried.as_slice();
+        add_chosen(&mut found, more)?;
+        add_tried(&mut tried, more)?;
+        text = run.text.or(text);
+    }
+    Ok(Needless {
+        pairs: found,
+        text,
+        tried,
+    })
+}
+
 /// The pairs of parentheses of a text that can be removed together. The pairs that [`pairs`](crate::pairs) returns are decided one after
 /// the other: a pair stays if the text without it, and without those before it that can be removed, parses to another tree than this one
 /// without these pairs, apart from white space and comments, or with another number of errors; or if such an expression around it does
@@ -368,29 +411,6 @@ pub fn find_needless<F: FrontEnd>(
     ensures found { IfOk result (λ n. AreTried (F.answers front.now) entry edition old.now n.pairs.items n.tried.items (option_map string_bytes n.text)) }
     ensures all { IfOk result (λ n. length n.tried.items ≡ length (candidates_of old.now)) }
 {
-    let trial = Trial {
-        front,
-        entry,
-        edition,
-        old,
-    };
     let candidates = pairs(alloc, old.root())?;
-    let mut guess = Guess::new(alloc, candidates.as_slice())?;
-    let mut found = Vec::new(alloc);
-    let mut tried = Vec::new(alloc);
-    let mut text = None;
-    while tried.len() < candidates.len() {
-        let rest = &candidates[tried.len()..];
-        let beside = found.as_slice();
-        let run = trial.next_run(alloc, beside, rest, &mut guess)?;
-        let more = run.tried.as_slice();
-        add_chosen(&mut found, more)?;
-        add_tried(&mut tried, more)?;
-        text = run.text.or(text);
-    }
-    Ok(Needless {
-        pairs: found,
-        text,
-        tried,
-    })
+    find_needless_among(alloc, front, entry, edition, old, candidates)
 }

@@ -1,5 +1,5 @@
 -- The labels of items, in one line.
-use Rattle.std.specs.Prelude.{ℕ, Bool, true, false, not, ◌||◌, if◌then◌else◌, List, [], ◌∷◌, ◌++◌, Option, Some, None, map}
+use Rattle.std.specs.Prelude.{ℕ, Bool, true, false, not, ◌||◌, nat_lt, length, if◌then◌else◌, List, [], ◌∷◌, ◌++◌, Option, Some, None, map}
 use Rattle.lossless_tree.specs.declared.cursor.element.NodeOrToken.TheVariants as element
 use Rattle.lossless_tree.specs.Element.{element_of, is_trivia_element}
 use Rattle.syntax_kind.specs.declared.syntax_kind.SyntaxKind.{SyntaxKind}
@@ -12,6 +12,7 @@ use Rattle.ras_node.specs.Nodes.{kind_at}
 use Rattle.rust_report.specs.declared.items.Row.{Row}
 use Rattle.rust_report.specs.Outlines.{is_unheaded, label_of}
 use Rattle.rust_report.specs.Steps.{Element}
+use Rattle.rust_report.specs.Texts.{widest}
 
 -- a token after a line, with a blank between if something was left out there
 abbrev pub joined : Bool → List ℕ → List ℕ → List ℕ
@@ -19,10 +20,17 @@ joined gap [] t = t
 joined true s t = s ++ (32 ∷ t)
 joined false s t = s ++ t
 
+-- a line that is longer than what is shown of it
+abbrev pub is_full : List ℕ → Bool
+is_full line = nat_lt widest (length line)
+
 -- a line, and whether something was left out after it, with a further token: white space and comments are left out, and a node adds nothing
+abbrev pub with_token : List ℕ × Bool → Element → List ℕ → List ℕ × Bool
+with_token st x t = if is_trivia_element x then (st.0, true) else (joined st.1 st.0 t, false)
+
 abbrev pub with_element : List ℕ × Bool → Element → List ℕ × Bool
 with_element st (element.Node c) = st
-with_element st (element.Token c) = if is_trivia_element (element.Token c) then (st.0, true) else (joined st.1 st.0 (text (focus c)), false)
+with_element st (element.Token c) = if is_full st.0 then st else with_token st (element.Token c) (text (focus c))
 
 abbrev pub with_elements : List ℕ × Bool → List Element → List ℕ × Bool
 with_elements st [] = st

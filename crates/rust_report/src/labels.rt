@@ -3,9 +3,10 @@ ghost use Rattle.std.specs.Prelude.{◌≡◌, IfOk, OnOk, string_bytes, map, []
 ghost use Rattle.tree_model.specs.Cursor.{children_of};
 ghost use Rattle.lossless_tree.specs.Element.{element_of};
 ghost use Rattle.lossless_tree.specs.declared.cursor.element.NodeOrToken.TheVariants.{Node};
-ghost use Rattle.rust_report.specs.Labels.{is_part, joined, with_element, with_elements, elements_in, with_children, line_of, label_line};
+ghost use Rattle.rust_report.specs.Labels.{is_part, joined, with_element, with_elements, elements_in, with_children, is_full, line_of, label_line};
 
 use crate::items::{Row, Unheaded, label_of};
+use crate::texts::WIDEST;
 use lossless_tree::{NodeOrToken, SyntaxElement, SyntaxKind, SyntaxNode};
 use ras_node::KindSet;
 use std::alloc::{AllocError, Global};
@@ -27,14 +28,24 @@ fn push_token(line: &mut String, gap: bool, token: &str) -> Result<(), AllocErro
     line.push_str(token)
 }
 
-// Appends a token to a line, unless it is white space or a comment; a node adds nothing. Returns whether the line is to have a blank before
-// the next token.
+// Whether a line is longer than what is shown of it. A label may be most of a file, and the labels of items in it as well.
+fn is_full(line: &str) -> bool
+    ensures { result ≡ is_full line.now }
+{
+    WIDEST < line.len()
+}
+
+// Appends a token to a line, unless it is white space or a comment, or the line is full; a node adds nothing. Returns whether the line is
+// to have a blank before the next token.
 fn push_element(line: &mut String, gap: bool, element: &SyntaxElement) -> Result<bool, AllocError>
     ensures { IfOk result (λ g. (string_bytes line.new, g) ≡ with_element (string_bytes line.old, gap) element.now) }
 {
     let NodeOrToken::Token(token) = element else {
         return Ok(gap);
     };
+    if is_full(line) {
+        return Ok(gap);
+    }
     if element.is_trivia() {
         return Ok(true);
     }
@@ -42,12 +53,15 @@ fn push_element(line: &mut String, gap: bool, element: &SyntaxElement) -> Result
     Ok(false)
 }
 
-#[tactic(auto, using(crate::proofs::LabelsLemmas::stepped, crate::proofs::LabelsLemmas::ended))]
+#[tactic(auto, using(crate::proofs::LabelsLemmas::stepped, crate::proofs::LabelsLemmas::ended, crate::proofs::LabelsLemmas::filled))]
 fn push_tokens(line: &mut String, gap: bool, node: &SyntaxNode) -> Result<bool, AllocError>
     ensures { IfOk result (λ g. (string_bytes line.new, g) ≡ with_elements (string_bytes line.old, gap) (elements_in (Node node.now))) }
 {
     let mut gap = gap;
     for element in node.descendants_with_tokens() {
+        if is_full(line) {
+            return Ok(gap);
+        }
         gap = push_element(line, gap, &element)?;
     }
     Ok(gap)
@@ -89,9 +103,10 @@ fn own_line(alloc: Global, label: &Option<SyntaxElement>) -> Result<String, Allo
 }
 
 /// The label of an item in one line: the tokens of [`label_of`], and of an `impl` all tokens from there to its `where` or its items. Each run
-/// of white space and comments is one blank. The line of an item without a label is empty.
+/// of white space and comments is one blank. The line of an item without a label is empty. No token is added to a line of more than
+/// [`WIDEST`] bytes.
 ///
-/// Takes time linear in the label and in the number of children of an `impl`.
+/// Takes time linear in the line and in the number of children of an `impl`.
 ///
 /// # Errors
 ///

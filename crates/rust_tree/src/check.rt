@@ -9,8 +9,8 @@ use ras_front_end::SyntaxError;
 use rust_report::{Escaped, Marks, Medium, Spots, excerpt_at, plain_message};
 use serde::Serialize;
 use std::alloc::Global;
-use std::io;
 use std::io::Write;
+use std::{fmt, io};
 
 // An error in JSON. Lines and columns count from 1, columns in characters; `start` and `end` are offsets in bytes.
 #[derive(Drop, Serialize)]
@@ -23,6 +23,33 @@ struct ErrorRecord<'a> {
     start: u32,
     end: u32,
     message: &'a str,
+}
+
+// How many errors are not shown, as they begin where a shown one does.
+#[derive(Clone, Copy)]
+struct More(usize);
+
+impl fmt::Display for More {
+    fn fmt<W: fmt::Write>(&self, f: &mut fmt::Formatter<W>) -> fmt::Result {
+        if self.0 == 0 {
+            Ok(())
+        } else {
+            write!(f, " (and {} more here)", self.0)
+        }
+    }
+}
+
+// How many errors directly behind one begin where it does.
+fn more_behind(errors: &[SyntaxError], at: usize, error: &SyntaxError) -> usize {
+    let start = error.range().start();
+    let mut more: usize = 0;
+    for other in errors.iter().skip(at).skip(1) {
+        if other.range().start() != start {
+            break;
+        }
+        more = more.saturating_add(1);
+    }
+    more
 }
 
 // The message of an error in the words that are asked for.
@@ -40,13 +67,14 @@ fn write_text<W: Write>(
     path: &str,
     spots: &mut Spots<'_>,
     error: &SyntaxError,
+    more: More,
     asked: Asked,
 ) -> io::Result<()> {
     let style = asked.style;
     let from = move_to(spots, error.range().start());
     let (red, plain) = (style.red(), style.plain());
     write_place(out, path, from, style)?;
-    writeln!(out, "{red}{}{plain}", name(message_of(error, asked)))?;
+    writeln!(out, "{red}{}{plain}{more}", name(message_of(error, asked)))?;
     let excerpt = excerpt_at(spots.lines(), error.range());
     writeln!(out, "{:>5} | {excerpt}", from.line)?;
     writeln!(out, "      | {red}{}{plain}", Marks { excerpt })
@@ -80,6 +108,7 @@ fn write_github<W: Write>(
     name: &str,
     spots: &mut Spots<'_>,
     error: &SyntaxError,
+    more: More,
     asked: Asked,
 ) -> io::Result<()> {
     let from = move_to(spots, error.range().start());
@@ -95,7 +124,7 @@ fn write_github<W: Write>(
     write!(out, "::error file={file},")?;
     write!(out, "line={},col={},", from.line, from.column)?;
     write!(out, "endLine={},endColumn={}", to.line, to.column)?;
-    writeln!(out, "::{message}")
+    writeln!(out, "::{message}{more}")
 }
 
 fn write_all<W: Write>(
@@ -111,21 +140,32 @@ fn write_all<W: Write>(
     let Source { name, text, .. } = source;
     let mut spots = spots(alloc, text)?;
     let mut left = asked.max_errors;
-    for error in errors {
+    let folds = !asked.all_errors && !asked.is_upstream && !matches!(asked.format, Form::Json);
+    let mut folded: usize = 0;
+    for (at, error) in errors.iter().enumerate() {
+        if folded > 0 {
+            folded -= 1;
+            continue;
+        }
         if left == 0 {
             break;
         }
         left -= 1;
+        if folds {
+            folded = more_behind(errors, at, error);
+        }
+        let more = More(folded);
         match asked.format {
-            Form::Text => write_text(out, name, &mut spots, error, asked)?,
+            Form::Text => write_text(out, name, &mut spots, error, more, asked)?,
             Form::Json => write_json(alloc, out, name, &mut spots, error)?,
-            Form::Github => write_github(out, name, &mut spots, error, asked)?,
+            Form::Github => write_github(out, name, &mut spots, error, more, asked)?,
         }
     }
     Ok(errors.len() as u64)
 }
 
-/// Writes the errors of a text, at most `asked.max_errors`. Returns the number of all of them.
+/// Writes the errors of a text, at most `asked.max_errors`, and of several at one place only the first and how many more there are, unless
+/// all are asked for. JSON has all. Returns the number of all of them.
 pub fn check<W: Write>(
     alloc: Global,
     out: &mut W,

@@ -5,7 +5,7 @@ use crate::editions::{Choice, Manifests};
 use crate::failure::Failure;
 use crate::highlight::Ink;
 use crate::inputs::{Read, files_below, is_folder, text_of};
-use crate::options::Asked;
+use crate::options::{Asked, Summary};
 use crate::session::{Noun, Session, UNREAD};
 use crate::shown::name;
 use crate::source::Source;
@@ -129,8 +129,25 @@ fn parens<W: Write>(
     asked: Asked,
     then: Then,
 ) -> Result<u64, Failure> {
-    let found = parens::needless(rt.alloc(), source.text, asked.reading)?;
+    let found = parens::needless(rt.alloc(), source.text, asked.reading, asked.wanted)?;
     write_pairs(rt, out, source, &found, asked, then)
+}
+
+// Writes the line about a file that stands for a report.
+fn write_summary<W: Write>(
+    out: &mut W,
+    path: &str,
+    found: u64,
+    summary: Summary,
+) -> io::Result<()> {
+    if found == 0 {
+        return Ok(());
+    }
+    match summary {
+        Summary::Whole => Ok(()),
+        Summary::Count => writeln!(out, "{}:{found}", name(path)),
+        Summary::Name => writeln!(out, "{}", name(path)),
+    }
 }
 
 impl Job {
@@ -176,8 +193,13 @@ impl Job {
     ) -> io::Result<()> {
         let mut asked = self.asked;
         asked.reading.edition = edition;
-        match self.report(rt, out, source, asked) {
+        let reported = match asked.summary {
+            Summary::Whole => self.report(rt, out, source, asked),
+            _ => self.report(rt, &mut io::sink(), source, asked),
+        };
+        match reported {
             Ok(found) => {
+                write_summary(out, source.name, found, asked.summary)?;
                 session.read(source.text.len(), found);
                 session.show_progress(rt)
             }

@@ -22,6 +22,30 @@ pub enum Form {
     Github,
 }
 
+/// Which pairs of parentheses are wanted, by what they are a part of.
+#[derive(Clone, Copy, Debug)]
+pub struct Wanted {
+    /// Whole values, as rustc's lint `unused_parens` names them.
+    pub values: bool,
+    /// Operands.
+    pub operands: bool,
+    /// Arithmetic below a shift, where clippy's lint `precedence` asks for the pair.
+    pub mixed: bool,
+    /// Those in other places.
+    pub others: bool,
+}
+
+/// What is printed about a file.
+#[derive(Clone, Copy, Debug, PartialEq, Eq)]
+pub enum Summary {
+    /// All that was found.
+    Whole,
+    /// How much was found, if anything was.
+    Count,
+    /// The name of the file, if something was found.
+    Name,
+}
+
 /// How files are read, and how reports on them are written.
 #[derive(Clone, Copy, Debug)]
 pub struct Asked {
@@ -35,10 +59,16 @@ pub struct Asked {
     pub style: Style,
     /// The most errors of a file that are listed.
     pub max_errors: usize,
+    /// Whether each error has lines of its own, also further ones at the place of another.
+    pub all_errors: bool,
+    /// What is printed about a file.
+    pub summary: Summary,
     /// Whether messages are those of rust-analyzer's parser.
     pub is_upstream: bool,
     /// How folders are searched.
     pub search: Search,
+    /// Which pairs `parens` finds.
+    pub wanted: Wanted,
 }
 
 impl Asked {
@@ -50,13 +80,37 @@ impl Asked {
             format: form_of(matches),
             style,
             max_errors: max_errors(matches),
+            all_errors: matches.get_flag("all-errors"),
+            summary: summary_of(matches),
             is_upstream: matches.get_str("messages") == Some("upstream"),
             search: Search {
                 follow: matches.get_flag("follow"),
                 hidden: matches.get_flag("hidden"),
                 target: matches.get_flag("no-ignore"),
             },
+            wanted: wanted_of(matches),
         }
+    }
+}
+
+fn summary_of(matches: &ArgMatches) -> Summary {
+    if matches.get_flag("files-with-matches") {
+        Summary::Name
+    } else if matches.get_flag("count") {
+        Summary::Count
+    } else {
+        Summary::Whole
+    }
+}
+
+fn wanted_of(matches: &ArgMatches) -> Wanted {
+    let all = matches.get_flag("all");
+    let only = matches.get_str("only");
+    Wanted {
+        values: matches!(only, None | Some("values")),
+        operands: only == Some("operands") || (all && only.is_none()),
+        mixed: matches.get_flag("mixed"),
+        others: only == Some("others") || (all && only.is_none()),
     }
 }
 

@@ -2,16 +2,16 @@
 
 use crate::failure::Failure;
 use crate::json;
-use crate::options::{Asked, Form};
+use crate::options::{Asked, Form, Wanted};
 use crate::shown::{cut, write_place, write_short};
 use crate::source::{Reading, Source, move_to, parsed, spots};
 use lossless_tree::SyntaxNode;
 use ras_front_end::ParseError;
 use rust_front::Rust;
-use rust_parens::{Needless, find_needless};
+use rust_parens::{Needless, PairPlace, find_needless_among, pairs, place_of};
 use rust_report::{Spot, Spots};
 use serde::Serialize;
-use std::alloc::Global;
+use std::alloc::{AllocError, Global};
 use std::io;
 use std::io::Write;
 
@@ -26,12 +26,58 @@ struct PairRecord<'a> {
     end: u32,
     text: &'a str,
     cut: bool,
+    place: &'a str,
 }
 
-/// The pairs of a text that can all be removed together.
-pub fn needless(alloc: Global, text: &str, reading: Reading) -> Result<Needless, ParseError> {
+fn is_wanted(wanted: Wanted, pair: &SyntaxNode) -> bool {
+    match place_of(pair) {
+        PairPlace::Value => wanted.values,
+        PairPlace::Operand => wanted.operands,
+        PairPlace::Mixed => wanted.mixed,
+        PairPlace::Other => wanted.others,
+    }
+}
+
+fn wanted_pairs(
+    alloc: Global,
+    root: &SyntaxNode,
+    wanted: Wanted,
+) -> Result<Vec<SyntaxNode>, AllocError> {
+    let mut found = Vec::new(alloc);
+    for pair in pairs(alloc, root)? {
+        if is_wanted(wanted, &pair) {
+            found.push(pair)?;
+        }
+    }
+    Ok(found)
+}
+
+/// The pairs of a text that can all be removed together, of those that are wanted.
+pub fn needless(
+    alloc: Global,
+    text: &str,
+    reading: Reading,
+    wanted: Wanted,
+) -> Result<Needless, ParseError> {
     let parse = parsed(alloc, text, reading)?;
-    Ok(find_needless(alloc, &Rust, reading.entry, reading.edition, &parse)?)
+    let candidates = wanted_pairs(alloc, parse.root(), wanted)?;
+    Ok(find_needless_among(
+        alloc,
+        &Rust,
+        reading.entry,
+        reading.edition,
+        &parse,
+        candidates,
+    )?)
+}
+
+fn word_of(place: PairPlace) -> &'static str {
+    match place {
+        PairPlace::Value => "value",
+        PairPlace::Operand => "operand",
+        PairPlace::Mixed => "mixed",
+        PairPlace::Other => "other",
+    }
 }
 
 fn write_json<W: Write>(
@@ -51,6 +97,7 @@ fn write_json<W: Write>(
         end: range.end().raw(),
         text,
         cut,
+        place: word_of(place_of(pair)),
     };
     json::write_line(alloc, out, &record)
 }

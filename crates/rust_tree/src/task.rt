@@ -59,7 +59,13 @@ fn highlight_task(rt: &HostRuntime, matches: &ArgMatches) -> Result<Task, Refusa
 }
 
 fn query_task(rt: &HostRuntime, matches: &ArgMatches) -> Result<Task, Refusal> {
-    match parse_pattern(rt.alloc(), matches.get_str("PATTERN").unwrap_or("")) {
+    // Kinds may be written in any case; the other signs of a pattern have none.
+    let text = matches.get_str("PATTERN").unwrap_or("");
+    let pattern = match text.to_ascii_uppercase(rt.alloc()) {
+        Ok(pattern) => pattern,
+        Err(error) => return Err(Refusal::Pattern(PatternError::from(error))),
+    };
+    match parse_pattern(rt.alloc(), pattern.as_str()) {
         Ok(steps) => Ok(Task::Query { steps }),
         Err(error) => Err(Refusal::Pattern(error)),
     }

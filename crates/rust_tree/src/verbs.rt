@@ -154,6 +154,30 @@ const MAX_ERRORS: Row = Row {
     help: "The number of errors of each file that are listed",
 };
 
+const ALL_ERRORS: Row = Row {
+    name: "all-errors",
+    takes: Takes::Nothing,
+    default: None,
+    conflicts: &[],
+    help: "Gives each error a line, also further ones at the place of another",
+};
+
+const COUNT: Row = Row {
+    name: "count",
+    takes: Takes::Letter('c'),
+    default: None,
+    conflicts: &[],
+    help: "Prints only how much was found in each file, if anything was",
+};
+
+const FILES_WITH_MATCHES: Row = Row {
+    name: "files-with-matches",
+    takes: Takes::Letter('l'),
+    default: None,
+    conflicts: &["count"],
+    help: "Prints only the names of the files in which something was found",
+};
+
 const MESSAGES: Row = Row {
     name: "messages",
     takes: Takes::OneOf(&["plain", "upstream"]),
@@ -250,6 +274,30 @@ const FIX: Row = Row {
     help: "Removes the pairs from each file; the exit status is 0 then",
 };
 
+const ALL: Row = Row {
+    name: "all",
+    takes: Takes::Nothing,
+    default: None,
+    conflicts: &[],
+    help: "Finds operands too, and pairs in all other places, but for those of `--mixed`",
+};
+
+const MIXED: Row = Row {
+    name: "mixed",
+    takes: Takes::Nothing,
+    default: None,
+    conflicts: &[],
+    help: "Finds arithmetic below a shift too, where clippy's `precedence` asks for the pair",
+};
+
+const ONLY: Row = Row {
+    name: "only",
+    takes: Takes::OneOf(&["values", "operands", "others"]),
+    default: None,
+    conflicts: &["all"],
+    help: "Finds the pairs in these places alone; without `--all` it is `values`",
+};
+
 const LIMIT: Row = Row {
     name: "limit",
     takes: Takes::Number,
@@ -266,93 +314,204 @@ const IGNORE_TRIVIA: Row = Row {
     help: "Ignores white space and comments",
 };
 
-static VERBS: [Verb; 8] = [
-    Verb {
-        name: "tree",
-        about: "Prints the tree of each file, and its errors",
-        example: "Example: rust_tree tree --no-trivia --depth 3 src/main.rs",
-        rows: &[
-            TREE_FORMAT,
-            ENTRY,
-            NO_VALIDATION,
-            AT,
-            RANGE,
-            DEPTH,
-            NO_TRIVIA,
-            STATS,
-            FOLLOW,
-            HIDDEN,
-            NO_IGNORE,
-            EDITION,
-            COLOR,
-            QUIET,
-            FILES,
-        ],
-    },
-    Verb {
-        name: "check",
-        about: "Lists the syntax errors of each file; the exit status is 1 if there is one",
-        example: "Example: rust_tree check --format json src",
-        rows: &[
-            CHECK_FORMAT,
-            ENTRY,
-            NO_VALIDATION,
-            MAX_ERRORS,
-            MESSAGES,
-            FOLLOW,
-            HIDDEN,
-            NO_IGNORE,
-            EDITION,
-            COLOR,
-            QUIET,
-            FILES,
-        ],
-    },
-    Verb {
-        name: "outline",
-        about: "Lists the items of each file, each before the items in it",
-        example: "Example: rust_tree outline src/lib.rs",
-        rows: &[
-            FORMAT, FOLLOW, HIDDEN, NO_IGNORE, EDITION, COLOR, QUIET, FILES,
-        ],
-    },
-    Verb {
-        name: "parens",
-        about: "Lists the pairs of parentheses without which a file parses to the same tree; the exit status is 1 if there is one",
-        example: "Example: rust_tree parens --diff src",
-        rows: &[
-            FORMAT, DIFF, FIX, FOLLOW, HIDDEN, NO_IGNORE, EDITION, COLOR, QUIET, FILES,
-        ],
-    },
-    Verb {
-        name: "tokens",
-        about: "Lists the lexer's tokens of each file, and its errors",
-        example: "Example: rust_tree tokens src/main.rs",
-        rows: &[
-            FORMAT, FOLLOW, HIDDEN, NO_IGNORE, EDITION, COLOR, QUIET, FILES,
-        ],
-    },
-    Verb {
-        name: "query",
-        about: "Finds nodes and tokens by kind and place; the exit status is 1 if there is one",
-        example: "Example: rust_tree query 'FN > NAME' src",
-        rows: &[
-            FORMAT, PATTERN, FOLLOW, HIDDEN, NO_IGNORE, EDITION, COLOR, QUIET, FILES,
-        ],
-    },
-    Verb {
-        name: "highlight",
-        about: "Prints a file with syntax highlighting",
-        example: "Example: rust_tree highlight --format html src/main.rs > main.html",
-        rows: &[INK, EDITION, ENTRY, QUIET, FILE],
-    },
-    Verb {
-        name: "diff",
-        about: "Prints where the trees of two files differ; the exit status is 1 if they do",
-        example: "Example: rust_tree diff --no-trivia old.rs new.rs",
-        rows: &[IGNORE_TRIVIA, LIMIT, EDITION, ENTRY, QUIET, OLD, NEW],
-    },
+static TREE_VERB: Verb = Verb {
+    name: "tree",
+    about: "Prints the tree of each file, and its errors",
+    example: "Example: rust_tree tree --no-trivia --depth 3 src/main.rs",
+    rows: &[
+        TREE_FORMAT,
+        ENTRY,
+        NO_VALIDATION,
+        AT,
+        RANGE,
+        DEPTH,
+        NO_TRIVIA,
+        STATS,
+        FOLLOW,
+        HIDDEN,
+        NO_IGNORE,
+        EDITION,
+        COLOR,
+        QUIET,
+        FILES,
+    ],
+};
+
+static CHECK_VERB: Verb = Verb {
+    name: "check",
+    about: "Lists the syntax errors of each file; the exit status is 1 if there is one",
+    example: "Example: rust_tree check --format json src",
+    rows: &[
+        CHECK_FORMAT,
+        ENTRY,
+        NO_VALIDATION,
+        MAX_ERRORS,
+        ALL_ERRORS,
+        COUNT,
+        FILES_WITH_MATCHES,
+        MESSAGES,
+        FOLLOW,
+        HIDDEN,
+        NO_IGNORE,
+        EDITION,
+        COLOR,
+        QUIET,
+        FILES,
+    ],
+};
+
+static OUTLINE_VERB: Verb = Verb {
+    name: "outline",
+    about: "Lists the items of each file, each before the items in it",
+    example: "Example: rust_tree outline src/lib.rs",
+    rows: &[
+        COUNT,
+        FILES_WITH_MATCHES,
+        FORMAT,
+        FOLLOW,
+        HIDDEN,
+        NO_IGNORE,
+        EDITION,
+        COLOR,
+        QUIET,
+        FILES,
+    ],
+};
+
+static PARENS_VERB: Verb = Verb {
+    name: "parens",
+    about: "Lists the pairs of parentheses without which a file parses to the same tree; the exit status is 1 if there is one",
+    example: "Example: rust_tree parens --diff src",
+    rows: &[
+        FORMAT,
+        DIFF,
+        FIX,
+        ALL,
+        ONLY,
+        MIXED,
+        COUNT,
+        FILES_WITH_MATCHES,
+        FOLLOW,
+        HIDDEN,
+        NO_IGNORE,
+        EDITION,
+        COLOR,
+        QUIET,
+        FILES,
+    ],
+};
+
+static TOKENS_VERB: Verb = Verb {
+    name: "tokens",
+    about: "Lists the lexer's tokens of each file, and its errors",
+    example: "Example: rust_tree tokens src/main.rs",
+    rows: &[
+        FORMAT, FOLLOW, HIDDEN, NO_IGNORE, EDITION, COLOR, QUIET, FILES,
+    ],
+};
+
+static QUERY_VERB: Verb = Verb {
+    name: "query",
+    about: "Finds nodes and tokens by kind and place; the exit status is 1 if there is one",
+    example: "Example: rust_tree query 'FN > NAME' src",
+    rows: &[
+        COUNT,
+        FILES_WITH_MATCHES,
+        FORMAT,
+        PATTERN,
+        FOLLOW,
+        HIDDEN,
+        NO_IGNORE,
+        EDITION,
+        COLOR,
+        QUIET,
+        FILES,
+    ],
+};
+
+static HIGHLIGHT_VERB: Verb = Verb {
+    name: "highlight",
+    about: "Prints a file with syntax highlighting",
+    example: "Example: rust_tree highlight --format html src/main.rs > main.html",
+    rows: &[INK, EDITION, ENTRY, QUIET, FILE],
+};
+
+static DIFF_VERB: Verb = Verb {
+    name: "diff",
+    about: "Prints where the trees of two files differ; the exit status is 1 if they do",
+    example: "Example: rust_tree diff --no-trivia old.rs new.rs",
+    rows: &[IGNORE_TRIVIA, LIMIT, EDITION, ENTRY, QUIET, OLD, NEW],
+};
+
+// The commands, in the order of the help.
+#[derive(Clone, Copy)]
+enum Name {
+    Tree,
+    Check,
+    Outline,
+    Parens,
+    Tokens,
+    Query,
+    Highlight,
+    Diff,
+}
+
+static NAMES: [Name; 8] = [
+    Name::Tree,
+    Name::Check,
+    Name::Outline,
+    Name::Parens,
+    Name::Tokens,
+    Name::Query,
+    Name::Highlight,
+    Name::Diff,
 ];
+
+// A call for each command: a check writes out the rows of a table that a function names, and those of all commands are too much for one.
+fn tree() -> &'static Verb {
+    &TREE_VERB
+}
+
+fn check() -> &'static Verb {
+    &CHECK_VERB
+}
+
+fn outline() -> &'static Verb {
+    &OUTLINE_VERB
+}
+
+fn parens() -> &'static Verb {
+    &PARENS_VERB
+}
+
+fn tokens() -> &'static Verb {
+    &TOKENS_VERB
+}
+
+fn query() -> &'static Verb {
+    &QUERY_VERB
+}
+
+fn highlight() -> &'static Verb {
+    &HIGHLIGHT_VERB
+}
+
+fn diff() -> &'static Verb {
+    &DIFF_VERB
+}
+
+fn verb_of(name: Name) -> &'static Verb {
+    match name {
+        Name::Tree => tree(),
+        Name::Check => check(),
+        Name::Outline => outline(),
+        Name::Parens => parens(),
+        Name::Tokens => tokens(),
+        Name::Query => query(),
+        Name::Highlight => highlight(),
+        Name::Diff => diff(),
+    }
+}
 
 fn flag<'a>(arg: Arg<'a>, name: &'a str) -> Arg<'a> {
     arg.long(name).action(ArgAction::SetTrue)
@@ -414,8 +573,8 @@ pub fn program<'a>(alloc: Global) -> Result<Command<'a>, AllocError> {
         .about("Parses Rust files without losing a byte")
         .version("0.1.0")
         .subcommand_required(true);
-    for verb in &VERBS {
-        program = program.subcommand(command_of(alloc, verb)?)?;
+    for &name in &NAMES {
+        program = program.subcommand(command_of(alloc, verb_of(name))?)?;
     }
     Ok(program)
 }

@@ -1,3 +1,5 @@
 pub mod SpotLemmas
 pub mod EditLemmas
 pub mod MappingLemmas
+pub mod NoteLemmas
+pub mod RunLemmas

@@ -6,5 +6,7 @@ pub use Rattle.tree_edit_model.specs.Moved
 pub use Rattle.tree_edits.specs.Session
 pub use Rattle.tree_edits.specs.Refused
 pub use Rattle.tree_edits.specs.Kept
+pub use Rattle.tree_edits.specs.Run
 pub mod Spot
+pub mod Annotated
 pub mod Editor

@@ -3,3 +3,4 @@ pub mod Order
 pub mod Offsets
 pub mod Undo
 pub mod Empty
+pub mod Applied

@@ -2,3 +2,4 @@ pub mod Replacements
 pub mod Inverse
 pub mod Merge
 pub mod Empty
+pub mod Applied

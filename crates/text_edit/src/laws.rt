@@ -1,4 +1,5 @@
 //! Laws of text edits. The functions do nothing: the contract is the law.
+ghost use Rattle.text_edit.specs.Applied.{OnlyMemoryRefuses};
 ghost use Rattle.text_edit.specs.Empty.{EmptyChangesNothing};
 ghost use Rattle.text_edit.specs.Inverse.{InverseUndoes};
 
@@ -10,4 +11,9 @@ pub fn inverse_undoes()
 /// An edit without the replacements that change nothing gives the same text.
 pub fn empty_changes_nothing()
     ensures { EmptyChangesNothing }
+{}
+
+/// Of an edit that can be made in a text, `apply` and `invert` are refused for memory alone.
+pub fn only_memory_refuses()
+    ensures { OnlyMemoryRefuses }
 {}

@@ -1,7 +1,8 @@
 -- The edit of the text that changes of a tree are.
-use Rattle.std.specs.Prelude.{◌≡◌, ℕ, suc, ◌+◌, List, [], ◌∷◌, ◌++◌, length, if◌then◌else◌}
+use Rattle.std.specs.Prelude.{◌≡◌, ℕ, suc, ◌+◌, List, [], ◌∷◌, ◌++◌, length, All, if◌then◌else◌}
 use Rattle.tree_model.specs.Tree.{Tree, node, token, Forest, nil, cons, Place, text, forest_text}
-use Rattle.text_edit.specs.Replacements.{Replacement, edited, InOrder, nonempty}
+use Rattle.tree_model.specs.Rows.{TextsAreUtf8}
+use Rattle.text_edit.specs.Replacements.{Replacement, edited, InOrder, nonempty, IsRangeOf}
 use Rattle.tree_edit_model.specs.Changes.{Change, forest_from, below, changed}
 
 -- the bytes from a to b replaced by the texts of trees
@@ -36,3 +37,7 @@ text_edit_of at t = nonempty (edits_of at t)
 -- the text of the changed tree is the edited text: outside of the pieces each byte stays
 abbrev pub ChangedText : Type 0
 ChangedText = (at : Place → Change) (t : Tree) → InOrder 0 (edits_of at t) × (text (changed at t) ≡ edited (text t) (edits_of at t))
+
+-- where each token's text is UTF-8, the ranges are within the text of the tree, on character boundaries
+abbrev pub EditsAreOfText : Type 0
+EditsAreOfText = (at : Place → Change) (t : Tree) → TextsAreUtf8 (cons t nil) → All (IsRangeOf (text t)) (text_edit_of at t)

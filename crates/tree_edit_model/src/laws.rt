@@ -1,5 +1,5 @@
 //! Laws of changes of a tree. The functions do nothing: the contract is the law.
-ghost use Rattle.tree_edit_model.specs.Texts.{ChangedText};
+ghost use Rattle.tree_edit_model.specs.Texts.{ChangedText, EditsAreOfText};
 ghost use Rattle.tree_edit_model.specs.Moved.{KeptPlacesMove, UnchangedStays};
 ghost use Rattle.tree_edit_model.specs.Single.{OneChangeReplaces};
 
@@ -7,6 +7,11 @@ ghost use Rattle.tree_edit_model.specs.Single.{OneChangeReplaces};
 /// each byte outside of them stays.
 pub fn changed_text()
     ensures { ChangedText }
+{}
+
+/// The ranges of that edit are within the text of the tree, on character boundaries.
+pub fn edits_are_of_text()
+    ensures { EditsAreOfText }
 {}
 
 /// What is not replaced, nor inside something that is, is found at its new place: the same node or token, with the changes inside it

@@ -7,3 +7,5 @@ pub mod ResultLemmas
 pub mod EditLemmas
 pub mod KeptLemmas
 pub mod PlaceLemmas
+pub mod Utf8Lemmas
+pub mod RunLemmas

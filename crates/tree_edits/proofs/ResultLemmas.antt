@@ -3,7 +3,7 @@ use Rattle.std.proofs.Common.{◌≡◌, ◌≤◌, ◌^◌, length, refl}
 use Rattle.std.specs.Prelude.{Result, Ok, Err, IfErr, OnErr, IsErrOf}
 use Rattle.tree_model.specs.Tree.{text}
 use Rattle.tree_edits.specs.declared.error.ChangeError.{ChangeError}
-use Rattle.tree_edits.specs.declared.error.ChangeError.TheVariants.{OtherTree, Root, Token, Replaced, InReplaced, ChangedInside, TooLong, Memory}
+use Rattle.tree_edits.specs.declared.error.ChangeError.TheVariants.{OtherTree, NotSiblings, Root, Token, Replaced, InReplaced, ChangedInside, TooLong, Memory}
 use Rattle.tree_edits.specs.Session.{Session, result_of}
 use Rattle.tree_edits.specs.Refused.{IsNotMade}
 
@@ -13,6 +13,7 @@ not_made (Ok x) s h k = tt
 not_made (Err TooLong) s h k = h refl
 not_made (Err Memory) s h k = tt
 not_made (Err OtherTree) s h k = (let no : OtherTree ≡ Memory = k (λ e. (let n : OtherTree ≡ TooLong = e in cc)) in cc)
+not_made (Err NotSiblings) s h k = (let no : NotSiblings ≡ Memory = k (λ e. (let n : NotSiblings ≡ TooLong = e in cc)) in cc)
 not_made (Err Root) s h k = (let no : Root ≡ Memory = k (λ e. (let n : Root ≡ TooLong = e in cc)) in cc)
 not_made (Err Token) s h k = (let no : Token ≡ Memory = k (λ e. (let n : Token ≡ TooLong = e in cc)) in cc)
 not_made (Err Replaced) s h k = (let no : Replaced ≡ Memory = k (λ e. (let n : Replaced ≡ TooLong = e in cc)) in cc)

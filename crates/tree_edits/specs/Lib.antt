@@ -6,3 +6,4 @@ pub mod Session
 pub mod Refused
 pub mod Edited
 pub mod Kept
+pub mod Run

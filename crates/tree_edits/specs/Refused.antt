@@ -6,7 +6,7 @@ use Rattle.tree_edit_model.specs.Changes.{no_change}
 use Rattle.tree_edits.specs.declared.change.Slot.{Slot}
 use Rattle.tree_edits.specs.declared.change.Slot.TheVariants.{Before, Instead, First, Last, After}
 use Rattle.tree_edits.specs.declared.error.ChangeError.{ChangeError}
-use Rattle.tree_edits.specs.declared.error.ChangeError.TheVariants.{OtherTree, Root, Token, Replaced, InReplaced, ChangedInside, TooLong, Memory}
+use Rattle.tree_edits.specs.declared.error.ChangeError.TheVariants.{OtherTree, NotSiblings, Root, Token, Replaced, InReplaced, ChangedInside, TooLong, Memory}
 use Rattle.tree_edits.specs.Session.{Session, change_of, result_of}
 
 -- row n is inside the subtree at row k
@@ -80,6 +80,7 @@ IsRefused s n slot ChangedInside =
     (IsBesideRoot n slot → ⊥) × (IsIntoToken s n slot → ⊥) × (IsAtReplaced s n slot → ⊥) × (IsInReplaced s n → ⊥) × IsOverChange s n slot
 IsRefused s n slot TooLong = ⊥
 IsRefused s n slot OtherTree = ⊥
+IsRefused s n slot NotSiblings = ⊥
 IsRefused s n slot Memory = IsTaken s n slot
 
 -- the new text is shorter than 4 GiB
@@ -91,6 +92,7 @@ abbrev pub IsNotMade : Session → ChangeError → Type 0
 IsNotMade s TooLong = 2 ^ 32 ≤ length (text (result_of s))
 IsNotMade s Memory = ⊤
 IsNotMade s OtherTree = ⊥
+IsNotMade s NotSiblings = ⊥
 IsNotMade s Root = ⊥
 IsNotMade s Token = ⊥
 IsNotMade s Replaced = ⊥

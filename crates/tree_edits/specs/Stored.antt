@@ -33,3 +33,10 @@ pub record AreRowsOf (tree : Tree) (marks : List ℕ) (changes : List Change) : 
   pub long : length marks ≡ size tree
   pub is_node : IsNode tree
   pub root : IsRootChange (change_at marks changes 0)
+
+-- the row has a number; each row that has one still has one
+abbrev pub IsMarked : List ℕ → ℕ → Type 0
+IsMarked marks row = 0 < get_or marks row 0
+
+abbrev pub KeepsMarks : List ℕ → List ℕ → Type 0
+KeepsMarks marks marks' = (k : ℕ) → IsMarked marks k → IsMarked marks' k

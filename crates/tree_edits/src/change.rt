@@ -1,11 +1,13 @@
 //! What is done at each row of a tree.
-ghost use Rattle.std.specs.Prelude.{◌≡◌, ◌++◌, ◌<◌, ◌^◌, IfOk, OnOk, OnErr, length, option_copied, ◌↔◌, IsTrue, IsFalse};
+ghost use Rattle.std.specs.Prelude.{◌≡◌, ◌++◌, ◌<◌, ◌^◌, [], IfOk, OnOk, OnErr, length, option_copied, ◌↔◌, IsTrue, IsFalse};
 ghost use Rattle.tree_model.specs.Tree.{size, Tree};
 ghost use Rattle.tree_model.specs.Rows.{tree_at};
 ghost use Rattle.tree_edit_model.specs.Changes.{no_change, change_or_none, change_at, MarksFit};
 ghost use Rattle.tree_edits.specs.Walked.{entered, left, events_from_all};
 ghost use Rattle.tree_edits.specs.Added.{with_elements};
-ghost use Rattle.tree_edits.specs.Stored.{MarksDiffer, HasNumber, SameChanges, IsAdded};
+ghost use Rattle.tree_edits.specs.Stored.{MarksDiffer, HasNumber, SameChanges, IsAdded, rows_of, IsMarked, KeepsMarks};
+ghost use Rattle.tree_edits.specs.Run.{AreBelow, AreMarked, deleted, run_replaced};
+ghost use Rattle.tree_edits.specs.declared.change.Slot.TheVariants.{Instead};
 
 use crate::element::{Element, push_all, push_inside, push_step};
 use crate::error::ChangeError;
@@ -77,6 +79,13 @@ impl RowChange {
                 Ok(())
             }
         }
+    }
+
+    // Deletes the element; what is put in its place stays.
+    fn delete(&mut self)
+        ensures { self.new ≡ with_elements self.old Instead [] }
+    {
+        self.replaced = true;
     }
 
     // Appends what entering the row adds.
@@ -183,6 +192,7 @@ impl RowChanges {
         ensures ok { IfOk result (HasNumber self.new.marks.items self.new.changes.items row) }
         ensures same { SameChanges self.old.marks.items self.old.changes.items self.new.marks.items self.new.changes.items }
         ensures long { length self.new.marks.items ≡ length self.old.marks.items }
+        ensures marked { KeepsMarks self.old.marks.items self.new.marks.items }
     {
         let mark = self.marks[row];
         if mark > 0 {
@@ -206,8 +216,68 @@ impl RowChanges {
         ensures ok { OnOk result (IsAdded self.old.marks.items self.old.changes.items row slot elements.items self.new.marks.items self.new.changes.items) }
         ensures err { OnErr result (SameChanges self.old.marks.items self.old.changes.items self.new.marks.items self.new.changes.items) }
         ensures long { length self.new.marks.items ≡ length self.old.marks.items }
+        ensures marked { KeepsMarks self.old.marks.items self.new.marks.items }
     {
         self.changes[number].add(slot, elements)
+    }
+
+    // Deletes the element at a row that has a number.
+    fn delete(&mut self, row: usize)
+        requires is_row { row < length self.old.marks.items }
+        requires marked { IsMarked self.old.marks.items row }
+        ensures ok { IsAdded self.old.marks.items self.old.changes.items row Instead [] self.new.marks.items self.new.changes.items }
+        ensures long { length self.new.marks.items ≡ length self.old.marks.items }
+        ensures marked { KeepsMarks self.old.marks.items self.new.marks.items }
+    {
+        let mark = self.marks[row];
+        self.changes[mark - 1].delete();
+    }
+
+    // Gives each of some rows a number; if memory runs out, each row has the change that it had.
+    fn number_all(&mut self, alloc: Global, rows: &[usize]) -> Result<(), AllocError>
+        requires { AreBelow (length self.old.marks.items) rows.now }
+        ensures ok { OnOk result (AreMarked self.new.marks.items rows.now) }
+        ensures same { SameChanges self.old.marks.items self.old.changes.items self.new.marks.items self.new.changes.items }
+        ensures long { length self.new.marks.items ≡ length self.old.marks.items }
+    {
+        for row in rows {
+            self.number(alloc, *row)?;
+        }
+        Ok(())
+    }
+
+    // Deletes the elements at some rows that have numbers.
+    fn delete_all(&mut self, rows: &[usize])
+        requires are_rows { AreBelow (length self.old.marks.items) rows.now }
+        requires marked { AreMarked self.old.marks.items rows.now }
+        ensures ok { rows_of self.new.marks.items self.new.changes.items ≡ deleted (rows_of self.old.marks.items self.old.changes.items) rows.now }
+        ensures long { length self.new.marks.items ≡ length self.old.marks.items }
+    {
+        for row in rows {
+            self.delete(*row);
+        }
+    }
+
+    // Puts elements in the place of the element at a row, and deletes those at others; if memory runs out, each row has the change that
+    // it had.
+    pub fn replace_run(
+        &mut self,
+        alloc: Global,
+        first: usize,
+        others: &[usize],
+        elements: Vec<Element>,
+    ) -> Result<(), AllocError>
+        requires is_row { first < length self.old.marks.items }
+        requires are_rows { AreBelow (length self.old.marks.items) others.now }
+        ensures ok { OnOk result (rows_of self.new.marks.items self.new.changes.items ≡ run_replaced (rows_of self.old.marks.items self.old.changes.items) first others.now elements.items) }
+        ensures err { OnErr result (SameChanges self.old.marks.items self.old.changes.items self.new.marks.items self.new.changes.items) }
+        ensures long { length self.new.marks.items ≡ length self.old.marks.items }
+    {
+        self.number_all(alloc, others)?;
+        let number = self.number(alloc, first)?;
+        self.put(first, number, Slot::Instead, elements)?;
+        self.delete_all(others);
+        Ok(())
     }
 
     // Adds elements at a row; if memory runs out, each row has the change that it had.

@@ -1,14 +1,16 @@
 //! The changes of a tree.
-ghost use Rattle.std.specs.Prelude.{◌≡◌, ◌↔◌, ◌<◌, IfOk, IfErr, OnOk, OnErr, IsTrue};
-ghost use Rattle.tree_model.specs.Tree.{size, IsNode};
+ghost use Rattle.std.specs.Prelude.{◌≡◌, ◌↔◌, ◌<◌, ◌++◌, ◌∷◌, [], All, IfOk, IfErr, OnOk, OnErr, IsTrue};
+ghost use Rattle.tree_model.specs.Tree.{size, text, IsNode};
+ghost use Rattle.text_edit.specs.Replacements.{IsRangeOf};
 ghost use Rattle.tree_edit_model.specs.Texts.{text_edit_of};
 ghost use Rattle.tree_edits.specs.Session.{IsNew, with_elements_at, result_of, at_of};
 ghost use Rattle.tree_edits.specs.Kept.{new_rows_of};
 ghost use Rattle.tree_edits.specs.Refused.{IsBesideRoot, IsInner, IsIntoToken, IsAtReplaced, IsInReplaced, HasChangeInside, IsOverChange, IsTaken, IsRefused, IsShort, IsNotMade};
+ghost use Rattle.tree_edits.specs.Run.{IsRun, IsNoRun, IsRunReplaced, IsRunRefused, IsFirstRefused, AreTaken, AreBelow, with_run};
 ghost use Rattle.tree_edits.specs.declared.error.ChangeError.TheVariants.{Memory};
 
 use crate::change::{RowChanges, Slot};
-use crate::edits::edits;
+use crate::edits::{edits, texts_are_utf8};
 use crate::element::Element;
 use crate::error::ChangeError;
 use crate::finish::changed_table;
@@ -56,6 +58,40 @@ fn is_inner(slot: Slot) -> bool
     match slot {
         Slot::First | Slot::Last => true,
         Slot::Before | Slot::Instead | Slot::After => false,
+    }
+}
+
+// The rows of the siblings after a row, up to another one.
+fn siblings_to(
+    alloc: Global,
+    table: &Table,
+    first: usize,
+    last: usize,
+) -> Result<Vec<usize>, ChangeError>
+    requires { first < size table.now }
+    ensures ok { IfOk result (λ rows. IsRun table.now first last rows.items) }
+    ensures err { IfErr result (IsNoRun table.now first last) }
+{
+    let mut rows = Vec::new(alloc);
+    let mut at = first;
+    while at != last {
+        let Some(next) = table.next_sibling_row(at) else {
+            return Err(ChangeError::NotSiblings);
+        };
+        push_row(&mut rows, next)?;
+        at = next;
+    }
+    Ok(rows)
+}
+
+// Appends a row.
+fn push_row(rows: &mut Vec<usize>, row: usize) -> Result<(), ChangeError>
+    ensures ok { OnOk result (rows.new.items ≡ rows.old.items ++ row ∷ []) }
+    ensures err { IfErr result (λ e. e ≡ Memory) }
+{
+    match rows.push(row) {
+        Ok(()) => Ok(()),
+        Err(_) => Err(ChangeError::Memory),
     }
 }
 
@@ -215,16 +251,75 @@ impl Changes {
         Ok(())
     }
 
-    /// The edit of the text that the changes are, without replacements that change nothing. Takes time linear in the tree and the
-    /// texts of the elements.
+    // Whether each of some elements may be replaced.
+    fn check_all(&self, rows: &[usize]) -> Result<(), ChangeError>
+        requires { AreBelow (size self.now.tree) rows.now }
+        ensures ok { OnOk result (AreTaken self.now rows.now) }
+        ensures err { IfErr result (λ e. IsFirstRefused self.now rows.now e × (e ≡ Memory → ⊥)) }
+    {
+        for row in rows {
+            self.check(*row, Slot::Instead)?;
+        }
+        Ok(())
+    }
+
+    // Puts elements in the place of one element, and deletes others, where that is taken.
+    fn put_run(
+        &mut self,
+        alloc: Global,
+        first: usize,
+        others: &[usize],
+        elements: Vec<Element>,
+    ) -> Result<(), ChangeError>
+        requires are_rows { AreBelow (size self.old.tree) (first ∷ others.now) }
+        requires taken { AreTaken self.old (first ∷ others.now) }
+        ensures ok { OnOk result (self.new ≡ with_run self.old first others.now elements.items) }
+        ensures err { OnErr result (self.new ≡ self.old) }
+        ensures memory { IfErr result (λ e. e ≡ Memory) }
+    {
+        self.rows.replace_run(alloc, first, others, elements)?;
+        Ok(())
+    }
+
+    /// Puts elements in the place of the run of siblings from one row to another, both included; with none, it deletes them. Takes the
+    /// time of [`Changes::check`] for each of them, and constant time for each sibling after the first.
+    ///
+    /// # Errors
+    ///
+    /// `NotSiblings` if the last row is neither the first nor one of its later siblings; otherwise the reason of the first element of
+    /// the run that may not be replaced; and `Memory` if memory runs out. Nothing is changed then.
+    pub fn replace_all(
+        &mut self,
+        alloc: Global,
+        first: usize,
+        last: usize,
+        elements: Vec<Element>,
+    ) -> Result<(), ChangeError>
+        requires { first < size self.old.tree }
+        ensures ok { OnOk result (IsRunReplaced self.old first last elements.items self.new) }
+        ensures err { OnErr result (self.new ≡ self.old) }
+        ensures refused { IfErr result (IsRunRefused self.old first last) }
+    {
+        let others = siblings_to(alloc, self.table.as_ref(), first, last)?;
+        self.check(first, Slot::Instead)?;
+        self.check_all(others.as_slice())?;
+        self.put_run(alloc, first, others.as_slice(), elements)
+    }
+
+    /// The edit of the text that the changes are, without replacements that change nothing; its ranges are within the text of the tree,
+    /// on character boundaries. Takes time linear in the tree and the texts of the elements.
     ///
     /// # Errors
     ///
     /// `AllocError` if memory runs out.
     pub fn text_edit(&self, alloc: Global) -> Result<TextEdit, AllocError>
-        ensures { IfOk result (λ edit. edit ≡ text_edit_of (at_of self.now) self.now.tree) }
+        ensures edit { IfOk result (λ edit. edit ≡ text_edit_of (at_of self.now) self.now.tree) }
+        ensures ranges { IfOk result (All (IsRangeOf (text self.now.tree))) }
     {
-        let indels = edits(alloc, self.table.as_ref(), &self.rows)?;
+        let table = self.table.as_ref();
+        // For the proof: each token's text is UTF-8.
+        texts_are_utf8(table);
+        let indels = edits(alloc, table, &self.rows)?;
         Ok(TextEdit::from_ordered(indels))
     }
 

@@ -10,6 +10,9 @@ pub enum ChangeError {
     /// The position is one in another tree. Only a caller that knows positions of several trees says so.
     #[error("the position is in another tree")]
     OtherTree,
+    /// The last element of a run is not the first one, nor a sibling after it.
+    #[error("the last element is not a sibling after the first")]
+    NotSiblings,
     /// The change is before, after or in the place of the root.
     #[error("the root has no siblings, and is not replaced")]
     Root,

@@ -1,31 +1,31 @@
-//! What a line of `views.rs` stands for.
+//! What a line of `views.rs` and of `aliases.rs` stands for.
 
 // The view of a kind of node.
 macro_rules! node {
     ($name:ident, $kind:ident) => {
         #[doc = concat!("A node of the kind `", stringify!($kind), "`.")]
         #[derive(Clone, Copy, Debug, PartialEq, Eq, Hash)]
-        pub struct $name<'t> {
-            syntax: Node<'t>,
+        pub struct $name<N> {
+            pub(crate) syntax: N,
         }
 
-        impl<'t> AstNode<'t> for $name<'t> {
+        impl<N: Node> AstNode<N> for $name<N> {
             fn can_cast(kind: SyntaxKind) -> bool {
                 kind == SyntaxKind::$kind
             }
 
-            fn cast(syntax: Node<'t>) -> Option<Self> {
-                Self::can_cast(syntax.kind()).then_some($name { syntax })
+            fn cast(syntax: N) -> Option<Self> {
+                <Self as AstNode<N>>::can_cast(syntax.kind()).then_some($name { syntax })
             }
 
-            fn syntax(&self) -> &Node<'t> {
+            fn syntax(&self) -> &N {
                 &self.syntax
             }
         }
 
-        impl std::fmt::Display for $name<'_> {
+        impl<N: std::fmt::Display> std::fmt::Display for $name<N> {
             fn fmt(&self, f: &mut std::fmt::Formatter<'_>) -> std::fmt::Result {
-                self.syntax.fmt(f)
+                std::fmt::Display::fmt(&self.syntax, f)
             }
         }
     };
@@ -36,27 +36,27 @@ macro_rules! token {
     ($name:ident, $kind:ident) => {
         #[doc = concat!("A token of the kind `", stringify!($kind), "`.")]
         #[derive(Clone, Copy, Debug, PartialEq, Eq, Hash)]
-        pub struct $name<'t> {
-            syntax: Token<'t>,
+        pub struct $name<T> {
+            pub(crate) syntax: T,
         }
 
-        impl<'t> AstToken<'t> for $name<'t> {
+        impl<T: Token> AstToken<T> for $name<T> {
             fn can_cast(kind: SyntaxKind) -> bool {
                 kind == SyntaxKind::$kind
             }
 
-            fn cast(syntax: Token<'t>) -> Option<Self> {
-                Self::can_cast(syntax.kind()).then_some($name { syntax })
+            fn cast(syntax: T) -> Option<Self> {
+                <Self as AstToken<T>>::can_cast(syntax.kind()).then_some($name { syntax })
             }
 
-            fn syntax(&self) -> &Token<'t> {
+            fn syntax(&self) -> &T {
                 &self.syntax
             }
         }
 
-        impl std::fmt::Display for $name<'_> {
+        impl<T: std::fmt::Display> std::fmt::Display for $name<T> {
             fn fmt(&self, f: &mut std::fmt::Formatter<'_>) -> std::fmt::Result {
-                self.syntax.fmt(f)
+                std::fmt::Display::fmt(&self.syntax, f)
             }
         }
     };
@@ -67,39 +67,93 @@ macro_rules! choice {
     ($name:ident: $($variant:ident($view:ident)),+) => {
         #[doc = concat!("One of the views that `", stringify!($name), "` has as its variants.")]
         #[derive(Clone, Copy, Debug, PartialEq, Eq, Hash)]
-        pub enum $name<'t> {
+        pub enum $name<N> {
             $(
                 #[doc = concat!("A `", stringify!($view), "`.")]
-                $variant($view<'t>),
+                $variant($view<N>),
             )+
         }
 
-        impl<'t> AstNode<'t> for $name<'t> {
+        impl<N: Node> AstNode<N> for $name<N> {
             fn can_cast(kind: SyntaxKind) -> bool {
-                $($view::can_cast(kind))||+
+                $(<$view<N> as AstNode<N>>::can_cast(kind))||+
             }
 
-            fn cast(syntax: Node<'t>) -> Option<Self> {
-                None$(.or_else(|| $view::cast(syntax).map($name::$variant)))+
+            fn cast(syntax: N) -> Option<Self> {
+                let kind = syntax.kind();
+                $(
+                    if <$view<N> as AstNode<N>>::can_cast(kind) {
+                        return <$view<N> as AstNode<N>>::cast(syntax).map($name::$variant);
+                    }
+                )+
+                None
             }
 
-            fn syntax(&self) -> &Node<'t> {
+            fn syntax(&self) -> &N {
                 match self {
                     $($name::$variant(it) => it.syntax(),)+
                 }
             }
         }
 
-        impl std::fmt::Display for $name<'_> {
+        impl<N: Node> std::fmt::Display for $name<N> {
             fn fmt(&self, f: &mut std::fmt::Formatter<'_>) -> std::fmt::Result {
-                self.syntax().fmt(f)
+                std::fmt::Display::fmt(self.syntax(), f)
             }
         }
 
         $(
-            impl<'t> From<$view<'t>> for $name<'t> {
-                fn from(it: $view<'t>) -> $name<'t> {
+            impl<N> From<$view<N>> for $name<N> {
+                fn from(it: $view<N>) -> $name<N> {
                     $name::$variant(it)
+                }
+            }
+        )+
+    };
+}
+
+// A node of a kind that has a trait.
+macro_rules! any {
+    ($name:ident: $shared:ident: $($view:ident),+) => {
+        #[doc = concat!("A node of a kind that has `", stringify!($shared), "`.")]
+        #[derive(Clone, Copy, Debug, PartialEq, Eq, Hash)]
+        pub struct $name<N> {
+            pub(crate) syntax: N,
+        }
+
+        impl<N: Node> $name<N> {
+            #[doc = concat!("The node of a view that has `", stringify!($shared), "`.")]
+            pub fn new<A: $shared<N>>(view: A) -> $name<N> {
+                $name { syntax: view.syntax().clone() }
+            }
+        }
+
+        impl<N: Node> AstNode<N> for $name<N> {
+            fn can_cast(kind: SyntaxKind) -> bool {
+                $(<$view<N> as AstNode<N>>::can_cast(kind))||+
+            }
+
+            fn cast(syntax: N) -> Option<Self> {
+                <Self as AstNode<N>>::can_cast(syntax.kind()).then_some($name { syntax })
+            }
+
+            fn syntax(&self) -> &N {
+                &self.syntax
+            }
+        }
+
+        impl<N: std::fmt::Display> std::fmt::Display for $name<N> {
+            fn fmt(&self, f: &mut std::fmt::Formatter<'_>) -> std::fmt::Result {
+                std::fmt::Display::fmt(&self.syntax, f)
+            }
+        }
+
+        impl<N: Node> $shared<N> for $name<N> {}
+
+        $(
+            impl<N: Node> From<$view<N>> for $name<N> {
+                fn from(it: $view<N>) -> $name<N> {
+                    $name { syntax: it.syntax().clone() }
                 }
             }
         )+
@@ -109,7 +163,7 @@ macro_rules! choice {
 // The calls of a view.
 macro_rules! calls {
     ($owner:ident: $($way:ident $call:ident: $of:ident = $example:literal,)+) => {
-        impl<'t> $owner<'t> {
+        impl<N: Node> $owner<N> {
             $($way!($call, $of, $example);)+
         }
     };
@@ -119,8 +173,8 @@ macro_rules! first {
     ($call:ident, $of:ident, $example:literal) => {
         #[doc = concat!("The first child that is a `", stringify!($of), "`, if there is one.")]
         #[doc = $example]
-        pub fn $call(&self) -> Option<$of<'t>> {
-            support::child(self.syntax())
+        pub fn $call(&self) -> Option<$of<N>> {
+            support::first(self.syntax())
         }
     };
 }
@@ -129,8 +183,8 @@ macro_rules! second {
     ($call:ident, $of:ident, $example:literal) => {
         #[doc = concat!("The second child that is a `", stringify!($of), "`, if there is one.")]
         #[doc = $example]
-        pub fn $call(&self) -> Option<$of<'t>> {
-            support::children(self.syntax()).nth(1)
+        pub fn $call(&self) -> Option<$of<N>> {
+            support::all(self.syntax()).nth(1)
         }
     };
 }
@@ -139,8 +193,8 @@ macro_rules! all {
     ($call:ident, $of:ident, $example:literal) => {
         #[doc = concat!("The children that are a `", stringify!($of), "`, in order.")]
         #[doc = $example]
-        pub fn $call(&self) -> AstChildren<'t, $of<'t>> {
-            support::children(self.syntax())
+        pub fn $call(&self) -> AstChildren<$of<N>, N> {
+            support::all(self.syntax())
         }
     };
 }
@@ -149,8 +203,8 @@ macro_rules! leaf {
     ($call:ident, $of:ident, $example:literal) => {
         #[doc = concat!("The first token of the kind `", stringify!($of), "` among the children, if there is one.")]
         #[doc = $example]
-        pub fn $call(&self) -> Option<Token<'t>> {
-            support::token(self.syntax(), SyntaxKind::$of)
+        pub fn $call(&self) -> Option<N::Token> {
+            support::leaf(self.syntax(), SyntaxKind::$of)
         }
     };
 }
@@ -158,8 +212,34 @@ macro_rules! leaf {
 // A trait of views that share calls.
 macro_rules! shared {
     ($shared:ident: $($view:ident),+) => {
-        $(impl<'t> $shared<'t> for $view<'t> {})+
+        $(impl<N: Node> $shared<N> for $view<N> {})+
     };
 }
 
-pub(in crate::ast) use {all, calls, choice, first, leaf, node, second, shared, token};
+// The views of nodes and of tokens, over those that own a share of their tree and over those that borrow it.
+macro_rules! aliases {
+    (nodes: $($node:ident)+; tokens: $($token:ident)+;) => {
+        $(
+            #[doc = concat!("[`views::", stringify!($node), "`](super::views::", stringify!($node), ") over nodes that own a share of their tree.")]
+            pub type $node = super::views::$node<crate::SyntaxNode>;
+        )+
+        $(
+            #[doc = concat!("[`views::", stringify!($token), "`](super::views::", stringify!($token), ") over tokens that own a share of their tree.")]
+            pub type $token = super::views::$token<crate::SyntaxToken>;
+        )+
+
+        /// The views over nodes and tokens that borrow their tree: `ast::borrowed::Fn<'t>`.
+        pub mod borrowed {
+            $(
+                #[doc = concat!("[`views::", stringify!($node), "`](crate::ast::views::", stringify!($node), ") over nodes that borrow their tree.")]
+                pub type $node<'t> = crate::ast::views::$node<crate::NodeRef<'t>>;
+            )+
+            $(
+                #[doc = concat!("[`views::", stringify!($token), "`](crate::ast::views::", stringify!($token), ") over tokens that borrow their tree.")]
+                pub type $token<'t> = crate::ast::views::$token<crate::TokenRef<'t>>;
+            )+
+        }
+    };
+}
+
+pub(in crate::ast) use {aliases, all, any, calls, choice, first, leaf, node, second, shared, token};

@@ -1,106 +1,140 @@
 //! The calls that several views share.
-use super::{
-    AnyAttr, ArgList, AstChildren, AstNode, Attr, BlockExpr, DocComment, GenericArgList, GenericParamList, Item, Label, Name, TypeBoundList,
-    Visibility, WhereClause, support,
-};
-use crate::{SyntaxKind, Token};
+use super::expr_ext::may_carry_attributes;
+use super::token_ext::AttrKind;
+use super::views::*;
+use super::{AstChildren, AstNode, support};
+use crate::node::{Node, SyntaxNode};
+use crate::{SyntaxKind, T};
 
 /// A node with a name.
-pub trait HasName<'t>: AstNode<'t> {
+pub trait HasName<N: Node = SyntaxNode>: AstNode<N> {
     /// The first child that is a name, if there is one.
-    fn name(&self) -> Option<Name<'t>> {
-        support::child(self.syntax())
+    fn name(&self) -> Option<Name<N>> {
+        support::first(self.syntax())
     }
 }
 
 /// A node that can have a visibility.
-pub trait HasVisibility<'t>: AstNode<'t> {
+pub trait HasVisibility<N: Node = SyntaxNode>: AstNode<N> {
     /// The first child that is a visibility, if there is one.
-    fn visibility(&self) -> Option<Visibility<'t>> {
-        support::child(self.syntax())
+    fn visibility(&self) -> Option<Visibility<N>> {
+        support::first(self.syntax())
     }
 }
 
 /// A loop.
-pub trait HasLoopBody<'t>: AstNode<'t> {
+pub trait HasLoopBody<N: Node = SyntaxNode>: AstNode<N> {
     /// The body. For a `loop` it is the first block among the children. The first block of a `for` or a `while` may be its
     /// iterator or condition, so there the body is the second block, or the first if there is only one.
-    fn loop_body(&self) -> Option<BlockExpr<'t>> {
-        let mut blocks = support::children(self.syntax());
-        let first = blocks.next();
-        if self.syntax().kind() == SyntaxKind::LOOP_EXPR { first } else { blocks.next().or(first) }
+    fn loop_body(&self) -> Option<BlockExpr<N>> {
+        let count = if self.syntax().kind() == SyntaxKind::LOOP_EXPR { 1 } else { 2 };
+        support::all(self.syntax()).take(count).last()
     }
 
     /// The first child that is a label, if there is one.
-    fn label(&self) -> Option<Label<'t>> {
-        support::child(self.syntax())
+    fn label(&self) -> Option<Label<N>> {
+        support::first(self.syntax())
     }
 }
 
 /// A call.
-pub trait HasArgList<'t>: AstNode<'t> {
+pub trait HasArgList<N: Node = SyntaxNode>: AstNode<N> {
     /// The first child that is a list of arguments, if there is one.
-    fn arg_list(&self) -> Option<ArgList<'t>> {
-        support::child(self.syntax())
+    fn arg_list(&self) -> Option<ArgList<N>> {
+        support::first(self.syntax())
     }
 }
 
 /// A container of items.
-pub trait HasModuleItem<'t>: AstNode<'t> {
+pub trait HasModuleItem<N: Node = SyntaxNode>: AstNode<N> {
     /// The children that are items, in order.
-    fn items(&self) -> AstChildren<'t, Item<'t>> {
-        support::children(self.syntax())
+    fn items(&self) -> AstChildren<Item<N>, N> {
+        support::all(self.syntax())
     }
 }
 
 /// A node that can have generic parameters.
-pub trait HasGenericParams<'t>: AstNode<'t> {
+pub trait HasGenericParams<N: Node = SyntaxNode>: AstNode<N> {
     /// The first child that is a list of generic parameters, if there is one.
-    fn generic_param_list(&self) -> Option<GenericParamList<'t>> {
-        support::child(self.syntax())
+    fn generic_param_list(&self) -> Option<GenericParamList<N>> {
+        support::first(self.syntax())
     }
 
     /// The first child that is a where clause, if there is one.
-    fn where_clause(&self) -> Option<WhereClause<'t>> {
-        support::child(self.syntax())
+    fn where_clause(&self) -> Option<WhereClause<N>> {
+        support::first(self.syntax())
     }
 }
 
 /// A node that can have generic arguments.
-pub trait HasGenericArgs<'t>: AstNode<'t> {
+pub trait HasGenericArgs<N: Node = SyntaxNode>: AstNode<N> {
     /// The first child that is a list of generic arguments, if there is one.
-    fn generic_arg_list(&self) -> Option<GenericArgList<'t>> {
-        support::child(self.syntax())
+    fn generic_arg_list(&self) -> Option<GenericArgList<N>> {
+        support::first(self.syntax())
     }
 }
 
 /// A node that can have type bounds.
-pub trait HasTypeBounds<'t>: AstNode<'t> {
+pub trait HasTypeBounds<N: Node = SyntaxNode>: AstNode<N> {
     /// The first child that is a list of type bounds, if there is one.
-    fn type_bound_list(&self) -> Option<TypeBoundList<'t>> {
-        support::child(self.syntax())
+    fn type_bound_list(&self) -> Option<TypeBoundList<N>> {
+        support::first(self.syntax())
     }
 
     /// The first token `:` among the children, if there is one.
-    fn colon_token(&self) -> Option<Token<'t>> {
-        support::token(self.syntax(), SyntaxKind::COLON)
+    fn colon_token(&self) -> Option<N::Token> {
+        support::leaf(self.syntax(), T![:])
     }
 }
 
 /// A node that can have attributes and documentation.
-pub trait HasAttrs<'t>: AstNode<'t> {
+pub trait HasAttrs<N: Node = SyntaxNode>: AstNode<N> {
     /// The children that are attributes, in order.
-    fn attrs(&self) -> AstChildren<'t, Attr<'t>> {
-        support::children(self.syntax())
+    fn attrs(&self) -> AstChildren<Attr<N>, N> {
+        support::all(self.syntax())
     }
 
     /// The children that are doc comments, in order.
-    fn doc_comments(&self) -> AstChildren<'t, DocComment<'t>> {
-        support::children(self.syntax())
+    fn doc_comments(&self) -> AstChildren<DocComment<N>, N> {
+        support::all(self.syntax())
     }
 
     /// The children that are attributes or doc comments, in order.
-    fn attrs_with_doc(&self) -> AstChildren<'t, AnyAttr<'t>> {
-        support::children(self.syntax())
+    fn attrs_with_doc(&self) -> AstChildren<AnyAttr<N>, N> {
+        support::all(self.syntax())
     }
+
+    /// The node that holds its inner attributes. A file holds its own, and so does a block that can have some. For a function it is the
+    /// statement list of its body; for an extern block, a `match`, an implementation, a trait and a module it is the list in it. `None`
+    /// for other nodes, and if that part is missing.
+    fn inner_attributes_node(&self) -> Option<N> {
+        use SyntaxKind::*;
+        let owner = self.syntax();
+        let child = |node: &N, kind| node.children().find(|it| it.kind() == kind);
+        match owner.kind() {
+            SOURCE_FILE => Some(owner.clone()),
+            BLOCK_EXPR if may_carry_attributes(owner) => Some(owner.clone()),
+            FN => child(&child(owner, BLOCK_EXPR)?, STMT_LIST),
+            EXTERN_BLOCK => child(owner, EXTERN_ITEM_LIST),
+            MATCH_EXPR => child(owner, MATCH_ARM_LIST),
+            IMPL | TRAIT => child(owner, ASSOC_ITEM_LIST),
+            MODULE => child(owner, ITEM_LIST),
+            _ => None,
+        }
+    }
+}
+
+/// The outer attributes and documentation comments of an owner, and then the inner ones, in order.
+pub fn attrs_with_doc_including_inner<N: Node, A: HasAttrs<N>>(owner: &A) -> impl Iterator<Item = AnyAttr<N>> + use<N, A> {
+    let of = |node: &N, kind| support::all(node).filter(move |it: &AnyAttr<N>| it.kind() == kind);
+    let inner = owner.inner_attributes_node();
+    of(owner.syntax(), AttrKind::Outer).chain(inner.into_iter().flat_map(move |it| of(&it, AttrKind::Inner)))
+}
+
+/// The outer attributes of an owner, and then the inner ones, in order, without documentation comments.
+pub fn attrs_including_inner<N: Node, A: HasAttrs<N>>(owner: &A) -> impl Iterator<Item = Attr<N>> + use<N, A> {
+    attrs_with_doc_including_inner(owner).filter_map(|it| match it {
+        AnyAttr::Attr(it) => Some(it),
+        AnyAttr::DocComment(_) => None,
+    })
 }

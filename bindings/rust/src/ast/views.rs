@@ -1,8 +1,15 @@
-//! The typed views. Written by bindings/make from crates/ra_ap_syntax/views.txt and crates/rust_views/views.txt.
+//! The typed views, over any nodes. Written by bindings/make from crates/ra_ap_syntax/views.txt and crates/rust_views/views.txt.
 use super::macros::*;
 use super::traits::*;
 use super::{AstNode, AstToken};
-use crate::{Node, SyntaxKind, Token};
+use crate::SyntaxKind;
+use crate::node::{Node, Token};
+
+pub use super::expr_ext::*;
+pub use super::node_ext::*;
+pub use super::token_ext::AnyComment;
+
+mod lookups;
 
 node!(Abi, ABI);
 node!(ArgList, ARG_LIST);
@@ -214,3 +221,13 @@ shared!(HasModuleItem: ItemList, SourceFile, StmtList);
 shared!(HasName: Const, ConstParam, Enum, Fn, IdentPat, Macro, MacroDef, MacroRules, Module, RecordField, SelfParam, Static, Struct, Trait, TypeAlias, TypeParam, Union, Variant, VariantDef);
 shared!(HasTypeBounds: AssocTypeArg, LifetimeParam, Trait, TypeAlias, TypeParam, WherePred);
 shared!(HasVisibility: Const, Enum, ExternCrate, Fn, Impl, MacroDef, MacroRules, Module, RecordField, Static, Struct, Trait, TupleField, TypeAlias, Union, Use, Variant, VariantDef);
+
+any!(AnyHasArgList: HasArgList: CallExpr, MethodCallExpr);
+any!(AnyHasAttrs: HasAttrs: ArrayExpr, AsmExpr, AssocItemList, AwaitExpr, BecomeExpr, BinExpr, BlockExpr, BreakExpr, CallExpr, CastExpr, CfgPredExpr, ClosureExpr, Const, ConstParam, ContinueExpr, Enum, ExternBlock, ExternCrate, ExternItemList, FieldExpr, Fn, ForExpr, FormatArgsExpr, IfExpr, Impl, IncludeBytesExpr, IndexExpr, ItemList, LetExpr, LetStmt, LifetimeParam, Literal, LoopExpr, MacroCall, MacroDef, MacroExpr, MacroRules, MatchArm, MatchArmList, MatchExpr, MethodCallExpr, Module, OffsetOfExpr, Param, ParenExpr, PathExpr, PrefixExpr, RangeExpr, RecordExpr, RecordExprField, RecordField, RecordPatField, RefExpr, ReturnExpr, SelfParam, SourceFile, Static, StmtList, Struct, Trait, TryExpr, TupleExpr, TupleField, TypeAlias, TypeParam, UnderscoreExpr, Union, Use, Variant, WhileExpr, YeetExpr, YieldExpr);
+any!(AnyHasGenericArgs: HasGenericArgs: AssocTypeArg, MethodCallExpr, PathSegment);
+any!(AnyHasGenericParams: HasGenericParams: Enum, Fn, Impl, Struct, Trait, TypeAlias, Union);
+any!(AnyHasLoopBody: HasLoopBody: ForExpr, LoopExpr, WhileExpr);
+any!(AnyHasModuleItem: HasModuleItem: ItemList, SourceFile, StmtList);
+any!(AnyHasName: HasName: Const, ConstParam, Enum, Fn, IdentPat, MacroDef, MacroRules, Module, RecordField, SelfParam, Static, Struct, Trait, TypeAlias, TypeParam, Union, Variant);
+any!(AnyHasTypeBounds: HasTypeBounds: AssocTypeArg, LifetimeParam, Trait, TypeAlias, TypeParam, WherePred);
+any!(AnyHasVisibility: HasVisibility: Const, Enum, ExternCrate, Fn, Impl, MacroDef, MacroRules, Module, RecordField, Static, Struct, Trait, TupleField, TypeAlias, Union, Use, Variant);

@@ -1,0 +1,5 @@
+pub mod Places
+pub mod Failures
+pub mod Made
+pub mod Forms
+pub mod Replaced
