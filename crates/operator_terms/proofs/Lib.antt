@@ -22,6 +22,7 @@ pub mod Readings
 -- both together
 pub mod Paired
 pub mod MayGo
+pub mod Put
 pub mod Headlines
 pub mod AllFit
 pub mod Precedences

@@ -13,7 +13,7 @@ use Rattle.operator_terms.proofs.Readings.{tokens_of_clear, clear_of_tokens, rea
 use Rattle.operator_terms.proofs.Without.{level_may_go}
 
 -- where the other parts are clear, the changed part decides
-Settled : (Term → Term) → Type 0 → List Token → Part → Type 0
+unfoldable pub Settled : (Term → Term) → Type 0 → List Token → Part → Type 0
 Settled f A rest p = A ↔ Clear (begins_with_angle rest) (f p.term)
 
 settled : (f : Term → Term) (A B : Type 0) → (A → B) → (B → A) → (rest : List Token) (o : Option Part) → IfSome o (Settled f A rest) → IfSome o (Settled f B rest)
@@ -33,7 +33,7 @@ arguments-settle f (More x es) (suc i) rest e h =
 in_brackets : (f : Term → Term) (A : Type 0) (ts rest : List Token) (o : Option Part) → IfSome o (Settled f A (ts ++ (fixed token.R_PAREN ∷ rest))) → IfSome o (Settled f A ((ts ++ (fixed token.R_PAREN ∷ [])) ++ rest))
 in_brackets f A ts rest o h = rw append_assoc h
 
-parts-settle : (f : Term → Term) (t : Term) (i : ℕ) (rest : List Token) → Clear (begins_with_angle rest) t → IfSome (part t i) (Settled f (Clear (begins_with_angle rest) (change_part f t i)) (behind_part t i ++ rest))
+pub parts-settle : (f : Term → Term) (t : Term) (i : ℕ) (rest : List Token) → Clear (begins_with_angle rest) t → IfSome (part t i) (Settled f (Clear (begins_with_angle rest) (change_part f t i)) (behind_part t i ++ rest))
 unfolding Settled
 parts-settle f (Paren e) zero rest h = (λ a. a, λ g. g)
 parts-settle f (Field e n) zero rest h = (λ a. a, λ g. g)

@@ -53,12 +53,12 @@ is_field-change f (Range inclusive l r) zero = refl
 is_field-change f (Range inclusive l r) (suc zero) = refl
 is_field-change f _ _ = refl
 
-meets-change : (d : Demand) (f : Term → Term) (t : Term) (i : ℕ) → Meets d t → Meets d (change_part f t i)
+pub meets-change : (d : Demand) (f : Term → Term) (t : Term) (i : ℕ) → Meets d t → Meets d (change_part f t i)
 meets-change (AtLeast k) f t i h = omega (arith, level-change f t i)
 meets-change Callee f t i h = (omega (arith, level-change f t i, h.0), is_field-change f t i ∙ h.1)
 
 -- where the other parts fit, the changed part decides
-Decided : (Term → Term) → Type 0 → Part → Type 0
+unfoldable pub Decided : (Term → Term) → Type 0 → Part → Type 0
 Decided f A p = A ↔ Good (record { demand = p.demand; term = f p.term })
 
 rewritten : (f : Term → Term) (A B : Type 0) → (A → B) → (B → A) → (o : Option Part) → IfSome o (Decided f A) → IfSome o (Decided f B)
@@ -74,7 +74,7 @@ change-arguments f (Last e) (suc i) h = tt
 change-arguments f (More e es) zero h = (λ a. (omega arith, a.0), λ g. (g.1, h.1))
 change-arguments f (More e es) (suc i) h = rewritten f (ArgumentsFit (change_argument f es i)) (PartsFit e × ArgumentsFit (change_argument f es i)) (λ a. (h.0, a)) (λ b. b.1) (argument es i) (change-arguments f es i h.1)
 
-change-parts : (f : Term → Term) (t : Term) (i : ℕ) → PartsFit t → IfSome (part t i) (Decided f (PartsFit (change_part f t i)))
+pub change-parts : (f : Term → Term) (t : Term) (i : ℕ) → PartsFit t → IfSome (part t i) (Decided f (PartsFit (change_part f t i)))
 unfolding Decided
 change-parts f (Paren e) zero h = (λ a. (omega arith, a), λ g. g.1)
 change-parts f (Field e n) zero h = (λ a. a, λ g. g)

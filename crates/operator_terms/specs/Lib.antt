@@ -8,6 +8,7 @@ pub mod Reading
 -- places, what fits there, and pairs
 pub mod Places
 pub mod Pairs
+pub mod Put
 pub mod AllFit
 -- the tests
 pub mod Powers

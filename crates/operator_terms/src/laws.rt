@@ -9,6 +9,7 @@ ghost use Rattle.operator_terms.specs.Headline.{IsOneReading, AsksNowhere, Finds
 ghost use Rattle.operator_terms.specs.Pairs.{fits_before, pair_unless, paired_before, paired, without};
 ghost use Rattle.operator_terms.specs.Places.{Demand, Callee, Part, some_part, part, operand, behind_part, tokens_behind, ends_in_cast, FitsPlace, Fits, MayStandBefore};
 ghost use Rattle.operator_terms.specs.Powers.{needs_pair_at};
+ghost use Rattle.operator_terms.specs.Put.{put};
 ghost use Rattle.operator_terms.specs.Precedence.{precedence, needs_parentheses_in};
 ghost use Rattle.operator_terms.specs.Reading.{begins_with_angle, Reads};
 ghost use Rattle.operator_terms.specs.Sign.{Sign, Strange, sign_of, token_of, CarriesFixedText};
@@ -124,6 +125,20 @@ pub fn pair_may_go()
         → Reads 0 (tokens t) t → operand t q ≡ some_part d (Paren e)
         → FitsPlace d (begins_with_angle (tokens_behind q t)) e
         ↔ Reads 0 (tokens (without q t)) (without q t) }
+{}
+
+/// A term in the place of an operand of a term that its tokens read as.
+///
+/// `alone`: the whole reads as itself exactly if the new term fits the place. `in_pair`: with a pair round the new term
+/// it always does.
+pub fn a_term_in_the_place_of_an_operand()
+    ensures alone { (t s : Term) (q : List ℕ) (d : Demand) (e : Term)
+        → Reads 0 (tokens t) t → Reads 0 (tokens s) s → operand t q ≡ some_part d e
+        → FitsPlace d (begins_with_angle (tokens_behind q t)) s
+        ↔ Reads 0 (tokens (put s q t)) (put s q t) }
+    ensures in_pair { (t s : Term) (q : List ℕ) (d : Demand) (e : Term)
+        → Reads 0 (tokens t) t → Reads 0 (tokens s) s → operand t q ≡ some_part d e
+        → Reads 0 (tokens (put (Paren s) q t)) (put (Paren s) q t) }
 {}
 
 // ---- the tests

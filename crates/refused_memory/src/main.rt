@@ -7,6 +7,7 @@
 
 mod asking;
 mod building;
+mod editing;
 mod free;
 mod parsing;
 mod reading;
@@ -26,7 +27,8 @@ fn ask_all(rt: &HostRuntime) -> Result<(), Stopped> {
     }
     building::ask(rt)?;
     parsing::ask(rt)?;
-    reading::ask(rt)
+    reading::ask(rt)?;
+    editing::ask(rt)
 }
 
 fn main(rt: HostRuntime) -> ExitCode {

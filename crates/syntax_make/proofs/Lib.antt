@@ -1,2 +1,3 @@
 pub mod PairLemmas
 pub mod FormLemmas
+pub mod OperandLemmas

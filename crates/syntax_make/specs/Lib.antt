@@ -3,3 +3,4 @@ pub mod Failures
 pub mod Made
 pub mod Forms
 pub mod Replaced
+pub mod Operands

@@ -7,6 +7,7 @@
 mod error;
 mod from_parts;
 mod from_text;
+pub mod laws;
 mod place;
 mod replace;
 

@@ -138,7 +138,7 @@ fn bare<F: FrontEnd>(
 /// The tree of `old` with the expression `new` in its place, in a pair of parentheses where it needs one by [`needs_parens_in_place_of`],
 /// or where the text would otherwise read as another tree.
 ///
-/// That test is exact for operands of operator trees. For all else the new text decides: it is parsed, as a file if the root is
+/// That test is exact for operands of operator trees ([`crate::laws`]). For all else the new text decides: it is parsed, as a file if the root is
 /// a `SOURCE_FILE` and otherwise as an expression, and a tree is returned only where it is the parse of its text. Errors of the texts are
 /// not compared, so both trees may have some. `new` may be of any tree.
 ///
