@@ -46,6 +46,18 @@ def check_marks(grammar):
                 go(number + 1, marks)
 
 
+def check_seals(grammar):
+    """A node of a kind that a sealed call makes is made by nothing else, so its rule is known from its kind."""
+    kinds = list(grammar.sealed.values())
+    for kind in kinds:
+        if kinds.count(kind) > 1:
+            raise GrammarError(f"two sealed rules make nodes {kind}")
+    for name, ops in grammar.rules.items():
+        for op in ops:
+            if isinstance(op, Op) and op.name in ("Wrap", "Close", "Leaf") and op.kind in kinds:
+                raise GrammarError(f"line {op.line}: a node {op.kind} is made by its sealed rule alone")
+
+
 class Views:
     """What may be known of the next four tokens: for each view and each of them a set of kinds, as a number's bits."""
 
@@ -117,7 +129,7 @@ class Steps:
 
     The machine is run without tokens: what is not known of the next four, of the flags and of the last answer at first
     goes both ways at a test, and is known after it. A way begins after a take, after a call, where it returns, and
-    at each rule. It ends with a take, or with a return out of the rule that it began in.
+    at each rule. It ends with a take, with a sealed call, which takes a token too, or with a return out of the rule that it began in.
     """
 
     def __init__(self, table):
@@ -128,7 +140,7 @@ class Steps:
         words = {text for text in self.grammar.texts if self.grammar.texts[text] in self.grammar.powers}
         self.operators = bits(self.grammar.texts[text] for text in (operators | words) & set(self.grammar.texts))
         begins = set(table.start_of.values())
-        begins |= {number + 1 for number, op in enumerate(self.ops) if op.name in ("Take", "TakeAs", "TakeOperator", "Expect", "Leaf", "Piece", "Call", "Enter", "CallWith")}
+        begins |= {number + 1 for number, op in enumerate(self.ops) if op.name in ("Take", "TakeAs", "TakeOperator", "Expect", "Leaf", "Piece", "Call", "Enter", "CallWith", "Sealed")}
         for number in begins:
             self.longest = max(self.longest, self.way_from((number, (), 0, 0, 7, self.views.start)))
 
@@ -206,7 +218,7 @@ class Steps:
             made = self.taken(narrowed(views, 0, 1 << op.kind) or (), frames, lambda left: [forward]) if narrowed(views, 0, 1 << op.kind) else []
             left = narrowed(views, 0, ~(1 << op.kind) & self.views.all)
             return made + ([(number + 1, frames, off, on, answers, left)] if left else [])
-        if op.name in ("Take", "TakeAs", "TakeOperator", "Leaf") or op.name == "Piece" and op.last:
+        if op.name in ("Take", "TakeAs", "TakeOperator", "Leaf", "Sealed") or op.name == "Piece" and op.last:
             return self.taken(views, frames, lambda left: [(number + 1, frames, off, on, answers, left)])
         if op.name in ("Call", "Enter"):
             return [(op.target, frames + ((number + 1, off, on),), 0xFF, 0, answers, views)]

@@ -97,6 +97,7 @@ class Grammar:
         self.sets, self.flags, self.family_of = {}, {}, {}
         self.powers, self.messages, self.entries = {}, [], []
         self.rules, self.words = {}, Words(text)
+        self.sealed = {}  # the kinds of the nodes that sealed calls make, by their rules
         self.known, self.kept, self.given = {}, [], []
         while self.words:
             self.declaration()
@@ -104,6 +105,7 @@ class Grammar:
         # what a contextual keyword is by itself, and what a number with a dot is
         self.worded = {self.kinds.index(kind) for kind in ("IDENT", "FLOAT_NUMBER") if kind in self.kinds}
         self.check_names()
+        self.seal()
 
     # ---- declarations
 
@@ -159,6 +161,9 @@ class Grammar:
                 words.fail(f"the rule {name} is there twice")
             if name in RESERVED:
                 words.fail(f"no rule is named {name}, which is a word of the language")
+            if words.peek() == "sealed":
+                words.take()
+                self.sealed[name] = words.take()
             words.need("{")
             self.rules[name] = Rule(self, name).ops
         else:
@@ -215,6 +220,25 @@ class Grammar:
                 if one is not None:
                     known(caller, one, line)
                     known(called, one, line)
+
+
+    def seal(self):
+        """Has the calls of sealed rules be sealed calls. Such a rule, as an entry, is an operation that makes such a call."""
+        for name, ops in list(self.rules.items()):
+            for number, op in enumerate(ops):
+                if isinstance(op, Op) and op.name == "CallWith" and op.target in self.sealed:
+                    if (op.level, op.keep, op.add) != (0, 0, 0):
+                        raise GrammarError(f"line {op.line}: a sealed rule has no level and no flags of its caller")
+                    ops[number] = Op(op.line, "Sealed", target=inside(op.target), kind=self.sealed[op.target])
+        for name, kind in self.sealed.items():
+            self.rules[inside(name)] = self.rules[name]
+            line = self.rules[name][-1].line
+            self.rules[name] = [Op(line, "Sealed", target=inside(name), kind=kind), Op(line, "Return")]
+
+
+def inside(name):
+    """The name of what a sealed rule does behind its first token."""
+    return f"{name} inside"
 
 
 class Rule:
@@ -486,7 +510,8 @@ class Rule:
         first, rule = self.seen(words.take()), words.take()
         close, comma = self.seen(closing), self.seen("','")
         again, item, behind, after = Label(), Label(), Label(), Label()
-        self.take(self.grammar.kinds_of(opening)[0])
+        if not opening.startswith("last:"):
+            self.take(self.grammar.kinds_of(opening)[0])
         self.place(again)
         self.branch(Seen(ONE, 0, close.kinds | {END}), True, after)
         self.branch(comma, False, item)

@@ -46,10 +46,10 @@ def named_kind(name, library, others):
 def op_text(op, table, kind_text):
     """An operation as the tables write it."""
     test = op.fields.get("test")
-    if isinstance(test, Seen) and test.view == ONE and test.ahead >= 0:
+    if isinstance(test, Seen) and test.view == ONE and test.ahead == 0:
         if len(test.kinds) == 1:
-            return f"Op::{op.name}Kind {{ ahead: {test.ahead}, kind: {min(test.kinds)}, target: {op.target} }}"
-        return f"Op::{op.name}In {{ ahead: {test.ahead}, set: {table.set_number[test.kinds]}, target: {op.target} }}"
+            return f"Op::{op.name}Kind {{ kind: {min(test.kinds)}, target: {op.target} }}"
+        return f"Op::{op.name}In {{ set: {table.set_number[test.kinds]}, target: {op.target} }}"
     if test is not None:
         if isinstance(test, Flag):
             what = f"Test::Flag {{ mask: {test.mask} }}"
@@ -60,7 +60,8 @@ def op_text(op, table, kind_text):
         elif len(test.kinds) == 1:
             what = f"Test::Sees {{ view: {VIEWS[test.view]}, ahead: {test.ahead}, kind: {min(test.kinds)} }}"
         else:
-            what = f"Test::WordIn {{ ahead: {test.ahead}, set: {table.set_number[test.kinds]} }}"
+            name = "In" if test.view == ONE else "WordIn"
+            what = f"Test::{name} {{ ahead: {test.ahead}, set: {table.set_number[test.kinds]} }}"
         return f"Op::{op.name} {{ test: {what}, target: {op.target} }}"
     if op.name in ("CallWith", "Become"):
         levels = {"same": "Level::Same", "operand": "Level::Operand"}
@@ -207,6 +208,11 @@ def kind_page(source, grammar, library, others):
     return page(source, "The kinds of tokens and their numbers.", items)
 
 
+def braces(grammar):
+    """The numbers of the kinds of braces, as the fields of tables and of their definition."""
+    return [(name, grammar.texts.get(text, 0)) for name, text in (("opening", "{"), ("closing", "}"))]
+
+
 def table_pages(source, grammar):
     """The file that lends the tables out, and the definition that names them."""
     name = f"{source.text.removesuffix('.grammar')}_tables"
@@ -226,12 +232,13 @@ def table_pages(source, grammar):
         f"#[tactic(auto, unfolding(crate::specs::Tables::{name}))]\n"
         f"pub fn grammar() -> Grammar<'static>\n    ensures {{ tables_of result ≡ {name} }}\n{{\n    Grammar {{\n"
         + "".join(f"        {it}: {it}(),\n" for it, _, _ in TABLES)
+        + "".join(f"        {it}: {number},\n" for it, number in braces(grammar))
         + "    }\n}\n"
     )
     definition = (
         "-- The grammar's tables.\nuse Rattle.grammar_machine.specs.Running.{Tables}\n"
         + "".join(f"use Rattle.{source.crate}.specs.declared.tables.{it.removesuffix('s')}_table.TheConstants.{{{it.upper()}}}\n" for it, _, _ in TABLES)
-        + f"\nunfoldable pub {name} : Tables\n{name} = record {{ {'; '.join(f'{it} = {it.upper()}' for it, _, _ in TABLES)} }}\n"
+        + f"\nunfoldable pub {name} : Tables\n{name} = record {{ {'; '.join([f'{it} = {it.upper()}' for it, _, _ in TABLES] + [f'{it} = {number}' for it, number in braces(grammar)])} }}\n"
     )
     return code, definition
 

@@ -197,7 +197,7 @@ def without_jumps(ops):
                 if number == place[op.target]:
                     return None
                 number = place[op.target]
-            elif "target" in op.fields and op.name != "CallWith":
+            elif "target" in op.fields and op.name not in ("CallWith", "Sealed"):
                 return None
             else:
                 made.append(op)

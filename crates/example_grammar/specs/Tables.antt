@@ -7,4 +7,4 @@ use Rattle.example_grammar.specs.declared.tables.power_table.TheConstants.{POWER
 use Rattle.example_grammar.specs.declared.tables.kind_table.TheConstants.{KINDS}
 
 unfoldable pub arithmetic_tables : Tables
-arithmetic_tables = record { ops = OPS; sets = SETS; rows = ROWS; powers = POWERS; kinds = KINDS }
+arithmetic_tables = record { ops = OPS; sets = SETS; rows = ROWS; powers = POWERS; kinds = KINDS; opening = 0; closing = 0 }

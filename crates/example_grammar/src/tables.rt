@@ -69,5 +69,7 @@ pub fn grammar() -> Grammar<'static>
         rows: rows(),
         powers: powers(),
         kinds: kinds(),
+        opening: 0,
+        closing: 0,
     }
 }

@@ -1,20 +1,21 @@
 -- Runs that look at the tokens alone, operation by operation.
-use Rattle.std.proofs.Common.{◌≡◌, ℕ, zero, suc, ◌<◌, ◌≤◌, List, ap, ◌∙◌, sym, refl, add-one, ◌+◌, Bool, true, false, nat_le, arith}
+use Rattle.std.proofs.Common.{◌≡◌, ℕ, zero, suc, ◌<◌, ◌≤◌, List, ap, ◌∙◌, sym, refl, add-one, ◌+◌, ◌^◌, Bool, true, false, nat_le, arith}
 use Rattle.std.specs.Prelude.{Option, Some, None, slice_get, length, ◌&&◌, nat_eq, reverse, if◌then◌else◌}
 use Rattle.std.proofs.lemmas.Bool.{leb-false}
 use Rattle.std.proofs.lemmas.Bool.Decides.{nat_tests}
 use Rattle.grammar_machine.specs.declared.event.Event.{Event}
 use Rattle.grammar_machine.specs.declared.grammar.Sight.{Sight}
 use Rattle.grammar_machine.specs.declared.grammar.Op.{Op}
-use Rattle.grammar_machine.specs.Running.{Tables, State, runs, begin_of, run_of, fuel_of}
-use Rattle.grammar_machine.specs.Alone.{stays_on, stays_at, stays_until, is_none_of, is_over_of, alone_of}
-use Rattle.grammar_machine.proofs.Running.{runs-done}
+use Rattle.grammar_machine.specs.Running.{Tables, State, with_place, past_of, obey_of, runs, begin_of, run_of, fuel_of}
+use Rattle.grammar_machine.specs.Alone.{stays_on, stays_at, stays_until, is_none_of, is_over_of, has_returned_of, alone_of}
+use Rattle.grammar_machine.proofs.Running.{runs-done, step-none, step-spent}
+use Rattle.grammar_machine.proofs.Potential.{Comes, comes-first, comes-next, comes-last}
 
 pub stays-none : (g : Tables) (ts : List Sight) (s : State) → stays_until 0 g ts s ≡ true
 unfolding stays_until
 stays-none g ts s = refl
 
-stays-suc : (n : ℕ) (g : Tables) (ts : List Sight) (s : State) → stays_until (suc n) g ts s ≡ (stays_until n g ts s && stays_at g ts (runs n g ts s))
+pub stays-suc : (n : ℕ) (g : Tables) (ts : List Sight) (s : State) → stays_until (suc n) g ts s ≡ (stays_until n g ts s && stays_at g ts (runs n g ts s))
 unfolding stays_until
 stays-suc n g ts s = refl
 
@@ -47,7 +48,7 @@ stays-done (suc m) n g ts s h e p = by_test (λ w. stays-done m n g ts s w e p) 
     last q = let above : m < n = leb-false n m q in omega (arith, h, above)
 
     quiet : n ≤ m → stays_at g ts (runs m g ts s) ≡ true
-    quiet w = ap (λ (x : State). stays_at g ts x) (runs-done m n g ts s w e) ∙ ap (λ o. stays_on o (runs n g ts s).place.at (length ts)) e
+    quiet w = ap (λ (x : State). stays_at g ts x) (runs-done m n g ts s w (step-none g ts (runs n g ts s) e)) ∙ ap (λ o. stays_on o (runs n g ts s).place.at (length ts)) e
 
     by_test : (n ≤ m → stays_until m g ts s ≡ true) → (b : Bool) → nat_le n m ≡ b → stays_until (suc m) g ts s ≡ true
     by_test earlier true q = stays-suc m g ts s ∙ both (stays_until m g ts s) (stays_at g ts (runs m g ts s)) (earlier (at_most m n q)) (quiet (at_most m n q))
@@ -82,26 +83,50 @@ choose_second true true c y p = (let bad : true ≡ false = p in cc)
 choose_second true false c y p = refl
 choose_second false b c y p = refl
 
--- a run that stopped after k operations, of which each looked at the tokens alone
-pub alone-over : (g : Tables) (rule : ℕ) (ts : List Sight) (k : ℕ) (s : State) (items : List Event) → s ≡ runs k g ts (begin_of rule) → k ≤ fuel_of (length ts) → slice_get g.ops s.place.next ≡ None
-    → stays_until k g ts (begin_of rule) ≡ true → items ≡ reverse s.made.events → (if nat_eq s.place.at (length ts) then Some items else None) ≡ alone_of g rule ts
-alone-over g rule ts k s items is h e p q =
-    let stopped : slice_get g.ops (runs k g ts (begin_of rule)).place.next ≡ None = ap (λ (x : State). slice_get g.ops x.place.next) (sym is) ∙ e in
-    let all : s ≡ run_of g rule ts = is ∙ sym (runs-done (fuel_of (length ts)) k g ts (begin_of rule) h stopped) in
-    let quiet : stays_until (fuel_of (length ts)) g ts (begin_of rule) ≡ true = stays-done (fuel_of (length ts)) k g ts (begin_of rule) h stopped p in
+-- a state that a run comes to by operations that look at the tokens alone
+pub record ComesAlone (g : Tables) (rule : ℕ) (ts : List Sight) (s : State) : Type 0 where
+  pub comes : Comes g rule ts s
+  pub quiet : stays_until comes.steps g ts (begin_of rule) ≡ true
+
+pub alone-first : (g : Tables) (rule : ℕ) (ts : List Sight) (s : State) → s ≡ begin_of rule → ComesAlone g rule ts s
+alone-first g rule ts s e = record { comes = comes-first g rule ts s e; quiet = stays-none g ts (begin_of rule) }
+
+pub alone-next : (g : Tables) (rule : ℕ) (ts : List Sight) (s t : State) (o : Op) → length ts + 3 < 2 ^ 64 → slice_get g.ops s.place.next ≡ Some o → 0 < s.place.credit
+    → t ≡ obey_of g ts o (with_place past_of s) → stays_at g ts s ≡ true → ComesAlone g rule ts s → ComesAlone g rule ts t
+alone-next g rule ts s t o short found some e q c = record {
+  comes = comes-next g rule ts s t o short found some e c.comes;
+  quiet = stays-more c.comes.steps g ts (begin_of rule) c.quiet (ap (λ (x : State). stays_at g ts x) (sym c.comes.is) ∙ q);
+}
+
+-- where it is, and how many calls are open
+abbrev ends : List Sight → State → Bool
+ends ts s = nat_eq s.place.at (length ts) && nat_eq (length s.made.frames) 0
+
+-- a run that stopped
+pub alone-over : (g : Tables) (rule : ℕ) (ts : List Sight) (s : State) (items : List Event) → ComesAlone g rule ts s → slice_get g.ops s.place.next ≡ None
+    → items ≡ reverse s.made.events → (if (nat_eq s.place.at (length ts) && nat_eq (length s.made.frames) 0) then Some items else None) ≡ alone_of g rule ts
+alone-over g rule ts s items c e q =
+    let k = c.comes.steps in
+    let stopped : slice_get g.ops (runs k g ts (begin_of rule)).place.next ≡ None = ap (λ (x : State). slice_get g.ops x.place.next) (sym c.comes.is) ∙ e in
+    let within = c.comes.within in
+    let all : s ≡ run_of g rule ts = comes-last g rule ts s c.comes (step-none g ts s e) in
+    let quiet : stays_until (fuel_of (length ts)) g ts (begin_of rule) ≡ true = stays-done (fuel_of (length ts)) k g ts (begin_of rule) (omega (arith, within)) stopped c.quiet in
     let over : is_over_of g (run_of g rule ts) ≡ true = ap (λ (x : State). is_over_of g x) (sym all) ∙ ap is_none_of e in
-    ap (λ (x : State). if nat_eq x.place.at (length ts) then Some items else None) all
-    ∙ choose_both (stays_until (fuel_of (length ts)) g ts (begin_of rule)) (is_over_of g (run_of g rule ts)) (nat_eq (run_of g rule ts).place.at (length ts)) (Some items) (Some (reverse (run_of g rule ts).made.events)) quiet over
+    ap (λ (x : State). if (nat_eq x.place.at (length ts) && nat_eq (length x.made.frames) 0) then Some items else None) all
+    ∙ choose_both (stays_until (fuel_of (length ts)) g ts (begin_of rule)) (is_over_of g (run_of g rule ts)) (ends ts (run_of g rule ts)) (Some items) (Some (reverse (run_of g rule ts).made.events)) quiet over
     (ap Some (q ∙ ap (λ (x : State). reverse x.made.events) all))
 
 -- one that looked at something else
-pub alone-strays : (g : Tables) (rule : ℕ) (ts : List Sight) (k : ℕ) (s : State) → s ≡ runs k g ts (begin_of rule) → k < fuel_of (length ts) → stays_at g ts s ≡ false → None ≡ alone_of g rule ts
-alone-strays g rule ts k s is h e =
-    choose_first (stays_until (fuel_of (length ts)) g ts (begin_of rule)) (is_over_of g (run_of g rule ts) && nat_eq (run_of g rule ts).place.at (length ts)) (Some (reverse (run_of g rule ts).made.events))
-    (strays (fuel_of (length ts)) k g ts (begin_of rule) h (ap (λ (x : State). stays_at g ts x) (sym is) ∙ e))
+pub alone-strays : (g : Tables) (rule : ℕ) (ts : List Sight) (s : State) → ComesAlone g rule ts s → 0 < s.place.credit → stays_at g ts s ≡ false → None ≡ alone_of g rule ts
+alone-strays g rule ts s c some e =
+    let within = c.comes.within in
+    let below : c.comes.steps < fuel_of (length ts) = omega (arith, within, some) in
+    choose_first (stays_until (fuel_of (length ts)) g ts (begin_of rule)) (has_returned_of g ts (run_of g rule ts)) (Some (reverse (run_of g rule ts).made.events))
+    (strays (fuel_of (length ts)) c.comes.steps g ts (begin_of rule) below (ap (λ (x : State). stays_at g ts x) (sym c.comes.is) ∙ e))
 
--- one that did not stop
-pub alone-goes_on : (g : Tables) (rule : ℕ) (ts : List Sight) (k : ℕ) (s : State) (o : Op) → s ≡ runs k g ts (begin_of rule) → k ≡ fuel_of (length ts) → slice_get g.ops s.place.next ≡ Some o → None ≡ alone_of g rule ts
-alone-goes_on g rule ts k s o is h e =
-    choose_second (stays_until (fuel_of (length ts)) g ts (begin_of rule)) (is_over_of g (run_of g rule ts)) (nat_eq (run_of g rule ts).place.at (length ts)) (Some (reverse (run_of g rule ts).made.events))
-    (ap (λ (x : State). is_over_of g x) (ap (λ n. runs n g ts (begin_of rule)) (sym h) ∙ sym is) ∙ ap is_none_of e)
+-- one that was stopped
+pub alone-spent : (g : Tables) (rule : ℕ) (ts : List Sight) (s : State) (o : Op) → ComesAlone g rule ts s → s.place.credit ≡ 0 → slice_get g.ops s.place.next ≡ Some o → None ≡ alone_of g rule ts
+alone-spent g rule ts s o c spent e =
+    let all : s ≡ run_of g rule ts = comes-last g rule ts s c.comes (step-spent g ts s spent) in
+    choose_second (stays_until (fuel_of (length ts)) g ts (begin_of rule)) (is_over_of g (run_of g rule ts)) (ends ts (run_of g rule ts)) (Some (reverse (run_of g rule ts).made.events))
+    (ap (λ (x : State). is_over_of g x) (sym all) ∙ ap is_none_of e)

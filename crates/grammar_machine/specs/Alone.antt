@@ -11,16 +11,17 @@ use Rattle.grammar_machine.specs.Running.{Tables, State, begin_of, runs, run_of,
 -- the number of tokens, from the next one on, that a test or an operation may look at
 abbrev pub test_reach : Test → ℕ
 test_reach (test.Sees v n k) = n + 1
+test_reach (test.In n set) = n + 1
 test_reach (test.WordIn n set) = n + 1
 test_reach (test.After k) = 0
 test_reach (test.Flag mask) = 0
 test_reach (test.Answered a) = 0
 
 abbrev pub reach_of : Op → ℕ
-reach_of (op.IfKind n k target) = n + 1
-reach_of (op.UnlessKind n k target) = n + 1
-reach_of (op.IfIn n set target) = n + 1
-reach_of (op.UnlessIn n set target) = n + 1
+reach_of (op.IfKind k target) = 1
+reach_of (op.UnlessKind k target) = 1
+reach_of (op.IfIn set target) = 1
+reach_of (op.UnlessIn set target) = 1
 reach_of (op.If t target) = test_reach t
 reach_of (op.Unless t target) = test_reach t
 reach_of (op.Switch row) = 1
@@ -31,6 +32,7 @@ reach_of (op.Expect k n) = 1
 reach_of (op.Piece part last) = 1
 reach_of (op.Leaf k) = 1
 reach_of (op.Operator target) = 1
+reach_of (op.Sealed target k) = 1
 reach_of _ = 0
 
 -- whether it looks at the token before the next one
@@ -67,10 +69,14 @@ is_none_of (Some o) = false
 abbrev pub is_over_of : Tables → State → Bool
 is_over_of g s = is_none_of (slice_get g.ops s.place.next)
 
--- the run of a rule looks at the tokens alone, and stops right behind the last
+-- it stops right behind the last token, where the rule has returned
+abbrev pub has_returned_of : Tables → List Sight → State → Bool
+has_returned_of g ts s = is_over_of g s && (nat_eq s.place.at (length ts) && nat_eq (length s.made.frames) 0)
+
+-- the run of a rule looks at the tokens alone, and returns right behind the last
 abbrev pub is_alone_of : Tables → ℕ → List Sight → Bool
 is_alone_of g rule ts =
-    stays_until (fuel_of (length ts)) g ts (begin_of rule) && (is_over_of g (run_of g rule ts) && nat_eq (run_of g rule ts).place.at (length ts))
+    stays_until (fuel_of (length ts)) g ts (begin_of rule) && has_returned_of g ts (run_of g rule ts)
 
 -- the events of such a run
 abbrev pub alone_of : Tables → ℕ → List Sight → Option (List Event)

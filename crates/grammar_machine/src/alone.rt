@@ -9,7 +9,9 @@ fn test_reach(test: Test) -> usize
     ensures { result ≡ test_reach test }
 {
     match test {
-        Test::Sees { ahead, .. } | Test::WordIn { ahead, .. } => ahead as usize + 1,
+        Test::Sees { ahead, .. } | Test::In { ahead, .. } | Test::WordIn { ahead, .. } => {
+            ahead as usize + 1
+        }
         Test::After { .. } | Test::Flag { .. } | Test::Answered { .. } => 0,
     }
 }
@@ -19,19 +21,20 @@ fn reach(op: Op) -> usize
     ensures { result ≡ reach_of op }
 {
     match op {
-        Op::IfKind { ahead, .. }
-        | Op::UnlessKind { ahead, .. }
-        | Op::IfIn { ahead, .. }
-        | Op::UnlessIn { ahead, .. } => ahead as usize + 1,
         Op::If { test, .. } | Op::Unless { test, .. } => test_reach(test),
-        Op::Switch { .. }
+        Op::IfKind { .. }
+        | Op::UnlessKind { .. }
+        | Op::IfIn { .. }
+        | Op::UnlessIn { .. }
+        | Op::Switch { .. }
         | Op::Take
         | Op::TakeAs { .. }
         | Op::TakeOperator
         | Op::Expect { .. }
         | Op::Piece { .. }
         | Op::Leaf { .. }
-        | Op::Operator { .. } => 1,
+        | Op::Operator { .. }
+        | Op::Sealed { .. } => 1,
         _ => 0,
     }
 }

@@ -35,11 +35,15 @@ pub enum View {
     Word,
 }
 
-/// What a rule may test besides the kind of a single token.
+/// What a rule may test besides the kind of the next token.
+///
+/// A look ahead does not go over a brace: if one of the tokens before the one that is asked for is a brace, no kind is seen.
 #[derive(Clone, Copy, Debug, PartialEq, Eq)]
 pub enum Test {
     /// Whether the token `ahead` tokens ahead has this kind in that view.
     Sees { view: View, ahead: u8, kind: u8 },
+    /// Whether the token `ahead` tokens ahead is in the set.
+    In { ahead: u8, set: u8 },
     /// Whether the token `ahead` tokens ahead is in the set by its finer kind.
     WordIn { ahead: u8, set: u8 },
     /// Whether the token that was taken last has this kind.
@@ -66,27 +70,23 @@ pub enum Level {
 /// Unless stated otherwise, the machine continues with the next operation.
 #[derive(Clone, Copy, Debug, PartialEq, Eq)]
 pub enum Op {
-    /// Goes to the target if the token `ahead` tokens ahead has this kind.
+    /// Goes to the target if the next token has this kind.
     IfKind {
-        ahead: u8,
         kind: u8,
         target: u16,
     },
-    /// Goes to the target if the token `ahead` tokens ahead has another kind.
+    /// Goes to the target if the next token has another kind.
     UnlessKind {
-        ahead: u8,
         kind: u8,
         target: u16,
     },
-    /// Goes to the target if the token `ahead` tokens ahead is in the set.
+    /// Goes to the target if the next token is in the set.
     IfIn {
-        ahead: u8,
         set: u8,
         target: u16,
     },
-    /// Goes to the target if the token `ahead` tokens ahead is not in the set.
+    /// Goes to the target if the next token is not in the set.
     UnlessIn {
-        ahead: u8,
         set: u8,
         target: u16,
     },
@@ -121,7 +121,7 @@ pub enum Op {
         kind: u8,
         message: u16,
     },
-    /// Takes a part of the next token; with the last part the token is taken completely.
+    /// Takes a part of the next token, if there is one; with the last part the token is taken completely.
     Piece {
         part: Part,
         last: bool,
@@ -162,6 +162,14 @@ pub enum Op {
         level: Level,
         keep: u8,
         add: u8,
+    },
+    /// A sealed call: takes the next token, if there is one, and calls a rule as if the text began with that token. When the rule
+    /// returns, all that was taken since is a node of this kind.
+    ///
+    /// The rule sees no level, flag, answer, mark or call from before the token, and leaves none behind.
+    Sealed {
+        target: u16,
+        kind: SyntaxKind,
     },
     /// A tail call: calls a rule as `CallWith` does; that rule then returns to this rule's caller.
     Become {
@@ -216,4 +224,8 @@ pub struct Grammar<'a> {
     pub powers: &'a [Option<Power>],
     /// The kinds, by their numbers.
     pub kinds: &'a [SyntaxKind],
+    /// The number of the kind of an opening brace, or 0. No look ahead goes over a brace.
+    pub opening: u8,
+    /// The number of the kind of a closing brace, or 0.
+    pub closing: u8,
 }

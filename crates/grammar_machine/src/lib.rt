@@ -10,7 +10,9 @@
 mod alone;
 mod event;
 mod grammar;
+pub mod laws;
 mod machine;
+mod made;
 
 pub use event::{Event, Part};
 pub use grammar::{Grammar, Level, Op, Power, Sight, Test, View};

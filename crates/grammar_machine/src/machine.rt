@@ -1,11 +1,13 @@
-//! The machine. It has two stacks, of calls and of marks, and no recursion, and it ends whatever the grammar is.
-ghost use Rattle.std.specs.Prelude.{◌≡◌, OnOk, IfOk, length, slice_get, option_map, nat_eq, if◌then◌else◌, Some, None};
+//! The machine. It has a stack of calls, one of marks, and one of what sealed calls keep; it has no recursion, and ends whatever the
+//! grammar is.
+ghost use Rattle.std.specs.Prelude.{◌≡◌, ◌<◌, ◌+◌, ◌^◌, ◌&&◌, OnOk, IfOk, length, slice_get, option_map, nat_eq, if◌then◌else◌, Some, None};
 ghost use Rattle.grammar_machine.specs.Alone.{alone_of};
-ghost use Rattle.grammar_machine.specs.Running.{tables_of, stacks_of, state_of, saturated_of, seen_as_of, end_as_of, signs_of_view, seen_at_of, ahead_of, has_of, target_of, kind_of, power_of, is_some, operator_view_of, holds_of, goto_of, goto_if_of, level_for_of, enter_of, bind_of, frame_of, first_of, make_of, start_of, open_of, forget_of, wrap_of, close_of, longer_of, extend_of, call_of, returned_of, take_of, expect_of, piece_of, leaf_of, return_of, obey_of, nothing_of, begin_of, fuel_of, events_of};
+ghost use Rattle.grammar_machine.specs.Running.{tables_of, stacks_of, state_of, seen_as_of, end_as_of, signs_of_view, seen_at_of, here_of, has_of, is_brace_of, hides_of, sees_of, target_of, kind_of, power_of, is_some, operator_view_of, holds_of, goto_of, goto_if_of, level_for_of, enter_of, bind_of, frame_of, pass_of, fresh_of, resume_of, leave_of, left_of, take_of, expect_of, piece_of, leaf_of, return_of, sealed_of, obey_of, begin_of, fuel_of, events_of};
 
 use crate::alone::stays;
 use crate::event::{Event, Part};
 use crate::grammar::{Grammar, Level, Op, Power, Sight, Test, View};
+use crate::made::{Frame, Made, Seal, saturated};
 use std::alloc::{AllocError, Global};
 use syntax_kind::SyntaxKind;
 
@@ -15,8 +17,8 @@ const END: u8 = 1;
 /// Not the number of an operation: the return address of a rule that was not called.
 const STOP: u32 = u32::MAX;
 
-/// The maximum number of operations for each token, and once more for the end. A grammar in which every loop takes a token
-/// stays far below.
+/// So many operations are allowed at the beginning and for each token that is taken. A grammar in which every loop takes a token stays
+/// far below.
 const STEPS_A_TOKEN: usize = 1200;
 
 /// Where the machine is.
@@ -26,6 +28,8 @@ pub(crate) struct Place {
     next: u32,
     /// The next token.
     at: usize,
+    /// How many operations are left.
+    credit: usize,
     /// The rule's level.
     level: u8,
     /// The rule's flags.
@@ -34,25 +38,6 @@ pub(crate) struct Place {
     operand: u8,
     /// The last answer.
     answer: u8,
-}
-
-/// Where a call returns to, with the caller's level and flags.
-#[derive(Clone, Copy, Debug)]
-struct Frame {
-    next: u32,
-    level: u8,
-    flags: u8,
-}
-
-/// The output so far, and the open nodes and calls.
-#[derive(Debug, Drop)]
-struct Made {
-    /// The events.
-    events: Vec<Event>,
-    /// Where the nodes that are open start: the number of their first event.
-    marks: Vec<u32>,
-    /// The calls that are open.
-    frames: Vec<Frame>,
 }
 
 #[inline(always)]
@@ -167,6 +152,26 @@ impl Grammar<'_> {
         }
     }
 
+    #[inline(always)]
+    fn is_brace(&self, kind: u8) -> bool
+        ensures { result ≡ is_brace_of (tables_of self.now) kind }
+    {
+        kind == self.opening || kind == self.closing
+    }
+
+    // Whether one of the next `ahead` tokens is a brace.
+    #[inline(always)]
+    fn hides(&self, sights: &[Sight], at: usize, ahead: u8) -> bool
+        ensures { result ≡ hides_of (tables_of self.now) sights.now at ahead }
+    {
+        for i in 0..ahead {
+            if self.is_brace(kind_at(sights, at.wrapping_add(i as usize))) {
+                return true;
+            }
+        }
+        false
+    }
+
     // The view of the longest operator that begins with the token.
     #[inline(always)]
     fn operator_view(&self, sights: &[Sight], at: usize) -> View
@@ -189,6 +194,7 @@ impl Place {
         Place {
             next: saturated(rule),
             at: 0,
+            credit: STEPS_A_TOKEN,
             level: 0,
             flags: 0,
             operand: 0,
@@ -213,10 +219,22 @@ impl Place {
     }
 
     #[inline(always)]
-    fn kind(&self, sights: &[Sight], ahead: u8) -> u8
-        ensures { result ≡ ahead_of sights.now self.now ahead }
+    fn kind(&self, sights: &[Sight]) -> u8
+        ensures { result ≡ here_of sights.now self.now }
     {
-        kind_at(sights, self.at.wrapping_add(ahead as usize))
+        kind_at(sights, self.at)
+    }
+
+    // What is seen of the token `ahead` tokens ahead: nothing over a brace.
+    #[inline(always)]
+    fn sees(&self, grammar: &Grammar, sights: &[Sight], view: View, ahead: u8) -> u8
+        ensures { result ≡ sees_of (tables_of grammar.now) sights.now view ahead self.now }
+    {
+        if grammar.hides(sights, self.at, ahead) {
+            0
+        } else {
+            seen_at(sights, view, self.at.wrapping_add(ahead as usize))
+        }
     }
 
     #[inline(always)]
@@ -224,13 +242,14 @@ impl Place {
         ensures { result ≡ holds_of (tables_of grammar.now) sights.now test self.now }
     {
         match test {
-            Test::Sees { view, ahead, kind } => {
-                seen_at(sights, view, self.at.wrapping_add(ahead as usize)) == kind
-            }
-            Test::WordIn { ahead, set } => grammar.has(
+            Test::Sees { view, ahead, kind } => self.sees(grammar, sights, view, ahead) == kind,
+            Test::In { ahead, set } => grammar.has(
                 set,
-                seen_at(sights, View::Word, self.at.wrapping_add(ahead as usize)),
+                self.sees(grammar, sights, View::One, ahead),
             ),
+            Test::WordIn { ahead, set } => {
+                grammar.has(set, self.sees(grammar, sights, View::Word, ahead))
+            }
             Test::After { kind } => {
                 self.at > 0 && kind_at(sights, self.at.wrapping_sub(1)) == kind
             }
@@ -276,149 +295,89 @@ impl Place {
     }
 
     #[inline(always)]
-    fn frame(&self) -> Frame
-        ensures { result ≡ frame_of self.now }
+    fn frame(&self, sealed: bool) -> Frame
+        ensures { result ≡ frame_of sealed self.now }
     {
         Frame {
             next: self.next,
             level: self.level,
             flags: self.flags,
+            sealed,
         }
+    }
+
+    // Goes on for as many tokens as were taken.
+    #[inline(always)]
+    fn pass(&mut self, signs: u8)
+        ensures { self.new ≡ pass_of signs self.old }
+    {
+        self.at = self.at.wrapping_add(signs as usize);
+        self.credit = self.credit.saturating_add(STEPS_A_TOKEN);
+    }
+
+    // As at the beginning of a text, but for the place.
+    #[inline(always)]
+    fn begin(&mut self, target: u16)
+        ensures { self.new ≡ fresh_of target self.old }
+    {
+        self.next = target as u32;
+        self.credit = STEPS_A_TOKEN;
+        self.level = 0;
+        self.flags = 0;
+        self.operand = 0;
+        self.answer = 0;
+    }
+
+    // To where a call came from.
+    #[inline(always)]
+    fn resume(&mut self, frame: Frame)
+        ensures { self.new ≡ resume_of frame self.old }
+    {
+        self.next = frame.next;
+        self.level = frame.level;
+        self.flags = frame.flags;
+    }
+
+    // Behind a sealed call.
+    #[inline(always)]
+    fn leave(&mut self, seal: Seal)
+        ensures { self.new ≡ leave_of seal self.old }
+    {
+        self.credit = seal.credit.saturating_add(STEPS_A_TOKEN);
+        self.operand = 0;
+        self.answer = 0;
     }
 }
 
-// The event, if it is a node, from the mark on.
-fn longer(event: Event, mark: Option<u32>) -> Event
-    ensures { result ≡ longer_of mark event }
+// Makes the node of a sealed call that returned.
+fn leave(place: &mut Place, made: &mut Made) -> Result<(), AllocError>
+    ensures { OnOk result (state_of place.new made.new ≡ left_of (state_of place.old made.old)) }
 {
-    match mark {
-        None => event,
-        Some(mark) => match event {
-            Event::Node { kind, from } => Event::Node {
-                kind,
-                from: from.min(mark),
-            },
-            _ => event,
-        },
-    }
-}
-
-fn saturated(n: usize) -> u32
-    ensures { result ≡ saturated_of n }
-{
-    if n < STOP as usize { n as u32 } else { STOP }
-}
-
-impl Made {
-    // Empty, with capacity for some events.
-    fn new(alloc: Global, room: usize) -> Result<Made, AllocError>
-        ensures { IfOk result (λ made. stacks_of made ≡ nothing_of) }
-    {
-        let events = Vec::with_capacity(alloc, room)?;
-        Ok(Made {
-            events,
-            marks: Vec::new(alloc),
-            frames: Vec::new(alloc),
-        })
-    }
-
-    #[inline(always)]
-    fn make(&mut self, event: Event) -> Result<(), AllocError>
-        ensures { OnOk result (stacks_of self.new ≡ make_of event (stacks_of self.old)) }
-    {
-        self.events.push(event)?;
-        Ok(())
-    }
-
-    #[inline(always)]
-    fn start(&self) -> u32
-        ensures { result ≡ start_of (stacks_of self.now) }
-    {
-        saturated(self.events.len())
-    }
-
-    #[inline(always)]
-    fn mark(&self) -> Option<u32>
-        ensures { result ≡ first_of (stacks_of self.now).marks }
-    {
-        self.marks.last().copied()
-    }
-
-    #[inline(always)]
-    fn open(&mut self) -> Result<(), AllocError>
-        ensures { OnOk result (stacks_of self.new ≡ open_of (stacks_of self.old)) }
-    {
-        let start = self.start();
-        self.marks.push(start)?;
-        Ok(())
-    }
-
-    #[inline(always)]
-    fn close(&mut self, kind: SyntaxKind) -> Result<(), AllocError>
-        ensures { OnOk result (stacks_of self.new ≡ close_of kind (stacks_of self.old)) }
-    {
-        match self.marks.pop() {
-            None => Ok(()),
-            Some(from) => self.make(Event::Node { kind, from }),
+    match made.pop_seal() {
+        None => Ok(()),
+        Some(seal) => {
+            place.leave(seal);
+            made.unseal(seal)
         }
-    }
-
-    #[inline(always)]
-    fn wrap(&mut self, kind: SyntaxKind) -> Result<(), AllocError>
-        ensures { OnOk result (stacks_of self.new ≡ wrap_of kind (stacks_of self.old)) }
-    {
-        match self.mark() {
-            None => Ok(()),
-            Some(from) => self.make(Event::Node { kind, from }),
-        }
-    }
-
-    #[inline(always)]
-    fn forget(&mut self)
-        ensures { stacks_of self.new ≡ forget_of (stacks_of self.old) }
-    {
-        let _ = self.marks.pop();
-    }
-
-    fn extend(&mut self) -> Result<(), AllocError>
-        ensures { OnOk result (stacks_of self.new ≡ extend_of (stacks_of self.old)) }
-    {
-        match self.events.pop() {
-            None => Ok(()),
-            Some(event) => {
-                let event = longer(event, self.mark());
-                self.make(event)
-            }
-        }
-    }
-
-    #[inline(always)]
-    fn call(&mut self, frame: Frame) -> Result<(), AllocError>
-        ensures { OnOk result (stacks_of self.new ≡ call_of frame (stacks_of self.old)) }
-    {
-        self.frames.push(frame)?;
-        Ok(())
-    }
-
-    #[inline(always)]
-    fn pop_frame(&mut self) -> Option<Frame>
-        ensures frame { result ≡ first_of (stacks_of self.old).frames }
-        ensures made { stacks_of self.new ≡ returned_of (stacks_of self.old) }
-    {
-        self.frames.pop()
     }
 }
 
 #[inline(always)]
-fn back(place: &mut Place, made: &mut Made)
-    ensures { state_of place.new made.new ≡ return_of (state_of place.old made.old) }
+fn back(place: &mut Place, made: &mut Made) -> Result<(), AllocError>
+    ensures { OnOk result (state_of place.new made.new ≡ return_of (state_of place.old made.old)) }
 {
     match made.pop_frame() {
-        None => place.next = STOP,
+        None => {
+            place.next = STOP;
+            Ok(())
+        }
         Some(frame) => {
-            place.next = frame.next;
-            place.level = frame.level;
-            place.flags = frame.flags;
+            place.resume(frame);
+            if frame.sealed {
+                leave(place, made)
+            } else {
+                Ok(())
+            }
         }
     }
 }
@@ -439,7 +398,7 @@ fn take(
             let signs = signs_of(view);
             let kind = grammar.kind(seen_as(view, sight));
             made.make(Event::Token { kind, signs })?;
-            place.at = place.at.wrapping_add(signs as usize);
+            place.pass(signs);
             Ok(())
         }
     }
@@ -456,7 +415,7 @@ fn expect(
 ) -> Result<(), AllocError>
     ensures { OnOk result (state_of place.new made.new ≡ expect_of (tables_of grammar.now) sights.now kind message (state_of place.old made.old)) }
 {
-    if place.kind(sights, 0) == kind {
+    if place.kind(sights) == kind {
         take(place, made, grammar, sights, View::One)
     } else {
         made.make(Event::Error { message })
@@ -479,14 +438,50 @@ fn leaf(
 }
 
 #[inline(always)]
-fn piece(place: &mut Place, made: &mut Made, part: Part, last: bool) -> Result<(), AllocError>
-    ensures { OnOk result (state_of place.new made.new ≡ piece_of part last (state_of place.old made.old)) }
+fn piece(
+    place: &mut Place,
+    made: &mut Made,
+    sights: &[Sight],
+    part: Part,
+    last: bool,
+) -> Result<(), AllocError>
+    ensures { OnOk result (state_of place.new made.new ≡ piece_of sights.now part last (state_of place.old made.old)) }
 {
-    made.make(Event::Piece { part, last })?;
-    if last {
-        place.at = place.at.wrapping_add(1);
+    match sight_at(sights, place.at) {
+        None => Ok(()),
+        Some(_) => {
+            made.make(Event::Piece { part, last })?;
+            if last {
+                place.pass(1);
+            }
+            Ok(())
+        }
     }
-    Ok(())
+}
+
+fn sealed(
+    place: &mut Place,
+    made: &mut Made,
+    grammar: &Grammar,
+    sights: &[Sight],
+    target: u16,
+    kind: SyntaxKind,
+) -> Result<(), AllocError>
+    ensures { OnOk result (state_of place.new made.new ≡ sealed_of (tables_of grammar.now) sights.now target kind (state_of place.old made.old)) }
+{
+    match sight_at(sights, place.at) {
+        None => Ok(()),
+        Some(sight) => {
+            made.seal(place.frame(true), kind, place.credit)?;
+            made.make(Event::Token {
+                kind: grammar.kind(sight.one),
+                signs: 1,
+            })?;
+            place.at = place.at.wrapping_add(1);
+            place.begin(target);
+            Ok(())
+        }
+    }
 }
 
 #[inline(always)]
@@ -500,28 +495,20 @@ fn obey(
     ensures { OnOk result (state_of place.new made.new ≡ obey_of (tables_of grammar.now) sights.now op.now (state_of place.old made.old)) }
 {
     match *op {
-        Op::IfKind {
-            ahead,
-            kind,
-            target,
-        } => {
-            place.goto_if(place.kind(sights, ahead) == kind, target);
+        Op::IfKind { kind, target } => {
+            place.goto_if(place.kind(sights) == kind, target);
             Ok(())
         }
-        Op::UnlessKind {
-            ahead,
-            kind,
-            target,
-        } => {
-            place.goto_if(place.kind(sights, ahead) != kind, target);
+        Op::UnlessKind { kind, target } => {
+            place.goto_if(place.kind(sights) != kind, target);
             Ok(())
         }
-        Op::IfIn { ahead, set, target } => {
-            place.goto_if(grammar.has(set, place.kind(sights, ahead)), target);
+        Op::IfIn { set, target } => {
+            place.goto_if(grammar.has(set, place.kind(sights)), target);
             Ok(())
         }
-        Op::UnlessIn { ahead, set, target } => {
-            place.goto_if(!grammar.has(set, place.kind(sights, ahead)), target);
+        Op::UnlessIn { set, target } => {
+            place.goto_if(!grammar.has(set, place.kind(sights)), target);
             Ok(())
         }
         Op::If { test, target } => {
@@ -533,7 +520,7 @@ fn obey(
             Ok(())
         }
         Op::Switch { row } => {
-            place.next = grammar.target(row, place.kind(sights, 0));
+            place.next = grammar.target(row, place.kind(sights));
             Ok(())
         }
         Op::Jump { target } => {
@@ -547,7 +534,7 @@ fn obey(
             take(place, made, grammar, sights, view)
         }
         Op::Expect { kind, message } => expect(place, made, grammar, sights, kind, message),
-        Op::Piece { part, last } => piece(place, made, part, last),
+        Op::Piece { part, last } => piece(place, made, sights, part, last),
         Op::Open => made.open(),
         Op::Drop => {
             made.forget();
@@ -559,7 +546,7 @@ fn obey(
         Op::Extend => made.extend(),
         Op::Error { message } => made.make(Event::Error { message }),
         Op::Call { target } => {
-            made.call(place.frame())?;
+            made.call(place.frame(false))?;
             place.enter(target, Level::Own { level: 0 }, 0, 0);
             Ok(())
         }
@@ -569,15 +556,16 @@ fn obey(
             keep,
             add,
         } => {
-            made.call(place.frame())?;
+            made.call(place.frame(false))?;
             place.enter(target, level, keep, add);
             Ok(())
         }
         Op::Enter { target } => {
-            made.call(place.frame())?;
+            made.call(place.frame(false))?;
             place.enter(target, Level::Own { level: 0 }, 0, 0);
             made.open()
         }
+        Op::Sealed { target, kind } => sealed(place, made, grammar, sights, target, kind),
         Op::Become {
             target,
             level,
@@ -587,19 +575,14 @@ fn obey(
             place.enter(target, level, keep, add);
             Ok(())
         }
-        Op::Return => {
-            back(place, made);
-            Ok(())
-        }
+        Op::Return => back(place, made),
         Op::Leave => {
             made.forget();
-            back(place, made);
-            Ok(())
+            back(place, made)
         }
         Op::Reply { answer } => {
             place.answer = answer;
-            back(place, made);
-            Ok(())
+            back(place, made)
         }
         Op::Answer { answer } => {
             place.answer = answer;
@@ -617,18 +600,20 @@ fn obey(
     }
 }
 
-fn fuel(sights: &[Sight]) -> usize
-    ensures { result ≡ fuel_of (length sights.now) }
+// A capacity for the events. No number of a token near the last one wraps around.
+fn room_for(sights: &[Sight]) -> usize
+    ensures { length sights.now + 3 < 2 ^ 64 }
 {
-    sights.len().saturating_add(1).saturating_mul(STEPS_A_TOKEN)
+    let beyond = sights.len() + 3;
+    beyond.saturating_mul(3)
 }
 
 /// Runs a rule over the tokens of a text that are not trivia. Returns the events, from which a tree can be laid out.
 ///
 /// `rule` is the number of the rule's first operation. The machine stops when the rule returns, and at a number that is not
-/// that of an operation. A grammar that loops is stopped after 1,200 operations for each token and as many for the end; the
-/// events are then those that were made so far. So any grammar can be run over any tokens, in time and memory linear in
-/// the tokens, with no recursion. The only error is out of memory.
+/// that of an operation. A grammar that loops is stopped: it has 1,200 operations at the beginning, 1,200 more for each token that is
+/// taken, and a sealed call has its own ones; the events are then those that were made so far. So any grammar can be run over any
+/// tokens, in time and memory linear in the tokens, with no recursion. The only error is out of memory.
 pub fn run(
     alloc: Global,
     grammar: &Grammar,
@@ -638,11 +623,12 @@ pub fn run(
     ensures { IfOk result (λ events. events.items ≡ events_of (tables_of grammar.now) rule sights.now) }
 {
     let mut place = Place::new(rule);
-    let mut made = Made::new(alloc, sights.len().saturating_mul(3))?;
-    for _step in 0..fuel(sights) {
+    let mut made = Made::new(alloc, room_for(sights))?;
+    while place.credit > 0 {
         match grammar.ops.get(place.next as usize) {
             None => return Ok(made.events),
             Some(op) => {
+                place.credit -= 1;
                 place.next = place.next.wrapping_add(1);
                 obey(&mut place, &mut made, grammar, sights, op)?;
             }
@@ -651,18 +637,18 @@ pub fn run(
     Ok(made.events)
 }
 
-// The events of a run that stopped, if it stopped right behind the last token.
+// The events of a run that stopped, if it stopped right behind the last token, with no call open.
 fn at_the_end(place: Place, made: Made, sights: &[Sight]) -> Option<Vec<Event>>
-    ensures { option_map (λ v. v.items) result ≡ (if nat_eq place.at (length sights.now) then Some made.events.items else None) }
+    ensures { option_map (λ v. v.items) result ≡ (if nat_eq place.at (length sights.now) && nat_eq (length made.frames.items) 0 then Some made.events.items else None) }
 {
-    if place.at == sights.len() {
+    if place.at == sights.len() && made.frames.len() == 0 {
         Some(made.events)
     } else {
         None
     }
 }
 
-/// Runs a rule over the tokens of a piece of a text. Returns the events of [`run`] if the rule stops right behind the last token and
+/// Runs a rule over the tokens of a piece of a text. Returns the events of [`run`] if the rule returns right behind the last token and
 /// no operation looked at what stands before the first token or behind the last; otherwise `None`.
 ///
 /// So what was made of the piece does not depend on the text around it. The only error is out of memory.
@@ -675,14 +661,15 @@ pub fn run_alone(
     ensures { IfOk result (λ events. option_map (λ v. v.items) events ≡ alone_of (tables_of grammar.now) rule sights.now) }
 {
     let mut place = Place::new(rule);
-    let mut made = Made::new(alloc, sights.len().saturating_mul(3))?;
-    for _step in 0..fuel(sights) {
+    let mut made = Made::new(alloc, room_for(sights))?;
+    while place.credit > 0 {
         match grammar.ops.get(place.next as usize) {
             None => return Ok(at_the_end(place, made, sights)),
             Some(op) => {
                 if !stays(op, place.at, sights) {
                     return Ok(None);
                 }
+                place.credit -= 1;
                 place.next = place.next.wrapping_add(1);
                 obey(&mut place, &mut made, grammar, sights, op)?;
             }

@@ -7,4 +7,4 @@ use Rattle.rust_grammar.specs.declared.tables.power_table.TheConstants.{POWERS}
 use Rattle.rust_grammar.specs.declared.tables.kind_table.TheConstants.{KINDS}
 
 unfoldable pub rust_tables : Tables
-rust_tables = record { ops = OPS; sets = SETS; rows = ROWS; powers = POWERS; kinds = KINDS }
+rust_tables = record { ops = OPS; sets = SETS; rows = ROWS; powers = POWERS; kinds = KINDS; opening = 20; closing = 21 }

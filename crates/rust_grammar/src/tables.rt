@@ -70,5 +70,7 @@ pub fn grammar() -> Grammar<'static>
         rows: rows(),
         powers: powers(),
         kinds: kinds(),
+        opening: 20,
+        closing: 21,
     }
 }

@@ -1,0 +1,49 @@
+//! Laws of runs, for every grammar's tables. The functions do nothing: the contract is the law.
+ghost use Rattle.grammar_machine.specs.Locality.{RunsAreLocal};
+ghost use Rattle.grammar_machine.specs.Framing.{RunsAreFramed};
+ghost use Rattle.grammar_machine.specs.Filling.{RunsGoOn};
+ghost use Rattle.grammar_machine.specs.Sealing.{SealedCallsLeaveNothing};
+ghost use Rattle.grammar_machine.specs.Standing.{SealedCallsAreMoved};
+ghost use Rattle.grammar_machine.specs.Reading.{PiecesAreSealedCalls};
+ghost use Rattle.grammar_machine.specs.Replacing.{SealedPiecesAreReplaced};
+
+/// A run up to a brace does not depend on what is behind the brace.
+pub fn runs_are_local()
+    ensures { RunsAreLocal }
+{}
+
+/// A run that meets nothing of what lies around makes the same there: where the tokens begin, the calls that are open, and the
+/// events and marks before it do not matter.
+pub fn runs_are_framed()
+    ensures { RunsAreFramed }
+{}
+
+/// What a run makes behind a piece does not depend on what the piece is made of: two runs behind pieces that end in the same way
+/// differ only in the pieces' own events, in the numbers of later events, and in how many tokens were taken.
+pub fn runs_go_on()
+    ensures { RunsGoOn }
+{}
+
+/// What a sealed call leaves behind is where it returned, and the events that it made: everything else is as before the call, or as
+/// if there had been none.
+pub fn sealed_calls_leave_nothing()
+    ensures { SealedCallsLeaveNothing }
+{}
+
+/// A sealed call over the tokens of a piece alone, which looks at no others, is one wherever the piece is in a text: it makes the same
+/// events there, and returns behind the same token.
+pub fn sealed_calls_are_moved()
+    ensures { SealedCallsAreMoved }
+{}
+
+/// If [`run_alone`](crate::run_alone) reads a piece by a rule that is one sealed call, that call looks at the piece alone, and returns at
+/// its end.
+pub fn pieces_are_sealed_calls()
+    ensures { PiecesAreSealedCalls }
+{}
+
+/// The run over tokens of which the piece of one sealed call was replaced is the old run, with the events of the new piece in the
+/// place of the old ones.
+pub fn sealed_pieces_are_replaced()
+    ensures { SealedPiecesAreReplaced }
+{}
