@@ -1,22 +1,14 @@
 //! The edition of each file: that of the manifest of Cargo that it belongs to, the nearest one above it.
 
-use crate::shown::name;
 use cargo_editions::{Stated, is_workspace, of_package, of_target, of_workspace};
 use ras_front_end::Edition;
+use rust_cli::options::Choice;
+use rust_print::shown::name;
 use std::alloc::Global;
 use std::collections::BTreeMap;
 use std::io::ErrorKind;
 use std::{fs, io};
 use toml::Value;
-
-/// How the edition of a file is chosen.
-#[derive(Clone, Copy, Debug)]
-pub enum Choice {
-    /// By the manifest that the file belongs to; without one it is the newest.
-    Auto,
-    /// This one, for all files.
-    Only(Edition),
-}
 
 // A folder that a path names, and its real path.
 #[derive(Drop)]

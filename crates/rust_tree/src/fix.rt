@@ -1,8 +1,8 @@
 //! Patches, and replacing the text of files.
 
-use crate::failure::Failure;
-use crate::shown;
-use crate::source::Source;
+use rust_print::failure::Failure;
+use rust_print::shown;
+use rust_print::source::Source;
 use rust_report::{Quoted, lines_of, noun_for, other_front, same_front};
 use std::alloc::Global;
 use std::fs::File;

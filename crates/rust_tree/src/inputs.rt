@@ -1,7 +1,10 @@
 //! The files that a command line names.
 
-use crate::shown::name;
-use std::alloc::Global;
+use crate::ignores::{Ignores, Level};
+use gitignore::{Verdict, verdict_of};
+use rust_cli::options::{Globs, Search};
+use rust_print::shown::name;
+use std::alloc::{AllocError, Global};
 use std::collections::BTreeSet;
 use std::io::ErrorKind;
 use std::path::Path;
@@ -14,29 +17,6 @@ pub fn text_of(rt: &HostRuntime, name: &str) -> io::Result<String> {
     } else {
         fs::read_to_string(rt, name)
     }
-}
-
-/// How folders are searched.
-#[derive(Clone, Copy, Debug)]
-pub struct Search {
-    /// Whether links are followed.
-    pub follow: bool,
-    /// Whether files and folders are read whose names begin with a dot.
-    pub hidden: bool,
-    /// Whether cargo's folders `target` are read.
-    pub target: bool,
-}
-
-/// What a search of a folder found.
-#[derive(Drop)]
-struct Walk {
-    files: Vec<String>,
-    // The folders that are still to be searched.
-    folders: Vec<String>,
-    // The real paths of the folders that were searched, if links are followed: a link may lead to a folder around it.
-    seen: BTreeSet<String>,
-    // How many names and folders could not be read.
-    lost: u64,
 }
 
 fn is_rust(path: Path<'_>) -> bool {
@@ -79,25 +59,95 @@ fn is_target(rt: &HostRuntime, path: Path<'_>) -> io::Result<bool> {
     Ok(fs::metadata(rt, tag.as_str()).is_ok())
 }
 
-// Whether a search passes over an entry of a folder.
-fn is_left_out(
-    rt: &HostRuntime,
-    path: Path<'_>,
+// A folder that is still to be searched.
+#[derive(Drop)]
+struct Todo {
+    path: String,
+    // The ignore files of the folders around it.
+    level: Level,
+}
+
+/// What a search of a folder found.
+#[derive(Drop)]
+struct Walk {
+    files: Vec<String>,
+    folders: Vec<Todo>,
+    // The real path of the folder that is searched, and the length of the path that names it.
+    root: String,
+    named: usize,
+    ignores: Ignores,
+    // The real paths of the folders that were searched, if links are followed: a link may lead to a folder around it.
+    seen: BTreeSet<String>,
+    // How many names and folders could not be read.
+    lost: u64,
+}
+
+// What globs of the command line say of a path.
+fn by_globs(
+    alloc: Global,
+    globs: &Globs,
+    path: &str,
     is_folder: bool,
-    search: Search,
-) -> io::Result<bool> {
-    if !search.hidden && path.file_name().is_some_and(|name| name.starts_with('.')) {
-        return Ok(true);
+) -> Result<Verdict, AllocError> {
+    let path = path.strip_prefix("./").unwrap_or(path);
+    match verdict_of(alloc, globs.rules.as_slice(), path.as_bytes(), is_folder)? {
+        Verdict::Unnamed if globs.has_wanted && !is_folder => Ok(Verdict::Ignored),
+        verdict => Ok(verdict),
     }
-    if search.target || !is_folder {
-        return Ok(false);
-    }
-    is_target(rt, path)
 }
 
 impl Walk {
+    // The real path of what is below the folder that is searched.
+    fn real(&self, alloc: Global, path: &str) -> io::Result<String> {
+        let root = self.root.as_str().trim_end_matches('/');
+        let inside = path.get(self.named..).unwrap_or("").trim_start_matches('/');
+        Ok(format!(in alloc; "{root}/{inside}")?)
+    }
+
+    // Whether an entry of a folder is left out. A glob of the command line goes before an ignore file, and that before what is hidden.
+    fn is_left_out(
+        &self,
+        rt: &HostRuntime,
+        path: Path<'_>,
+        is_folder: bool,
+        level: Level,
+        search: Search,
+        globs: &Globs,
+    ) -> io::Result<bool> {
+        match by_globs(rt.alloc(), globs, path.as_str(), is_folder)? {
+            Verdict::Ignored => return Ok(true),
+            Verdict::Kept => return Ok(false),
+            Verdict::Unnamed => {}
+        }
+        if !search.no_ignore {
+            let real = self.real(rt.alloc(), path.as_str())?;
+            match self
+                .ignores
+                .verdict(rt.alloc(), level, real.as_str(), is_folder)?
+            {
+                Verdict::Ignored => return Ok(true),
+                Verdict::Kept => return Ok(false),
+                Verdict::Unnamed => {}
+            }
+        }
+        if !search.hidden && path.file_name().is_some_and(|name| name.starts_with('.')) {
+            return Ok(true);
+        }
+        if search.no_ignore || !is_folder {
+            return Ok(false);
+        }
+        is_target(rt, path)
+    }
+
     // Adds what a folder has. A name that is not UTF-8 is reported and counted as lost.
-    fn list(&mut self, rt: &HostRuntime, folder: &str, search: Search) -> io::Result<()> {
+    fn list(
+        &mut self,
+        rt: &HostRuntime,
+        folder: &str,
+        level: Level,
+        search: Search,
+        globs: &Globs,
+    ) -> io::Result<()> {
         for entry in fs::read_dir(rt, folder)? {
             let entry = match entry {
                 Ok(entry) => entry,
@@ -113,25 +163,41 @@ impl Walk {
                     continue;
                 }
             };
-            let file_type = entry.file_type()?;
-            if is_left_out(rt, entry.path(), file_type.is_dir(), search)? {
-                continue;
-            }
-            let path = String::from_str(rt.alloc(), entry.path().as_str())?;
-            let kind = if search.follow && file_type.is_symlink() {
-                target_of(rt, path.as_str())
-            } else {
-                kind_of(file_type)
-            };
-            match kind {
-                Kind::Folder => self.folders.push(path)?,
-                Kind::File => {
-                    if is_rust(entry.path()) {
-                        self.files.push(path)?;
-                    }
-                }
-                Kind::Other => {}
-            }
+            self.entry(rt, &entry, level, search, globs)?;
+        }
+        Ok(())
+    }
+
+    // Adds an entry of a folder, unless it is left out.
+    fn entry(
+        &mut self,
+        rt: &HostRuntime,
+        entry: &fs::DirEntry<HostRuntime>,
+        level: Level,
+        search: Search,
+        globs: &Globs,
+    ) -> io::Result<()> {
+        let file_type = entry.file_type()?;
+        let kind = if search.follow && file_type.is_symlink() {
+            target_of(rt, entry.path().as_str())
+        } else {
+            kind_of(file_type)
+        };
+        // What is no Rust file is not compared with the rules.
+        match kind {
+            Kind::Folder => {}
+            Kind::File if is_rust(entry.path()) => {}
+            _ => return Ok(()),
+        }
+        let is_folder = matches!(kind, Kind::Folder);
+        if self.is_left_out(rt, entry.path(), is_folder, level, search, globs)? {
+            return Ok(());
+        }
+        let path = String::from_str(rt.alloc(), entry.path().as_str())?;
+        if is_folder {
+            self.folders.push(Todo { path, level })?;
+        } else {
+            self.files.push(path)?;
         }
         Ok(())
     }
@@ -143,36 +209,62 @@ impl Walk {
         Ok(!self.seen.insert(path)?)
     }
 
-    fn folder(&mut self, rt: &HostRuntime, folder: &str, search: Search) -> io::Result<()> {
+    fn folder(
+        &mut self,
+        rt: &HostRuntime,
+        todo: &Todo,
+        search: Search,
+        globs: &Globs,
+    ) -> io::Result<()> {
+        let folder = todo.path.as_str();
         if search.follow && self.was_seen(rt, folder)? {
             return Ok(());
         }
-        self.list(rt, folder, search)
+        let mut level = todo.level;
+        if !search.no_ignore {
+            let real = self.real(rt.alloc(), folder)?;
+            level = self
+                .ignores
+                .enter(rt, real.as_str().trim_end_matches('/'), level)?;
+        }
+        self.list(rt, folder, level, search, globs)
     }
 }
 
-/// The `.rs` files below a folder, sorted by their paths, without what the search leaves out. Links are followed only if the search says so; then each folder is searched once,
-/// however many links lead to it. A folder that cannot be read, and a name that is not UTF-8, are reported on standard error and counted in
-/// `lost`.
+/// The `.rs` files below a folder, sorted by their paths, without what the search leaves out. Links are followed only if the search says so;
+/// then each folder is searched once, however many links lead to it. A folder that cannot be read, and a name that is not UTF-8, are
+/// reported on standard error and counted in `lost`.
 pub fn files_below(
     rt: &HostRuntime,
     folder: &str,
     search: Search,
+    globs: &Globs,
     lost: &mut u64,
 ) -> io::Result<Vec<String>> {
     let alloc = rt.alloc();
+    let root = String::from_str(alloc, fs::canonicalize(rt, folder)?.as_str())?;
+    let mut ignores = Ignores::new(alloc);
+    let level = if search.no_ignore {
+        Level::default()
+    } else {
+        ignores.around(rt, root.as_str())?
+    };
+    let path = String::from_str(alloc, folder)?;
     let mut walk = Walk {
         files: Vec::new(alloc),
-        folders: vec![in alloc; String::from_str(alloc, folder)?]?,
+        folders: vec![in alloc; Todo { path, level }]?,
+        root,
+        named: folder.len(),
+        ignores,
         seen: BTreeSet::new(alloc),
         lost: 0,
     };
     for _turn in 0..u64::MAX {
-        let Some(next) = walk.folders.pop() else {
+        let Some(todo) = walk.folders.pop() else {
             break;
         };
-        if let Err(error) = walk.folder(rt, next.as_str(), search) {
-            eprintln!(rt; "rust_tree: {}: {error}", name(next.as_str()))?;
+        if let Err(error) = walk.folder(rt, &todo, search, globs) {
+            eprintln!(rt; "rust_tree: {}: {error}", name(todo.path.as_str()))?;
             walk.lost = walk.lost.saturating_add(1);
         }
     }

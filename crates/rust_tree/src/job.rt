@@ -1,60 +1,36 @@
 //! The commands on files, and their run over all files.
 
-use crate::check::check;
-use crate::editions::{Choice, Manifests};
-use crate::failure::Failure;
-use crate::highlight::Ink;
+use crate::editions::Manifests;
+use crate::failure::{status_of, tell};
+use crate::fix;
 use crate::inputs::{Read, files_below, is_folder, text_of};
-use crate::options::{Asked, Summary};
 use crate::session::{Noun, Session, UNREAD};
-use crate::shown::name;
-use crate::source::Source;
-use crate::tree::Showing;
-use crate::{fix, highlight, outline, parens, query, tokens, tree};
 use ras_front_end::Edition;
+use rust_cli::options::{Choice, Globs, Options, Summary};
+use rust_cli::task::{Task, Then};
+use rust_draw::{highlight, tree};
 use rust_parens::Needless;
-use rust_report::Step;
+use rust_print::check::check;
+use rust_print::failure::Failure;
+use rust_print::forms::{Asked, Form};
+use rust_print::sarif::{write_end, write_start};
+use rust_print::shown::name;
+use rust_print::source::Source;
+use rust_print::{outline, parens, tokens};
+use rust_query::show as query;
 use std::io;
 use std::io::Write;
 use std::time::Instant;
-
-/// A command with its options.
-#[derive(Drop)]
-pub enum Task {
-    /// Prints trees.
-    Tree { showing: Showing },
-    /// Prints errors.
-    Check,
-    /// Lists items.
-    Outline,
-    /// Finds pairs of parentheses.
-    Parens { then: Then },
-    /// Lists tokens.
-    Tokens,
-    /// Finds nodes and tokens.
-    Query { steps: Vec<Step> },
-    /// Prints texts with their tokens coloured.
-    Highlight { ink: Ink },
-}
-
-/// What is done with pairs of parentheses.
-#[derive(Clone, Copy, Debug)]
-pub enum Then {
-    /// They are listed.
-    List,
-    /// A patch that removes them is printed.
-    Diff,
-    /// They are removed from the file.
-    Fix,
-}
 
 /// A task for a list of files.
 #[derive(Drop)]
 pub struct Job {
     /// The command.
     pub task: Task,
-    /// How the files are read, and the reports written.
-    pub asked: Asked,
+    /// How the files are found and read, and the reports written.
+    pub options: Options,
+    /// Which files of a folder are read.
+    pub globs: Globs,
 }
 
 // What a run keeps from file to file.
@@ -157,7 +133,7 @@ impl Job {
             Task::Tree { .. } | Task::Outline | Task::Highlight { ink: _ } => ("found", "found"),
             Task::Check | Task::Tokens => ("error", "errors"),
             Task::Parens { then: _ } => ("pair", "pairs"),
-            Task::Query { steps: _ } => ("match", "matches"),
+            Task::Query { pattern: _ } => ("match", "matches"),
         };
         Noun { one, many }
     }
@@ -178,7 +154,7 @@ impl Job {
             Task::Parens { then } => parens(rt, out, source, asked, *then),
             Task::Highlight { ink } => highlight::show(alloc, out, source, asked.reading, *ink),
             Task::Tokens => tokens::show(alloc, out, source, asked),
-            Task::Query { steps } => query::show(alloc, out, source, steps.as_slice(), asked),
+            Task::Query { pattern } => query::show(alloc, out, source, pattern, asked),
         }
     }
 
@@ -191,23 +167,24 @@ impl Job {
         edition: Edition,
         session: &mut Session,
     ) -> io::Result<()> {
-        let mut asked = self.asked;
+        let mut asked = self.options.asked;
         asked.reading.edition = edition;
-        let reported = match asked.summary {
+        asked.is_first = session.found == 0;
+        let reported = match self.options.summary {
             Summary::Whole => self.report(rt, out, source, asked),
             _ => self.report(rt, &mut io::sink(), source, asked),
         };
         match reported {
             Ok(found) => {
-                write_summary(out, source.name, found, asked.summary)?;
+                write_summary(out, source.name, found, self.options.summary)?;
                 session.read(source.text.len(), found);
                 session.show_progress(rt)
             }
             Err(Failure::Output(error)) => Err(error),
             Err(failure) => {
                 out.flush()?;
-                session.fail(failure.status());
-                failure.tell(rt, source.name)
+                session.fail(status_of(&failure));
+                tell(rt, failure, source.name)
             }
         }
     }
@@ -241,6 +218,18 @@ impl Job {
         }
     }
 
+    // The files of a folder. One that cannot be searched is reported and counted.
+    fn found(&self, rt: &HostRuntime, folder: &str, lost: &mut u64) -> io::Result<Vec<String>> {
+        match files_below(rt, folder, self.options.search, &self.globs, lost) {
+            Ok(files) => Ok(files),
+            Err(error) => {
+                eprintln!(rt; "rust_tree: {}: {error}", name(folder))?;
+                *lost = lost.saturating_add(1);
+                Ok(Vec::new(rt.alloc()))
+            }
+        }
+    }
+
     // Writes the reports on all files of a folder.
     fn folder<W: Write>(
         &self,
@@ -250,7 +239,7 @@ impl Job {
         progress: &mut Progress,
     ) -> io::Result<()> {
         let mut lost = 0;
-        for file in &files_below(rt, folder, self.asked.search, &mut lost)? {
+        for file in &self.found(rt, folder, &mut lost)? {
             self.file(rt, out, file.as_str(), Some(folder), progress)?;
         }
         if lost > 0 {
@@ -275,13 +264,21 @@ impl Job {
         names: &[&str],
     ) -> io::Result<Session> {
         let start = Instant::now(rt)?;
-        let mut progress = Progress::new(rt, self.asked.edition, names.len() > 1);
+        let mut progress = Progress::new(rt, self.options.edition, names.len() > 1);
+        let is_sarif = matches!(self.options.asked.format, Form::Sarif)
+            && self.options.summary == Summary::Whole;
+        if is_sarif {
+            write_start(out)?;
+        }
         for name in names {
             if is_folder(rt, name) {
                 self.folder(rt, out, name, &mut progress)?;
             } else {
                 self.file(rt, out, name, None, &mut progress)?;
             }
+        }
+        if is_sarif {
+            write_end(out)?;
         }
         out.flush()?;
         progress.session.tell(rt, self.noun(), start)?;

@@ -1,47 +1,33 @@
 //! The program `rust_tree`: parses Rust files and prints errors, items, tokens, trees and differences.
 #![tactic(auto)]
 
-mod check;
-mod differ;
 mod editions;
 mod failure;
 mod fix;
-mod highlight;
-mod html;
+mod ignores;
 mod inputs;
 mod job;
-mod json;
-mod names;
-mod options;
-mod outline;
-mod page;
-mod parens;
-mod query;
 mod session;
-mod shown;
-mod source;
-mod style;
-mod task;
-mod tokens;
-mod tree;
-mod tree_json;
-mod verbs;
 
 use clap::{ArgMatches, Error};
 use editions::Manifests;
-use failure::Failure;
-use inputs::text_of;
+use failure::tell;
+use inputs::{is_folder, text_of};
 use job::Job;
-use options::{Asked, edition, limit, reading};
+use rust_cli::manual::{write_completions, write_manual};
+use rust_cli::options::{Options, edition, globs_of, limit, reading};
+use rust_cli::task::task_of;
+use rust_cli::verbs;
+use rust_print::differ;
+use rust_print::failure::Failure;
+use rust_print::shown::name;
+use rust_print::source::Source;
+use rust_print::style::Style;
 use rust_report::Trivia;
 use session::{FOUND, Session, UNREAD, USAGE};
-use shown::name;
-use source::Source;
 use std::io::{BufWriter, ErrorKind, IsTerminal, Write};
 use std::process::ExitCode;
 use std::{env, io};
-use style::Style;
-use task::task_of;
 
 // Whether the environment asks for a terminal without colours: `NO_COLOR` is set to any text but an empty one, or the terminal is `dumb`.
 fn is_plain_terminal(rt: &HostRuntime) -> bool {
@@ -72,18 +58,31 @@ fn run_job(rt: &HostRuntime, job: &Job, matches: &ArgMatches) -> io::Result<Sess
     }
 }
 
+// Whether the command line names more than one file, or a folder.
+fn has_several(rt: &HostRuntime, matches: &ArgMatches) -> bool {
+    match matches.get_strs("FILE").unwrap_or(&[]) {
+        [name] => is_folder(rt, name),
+        _ => true,
+    }
+}
+
 // Runs a command on files. Returns the exit status.
-fn run_on_files(rt: &HostRuntime, name: &str, matches: &ArgMatches) -> io::Result<u8> {
-    match task_of(rt, name, matches) {
+fn run_on_files(rt: &HostRuntime, command: &str, matches: &ArgMatches) -> io::Result<u8> {
+    match task_of(rt.alloc(), command, has_several(rt, matches), matches) {
         Ok(task) => {
-            let asked = Asked::of(style_of(rt, matches), matches);
-            let job = Job { task, asked };
+            let options = Options::of(style_of(rt, matches), matches);
+            let globs = globs_of(rt.alloc(), matches)?;
+            let job = Job {
+                task,
+                options,
+                globs,
+            };
             let session = run_job(rt, &job, matches)?;
             Ok(job.status(&session))
         }
         Err(refusal) => {
             let refusal = format!(in rt.alloc(); "{refusal}")?;
-            eprintln!(rt; "rust_tree: {}", shown::name(refusal.as_str()))?;
+            eprintln!(rt; "rust_tree: {}", name(refusal.as_str()))?;
             Ok(USAGE)
         }
     }
@@ -171,10 +170,21 @@ fn run_diff(rt: &HostRuntime, matches: &ArgMatches) -> io::Result<u8> {
     match run_diff_on(rt, old, new, matches) {
         Ok(status) => Ok(status),
         Err(failure) => {
-            failure.tell(rt, "diff")?;
+            tell(rt, failure, "diff")?;
             Ok(UNREAD)
         }
     }
+}
+
+// Prints the manual page, or the completions for a shell. Returns the exit status.
+fn run_manual(rt: &HostRuntime, shell: Option<&str>) -> io::Result<u8> {
+    let mut out = BufWriter::new(rt.alloc(), io::writer(rt))?;
+    match shell {
+        Some(shell) => write_completions(&mut out, shell)?,
+        None => write_manual(&mut out)?,
+    }
+    out.flush()?;
+    Ok(0)
 }
 
 // Prints the help or the error that a command line ends in. An error repeats words of the command line as they are, and a file may be
@@ -199,6 +209,8 @@ fn run(rt: &HostRuntime, words: &[String]) -> io::Result<u8> {
     };
     match matches.subcommand() {
         Some(("diff", matches)) => run_diff(rt, matches),
+        Some(("man", _)) => run_manual(rt, None),
+        Some(("completions", matches)) => run_manual(rt, matches.get_str("SHELL")),
         Some((name, matches)) => run_on_files(rt, name, matches),
         None => Ok(0),
     }

@@ -1,0 +1,4 @@
+mod ClassLemmas
+mod PieceLemmas
+mod FitsLemmas
+mod LineLemmas

@@ -1,0 +1,5 @@
+pub mod Classes
+pub mod Pieces
+pub mod Fits
+pub mod Lines
+pub mod Rules

@@ -1,0 +1,7 @@
+//! The commands of the program `rust_tree`, their arguments, and the task and the options that a command line asks for.
+#![tactic(auto)]
+
+pub mod manual;
+pub mod options;
+pub mod task;
+pub mod verbs;

@@ -1,0 +1,254 @@
+//! The options of a command line.
+
+use cargo_editions::edition_named;
+use clap::ArgMatches;
+use gitignore::{Rule, rule_of};
+use ras_front_end::{Edition, Entry};
+use rust_draw::highlight::Ink;
+use rust_draw::tree::{Drawing, Part, Showing};
+use rust_print::forms::{Asked, Form, Wanted};
+use rust_print::source::Reading;
+use rust_print::style::Style;
+use rust_report::{place_of, range_of};
+use std::alloc::{AllocError, Global};
+
+/// How the edition of a file is chosen.
+#[derive(Clone, Copy, Debug)]
+pub enum Choice {
+    /// By the manifest that the file belongs to; without one it is the newest.
+    Auto,
+    /// This one, for all files.
+    Only(Edition),
+}
+
+/// How folders are searched.
+#[derive(Clone, Copy, Debug)]
+pub struct Search {
+    /// Whether links are followed.
+    pub follow: bool,
+    /// Whether files and folders are read whose names begin with a dot.
+    pub hidden: bool,
+    /// Whether ignore files and cargo's folders `target` count for nothing.
+    pub no_ignore: bool,
+}
+
+/// What is printed about a file.
+#[derive(Clone, Copy, Debug, PartialEq, Eq)]
+pub enum Summary {
+    /// All that was found.
+    Whole,
+    /// How much was found, if anything was.
+    Count,
+    /// The name of the file, if something was found.
+    Name,
+}
+
+/// How files are found and read, and how reports on them are written.
+#[derive(Clone, Copy, Debug)]
+pub struct Options {
+    /// How a text is parsed, but for its edition, and how a report on it is written.
+    pub asked: Asked,
+    /// How the edition of a file is chosen.
+    pub edition: Choice,
+    /// What is printed about a file.
+    pub summary: Summary,
+    /// How folders are searched.
+    pub search: Search,
+}
+
+impl Options {
+    /// The options of a command.
+    pub fn of(style: Style, matches: &ArgMatches) -> Options {
+        Options {
+            asked: asked_of(style, matches),
+            edition: edition(matches),
+            summary: summary_of(matches),
+            search: Search {
+                follow: matches.get_flag("follow"),
+                hidden: matches.get_flag("hidden"),
+                no_ignore: matches.get_flag("no-ignore"),
+            },
+        }
+    }
+}
+
+/// The globs of a command line: which files of a folder are read, and what is left out.
+#[derive(Drop)]
+pub struct Globs {
+    /// Those of `--glob` and then those of `--exclude`, as rules: what they name is left out, or read if the rule is negated.
+    pub rules: Vec<Rule>,
+    /// Whether there is one for files that are read, so that no others are.
+    pub has_wanted: bool,
+}
+
+// A glob without the `!` in front of it, and whether it had one.
+fn split_glob(glob: &str) -> (&str, bool) {
+    match glob.strip_prefix('!') {
+        Some(glob) => (glob, true),
+        None => (glob, false),
+    }
+}
+
+// Adds the rule of a glob. In an ignore file `!` is before what is kept, on the command line before what is left out.
+fn push_glob(
+    alloc: Global,
+    globs: &mut Globs,
+    glob: &str,
+    is_left_out: bool,
+) -> Result<(), AllocError> {
+    let mut rule = rule_of(alloc, glob.as_bytes())?;
+    rule.is_negated = !is_left_out;
+    globs.rules.push(rule)?;
+    globs.has_wanted = globs.has_wanted || !is_left_out;
+    Ok(())
+}
+
+/// The globs of a command line.
+pub fn globs_of(alloc: Global, matches: &ArgMatches) -> Result<Globs, AllocError> {
+    let mut globs = Globs {
+        rules: Vec::new(alloc),
+        has_wanted: false,
+    };
+    for glob in matches.get_strs("glob").unwrap_or(&[]) {
+        let (glob, is_left_out) = split_glob(glob);
+        push_glob(alloc, &mut globs, glob, is_left_out)?;
+    }
+    for glob in matches.get_strs("exclude").unwrap_or(&[]) {
+        push_glob(alloc, &mut globs, glob, true)?;
+    }
+    Ok(globs)
+}
+
+fn asked_of(style: Style, matches: &ArgMatches) -> Asked {
+    Asked {
+        reading: reading(matches),
+        format: form_of(matches),
+        style,
+        max_errors: max_errors(matches),
+        all_errors: matches.get_flag("all-errors"),
+        is_upstream: matches.get_str("messages") == Some("upstream"),
+        wanted: wanted_of(matches),
+        has_locals: matches.get_flag("locals"),
+        is_first: true,
+    }
+}
+
+fn summary_of(matches: &ArgMatches) -> Summary {
+    if matches.get_flag("files-with-matches") {
+        Summary::Name
+    } else if matches.get_flag("count") {
+        Summary::Count
+    } else {
+        Summary::Whole
+    }
+}
+
+fn wanted_of(matches: &ArgMatches) -> Wanted {
+    let all = matches.get_flag("all");
+    let only = matches.get_str("only");
+    Wanted {
+        values: matches!(only, None | Some("values")),
+        operands: only == Some("operands") || (all && only.is_none()),
+        mixed: matches.get_flag("mixed"),
+        others: only == Some("others") || (all && only.is_none()),
+    }
+}
+
+fn choice_of(name: Option<&str>) -> Choice {
+    match name {
+        Some(name) => match edition_named(name) {
+            Some(edition) => Choice::Only(edition),
+            None => Choice::Auto,
+        },
+        None => Choice::Auto,
+    }
+}
+
+/// How the edition of a file is chosen.
+pub fn edition(matches: &ArgMatches) -> Choice {
+    choice_of(matches.get_str("edition"))
+}
+
+fn entry_of(name: Option<&str>) -> Entry {
+    match name {
+        Some("expr") => Entry::Expr,
+        _ => Entry::SourceFile,
+    }
+}
+
+/// How a command parses its files. The edition is the newest here: it is chosen for each file.
+pub fn reading(matches: &ArgMatches) -> Reading {
+    Reading {
+        edition: Edition::CURRENT,
+        entry: entry_of(matches.get_str("entry")),
+        validates: !matches.get_flag("no-validation"),
+    }
+}
+
+/// The most places that are printed.
+pub fn limit(matches: &ArgMatches) -> usize {
+    match matches.get_one::<u32>("limit") {
+        Some(limit) => limit as usize,
+        None => 10,
+    }
+}
+
+fn max_errors(matches: &ArgMatches) -> usize {
+    match matches.get_one::<u32>("max-errors") {
+        Some(most) => most as usize,
+        None => usize::MAX,
+    }
+}
+
+/// The output of `highlight`.
+pub fn ink(matches: &ArgMatches) -> Ink {
+    match matches.get_str("format") {
+        Some("html") => Ink::Html,
+        _ => Ink::Ansi,
+    }
+}
+
+fn form_of(matches: &ArgMatches) -> Form {
+    match matches.get_str("format") {
+        Some("json") => Form::Json,
+        Some("github") => Form::Github,
+        Some("sarif") => Form::Sarif,
+        _ => Form::Text,
+    }
+}
+
+// The part of a tree that the options select. Returns `None` if a place or a range is invalid.
+fn part_of(matches: &ArgMatches) -> Option<Part> {
+    if let Some(text) = matches.get_str("at") {
+        return Some(Part::At(place_of(text)?));
+    }
+    match matches.get_str("range") {
+        Some(text) => Some(Part::Range(range_of(text)?)),
+        None => Some(Part::Whole),
+    }
+}
+
+/// What is shown of the tree of one file, or of several, and how. Returns `None` if a place or a range is invalid.
+pub fn showing(matches: &ArgMatches, has_several: bool) -> Option<Showing> {
+    let part = part_of(matches)?;
+    let drawing = match matches.get_str("format") {
+        Some("json") => Drawing::Json,
+        Some("sexp") => Drawing::Sexp,
+        Some("html") => Drawing::Html,
+        _ => Drawing::Text,
+    };
+    let depth = match matches.get_one::<u32>("depth") {
+        Some(depth) => depth as usize,
+        None => usize::MAX,
+    };
+    Some(Showing {
+        drawing,
+        part,
+        trivia: !matches.get_flag("no-trivia"),
+        depth,
+        stats: matches.get_flag("stats"),
+        ancestors: matches.get_flag("ancestors"),
+        // An object of JSON has the name of its file.
+        named: has_several && !matches!(drawing, Drawing::Json),
+    })
+}

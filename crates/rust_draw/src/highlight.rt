@@ -1,0 +1,169 @@
+//! The command `highlight`: a text with its tokens coloured by their roles, as a page of HTML or with the colours of a terminal.
+
+use crate::html::{in_html, write_head};
+use lossless_tree::{NodeOrToken, SyntaxNode, SyntaxToken};
+use rust_print::failure::Failure;
+use rust_print::source::{Reading, Source, parsed};
+use rust_report::{Escaped, Medium, Role, role_of};
+use std::alloc::Global;
+use std::io;
+use std::io::Write;
+
+/// The output of `highlight`.
+#[derive(Clone, Copy, Debug)]
+pub enum Ink {
+    /// A page of HTML.
+    Html,
+    /// Escapes of a terminal.
+    Ansi,
+}
+
+// The class of a role in a page; empty for plain tokens.
+fn class_of(role: Role) -> &'static str {
+    match role {
+        Role::Plain => "",
+        Role::Comment => "comment",
+        Role::Keyword => "keyword",
+        Role::Text => "string",
+        Role::Number => "number",
+        Role::Lifetime => "lifetime",
+        Role::Function => "function",
+        Role::Type => "type",
+        Role::Field => "field",
+        Role::Macro => "macro",
+        Role::Attribute => "attribute",
+        Role::Error => "error",
+    }
+}
+
+// The escape that begins the colour of a role in a terminal; empty for plain tokens.
+fn escape_of(role: Role) -> &'static str {
+    match role {
+        Role::Plain => "",
+        Role::Comment => "\u{1b}[90m",
+        Role::Keyword => "\u{1b}[35m",
+        Role::Text => "\u{1b}[32m",
+        Role::Number => "\u{1b}[36m",
+        Role::Lifetime => "\u{1b}[33m",
+        Role::Function => "\u{1b}[34m",
+        Role::Type => "\u{1b}[33m",
+        Role::Field => "\u{1b}[36m",
+        Role::Macro => "\u{1b}[1;34m",
+        Role::Attribute => "\u{1b}[90m",
+        Role::Error => "\u{1b}[1;31m",
+    }
+}
+
+static STYLE: &str = "<style>
+body { margin: 0; background: #fff; color: #1f2328 }
+pre { margin: 0; padding: 1em; font: 13px/1.5 ui-monospace, monospace; tab-size: 4 }
+.comment { color: #6a737d; font-style: italic }
+.keyword { color: #cf222e }
+.string { color: #0a6b2d }
+.number { color: #0550ae }
+.lifetime { color: #953800 }
+.function { color: #8250df }
+.type { color: #953800 }
+.field { color: #0550ae }
+.macro { color: #8250df; font-weight: bold }
+.attribute { color: #57606a }
+.error { color: #fff; background: #cf222e }
+@media (prefers-color-scheme: dark) {
+body { background: #0d1117; color: #e6edf3 }
+.comment { color: #8b949e } .keyword { color: #ff7b72 } .string { color: #7ee787 }
+.number, .field { color: #79c0ff } .lifetime, .type { color: #ffa657 }
+.function, .macro { color: #d2a8ff } .attribute { color: #8b949e }
+}
+</style>
+</head>
+<body>
+<pre>
+";
+
+fn write_html<W: Write>(out: &mut W, role: Role, text: &str) -> io::Result<()> {
+    let (class, text) = (class_of(role), in_html(text));
+    if class.is_empty() {
+        write!(out, "{text}")
+    } else {
+        write!(out, "<span class=\"{class}\">{text}</span>")
+    }
+}
+
+// What ends a line of a token: a line feed, with the carriage return before it. A carriage return that ends a comment is before the line
+// feed of the next token.
+fn line_end(line: &str, is_before_feed: bool) -> &str {
+    let end = if line.ends_with("\r\n") {
+        2
+    } else if line.ends_with('\n') || (is_before_feed && line.ends_with('\r')) {
+        1
+    } else {
+        0
+    };
+    line.get(line.len().saturating_sub(end)..).unwrap_or("")
+}
+
+// Writes a text in the colour of a role, which ends before each line feed and begins again after it. Other control characters are shown as
+// symbols: a file must not move the cursor of a terminal.
+fn write_ansi<W: Write>(
+    out: &mut W,
+    role: Role,
+    text: &str,
+    is_before_feed: bool,
+) -> io::Result<()> {
+    let escape = escape_of(role);
+    let plain = if escape.is_empty() { "" } else { "\u{1b}[0m" };
+    for line in text.split_inclusive('\n') {
+        let end = line_end(line, is_before_feed);
+        let shown = Escaped {
+            text: line.strip_suffix(end).unwrap_or(""),
+            medium: Medium::Terminal,
+        };
+        write!(out, "{escape}{shown}{plain}{end}")?;
+    }
+    Ok(())
+}
+
+// Whether a line feed follows a token.
+fn is_before_feed(text: &str, token: &SyntaxToken) -> bool {
+    text.as_bytes().get(token.text_range().end().raw() as usize) == Some(&b'\n')
+}
+
+// Writes the tokens of a tree.
+fn write_tokens<W: Write>(out: &mut W, root: &SyntaxNode, ink: Ink) -> io::Result<()> {
+    let text = root.as_str();
+    for element in root.descendants_with_tokens() {
+        if let NodeOrToken::Token(token) = &element {
+            match ink {
+                Ink::Html => write_html(out, role_of(token), token.text())?,
+                Ink::Ansi => {
+                    let is_before_feed = is_before_feed(text, token);
+                    write_ansi(out, role_of(token), token.text(), is_before_feed)?;
+                }
+            }
+        }
+    }
+    Ok(())
+}
+
+fn write_page<W: Write>(out: &mut W, name: &str, root: &SyntaxNode) -> io::Result<()> {
+    write_head(out, name)?;
+    out.write_all(STYLE.as_bytes())?;
+    write_tokens(out, root, Ink::Html)?;
+    out.write_all(b"</pre>\n</body>\n</html>\n")
+}
+
+/// Writes a text with its tokens coloured. Returns 0: nothing counts as found.
+pub fn show<W: Write>(
+    alloc: Global,
+    out: &mut W,
+    source: Source<'_>,
+    reading: Reading,
+    ink: Ink,
+) -> Result<u64, Failure> {
+    let parse = parsed(alloc, source.text, reading)?;
+    match ink {
+        Ink::Html => write_page(out, source.name, parse.root())?,
+        Ink::Ansi => write_tokens(out, parse.root(), ink)?,
+    }
+    Ok(0)
+}

@@ -1,0 +1,141 @@
+//! SARIF 2.1.0, the form of results that code scanners exchange: one object with a run, and in it a result for each error or pair.
+
+use crate::json;
+use rust_report::Spot;
+use std::alloc::Global;
+use std::io::Write;
+use std::{fmt, io};
+
+/// What a result is about.
+#[derive(Clone, Copy, Debug)]
+pub enum Rule {
+    /// A syntax error.
+    Syntax,
+    /// A needless pair of parentheses.
+    Parentheses,
+}
+
+impl Rule {
+    fn id(self) -> &'static str {
+        match self {
+            Rule::Syntax => "syntax-error",
+            Rule::Parentheses => "needless-parentheses",
+        }
+    }
+
+    fn level(self) -> &'static str {
+        match self {
+            Rule::Syntax => "error",
+            Rule::Parentheses => "note",
+        }
+    }
+
+    fn about(self) -> &'static str {
+        match self {
+            Rule::Syntax => "The text is no Rust.",
+            Rule::Parentheses => "Without this pair of parentheses the text has the same tree.",
+        }
+    }
+}
+
+/// A place of a text.
+#[derive(Clone, Copy, Debug)]
+pub struct Region {
+    /// Where it starts.
+    pub from: Spot,
+    /// Where it ends: behind its last character.
+    pub to: Spot,
+    /// The offset in bytes where it starts.
+    pub start: u32,
+    /// The offset in bytes where it ends.
+    pub end: u32,
+}
+
+// A path as a reference of a URI: what is neither a letter nor a digit nor one of `-._~/` is percent-encoded.
+#[derive(Clone, Copy)]
+struct Uri<'a> {
+    path: &'a str,
+}
+
+impl fmt::Display for Uri<'_> {
+    fn fmt<W: fmt::Write>(&self, f: &mut fmt::Formatter<W>) -> fmt::Result {
+        if self.path.starts_with('/') {
+            f.write_str("file://")?;
+        }
+        for byte in self.path.bytes() {
+            if byte.is_ascii_alphanumeric() || matches!(byte, b'-' | b'.' | b'_' | b'~' | b'/') {
+                write!(f, "{}", byte as char)?;
+            } else {
+                write!(f, "%{byte:02X}")?;
+            }
+        }
+        Ok(())
+    }
+}
+
+/// Writes what is before the results.
+pub fn write_start<W: Write>(out: &mut W) -> io::Result<()> {
+    out.write_all(b"{\"$schema\":\"https://json.schemastore.org/sarif-2.1.0.json\",")?;
+    out.write_all(
+        b"\"version\":\"2.1.0\",\"runs\":[{\"tool\":{\"driver\":{\"name\":\"rust_tree\",",
+    )?;
+    out.write_all(b"\"version\":\"0.1.0\",\"rules\":[")?;
+    let mut before = "";
+    for rule in [Rule::Syntax, Rule::Parentheses] {
+        write!(out, "{before}{{\"id\":\"{}\",", rule.id())?;
+        write!(
+            out,
+            "\"shortDescription\":{{\"text\":\"{}\"}}}}",
+            rule.about()
+        )?;
+        before = ",";
+    }
+    out.write_all(b"]}},\"columnKind\":\"unicodeCodePoints\",\"results\":[")
+}
+
+fn write_region<W: Write>(out: &mut W, at: Region) -> io::Result<()> {
+    write!(out, "\"region\":{{\"startLine\":{},", at.from.line)?;
+    write!(out, "\"startColumn\":{},", at.from.column)?;
+    write!(
+        out,
+        "\"endLine\":{},\"endColumn\":{},",
+        at.to.line, at.to.column
+    )?;
+    let length = at.end.saturating_sub(at.start);
+    write!(out, "\"byteOffset\":{},\"byteLength\":{length}}}", at.start)
+}
+
+/// Writes a result, with a comma before it unless it is the first.
+pub fn write_result<W: Write>(
+    alloc: Global,
+    out: &mut W,
+    is_first: bool,
+    rule: Rule,
+    message: &str,
+    path: &str,
+    at: Region,
+) -> io::Result<()> {
+    let uri = Uri {
+        path: path.strip_prefix("./").unwrap_or(path),
+    };
+    let comma = if is_first { "" } else { "," };
+    write!(out, "{comma}\n{{\"ruleId\":\"{}\",", rule.id())?;
+    write!(
+        out,
+        "\"level\":\"{}\",\"message\":{{\"text\":",
+        rule.level()
+    )?;
+    json::write(alloc, out, &message)?;
+    write!(
+        out,
+        "}},\"locations\":[{{\"physicalLocation\":{{\"artifactLocation\":{{"
+    )?;
+    write!(out, "\"uri\":\"{uri}\"}},")?;
+    write_region(out, at)?;
+    out.write_all(b"}}]}")
+}
+
+/// Writes what is behind the results.
+pub fn write_end<W: Write>(out: &mut W) -> io::Result<()> {
+    out.write_all(b"\n]}]}\n")
+}
