@@ -1,0 +1,136 @@
+//! Matches replaced in texts.
+use ra_ap_syntax::{Edition, SourceFile};
+use rust_front::Rust;
+use rust_rewrite::{parse_rule, rewrite};
+use std::alloc::Global;
+use std::test::Fail;
+
+const NOW: Edition = Edition::CURRENT;
+
+// The text of a function's body with the matches of a rule replaced, or why they are not.
+fn put(alloc: Global, rule: &str, body: &str) -> Result<String, Fail> {
+    let rule = parse_rule(alloc, &Rust, NOW, rule)?;
+    let rules = vec![in alloc; rule]?;
+    let file = format!(in alloc; "fn f() {{ {body} }}")?;
+    let parse = SourceFile::parse(alloc, file.as_str(), &Rust, NOW)?;
+    let done = match rewrite(alloc, &Rust, NOW, &rules, &parse.to_syntax()) {
+        Ok(done) => done,
+        Err(error) => return Ok(format!(in alloc; "{error}")?),
+    };
+    let text = done.text.as_str();
+    let inner = text
+        .strip_prefix("fn f() { ")
+        .and_then(|it| it.strip_suffix(" }"));
+    match inner {
+        Some(inner) => Ok(String::from_str(alloc, inner)?),
+        None => Err("the function is gone".into()),
+    }
+}
+
+fn run(alloc: Global, rows: &[(&str, &str, &str)]) -> Result<(), Fail> {
+    for (rule, body, expected) in rows {
+        let new = put(alloc, rule, body)?;
+        if new.as_str() != *expected {
+            return Err(Fail::from(format!(in alloc; "{rule}: {body} became {new}")?));
+        }
+    }
+    Ok(())
+}
+
+#[test]
+fn contexts(rt: HostRuntime) -> Result<(), Fail> {
+    run(
+        rt.alloc(),
+        &[
+            ("foo($a, $b) ==>> $a + $b", "foo(1, 2) * 3;", "(1 + 2) * 3;"),
+            (
+                "foo($a, $b) ==>> $a + $b",
+                "let x = foo(1, 2);",
+                "let x = 1 + 2;",
+            ),
+            (
+                "foo($a, $b) ==>> $a * $b",
+                "let x = foo(1 + 2, 3);",
+                "let x = (1 + 2) * 3;",
+            ),
+            ("$a.clone() ==>> *$a", "x.clone().len();", "(*x).len();"),
+            ("neg($a) ==>> -$a", "neg(neg(1));", "--1;"),
+            ("neg($a) ==>> -$a", "neg(a + b).abs();", "(-(a + b)).abs();"),
+            ("abs($a) ==>> $a.abs()", "abs(-1);", "(-1).abs();"),
+            (
+                "f($a) ==>> $a",
+                "if f(S { a: 1 }) == x {}",
+                "if (S { a: 1 }) == x {}",
+            ),
+            (
+                "f($a) ==>> S { a: $a }",
+                "if f(1) == x {}",
+                "if (S { a: 1 }) == x {}",
+            ),
+            ("f($a) ==>> $a", "return f(1);", "return 1;"),
+            ("f($a) ==>> return $a", "f(1) + 2;", "(return 1) + 2;"),
+            ("f($a) ==>> $a as u8", "f(1) < 2;", "(1 as u8) < 2;"),
+            ("f($a, $t) ==>> $a", "f(1, 2) as u8;", "1 as u8;"),
+            ("f($a) ==>> $a..", "for i in f(1) {}", "for i in 1.. {}"),
+            ("f($a, $b) ==>> $a..$b", "f(1, 2).len();", "(1..2).len();"),
+            ("f($a) ==>> |x| x + $a", "f(1)(2);", "(|x| x + 1)(2);"),
+            (
+                "f($a) ==>> match $a { _ => 1 }",
+                "f(1) + 2;",
+                "(match 1 { _ => 1 }) + 2;",
+            ),
+            (
+                "f($a) ==>> match $a { _ => 1 }",
+                "let x = f(1) + 2;",
+                "let x = match 1 { _ => 1 } + 2;",
+            ),
+        ],
+    )
+}
+
+#[test]
+fn placeholders(rt: HostRuntime) -> Result<(), Fail> {
+    run(
+        rt.alloc(),
+        &[
+            ("$a + $a ==>> 2 * $a", "x - (y + y);", "x - (2 * y);"),
+            ("$a + $a ==>> 2 * $a", "(y) + y; z + y;", "2 * (y); z + y;"),
+            ("$a + $a ==>> 2 * $a", "f(a, b) + f(a,b);", "2 * f(a, b);"),
+            ("$_ + $_ ==>> 0", "x + y;", "0;"),
+            ("f($a) ==>> g($a)", "f(f(f(1)));", "g(g(g(1)));"),
+            (
+                "f($a, $b) ==>> f($b, $a)",
+                "f(f(1, 2), 3);",
+                "f(3, f(2, 1));",
+            ),
+            ("f($a) ==>> $a + $a", "f(f(1));", "1 + 1 + (1 + 1);"),
+            ("$x as $t ==>> cast::<$t>($x)", "1 as u8;", "cast::<u8>(1);"),
+            ("f($a) ==>> $a", "f((1));", "(1);"),
+            ("(f($a)) ==>> ($a)", "f(1);", "(1);"),
+            ("f(1) ==>> 2", "(f)((1));", "2;"),
+            ("f($x) ==>> $x", "m!(f(1));", "m!(f(1));"),
+        ],
+    )
+}
+
+#[test]
+fn comments(rt: HostRuntime) -> Result<(), Fail> {
+    run(
+        rt.alloc(),
+        &[
+            ("f($a) ==>> $a", "f(/* c */ 1);", "f(/* c */ 1);"),
+            ("f($a) ==>> $a", "f(g(/* c */ 1));", "g(/* c */ 1);"),
+            (
+                "f($a) ==>> $a",
+                "/* a */ f(1) /* b */;",
+                "/* a */ 1 /* b */;",
+            ),
+            ("f($a) ==>> $a", "f((/* c */ 1));", "(/* c */ 1);"),
+            (
+                "f($a, $b) ==>> $a",
+                "f(1, g(/* c */ 2));",
+                "a comment would be lost",
+            ),
+        ],
+    )
+}

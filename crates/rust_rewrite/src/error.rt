@@ -1,0 +1,68 @@
+//! Why a rule is refused.
+
+use ras_front_end::ParseError;
+use std::alloc::AllocError;
+
+/// What is wrong with a rule.
+#[derive(Debug, Drop, thiserror::Error)]
+pub enum RuleFault {
+    /// There is no `==>>`.
+    #[error("expected `==>>` between a pattern and a template")]
+    NoArrow,
+    /// There is a second `==>>`, or one in a pattern without a template.
+    #[error("expected one pattern, without a further `==>>`")]
+    FurtherArrow,
+    /// No name follows directly behind a `$`.
+    #[error("expected the name of a placeholder behind `$`")]
+    NoName,
+    /// A word stands directly before a `$`.
+    #[error("expected white space before the placeholder")]
+    Joined,
+    /// The template has a placeholder that the pattern has not.
+    #[error("expected a placeholder of the pattern")]
+    Unknown,
+    /// The text is no expression: what the parser says.
+    #[error("expected an expression: {0}")]
+    Syntax(String),
+    /// A placeholder stands where no expression can stand.
+    #[error("expected a place of an expression for this placeholder")]
+    Misplaced,
+    /// The pattern is a placeholder, which each expression is.
+    #[error("expected a pattern that is more than a placeholder")]
+    Everything,
+    /// The rule is too long.
+    #[error("the rule is longer than 4294967295 bytes")]
+    TooLong,
+    /// Out of memory.
+    #[error("out of memory")]
+    Memory,
+}
+
+/// Why a rule is refused, and where.
+#[derive(Debug, Drop, thiserror::Error)]
+#[error("{fault}")]
+pub struct RuleError {
+    /// What is wrong.
+    pub fault: RuleFault,
+    /// The offset in the rule, in bytes.
+    pub offset: usize,
+}
+
+impl From<AllocError> for RuleError {
+    fn from(_error: AllocError) -> RuleError {
+        RuleError {
+            fault: RuleFault::Memory,
+            offset: 0,
+        }
+    }
+}
+
+impl From<ParseError> for RuleError {
+    fn from(error: ParseError) -> RuleError {
+        let fault = match error {
+            ParseError::TooLong => RuleFault::TooLong,
+            ParseError::Memory => RuleFault::Memory,
+        };
+        RuleError { fault, offset: 0 }
+    }
+}

@@ -1,0 +1,14 @@
+//! Search and replace by rules: the text of a file with the matches replaced, and parentheses exactly where they are needed.
+#![tactic(auto)]
+
+mod applied;
+mod error;
+mod parse;
+mod refusal;
+mod render;
+
+pub use applied::{Rewritten, rewrite};
+pub use error::{RuleError, RuleFault};
+pub use parse::{parse_pattern, parse_rule, parse_rules};
+pub use refusal::RewriteError;
+pub use tree_match::{Match, Rule, find};

@@ -1,0 +1,425 @@
+//! Rules from their texts.
+ghost use Rattle.std.specs.Prelude.{◌≤◌, length, IfErr};
+
+use crate::error::{RuleError, RuleFault};
+use lossless_tree::{NodeOrToken, SyntaxKind, SyntaxNode};
+use ras_front_end::{Edition, Entry, FrontEnd};
+use ras_node::sets::{Exprs, KindSet};
+use ras_parsing::{Parse, read};
+use std::alloc::{AllocError, Global};
+use tree_match::{Piece, Rule, RuleRefusal};
+
+const ARROW: &str = "==>>";
+
+// A placeholder of a rule: its name, and where it stands first.
+#[derive(Drop)]
+struct Name {
+    name: String,
+    offset: usize,
+}
+
+// One side of a rule.
+#[derive(Drop)]
+struct Side {
+    // The text in which each placeholder is a word.
+    text: String,
+    pieces: Vec<Piece>,
+    // Where each piece starts in that text, and in the rule.
+    starts: Vec<(usize, usize)>,
+}
+
+fn fault(fault: RuleFault, offset: usize) -> RuleError {
+    RuleError { fault, offset }
+}
+
+fn begins_word(text: &str) -> bool {
+    match text.as_bytes().first() {
+        None => false,
+        Some(byte) => byte.is_ascii_alphabetic() || *byte == b'_' || *byte >= 128,
+    }
+}
+
+fn ends_word(text: &str) -> bool {
+    match text.as_bytes().last() {
+        None => false,
+        Some(byte) => byte.is_ascii_alphanumeric() || *byte == b'_' || *byte >= 128,
+    }
+}
+
+// A word that no name of the text begins with.
+fn prefix_for(alloc: Global, text: &str) -> Result<String, AllocError> {
+    let mut longest = 0usize;
+    let mut run = 0usize;
+    for byte in text.as_bytes() {
+        run = if *byte == b'_' {
+            run.saturating_add(1)
+        } else {
+            0
+        };
+        longest = longest.max(run);
+    }
+    let mut prefix = String::from_str(alloc, "p")?;
+    for _turn in 0..=longest {
+        prefix.push('_')?;
+    }
+    Ok(prefix)
+}
+
+// The number of a name; a new one for `_` and for a name that is new, if it may be.
+fn number_of(
+    alloc: Global,
+    names: &mut Vec<Name>,
+    name: &str,
+    offset: usize,
+    may_be_new: bool,
+) -> Result<usize, RuleError> {
+    if name != "_" {
+        for (number, known) in names.iter().enumerate() {
+            if known.name.as_str() == name {
+                return Ok(number);
+            }
+        }
+    }
+    if !may_be_new {
+        return Err(fault(RuleFault::Unknown, offset));
+    }
+    let number = names.len();
+    names
+        .push(Name {
+            name: String::from_str(alloc, name)?,
+            offset,
+        })
+        .map_err(AllocError::from)?;
+    Ok(number)
+}
+
+impl Side {
+    fn push_text(&mut self, alloc: Global, text: &str, offset: usize) -> Result<(), AllocError> {
+        if !text.is_empty() {
+            self.starts.push((self.text.len(), offset))?;
+            self.text.push_str(text)?;
+            self.pieces
+                .push(Piece::Text(String::from_str(alloc, text)?))?;
+        }
+        Ok(())
+    }
+
+    fn push_hole(&mut self, prefix: &str, number: usize, offset: usize) -> Result<(), AllocError> {
+        self.starts.push((self.text.len(), offset))?;
+        self.text.push_str(prefix)?;
+        write!(self.text, "{number}")?;
+        self.pieces
+            .push(Piece::Hole(number))
+            .map_err(AllocError::from)
+    }
+
+    fn push_end(&mut self, offset: usize) -> Result<(), AllocError> {
+        self.starts.push((self.text.len(), offset))?;
+        Ok(())
+    }
+
+    // The offset in the rule of a byte of the text.
+    fn offset_of(&self, at: usize) -> usize {
+        let mut offset = 0usize;
+        for (start, old) in &self.starts {
+            if *start > at {
+                return offset.min(*old);
+            }
+            offset = old.saturating_add(at.saturating_sub(*start));
+        }
+        offset
+    }
+}
+
+// The side of a rule that starts at an offset.
+fn side_of<F: FrontEnd>(
+    alloc: Global,
+    front: &F,
+    edition: Edition,
+    text: &str,
+    base: usize,
+    prefix: &str,
+    names: &mut Vec<Name>,
+    may_be_new: bool,
+) -> Result<Side, RuleError> {
+    let mut side = Side {
+        text: String::new(alloc),
+        pieces: Vec::new(alloc),
+        starts: Vec::new(alloc),
+    };
+    let parse: Parse<SyntaxNode> = read(alloc, front, Entry::Expr, text, edition)?;
+    let mut done = 0usize;
+    let mut dollar: Option<usize> = None;
+    let mut before_ends_word = false;
+    for element in parse.root().descendants_with_tokens() {
+        let NodeOrToken::Token(token) = element else {
+            continue;
+        };
+        let start = token.text_range().start().raw() as usize;
+        let end = token.text_range().end().raw() as usize;
+        if let Some(at) = dollar {
+            if start != at.saturating_add(1) || !begins_word(token.text()) {
+                return Err(fault(RuleFault::NoName, base.saturating_add(at)));
+            }
+            let number = number_of(
+                alloc,
+                names,
+                token.text(),
+                base.saturating_add(at),
+                may_be_new,
+            )?;
+            side.push_text(
+                alloc,
+                text.get(done..at).unwrap_or(""),
+                base.saturating_add(done),
+            )?;
+            side.push_hole(prefix, number, base.saturating_add(at))?;
+            done = end;
+            dollar = None;
+        } else if token.kind().to_raw() == SyntaxKind::DOLLAR.to_raw() {
+            if before_ends_word {
+                return Err(fault(RuleFault::Joined, base.saturating_add(start)));
+            }
+            dollar = Some(start);
+        }
+        before_ends_word = ends_word(token.text());
+    }
+    if let Some(at) = dollar {
+        return Err(fault(RuleFault::NoName, base.saturating_add(at)));
+    }
+    side.push_text(
+        alloc,
+        text.get(done..).unwrap_or(""),
+        base.saturating_add(done),
+    )?;
+    side.push_end(base.saturating_add(text.len()))?;
+    Ok(side)
+}
+
+// The expression of a side, without pairs round it.
+fn expr_of<F: FrontEnd>(
+    alloc: Global,
+    front: &F,
+    edition: Edition,
+    side: &Side,
+) -> Result<SyntaxNode, RuleError> {
+    let parse: Parse<SyntaxNode> = read(alloc, front, Entry::Expr, side.text.as_str(), edition)?;
+    let mut errors = parse.errors(alloc)?.into_iter();
+    if let Some(error) = errors.next() {
+        let at = error.range().start().raw() as usize;
+        let message = String::from_str(alloc, error.message())?;
+        return Err(fault(RuleFault::Syntax(message), side.offset_of(at)));
+    }
+    let root = parse.syntax_node();
+    let found = root.descendants().find(|node| {
+        Exprs::has(node.kind()) && node.kind() != SyntaxKind::PAREN_EXPR
+    });
+    Ok(found.unwrap_or(root))
+}
+
+// A refusal of a side that starts at an offset, with its place in the rule.
+fn placed(refusal: RuleRefusal, names: &[Name], start: usize) -> RuleError {
+    match refusal {
+        RuleRefusal::Everything => fault(RuleFault::Everything, start),
+        RuleRefusal::Memory => fault(RuleFault::Memory, start),
+        RuleRefusal::Misplaced(number) => {
+            let offset = match names.get(number) {
+                Some(name) => name.offset,
+                None => start,
+            };
+            fault(RuleFault::Misplaced, offset)
+        }
+    }
+}
+
+// The text without white space at its ends, and where it starts.
+fn trimmed(text: &str) -> (usize, &str) {
+    let front = text.trim_start();
+    (text.len().saturating_sub(front.len()), front.trim_end())
+}
+
+// A refusal whose offset is one of the text.
+fn within(error: RuleError, text: &str) -> RuleError
+    ensures { result.offset ≤ length text.now }
+{
+    let RuleError { fault, offset } = error;
+    RuleError {
+        fault,
+        offset: offset.min(text.len()),
+    }
+}
+
+/// The rule of a text `PATTERN ==>> TEMPLATE`, two expressions. In them `$name` is a placeholder: any expression, or any type or pattern where
+/// one stands there. A placeholder that comes again stands for the same tree; `$_` is a new one each time.
+///
+/// # Errors
+///
+/// [`RuleFault`] says what is wrong, and the offset where, in bytes of the text.
+pub fn parse_rule<F: FrontEnd>(
+    alloc: Global,
+    front: &F,
+    edition: Edition,
+    text: &str,
+) -> Result<Rule, RuleError>
+    ensures refused { IfErr result (λ e. e.offset ≤ length text.now) }
+{
+    match full_rule(alloc, front, edition, text) {
+        Ok(rule) => Ok(rule),
+        Err(error) => Err(within(error, text)),
+    }
+}
+
+// The rule of a text with a template.
+fn full_rule<F: FrontEnd>(
+    alloc: Global,
+    front: &F,
+    edition: Edition,
+    text: &str,
+) -> Result<Rule, RuleError> {
+    let Some((pattern, template)) = text.split_once(ARROW) else {
+        return Err(fault(RuleFault::NoArrow, text.len()));
+    };
+    let base = pattern.len().saturating_add(ARROW.len());
+    if let Some(at) = template.find(ARROW) {
+        return Err(fault(RuleFault::FurtherArrow, base.saturating_add(at)));
+    }
+    let prefix = prefix_for(alloc, text)?;
+    let mut names = Vec::new(alloc);
+    let rule = pattern_rule(alloc, front, edition, pattern, prefix.as_str(), &mut names)?;
+    let (skipped, template) = trimmed(template);
+    let side = side_of(
+        alloc,
+        front,
+        edition,
+        template,
+        base.saturating_add(skipped),
+        prefix.as_str(),
+        &mut names,
+        false,
+    )?;
+    let node = expr_of(alloc, front, edition, &side)?;
+    match rule.with_template(alloc, prefix.as_str(), &node, side.pieces) {
+        Ok(rule) => Ok(rule),
+        Err(refusal) => Err(placed(refusal, &names, base.saturating_add(skipped))),
+    }
+}
+
+/// The rule of a pattern that is searched for only.
+///
+/// # Errors
+///
+/// Those of [`parse_rule`].
+pub fn parse_pattern<F: FrontEnd>(
+    alloc: Global,
+    front: &F,
+    edition: Edition,
+    text: &str,
+) -> Result<Rule, RuleError>
+    ensures refused { IfErr result (λ e. e.offset ≤ length text.now) }
+{
+    match search_rule(alloc, front, edition, text) {
+        Ok(rule) => Ok(rule),
+        Err(error) => Err(within(error, text)),
+    }
+}
+
+// The rule of a text without a template.
+fn search_rule<F: FrontEnd>(
+    alloc: Global,
+    front: &F,
+    edition: Edition,
+    text: &str,
+) -> Result<Rule, RuleError> {
+    if let Some(at) = text.find(ARROW) {
+        return Err(fault(RuleFault::FurtherArrow, at));
+    }
+    let prefix = prefix_for(alloc, text)?;
+    let mut names = Vec::new(alloc);
+    pattern_rule(alloc, front, edition, text, prefix.as_str(), &mut names)
+}
+
+// The rule of a line: with a template if the line has `==>>`.
+fn line_rule<F: FrontEnd>(
+    alloc: Global,
+    front: &F,
+    edition: Edition,
+    line: &str,
+) -> Result<Rule, RuleError> {
+    if line.find(ARROW).is_some() {
+        parse_rule(alloc, front, edition, line)
+    } else {
+        parse_pattern(alloc, front, edition, line)
+    }
+}
+
+/// The rules of a text, one a line: each a pattern, or a pattern and its template with `==>>` between them. Lines that are empty or
+/// begin with `#` are passed over, white space aside.
+///
+/// # Errors
+///
+/// That of the first line that is refused; its offset is that in the whole text.
+pub fn parse_rules<F: FrontEnd>(
+    alloc: Global,
+    front: &F,
+    edition: Edition,
+    text: &str,
+) -> Result<Vec<Rule>, RuleError>
+    ensures refused { IfErr result (λ e. e.offset ≤ length text.now) }
+{
+    match all_rules(alloc, front, edition, text) {
+        Ok(rules) => Ok(rules),
+        Err(error) => Err(within(error, text)),
+    }
+}
+
+// Whether a line has a rule.
+fn has_rule(line: &str) -> bool {
+    let shown = line.trim_start();
+    !shown.is_empty() && !shown.starts_with('#')
+}
+
+// The rules of all lines.
+fn all_rules<F: FrontEnd>(
+    alloc: Global,
+    front: &F,
+    edition: Edition,
+    text: &str,
+) -> Result<Vec<Rule>, RuleError> {
+    let mut rules = Vec::new(alloc);
+    let mut start = 0usize;
+    for line in text.split('\n') {
+        if has_rule(line) {
+            match line_rule(alloc, front, edition, line) {
+                Ok(rule) => rules.push(rule).map_err(AllocError::from)?,
+                Err(
+                    RuleError {
+                        fault: told,
+                        offset,
+                    },
+                ) => {
+                    return Err(fault(told, start.saturating_add(offset)));
+                }
+            }
+        }
+        start = start.saturating_add(line.len()).saturating_add(1);
+    }
+    Ok(rules)
+}
+
+// The rule of a pattern, and the names of its placeholders.
+fn pattern_rule<F: FrontEnd>(
+    alloc: Global,
+    front: &F,
+    edition: Edition,
+    text: &str,
+    prefix: &str,
+    names: &mut Vec<Name>,
+) -> Result<Rule, RuleError> {
+    let (skipped, pattern) = trimmed(text);
+    let side = side_of(alloc, front, edition, pattern, skipped, prefix, names, true)?;
+    let node = expr_of(alloc, front, edition, &side)?;
+    match Rule::of_pattern(alloc, prefix, names.len(), &node) {
+        Ok(rule) => Ok(rule),
+        Err(refusal) => Err(placed(refusal, names, skipped)),
+    }
+}

@@ -1,0 +1,4 @@
+pub mod BareLemmas
+pub mod StepLemmas
+pub mod ReadLemmas
+pub mod PlaceLemmas

@@ -1,0 +1,81 @@
+-- A pattern at one place of a tree, and what stands for its placeholders.
+use Rattle.std.specs.Prelude.{ℕ, suc, ◌==◌, if◌then◌else◌, List, [], ◌∷◌, Option, Some, None, option_map, length, get_or, set, replicate, nat_lt}
+use Rattle.std.specs.Option.{option_and_then, option_or}
+use Rattle.syntax_kind.specs.declared.syntax_kind.SyntaxKind.{SyntaxKind}
+use Rattle.syntax_kind.specs.Kinds.{is_same_kind}
+use Rattle.lossless_tree.specs.Trees.{Siblings}
+use Rattle.tree_match.specs.declared.bare.Comments.{Comments}
+use Rattle.tree_match.specs.declared.bare.Comments.TheVariants.{Passed, Kept}
+use Rattle.tree_match.specs.declared.part.Part.{Part}
+use Rattle.tree_match.specs.declared.part.Part.TheVariants as part
+use Rattle.tree_match.specs.declared.part.Sort.{Sort}
+use Rattle.tree_match.specs.declared.rule.Rule.{Rule}
+use Rattle.tree_match.specs.declared.matching.Found.{Found}
+use Rattle.tree_match.specs.Walks.{advance, taken, is_part}
+use Rattle.tree_match.specs.Same.{is_same}
+
+-- what stands for each placeholder: siblings of which the first is its value
+abbrev pub Values : Type 0
+Values = List (Option Siblings)
+
+-- a value for a placeholder beside the one that it has, which must be the same tree
+abbrev pub put_beside : Option Siblings → ℕ → Siblings → Values → Option Values
+put_beside None n v vs = Some (set vs n (Some v))
+put_beside (Some old) n v vs = if is_same old v then Some vs else None
+
+abbrev pub put : ℕ → Siblings → Values → Option Values
+put n v vs = if nat_lt n (length vs) then put_beside (get_or vs n None) n v vs else None
+
+-- the levels and the values behind one part of a pattern, if that is next: a placeholder passes over a node of its sort
+abbrev pub match_hole : Comments → ℕ → Sort → List Siblings → Values → Option (List Siblings × Values)
+match_hole cs n sort st vs = option_and_then (λ t. option_map (λ ws. (t.1, ws)) (put n t.0 vs)) (taken cs sort st)
+
+abbrev pub match_step : Comments → Part → List Siblings → Values → Option (List Siblings × Values)
+match_step cs p st vs = if is_part p (advance cs st).0 then Some ((advance cs st).1, vs) else None
+
+abbrev pub match_part : Comments → Part → List Siblings → Values → Option (List Siblings × Values)
+match_part cs (part.Hole n sort) st vs = match_hole cs n sort st vs
+match_part cs (part.Enter k) st vs = match_step cs (part.Enter k) st vs
+match_part cs part.Leave st vs = match_step cs part.Leave st vs
+match_part cs (part.Token k s) st vs = match_step cs (part.Token k s) st vs
+
+-- the values behind all parts
+abbrev pub match_from : Comments → List Part → List Siblings → Values → Option Values
+match_from cs [] st vs = Some vs
+match_from cs (p ∷ ps) st vs = option_and_then (λ r. match_from cs ps r.0 r.1) (match_part cs p st vs)
+
+-- what stands for n placeholders, if the parts are the first steps of the walk of some siblings
+abbrev pub match_parts : Comments → List Part → ℕ → Siblings → Option Values
+match_parts cs ps n s = match_from cs ps (s ∷ []) (replicate n None)
+
+-- comments between the tokens of a match do not count, unless the match is replaced
+abbrev pub comments_by : List Part → Comments
+comments_by [] = Passed
+comments_by (p ∷ ps) = Kept
+
+-- what stands for the placeholders of a rule, if a node of this kind with these children is its pattern
+abbrev pub match_rule : Rule → SyntaxKind → Siblings → Option Values
+match_rule r k s =
+    if is_same_kind r.kind k then match_parts (comments_by r.template.items) r.inside.items r.count s else None
+
+-- the first rule whose pattern it is
+abbrev pub first_from : ℕ → List Rule → SyntaxKind → Siblings → Option (ℕ × Values)
+first_from n [] k s = None
+first_from n (r ∷ rs) k s = option_or (option_map (λ vs. (n, vs)) (match_rule r k s)) (first_from (suc n) rs k s)
+
+abbrev pub first_rule : List Rule → SyntaxKind → Siblings → Option (ℕ × Values)
+first_rule rules k s = first_from 0 rules k s
+
+abbrev pub found_of : Found → ℕ × Values
+found_of f = (f.rule, f.values.items)
+
+-- what the placeholder with a number stands for in a template
+abbrev pub sort_at : ℕ → Part → Option Sort → Option Sort
+sort_at n (part.Hole m sort) rest = if m == n then Some sort else rest
+sort_at n (part.Enter k) rest = rest
+sort_at n part.Leave rest = rest
+sort_at n (part.Token k s) rest = rest
+
+abbrev pub sort_in : ℕ → List Part → Option Sort
+sort_in n [] = None
+sort_in n (p ∷ ps) = sort_at n p (sort_in n ps)

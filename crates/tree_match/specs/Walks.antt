@@ -1,0 +1,61 @@
+-- A walk of a tree that can pass over a node at once: the siblings that are left on each level, the innermost first.
+use Rattle.std.specs.Prelude.{ℕ, ◌==◌, Bool, true, false, ◌&&◌, if◌then◌else◌, List, [], ◌∷◌, Option, Some, None, string_bytes}
+use Rattle.std.specs.Cmp.Lexicographic.{pointwise}
+use Rattle.syntax_kind.specs.declared.syntax_kind.SyntaxKind.{SyntaxKind}
+use Rattle.syntax_kind.specs.Kinds.{is_same_kind}
+use Rattle.ras_node.specs.Sets.{is_expr, is_ty, is_pat}
+use Rattle.tree_model.specs.Tree.{text, kind_of, is_token}
+use Rattle.lossless_tree.specs.Trees.{Siblings, is_done, first_of, behind_first, inside_first}
+use Rattle.tree_match.specs.declared.bare.Comments.{Comments}
+use Rattle.tree_match.specs.declared.part.Sort.{Sort}
+use Rattle.tree_match.specs.declared.part.Sort.TheVariants as sort
+use Rattle.tree_match.specs.declared.part.Part.{Part}
+use Rattle.tree_match.specs.declared.part.Part.TheVariants as part
+use Rattle.tree_match.specs.declared.walk.Walk.{Walk}
+use Rattle.tree_match.specs.declared.walk.Seen.{Seen}
+use Rattle.tree_match.specs.declared.walk.Seen.TheVariants as shown
+use Rattle.tree_match.specs.Bare.{Step, enter, leave, leaf, end, past, bare, is_node_there}
+
+-- the kinds of nodes that a placeholder stands for
+abbrev pub sort_has : Sort → SyntaxKind → Bool
+sort_has sort.Expr k = is_expr k
+sort_has sort.Ty k = is_ty k
+sort_has sort.Pat k = is_pat k
+
+-- the levels of a walk, the innermost first
+abbrev pub levels_of : Walk → List Siblings
+levels_of w = w.levels.items
+
+-- the step at the first sibling that counts, and the levels behind it
+abbrev pub step_at : Comments → Siblings → List Siblings → Step × List Siblings
+step_at cs here below =
+    if is_done here.trees then (leave, below)
+    else (if is_token (first_of here.trees) then (leaf (kind_of (first_of here.trees)) (text (first_of here.trees)), behind_first here ∷ below)
+    else (enter (kind_of (first_of (bare cs here).trees)), inside_first (bare cs here) ∷ (behind_first here ∷ below)))
+
+abbrev pub advance : Comments → List Siblings → Step × List Siblings
+advance cs [] = (end, [])
+advance cs (s ∷ below) = step_at cs (past cs s) below
+
+-- the siblings from the next node on, if that is of the sort, and the levels behind it
+abbrev pub taken_at : Sort → Siblings → List Siblings → Option (Siblings × List Siblings)
+taken_at sort here below =
+    if is_node_there here.trees && sort_has sort (kind_of (first_of here.trees)) then Some (here, behind_first here ∷ below) else None
+
+abbrev pub taken : Comments → Sort → List Siblings → Option (Siblings × List Siblings)
+taken cs sort [] = None
+taken cs sort (s ∷ below) = taken_at sort (past cs s) below
+
+-- a step of the code
+abbrev pub step_of : Seen → Step
+step_of (shown.Enter k) = enter k
+step_of shown.Leave = leave
+step_of (shown.Token k s) = leaf k s.now
+step_of shown.End = end
+
+-- a step is that of a pattern
+abbrev pub is_part : Part → Step → Bool
+is_part (part.Enter k) (enter l) = is_same_kind k l
+is_part part.Leave leave = true
+is_part (part.Token k s) (leaf l t) = is_same_kind k l && pointwise ◌==◌ (string_bytes s) t
+is_part _ _ = false

@@ -1,0 +1,17 @@
+//! Patterns with placeholders, and where they match in trees. White space, comments and pairs of parentheses do not count.
+#![tactic(auto)]
+
+mod bare;
+mod compile;
+mod matching;
+mod part;
+mod places;
+mod reads;
+mod rule;
+mod same;
+mod walk;
+
+pub use part::Sort;
+pub use places::{Match, find};
+pub use reads::reads_as;
+pub use rule::{Piece, Rule, RuleRefusal};

@@ -1,0 +1,129 @@
+//! A pattern at one place of a tree.
+ghost use Rattle.std.specs.Prelude.{◌≡◌, IfOk, if◌then◌else◌, Some, None, option_map, replicate, get_or};
+ghost use Rattle.tree_match.specs.Walks.{levels_of};
+ghost use Rattle.tree_match.specs.Matching.{put, match_part, match_parts, match_rule, first_rule, found_of};
+
+use crate::bare::Comments;
+use crate::part::Part;
+use crate::rule::Rule;
+use crate::same::is_same;
+use crate::walk::{Walk, is_part};
+use lossless_tree::{SiblingsLeft, SyntaxKind};
+use std::alloc::{AllocError, Global};
+
+/// What stands for each placeholder: siblings of which the first is its value; `None` if it has none.
+pub(crate) type Values<'t> = Vec<Option<SiblingsLeft<'t>>>;
+
+/// A rule that matches, and what stands for its placeholders.
+#[derive(Drop)]
+pub(crate) struct Found<'t> {
+    pub(crate) rule: usize,
+    pub(crate) values: Values<'t>,
+}
+
+// No values.
+fn no_values<'t>(alloc: Global, count: usize) -> Result<Values<'t>, AllocError>
+    ensures { IfOk result (λ vs. vs.items ≡ replicate count None) }
+{
+    let mut values = Vec::with_capacity(alloc, count)?;
+    while values.len() < count {
+        values.push(None)?;
+    }
+    Ok(values)
+}
+
+// Notes what stands for a placeholder. Returns false if it stands for another tree already.
+fn put<'t>(
+    alloc: Global,
+    values: &mut Values<'t>,
+    number: usize,
+    value: SiblingsLeft<'t>,
+) -> Result<bool, AllocError>
+    ensures { IfOk result (λ ok. put number value.entry values.old.items ≡ (if ok then Some values.new.items else None)) }
+{
+    if number >= values.len() {
+        return Ok(false);
+    }
+    if let Some(old) = &values[number] {
+        return is_same(alloc, old, &value);
+    }
+    values[number] = Some(value);
+    Ok(true)
+}
+
+// Passes over a part, if it is next in the walk.
+fn match_part<'t>(
+    alloc: Global,
+    walk: &mut Walk<'t>,
+    values: &mut Values<'t>,
+    part: &Part,
+) -> Result<bool, AllocError>
+    ensures step { IfOk result (λ ok. match_part walk.old.comments part.now (levels_of walk.old) values.old.items ≡ (if ok then Some (levels_of walk.new, values.new.items) else None)) }
+    ensures same { walk.new.comments ≡ walk.old.comments }
+{
+    if let Part::Hole(number, sort) = part {
+        let Some(value) = walk.take(*sort)? else {
+            return Ok(false);
+        };
+        return put(alloc, values, *number, value);
+    }
+    let step = walk.next()?;
+    Ok(is_part(part, step))
+}
+
+/// What stands for each placeholder, if the parts are the first steps of the walk of some siblings.
+pub(crate) fn match_parts<'t>(
+    alloc: Global,
+    comments: Comments,
+    parts: &[Part],
+    count: usize,
+    start: &SiblingsLeft<'t>,
+) -> Result<Option<Values<'t>>, AllocError>
+    ensures { IfOk result (λ o. option_map (λ vs. vs.items) o ≡ match_parts comments parts.now count start.now) }
+{
+    let mut walk = Walk::new(alloc, comments, start)?;
+    let mut values = no_values(alloc, count)?;
+    for part in parts {
+        if !match_part(alloc, &mut walk, &mut values, part)? {
+            return Ok(None);
+        }
+    }
+    Ok(Some(values))
+}
+
+// What stands for the placeholders of a rule, if a node is its pattern.
+fn match_rule<'t>(
+    alloc: Global,
+    rule: &Rule,
+    kind: SyntaxKind,
+    inside: &SiblingsLeft<'t>,
+) -> Result<Option<Values<'t>>, AllocError>
+    ensures { IfOk result (λ o. option_map (λ vs. vs.items) o ≡ match_rule rule.now kind inside.now) }
+{
+    if rule.kind.to_raw() != kind.to_raw() {
+        return Ok(None);
+    }
+    match_parts(alloc, rule.comments(), &rule.inside, rule.count, inside)
+}
+
+/// The first rule whose pattern a node is, by its kind and its children.
+pub(crate) fn first_rule<'t>(
+    alloc: Global,
+    rules: &[Rule],
+    kind: SyntaxKind,
+    inside: &SiblingsLeft<'t>,
+) -> Result<Option<Found<'t>>, AllocError>
+    ensures { IfOk result (λ o. option_map found_of o ≡ first_rule rules.now kind inside.now) }
+{
+    let mut number = 0usize;
+    while number < rules.len() {
+        if let Some(values) = match_rule(alloc, &rules[number], kind, inside)? {
+            return Ok(Some(Found {
+                rule: number,
+                values,
+            }));
+        }
+        number += 1;
+    }
+    Ok(None)
+}

@@ -1,0 +1,167 @@
+//! The places of a tree where rules match.
+ghost use Rattle.std.specs.Prelude.{◌≡◌, ◌∷◌, [], IfOk, OnOk, map, option_map};
+ghost use Rattle.tree_match.specs.Finds.{occurrence_of, first_range, ranges_of, match_at, drop_behind, is_free, with_some, behind, take_out, found_at, free_behind, found_in};
+
+use crate::matching::first_rule;
+use crate::rule::Rule;
+use lossless_tree::{SiblingsLeft, SyntaxNode, TextRange, TextSize};
+use std::alloc::{AllocError, Global};
+use std::collections::VecDeque;
+
+/// A place where a rule matches.
+#[derive(Drop)]
+pub struct Match {
+    /// The number of the rule.
+    pub rule: usize,
+    /// The range of the node.
+    pub range: TextRange,
+    /// The range of what stands for each placeholder, with the pairs of parentheses round it; `None` if it is not in the pattern.
+    pub values: Vec<Option<TextRange>>,
+}
+
+// The range of the first of some siblings.
+fn first_range(left: &SiblingsLeft<'_>) -> TextRange
+    ensures { result ≡ first_range left.now }
+{
+    TextRange::new(left.start(), left.rest().start())
+}
+
+fn ranges_of(
+    alloc: Global,
+    values: &[Option<SiblingsLeft<'_>>],
+) -> Result<Vec<Option<TextRange>>, AllocError>
+    ensures { IfOk result (λ r. r.items ≡ ranges_of values.now) }
+{
+    let mut ranges = Vec::with_capacity(alloc, values.len())?;
+    for value in values {
+        match value {
+            Some(left) => ranges.push(Some(first_range(left)))?,
+            None => ranges.push(None)?,
+        }
+    }
+    Ok(ranges)
+}
+
+// The match of the first rule that matches a node.
+fn match_at(alloc: Global, rules: &[Rule], node: &SyntaxNode) -> Result<Option<Match>, AllocError>
+    ensures { IfOk result (λ o. option_map occurrence_of o ≡ match_at rules.now node.now) }
+{
+    let Some(found) = first_rule(alloc, rules, node.kind(), &node.trees())? else {
+        return Ok(None);
+    };
+    Ok(Some(Match {
+        rule: found.rule,
+        range: node.text_range(),
+        values: ranges_of(alloc, &found.values)?,
+    }))
+}
+
+// Drops the ranges that end where a node starts, or before.
+fn drop_behind(free: &mut VecDeque<TextRange>, start: TextSize)
+    ensures { free.new.items ≡ drop_behind start free.old.items }
+{
+    while let Some(range) = free.front() {
+        if range.end().raw() > start.raw() {
+            return;
+        }
+        free.pop_front();
+    }
+}
+
+// Whether a range is in the next one that may be searched.
+fn is_free(free: &VecDeque<TextRange>, range: TextRange) -> bool
+    ensures { result ≡ is_free free.now.items range }
+{
+    match free.front() {
+        None => false,
+        Some(next) => {
+            next.start().raw() <= range.start().raw() && range.end().raw() <= next.end().raw()
+        }
+    }
+}
+
+// Adds a range, if there is one.
+fn push_some(free: &mut VecDeque<TextRange>, value: Option<TextRange>) -> Result<(), AllocError>
+    ensures { OnOk result (free.new.items ≡ with_some (value ∷ []) free.old.items) }
+{
+    if let Some(range) = value {
+        free.push_front(range)?;
+    }
+    Ok(())
+}
+
+// Adds the ranges of values, the last one first.
+fn push_values(
+    free: &mut VecDeque<TextRange>,
+    values: &[Option<TextRange>],
+) -> Result<(), AllocError>
+    ensures { OnOk result (free.new.items ≡ with_some values.now free.old.items) }
+{
+    let mut left = values.len();
+    while left > 0 {
+        left -= 1;
+        push_some(free, values[left])?;
+    }
+    Ok(())
+}
+
+// What is left of a range behind a match in it.
+fn behind(found: TextRange, next: TextRange) -> TextRange
+    ensures { result ≡ behind found next }
+{
+    if found.end().raw() <= next.end().raw() {
+        TextRange::new(found.end(), next.end())
+    } else {
+        next
+    }
+}
+
+// A match takes its range out of the next one that may be searched, but for what stands for placeholders.
+fn take_out(free: &mut VecDeque<TextRange>, found: &Option<Match>) -> Result<(), AllocError>
+    ensures { OnOk result (free.new.items ≡ take_out (option_map occurrence_of found.now) free.old.items) }
+{
+    let Some(found) = found else {
+        return Ok(());
+    };
+    let Some(next) = free.pop_front() else {
+        return Ok(());
+    };
+    free.push_front(behind(found.range, next))?;
+    push_values(free, &found.values)
+}
+
+// The match at a node, if it may be searched. Afterwards what may be searched behind it.
+fn found_at(
+    alloc: Global,
+    rules: &[Rule],
+    free: &mut VecDeque<TextRange>,
+    node: &SyntaxNode,
+) -> Result<Option<Match>, AllocError>
+    ensures found { IfOk result (λ o. option_map occurrence_of o ≡ found_at rules.now free.old.items node.now) }
+    ensures behind { OnOk result (free.new.items ≡ free_behind rules.now free.old.items node.now) }
+{
+    let range = node.text_range();
+    drop_behind(free, range.start());
+    if !is_free(free, range) {
+        return Ok(None);
+    }
+    let found = match_at(alloc, rules, node)?;
+    take_out(free, &found)?;
+    Ok(found)
+}
+
+/// The places where rules match, in preorder: the outermost, and those inside what stands for placeholders. At one place the first rule
+/// that matches counts.
+pub fn find(alloc: Global, rules: &[Rule], root: &SyntaxNode) -> Result<Vec<Match>, AllocError>
+    ensures { IfOk result (λ found. map occurrence_of found.items ≡ found_in rules.now root.now) }
+{
+    let mut free = VecDeque::new(alloc);
+    free.push_front(root.text_range())?;
+    let mut matches = Vec::new(alloc);
+    for node in root.descendants() {
+        if let Some(found) = found_at(alloc, rules, &mut free, &node)? {
+            matches.push(found)?;
+        }
+    }
+    Ok(matches)
+}

@@ -1,0 +1,252 @@
+//! Whether a tree is another one with the matches of rules replaced.
+ghost use Rattle.std.specs.Prelude.{◌≡◌, IfOk, IsTrue, option_map, slice_get};
+ghost use Rattle.tree_match.specs.declared.bare.Comments.TheVariants.{Passed};
+ghost use Rattle.tree_match.specs.Bare.{bare};
+ghost use Rattle.tree_match.specs.Finds.{inside_of};
+ghost use Rattle.tree_match.specs.Matching.{found_of};
+ghost use Rattle.tree_match.specs.Reads.{FirstReads, AllRead, ValueReads, ValuesRead, IsSameToken, IsSameNode, IsReplaced, rule_at, TaskReads, Leads, LeadsBy};
+
+use crate::bare::{Comments, bare, past};
+use crate::matching::{Found, first_rule, match_parts};
+use crate::rule::Rule;
+use lossless_tree::{SiblingsLeft, SyntaxNode};
+use std::alloc::{AllocError, Global};
+use std::collections::VecDeque;
+
+// Two lists of siblings that are compared, all or the first of each.
+#[derive(Drop)]
+struct Task<'a, 'b> {
+    all: bool,
+    old: SiblingsLeft<'a>,
+    new: SiblingsLeft<'b>,
+}
+
+// Adds a task for what stands for a placeholder, if a template has it. Returns false if the pattern has it not.
+#[tactic(auto, using(crate::proofs::ReadLemmas::value_unused, crate::proofs::ReadLemmas::value_used, crate::proofs::ReadLemmas::not_led))]
+fn push_value<'a, 'b>(
+    tasks: &mut VecDeque<Task<'a, 'b>>,
+    old: &Option<SiblingsLeft<'a>>,
+    new: &Option<SiblingsLeft<'b>>,
+) -> Result<bool, AllocError>
+    ensures { IfOk result (λ ok. Leads (λ rules. ValueReads rules old.now new.now) ok tasks.new.items tasks.old.items) }
+{
+    match (old, new) {
+        (_, None) => Ok(true),
+        (None, Some(_)) => Ok(false),
+        (Some(old), Some(new)) => {
+            tasks.push_front(Task {
+                all: false,
+                old: old.all(),
+                new: new.all(),
+            })?;
+            Ok(true)
+        }
+    }
+}
+
+// Adds a task for what stands for each placeholder of a template.
+#[tactic(auto, using(crate::proofs::ReadLemmas::none_come, crate::proofs::ReadLemmas::one_came, crate::proofs::ReadLemmas::all_came, crate::proofs::ReadLemmas::not_led))]
+fn push_values<'a, 'b>(
+    tasks: &mut VecDeque<Task<'a, 'b>>,
+    olds: &[Option<SiblingsLeft<'a>>],
+    news: &[Option<SiblingsLeft<'b>>],
+) -> Result<bool, AllocError>
+    ensures { IfOk result (λ ok. Leads (λ rules. ValuesRead rules olds.now news.now) ok tasks.new.items tasks.old.items) }
+{
+    let mut left = olds.iter();
+    for new in news {
+        let Some(old) = left.next() else {
+            return Ok(false);
+        };
+        if !push_value(tasks, old, new)? {
+            return Ok(false);
+        }
+    }
+    match left.next() {
+        None => Ok(true),
+        Some(_) => Ok(false),
+    }
+}
+
+// The rule with a number.
+fn numbered(rules: &[Rule], number: usize) -> Option<&Rule>
+    ensures { option_map (λ r. r.now) result ≡ slice_get rules.now number }
+{
+    rules.get(number)
+}
+
+// A match: whether the new tree is its rule's template. Adds tasks for the placeholders.
+#[tactic(auto, using(crate::proofs::ReadLemmas::replaced_leads, crate::proofs::ReadLemmas::not_led_by))]
+fn is_replaced<'a, 'b>(
+    alloc: Global,
+    tasks: &mut VecDeque<Task<'a, 'b>>,
+    rules: &[Rule],
+    found: &Found<'a>,
+    new: &SiblingsLeft<'b>,
+) -> Result<bool, AllocError>
+    ensures { IfOk result (λ ok. LeadsBy rules.now (IsReplaced rules.now (found_of found.now) new.now) ok tasks.new.items tasks.old.items) }
+{
+    let Some(rule) = numbered(rules, found.rule) else {
+        return Ok(false);
+    };
+    let Some(values) = match_parts(alloc, Comments::Passed, &rule.template, rule.count, new)? else {
+        return Ok(false);
+    };
+    push_values(tasks, &found.values, &values)
+}
+
+// Compares the first of two lists of siblings, a token.
+fn is_same_token(old: &SiblingsLeft<'_>, new: &SiblingsLeft<'_>) -> bool
+    ensures { IsTrue result → IsSameToken old.now new.now }
+{
+    old.is_token()
+        && new.is_token()
+        && old.kind().to_raw() == new.kind().to_raw()
+        && old.text() == new.text()
+}
+
+// Compares the first of two lists of siblings, nodes without pairs. Adds a task for what is below.
+fn push_inside<'a, 'b>(
+    tasks: &mut VecDeque<Task<'a, 'b>>,
+    old: &SiblingsLeft<'a>,
+    new: &SiblingsLeft<'b>,
+) -> Result<bool, AllocError>
+    ensures { IfOk result (λ ok. Leads (λ rules. IsSameNode rules old.now new.now) ok tasks.new.items tasks.old.items) }
+{
+    if new.is_token() || old.kind().to_raw() != new.kind().to_raw() {
+        return Ok(false);
+    }
+    tasks.push_front(Task {
+        all: true,
+        old: old.inside(),
+        new: new.inside(),
+    })?;
+    Ok(true)
+}
+
+// The same of nodes with pairs.
+fn push_bare<'a, 'b>(
+    tasks: &mut VecDeque<Task<'a, 'b>>,
+    old: &SiblingsLeft<'a>,
+    new: &SiblingsLeft<'b>,
+) -> Result<bool, AllocError>
+    ensures { IfOk result (λ ok. Leads (λ rules. IsSameNode rules (bare Passed old.now) (bare Passed new.now)) ok tasks.new.items tasks.old.items) }
+{
+    push_inside(
+        tasks,
+        &bare(Comments::Passed, old),
+        &bare(Comments::Passed, new),
+    )
+}
+
+// The first rule that matches the first of some siblings.
+fn rule_at<'a>(
+    alloc: Global,
+    rules: &[Rule],
+    old: &SiblingsLeft<'a>,
+) -> Result<Option<Found<'a>>, AllocError>
+    ensures { IfOk result (λ o. option_map found_of o ≡ rule_at rules.now old.now) }
+{
+    let inner = bare(Comments::Passed, old);
+    first_rule(alloc, rules, inner.kind(), &inner.inside())
+}
+
+// Compares the first of two lists of siblings. Adds tasks for what is below.
+#[tactic(auto, using(crate::proofs::ReadLemmas::token_leads, crate::proofs::ReadLemmas::match_leads, crate::proofs::ReadLemmas::node_leads))]
+fn step_into<'a, 'b>(
+    alloc: Global,
+    tasks: &mut VecDeque<Task<'a, 'b>>,
+    rules: &[Rule],
+    old: &SiblingsLeft<'a>,
+    new: &SiblingsLeft<'b>,
+) -> Result<bool, AllocError>
+    ensures { IfOk result (λ ok. LeadsBy rules.now (FirstReads rules.now old.now new.now) ok tasks.new.items tasks.old.items) }
+{
+    if old.is_token() {
+        return Ok(is_same_token(old, new));
+    }
+    match rule_at(alloc, rules, old)? {
+        Some(found) => is_replaced(alloc, tasks, rules, &found, new),
+        None => push_bare(tasks, old, new),
+    }
+}
+
+// Compares two lists of siblings. Adds tasks for what is left.
+#[tactic(auto, using(crate::proofs::ReadLemmas::none_lead, crate::proofs::ReadLemmas::some_lead, crate::proofs::ReadLemmas::not_led_by))]
+fn step_along<'a, 'b>(
+    alloc: Global,
+    tasks: &mut VecDeque<Task<'a, 'b>>,
+    rules: &[Rule],
+    old: &SiblingsLeft<'a>,
+    new: &SiblingsLeft<'b>,
+) -> Result<bool, AllocError>
+    ensures { IfOk result (λ ok. LeadsBy rules.now (AllRead rules.now old.now new.now) ok tasks.new.items tasks.old.items) }
+{
+    let old = past(Comments::Passed, old);
+    let new = past(Comments::Passed, new);
+    if old.is_done() {
+        return Ok(new.is_done());
+    }
+    if new.is_done() {
+        return Ok(false);
+    }
+    tasks.push_front(Task {
+        all: true,
+        old: old.rest(),
+        new: new.rest(),
+    })?;
+    step_into(alloc, tasks, rules, &old, &new)
+}
+
+// Compares what a task says. Adds tasks for what is left.
+#[tactic(auto, using(crate::proofs::ReadLemmas::task_of_all, crate::proofs::ReadLemmas::task_of_first))]
+fn turn<'a, 'b>(
+    alloc: Global,
+    tasks: &mut VecDeque<Task<'a, 'b>>,
+    rules: &[Rule],
+    task: &Task<'a, 'b>,
+) -> Result<bool, AllocError>
+    ensures { IfOk result (λ ok. LeadsBy rules.now (TaskReads rules.now task.now.all task.now.old task.now.new) ok tasks.new.items tasks.old.items) }
+{
+    if task.all {
+        step_along(alloc, tasks, rules, &task.old, &task.new)
+    } else {
+        step_into(alloc, tasks, rules, &task.old, &task.new)
+    }
+}
+
+/// Whether a tree is another one in which each match is replaced by its rule's template, with what stands for placeholders put in, in which
+/// matches are replaced too. White space, comments and pairs of parentheses do not count. It may return false also if memory for more
+/// than 2^64 steps would be needed.
+///
+/// Takes time linear in the old tree for each rule, and in the new one.
+///
+/// # Errors
+///
+/// `AllocError` if memory runs out.
+#[tactic(auto, using(crate::proofs::ReadLemmas::begun, crate::proofs::ReadLemmas::turned, crate::proofs::ReadLemmas::finished))]
+pub fn reads_as(
+    alloc: Global,
+    rules: &[Rule],
+    old: &SyntaxNode,
+    new: &SyntaxNode,
+) -> Result<bool, AllocError>
+    ensures { IfOk result (λ reads. IsTrue reads → AllRead rules.now (inside_of old.now) (inside_of new.now)) }
+{
+    let mut tasks = VecDeque::new(alloc);
+    tasks.push_front(Task {
+        all: true,
+        old: old.trees(),
+        new: new.trees(),
+    })?;
+    // Each turn takes a task, and there are at most three for each node and token of the tree.
+    for _turn in 0..u64::MAX {
+        let Some(task) = tasks.pop_front() else {
+            return Ok(true);
+        };
+        if !turn(alloc, &mut tasks, rules, &task)? {
+            return Ok(false);
+        }
+    }
+    Ok(false)
+}

@@ -1,0 +1,107 @@
+//! Walks of trees without what does not count.
+ghost use Rattle.std.specs.Prelude.{◌≡◌, ◌∷◌, [], IfOk, option_map};
+ghost use Rattle.tree_match.specs.Walks.{levels_of, advance, taken, step_of, is_part};
+
+use crate::bare::{Comments, bare, is_node_there, past};
+use crate::part::{Part, Sort};
+use lossless_tree::{SiblingsLeft, SyntaxKind};
+use std::alloc::{AllocError, Global};
+use std::collections::VecDeque;
+
+/// A step of a walk.
+#[derive(Clone, Copy, Drop)]
+pub(crate) enum Seen<'t> {
+    /// A node is entered.
+    Enter(SyntaxKind),
+    /// A node is left.
+    Leave,
+    /// A token.
+    Token(SyntaxKind, &'t str),
+    /// The walk has ended.
+    End,
+}
+
+/// A walk that can pass over a node at once. A clause sees the siblings that are left on each level, the innermost first.
+#[derive(Drop)]
+pub(crate) struct Walk<'t> {
+    comments: Comments,
+    levels: VecDeque<SiblingsLeft<'t>>,
+}
+
+impl<'t> Walk<'t> {
+    /// The walk of some siblings, and then the end of the node around them.
+    pub(crate) fn new(
+        alloc: Global,
+        comments: Comments,
+        start: &SiblingsLeft<'t>,
+    ) -> Result<Walk<'t>, AllocError>
+        ensures { IfOk result (λ w. (w.comments ≡ comments) × (levels_of w ≡ start.now ∷ [])) }
+    {
+        let mut levels = VecDeque::new(alloc);
+        levels.push_front(start.all())?;
+        Ok(Walk { comments, levels })
+    }
+
+    /// The next step.
+    pub(crate) fn next(&mut self) -> Result<Seen<'t>, AllocError>
+        ensures step { IfOk result (λ s. (step_of s, levels_of self.new) ≡ advance self.old.comments (levels_of self.old)) }
+        ensures same { self.new.comments ≡ self.old.comments }
+    {
+        let Some(level) = self.levels.pop_front() else {
+            return Ok(Seen::End);
+        };
+        let here = past(self.comments, &level);
+        if here.is_done() {
+            return Ok(Seen::Leave);
+        }
+        let kind = here.kind();
+        self.levels.push_front(here.rest())?;
+        if here.is_token() {
+            return Ok(Seen::Token(kind, here.text()));
+        }
+        let inner = bare(self.comments, &here);
+        self.levels.push_front(inner.inside())?;
+        Ok(Seen::Enter(inner.kind()))
+    }
+
+    /// The kind and the text of the next node without the pairs round it; `None` if no node is next.
+    pub(crate) fn peek(&self) -> Option<(SyntaxKind, &'t str)> {
+        let level = self.levels.front()?;
+        let here = past(self.comments, level);
+        if here.is_done() || here.is_token() {
+            return None;
+        }
+        let inner = bare(self.comments, &here);
+        Some((inner.kind(), inner.text()))
+    }
+
+    /// Passes over the next node, if it is of the sort; returns the siblings from it on.
+    pub(crate) fn take(&mut self, sort: Sort) -> Result<Option<SiblingsLeft<'t>>, AllocError>
+        ensures taken { IfOk result (λ o. option_map (λ v. (v, levels_of self.new)) o ≡ taken self.old.comments sort (levels_of self.old)) }
+        ensures same { self.new.comments ≡ self.old.comments }
+    {
+        let Some(level) = self.levels.pop_front() else {
+            return Ok(None);
+        };
+        let here = past(self.comments, &level);
+        if !(is_node_there(&here) && sort.has(here.kind())) {
+            return Ok(None);
+        }
+        self.levels.push_front(here.rest())?;
+        Ok(Some(here))
+    }
+}
+
+/// Whether a step is that of a pattern.
+pub(crate) fn is_part(part: &Part, step: Seen<'_>) -> bool
+    ensures { result ≡ is_part part.now (step_of step.entry) }
+{
+    match (part, step) {
+        (Part::Enter(a), Seen::Enter(b)) => a.to_raw() == b.to_raw(),
+        (Part::Leave, Seen::Leave) => true,
+        (Part::Token(a, text), Seen::Token(b, other)) => {
+            a.to_raw() == b.to_raw() && text.as_str() == other
+        }
+        _ => false,
+    }
+}
