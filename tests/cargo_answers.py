@@ -217,12 +217,16 @@ def other_kinds():
     return {f"OTHER({number})": name for number, name in re.findall(r'if n == (\d+) then codes "(\w+)"', text)}
 
 
+def named(output):
+    """The output with the names of the kinds that have no constant of their own."""
+    others = other_kinds()
+    return re.sub(r"OTHER\(\d+\)", lambda found: others[found[0]], output)
+
+
 def lines_of(output):
     """The lines of each node, sorted, after the line of the node."""
-    others = other_kinds()
-    output = re.sub(r"OTHER\(\d+\)", lambda found: others[found[0]], output)
     parts, part = [], []
-    for line in output.split("\n"):
+    for line in named(output).split("\n"):
         if line.startswith("  "):
             if line[2:].partition(" = ")[0] not in RULES:
                 part.append(line)

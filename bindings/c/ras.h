@@ -58,8 +58,399 @@ void rattle_dealloc(void *at);
 /* The handle holds no parse. Nothing was written. */
 #define RAS_NO_PARSE 7u
 
+/* An integer without a digit. Nothing was written. */
+#define RAS_NO_DIGIT 8u
+
+/* An integer with a character that is no digit of its radix. Nothing was written. */
+#define RAS_BAD_DIGIT 9u
+
+/* An integer of 2^128 or more. Nothing was written. */
+#define RAS_TOO_LARGE 10u
+
+/*
+ * From this status on, an escape or a character of a literal is wrong: RAS_FAULT + n, where n counts EscapeError's variants. Nothing
+ * was written.
+ */
+#define RAS_FAULT 64u
+
 /* A number made of the kinds, constants, structs and calls of the library. Bindings that know another number were made for others. */
-#define RAS_VERSION 105046525u
+#define RAS_VERSION 3174814452u
+
+/* The statuses of a wrong escape or character. */
+enum ras_fault {
+    /* A character or byte literal without content. */
+    RAS_FAULT_ZERO_CHARS = 64,
+    /* Something follows the one good unit of a character or byte literal. */
+    RAS_FAULT_MORE_THAN_ONE_CHAR = 65,
+    /* A backslash at the content's end. */
+    RAS_FAULT_LONE_SLASH = 66,
+    /* A backslash before a character that begins no escape. */
+    RAS_FAULT_INVALID_ESCAPE = 67,
+    /* A bare carriage return, also before a newline. */
+    RAS_FAULT_BARE_CARRIAGE_RETURN = 68,
+    /* A carriage return in a raw string. No call of this crate returns it. */
+    RAS_FAULT_BARE_CARRIAGE_RETURN_IN_RAW_STRING = 69,
+    /*
+     * A character that must be escaped in this literal: " in the strings; ', newline and
+     * tab in a character or byte.
+     */
+    RAS_FAULT_ESCAPE_ONLY_CHAR = 70,
+    /* The content ends before the second digit of \x. */
+    RAS_FAULT_TOO_SHORT_HEX_ESCAPE = 71,
+    /* Another character than a hexadecimal digit after \x. */
+    RAS_FAULT_INVALID_CHAR_IN_HEX_ESCAPE = 72,
+    /* A value over 7F in a character or string. */
+    RAS_FAULT_OUT_OF_RANGE_HEX_ESCAPE = 73,
+    /* No { after \u. */
+    RAS_FAULT_NO_BRACE_IN_UNICODE_ESCAPE = 74,
+    /* Another character than a hexadecimal digit or an underscore within the braces. */
+    RAS_FAULT_INVALID_CHAR_IN_UNICODE_ESCAPE = 75,
+    /* Nothing within the braces. */
+    RAS_FAULT_EMPTY_UNICODE_ESCAPE = 76,
+    /* The content ends before the closing brace. */
+    RAS_FAULT_UNCLOSED_UNICODE_ESCAPE = 77,
+    /* An underscore before the first digit. */
+    RAS_FAULT_LEADING_UNDERSCORE_UNICODE_ESCAPE = 78,
+    /* More than six digits. */
+    RAS_FAULT_OVERLONG_UNICODE_ESCAPE = 79,
+    /* A value from D800 to DFFF. */
+    RAS_FAULT_LONE_SURROGATE_UNICODE_ESCAPE = 80,
+    /* A value over 10FFFF. */
+    RAS_FAULT_OUT_OF_RANGE_UNICODE_ESCAPE = 81,
+    /* \u{..} in a byte or byte string. */
+    RAS_FAULT_UNICODE_ESCAPE_IN_BYTE = 82,
+    /* A character past ASCII in a byte or byte string. */
+    RAS_FAULT_NON_ASCII_CHAR_IN_BYTE = 83,
+    /* The character 0 in a C string, however it is written. */
+    RAS_FAULT_NUL_IN_C_STR = 84,
+    /* A warning: a continuation skips a second newline. */
+    RAS_FAULT_MULTIPLE_SKIPPED_LINES_WARNING = 85,
+    /* A warning: white space that is not skipped follows a continuation. */
+    RAS_FAULT_UNSKIPPED_WHITESPACE_WARNING = 86,
+};
+
+/* The kinds, by their numbers; that of a token's row has 2^31 more. */
+enum ras_kind {
+    RAS_KIND_WHITESPACE = 0,
+    RAS_KIND_COMMENT = 1,
+    RAS_KIND_INNER_DOC_COMMENT = 2,
+    RAS_KIND_OUTER_DOC_COMMENT = 3,
+    RAS_KIND_ERROR = 4,
+    RAS_KIND_IDENT = 5,
+    RAS_KIND_LIFETIME_IDENT = 6,
+    RAS_KIND_INT_NUMBER = 7,
+    RAS_KIND_FLOAT_NUMBER = 8,
+    RAS_KIND_CHAR = 9,
+    RAS_KIND_BYTE = 10,
+    RAS_KIND_STRING = 11,
+    RAS_KIND_BYTE_STRING = 12,
+    RAS_KIND_C_STRING = 13,
+    RAS_KIND_SEMICOLON = 14,
+    RAS_KIND_COMMA = 15,
+    RAS_KIND_L_PAREN = 16,
+    RAS_KIND_R_PAREN = 17,
+    RAS_KIND_L_CURLY = 18,
+    RAS_KIND_R_CURLY = 19,
+    RAS_KIND_L_BRACK = 20,
+    RAS_KIND_R_BRACK = 21,
+    RAS_KIND_L_ANGLE = 22,
+    RAS_KIND_R_ANGLE = 23,
+    RAS_KIND_AT = 24,
+    RAS_KIND_POUND = 25,
+    RAS_KIND_DOLLAR = 26,
+    RAS_KIND_TILDE = 27,
+    RAS_KIND_QUESTION = 28,
+    RAS_KIND_AMP = 29,
+    RAS_KIND_PIPE = 30,
+    RAS_KIND_PLUS = 31,
+    RAS_KIND_STAR = 32,
+    RAS_KIND_SLASH = 33,
+    RAS_KIND_CARET = 34,
+    RAS_KIND_PERCENT = 35,
+    RAS_KIND_UNDERSCORE = 36,
+    RAS_KIND_DOT = 37,
+    RAS_KIND_DOT2 = 38,
+    RAS_KIND_DOT3 = 39,
+    RAS_KIND_DOT2EQ = 40,
+    RAS_KIND_COLON = 41,
+    RAS_KIND_COLON2 = 42,
+    RAS_KIND_EQ = 43,
+    RAS_KIND_EQ2 = 44,
+    RAS_KIND_FAT_ARROW = 45,
+    RAS_KIND_BANG = 46,
+    RAS_KIND_NEQ = 47,
+    RAS_KIND_MINUS = 48,
+    RAS_KIND_THIN_ARROW = 49,
+    RAS_KIND_LTEQ = 50,
+    RAS_KIND_GTEQ = 51,
+    RAS_KIND_PLUSEQ = 52,
+    RAS_KIND_MINUSEQ = 53,
+    RAS_KIND_PIPEEQ = 54,
+    RAS_KIND_AMPEQ = 55,
+    RAS_KIND_CARETEQ = 56,
+    RAS_KIND_SLASHEQ = 57,
+    RAS_KIND_STAREQ = 58,
+    RAS_KIND_PERCENTEQ = 59,
+    RAS_KIND_AMP2 = 60,
+    RAS_KIND_PIPE2 = 61,
+    RAS_KIND_SHL = 62,
+    RAS_KIND_SHR = 63,
+    RAS_KIND_SHLEQ = 64,
+    RAS_KIND_SHREQ = 65,
+    RAS_KIND_AS_KW = 66,
+    RAS_KIND_ASYNC_KW = 67,
+    RAS_KIND_AUTO_KW = 68,
+    RAS_KIND_AWAIT_KW = 69,
+    RAS_KIND_BECOME_KW = 70,
+    RAS_KIND_BIKESHED_KW = 71,
+    RAS_KIND_BREAK_KW = 72,
+    RAS_KIND_BUILTIN_KW = 73,
+    RAS_KIND_CONST_KW = 74,
+    RAS_KIND_CONTINUE_KW = 75,
+    RAS_KIND_CRATE_KW = 76,
+    RAS_KIND_DEFAULT_KW = 77,
+    RAS_KIND_DO_KW = 78,
+    RAS_KIND_DYN_KW = 79,
+    RAS_KIND_ELSE_KW = 80,
+    RAS_KIND_ENUM_KW = 81,
+    RAS_KIND_EXTERN_KW = 82,
+    RAS_KIND_FALSE_KW = 83,
+    RAS_KIND_FN_KW = 84,
+    RAS_KIND_FOR_KW = 85,
+    RAS_KIND_GEN_KW = 86,
+    RAS_KIND_IF_KW = 87,
+    RAS_KIND_IMPL_KW = 88,
+    RAS_KIND_IN_KW = 89,
+    RAS_KIND_LET_KW = 90,
+    RAS_KIND_LOOP_KW = 91,
+    RAS_KIND_MACRO_KW = 92,
+    RAS_KIND_MACRO_RULES_KW = 93,
+    RAS_KIND_MATCH_KW = 94,
+    RAS_KIND_MOD_KW = 95,
+    RAS_KIND_MOVE_KW = 96,
+    RAS_KIND_MUT_KW = 97,
+    RAS_KIND_PUB_KW = 98,
+    RAS_KIND_REF_KW = 99,
+    RAS_KIND_RETURN_KW = 100,
+    RAS_KIND_SELF_KW = 101,
+    RAS_KIND_SELF_TYPE_KW = 102,
+    RAS_KIND_STATIC_KW = 103,
+    RAS_KIND_STRUCT_KW = 104,
+    RAS_KIND_SUPER_KW = 105,
+    RAS_KIND_TRAIT_KW = 106,
+    RAS_KIND_TRUE_KW = 107,
+    RAS_KIND_TRY_KW = 108,
+    RAS_KIND_TYPE_KW = 109,
+    RAS_KIND_UNION_KW = 110,
+    RAS_KIND_UNSAFE_KW = 111,
+    RAS_KIND_USE_KW = 112,
+    RAS_KIND_WHERE_KW = 113,
+    RAS_KIND_WHILE_KW = 114,
+    RAS_KIND_YEET_KW = 115,
+    RAS_KIND_YIELD_KW = 116,
+    RAS_KIND_ARRAY_EXPR = 117,
+    RAS_KIND_ASM_EXPR = 118,
+    RAS_KIND_AWAIT_EXPR = 119,
+    RAS_KIND_BECOME_EXPR = 120,
+    RAS_KIND_BIN_EXPR = 121,
+    RAS_KIND_BLOCK_EXPR = 122,
+    RAS_KIND_BREAK_EXPR = 123,
+    RAS_KIND_CALL_EXPR = 124,
+    RAS_KIND_CAST_EXPR = 125,
+    RAS_KIND_CFG_PRED_EXPR = 126,
+    RAS_KIND_CLOSURE_EXPR = 127,
+    RAS_KIND_CONTINUE_EXPR = 128,
+    RAS_KIND_FIELD_EXPR = 129,
+    RAS_KIND_FOR_EXPR = 130,
+    RAS_KIND_FORMAT_ARGS_EXPR = 131,
+    RAS_KIND_IF_EXPR = 132,
+    RAS_KIND_INCLUDE_BYTES_EXPR = 133,
+    RAS_KIND_INDEX_EXPR = 134,
+    RAS_KIND_LET_EXPR = 135,
+    RAS_KIND_LITERAL = 136,
+    RAS_KIND_LOOP_EXPR = 137,
+    RAS_KIND_MACRO_EXPR = 138,
+    RAS_KIND_MATCH_EXPR = 139,
+    RAS_KIND_METHOD_CALL_EXPR = 140,
+    RAS_KIND_OFFSET_OF_EXPR = 141,
+    RAS_KIND_PAREN_EXPR = 142,
+    RAS_KIND_PATH_EXPR = 143,
+    RAS_KIND_PREFIX_EXPR = 144,
+    RAS_KIND_RANGE_EXPR = 145,
+    RAS_KIND_RECORD_EXPR = 146,
+    RAS_KIND_REF_EXPR = 147,
+    RAS_KIND_RETURN_EXPR = 148,
+    RAS_KIND_TRY_EXPR = 149,
+    RAS_KIND_TUPLE_EXPR = 150,
+    RAS_KIND_UNDERSCORE_EXPR = 151,
+    RAS_KIND_WHILE_EXPR = 152,
+    RAS_KIND_YEET_EXPR = 153,
+    RAS_KIND_YIELD_EXPR = 154,
+    RAS_KIND_ARRAY_TYPE = 155,
+    RAS_KIND_DYN_TRAIT_TYPE = 156,
+    RAS_KIND_FN_PTR_TYPE = 157,
+    RAS_KIND_FOR_TYPE = 158,
+    RAS_KIND_IMPL_TRAIT_TYPE = 159,
+    RAS_KIND_INFER_TYPE = 160,
+    RAS_KIND_MACRO_TYPE = 161,
+    RAS_KIND_NEVER_TYPE = 162,
+    RAS_KIND_PAREN_TYPE = 163,
+    RAS_KIND_PATH_TYPE = 164,
+    RAS_KIND_PTR_TYPE = 165,
+    RAS_KIND_REF_TYPE = 166,
+    RAS_KIND_SLICE_TYPE = 167,
+    RAS_KIND_TUPLE_TYPE = 168,
+    RAS_KIND_BOX_PAT = 169,
+    RAS_KIND_CONST_BLOCK_PAT = 170,
+    RAS_KIND_IDENT_PAT = 171,
+    RAS_KIND_LITERAL_PAT = 172,
+    RAS_KIND_MACRO_PAT = 173,
+    RAS_KIND_OR_PAT = 174,
+    RAS_KIND_PAREN_PAT = 175,
+    RAS_KIND_PATH_PAT = 176,
+    RAS_KIND_RANGE_PAT = 177,
+    RAS_KIND_RECORD_PAT = 178,
+    RAS_KIND_REF_PAT = 179,
+    RAS_KIND_REST_PAT = 180,
+    RAS_KIND_SLICE_PAT = 181,
+    RAS_KIND_TUPLE_PAT = 182,
+    RAS_KIND_TUPLE_STRUCT_PAT = 183,
+    RAS_KIND_WILDCARD_PAT = 184,
+    RAS_KIND_CONST = 185,
+    RAS_KIND_ENUM = 186,
+    RAS_KIND_EXTERN_BLOCK = 187,
+    RAS_KIND_EXTERN_CRATE = 188,
+    RAS_KIND_FN = 189,
+    RAS_KIND_IMPL = 190,
+    RAS_KIND_MACRO_CALL = 191,
+    RAS_KIND_MACRO_DEF = 192,
+    RAS_KIND_MACRO_RULES = 193,
+    RAS_KIND_MODULE = 194,
+    RAS_KIND_STATIC = 195,
+    RAS_KIND_STRUCT = 196,
+    RAS_KIND_TRAIT = 197,
+    RAS_KIND_TYPE_ALIAS = 198,
+    RAS_KIND_UNION = 199,
+    RAS_KIND_USE = 200,
+    RAS_KIND_CFG_ATTR_META = 201,
+    RAS_KIND_CFG_META = 202,
+    RAS_KIND_KEY_VALUE_META = 203,
+    RAS_KIND_PATH_META = 204,
+    RAS_KIND_TOKEN_TREE_META = 205,
+    RAS_KIND_UNSAFE_META = 206,
+    RAS_KIND_LIFETIME_PARAM = 207,
+    RAS_KIND_TYPE_PARAM = 208,
+    RAS_KIND_CONST_PARAM = 209,
+    RAS_KIND_TYPE_ARG = 210,
+    RAS_KIND_ASSOC_TYPE_ARG = 211,
+    RAS_KIND_LIFETIME_ARG = 212,
+    RAS_KIND_CONST_ARG = 213,
+    RAS_KIND_EXPR_STMT = 214,
+    RAS_KIND_LET_STMT = 215,
+    RAS_KIND_SOURCE_FILE = 216,
+    RAS_KIND_NAME = 217,
+    RAS_KIND_NAME_REF = 218,
+    RAS_KIND_LIFETIME = 219,
+    RAS_KIND_PATH = 220,
+    RAS_KIND_PATH_SEGMENT = 221,
+    RAS_KIND_TYPE_ANCHOR = 222,
+    RAS_KIND_ARG_LIST = 223,
+    RAS_KIND_PARAM_LIST = 224,
+    RAS_KIND_PARAM = 225,
+    RAS_KIND_SELF_PARAM = 226,
+    RAS_KIND_RET_TYPE = 227,
+    RAS_KIND_STMT_LIST = 228,
+    RAS_KIND_LABEL = 229,
+    RAS_KIND_TRY_BLOCK_MODIFIER = 230,
+    RAS_KIND_LET_ELSE = 231,
+    RAS_KIND_MATCH_ARM_LIST = 232,
+    RAS_KIND_MATCH_ARM = 233,
+    RAS_KIND_MATCH_GUARD = 234,
+    RAS_KIND_RECORD_EXPR_FIELD = 235,
+    RAS_KIND_RECORD_PAT_FIELD = 236,
+    RAS_KIND_FORMAT_ARGS_ARG = 237,
+    RAS_KIND_ABI = 238,
+    RAS_KIND_ATTR = 239,
+    RAS_KIND_DOC_COMMENT = 240,
+    RAS_KIND_CFG_ATOM = 241,
+    RAS_KIND_USE_TREE = 242,
+    RAS_KIND_USE_TREE_LIST = 243,
+    RAS_KIND_RECORD_FIELD_LIST = 244,
+    RAS_KIND_RECORD_FIELD = 245,
+    RAS_KIND_TUPLE_FIELD_LIST = 246,
+    RAS_KIND_TUPLE_FIELD = 247,
+    RAS_KIND_VARIANT = 248,
+    RAS_KIND_ITEM_LIST = 249,
+    RAS_KIND_ASSOC_ITEM_LIST = 250,
+    RAS_KIND_EXTERN_ITEM_LIST = 251,
+    RAS_KIND_TYPE_BOUND = 252,
+    RAS_KIND_TYPE_BOUND_LIST = 253,
+    RAS_KIND_USE_BOUND_GENERIC_ARGS = 254,
+    RAS_KIND_FOR_BINDER = 255,
+    RAS_KIND_GENERIC_PARAM_LIST = 256,
+    RAS_KIND_GENERIC_ARG_LIST = 257,
+    RAS_KIND_WHERE_CLAUSE = 258,
+    RAS_KIND_WHERE_PRED = 259,
+    RAS_KIND_VISIBILITY = 260,
+    RAS_KIND_VISIBILITY_INNER = 261,
+    RAS_KIND_TOKEN_TREE = 262,
+    RAS_KIND_MACRO_STMTS = 263,
+    RAS_KIND_FRONTMATTER = 65536,
+    RAS_KIND_SHEBANG = 65537,
+    RAS_KIND_ABSTRACT_KW = 65538,
+    RAS_KIND_BOX_KW = 65539,
+    RAS_KIND_FINAL_KW = 65540,
+    RAS_KIND_OVERRIDE_KW = 65541,
+    RAS_KIND_PRIV_KW = 65542,
+    RAS_KIND_TYPEOF_KW = 65543,
+    RAS_KIND_UNSIZED_KW = 65544,
+    RAS_KIND_VIRTUAL_KW = 65545,
+    RAS_KIND_ASM_KW = 65546,
+    RAS_KIND_ATT_SYNTAX_KW = 65547,
+    RAS_KIND_CLOBBER_ABI_KW = 65548,
+    RAS_KIND_FORMAT_ARGS_KW = 65549,
+    RAS_KIND_GLOBAL_ASM_KW = 65550,
+    RAS_KIND_INLATEOUT_KW = 65551,
+    RAS_KIND_INOUT_KW = 65552,
+    RAS_KIND_LABEL_KW = 65553,
+    RAS_KIND_LATEOUT_KW = 65554,
+    RAS_KIND_MAY_UNWIND_KW = 65555,
+    RAS_KIND_NAKED_ASM_KW = 65556,
+    RAS_KIND_NOMEM_KW = 65557,
+    RAS_KIND_NORETURN_KW = 65558,
+    RAS_KIND_NOSTACK_KW = 65559,
+    RAS_KIND_OFFSET_OF_KW = 65560,
+    RAS_KIND_OPTIONS_KW = 65561,
+    RAS_KIND_OUT_KW = 65562,
+    RAS_KIND_PRESERVES_FLAGS_KW = 65563,
+    RAS_KIND_PURE_KW = 65564,
+    RAS_KIND_RAW_KW = 65565,
+    RAS_KIND_READONLY_KW = 65566,
+    RAS_KIND_SAFE_KW = 65567,
+    RAS_KIND_SYM_KW = 65568,
+    RAS_KIND_CFG_KW = 65569,
+    RAS_KIND_CFG_ATTR_KW = 65570,
+    RAS_KIND_ASM_CLOBBER_ABI = 65792,
+    RAS_KIND_ASM_CONST = 65793,
+    RAS_KIND_ASM_DIR_SPEC = 65794,
+    RAS_KIND_ASM_LABEL = 65795,
+    RAS_KIND_ASM_OPERAND_EXPR = 65796,
+    RAS_KIND_ASM_OPERAND_NAMED = 65797,
+    RAS_KIND_ASM_OPTION = 65798,
+    RAS_KIND_ASM_OPTIONS = 65799,
+    RAS_KIND_ASM_REG_OPERAND = 65800,
+    RAS_KIND_ASM_REG_SPEC = 65801,
+    RAS_KIND_ASM_SYM = 65802,
+    RAS_KIND_CFG_COMPOSITE = 65803,
+    RAS_KIND_FORMAT_ARGS_ARG_NAME = 65804,
+    RAS_KIND_MACRO_ITEMS = 65805,
+    RAS_KIND_PARENTHESIZED_ARG_LIST = 65806,
+    RAS_KIND_RECORD_EXPR_FIELD_LIST = 65807,
+    RAS_KIND_RECORD_PAT_FIELD_LIST = 65808,
+    RAS_KIND_RENAME = 65809,
+    RAS_KIND_RETURN_TYPE_SYNTAX = 65810,
+    RAS_KIND_VARIANT_LIST = 65811,
+};
 
 /* One node or token, in 16 bytes. Rows are numbered from 0 in preorder. */
 typedef struct {
@@ -245,6 +636,80 @@ uint32_t ras_c_tokens(
     ras_token_row *tokens,
     size_t tokens_len,
     uint32_t *count);
+
+/*
+ * Writes the value of a string with this text, quotes and prefix with it, to the front of value, and its length to count:
+ * of "a\n" the letter and a line feed.
+ *
+ * Returns RAS_OK, RAS_NOT_UTF8, RAS_TOO_LONG, RAS_NO_MEMORY, RAS_NO_ROOM, or a status from RAS_FAULT on. The value is at most as long as
+ * the text.
+ */
+uint32_t ras_c_string_value(
+    const uint8_t *text,
+    size_t text_len,
+    uint8_t *value,
+    size_t value_len,
+    uint32_t *count);
+
+/*
+ * Writes the value of a byte string with this text, quotes and prefix with it, to the front of value, and its length to count:
+ * of b"\xff" the byte 255.
+ *
+ * Returns RAS_OK, RAS_NOT_UTF8, RAS_TOO_LONG, RAS_NO_MEMORY, RAS_NO_ROOM, or a status from RAS_FAULT on. The value is at most as long as
+ * the text.
+ */
+uint32_t ras_c_byte_string_value(
+    const uint8_t *text,
+    size_t text_len,
+    uint8_t *value,
+    size_t value_len,
+    uint32_t *count);
+
+/*
+ * Writes the value of a C string with this text, quotes and prefix with it, to the front of value, and its length to count:
+ * of c"a" the letter, without the zero behind it.
+ *
+ * Returns RAS_OK, RAS_NOT_UTF8, RAS_TOO_LONG, RAS_NO_MEMORY, RAS_NO_ROOM, or a status from RAS_FAULT on. The value is at most as long as
+ * the text.
+ */
+uint32_t ras_c_c_string_value(
+    const uint8_t *text,
+    size_t text_len,
+    uint8_t *value,
+    size_t value_len,
+    uint32_t *count);
+
+/*
+ * Writes the value of a character with this text, quotes with it, to value: of 'a' the number 97.
+ *
+ * Returns RAS_OK, RAS_NOT_UTF8, or a status from RAS_FAULT on.
+ */
+uint32_t ras_c_char_value(
+    const uint8_t *text,
+    size_t text_len,
+    uint32_t *value);
+
+/*
+ * Writes the value of a byte with this text, quotes with it, to value: of b'a' the number 97.
+ *
+ * Returns RAS_OK, RAS_NOT_UTF8, or a status from RAS_FAULT on.
+ */
+uint32_t ras_c_byte_value(
+    const uint8_t *text,
+    size_t text_len,
+    uint32_t *value);
+
+/*
+ * Writes the value of an integer with this text, prefix and suffix with it, to high and low, 64 bits each: of 0x10u8 the numbers 0
+ * and 16.
+ *
+ * Returns RAS_OK, RAS_NOT_UTF8, RAS_NO_DIGIT, RAS_BAD_DIGIT or RAS_TOO_LARGE.
+ */
+uint32_t ras_c_int_value(
+    const uint8_t *text,
+    size_t text_len,
+    uint64_t *high,
+    uint64_t *low);
 
 /* The number RAS_VERSION of the library. Compare it with that of the header. */
 uint32_t ras_c_version(void);

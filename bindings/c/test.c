@@ -141,6 +141,52 @@ static void tokens_and_parens(void) {
     owes(ras_c_reads_back(BYTES(sum), 2016, 9, 20, &answer) == RAS_NO_EDITION && answer == 1, "a refused text leaves the answer");
 }
 
+/* What a call tells of a string's text: its status, and whether the value is this, in a buffer that has as much room and in none. */
+typedef uint32_t string_call(const uint8_t *, size_t, uint8_t *, size_t, uint32_t *);
+
+static void has_value(string_call *call, const char *text, const char *value, size_t length) {
+    uint8_t found[64];
+    uint32_t count = 9, needed = 9;
+    owes(call(BYTES(text), found, sizeof found, &count) == RAS_OK && count == length && memcmp(found, value, length) == 0, text);
+    owes(call(BYTES(text), NULL, 0, &needed) == (length ? RAS_NO_ROOM : RAS_OK) && needed == length, text);
+}
+
+static void has_none(string_call *call, const char *text, uint32_t status) {
+    uint8_t found[64] = {7};
+    uint32_t count = 9;
+    owes(call(BYTES(text), found, sizeof found, &count) == status && count == 9 && found[0] == 7, text);
+}
+
+static void values(void) {
+    has_value(ras_c_string_value, "\"a\\n\\u{e9}\\\n   b\"", "a\n\xc3\xa9" "b", 5);
+    has_value(ras_c_string_value, "r#\"a\\n\"#", "a\\n", 3);
+    has_value(ras_c_string_value, "\"\"", "", 0);
+    has_value(ras_c_byte_string_value, "b\"\\xff\\0a\"", "\xff\0a", 3);
+    has_value(ras_c_c_string_value, "c\"\xc3\xa9\\xff\"", "\xc3\xa9\xff", 3);
+    has_none(ras_c_string_value, "\"\\q\"", RAS_FAULT_INVALID_ESCAPE);
+    has_none(ras_c_string_value, "\"\\q\\xff\"", RAS_FAULT_OUT_OF_RANGE_HEX_ESCAPE);
+    has_none(ras_c_string_value, "\"", RAS_FAULT_LONE_SLASH);
+    has_none(ras_c_string_value, "\"\xff\"", RAS_NOT_UTF8);
+    has_none(ras_c_byte_string_value, "b\"\xc3\xa9\"", RAS_FAULT_NON_ASCII_CHAR_IN_BYTE);
+    has_none(ras_c_c_string_value, "c\"\\0\"", RAS_FAULT_NUL_IN_C_STR);
+    uint32_t value = 9;
+    uint64_t high = 9, low = 9;
+    owes(ras_c_char_value(BYTES("'\\u{1F600}'"), &value) == RAS_OK && value == 0x1F600, "a character has its number");
+    owes(ras_c_byte_value(BYTES("b'\\xfe'"), &value) == RAS_OK && value == 254, "a byte has its number");
+    owes(ras_c_char_value(BYTES("'ab'"), &value) == RAS_FAULT_MORE_THAN_ONE_CHAR && value == 254, "two characters have none");
+    owes(ras_c_byte_value(BYTES("b''"), &value) == RAS_FAULT_ZERO_CHARS && value == 254, "no byte has none");
+    owes(ras_c_char_value(BYTES("\xff"), &value) == RAS_NOT_UTF8 && ras_c_byte_value(BYTES("\xff"), &value) == RAS_NOT_UTF8, "bad UTF-8 has none");
+    owes(ras_c_int_value(BYTES("0x1_0000_0000_0000_0002u128"), &high, &low) == RAS_OK && high == 1 && low == 2, "an integer has its value");
+    owes(ras_c_int_value(BYTES("0b_"), &high, &low) == RAS_NO_DIGIT && high == 1 && low == 2, "without a digit there is none");
+    owes(ras_c_int_value(BYTES("0b12"), &high, &low) == RAS_BAD_DIGIT && low == 2, "with another digit there is none");
+    owes(ras_c_int_value(BYTES("340282366920938463463374607431768211456"), &high, &low) == RAS_TOO_LARGE && low == 2, "2^128 is too large");
+    owes(ras_c_int_value(BYTES("\xff"), &high, &low) == RAS_NOT_UTF8, "bad UTF-8 is no integer");
+    ras_flat_row found[64];
+    ras_counts counts;
+    owes(ras_c_read(BYTES("fn f() {}"), 2024, found, 64, NULL, 0, NULL, 0, &counts) == RAS_OK && found[1].kind == RAS_KIND_FN
+         && found[2].kind == RAS_KIND_FN_KW + 0x80000000u, "the header numbers the kinds");
+}
+
 static uint32_t rows_of(ras_handle *handle, ras_flat_row *out, size_t room, ras_counts *counts) {
     return ras_c_rows(handle, out, room, errors, ERRORS, messages, MESSAGES, counts);
 }
@@ -230,6 +276,10 @@ static void refuses(void) {
     owes(status == RAS_OK || (status == RAS_NO_MEMORY && count == 9), "parens is done or refused");
     status = ras_c_reads_back(BYTES(TEXT), 2024, 20, 31, &answer);
     owes(status != RAS_NO_MEMORY ? answer != 9 || status == RAS_NO_PLACE : answer == 9, "reads_back is done or refused");
+    uint8_t value[64] = {7};
+    count = 9;
+    status = ras_c_string_value(BYTES("\"\\n\""), value, sizeof value, &count);
+    owes(status == RAS_OK || (status == RAS_NO_MEMORY && count == 9 && value[0] == 7), "string_value is done or refused");
     refuses_edits();
 }
 
@@ -237,6 +287,7 @@ int main(void) {
     reads();
     names();
     tokens_and_parens();
+    values();
     edits();
     asked = 0;
     refuses();

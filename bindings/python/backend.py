@@ -31,7 +31,8 @@ def build_wheel(wheel_directory, config_settings=None, metadata_directory=None):
     tag = f"py3-none-{sysconfig.get_platform().replace('-', '_').replace('.', '_')}"
     info = f"{NAME}-{VERSION}.dist-info"
     with tempfile.TemporaryDirectory() as folder:
-        files = {f"ras/{name}": os.path.join(HERE, "ras", name) for name in ("__init__.py", "__init__.pyi", "_raw.py", "py.typed")}
+        names = ["__init__.py", "__init__.pyi", "_raw.py", "py.typed", *(f"ast/{it}" for it in sorted(os.listdir(os.path.join(HERE, "ras", "ast"))) if it.endswith(".py"))]
+        files = {f"ras/{name}": os.path.join(HERE, "ras", name) for name in names}
         files["ras/libras.so"] = shared_object(folder)
         parts = {name: open(path, "rb").read() for name, path in files.items()}
     parts[f"{info}/METADATA"] = METADATA.encode()

@@ -13,6 +13,7 @@ import threading
 import unittest
 
 import ras
+import ras.ast as views
 
 TEXTS = [
     "",
@@ -77,6 +78,47 @@ class Trees(unittest.TestCase):
     def test_needless_pairs_are_found(self):
         tree = ras.parse("fn f() { (a * b) + c; (a + b) * c; g((x)) }")
         self.assertEqual([it.text for it in tree.needless_parens()], ["(a * b)", "(x)"])
+
+    def test_literals_have_values(self):
+        def value(text):
+            tree = ras.parse(f"const A: T = {text};")
+            return next(it.value for it in tree.root.tokens() if it.text == text)
+
+        self.assertEqual(value('"a\\n\\u{e9}"'), "a\n\u00e9")
+        self.assertEqual((value('r#"\\n"#'), value('""')), ("\\n", ""))
+        self.assertEqual((value('b"\\xff\\0"'), value('c"\u00e9\\xff"')), (b"\xff\0", b"\xc3\xa9\xff"))
+        self.assertEqual((value("'\\u{1F600}'"), value("b'\\xfe'")), ("\U0001f600", 254))
+        self.assertEqual((value("0x1_0000_0000_0000_0002u128"), value(str(2**128 - 1))), (2**64 + 2, 2**128 - 1))
+        self.assertIsNone(value("A"))
+        self.assertIsNone(ras.parse("fn f() {}").root.value)
+        for text, name in (('"\\q"', "InvalidEscape"), ('b"\u00e9"', "NonAsciiCharInByte"), ('c"\\0"', "NulInCStr"), ("'ab'", "MoreThanOneChar"), ("b''", "ZeroChars")):
+            with self.assertRaises(ras.EscapeError) as found:
+                value(text)
+            self.assertEqual(found.exception.name, name)
+        for text in ("0b_", "0b12", str(2**128)):
+            self.assertRaises(ValueError, value, text)
+
+    def test_a_tree_is_edited(self):
+        tree = ras.parse("fn f() { \u00e9 + b }")
+        self.assertEqual(tree.edit([(14, 15, "c"), (3, 4, b"g"), (3, 3, "h")]).text, "fn hg() { \u00e9 + c }")
+        self.assertEqual((tree.edit([]).text, tree.edit([]).edition), (tree.text, 2024))
+        for wrong in ([(0, 3, ""), (2, 4, "")], [(5, 99, "")], [(10, 11, "")], [(4, 3, "")], [(-1, 0, "")], [(0, 0, b"\xff")]):
+            self.assertRaises(ValueError, tree.edit, wrong)
+        self.assertRaises(TypeError, tree.edit, [(0, 0, 5)])
+
+    def test_views_have_parts(self):
+        tree = ras.parse("pub fn f(a: u8) -> u8 { a + 1 } struct S; fn (")
+        one, other = views.Fn.within(tree.root)
+        self.assertEqual((one.name.text, one.visibility.text, one.ret_type.ty.text, one.fn_token.text), ("f", "pub", "u8", "fn"))
+        self.assertEqual((other.name, other.body, other.async_token), (None, None, None))
+        self.assertEqual([type(it) for it in views.SourceFile.cast(tree.root).items], [views.Fn, views.Struct, views.Fn])
+        self.assertEqual([it.name.text for it in views.HasName.within(tree.root) if it.name], ["f", "a", "S"])
+        self.assertIsInstance(one, views.Item)
+        self.assertIsNone(views.Expr.cast(one.syntax))
+        self.assertIsNone(views.Fn.cast(None))
+        self.assertEqual((one, {one}), (views.Fn.cast(one.syntax), {views.Item.cast(one.syntax)}))
+        self.assertNotEqual(one, other)
+        self.assertEqual([views.String.cast(it).text for it in ras.parse('const A: T = "a";').root.tokens() if views.String.cast(it)], ['"a"'])
 
     def test_needed_pairs_stay(self):
         for text in STAY:
@@ -171,6 +213,7 @@ import ras
 
 def load_tests(loader, tests, pattern):
     tests.addTests(doctest.DocTestSuite(ras))
+    tests.addTests(doctest.DocTestSuite(views))
     return tests
 
 

@@ -19,7 +19,7 @@ import weakref
 
 from . import _raw
 
-__all__ = ["Element", "Live", "ParseError", "SyntaxError", "Tree", "kind_name", "kind_of_name", "parse"]
+__all__ = ["Element", "EscapeError", "Live", "ParseError", "SyntaxError", "Tree", "kind_name", "kind_of_name", "parse"]
 
 _TOKEN = 1 << 31
 
@@ -79,6 +79,58 @@ class SyntaxError(Exception):
 
     def __repr__(self):
         return f"{self.start}..{self.end}: {self.message}"
+
+
+class EscapeError(ValueError):
+    """What is wrong with a literal that has no value: `name`, as "InvalidEscape", and a message."""
+
+    def __init__(self, name, message):
+        super().__init__(message)
+        self.name, self.message = name, message
+
+
+_WRONG_NUMBERS = {
+    _raw.NO_DIGIT: "the integer has no digit",
+    _raw.BAD_DIGIT: "the integer has a character that is no digit of its radix",
+    _raw.TOO_LARGE: "the integer has more than 128 bits",
+}
+
+
+def _valued(status):
+    if status >= _raw.FAULT:
+        raise EscapeError(*_raw.FAULTS[status - _raw.FAULT])
+    if status in _WRONG_NUMBERS:
+        raise ValueError(_WRONG_NUMBERS[status])
+    _had_room(status)
+
+
+def _string_value(call, data):
+    # A value is at most as long as the text.
+    value, count = ctypes.create_string_buffer(max(len(data), 1)), ctypes.c_uint32()
+    _valued(call(data, len(data), value, len(data), ctypes.byref(count)))
+    return value.raw[: count.value]
+
+
+def _sign_value(call, data):
+    value = ctypes.c_uint32()
+    _valued(call(data, len(data), ctypes.byref(value)))
+    return value.value
+
+
+def _int_value(data):
+    high, low = ctypes.c_uint64(), ctypes.c_uint64()
+    _valued(_library.ras_c_int_value(data, len(data), ctypes.byref(high), ctypes.byref(low)))
+    return high.value << 64 | low.value
+
+
+_VALUES = {
+    "STRING": lambda data: _string_value(_library.ras_c_string_value, data).decode(),
+    "BYTE_STRING": functools.partial(_string_value, _library.ras_c_byte_string_value),
+    "C_STRING": functools.partial(_string_value, _library.ras_c_c_string_value),
+    "CHAR": lambda data: chr(_sign_value(_library.ras_c_char_value, data)),
+    "BYTE": functools.partial(_sign_value, _library.ras_c_byte_value),
+    "INT_NUMBER": _int_value,
+}
 
 
 @functools.lru_cache(maxsize=None)
@@ -167,6 +219,27 @@ class Tree:
         for n, it in enumerate(self.rows[::4].tolist()):
             if it % _TOKEN == number:
                 yield Element(self, n)
+
+    def edit(self, edits):
+        """The tree of the text in which each range of bytes is replaced: `edits` are tuples of a start, an end and a text, in any order.
+        The tree itself stays. Inserts at one place keep their order. ValueError if two ranges overlap, or one is not in the text or does
+        not start and end between characters; ParseError as for `parse`.
+
+        >>> tree = parse("fn f() { a + b }")
+        >>> tree.edit([(13, 14, "g()"), (3, 4, "h")]).text
+        'fn h() { a + g() }'
+        """
+        pieces, at = [], 0
+        for start, end, text in sorted(edits, key=lambda it: it[:2]):
+            if not 0 <= start <= end <= len(self.data):
+                raise ValueError(f"{start}..{end} is no range of the text, which has {len(self.data)} bytes")
+            if start < at:
+                raise ValueError(f"{start}..{end} overlaps the range before it, which ends at {at}")
+            if any(it < len(self.data) and self.data[it] & 0xC0 == 0x80 for it in (start, end)):
+                raise ValueError(f"{start}..{end} does not start and end between characters")
+            pieces += [self.data[at:start], _bytes_of(text)]
+            at = end
+        return Tree(b"".join([*pieces, self.data[at:]]), self.edition)
 
     def needless_parens(self):
         """The needless pairs of parentheses, in preorder: those that `rust_tree parens --all --mixed` lists.
@@ -289,6 +362,17 @@ class Element:
     def text(self):
         """Its text."""
         return self.tree.data[self.start : self.end].decode()
+
+    @property
+    def value(self):
+        """What a literal token stands for: a `str` of STRING and CHAR, `bytes` of BYTE_STRING and C_STRING, an `int` of BYTE and INT_NUMBER;
+        None of any other element. EscapeError, a ValueError, if an escape or a character is wrong, and ValueError for a wrong integer.
+
+        >>> [it.value for it in parse('const A: T = ("a\\\\n", b"\\\\xff", 0x10u8);').root.tokens() if it.value is not None]
+        ['a\\n', b'\\xff', 16]
+        """
+        value_of = _VALUES.get(self.kind) if self.is_token else None
+        return value_of and value_of(self.tree.data[self.start : self.end])
 
     @property
     def parent(self):

@@ -28,8 +28,48 @@ NO_PLACE = 6
 # The handle holds no parse. Nothing was written.
 NO_PARSE = 7
 
+# An integer without a digit. Nothing was written.
+NO_DIGIT = 8
+
+# An integer with a character that is no digit of its radix. Nothing was written.
+BAD_DIGIT = 9
+
+# An integer of 2^128 or more. Nothing was written.
+TOO_LARGE = 10
+
+# From this status on, an escape or a character of a literal is wrong: [`FAULT`] + n, where n counts `EscapeError`'s variants. Nothing
+# was written.
+FAULT = 64
+
 # A number made of the kinds, constants, structs and calls of the library. Bindings that know another number were made for others.
-VERSION = 105046525
+VERSION = 3174814452
+
+# What can be wrong with an escape or a character: the names and the messages, from the status FAULT on.
+FAULTS = [
+    ("ZeroChars", "Literal must not be empty"),
+    ("MoreThanOneChar", "Literal must be one character long"),
+    ("LoneSlash", "Character must be escaped: `\\`"),
+    ("InvalidEscape", "Invalid escape"),
+    ("BareCarriageReturn", "Character must be escaped: `\r`"),
+    ("BareCarriageReturnInRawString", "Character must be escaped: `\r`"),
+    ("EscapeOnlyChar", "Escape character `\\` must be escaped itself"),
+    ("TooShortHexEscape", "ASCII hex escape code must have exactly two digits"),
+    ("InvalidCharInHexEscape", "ASCII hex escape code must contain only hex characters"),
+    ("OutOfRangeHexEscape", "ASCII hex escape code must be at most 0x7F"),
+    ("NoBraceInUnicodeEscape", "Missing `{` to begin the unicode escape"),
+    ("InvalidCharInUnicodeEscape", "Unicode escape must contain only hex characters and underscores"),
+    ("EmptyUnicodeEscape", "Unicode escape must not be empty"),
+    ("UnclosedUnicodeEscape", "Missing `}` to terminate the unicode escape"),
+    ("LeadingUnderscoreUnicodeEscape", "Unicode escape code must not begin with an underscore"),
+    ("OverlongUnicodeEscape", "Unicode escape code must have at most 6 digits"),
+    ("LoneSurrogateUnicodeEscape", "Unicode escape code must not be a surrogate"),
+    ("OutOfRangeUnicodeEscape", "Unicode escape code must be at most 0x10FFFF"),
+    ("UnicodeEscapeInByte", "Byte literals must not contain unicode escapes"),
+    ("NonAsciiCharInByte", "Byte literals must not contain non-ASCII characters"),
+    ("NulInCStr", "C strings literals must not contain null characters"),
+    ("MultipleSkippedLinesWarning", "Multiple lines are skipped by this escape"),
+    ("UnskippedWhitespaceWarning", "Whitespace after this escape is not skipped"),
+]
 
 
 class FlatRow(ctypes.Structure):
@@ -113,6 +153,18 @@ def declare(library):
     library.ras_c_read.restype = ctypes.c_uint32
     library.ras_c_tokens.argtypes = [ctypes.c_void_p, ctypes.c_size_t, ctypes.c_uint32, ctypes.c_void_p, ctypes.c_size_t, ctypes.c_void_p]
     library.ras_c_tokens.restype = ctypes.c_uint32
+    library.ras_c_string_value.argtypes = [ctypes.c_void_p, ctypes.c_size_t, ctypes.c_void_p, ctypes.c_size_t, ctypes.c_void_p]
+    library.ras_c_string_value.restype = ctypes.c_uint32
+    library.ras_c_byte_string_value.argtypes = [ctypes.c_void_p, ctypes.c_size_t, ctypes.c_void_p, ctypes.c_size_t, ctypes.c_void_p]
+    library.ras_c_byte_string_value.restype = ctypes.c_uint32
+    library.ras_c_c_string_value.argtypes = [ctypes.c_void_p, ctypes.c_size_t, ctypes.c_void_p, ctypes.c_size_t, ctypes.c_void_p]
+    library.ras_c_c_string_value.restype = ctypes.c_uint32
+    library.ras_c_char_value.argtypes = [ctypes.c_void_p, ctypes.c_size_t, ctypes.c_void_p]
+    library.ras_c_char_value.restype = ctypes.c_uint32
+    library.ras_c_byte_value.argtypes = [ctypes.c_void_p, ctypes.c_size_t, ctypes.c_void_p]
+    library.ras_c_byte_value.restype = ctypes.c_uint32
+    library.ras_c_int_value.argtypes = [ctypes.c_void_p, ctypes.c_size_t, ctypes.c_void_p, ctypes.c_void_p]
+    library.ras_c_int_value.restype = ctypes.c_uint32
     library.ras_c_version.argtypes = []
     library.ras_c_version.restype = ctypes.c_uint32
     return library

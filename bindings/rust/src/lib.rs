@@ -24,6 +24,7 @@
 pub mod algo;
 pub mod ast;
 mod either;
+mod escape;
 mod heap;
 mod iter;
 mod kind;
@@ -35,10 +36,12 @@ mod ptr;
 mod range;
 mod raw;
 mod tree;
+mod values;
 mod version;
 
 pub use ast::{AstNode, AstToken, SourceFile};
 pub use either::Either;
+pub use escape::EscapeError;
 pub use iter::{Children, ChildrenWithTokens, Descendants, DescendantsWithTokens, Preorder, PreorderWithTokens, TokenAtOffset, WalkEvent};
 pub use kind::SyntaxKind;
 pub use live::{EditError, Live};

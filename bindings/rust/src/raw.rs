@@ -28,8 +28,21 @@ pub const NO_PLACE: u32 = 6;
 /// The handle holds no parse. Nothing was written.
 pub const NO_PARSE: u32 = 7;
 
+/// An integer without a digit. Nothing was written.
+pub const NO_DIGIT: u32 = 8;
+
+/// An integer with a character that is no digit of its radix. Nothing was written.
+pub const BAD_DIGIT: u32 = 9;
+
+/// An integer of 2^128 or more. Nothing was written.
+pub const TOO_LARGE: u32 = 10;
+
+/// From this status on, an escape or a character of a literal is wrong: [`FAULT`] + n, where n counts `EscapeError`'s variants. Nothing
+/// was written.
+pub const FAULT: u32 = 64;
+
 /// A number made of the kinds, constants, structs and calls of the library. Bindings that know another number were made for others.
-pub const VERSION: u32 = 105046525;
+pub const VERSION: u32 = 3174814452;
 
 /// One node or token, in 16 bytes. Rows are numbered from 0 in preorder.
 #[repr(C)]
@@ -219,6 +232,74 @@ unsafe extern "C" {
         tokens: *mut TokenRow,
         tokens_len: usize,
         count: *mut u32,
+    ) -> u32;
+
+    /// Writes the value of a string with this text, quotes and prefix with it, to the front of `value`, and its length to `count`:
+    /// of `"a\n"` the letter and a line feed.
+    ///
+    /// Returns [`OK`], [`NOT_UTF8`], [`TOO_LONG`], [`NO_MEMORY`], [`NO_ROOM`], or a status from [`FAULT`] on. The value is at most as long as
+    /// the text.
+    pub fn ras_c_string_value(
+        text: *const u8,
+        text_len: usize,
+        value: *mut u8,
+        value_len: usize,
+        count: *mut u32,
+    ) -> u32;
+
+    /// Writes the value of a byte string with this text, quotes and prefix with it, to the front of `value`, and its length to `count`:
+    /// of `b"\xff"` the byte 255.
+    ///
+    /// Returns [`OK`], [`NOT_UTF8`], [`TOO_LONG`], [`NO_MEMORY`], [`NO_ROOM`], or a status from [`FAULT`] on. The value is at most as long as
+    /// the text.
+    pub fn ras_c_byte_string_value(
+        text: *const u8,
+        text_len: usize,
+        value: *mut u8,
+        value_len: usize,
+        count: *mut u32,
+    ) -> u32;
+
+    /// Writes the value of a C string with this text, quotes and prefix with it, to the front of `value`, and its length to `count`:
+    /// of `c"a"` the letter, without the zero behind it.
+    ///
+    /// Returns [`OK`], [`NOT_UTF8`], [`TOO_LONG`], [`NO_MEMORY`], [`NO_ROOM`], or a status from [`FAULT`] on. The value is at most as long as
+    /// the text.
+    pub fn ras_c_c_string_value(
+        text: *const u8,
+        text_len: usize,
+        value: *mut u8,
+        value_len: usize,
+        count: *mut u32,
+    ) -> u32;
+
+    /// Writes the value of a character with this text, quotes with it, to `value`: of `'a'` the number 97.
+    ///
+    /// Returns [`OK`], [`NOT_UTF8`], or a status from [`FAULT`] on.
+    pub fn ras_c_char_value(
+        text: *const u8,
+        text_len: usize,
+        value: *mut u32,
+    ) -> u32;
+
+    /// Writes the value of a byte with this text, quotes with it, to `value`: of `b'a'` the number 97.
+    ///
+    /// Returns [`OK`], [`NOT_UTF8`], or a status from [`FAULT`] on.
+    pub fn ras_c_byte_value(
+        text: *const u8,
+        text_len: usize,
+        value: *mut u32,
+    ) -> u32;
+
+    /// Writes the value of an integer with this text, prefix and suffix with it, to `high` and `low`, 64 bits each: of `0x10u8` the numbers 0
+    /// and 16.
+    ///
+    /// Returns [`OK`], [`NOT_UTF8`], [`NO_DIGIT`], [`BAD_DIGIT`] or [`TOO_LARGE`].
+    pub fn ras_c_int_value(
+        text: *const u8,
+        text_len: usize,
+        high: *mut u64,
+        low: *mut u64,
     ) -> u32;
 
     /// The number [`VERSION`] of the library. Compare it with that of the header.

@@ -1,6 +1,6 @@
 //! Trees of texts: what a tree owes whatever the text is, and dumps that were read.
-use ras::ast::{self, AstNode, HasName};
-use ras::{Direction, Edition, NodeOrToken, SourceFile, SyntaxKind, SyntaxNode, SyntaxNodePtr, T, TextRange, TokenAtOffset, Tree, WalkEvent, algo};
+use ras::ast::{self, AstNode, AstToken, HasName};
+use ras::{Direction, Edition, EscapeError, NodeOrToken, SourceFile, SyntaxKind, SyntaxNode, SyntaxNodePtr, SyntaxToken, T, TextRange, TokenAtOffset, Tree, WalkEvent, algo};
 
 const TEXTS: [&str; 8] = [
     "",
@@ -173,6 +173,30 @@ fn pairs_can_be_removed_together() {
     assert!(without.errors().is_empty());
     assert_eq!(without.needless_parens().unwrap(), []);
     assert!(without.root().descendants().all(|it| it.kind() != SyntaxKind::PAREN_EXPR));
+}
+
+// The first token of a view in `const A: T = TEXT;`.
+fn token<V: AstToken<SyntaxToken>>(text: &str) -> V {
+    let file = SourceFile::parse(&format!("const A: T = {text};"), Edition::CURRENT).tree();
+    file.syntax().descendants_with_tokens().filter_map(|it| V::cast(it.into_token()?)).next().unwrap()
+}
+
+#[test]
+fn literals_have_values() {
+    use std::borrow::Cow;
+    assert!(matches!(token::<ast::String>("\"a b\"").value(), Ok(Cow::Borrowed("a b"))));
+    assert!(matches!(token::<ast::String>("r#\"\\n\"#").value(), Ok(Cow::Borrowed("\\n"))));
+    assert_eq!(token::<ast::String>("\"a\\n\\u{e9}\"").value().unwrap(), "a\né");
+    assert_eq!(token::<ast::String>("\"\\q\\xff\"").value(), Err(EscapeError::OutOfRangeHexEscape));
+    assert_eq!(token::<ast::ByteString>("b\"\\xff\"").value().unwrap()[..], [255]);
+    assert_eq!(token::<ast::ByteString>("b\"é\"").value(), Err(EscapeError::NonAsciiCharInByte));
+    assert_eq!(token::<ast::CString>("c\"é\\xff\"").value().unwrap()[..], [0xc3, 0xa9, 0xff]);
+    assert_eq!(token::<ast::CString>("c\"\\0\"").value(), Err(EscapeError::NulInCStr));
+    assert_eq!(token::<ast::Char>("'\\u{1F600}'").value(), Ok('\u{1F600}'));
+    assert_eq!(token::<ast::Char>("'ab'").value(), Err(EscapeError::MoreThanOneChar));
+    assert_eq!(token::<ast::Byte>("b'\\xfe'").value(), Ok(254));
+    assert_eq!(token::<ast::Byte>("b''").value(), Err(EscapeError::ZeroChars));
+    assert_eq!(EscapeError::InvalidEscape.to_string(), "Invalid escape");
 }
 
 #[test]

@@ -4,3 +4,4 @@ pub mod Live
 pub mod Read
 pub mod Tokens
 pub mod Parens
+pub mod Values

@@ -16,4 +16,5 @@ mod read;
 mod root;
 mod status;
 mod tokens;
+mod values;
 mod version;

@@ -1,9 +1,11 @@
 //! Accessors of tokens.
 use super::AstToken;
-use super::views::{ByteString, CString, Comment, FloatNumber, IntNumber, String, Whitespace};
-use crate::SyntaxKind;
+use super::views::{Byte, ByteString, CString, Char, Comment, FloatNumber, IntNumber, String, Whitespace};
+use crate::escape::EscapeError;
 use crate::node::Token;
 use crate::range::{TextRange, TextSize};
+use crate::{SyntaxKind, values};
+use std::borrow::Cow;
 use std::fmt;
 
 /// What an attribute or a doc comment belongs to.
@@ -304,4 +306,65 @@ strings! {
     String: "r";
     ByteString: "br";
     CString: "cr";
+}
+
+impl<T: Token> String<T> {
+    /// The text that it stands for, or what is wrong with it; of several wrong escapes the last. Borrowed if it is the content itself.
+    ///
+    /// ```
+    /// use ras::ast::{self, AstToken};
+    /// use ras::{Edition, EscapeError, SourceFile};
+    ///
+    /// let value = |text: &str| {
+    ///     let file = SourceFile::parse(&format!("const A: &str = {text};"), Edition::CURRENT).tree();
+    ///     let mut tokens = file.syntax().descendants_with_tokens().filter_map(|it| it.into_token());
+    ///     tokens.find_map(ast::String::cast).unwrap().value().map(|it| it.into_owned())
+    /// };
+    /// # use ras::ast::AstNode;
+    /// assert_eq!(value(r#""a\tb""#), Ok("a\tb".to_owned()));
+    /// assert_eq!(value(r#""a\yb""#), Err(EscapeError::InvalidEscape));
+    /// ```
+    ///
+    /// # Panics
+    ///
+    /// If memory runs out.
+    pub fn value(&self) -> Result<Cow<'_, str>, EscapeError> {
+        let value = values::string(Token::text(&self.syntax))?;
+        let content = self.text_without_quotes();
+        Ok(if value == content { Cow::Borrowed(content) } else { Cow::Owned(value) })
+    }
+}
+
+// The value, borrowed if it is the content itself.
+fn bytes(value: Vec<u8>, content: &str) -> Cow<'_, [u8]> {
+    if value == content.as_bytes() { Cow::Borrowed(content.as_bytes()) } else { Cow::Owned(value) }
+}
+
+impl<T: Token> ByteString<T> {
+    /// The bytes that it stands for, or what is wrong with it; of several wrong escapes the last. Panics if memory runs out.
+    pub fn value(&self) -> Result<Cow<'_, [u8]>, EscapeError> {
+        values::byte_string(Token::text(&self.syntax)).map(|it| bytes(it, self.text_without_quotes()))
+    }
+}
+
+impl<T: Token> CString<T> {
+    /// The bytes that it stands for, without the zero behind them, or what is wrong with it; of several wrong escapes the last. Panics if
+    /// memory runs out.
+    pub fn value(&self) -> Result<Cow<'_, [u8]>, EscapeError> {
+        values::c_string(Token::text(&self.syntax)).map(|it| bytes(it, self.text_without_quotes()))
+    }
+}
+
+impl<T: Token> Char<T> {
+    /// The character that it stands for, or what is wrong with it. Its closing quote may be missing.
+    pub fn value(&self) -> Result<char, EscapeError> {
+        values::character(Token::text(&self.syntax))
+    }
+}
+
+impl<T: Token> Byte<T> {
+    /// The byte that it stands for, or what is wrong with it. Its closing quote may be missing.
+    pub fn value(&self) -> Result<u8, EscapeError> {
+        values::byte(Token::text(&self.syntax))
+    }
 }
