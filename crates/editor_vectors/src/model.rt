@@ -113,7 +113,7 @@ impl Model {
         if here.replaced && (inner || slot == Slot::Instead) {
             return Some(ChangeError::Replaced);
         }
-        let mut changed_inside = false;
+        let mut changed_inside = !here.first.is_empty() || !here.last.is_empty();
         for (other, model) in self.rows.as_slice().iter().enumerate() {
             if model.replaced && self.is_below(row, other) {
                 return Some(ChangeError::InReplaced);

@@ -1,8 +1,8 @@
 -- Which changes are refused, and why.
-use Rattle.std.specs.Prelude.{◌≡◌, ℕ, ◌+◌, ◌<◌, ◌≤◌, ◌^◌, true, ⊤, length}
+use Rattle.std.specs.Prelude.{◌≡◌, ℕ, ◌+◌, ◌<◌, ◌≤◌, ◌^◌, ◌⊎◌, [], true, ⊤, length}
 use Rattle.tree_model.specs.Tree.{Tree, IsToken, size, text}
 use Rattle.tree_model.specs.Rows.{tree_at}
-use Rattle.tree_edit_model.specs.Changes.{no_change}
+use Rattle.tree_edit_model.specs.Changes.{Change, no_change}
 use Rattle.tree_edits.specs.declared.change.Slot.{Slot}
 use Rattle.tree_edits.specs.declared.change.Slot.TheVariants.{Before, Instead, First, Last, After}
 use Rattle.tree_edits.specs.declared.error.ChangeError.{ChangeError}
@@ -53,11 +53,15 @@ IsInReplaced s n = (k : ℕ) × IsInside s.tree k n × IsReplacedAt s k
 abbrev pub HasChangeInside : Session → ℕ → Type 0
 HasChangeInside s n = (k : ℕ) × IsInside s.tree n k × (change_of s k ≡ no_change → ⊥)
 
+-- no child is put into the element
+abbrev pub HasNoNewChild : Change → Type 0
+HasNoNewChild c = (c.first ≡ []) × (c.last ≡ [])
+
 -- the element would be replaced, with the changes inside it
 abbrev pub IsOverChange : Session → ℕ → Slot → Type 0
 IsOverChange s n First = ⊥
 IsOverChange s n Last = ⊥
-IsOverChange s n Instead = HasChangeInside s n
+IsOverChange s n Instead = (HasNoNewChild (change_of s n) → ⊥) ⊎ HasChangeInside s n
 IsOverChange s n Before = ⊥
 IsOverChange s n After = ⊥
 

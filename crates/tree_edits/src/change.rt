@@ -7,6 +7,7 @@ ghost use Rattle.tree_edits.specs.Walked.{entered, left, events_from_all};
 ghost use Rattle.tree_edits.specs.Added.{with_elements};
 ghost use Rattle.tree_edits.specs.Stored.{MarksDiffer, HasNumber, SameChanges, IsAdded, rows_of, IsMarked, KeepsMarks};
 ghost use Rattle.tree_edits.specs.Run.{AreBelow, AreMarked, deleted, run_replaced};
+ghost use Rattle.tree_edits.specs.Refused.{HasNoNewChild};
 ghost use Rattle.tree_edits.specs.declared.change.Slot.TheVariants.{Instead};
 
 use crate::element::{Element, push_all, push_inside, push_step};
@@ -61,6 +62,13 @@ impl RowChange {
             && self.first.is_empty()
             && self.last.is_empty()
             && self.after.is_empty()
+    }
+
+    // Whether no child is put into the element.
+    fn has_no_new_child(&self) -> bool
+        ensures { IsTrue result ↔ HasNoNewChild self.now }
+    {
+        self.first.is_empty() && self.last.is_empty()
     }
 
     // Adds elements; if memory runs out, nothing is changed.
@@ -171,6 +179,17 @@ impl RowChanges {
     {
         match self.at(row) {
             Some(change) => !change.is_none(),
+            None => false,
+        }
+    }
+
+    // Whether a child is put into the element at a row.
+    pub fn has_new_child(&self, row: usize) -> bool
+        requires { row < length self.now.marks.items }
+        ensures { IsFalse result ↔ HasNoNewChild (change_at self.now.marks.items self.now.changes.items row) }
+    {
+        match self.at(row) {
+            Some(change) => !change.has_no_new_child(),
             None => false,
         }
     }

@@ -172,7 +172,7 @@ impl Changes {
         ensures { IsTrue result ↔ IsOverChange self.now row slot }
     {
         match slot {
-            Slot::Instead => self.has_change_inside(row),
+            Slot::Instead => self.rows.has_new_child(row) || self.has_change_inside(row),
             Slot::Before | Slot::First | Slot::Last | Slot::After => false,
         }
     }
