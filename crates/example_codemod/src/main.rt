@@ -1,24 +1,22 @@
 //! A codemod: `x == None` becomes `x.is_none()`, and `x != None` becomes `x.is_some()`, over a whole file at once.
 #![tactic(auto)]
 
+use anyhow::Result;
 use ra_ap_syntax::ast::{self, BinaryOp, CmpOp};
-use ra_ap_syntax::{AstNode, Edition, NodeOrToken, ParseError, SourceFile, SyntaxKind, SyntaxNode};
+use ra_ap_syntax::{AstNode, Edition, NodeOrToken, SourceFile, SyntaxKind, SyntaxNode};
 use rust_front::Rust;
-use std::alloc::Global;
+use rust_make::Make;
 use std::io;
 use syntax_editor::{ChangeError, SyntaxEditor};
 
-const NOW: Edition = Edition::CURRENT;
-
 // The method that says what a comparison with `None` says. One with a comment beside its operator stays: the comment would be lost.
 fn method_for(comparison: &ast::BinExpr) -> Option<&'static str> {
-    if comparison.rhs()?.syntax().as_str() != "None" {
+    let node = comparison.syntax();
+    let has_comment = node
+        .children_with_tokens()
+        .any(|part| part.kind() == SyntaxKind::COMMENT);
+    if has_comment || comparison.rhs()?.syntax().as_str() != "None" {
         return None;
-    }
-    for part in comparison.syntax().children_with_tokens() {
-        if part.kind() == SyntaxKind::COMMENT {
-            return None;
-        }
     }
     match comparison.op_kind()? {
         BinaryOp::CmpOp(CmpOp::Eq { negated: false }) => Some("is_none"),
@@ -27,94 +25,31 @@ fn method_for(comparison: &ast::BinExpr) -> Option<&'static str> {
     }
 }
 
-// The expression of a text; `None` if it has errors.
-fn expression(alloc: Global, text: &str) -> Result<Option<SyntaxNode>, ParseError> {
-    let parse = ast::Expr::parse(alloc, text, &Rust, NOW)?;
-    if parse.stored().is_empty() {
-        Ok(Some(parse.syntax_node()))
-    } else {
-        Ok(None)
-    }
-}
-
-// Whether an operand needs a pair of parentheses before `.is_none()`.
-fn needs_pair(alloc: Global, operand: &ast::Expr) -> Result<bool, ParseError> {
-    let Some(call) = expression(alloc, "x.is_none()")? else {
-        return Ok(true);
+// Puts the call in the place of a comparison with `None`. One inside a comparison that is replaced stays: a second run changes it.
+fn change(make: &Make<Rust>, editor: &mut SyntaxEditor, node: &SyntaxNode) -> Result<()> {
+    let Some(comparison) = ast::BinExpr::cast(node.clone()?) else {
+        return Ok(());
     };
-    match call.first_child() {
-        Some(receiver) => Ok(operand.needs_parens_in_place_of(&call, &receiver)),
-        None => Ok(true),
-    }
-}
-
-// An operand with a call behind it, in a pair of parentheses if it needs one there.
-fn call_text(alloc: Global, operand: &ast::Expr, method: &str) -> Result<String, ParseError> {
-    let text = operand.syntax().as_str();
-    if needs_pair(alloc, operand)? {
-        Ok(format!(in alloc; "({text}).{method}()")?)
-    } else {
-        Ok(format!(in alloc; "{text}.{method}()")?)
-    }
-}
-
-// The call of a method of an operand.
-fn call_of(
-    alloc: Global,
-    operand: &ast::Expr,
-    method: &str,
-) -> Result<Option<SyntaxNode>, ParseError> {
-    let text = call_text(alloc, operand, method)?;
-    expression(alloc, text.as_str())
-}
-
-// The call in place of a comparison; `None` if it is no comparison with `None`.
-fn call_for(alloc: Global, comparison: &ast::BinExpr) -> Result<Option<SyntaxNode>, ParseError> {
-    let Some(method) = method_for(comparison) else {
-        return Ok(None);
+    let (Some(method), Some(operand)) = (method_for(&comparison), comparison.lhs()) else {
+        return Ok(());
     };
-    match comparison.lhs() {
-        Some(operand) => call_of(alloc, &operand, method),
-        None => Ok(None),
+    let call = make.expr_method_call(&operand, &make.name_ref(method)?, &make.arg_list(&[])?)?;
+    let (old, new) = (node.clone()?, call.syntax().clone()?);
+    match editor.replace(&NodeOrToken::Node(old), &NodeOrToken::Node(new)) {
+        Err(error) if error != ChangeError::InReplaced => Err(error.into()),
+        _ => Ok(()),
     }
 }
 
-// Puts a call in the place of a comparison. One inside a comparison that is replaced stays as it is: a second run changes it.
-fn put(editor: &mut SyntaxEditor, old: SyntaxNode, call: SyntaxNode) -> Option<()> {
-    match editor.replace(&NodeOrToken::Node(old), &NodeOrToken::Node(call)) {
-        Ok(()) | Err(ChangeError::InReplaced) => Some(()),
-        Err(_) => None,
-    }
-}
-
-// Changes a node if it is a comparison with `None`.
-fn change(editor: &mut SyntaxEditor, alloc: Global, node: SyntaxNode) -> Option<()> {
-    let Some(comparison) = ast::BinExpr::cast(node.clone().ok()?) else {
-        return Some(());
-    };
-    match call_for(alloc, &comparison).ok()? {
-        Some(call) => put(editor, node, call),
-        None => Some(()),
-    }
-}
-
-// The file with all calls; `None` if memory runs out, or if the new text is too long.
-fn changed(alloc: Global, root: &SyntaxNode) -> Option<SyntaxNode> {
-    let mut editor = SyntaxEditor::new(alloc, root).ok()?;
-    for node in root.descendants() {
-        change(&mut editor, alloc, node)?;
-    }
-    let edit = editor.finish().ok()?;
-    edit.new_root().clone().ok()
-}
-
-fn main(rt: HostRuntime) -> io::Result<()> {
+fn main(rt: HostRuntime) -> Result<()> {
     let input = io::read_to_string(rt.alloc(), rt.reader())?;
-    let Ok(file) = SourceFile::parse(rt.alloc(), input.as_str(), &Rust, NOW) else {
-        return println!(rt; "the text is too long, or memory ran out");
-    };
-    match changed(rt.alloc(), &file.syntax_node()) {
-        Some(new) => print!(rt; "{}", new.as_str()),
-        None => println!(rt; "the text is too long, or memory ran out"),
+    let file = SourceFile::parse(rt.alloc(), input.as_str(), &Rust, Edition::CURRENT)?;
+    let make = Make::new(rt.alloc(), &Rust, Edition::CURRENT);
+    let root = file.syntax_node();
+    let mut editor = SyntaxEditor::new(rt.alloc(), &root)?;
+    for node in root.descendants() {
+        change(&make, &mut editor, &node)?;
     }
+    print!(rt; "{}", editor.finish()?.new_root().as_str())?;
+    Ok(())
 }
