@@ -11,8 +11,8 @@ from views_table import RUST_TABLE, Table
 
 TOP = os.path.dirname(os.path.dirname(os.path.abspath(__file__)))
 SOURCES = os.path.join(TOP, "crates", "answers_views", "src")
-# Calls that the cargo crate does not have: they need the proved rules, which the static library exports for whole files.
-RULES = "Expr.precedence Expr.is_ret_like_with_no_value reads_back needless_parens Expr.needs_parens_in Expr.needs_parens_in_place_of Type.needs_parens_in".split()
+# Calls that the cargo crate does not have: the static library exports them for whole files.
+RULES = "reads_back needless_parens".split()
 
 SHEET = '''\
 pub use std::string::String;
@@ -110,6 +110,7 @@ mod items;
 mod lookups;
 mod loops;
 mod paths;
+mod rules;
 mod sheet;
 
 use ras::{Edition, SyntaxNode, Tree};
@@ -126,6 +127,7 @@ fn answers(sheet: &mut Sheet, root: &SyntaxNode) -> u64 {
         attrs::answers(sheet, &node).unwrap();
         loops::answers(sheet, &node).unwrap();
         lookups::answers(sheet, &node).unwrap();
+        rules::answers(sheet, &node).unwrap();
     }
     nodes
 }
@@ -185,14 +187,21 @@ def translated(text):
     return re.sub(r"\n(ghost |    requires ).*", "", text)
 
 
+def without_rules(text):
+    """The calls of rules without those of RULES, and without the violations, which are errors of a tree here."""
+    text = re.sub(r"\n    needless\(sheet, it\)\?;", "", text).replace('?;\n    sheet.value("reads_back", prec::reads_back(it))', "")
+    return re.sub(r"\nfn needless\(.*?\n}\n|\n/// The rules that a tree breaks\.\n.*", "", text, flags=re.S)
+
+
 def write_crate(folder, ras):
     """A cargo crate with the calls of answers_views over the crate `ras` at a path."""
     os.makedirs(os.path.join(folder, "src", "lookups"))
     for path in glob.glob(os.path.join(SOURCES, "**", "*.rt"), recursive=True):
         name = os.path.relpath(path, SOURCES)[: -len(".rt")]
-        if name not in ("main", "sheet", "texts", "rules"):
+        if name not in ("main", "sheet", "texts"):
+            text = translated(open(path, encoding="utf-8").read())
             with open(os.path.join(folder, "src", f"{name}.rs"), "w", encoding="utf-8") as file:
-                file.write(translated(open(path, encoding="utf-8").read()))
+                file.write(without_rules(text) if name == "rules" else text)
     with open(os.path.join(folder, "src", "sheet.rs"), "w", encoding="utf-8") as file:
         file.write(SHEET)
     with open(os.path.join(folder, "src", "main.rs"), "w", encoding="utf-8") as file:

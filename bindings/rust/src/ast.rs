@@ -15,15 +15,19 @@
 //! assert_eq!(names, ["one", "three"]);
 //! ```
 mod aliases;
+pub mod edit;
 mod expr_ext;
 mod macros;
 mod node_ext;
 mod operators;
+pub mod prec;
 pub mod support;
 mod token_ext;
 mod traits;
 pub mod views;
+pub mod visit;
 
+pub use crate::make;
 pub use aliases::*;
 pub use operators::{ArithOp, BinaryOp, CmpOp, LogicOp, Ordering, RangeOp, UnaryOp};
 pub use token_ext::{AttrKind, CommentKind, CommentShape, QuoteOffsets, Radix};

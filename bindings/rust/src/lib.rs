@@ -30,11 +30,15 @@ mod iter;
 mod kind;
 mod kinds;
 mod live;
+pub mod make;
 mod node;
 mod parse;
 mod ptr;
 mod range;
 mod raw;
+pub mod syntax_editor;
+mod syntax_text;
+mod text_edit;
 mod tree;
 mod values;
 mod version;
@@ -50,6 +54,8 @@ pub use parse::Parse;
 pub use ptr::{AstPtr, SyntaxNodePtr};
 pub use range::{TextLen, TextRange, TextSize};
 pub use raw::FlatRow;
+pub use syntax_text::SyntaxText;
+pub use text_edit::{ApplyError, Indel, OverlapError, TextEdit};
 pub use tree::{Edition, ParseError, SyntaxError, Tree};
 
 /// The children of a node, by the name that rust-analyzer's crate has for them.

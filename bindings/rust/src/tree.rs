@@ -216,7 +216,17 @@ impl Tree {
         Ok(Tree(Arc::new(Inner { text, edition, rows: room.rows.into(), errors })))
     }
 
-    /// The root, a `SOURCE_FILE`, which borrows the tree.
+    // The tree of a text and its rows, which no parse made: it has no errors of its own.
+    pub(crate) fn made(text: String, edition: Edition, rows: Vec<FlatRow>) -> Tree {
+        Tree(Arc::new(Inner { text: text.into(), edition, rows: rows.into(), errors: Box::default() }))
+    }
+
+    // Whether both have the same text and the same rows.
+    pub(crate) fn is_equal(&self, other: &Tree) -> bool {
+        self.is_same(other) || (self.0.text == other.0.text && self.0.rows == other.0.rows)
+    }
+
+    /// The root, which borrows the tree: a `SOURCE_FILE`, unless the tree was made of a part of another.
     pub fn root(&self) -> NodeRef<'_> {
         NodeRef::at(self, 0)
     }
@@ -236,7 +246,8 @@ impl Tree {
         self.0.edition
     }
 
-    /// What is wrong with the text: the errors of the parser, those of the lexer, and then what breaks rules beyond the grammar.
+    /// What is wrong with the text: the errors of the parser, those of the lexer, and then what breaks rules beyond the grammar. A tree that
+    /// was not parsed, as one that an editor made, has none.
     pub fn errors(&self) -> &[SyntaxError] {
         &self.0.errors
     }
