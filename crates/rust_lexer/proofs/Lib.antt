@@ -9,3 +9,5 @@ pub mod CommentFronts
 pub mod NumberFronts
 pub mod NameFronts
 pub mod QuoteFronts
+mod Bytes
+mod Plain

@@ -1,4 +1,5 @@
 pub mod Classes
+pub mod Fast
 pub mod Scans
 pub mod Shapes
 pub mod Cuts

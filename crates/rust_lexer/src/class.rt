@@ -1,6 +1,8 @@
 //! Classes of bytes and characters, and the longest prefix of a text in one.
 ghost use Rattle.std.specs.Prelude.{◌≡◌, slice_get, drop};
 ghost use Rattle.bstr.specs.Utf8.{decoded};
+ghost use Rattle.rust_lexer.specs.declared.class.Class.TheVariants as classes;
+ghost use Rattle.rust_lexer.specs.Fast.{begins_word_of, is_prefix_of, is_alone_of};
 ghost use Rattle.rust_lexer.specs.Classes.{is_letter_of, is_digit_of, is_hex_digit_of, is_in_of, is_space_of, is_name_start_of, is_name_continue_of, is_emoji_of, is_wide_of, skip_of, begins_of, begins_digit_of, begins_beyond_of, begins_wide_of, skip_wide_of};
 
 use bstr::decode_utf8;
@@ -46,6 +48,58 @@ pub enum Wide {
     Emoji,
 }
 
+// What each byte is: `a` for `_` and a letter, `b` for a letter that may also begin a literal, `d` for a digit, `s` for white space in
+// ASCII, `p` for a byte of ASCII that is a token of its own wherever a token begins, and `x` for all others.
+static BYTES: [u8; 256] = *b"\
+    pppppppppssssspppppppppppppppppp\
+    spxxpppxpppppppxddddddddddpppppp\
+    paaaaaaaaaaaaaaaaaaaaaaaaaappppa\
+    pabbaaaaaaaaaaaaaabaaaaaaaappppp\
+    xxxxxxxxxxxxxxxxxxxxxxxxxxxxxxxx\
+    xxxxxxxxxxxxxxxxxxxxxxxxxxxxxxxx\
+    xxxxxxxxxxxxxxxxxxxxxxxxxxxxxxxx\
+    xxxxxxxxxxxxxxxxxxxxxxxxxxxxxxxx";
+
+/// Whether it is white space in ASCII.
+#[inline(always)]
+pub fn is_blank(byte: u8) -> bool
+    ensures { result ≡ is_in_of classes.Space byte }
+{
+    BYTES[byte as usize] == b's'
+}
+
+/// Whether it is a letter of ASCII, a digit or `_`.
+#[inline(always)]
+fn is_name_byte(byte: u8) -> bool
+    ensures { result ≡ is_in_of classes.Name byte }
+{
+    BYTES[byte as usize] <= b'd'
+}
+
+/// Whether it is a letter of ASCII or `_`.
+#[inline(always)]
+pub fn begins_word(byte: u8) -> bool
+    ensures { result ≡ begins_word_of byte }
+{
+    BYTES[byte as usize] < b'd'
+}
+
+/// Whether it is one of the letters `r`, `b` and `c`, with which literals and raw names may begin.
+#[inline(always)]
+pub fn is_prefix(byte: u8) -> bool
+    ensures { result ≡ is_prefix_of byte }
+{
+    BYTES[byte as usize] == b'b'
+}
+
+/// Whether a token that begins with it is no longer than it.
+#[inline(always)]
+pub fn is_alone(byte: u8) -> bool
+    ensures { result ≡ is_alone_of byte }
+{
+    BYTES[byte as usize] == b'p'
+}
+
 /// Whether it is a letter of ASCII.
 #[inline]
 pub fn is_letter(byte: u8) -> bool
@@ -75,9 +129,9 @@ pub fn is_in(class: Class, byte: u8) -> bool
     ensures { result ≡ is_in_of class byte }
 {
     match class {
-        Class::Space => byte == b' ' || (9 <= byte && byte <= 13),
+        Class::Space => is_blank(byte),
         Class::Blank => byte == b' ' || byte == b'\t',
-        Class::Name => is_letter(byte) || is_digit(byte) || byte == b'_',
+        Class::Name => is_name_byte(byte),
         Class::Decimal => is_digit(byte) || byte == b'_',
         Class::Hexadecimal => is_hex_digit(byte) || byte == b'_',
         Class::Underscore => byte == b'_',

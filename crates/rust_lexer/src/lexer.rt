@@ -1,5 +1,7 @@
 //! The tokens of a text.
-ghost use Rattle.std.specs.Prelude.{◌≡◌, ◌≤◌, ◌<◌, ◌^◌, OnOk, IfOk, All, length};
+ghost use Rattle.std.specs.Prelude.{◌≡◌, ◌≤◌, ◌<◌, ◌^◌, ℕ, List, [], ◌∷◌, ◌++◌, OnOk, IfOk, All, length};
+ghost use Rattle.rust_lexer.specs.Shapes.{plain_of};
+ghost use Rattle.rust_lexer.specs.Tokens.{token_of};
 ghost use Rattle.rust_lexer.specs.Lexing.{size_of, range_of, content_of, faults_at, faults_with, prefix_problem_of, problems_of, lexing_of, taken, taken_some, taken_prelude, taken_head, steps_of, fresh, tokens_of, errors_of};
 ghost use Rattle.rust_lexer.specs.Contents.{content_problems, report_problems};
 ghost use Rattle.rust_lexer.specs.Heads.{prelude_of};
@@ -15,7 +17,7 @@ use crate::history::is_behind_code;
 use crate::problem::Problem;
 use crate::shape::{Fault, Shape};
 use crate::shebang::shebang;
-use crate::token::token;
+use crate::token::{plain_token, token};
 use literal_escape::{Mode, Units};
 use ras_front_end::Edition;
 use rust_kinds::kinds;
@@ -167,6 +169,66 @@ fn take<'a>(
     Ok(tail)
 }
 
+#[inline(always)]
+fn push(tokens: &mut Vec<Token>, token: Token) -> Result<(), AllocError>
+    ensures { OnOk result (tokens.new.items ≡ tokens.old.items ++ token ∷ []) }
+{
+    if tokens.len() < tokens.capacity() {
+        tokens.push_reserved(token);
+    } else {
+        tokens.push(token)?;
+    }
+    Ok(())
+}
+
+// Takes a token without a problem from the start of the rest, and returns what follows it.
+#[inline(always)]
+fn take_plain<'a>(
+    lexed: &mut Lexed,
+    rest: &'a str,
+    kind: SyntaxKind,
+    left: usize,
+) -> Result<&'a str, AllocError>
+    ensures { IfOk result (λ tail. (text : List ℕ) → lexing_of lexed.new tail.now ≡ taken text (plain_of kind left) (lexing_of lexed.old rest.now)) }
+{
+    let (front, tail) = split(rest, left);
+    let len = size(front.len());
+    push(&mut lexed.tokens, Token { kind, len })?;
+    Ok(tail)
+}
+
+// Takes the first token of the rest, whatever it is, and returns what follows it.
+#[inline(never)]
+fn take_any<'a>(
+    lexed: &mut Lexed,
+    text: &str,
+    rest: &'a str,
+    edition: Edition,
+) -> Result<&'a str, AllocError>
+    ensures { IfOk result (λ tail. lexing_of lexed.new tail.now ≡ taken text.now (token_of edition rest.now) (lexing_of lexed.old rest.now)) }
+{
+    take(lexed, text, rest, token(rest, edition))
+}
+
+// Takes the first token of the rest, and returns what follows it.
+#[inline(always)]
+fn take_next<'a>(
+    lexed: &mut Lexed,
+    text: &str,
+    rest: &'a str,
+    edition: Edition,
+) -> Result<&'a str, AllocError>
+    ensures { IfOk result (λ tail. lexing_of lexed.new tail.now ≡ taken text.now (token_of edition rest.now) (lexing_of lexed.old rest.now)) }
+{
+    match plain_token(rest, edition) {
+        Some((kind, left)) => {
+            let tail = take_plain(lexed, rest, kind, left)?;
+            Ok(tail)
+        }
+        None => take_any(lexed, text, rest, edition),
+    }
+}
+
 // Takes a token of this kind that ends `left` bytes before the end, if there is one and something is left.
 fn take_some<'a>(
     lexed: &mut Lexed,
@@ -221,7 +283,7 @@ fn take_all(lexed: &mut Lexed, text: &str, rest: &str, edition: Edition) -> Resu
         if rest.is_empty() {
             return Ok(());
         }
-        rest = take(lexed, text, rest, token(rest, edition))?;
+        rest = take_next(lexed, text, rest, edition)?;
     }
     Ok(())
 }

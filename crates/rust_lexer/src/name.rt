@@ -1,5 +1,6 @@
 //! Names and keywords.
-ghost use Rattle.std.specs.Prelude.{◌≡◌};
+ghost use Rattle.std.specs.Prelude.{◌≡◌, IfSome};
+ghost use Rattle.rust_lexer.specs.Shapes.{plain_of};
 ghost use Rattle.rust_lexer.specs.Names.{begins_name_of, begins_emoji_of, skip_name_of, skip_suffix_of, emoji_name_of, word_kind_of, prefix_of, name_of, begins_wide_name_of, is_literal_mark_of, begins_wide_emoji_of};
 
 use crate::class::{
@@ -83,10 +84,11 @@ pub fn emoji_name(rest: &[u8]) -> Shape
     )
 }
 
+#[inline(always)]
 fn word_kind(word: &str, edition: Edition) -> SyntaxKind
     ensures { result ≡ word_kind_of edition word.now }
 {
-    if word == "_" {
+    if word.len() == 1 && word == "_" {
         SyntaxKind::UNDERSCORE
     } else {
         match keyword(word, edition) {
@@ -140,4 +142,19 @@ pub fn name(text: &str, edition: Edition) -> Shape
     } else {
         Shape::plain(word_kind(word, edition), left)
     }
+}
+
+/// The kind of a name and the number of bytes after it, unless something follows it that needs a closer look: a character past ASCII, a
+/// quote or a `#`.
+#[inline(always)]
+pub fn plain_name(text: &str, edition: Edition) -> Option<(SyntaxKind, usize)>
+    ensures { IfSome result (λ r. name_of edition text.now ≡ plain_of r.0 r.1) }
+{
+    let rest = skip(Class::Name, text.as_bytes());
+    if begins_beyond(rest) || is_literal_mark(rest) {
+        return None;
+    }
+    let left = rest.len();
+    let (word, _) = split(text, left);
+    Some((word_kind(word, edition), left))
 }

@@ -5,6 +5,7 @@ ghost use Rattle.rust_lexer.specs.Signs.{sign_kind_of};
 use syntax_kind::SyntaxKind;
 
 /// The kind of the sign that the byte is, or `ERROR` if it is not one.
+#[inline(always)]
 pub fn sign_kind(byte: u8) -> SyntaxKind
     ensures { result ≡ sign_kind_of byte }
 {

@@ -1,7 +1,7 @@
 use Rattle.std.proofs.Common.{◌≡◌, ◌∙◌, sym, ap, length, ◌+◌, ◌-◌, arith, ℕ, subst}
 use Rattle.std.specs.Str.{IsUtf8}
-use Rattle.rust_lexer.specs.declared.shape.Shape.{Shape}
-use Rattle.rust_lexer.specs.Lexing.{Lexing, steps_of, lexing_of, taken}
+use Rattle.rust_lexer.specs.Lexing.{Lexing, steps_of, lexing_of}
+use Rattle.rust_lexer.specs.Tokens.{token_of}
 use Rattle.rust_lexer.proofs.Cutting.{back-utf8}
 use Rattle.rust_lexer.proofs.Steps.{steps-more, steps-stop, steps-end}
 use Rattle.rust_lexer.proofs.lexer.take_all.Goals as goal
@@ -27,11 +27,10 @@ pub loop-turn-preserved : goal.loop-turn-preserved
 loop-turn-preserved c =
     let s = lexing_of c.loop-turn.lexed c.loop-turn.rest.now in
     let e = steps-more (length c.args.text.now) c.loop-turn.turn c.args.edition c.args.text.now s c.loop-turn-test.true (sym c.is_empty.ensures ∙ c.if-is_empty.false) in
-    let t = c.in_ok-rest.ensures ∙ ap (λ (x : Shape). taken c.args.text.now x s) c.token.ensures in
     let rest_is = ap (λ (x : Lexing). x.rest) c.in_ok-rest.ensures in
     record {
-      is_text = subst IsUtf8 (sym rest_is) (back-utf8 c.token.result.left c.loop-turn.rest.now c.loop-turn.invariant.is_text);
-      same = ap (steps_of (length c.args.text.now - (c.loop-turn.turn + 1)) c.args.edition c.args.text.now) t ∙ (sym e ∙ c.loop-turn.invariant.same);
+      is_text = subst IsUtf8 (sym rest_is) (back-utf8 (token_of c.args.edition c.loop-turn.rest.now).left c.loop-turn.rest.now c.loop-turn.invariant.is_text);
+      same = ap (steps_of (length c.args.text.now - (c.loop-turn.turn + 1)) c.args.edition c.args.text.now) c.in_ok-rest.ensures ∙ (sym e ∙ c.loop-turn.invariant.same);
     }
 
 pub returns-clause-tokens : goal.returns-clause-tokens

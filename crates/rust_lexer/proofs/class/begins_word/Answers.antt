@@ -1,0 +1,15 @@
+-- The table is held against the definition at each of the 256 bytes, by computing.
+use Rattle.std.proofs.Common.{◌≡◌, ℕ, ◌<◌, Bool, true, nat_eq, nat_le, nat_lt, get_or, List, refl, arith}
+use Rattle.rust_lexer.specs.declared.class.TheConstants.{BYTES}
+use Rattle.rust_lexer.specs.Fast.{begins_word_of}
+use Rattle.rust_lexer.proofs.Bytes.{agree_below, agree_at}
+use Rattle.rust_lexer.proofs.class.begins_word.Goals as goal
+
+from_table : (table : List ℕ) (b : ℕ) → b < 256
+    → agree_below (λ k. nat_lt (get_or table k 0) 100) (begins_word_of) 256 ≡ true
+    → nat_lt (get_or table b 0) 100 ≡ begins_word_of b
+from_table table b lt h = agree_at _ _ 256 h b lt
+
+pub returns : goal.returns
+unfolding agree_below
+returns c = from_table BYTES c.args.byte (omega arith) refl

@@ -1,0 +1,16 @@
+-- The table is held against the definition at each of the 256 bytes, by computing.
+use Rattle.std.proofs.Common.{◌≡◌, ℕ, ◌<◌, Bool, true, nat_eq, nat_le, nat_lt, get_or, List, refl, arith}
+use Rattle.rust_lexer.specs.declared.class.TheConstants.{BYTES}
+use Rattle.rust_lexer.specs.declared.class.Class.TheVariants as classes
+use Rattle.rust_lexer.specs.Classes.{is_in_of}
+use Rattle.rust_lexer.proofs.Bytes.{agree_below, agree_at}
+use Rattle.rust_lexer.proofs.class.is_name_byte.Goals as goal
+
+from_table : (table : List ℕ) (b : ℕ) → b < 256
+    → agree_below (λ k. nat_le (get_or table k 0) 100) (is_in_of classes.Name) 256 ≡ true
+    → nat_le (get_or table b 0) 100 ≡ is_in_of classes.Name b
+from_table table b lt h = agree_at _ _ 256 h b lt
+
+pub returns : goal.returns
+unfolding agree_below
+returns c = from_table BYTES c.args.byte (omega arith) refl
