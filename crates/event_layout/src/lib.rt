@@ -6,6 +6,7 @@
 #![tactic(auto)]
 
 mod layout;
+pub mod laws;
 mod starts;
 mod trivia;
 
