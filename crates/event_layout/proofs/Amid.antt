@@ -1,7 +1,7 @@
 -- Orders that meet nothing of what is around a part of a text lay the same there.
-use Rattle.std.proofs.Common.{◌≡◌, ◌⊎◌, inl, inr, ℕ, zero, suc, ◌+◌, ◌-◌, ◌≤◌, ◌<◌, ◌^◌, List, [], ◌∷◌, ◌++◌, length, map, take, drop, fold, ap, ap₂, sym, ◌∙◌, refl, arith, subst, Option, Some, None, Bool, true, false, if◌then◌else◌, nat_lt, nat_eq, add-one, append_assoc, append-nil}
+use Rattle.std.proofs.Common.{◌≡◌, ◌⊎◌, inl, inr, ℕ, zero, suc, ◌+◌, ◌-◌, ◌≤◌, ◌<◌, ◌^◌, List, [], ◌∷◌, ◌++◌, length, take, drop, fold, ap, ap₂, sym, ◌∙◌, refl, arith, subst, Option, Some, None, Bool, true, false, if◌then◌else◌, nat_lt, nat_eq, add-one, append_assoc, append-nil}
 use Rattle.std.specs.Prelude.{◌&&◌, position}
-use Rattle.std.proofs.lemmas.Bool.{lt-ltb, le-ltb, ltb-true, ltb-false}
+use Rattle.std.proofs.lemmas.Bool.{lt-ltb, ltb-true, ltb-false}
 use Rattle.std.proofs.lemmas.List.{drop-take, drop-drop, length-append, length-drop, length-take, take-append-le, drop-append-le, map-append}
 use Rattle.std.proofs.lemmas.List.Quantifiers.{position-Some}
 use Rattle.syntax_kind.specs.declared.syntax_kind.SyntaxKind.{SyntaxKind}
@@ -15,7 +15,7 @@ use Rattle.event_layout.specs.declared.trivia.Keep.{Keep}
 use Rattle.event_layout.specs.Trivia.{lead, later_of, part_of, kept_of, attached_after, attached, attaches_of, outside_of}
 use Rattle.event_layout.specs.Layout.{Laying, leaf_of, pass_on, pass_of, pass_all_of, pass_trivia_of, joined_len, join_on, join_of, kind_of_part, len_of_part, cut_at, piece_on, piece_of, enter_of, exit_of, exit_all_of, fault_of, added, finish_of}
 use Rattle.event_layout.specs.Orders.{Order, begin_node, take_joined, take_part, end_node, say, nothing, ordered, walked}
-use Rattle.event_layout.specs.Amid.{Around, fault_amid, faults_amid, amid, IsIn, sum_len, first_len, Fits, HasLeft, Stays, AllStay}
+use Rattle.event_layout.specs.Amid.{Around, fault_amid, faults_amid, amid, IsIn, sum_len, first_len, Fits, Stays, AllStay}
 
 -- ---- white space and comments
 

@@ -1,31 +1,29 @@
 -- A piece is laid in its place as it is laid by itself.
-use Rattle.std.proofs.Common.{◌≡◌, ◌⊎◌, inl, inr, ℕ, zero, suc, ◌+◌, ◌-◌, ◌≤◌, ◌<◌, ◌^◌, List, [], ◌∷◌, ◌++◌, length, map, take, drop, ap, ap₂, sym, ◌∙◌, refl, arith, subst, Option, Some, None, Bool, true, false, if◌then◌else◌, nat_lt, append_assoc, append-nil}
+use Rattle.std.proofs.Common.{◌≡◌, inl, inr, ℕ, suc, ◌+◌, ◌-◌, ◌≤◌, ◌<◌, ◌^◌, List, [], ◌∷◌, ◌++◌, length, map, take, drop, ap, ap₂, sym, ◌∙◌, refl, arith, subst, Option, Some, None, Bool, true, false, if◌then◌else◌, nat_lt, append_assoc, append-nil}
 use Rattle.std.specs.Prelude.{All, ◌&&◌, option_map, option_and_then}
-use Rattle.std.proofs.lemmas.Bool.{lt-ltb}
-use Rattle.std.proofs.lemmas.List.{drop-drop, length-append, length-drop, length-map, take_all}
+use Rattle.std.proofs.lemmas.List.{length-append, length-drop, length-map, take_all}
 use Rattle.std.proofs.lemmas.List.Elements.{All-head, All-tail}
 use Rattle.std.proofs.Math.Seq.{take-append_seam, drop-append_seam}
 use Rattle.syntax_kind.specs.declared.syntax_kind.SyntaxKind.{SyntaxKind}
-use Rattle.ras_front_end.specs.Reading.{FrontStep, begins, ends}
+use Rattle.ras_front_end.specs.Reading.{begins, ends}
 use Rattle.token_layout.specs.declared.span.Token.{Token as RawToken}
 use Rattle.token_layout.specs.Laid.{IsCut}
 use Rattle.grammar_machine.specs.declared.event.Event.{Event}
 use Rattle.grammar_machine.specs.declared.event.Event.TheVariants.{Token, Piece, Node, Error}
 use Rattle.grammar_machine.specs.Framing.{moved_event, moved_events}
 use Rattle.grammar_machine.specs.Filling.{event_later}
-use Rattle.event_layout.specs.declared.layout.Fault.{Fault}
-use Rattle.event_layout.specs.Trivia.{lead, part_of, attached, attaches_of, outside_of}
-use Rattle.event_layout.specs.Layout.{Laying, added, pass_of, pass_all_of, enter_of, exit_of, exit_all_of, begin_with, finish_of, root_of}
+use Rattle.event_layout.specs.Trivia.{lead, attached, attaches_of, outside_of}
+use Rattle.event_layout.specs.Layout.{Laying, added, pass_all_of, enter_of, exit_all_of, begin_with, finish_of, root_of}
 use Rattle.event_layout.specs.Made.{node_of}
 use Rattle.event_layout.specs.Orders.{Order, begin_node, end_node, nothing, ordered, walked, Turn, turn, turns, kinds_at, orders_of, begun_at, ordered_of}
-use Rattle.event_layout.specs.Amid.{Around, faults_amid, amid, IsIn, sum_len, first_len, Fits, AllStay}
-use Rattle.event_layout.specs.Filled.{Stretch, Setting, events_in, set_in, alone, laid, past_lead, left_by, left_after, is_error_of, IsSetting, IsPiece, IsShort, LaidAround}
+use Rattle.event_layout.specs.Amid.{Around, faults_amid, amid, IsIn, sum_len, first_len, Fits}
+use Rattle.event_layout.specs.Filled.{Stretch, Setting, events_in, set_in, alone, laid, past_lead, left_after, is_error_of, IsSetting, IsPiece, IsShort, LaidAround}
 use Rattle.event_layout.proofs.Moves.{pass_all_none, exit_all_none}
-use Rattle.event_layout.proofs.Walking.{one_before, one_node}
+use Rattle.event_layout.proofs.Walking.{one_node}
 use Rattle.event_layout.proofs.Ordering.{bare, walked_bare, pass_all_bare, walked_both, layouts_ordered}
 use Rattle.event_layout.proofs.Amid.{lead_none, lead_le, lead_both, passed_rest, passed_depth, pass_all_fits, walked_fits, pass_all_in, finish_amid, walked_amid}
 use Rattle.event_layout.proofs.Turning.{NodeIn, Within, turns_both, turns_within, turns_length, none_at, turns_before, turns_inside, turns_behind, orders_before, orders_at, orders_inside, orders_behind, filled_orders, alone_orders}
-use Rattle.event_layout.proofs.Staying.{begun, ended, begun_all, begun_both, begun_few, begun_zero, ended_both, kinds_few, Leaves, leaves_past, past_length, some_left, enter_is, exit_is, begins_rest, begins_le, orders_le, easy_stay, begins_stay, Ready, Stayed, stays, ready_easy}
+use Rattle.event_layout.proofs.Staying.{begun, ended, begun_all, begun_both, begun_few, begun_zero, ended_both, kinds_few, Leaves, leaves_past, some_left, enter_is, exit_is, begins_rest, begins_le, orders_le, easy_stay, begins_stay, Ready, Stayed, stays, ready_easy}
 
 -- ---- the piece's own events
 

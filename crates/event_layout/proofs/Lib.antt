@@ -12,3 +12,4 @@ pub mod Amid
 pub mod Turning
 pub mod Staying
 pub mod Filled
+pub mod Inserting

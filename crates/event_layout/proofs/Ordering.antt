@@ -1,7 +1,6 @@
 -- The walk over the events does what they order.
-use Rattle.std.proofs.Common.{◌≡◌, ℕ, zero, suc, ◌+◌, ◌-◌, ◌≤◌, ◌<◌, ◌^◌, min, List, [], ◌∷◌, ◌++◌, length, drop, map, ap, sym, ◌∙◌, refl, arith, subst, Option, Some, None, Bool, true, false, if◌then◌else◌, nat_lt, nat_eq, append_assoc, append-nil, slice_get}
+use Rattle.std.proofs.Common.{◌≡◌, ℕ, zero, suc, ◌+◌, ◌-◌, ◌<◌, ◌^◌, min, List, [], ◌∷◌, ◌++◌, length, drop, map, ap, sym, ◌∙◌, refl, arith, Option, Some, None, Bool, true, false, if◌then◌else◌, nat_lt, nat_eq, append_assoc, append-nil, slice_get}
 use Rattle.std.specs.Prelude.{position}
-use Rattle.std.proofs.lemmas.List.{map-append}
 use Rattle.syntax_kind.specs.declared.syntax_kind.SyntaxKind.{SyntaxKind}
 use Rattle.ras_front_end.specs.Reading.{begins, ends}
 use Rattle.token_layout.specs.declared.span.Token.{Token as RawToken}
@@ -10,9 +9,9 @@ use Rattle.grammar_machine.specs.declared.event.Event.TheVariants.{Token, Piece,
 use Rattle.grammar_machine.specs.declared.event.Part.{Part}
 use Rattle.event_layout.specs.Trivia.{lead, part_of, outside_of}
 use Rattle.event_layout.specs.Starts.{number_at}
-use Rattle.event_layout.specs.Layout.{Given, Laying, given, root_of, added, pass_on, pass_of, pass_all_of, pass_trivia_of, join_on, join_of, kind_of_part, cut_at, piece_on, piece_of, enter_of, exit_of, exit_all_of, begin_of, begin_with, begin_at_of, fault_of, obey_of, obey_at_of, entering_of, going_of, plus_of, moves, moves_of, start_of, finish_of, laid_with, laid_of}
+use Rattle.event_layout.specs.Layout.{Given, Laying, given, root_of, added, pass_on, pass_of, pass_all_of, pass_trivia_of, join_on, join_of, kind_of_part, cut_at, piece_on, piece_of, enter_of, exit_of, exit_all_of, begin_with, begin_at_of, obey_of, obey_at_of, entering_of, plus_of, moves, moves_of, start_of, finish_of, laid_of}
 use Rattle.event_layout.specs.Made.{Span, node_of}
-use Rattle.event_layout.specs.Orders.{Order, begin_node, take_joined, take_part, end_node, say, nothing, ordered, walked, Turn, order_of, turn, turns, kind_if, kinds_at, orders_from, orders_of, begun_at, ordered_of, LaidAlike}
+use Rattle.event_layout.specs.Orders.{Order, begin_node, take_joined, take_part, end_node, say, nothing, ordered, walked, order_of, turns, kind_if, kinds_at, orders_from, orders_of, begun_at, ordered_of, LaidAlike}
 use Rattle.event_layout.proofs.Chains.{with_number, numbers_at, starts_linked, first_at}
 use Rattle.event_layout.proofs.Walking.{enter_all, upto, all_moves}
 

@@ -1,7 +1,7 @@
 -- The orders of events that take the tokens of a part stay in it.
-use Rattle.std.proofs.Common.{◌≡◌, ◌⊎◌, inl, inr, ℕ, zero, suc, ◌+◌, ◌-◌, ◌≤◌, ◌<◌, ◌^◌, min, List, [], ◌∷◌, ◌++◌, length, map, take, drop, ap, ap₂, sym, ◌∙◌, refl, arith, subst, Option, Some, None, Bool, true, false, if◌then◌else◌, nat_lt, nat_eq, add-one}
+use Rattle.std.proofs.Common.{◌≡◌, ◌⊎◌, inl, inr, ℕ, suc, ◌+◌, ◌-◌, ◌≤◌, ◌<◌, ◌^◌, min, List, [], ◌∷◌, ◌++◌, length, map, drop, ap, ap₂, sym, ◌∙◌, refl, arith, subst, Option, Some, None, Bool, true, false, if◌then◌else◌, nat_lt, nat_eq, add-one}
 use Rattle.std.specs.Prelude.{nat_le, option_map, option_and_then, position}
-use Rattle.std.proofs.lemmas.Bool.{lt-ltb, le-ltb, ltb-true, ltb-false}
+use Rattle.std.proofs.lemmas.Bool.{lt-ltb, le-ltb}
 use Rattle.std.proofs.lemmas.Bool.Decides.{nat_tests}
 use Rattle.std.proofs.lemmas.List.{drop-drop, length-append, length-drop}
 use Rattle.syntax_kind.specs.declared.syntax_kind.SyntaxKind.{SyntaxKind}
@@ -11,9 +11,9 @@ use Rattle.grammar_machine.specs.declared.event.Event.{Event}
 use Rattle.grammar_machine.specs.declared.event.Event.TheVariants.{Token, Piece, Node, Error}
 use Rattle.grammar_machine.specs.declared.event.Part.{Part}
 use Rattle.event_layout.specs.Trivia.{lead, part_of, outside_of}
-use Rattle.event_layout.specs.Layout.{Laying, pass_on, pass_of, pass_all_of, pass_trivia_of, join_on, join_of, kind_of_part, cut_at, piece_on, piece_of, enter_of, exit_of}
+use Rattle.event_layout.specs.Layout.{Laying, pass_all_of, pass_trivia_of, join_on, join_of, kind_of_part, cut_at, piece_on, piece_of, enter_of, exit_of}
 use Rattle.event_layout.specs.Made.{Span, node_of}
-use Rattle.event_layout.specs.Orders.{Order, begin_node, take_joined, take_part, end_node, say, nothing, ordered, walked, Turn, order_of, turn, turns, kind_if, kinds_at, orders_from}
+use Rattle.event_layout.specs.Orders.{Order, begin_node, take_joined, take_part, end_node, say, nothing, ordered, walked, Turn, order_of, turns, kind_if, kinds_at, orders_from}
 use Rattle.event_layout.specs.Amid.{Around, HasLeft, Stays, AllStay}
 use Rattle.event_layout.specs.Filled.{past_lead, taken, left_by, left_after}
 use Rattle.event_layout.proofs.Walking.{one_before, one_node}

@@ -1,5 +1,5 @@
 -- The orders of a text are those of what is around a piece, with the piece's own in its place.
-use Rattle.std.proofs.Common.{◌≡◌, ◌⊎◌, inl, inr, ℕ, zero, suc, ◌+◌, ◌-◌, ◌≤◌, ◌<◌, min, List, [], ◌∷◌, ◌++◌, length, map, ap, ap₂, sym, ◌∙◌, refl, arith, subst, Option, Some, None, Bool, true, false, if◌then◌else◌, nat_eq, append_assoc, append-nil, slice_get}
+use Rattle.std.proofs.Common.{◌≡◌, ◌⊎◌, inl, inr, ℕ, zero, suc, ◌+◌, ◌≤◌, ◌<◌, min, List, [], ◌∷◌, ◌++◌, length, map, ap, ap₂, sym, ◌∙◌, refl, arith, subst, Option, Some, None, Bool, true, false, if◌then◌else◌, nat_eq, append_assoc, append-nil, slice_get}
 use Rattle.std.specs.Prelude.{nat_le, option_map}
 use Rattle.std.proofs.lemmas.Bool.{eqb-true, eqb-false}
 use Rattle.std.proofs.lemmas.Bool.Decides.{nat_tests}
@@ -10,9 +10,9 @@ use Rattle.grammar_machine.specs.declared.event.Event.{Event}
 use Rattle.grammar_machine.specs.declared.event.Event.TheVariants.{Token, Piece, Node, Error}
 use Rattle.grammar_machine.specs.Framing.{moved_event, moved_events}
 use Rattle.grammar_machine.specs.Filling.{later_than, event_later}
-use Rattle.event_layout.specs.Layout.{root_from, root_of, is_node_of, is_node_at}
+use Rattle.event_layout.specs.Layout.{root_from, root_of, is_node_at}
 use Rattle.event_layout.specs.Made.{Span, node_of}
-use Rattle.event_layout.specs.Orders.{Order, begin_node, take_joined, take_part, end_node, say, nothing, Turn, order_of, turn, turns, kind_if, kinds_at, orders_from, orders_of}
+use Rattle.event_layout.specs.Orders.{Order, begin_node, end_node, nothing, Turn, turn, turns, kind_if, kinds_at, orders_from, orders_of}
 
 -- ---- lists of turns
 
@@ -172,7 +172,7 @@ later_span e n (Some s) = Some (record s { from = later_than e n s.from })
 abbrev pub later_turn : ℕ → ℕ → Turn → Turn
 later_turn e n t = record t { node = later_span e n t.node }
 
-later_low : (e n i : ℕ) → i ≤ e → later_than e n i ≡ i
+pub later_low : (e n i : ℕ) → i ≤ e → later_than e n i ≡ i
 later_low e n i h = by_test (nat_le i e) refl
   where
     by_test : (x : Bool) → nat_le i e ≡ x → (if x then i else i + n) ≡ i

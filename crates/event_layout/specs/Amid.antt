@@ -1,4 +1,4 @@
--- What is laid of a part of a text does not depend on what stands around it: a law of the definitions.
+-- What is laid of a part of a text does not depend on what is around it: a law of the definitions.
 use Rattle.std.specs.Prelude.{◌≡◌, ℕ, ◌+◌, ◌-◌, ◌<◌, ◌≤◌, ◌^◌, List, [], ◌∷◌, ◌++◌, map, length}
 use Rattle.syntax_kind.specs.declared.syntax_kind.SyntaxKind.{SyntaxKind}
 use Rattle.ras_front_end.specs.Reading.{FrontStep}
@@ -8,7 +8,8 @@ use Rattle.event_layout.specs.Trivia.{lead, part_of}
 use Rattle.event_layout.specs.Layout.{Laying}
 use Rattle.event_layout.specs.Orders.{Order, begin_node, take_joined, take_part, end_node, say, nothing, ordered, walked}
 
--- what is around a part: how many bytes are before it, the tokens behind it, how many nodes are open, and what is laid already
+-- what is around a part: how many bytes are before it, the tokens behind it, how many nodes are open,
+-- and what is laid already
 pub record Around : Type 0 where
   pub bytes : ℕ
   pub behind : List RawToken
@@ -59,7 +60,8 @@ HasLeft n a s = length s.rest < lead s.rest + n → a.behind ≡ []
 -- an order meets nothing of what is around
 abbrev pub Stays : Around → Order → Laying → Type 0
 Stays a (begin_node k) s =
-    (lead s.rest ≡ length s.rest → lead a.behind ≡ 0) × (0 < a.open_nodes → s.depth + a.open_nodes < 2 ^ 64 - 1)
+    (lead s.rest ≡ length s.rest → lead a.behind ≡ 0)
+    × (0 < a.open_nodes → s.depth + a.open_nodes < 2 ^ 64 - 1)
 Stays a (take_joined k more) s = HasLeft (more + 1) a s
 Stays a (take_part p) s = HasLeft 1 a s
 Stays a end_node s = 0 < a.open_nodes → 0 < s.depth
@@ -69,11 +71,13 @@ Stays a nothing s = Unit
 -- so do all of them
 abbrev pub AllStay : List ℕ → List SyntaxKind → Around → List Order → Laying → Type 0
 AllStay text attaching a [] s = Unit
-AllStay text attaching a (o ∷ os) s = Stays a o s × AllStay text attaching a os (ordered text attaching o s)
+AllStay text attaching a (o ∷ os) s =
+    Stays a o s × AllStay text attaching a os (ordered text attaching o s)
 
 -- orders that meet nothing of what is around lay the same there
 abbrev pub PartsAreLaidAlike : Type 0
 PartsAreLaidAlike =
     (text whole : List ℕ) (attaching : List SyntaxKind) (a : Around) (os : List Order) (s : Laying)
-    → IsIn text a.bytes whole → length text + a.bytes < 2 ^ 32 → Fits text s → AllStay text attaching a os s
+    → IsIn text a.bytes whole → length text + a.bytes < 2 ^ 32
+    → Fits text s → AllStay text attaching a os s
     → walked whole attaching os (amid a s) ≡ amid a (walked text attaching os s)

@@ -1,5 +1,5 @@
 -- What events tell the layout to do, one order after the other. Orders have no numbers of events.
-use Rattle.std.specs.Prelude.{◌≡◌, ℕ, zero, suc, ◌-◌, ◌<◌, ◌^◌, nat_eq, if◌then◌else◌, Bool, true, false, Option, Some, None, List, [], ◌∷◌, ◌++◌, map, length}
+use Rattle.std.specs.Prelude.{◌≡◌, ℕ, suc, ◌-◌, ◌<◌, ◌^◌, nat_eq, if◌then◌else◌, Option, Some, None, List, [], ◌∷◌, ◌++◌, map, length}
 use Rattle.syntax_kind.specs.declared.syntax_kind.SyntaxKind.{SyntaxKind}
 use Rattle.ras_front_end.specs.Reading.{begins}
 use Rattle.token_layout.specs.declared.span.Token.{Token as RawToken}
@@ -73,7 +73,11 @@ orders_of es = orders_from (turns (root_of es) 0 es) 0 (turns (root_of es) 0 es)
 
 -- the root has begun
 abbrev pub begun_at : SyntaxKind → List RawToken → Laying
-begun_at root ts = record { next = 0; entering = 0; rest = ts; cut = 0; position = 0; depth = 0; steps = begins root ∷ []; faults = [] }
+begun_at root ts = record {
+  next = 0; entering = 0;
+  rest = ts; cut = 0; position = 0; depth = 0;
+  steps = begins root ∷ []; faults = [];
+}
 
 -- one node over all tokens, and in it what the orders make of them
 abbrev pub ordered_of : SyntaxKind → List SyntaxKind → List ℕ → List RawToken → List Order → Laying
@@ -87,6 +91,8 @@ pub record LaidAlike (s t : Laying) : Type 0 where
 -- what is laid of events is what their orders make
 abbrev pub LayoutsObeyOrders : Type 0
 LayoutsObeyOrders =
-    (root : SyntaxKind) (attaching : List SyntaxKind) (text : List ℕ) (ts : List RawToken) (es : List Event)
+    (root : SyntaxKind) (attaching : List SyntaxKind)
+    (text : List ℕ) (ts : List RawToken) (es : List Event)
     → length es < 2 ^ 32
-    → LaidAlike (laid_of root attaching text ts es) (ordered_of root attaching text ts (orders_of es))
+    → LaidAlike (laid_of root attaching text ts es)
+        (ordered_of root attaching text ts (orders_of es))
