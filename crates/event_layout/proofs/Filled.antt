@@ -76,28 +76,31 @@ module _ (text : List ℕ) (attaching : List SyntaxKind) (a : Around) (body : Li
   ready_tail : (pre more : List Event) (m gone : ℕ) (ts : List RawToken) → es ≡ pre ++ more → m ≡ length pre → gone ≡ ended (turns (length es) 0 pre) → length body ≤ m
       → Ready text attaching a (length es) (turns_inside es) room m gone more ts
   ready_tail pre [] m gone ts at count so_far behind = tt
-  ready_tail pre (e ∷ more) m gone ts at count so_far behind =
-      (λ some empty. absurd (omega (arith, some, ap length (none_at m 0 (length body) (turns_inside es) nodes_in_body (inr behind)))),
-      λ some. rises pre e more m gone at count so_far,
-      λ us left. ready_tail (pre ++ e ∷ []) more (suc m) (gone + one_node (node_of (length es) m (Some e))) us
-      (at ∙ sym (append_assoc pre (e ∷ []) more)) (omega (arith, count, length-append pre (e ∷ []))) (more_gone pre e m gone count so_far) (omega (arith, behind)))
+  ready_tail pre (e ∷ more) m gone ts at count so_far behind = (
+    λ some empty. absurd (omega (arith, some, ap length (none_at m 0 (length body) (turns_inside es) nodes_in_body (inr behind)))),
+    λ some. rises pre e more m gone at count so_far,
+    λ us left. ready_tail (pre ++ e ∷ []) more (suc m) (gone + one_node (node_of (length es) m (Some e))) us
+        (at ∙ sym (append_assoc pre (e ∷ []) more)) (omega (arith, count, length-append pre (e ∷ []))) (more_gone pre e m gone count so_far) (omega (arith, behind)),
+  )
 
   ready_body : (pre own : List Event) (m gone : ℕ) (ts us : List RawToken) → es ≡ pre ++ (own ++ Token kind signs ∷ errors) → m ≡ length pre → gone ≡ ended (turns (length es) 0 pre)
       → length body ≡ length pre + length own → left_after (own ++ Token kind signs ∷ errors) ts ≡ Some us
       → Ready text attaching a (length es) (turns_inside es) room m gone (own ++ Token kind signs ∷ errors) ts
   ready_body pre [] m gone ts us at count so_far long left =
-      let e = Token kind signs in
-      (λ some empty. absurd (omega (arith, empty, some_left [] kind signs errors ts us left)),
-      λ some. rises pre e errors m gone at count so_far,
-      λ vs by. ready_tail (pre ++ e ∷ []) errors (suc m) (gone + one_node (node_of (length es) m (Some e))) vs
-      (at ∙ sym (append_assoc pre (e ∷ []) errors)) (omega (arith, count, length-append pre (e ∷ []))) (more_gone pre e m gone count so_far) (omega (arith, count, long)))
+      let e = Token kind signs in (
+        λ some empty. absurd (omega (arith, empty, some_left [] kind signs errors ts us left)),
+        λ some. rises pre e errors m gone at count so_far,
+        λ vs by. ready_tail (pre ++ e ∷ []) errors (suc m) (gone + one_node (node_of (length es) m (Some e))) vs
+            (at ∙ sym (append_assoc pre (e ∷ []) errors)) (omega (arith, count, length-append pre (e ∷ []))) (more_gone pre e m gone count so_far) (omega (arith, count, long)),
+      )
   ready_body pre (e ∷ own) m gone ts us at count so_far long left =
-      let more = own ++ Token kind signs ∷ errors in
-      (λ some empty. absurd (omega (arith, empty, some_left (e ∷ own) kind signs errors ts us left)),
-      λ some. rises pre e more m gone at count so_far,
-      λ vs by. ready_body (pre ++ e ∷ []) own (suc m) (gone + one_node (node_of (length es) m (Some e))) vs us
-      (at ∙ sym (append_assoc pre (e ∷ []) more)) (omega (arith, count, length-append pre (e ∷ []))) (more_gone pre e m gone count so_far)
-      (omega (arith, long, length-append pre (e ∷ []))) (sym (ap (option_and_then (left_after more)) by) ∙ left))
+      let more = own ++ Token kind signs ∷ errors in (
+        λ some empty. absurd (omega (arith, empty, some_left (e ∷ own) kind signs errors ts us left)),
+        λ some. rises pre e more m gone at count so_far,
+        λ vs by. ready_body (pre ++ e ∷ []) own (suc m) (gone + one_node (node_of (length es) m (Some e))) vs us
+            (at ∙ sym (append_assoc pre (e ∷ []) more)) (omega (arith, count, length-append pre (e ∷ []))) (more_gone pre e m gone count so_far)
+            (omega (arith, long, length-append pre (e ∷ []))) (sym (ap (option_and_then (left_after more)) by) ∙ left),
+      )
 
   pub ready_piece : (ts us : List RawToken) → left_after es ts ≡ Some us → Ready text attaching a (length es) (turns_inside es) room 0 0 es ts
   ready_piece ts us left =
@@ -204,10 +207,16 @@ module _ (root : SyntaxKind) (attaching : List SyntaxKind) (s : Setting) (h : Is
   before_low =
       let e = length s.before.events in
       let all = turns_before s.before.events ++ turns_behind e s.behind.events in
-      omega (arith, passed_depth (lead at_state.rest) at_state,
-      begins_le s.before.text attaching (kinds_at e (turns_behind e s.behind.events)) first_state,
-      kinds_few e (turns_behind e s.behind.events), turns_length (suc e + root_of s.behind.events) (suc e) s.behind.events,
-      orders_le s.before.text attaching e all s.before.events 0 (begun_at root s.before.tokens), begun_few (0 + e) all, all_before)
+      omega (
+        arith,
+        passed_depth (lead at_state.rest) at_state,
+        begins_le s.before.text attaching (kinds_at e (turns_behind e s.behind.events)) first_state,
+        kinds_few e (turns_behind e s.behind.events),
+        turns_length (suc e + root_of s.behind.events) (suc e) s.behind.events,
+        orders_le s.before.text attaching e all s.before.events 0 (begun_at root s.before.tokens),
+        begun_few (0 + e) all,
+        all_before,
+      )
 
   module _ (p : Stretch) (hp : IsPiece p) (short : IsShort (set_in s p)) where
     abbrev whole_text : List ℕ
@@ -245,8 +254,14 @@ module _ (root : SyntaxKind) (attaching : List SyntaxKind) (s : Setting) (h : Is
     event_sum =
         let m = moved_events (length s.before.events) p.events in
         let l = map (event_later (length s.before.events) (length p.events)) s.behind.events in
-        omega (arith, short.events, length-append s.before.events (m ++ Node s.kind (length s.before.events) ∷ l), length-append m (Node s.kind (length s.before.events) ∷ l),
-        length-map p.events (moved_event (length s.before.events)), length-map s.behind.events (event_later (length s.before.events) (length p.events)))
+        omega (
+          arith,
+          short.events,
+          length-append s.before.events (m ++ Node s.kind (length s.before.events) ∷ l),
+          length-append m (Node s.kind (length s.before.events) ∷ l),
+          length-map p.events (moved_event (length s.before.events)),
+          length-map s.behind.events (event_later (length s.before.events) (length p.events)),
+        )
 
     none_top : 0 < 0 → ⊥
     none_top some = omega (arith, some)

@@ -326,9 +326,10 @@ module _ (text : List ℕ) (attaching : List SyntaxKind) where
     begins_stay [] s clear low = tt
     begins_stay (k ∷ ks) s clear low =
         let t = ordered text attaching (begin_node k) s in
-        let same : length (past_lead t.rest) ≡ length (past_lead s.rest) = ap (λ rest. length (past_lead rest)) (begin_rest k s) ∙ ap length (past_past s.rest) in
-        ((λ e. clear (omega arith) (omega (arith, past_length s.rest, e)), λ some. omega (arith, low some)),
-        begins_stay ks t (λ some none. clear (omega arith) (omega (arith, none, same))) (λ some. omega (arith, low some, begin_depth k s (omega (arith, low some)))))
+        let same : length (past_lead t.rest) ≡ length (past_lead s.rest) = ap (λ rest. length (past_lead rest)) (begin_rest k s) ∙ ap length (past_past s.rest) in (
+          (λ e. clear (omega arith) (omega (arith, past_length s.rest, e)), λ some. omega (arith, low some)),
+          begins_stay ks t (λ some none. clear (omega arith) (omega (arith, none, same))) (λ some. omega (arith, low some, begin_depth k s (omega (arith, low some)))),
+        )
 
     enough_left : (n : ℕ) (s : Laying) (ts : List RawToken) → Leaves s.rest ts → n ≤ length (past_lead ts) → HasLeft n a s
     enough_left n s ts h some = λ less. absurd (omega (arith, less, some, past_length s.rest, ap length (leaves_past s.rest ts h), lead_le s.rest))

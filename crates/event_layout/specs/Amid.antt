@@ -8,8 +8,8 @@ use Rattle.event_layout.specs.Trivia.{lead, part_of}
 use Rattle.event_layout.specs.Layout.{Laying}
 use Rattle.event_layout.specs.Orders.{Order, begin_node, take_joined, take_part, end_node, say, nothing, ordered, walked}
 
--- what is around a part: how many bytes are before it, the tokens behind it, how many nodes are open,
--- and what is laid already
+-- what is around a part: how many bytes are before it, the tokens behind it, how many nodes are
+-- open, and what is laid already
 pub record Around : Type 0 where
   pub bytes : ℕ
   pub behind : List RawToken

@@ -120,7 +120,7 @@ pub record LaidAround (root : SyntaxKind) (attaching : List SyntaxKind) (s : Set
       → (laid root attaching (set_in s p)).faults
       ≡ faults_amid 0 (length (p.tokens ++ s.behind.tokens)) faults_before
       ++ (faults_amid (length s.before.text) (length s.behind.tokens)
-          (laid s.kind attaching (alone s.kind p)).faults
+      (laid s.kind attaching (alone s.kind p)).faults
       ++ faults_amid (length (s.before.text ++ p.text)) 0 faults_behind)
 
 abbrev pub PiecesAreLaidInPlace : Type 0
@@ -136,7 +136,7 @@ abbrev pub FilledEventsAreSetIn : Type 0
 FilledEventsAreSetIn =
     (s : Setting) (es : List Event)
     → reverse (inserted (length s.before.events)
-        (reverse (moved_events (length s.before.events) es))
-        (reverse s.behind.events
-          ++ Node s.kind (length s.before.events) ∷ reverse s.before.events))
+    (reverse (moved_events (length s.before.events) es))
+    (reverse s.behind.events
+    ++ Node s.kind (length s.before.events) ∷ reverse s.before.events))
     ≡ events_in s es

@@ -74,9 +74,14 @@ orders_of es = orders_from (turns (root_of es) 0 es) 0 (turns (root_of es) 0 es)
 -- the root has begun
 abbrev pub begun_at : SyntaxKind → List RawToken → Laying
 begun_at root ts = record {
-  next = 0; entering = 0;
-  rest = ts; cut = 0; position = 0; depth = 0;
-  steps = begins root ∷ []; faults = [];
+  next = 0;
+  entering = 0;
+  rest = ts;
+  cut = 0;
+  position = 0;
+  depth = 0;
+  steps = begins root ∷ [];
+  faults = [];
 }
 
 -- one node over all tokens, and in it what the orders make of them
@@ -95,4 +100,4 @@ LayoutsObeyOrders =
     (text : List ℕ) (ts : List RawToken) (es : List Event)
     → length es < 2 ^ 32
     → LaidAlike (laid_of root attaching text ts es)
-        (ordered_of root attaching text ts (orders_of es))
+    (ordered_of root attaching text ts (orders_of es))

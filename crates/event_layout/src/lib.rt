@@ -5,8 +5,8 @@
 //! whatever the events are.
 #![tactic(auto)]
 
-mod layout;
 pub mod laws;
+mod layout;
 mod starts;
 mod trivia;
 
