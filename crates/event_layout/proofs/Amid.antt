@@ -19,7 +19,7 @@ use Rattle.event_layout.specs.Amid.{Around, fault_amid, faults_amid, amid, IsIn,
 
 -- ---- white space and comments
 
-lead_more : (t : RawToken) (ts : List RawToken) → lead (t ∷ ts) ≡ (if is_trivia t.kind then lead ts + 1 else 0)
+pub lead_more : (t : RawToken) (ts : List RawToken) → lead (t ∷ ts) ≡ (if is_trivia t.kind then lead ts + 1 else 0)
 unfolding lead
 lead_more t ts = refl
 

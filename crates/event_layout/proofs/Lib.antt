@@ -13,3 +13,4 @@ pub mod Turning
 pub mod Staying
 pub mod Filled
 pub mod Inserting
+pub mod Taking

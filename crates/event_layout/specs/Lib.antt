@@ -5,3 +5,4 @@ pub mod Made
 pub mod Orders
 pub mod Amid
 pub mod Filled
+pub mod Taking

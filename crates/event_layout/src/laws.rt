@@ -2,6 +2,7 @@
 ghost use Rattle.event_layout.specs.Orders.{LayoutsObeyOrders};
 ghost use Rattle.event_layout.specs.Amid.{PartsAreLaidAlike};
 ghost use Rattle.event_layout.specs.Filled.{PiecesAreLaidInPlace, FilledEventsAreSetIn};
+ghost use Rattle.event_layout.specs.Taking.{EventsLeaveWhatIsSeen};
 
 /// What is laid of events is what they order, one order after the other: which nodes begin before an
 /// event, which tokens it takes, which node it ends.
@@ -29,4 +30,10 @@ pub fn pieces_are_laid_in_place()
 /// those of a text with a piece in it.
 pub fn filled_events_are_set_in()
     ensures { FilledEventsAreSetIn }
+{}
+
+/// Events that find their tokens, and join none that white space or comments part, leave those that a
+/// parser sees but for as many as they take.
+pub fn events_leave_what_is_seen()
+    ensures { EventsLeaveWhatIsSeen }
 {}
