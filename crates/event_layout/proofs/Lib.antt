@@ -7,3 +7,10 @@ pub mod Chains
 pub mod Walking
 pub mod Seeing
 pub mod Making
+pub mod Ordering
+pub mod Amid
+pub mod Turning
+pub mod Staying
+pub mod Filled
+pub mod Inserting
+pub mod Taking

@@ -280,6 +280,7 @@ pub record Idle (g : Given) (s t : Laying) : Type 0 where
   pub position : t.position ≡ s.position
   pub depth : t.depth ≡ s.depth
   pub steps : t.steps ≡ s.steps
+  pub faults : t.faults ≡ s.faults
 
 idle_once : (g : Given) (s t : Laying) → length g.events ≤ 2 ^ 32 - 1 → length g.links.last ≡ length g.events → Idle g s t → Idle g s (advance_of g t)
 idle_once g s t small slots h =
@@ -287,7 +288,7 @@ idle_once g s t small slots h =
     let u : Laying = record t { next = plus_of t.next; entering = number_at g.links.last (plus_of t.next) } in
     let on : length g.events ≤ plus_of t.next = omega (arith, h.next, small) in
     let is : advance_of g t ≡ u = advance_goes g t t.next h.entering refl ∙ ap (λ o. obey_at_of g o t.next u) none in
-    let idle : Idle g s u = record { next = on; entering = past_last g.links.last (plus_of t.next) (omega (arith, on, slots)); rest = h.rest; cut = h.cut; position = h.position; depth = h.depth; steps = h.steps } in
+    let idle : Idle g s u = record { next = on; entering = past_last g.links.last (plus_of t.next) (omega (arith, on, slots)); rest = h.rest; cut = h.cut; position = h.position; depth = h.depth; steps = h.steps; faults = h.faults } in
     subst (Idle g s) (sym is) idle
 
 pub idle : (n : ℕ) (g : Given) (s t : Laying) → length g.events ≤ 2 ^ 32 - 1 → length g.links.last ≡ length g.events → Idle g s t → Idle g s (moves n g t)
@@ -306,5 +307,5 @@ all_moves g s start enters small links =
     let few : nodes_before g.root g.events all all ≤ all = before_few g.root g.events all all in
     let twice : moves_of all ≡ (all - nodes_before g.root g.events all all) + count = min-eq_left (omega (arith, small)) ∙ omega (arith, few) in
     let is : moves (moves_of all) g s ≡ moves (all - nodes_before g.root g.events all all) g u = ap (λ n. moves n g s) twice ∙ moves_both (all - nodes_before g.root g.events all all) count g s ∙ ap (moves (all - nodes_before g.root g.events all all) g) r.moved in
-    let here : Idle g u u = record { next = omega (arith, r.next); entering = r.entering ∙ past_last g.links.last all (omega (arith, links.slots)); rest = refl; cut = refl; position = refl; depth = refl; steps = refl } in
+    let here : Idle g u u = record { next = omega (arith, r.next); entering = r.entering ∙ past_last g.links.last all (omega (arith, links.slots)); rest = refl; cut = refl; position = refl; depth = refl; steps = refl; faults = refl } in
     subst (Idle g u) (sym is) (idle (all - nodes_before g.root g.events all all) g u u small links.slots here)

@@ -5,6 +5,7 @@
 //! whatever the events are.
 #![tactic(auto)]
 
+pub mod laws;
 mod layout;
 mod starts;
 mod trivia;

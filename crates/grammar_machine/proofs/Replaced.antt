@@ -91,7 +91,9 @@ sealed-replaced g old new rule k x n looks short far fits_old fits_new =
     let fewer = length-from ((returned x.was).place.at - 1) old in
     record {
       were = l.events;
+      was_call = l.is;
       are = m.events;
+      now_call = m.is;
       old_is = goes g old (drop ((returned x.was).place.at - 1) old) k s (returned x.was) n looks short (omega (arith, short, fewer)) marked l (omega (arith, some)) refl fits_old;
       new_is = goes g new (drop ((returned x.was).place.at - 1) old) k s (returned x.now) n looks far (omega (arith, short, fewer)) marked m (omega (arith, also)) x.behind fits_new;
     }

@@ -29,8 +29,11 @@ common {g} {old} {new} {rule} {k} x n =
 
 -- then n operations behind the call both runs are that one, with the events of their own calls
 pub record OneRun (g : Tables) (old new : List Sight) (rule : ℕ) (k : SyntaxKind) (x : Exchanges g old new rule k) (n : ℕ) : Type 0 where
+  -- the events of the two calls, last first, but for their nodes
   pub were : List Event
+  pub was_call : returned x.was ≡ behind_call k (runs x.steps g old (begin_of rule)) (returned x.was).place.at were
   pub are : List Event
+  pub now_call : returned x.now ≡ behind_call k (runs x.steps g old (begin_of rule)) (returned x.now).place.at are
   pub old_is : runs n g old (returned x.was)
       ≡ filled (hole_of (runs x.steps g old (begin_of rule)) (returned x.was).place.at were) (common x n)
   pub new_is : runs n g new (returned x.now)

@@ -1,4 +1,5 @@
 //! Laws of runs, for every grammar's tables. The functions do nothing: the contract is the law.
+ghost use Rattle.grammar_machine.specs.Counting.{RunsCountTokens};
 ghost use Rattle.grammar_machine.specs.Locality.{RunsAreLocal};
 ghost use Rattle.grammar_machine.specs.Framing.{RunsAreFramed};
 ghost use Rattle.grammar_machine.specs.Filling.{RunsGoOn};
@@ -6,6 +7,11 @@ ghost use Rattle.grammar_machine.specs.Sealing.{SealedCallsLeaveNothing};
 ghost use Rattle.grammar_machine.specs.Standing.{SealedCallsAreMoved};
 ghost use Rattle.grammar_machine.specs.Reading.{PiecesAreSealedCalls};
 ghost use Rattle.grammar_machine.specs.Replacing.{SealedPiecesAreReplaced};
+
+/// A run's events take as many tokens as the run has taken.
+pub fn runs_count_tokens()
+    ensures { RunsCountTokens }
+{}
 
 /// A run up to a brace does not depend on what is behind the brace.
 pub fn runs_are_local()
