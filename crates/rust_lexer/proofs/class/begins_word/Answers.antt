@@ -1,5 +1,5 @@
 -- The table is held against the definition at each of the 256 bytes, by computing.
-use Rattle.std.proofs.Common.{◌≡◌, ℕ, ◌<◌, Bool, true, nat_eq, nat_le, nat_lt, get_or, List, refl, arith}
+use Rattle.std.proofs.Common.{◌≡◌, ℕ, ◌<◌, true, nat_lt, get_or, List, refl, arith}
 use Rattle.rust_lexer.specs.declared.class.TheConstants.{BYTES}
 use Rattle.rust_lexer.specs.Fast.{begins_word_of}
 use Rattle.rust_lexer.proofs.Bytes.{agree_below, agree_at}
