@@ -3,7 +3,8 @@ use crate::range::TextSize;
 use std::ops::{Bound, RangeBounds};
 
 /// The calls that the texts of rust-analyzer's nodes have, for code that moves: here the text of a node is a `&str`, in one piece, and has
-/// the calls of `str` too. Offsets count from the start of the text.
+/// the calls of `str` too. Offsets count from the start of the text. For the texts of the tokens, which rust-analyzer's `for_each_chunk` gives,
+/// there is [`Node::tokens`](crate::SyntaxNode::tokens).
 ///
 /// ```
 /// use ras::{Edition, SourceFile, SyntaxText, TextSize};
@@ -33,12 +34,6 @@ pub trait SyntaxText {
     ///
     /// It panics if the range ends past the text, or starts or ends inside a character.
     fn slice<R: RangeBounds<TextSize>>(&self, range: R) -> &str;
-
-    /// Calls a function with the text, unless it is empty.
-    fn for_each_chunk<F: FnMut(&str)>(&self, f: F);
-
-    /// Calls a function with the text, unless it is empty, up to an error.
-    fn try_for_each_chunk<F: FnMut(&str) -> Result<(), E>, E>(&self, f: F) -> Result<(), E>;
 }
 
 impl SyntaxText for str {
@@ -66,15 +61,5 @@ impl SyntaxText for str {
             Bound::Unbounded => self.len(),
         };
         &self[start..end]
-    }
-
-    fn for_each_chunk<F: FnMut(&str)>(&self, mut f: F) {
-        if !self.is_empty() {
-            f(self);
-        }
-    }
-
-    fn try_for_each_chunk<F: FnMut(&str) -> Result<(), E>, E>(&self, mut f: F) -> Result<(), E> {
-        if self.is_empty() { Ok(()) } else { f(self) }
     }
 }
