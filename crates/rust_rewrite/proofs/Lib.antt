@@ -1,1 +1,4 @@
+pub mod ArrowLemmas
+pub mod CommentLemmas
 pub mod EditLemmas
+pub mod LossLemmas

@@ -1,1 +1,2 @@
 pub mod Rewrites
+pub mod Rules

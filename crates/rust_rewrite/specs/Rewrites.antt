@@ -1,19 +1,29 @@
 -- The text of a parse with the matches of rules replaced.
-use Rattle.std.specs.Prelude.{◌≡◌, ℕ, ◌≤◌, List, [], ◌∷◌, length, map, nat_le, if◌then◌else◌, Option, Some, None}
+use Rattle.std.specs.Prelude.{◌≡◌, ℕ, suc, ◌≤◌, ⊤, Bool, true, false, ◌&&◌, ◌||◌, List, [], ◌∷◌, length, map, nat_le, nat_lt, if◌then◌else◌, Option, Some, None, is_none, slice_get}
+use Rattle.std.specs.List.{list_any}
+use Rattle.syntax_kind.specs.declared.syntax_kind.TheConstants.SyntaxKind.{COMMENT}
 use Rattle.text_size.specs.TextRange.{Bounds}
 use Rattle.text_edit.specs.Replacements.{Replacement, edited}
-use Rattle.tree_model.specs.Tree.{text}
-use Rattle.tree_model.specs.Cursor.{Cursor}
+use Rattle.syntax_kind.specs.Kinds.{is_same_kind}
+use Rattle.tree_model.specs.Tree.{text, kind_of}
+use Rattle.tree_model.specs.Cursor.{Cursor, focus, range_start, descendants_of}
 use Rattle.tree_model.specs.Edit.{root_of}
+use Rattle.lossless_tree.specs.declared.cursor.element.NodeOrToken.{NodeOrToken}
+use Rattle.lossless_tree.specs.Element.{cursor_of, element_of}
 use Rattle.ras_front_end.specs.declared.edition.Entry.TheVariants.{SourceFile}
 use Rattle.ras_front_end.specs.declared.edition.Edition.{Edition}
 use Rattle.ras_front_end.specs.Front.{Front}
 use Rattle.ras_front_end.specs.Parsed.{Parsed, IsParseOf}
 use Rattle.tree_match.specs.declared.rule.Rule.{Rule}
 use Rattle.tree_match.specs.Finds.{Occurrence, occurrence_of, found_in, inside_of}
+use Rattle.tree_match.specs.Matching.{sort_in}
 use Rattle.tree_match.specs.Reads.{AllRead}
 use Rattle.rust_parens.specs.declared.needless.Tried.{Tried}
 use Rattle.rust_parens.specs.Needless.{AreTriedAmong}
+use Rattle.rust_rewrite.specs.declared.refusal.RewriteError.{RewriteError}
+use Rattle.rust_rewrite.specs.declared.refusal.Failure.{Failure}
+use Rattle.rust_rewrite.specs.declared.refusal.Failure.TheVariants as failure
+use Rattle.rust_rewrite.specs.declared.refusal.RewriteError.TheVariants.{ReadsOtherwise, LosesComment, TooLong, Memory}
 
 -- the ranges of matches that are in no other match: those that start where the one before ends, or later
 abbrev pub outermost : ℕ → List Occurrence → List Bounds
@@ -56,3 +66,70 @@ pub record WithoutNeedless (front : Front) (edition : Edition) (s : List ℕ) : 
   pub were_tried : AreTriedAmong front SourceFile edition parse candidates going tried without
   pub all : length tried ≡ length candidates
   pub is_text : IsTextOf full without s
+
+-- ---- comments that would be lost
+
+-- a node or token
+abbrev pub Element : Type 0
+Element = NodeOrToken Cursor Cursor
+
+abbrev pub is_comment : Element → Bool
+is_comment x = is_same_kind (kind_of (focus (cursor_of x))) COMMENT
+
+-- where those of some nodes and tokens start that are comments
+abbrev pub starts_of : List Element → List ℕ
+starts_of [] = []
+starts_of (x ∷ xs) = if is_comment x then range_start (cursor_of x) ∷ starts_of xs else starts_of xs
+
+-- where the comments of a tree start
+abbrev pub comment_starts : Cursor → List ℕ
+comment_starts root = starts_of (map element_of (descendants_of root))
+
+abbrev pub is_in : Bounds → ℕ → Bool
+is_in r n = nat_le r.start n && nat_lt n r.end
+
+-- one of them starts in a range
+abbrev pub has_comment : List ℕ → Bounds → Bool
+has_comment starts r = list_any (is_in r) starts
+
+-- a comment is in what stands for the placeholder with a number, and the rule's template has not that placeholder
+abbrev pub loses_value : List ℕ → Rule → ℕ → Option Bounds → Bool
+loses_value starts rule n None = false
+loses_value starts rule n (Some r) = is_none (sort_in n rule.template.items) && has_comment starts r
+
+-- one of the placeholders from this number on
+abbrev pub loses_from : List ℕ → Rule → ℕ → List (Option Bounds) → Bool
+loses_from starts rule n [] = false
+loses_from starts rule n (v ∷ vs) = loses_value starts rule n v || loses_from starts rule (suc n) vs
+
+abbrev pub loses_by : List ℕ → Option Rule → Occurrence → Bool
+loses_by starts None m = false
+loses_by starts (Some rule) m = loses_from starts rule 0 m.values
+
+-- one of some matches
+abbrev pub loses_any : List Rule → List ℕ → List Occurrence → Bool
+loses_any rules starts ms = list_any (λ m. loses_by starts (slice_get rules m.rule) m) ms
+
+-- a comment would be lost where the matches in a tree are replaced
+abbrev pub loses_comment : List Rule → Cursor → Bool
+loses_comment rules root = loses_any rules (comment_starts root) (found_in rules root)
+
+-- why there is no new text: a comment would be lost; or none would be, and there is another reason; or memory ran out
+abbrev pub IsRefused : List Rule → Cursor → RewriteError → Type 0
+IsRefused rules root LosesComment = loses_comment rules root ≡ true
+IsRefused rules root ReadsOtherwise = loses_comment rules root ≡ false
+IsRefused rules root TooLong = loses_comment rules root ≡ false
+IsRefused rules root Memory = ⊤
+
+-- the same of a list of matches
+abbrev pub IsCommentLost : Bool → RewriteError → Type 0
+IsCommentLost lost LosesComment = lost ≡ true
+IsCommentLost lost ReadsOtherwise = ⊥
+IsCommentLost lost TooLong = ⊥
+IsCommentLost lost Memory = ⊤
+
+-- the error of a failure
+abbrev pub error_of : Failure → RewriteError
+error_of failure.ReadsOtherwise = ReadsOtherwise
+error_of failure.TooLong = TooLong
+error_of failure.Memory = Memory

@@ -1,12 +1,15 @@
 //! The text of a file with the matches of rules replaced.
-ghost use Rattle.std.specs.Prelude.{◌≡◌, IfOk, IsTrue, map, string_bytes};
+ghost use Rattle.std.specs.Prelude.{◌≡◌, [], false, IfOk, IfErr, OnOk, IsTrue, map, string_bytes, slice_get, option_map};
+ghost use Rattle.std.specs.Ordering.{nat_cmp};
+ghost use Rattle.std.specs.List.Sorted.{IsSorted, IsPermutation};
+ghost use Rattle.tree_model.specs.Tree.{text};
 ghost use Rattle.tree_model.specs.Edit.{root_of};
 ghost use Rattle.tree_match.specs.Finds.{occurrence_of, found_in};
-ghost use Rattle.rust_rewrite.specs.Rewrites.{ranges_of, outermost, ReadsAs, IsRewrite, WithoutNeedless};
+ghost use Rattle.rust_rewrite.specs.Rewrites.{ranges_of, outermost, ReadsAs, IsRewrite, WithoutNeedless, is_comment, comment_starts, has_comment, loses_value, loses_from, loses_by, loses_any, loses_comment, IsCommentLost, IsRefused};
 
-use crate::refusal::RewriteError;
+use crate::refusal::{Failure, RewriteError};
 use crate::render::{Rendered, Source, render};
-use lossless_tree::{SyntaxKind, SyntaxNode, TextRange};
+use lossless_tree::{SyntaxElement, SyntaxKind, SyntaxNode, TextRange};
 use ras_front_end::{Edition, Entry, FrontEnd};
 use ras_parsing::{Parse, read};
 use rust_parens::{find_needless_among, may_go, parens_of};
@@ -25,55 +28,122 @@ pub struct Rewritten {
     pub text: String,
 }
 
+fn is_comment(element: &SyntaxElement) -> bool
+    ensures { result ≡ is_comment element.now }
+{
+    element.kind() == SyntaxKind::COMMENT
+}
+
 // Where the comments of a tree start.
-fn comments(alloc: Global, root: &SyntaxNode) -> Result<Vec<usize>, AllocError> {
+#[tactic(auto, using(crate::proofs::LossLemmas::one_more, crate::proofs::LossLemmas::no_more, crate::proofs::LossLemmas::ended))]
+fn listed_starts(alloc: Global, root: &SyntaxNode) -> Result<Vec<usize>, AllocError>
+    ensures { IfOk result (λ s. s.items ≡ comment_starts root.now) }
+{
     let mut starts = Vec::new(alloc);
     for element in root.descendants_with_tokens() {
-        if matches!(element.kind(), SyntaxKind::COMMENT) {
+        if is_comment(&element) {
             starts.push(element.text_range().start().raw() as usize)?;
         }
     }
     Ok(starts)
 }
 
-// Whether a comment starts in a range.
-fn has_comment(comments: &[usize], range: TextRange) -> bool {
+// The same, sorted for searches. They come in the order of the text, so that the sort is one pass.
+fn sorted_starts(alloc: Global, root: &SyntaxNode) -> Result<Vec<usize>, AllocError>
+    ensures same { IfOk result (λ s. IsPermutation (comment_starts root.now) s.items) }
+    ensures sorted { IfOk result (λ s. IsSorted nat_cmp s.items) }
+{
+    let mut starts = listed_starts(alloc, root)?;
+    starts.sort_unstable();
+    Ok(starts)
+}
+
+// Whether one of some sorted offsets is in a range.
+fn has_comment(starts: &[usize], range: TextRange) -> bool
+    requires { IsSorted nat_cmp starts.now }
+    ensures { result ≡ has_comment starts.now range }
+{
     let start = range.start().raw() as usize;
     let end = range.end().raw() as usize;
-    let before = comments.partition_point(|it| *it < start);
-    match comments.get(before) {
-        None => false,
-        Some(comment) => *comment < end,
+    match starts.binary_search(&start) {
+        Ok(_) => start < end,
+        Err(at) => match starts.get(at) {
+            None => false,
+            Some(next) => *next < end,
+        },
     }
 }
 
-// Whether a comment is in what stands for a placeholder of a match that is not in the template.
-fn loses_comment(comments: &[usize], rules: &[Rule], found: &Match) -> bool {
-    let Some(rule) = rules.get(found.rule) else {
-        return false;
-    };
-    for (number, value) in found.values.iter().enumerate() {
-        if let Some(range) = value {
-            if rule.sort(number).is_none() && has_comment(comments, *range) {
-                return true;
-            }
+// Whether a comment is in what stands for a placeholder, and the template has not that placeholder.
+fn loses_value(starts: &[usize], rule: &Rule, number: usize, value: Option<TextRange>) -> bool
+    requires { IsSorted nat_cmp starts.now }
+    ensures { result ≡ loses_value starts.now rule.now number value }
+{
+    match value {
+        None => false,
+        Some(range) => rule.sort(number).is_none() && has_comment(starts, range),
+    }
+}
+
+// The rule with a number.
+fn numbered(rules: &[Rule], number: usize) -> Option<&Rule>
+    ensures { option_map (λ r. r.now) result ≡ slice_get rules.now number }
+{
+    rules.get(number)
+}
+
+// Whether a comment is in what stands for a placeholder that the template of a rule has not.
+fn loses_value_of(starts: &[usize], rule: &Rule, values: &[Option<TextRange>]) -> bool
+    requires { IsSorted nat_cmp starts.now }
+    ensures { result ≡ loses_from starts.now rule.now 0 values.now }
+{
+    for (number, value) in values.iter().enumerate() {
+        if loses_value(starts, rule, number, *value) {
+            return true;
+        }
+    }
+    false
+}
+
+// Whether a comment would be lost at a match.
+#[tactic(auto, using(crate::proofs::LossLemmas::no_rule, crate::proofs::LossLemmas::some_rule))]
+fn loses_comment(starts: &[usize], rules: &[Rule], found: &Match) -> bool
+    requires { IsSorted nat_cmp starts.now }
+    ensures { result ≡ loses_by starts.now (slice_get rules.now found.now.rule) (occurrence_of found.now) }
+{
+    match numbered(rules, found.rule) {
+        None => false,
+        Some(rule) => loses_value_of(starts, rule, &found.values),
+    }
+}
+
+// Whether a comment would be lost at one of some matches.
+fn loses_any(starts: &[usize], rules: &[Rule], matches: &[Match]) -> bool
+    requires { IsSorted nat_cmp starts.now }
+    ensures { result ≡ loses_any rules.now starts.now (map occurrence_of matches.now) }
+{
+    for found in matches {
+        if loses_comment(starts, rules, found) {
+            return true;
         }
     }
     false
 }
 
 // Refuses matches by which a comment would be lost.
+#[tactic(auto, using(crate::proofs::LossLemmas::loses_alike))]
 fn check_comments(
     alloc: Global,
     root: &SyntaxNode,
     rules: &[Rule],
     matches: &[Match],
-) -> Result<(), RewriteError> {
-    let comments = comments(alloc, root)?;
-    for found in matches {
-        if loses_comment(&comments, rules, found) {
-            return Err(RewriteError::LosesComment);
-        }
+) -> Result<(), RewriteError>
+    ensures kept { OnOk result (loses_any rules.now (comment_starts root.now) (map occurrence_of matches.now) ≡ false) }
+    ensures lost { IfErr result (IsCommentLost (loses_any rules.now (comment_starts root.now) (map occurrence_of matches.now))) }
+{
+    let starts = sorted_starts(alloc, root)?;
+    if loses_any(&starts, rules, matches) {
+        return Err(RewriteError::LosesComment);
     }
     Ok(())
 }
@@ -111,7 +181,7 @@ fn gone_of(alloc: Global, pairs: &[usize], going: &[SyntaxNode]) -> Result<Vec<b
     Ok(gone)
 }
 
-fn edit_of(alloc: Global, rendered: &Rendered) -> Result<TextEdit, RewriteError> {
+fn edit_of(alloc: Global, rendered: &Rendered) -> Result<TextEdit, Failure> {
     let mut edit = TextEdit::new(alloc);
     for place in &rendered.places {
         let new = rendered
@@ -121,7 +191,7 @@ fn edit_of(alloc: Global, rendered: &Rendered) -> Result<TextEdit, RewriteError>
             .unwrap_or("");
         let new = String::from_str(alloc, new)?;
         if edit.add(Indel::replace(place.old, new)).is_err() {
-            return Err(RewriteError::ReadsOtherwise);
+            return Err(Failure::ReadsOtherwise);
         }
     }
     Ok(edit)
@@ -177,7 +247,7 @@ fn reads<F: FrontEnd>(
     rules: &[Rule],
     old: &Parse<SyntaxNode>,
     text: &str,
-) -> Result<bool, RewriteError>
+) -> Result<bool, Failure>
     ensures { IfOk result (λ yes. IsTrue yes → ReadsAs (F.answers front.now) edition rules.now old.now text.now) }
 {
     let new: Parse<SyntaxNode> = read(alloc, front, Entry::SourceFile, text, edition)?;
@@ -196,19 +266,19 @@ fn checked<F: FrontEnd>(
     old: &Parse<SyntaxNode>,
     matches: Vec<Match>,
     edit: TextEdit,
-) -> Result<Rewritten, RewriteError>
+) -> Result<Rewritten, Failure>
     requires { map occurrence_of matches.items ≡ found_in rules.now (root_of old.now.tree) }
     ensures { IfOk result (λ r. IsRewrite (F.answers front.now) edition rules.now old.now (map occurrence_of r.matches.items) r.edit (string_bytes r.text)) }
 {
     let ranges = outermost(alloc, &matches)?;
     if !are_ranges(&edit, &ranges) {
-        return Err(RewriteError::ReadsOtherwise);
+        return Err(Failure::ReadsOtherwise);
     }
     let Ok(text) = edit.apply(alloc, old.root().as_str()) else {
-        return Err(RewriteError::ReadsOtherwise);
+        return Err(Failure::ReadsOtherwise);
     };
     if !reads(alloc, front, edition, rules, old, text.as_str())? {
-        return Err(RewriteError::ReadsOtherwise);
+        return Err(Failure::ReadsOtherwise);
     }
     Ok(Rewritten {
         matches,
@@ -225,7 +295,7 @@ fn planned<F: FrontEnd>(
     rules: &[Rule],
     text: &str,
     matches: &[Match],
-) -> Result<(TextEdit, String), RewriteError>
+) -> Result<(TextEdit, String), Failure>
     ensures { IfOk result (λ p. WithoutNeedless (F.answers front.now) edition (string_bytes p.1)) }
 {
     let full = render(
@@ -262,6 +332,44 @@ fn planned<F: FrontEnd>(
     Ok((edit_of(alloc, &last)?, meant))
 }
 
+// The matches in a tree. Refuses them if a comment would be lost.
+#[tactic(auto, using(crate::proofs::LossLemmas::lost_refused, crate::proofs::LossLemmas::memory_refused, crate::proofs::LossLemmas::none_lost))]
+fn kept_matches(
+    alloc: Global,
+    rules: &[Rule],
+    root: &SyntaxNode,
+) -> Result<Vec<Match>, RewriteError>
+    ensures found { IfOk result (λ m. map occurrence_of m.items ≡ found_in rules.now root.now) }
+    ensures kept { OnOk result (loses_comment rules.now root.now ≡ false) }
+    ensures refused { IfErr result (IsRefused rules.now root.now) }
+{
+    let matches = find(alloc, rules, root)?;
+    check_comments(alloc, root, rules, &matches)?;
+    Ok(matches)
+}
+
+// The text with these matches replaced.
+fn replaced<F: FrontEnd>(
+    alloc: Global,
+    front: &F,
+    edition: Edition,
+    rules: &[Rule],
+    old: &Parse<SyntaxNode>,
+    matches: Vec<Match>,
+) -> Result<Rewritten, Failure>
+    requires { map occurrence_of matches.items ≡ found_in rules.now (root_of old.now.tree) }
+    ensures rewritten { IfOk result (λ r. IsRewrite (F.answers front.now) edition rules.now old.now (map occurrence_of r.matches.items) r.edit (string_bytes r.text)) }
+    ensures needless { IfOk result (λ r. WithoutNeedless (F.answers front.now) edition (string_bytes r.text)) }
+{
+    let (edit, meant) = planned(alloc, front, edition, rules, old.root().as_str(), &matches)?;
+    let done = checked(alloc, front, edition, rules, old, matches, edit)?;
+    if done.text.as_str() == meant.as_str() {
+        Ok(done)
+    } else {
+        Err(Failure::ReadsOtherwise)
+    }
+}
+
 /// The text of a parsed file with the matches of rules replaced, and parentheses exactly where they are needed.
 ///
 /// Each match that [`find`] returns becomes its rule's template, with what its placeholders stand for put in; matches in these are replaced
@@ -276,6 +384,7 @@ fn planned<F: FrontEnd>(
 ///
 /// `ReadsOtherwise` if the new text does not parse to the tree that is meant, or with more errors than the old one, as where an expression
 /// stands that is also a name; `LosesComment` if a comment is in what stands for a placeholder that the template has not; `TooLong` if it is too long; `Memory` at any time.
+#[tactic(auto, using(crate::proofs::LossLemmas::failure_refused, crate::proofs::LossLemmas::stays))]
 pub fn rewrite<F: FrontEnd>(
     alloc: Global,
     front: &F,
@@ -285,14 +394,10 @@ pub fn rewrite<F: FrontEnd>(
 ) -> Result<Rewritten, RewriteError>
     ensures rewritten { IfOk result (λ r. IsRewrite (F.answers front.now) edition rules.now old.now (map occurrence_of r.matches.items) r.edit (string_bytes r.text)) }
     ensures needless { IfOk result (λ r. WithoutNeedless (F.answers front.now) edition (string_bytes r.text)) }
+    ensures unchanged { IfOk result (λ r. r.matches.items ≡ [] → string_bytes r.text ≡ text old.now.tree) }
+    ensures kept { OnOk result (loses_comment rules.now (root_of old.now.tree) ≡ false) }
+    ensures refused { IfErr result (IsRefused rules.now (root_of old.now.tree)) }
 {
-    let matches = find(alloc, rules, old.root())?;
-    check_comments(alloc, old.root(), rules, &matches)?;
-    let (edit, meant) = planned(alloc, front, edition, rules, old.root().as_str(), &matches)?;
-    let done = checked(alloc, front, edition, rules, old, matches, edit)?;
-    if done.text.as_str() == meant.as_str() {
-        Ok(done)
-    } else {
-        Err(RewriteError::ReadsOtherwise)
-    }
+    let matches = kept_matches(alloc, rules, old.root())?;
+    Ok(replaced(alloc, front, edition, rules, old, matches)?)
 }

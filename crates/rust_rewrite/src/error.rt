@@ -49,6 +49,11 @@ pub struct RuleError {
 }
 
 impl From<AllocError> for RuleError {
+    ghost use Rattle.std.specs.Prelude.{◌≡◌};
+    ghost use Rattle.rust_rewrite.specs.declared.error.RuleFault.TheVariants.{Memory};
+
+    ghost from_gives = { λ _ e. e.fault ≡ Memory };
+
     fn from(_error: AllocError) -> RuleError {
         RuleError {
             fault: RuleFault::Memory,
@@ -58,6 +63,11 @@ impl From<AllocError> for RuleError {
 }
 
 impl From<ParseError> for RuleError {
+    ghost use Rattle.std.specs.Prelude.{◌≡◌, true};
+    ghost use Rattle.rust_rewrite.specs.Rules.{is_other};
+
+    ghost from_gives = { λ _ e. is_other e.fault ≡ true };
+
     fn from(error: ParseError) -> RuleError {
         let fault = match error {
             ParseError::TooLong => RuleFault::TooLong,

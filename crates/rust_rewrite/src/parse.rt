@@ -1,5 +1,6 @@
 //! Rules from their texts.
-ghost use Rattle.std.specs.Prelude.{◌≤◌, length, IfErr};
+ghost use Rattle.std.specs.Prelude.{◌≡◌, ◌≤◌, true, length, IfErr, OnOk, MatchOption, MatchResult};
+ghost use Rattle.rust_rewrite.specs.Rules.{HasArrow, HasOne, IsFirstSplit, is_other, IsRuleFault, IsPatternFault};
 
 use crate::error::{RuleError, RuleFault};
 use lossless_tree::{NodeOrToken, SyntaxKind, SyntaxNode};
@@ -28,7 +29,9 @@ struct Side {
     starts: Vec<(usize, usize)>,
 }
 
-fn fault(fault: RuleFault, offset: usize) -> RuleError {
+fn fault(fault: RuleFault, offset: usize) -> RuleError
+    ensures { (result.fault ≡ fault) × (result.offset ≡ offset) }
+{
     RuleError { fault, offset }
 }
 
@@ -58,8 +61,8 @@ fn prefix_for(alloc: Global, text: &str) -> Result<String, AllocError> {
         };
         longest = longest.max(run);
     }
-    let mut prefix = String::from_str(alloc, "p")?;
-    for _turn in 0..=longest {
+    let mut prefix = String::from_str(alloc, "p_")?;
+    for _turn in 0..longest {
         prefix.push('_')?;
     }
     Ok(prefix)
@@ -72,7 +75,9 @@ fn number_of(
     name: &str,
     offset: usize,
     may_be_new: bool,
-) -> Result<usize, RuleError> {
+) -> Result<usize, RuleError>
+    ensures { IfErr result (λ e. is_other e.fault ≡ true) }
+{
     if name != "_" {
         for (number, known) in names.iter().enumerate() {
             if known.name.as_str() == name {
@@ -141,7 +146,9 @@ fn side_of<F: FrontEnd>(
     prefix: &str,
     names: &mut Vec<Name>,
     may_be_new: bool,
-) -> Result<Side, RuleError> {
+) -> Result<Side, RuleError>
+    ensures { IfErr result (λ e. is_other e.fault ≡ true) }
+{
     let mut side = Side {
         text: String::new(alloc),
         pieces: Vec::new(alloc),
@@ -202,7 +209,9 @@ fn expr_of<F: FrontEnd>(
     front: &F,
     edition: Edition,
     side: &Side,
-) -> Result<SyntaxNode, RuleError> {
+) -> Result<SyntaxNode, RuleError>
+    ensures { IfErr result (λ e. is_other e.fault ≡ true) }
+{
     let parse: Parse<SyntaxNode> = read(alloc, front, Entry::Expr, side.text.as_str(), edition)?;
     let mut errors = parse.errors(alloc)?.into_iter();
     if let Some(error) = errors.next() {
@@ -218,7 +227,9 @@ fn expr_of<F: FrontEnd>(
 }
 
 // A refusal of a side that starts at an offset, with its place in the rule.
-fn placed(refusal: RuleRefusal, names: &[Name], start: usize) -> RuleError {
+fn placed(refusal: RuleRefusal, names: &[Name], start: usize) -> RuleError
+    ensures { is_other result.fault ≡ true }
+{
     match refusal {
         RuleRefusal::Everything => fault(RuleFault::Everything, start),
         RuleRefusal::Memory => fault(RuleFault::Memory, start),
@@ -240,7 +251,8 @@ fn trimmed(text: &str) -> (usize, &str) {
 
 // A refusal whose offset is one of the text.
 fn within(error: RuleError, text: &str) -> RuleError
-    ensures { result.offset ≤ length text.now }
+    ensures offset { result.offset ≤ length text.now }
+    ensures fault { result.fault ≡ error.fault }
 {
     let RuleError { fault, offset } = error;
     RuleError {
@@ -262,11 +274,26 @@ pub fn parse_rule<F: FrontEnd>(
     text: &str,
 ) -> Result<Rule, RuleError>
     ensures refused { IfErr result (λ e. e.offset ≤ length text.now) }
+    ensures arrow { MatchResult result (λ _. HasOne text.now) (λ e. IsRuleFault text.now e.fault) }
 {
     match full_rule(alloc, front, edition, text) {
         Ok(rule) => Ok(rule),
         Err(error) => Err(within(error, text)),
     }
+}
+
+// What is before the first `==>>` of a text, and what is behind it.
+fn split(text: &str) -> Option<(&str, &str)>
+    ensures { MatchOption result (HasArrow text.now → ⊥) (λ p. IsFirstSplit text.now p.0.now p.1.now) }
+{
+    text.split_once(ARROW)
+}
+
+// Where the first `==>>` of a text is.
+fn arrow_at(text: &str) -> Option<usize>
+    ensures { MatchOption result (HasArrow text.now → ⊥) (λ _. HasArrow text.now) }
+{
+    text.find(ARROW)
 }
 
 // The rule of a text with a template.
@@ -275,14 +302,31 @@ fn full_rule<F: FrontEnd>(
     front: &F,
     edition: Edition,
     text: &str,
-) -> Result<Rule, RuleError> {
-    let Some((pattern, template)) = text.split_once(ARROW) else {
+) -> Result<Rule, RuleError>
+    ensures { MatchResult result (λ _. HasOne text.now) (λ e. IsRuleFault text.now e.fault) }
+{
+    let Some((pattern, template)) = split(text) else {
         return Err(fault(RuleFault::NoArrow, text.len()));
     };
     let base = pattern.len().saturating_add(ARROW.len());
-    if let Some(at) = template.find(ARROW) {
-        return Err(fault(RuleFault::FurtherArrow, base.saturating_add(at)));
+    match arrow_at(template) {
+        Some(at) => Err(fault(RuleFault::FurtherArrow, base.saturating_add(at))),
+        None => two_sides(alloc, front, edition, text, pattern, template),
     }
+}
+
+// The rule of a pattern and a template, which are parts of a text.
+fn two_sides<F: FrontEnd>(
+    alloc: Global,
+    front: &F,
+    edition: Edition,
+    text: &str,
+    pattern: &str,
+    template: &str,
+) -> Result<Rule, RuleError>
+    ensures { IfErr result (λ e. is_other e.fault ≡ true) }
+{
+    let base = text.len().saturating_sub(template.len());
     let prefix = prefix_for(alloc, text)?;
     let mut names = Vec::new(alloc);
     let rule = pattern_rule(alloc, front, edition, pattern, prefix.as_str(), &mut names)?;
@@ -316,6 +360,7 @@ pub fn parse_pattern<F: FrontEnd>(
     text: &str,
 ) -> Result<Rule, RuleError>
     ensures refused { IfErr result (λ e. e.offset ≤ length text.now) }
+    ensures arrow { MatchResult result (λ _. HasArrow text.now → ⊥) (λ e. IsPatternFault text.now e.fault) }
 {
     match search_rule(alloc, front, edition, text) {
         Ok(rule) => Ok(rule),
@@ -329,10 +374,24 @@ fn search_rule<F: FrontEnd>(
     front: &F,
     edition: Edition,
     text: &str,
-) -> Result<Rule, RuleError> {
-    if let Some(at) = text.find(ARROW) {
+) -> Result<Rule, RuleError>
+    ensures { MatchResult result (λ _. HasArrow text.now → ⊥) (λ e. IsPatternFault text.now e.fault) }
+{
+    if let Some(at) = arrow_at(text) {
         return Err(fault(RuleFault::FurtherArrow, at));
     }
+    one_side(alloc, front, edition, text)
+}
+
+// The rule of a pattern.
+fn one_side<F: FrontEnd>(
+    alloc: Global,
+    front: &F,
+    edition: Edition,
+    text: &str,
+) -> Result<Rule, RuleError>
+    ensures { IfErr result (λ e. is_other e.fault ≡ true) }
+{
     let prefix = prefix_for(alloc, text)?;
     let mut names = Vec::new(alloc);
     pattern_rule(alloc, front, edition, text, prefix.as_str(), &mut names)
@@ -345,7 +404,7 @@ fn line_rule<F: FrontEnd>(
     edition: Edition,
     line: &str,
 ) -> Result<Rule, RuleError> {
-    if line.find(ARROW).is_some() {
+    if arrow_at(line).is_some() {
         parse_rule(alloc, front, edition, line)
     } else {
         parse_pattern(alloc, front, edition, line)
@@ -414,7 +473,9 @@ fn pattern_rule<F: FrontEnd>(
     text: &str,
     prefix: &str,
     names: &mut Vec<Name>,
-) -> Result<Rule, RuleError> {
+) -> Result<Rule, RuleError>
+    ensures { IfErr result (λ e. is_other e.fault ≡ true) }
+{
     let (skipped, pattern) = trimmed(text);
     let side = side_of(alloc, front, edition, pattern, skipped, prefix, names, true)?;
     let node = expr_of(alloc, front, edition, &side)?;

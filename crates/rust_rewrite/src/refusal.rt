@@ -21,16 +21,50 @@ pub enum RewriteError {
 }
 
 impl From<AllocError> for RewriteError {
+    ghost use Rattle.std.specs.Prelude.{◌≡◌};
+    ghost use Rattle.rust_rewrite.specs.declared.refusal.RewriteError.TheVariants.{Memory};
+
+    ghost from_gives = { λ _ e. e ≡ Memory };
+
     fn from(_error: AllocError) -> RewriteError {
         RewriteError::Memory
     }
 }
 
-impl From<ParseError> for RewriteError {
-    fn from(error: ParseError) -> RewriteError {
+/// Why a text is not put together, or is not what it should be. Each is a [`RewriteError`] of its name.
+#[derive(Clone, Copy, Drop)]
+pub(crate) enum Failure {
+    ReadsOtherwise,
+    TooLong,
+    Memory,
+}
+
+impl From<AllocError> for Failure {
+    fn from(_error: AllocError) -> Failure {
+        Failure::Memory
+    }
+}
+
+impl From<ParseError> for Failure {
+    fn from(error: ParseError) -> Failure {
         match error {
-            ParseError::TooLong => RewriteError::TooLong,
-            ParseError::Memory => RewriteError::Memory,
+            ParseError::TooLong => Failure::TooLong,
+            ParseError::Memory => Failure::Memory,
+        }
+    }
+}
+
+impl From<Failure> for RewriteError {
+    ghost use Rattle.rust_rewrite.specs.Rewrites.{error_of};
+    ghost use Rattle.std.specs.Prelude.{◌≡◌};
+
+    ghost from_gives = { λ failure e. e ≡ error_of failure };
+
+    fn from(failure: Failure) -> RewriteError {
+        match failure {
+            Failure::ReadsOtherwise => RewriteError::ReadsOtherwise,
+            Failure::TooLong => RewriteError::TooLong,
+            Failure::Memory => RewriteError::Memory,
         }
     }
 }

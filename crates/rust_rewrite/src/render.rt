@@ -1,6 +1,6 @@
 //! The text with the matches replaced, with pairs of parentheses round each value and each replacement.
 
-use crate::refusal::RewriteError;
+use crate::refusal::Failure;
 use lossless_tree::TextRange;
 use std::alloc::{AllocError, Global};
 use tree_match::{Match, Piece, Rule, Sort};
@@ -79,7 +79,7 @@ struct Writer<'a> {
 }
 
 impl<'a> Writer<'a> {
-    fn push(&mut self, text: &str) -> Result<(), RewriteError> {
+    fn push(&mut self, text: &str) -> Result<(), Failure> {
         if text.is_empty() {
             return Ok(());
         }
@@ -97,13 +97,13 @@ impl<'a> Writer<'a> {
         }
         self.out.text.push_str(text)?;
         if self.out.text.len() > limit(self.source) {
-            return Err(RewriteError::TooLong);
+            return Err(Failure::TooLong);
         }
         Ok(())
     }
 
     // The old text of a range.
-    fn push_old(&mut self, from: usize, to: usize) -> Result<(), RewriteError> {
+    fn push_old(&mut self, from: usize, to: usize) -> Result<(), Failure> {
         let text = self.source.old.get(from..to).unwrap_or("");
         self.push(text)
     }
@@ -114,7 +114,7 @@ impl<'a> Writer<'a> {
     }
 
     // The `(` of the next pair. Returns its number.
-    fn open(&mut self) -> Result<usize, RewriteError> {
+    fn open(&mut self) -> Result<usize, Failure> {
         let pair = self.count;
         self.count = pair.saturating_add(1);
         if self.is_gone(pair) {
@@ -129,7 +129,7 @@ impl<'a> Writer<'a> {
         Ok(pair)
     }
 
-    fn close(&mut self, pair: usize) -> Result<(), RewriteError> {
+    fn close(&mut self, pair: usize) -> Result<(), Failure> {
         if self.is_gone(pair) {
             self.gap = true;
             return Ok(());
@@ -138,7 +138,7 @@ impl<'a> Writer<'a> {
     }
 
     // A text of a template, in which each line but the first is indented.
-    fn push_lines(&mut self, text: &str, indent: &str) -> Result<(), RewriteError> {
+    fn push_lines(&mut self, text: &str, indent: &str) -> Result<(), Failure> {
         let mut is_first = true;
         for line in text.split('\n') {
             if !is_first {
@@ -166,7 +166,7 @@ impl<'a> Writer<'a> {
         to: usize,
         next: usize,
         is_outer: bool,
-    ) -> Result<(), RewriteError> {
+    ) -> Result<(), Failure> {
         let number = self.next_match(next, from);
         let Some(found) = self.source.matches.get(number) else {
             return self.push_old(from, to);
@@ -207,12 +207,7 @@ impl<'a> Writer<'a> {
     }
 
     // A piece of a template. Adds what follows to the tasks.
-    fn fill(
-        &mut self,
-        tasks: &mut Vec<Task>,
-        number: usize,
-        piece: usize,
-    ) -> Result<(), RewriteError> {
+    fn fill(&mut self, tasks: &mut Vec<Task>, number: usize, piece: usize) -> Result<(), Failure> {
         let source = self.source;
         let Some(found) = source.matches.get(number) else {
             return Ok(());
@@ -236,7 +231,7 @@ impl<'a> Writer<'a> {
             }
             Piece::Hole(hole) => {
                 let Some(Some(value)) = found.values.get(*hole) else {
-                    return Err(RewriteError::ReadsOtherwise);
+                    return Err(Failure::ReadsOtherwise);
                 };
                 if rule.sort(*hole) == Some(Sort::Expr) {
                     let pair = self.open()?;
@@ -256,7 +251,7 @@ impl<'a> Writer<'a> {
 }
 
 /// The text.
-pub(crate) fn render(alloc: Global, source: &Source) -> Result<Rendered, RewriteError> {
+pub(crate) fn render(alloc: Global, source: &Source) -> Result<Rendered, Failure> {
     let mut writer = Writer {
         source,
         out: Rendered {
@@ -295,5 +290,5 @@ pub(crate) fn render(alloc: Global, source: &Source) -> Result<Rendered, Rewrite
             }
         }
     }
-    Err(RewriteError::TooLong)
+    Err(Failure::TooLong)
 }
