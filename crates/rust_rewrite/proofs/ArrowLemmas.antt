@@ -1,11 +1,15 @@
 -- The arrows of a text.
-use Rattle.std.proofs.Common.{◌≡◌, ◌↔◌, ℕ, ◌+◌, ◌<◌, ◌≤◌, List, [], ◌∷◌, ◌++◌, length, take, drop, refl, sym, ap, ◌∙◌, arith, length-append, Option, Some, None, append_assoc, ⊎_elim}
-use Rattle.std.specs.Prelude.{MatchOption}
+use Rattle.std.proofs.Common.{◌≡◌, ◌↔◌, ℕ, ◌+◌, ◌<◌, ◌≤◌, List, [], ◌∷◌, ◌++◌, length, take, drop, refl, sym, ap, ◌∙◌, arith, length-append, Option, Some, None, append_assoc, ⊎_elim, true, Result, Ok, Err}
+use Rattle.std.specs.Prelude.{MatchOption, MatchResult, IfErr}
 use Rattle.std.proofs.lemmas.Bool.{cases_lt}
 use Rattle.std.proofs.lemmas.List.{drop-append-le, take-append-drop}
 use Rattle.std.specs.Str.Pattern.{FindsText, MatchBeginsAt, SplitsAroundMatch}
 use denote.Ref.{Bor}
-use Rattle.rust_rewrite.specs.Rules.{arrow, HasArrow, HasTwo, IsFirstSplit}
+use Rattle.tree_match.specs.declared.rule.Rule.{Rule}
+use Rattle.rust_rewrite.specs.declared.error.RuleError.{RuleError}
+use Rattle.rust_rewrite.specs.declared.error.RuleFault.{RuleFault}
+use Rattle.rust_rewrite.specs.declared.error.RuleFault.TheVariants as fault
+use Rattle.rust_rewrite.specs.Rules.{arrow, HasArrow, HasTwo, HasOne, IsFirstSplit, is_other, IsRuleFault}
 
 drop_all : (a b : List ℕ) → drop (length a) (a ++ b) ≡ b
 drop_all [] b = refl
@@ -60,3 +64,28 @@ pub arrow_split : (s : List ℕ) (r : Option (Bor (List ℕ) × Bor (List ℕ)))
     → MatchOption r (HasArrow s → ⊥) (λ x. IsFirstSplit s x.0.now x.1.now)
 arrow_split s None f = none_there s f
 arrow_split s (Some x) f = split_at s x.0.now x.1.now f
+
+-- ---- a text with one arrow
+
+pub one_arrow : (s before behind : List ℕ) → IsFirstSplit s before behind → (HasArrow behind → ⊥) → HasOne s
+one_arrow s before behind f none = record {
+  one = (before, behind, f.parts);
+  no_more = λ t. none (f.two.0 t);
+}
+
+other_fault : (s : List ℕ) (f : RuleFault) → HasOne s → is_other f ≡ true → IsRuleFault s f
+other_fault s fault.NoArrow h e = absurd (cc)
+other_fault s fault.FurtherArrow h e = absurd (cc)
+other_fault s fault.NoName h e = h
+other_fault s fault.Joined h e = h
+other_fault s fault.Unknown h e = h
+other_fault s (fault.Syntax m) h e = h
+other_fault s fault.Misplaced h e = h
+other_fault s fault.Everything h e = h
+other_fault s fault.TooLong h e = h
+other_fault s fault.Memory h e = h
+
+pub one_told : (s before behind : List ℕ) (r : Result Rule RuleError) → IsFirstSplit s before behind → (HasArrow behind → ⊥)
+    → IfErr r (λ e. is_other e.fault ≡ true) → MatchResult r (λ _. HasOne s) (λ e. IsRuleFault s e.fault)
+one_told s before behind (Ok x) f none h = one_arrow s before behind f none
+one_told s before behind (Err e) f none h = other_fault s e.fault (one_arrow s before behind f none) h

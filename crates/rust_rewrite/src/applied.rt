@@ -332,6 +332,44 @@ fn planned<F: FrontEnd>(
     Ok((edit_of(alloc, &last)?, meant))
 }
 
+// The matches in a tree. Refuses them if a comment would be lost.
+#[tactic(auto, using(crate::proofs::LossLemmas::lost_refused, crate::proofs::LossLemmas::memory_refused, crate::proofs::LossLemmas::none_lost))]
+fn kept_matches(
+    alloc: Global,
+    rules: &[Rule],
+    root: &SyntaxNode,
+) -> Result<Vec<Match>, RewriteError>
+    ensures found { IfOk result (λ m. map occurrence_of m.items ≡ found_in rules.now root.now) }
+    ensures kept { OnOk result (loses_comment rules.now root.now ≡ false) }
+    ensures refused { IfErr result (IsRefused rules.now root.now) }
+{
+    let matches = find(alloc, rules, root)?;
+    check_comments(alloc, root, rules, &matches)?;
+    Ok(matches)
+}
+
+// The text with these matches replaced.
+fn replaced<F: FrontEnd>(
+    alloc: Global,
+    front: &F,
+    edition: Edition,
+    rules: &[Rule],
+    old: &Parse<SyntaxNode>,
+    matches: Vec<Match>,
+) -> Result<Rewritten, Failure>
+    requires { map occurrence_of matches.items ≡ found_in rules.now (root_of old.now.tree) }
+    ensures rewritten { IfOk result (λ r. IsRewrite (F.answers front.now) edition rules.now old.now (map occurrence_of r.matches.items) r.edit (string_bytes r.text)) }
+    ensures needless { IfOk result (λ r. WithoutNeedless (F.answers front.now) edition (string_bytes r.text)) }
+{
+    let (edit, meant) = planned(alloc, front, edition, rules, old.root().as_str(), &matches)?;
+    let done = checked(alloc, front, edition, rules, old, matches, edit)?;
+    if done.text.as_str() == meant.as_str() {
+        Ok(done)
+    } else {
+        Err(Failure::ReadsOtherwise)
+    }
+}
+
 /// The text of a parsed file with the matches of rules replaced, and parentheses exactly where they are needed.
 ///
 /// Each match that [`find`] returns becomes its rule's template, with what its placeholders stand for put in; matches in these are replaced
@@ -346,7 +384,7 @@ fn planned<F: FrontEnd>(
 ///
 /// `ReadsOtherwise` if the new text does not parse to the tree that is meant, or with more errors than the old one, as where an expression
 /// stands that is also a name; `LosesComment` if a comment is in what stands for a placeholder that the template has not; `TooLong` if it is too long; `Memory` at any time.
-#[tactic(auto, using(crate::proofs::LossLemmas::lost_refused, crate::proofs::LossLemmas::failure_refused, crate::proofs::LossLemmas::memory_refused, crate::proofs::LossLemmas::none_lost, crate::proofs::LossLemmas::stays))]
+#[tactic(auto, using(crate::proofs::LossLemmas::failure_refused, crate::proofs::LossLemmas::stays))]
 pub fn rewrite<F: FrontEnd>(
     alloc: Global,
     front: &F,
@@ -360,13 +398,6 @@ pub fn rewrite<F: FrontEnd>(
     ensures kept { OnOk result (loses_comment rules.now (root_of old.now.tree) ≡ false) }
     ensures refused { IfErr result (IsRefused rules.now (root_of old.now.tree)) }
 {
-    let matches = find(alloc, rules, old.root())?;
-    check_comments(alloc, old.root(), rules, &matches)?;
-    let (edit, meant) = planned(alloc, front, edition, rules, old.root().as_str(), &matches)?;
-    let done = checked(alloc, front, edition, rules, old, matches, edit)?;
-    if done.text.as_str() == meant.as_str() {
-        Ok(done)
-    } else {
-        Err(RewriteError::ReadsOtherwise)
-    }
+    let matches = kept_matches(alloc, rules, old.root())?;
+    Ok(replaced(alloc, front, edition, rules, old, matches)?)
 }

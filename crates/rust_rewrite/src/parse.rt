@@ -309,10 +309,10 @@ fn full_rule<F: FrontEnd>(
         return Err(fault(RuleFault::NoArrow, text.len()));
     };
     let base = pattern.len().saturating_add(ARROW.len());
-    if let Some(at) = arrow_at(template) {
-        return Err(fault(RuleFault::FurtherArrow, base.saturating_add(at)));
+    match arrow_at(template) {
+        Some(at) => Err(fault(RuleFault::FurtherArrow, base.saturating_add(at))),
+        None => two_sides(alloc, front, edition, text, pattern, template),
     }
-    two_sides(alloc, front, edition, text, pattern, template)
 }
 
 // The rule of a pattern and a template, which are parts of a text.
