@@ -4,4 +4,6 @@
 #[cfg(test)]
 mod replaced;
 #[cfg(test)]
+mod rule_files;
+#[cfg(test)]
 mod rules;

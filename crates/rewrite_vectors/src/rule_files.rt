@@ -1,0 +1,100 @@
+//! Rules from files, their refusals, and patches.
+use rust_search::{RuleSet, RulesError, one_pattern, one_rule, rules_of, write_hunks};
+use std::alloc::Global;
+use std::test::Fail;
+use text_edit::{Indel, TextEdit};
+use text_size::{TextRange, TextSize};
+
+// What is said of some rules: why they are refused, or their names and messages.
+fn said(alloc: Global, read: Result<RuleSet, RulesError>) -> Result<String, Fail> {
+    let mut out = String::new(alloc);
+    match read {
+        Err(error) => write!(out, "{error}")?,
+        Ok(set) => {
+            for number in 0..set.rules.len() {
+                let (name, message) = set.note(number);
+                write!(out, "[{name}|{message}]")?;
+            }
+        }
+    }
+    Ok(out)
+}
+
+#[test]
+fn refusals_have_their_places(rt: HostRuntime) -> Result<(), Fail> {
+    let rows = [
+        (
+            "a.rules",
+            "# c\n$a + $a ==>> 2 * $a\n\n$b.c()\n",
+            false,
+            "[|][|]",
+        ),
+        (
+            "a.rules",
+            "$a + $a ==>> 2 * $a\n$b.c()\n",
+            true,
+            "rule 2: expected `==>>` and a template",
+        ),
+        ("a.rules", "# c\n\n", false, "expected a rule"),
+        (
+            "a.rules",
+            "f($a)\n  f($) ==>> g\n",
+            false,
+            "2:5: expected the name of a placeholder behind `$`",
+        ),
+        (
+            "a.toml",
+            "[[rule]]\npattern = \"f($a)\"\ntemplate = \"g($a)\"\nname = \"n\"\nmessage = \"m\"",
+            true,
+            "[n|m]",
+        ),
+        (
+            "a.toml",
+            "[[rule]]\ntemplate = \"g\"",
+            false,
+            "rule 1: expected a text `pattern = \"..\"`",
+        ),
+        (
+            "a.toml",
+            "[[rule]]\npattern = \"f()\"\nname = 1",
+            false,
+            "rule 1: expected a text `name = \"..\"`",
+        ),
+        (
+            "a.toml",
+            "[[rule]]\npattern = \"f(\"",
+            false,
+            "rule 1, column 3 of `PATTERN ==>> TEMPLATE`: expected an expression: expected `)`",
+        ),
+    ];
+    for (name, text, replaces, expected) in &rows {
+        let told = said(rt.alloc(), rules_of(rt.alloc(), *name, *text, *replaces))?;
+        assert_eq!(rt; told.as_str(), *expected);
+    }
+    let told = said(rt.alloc(), one_rule(rt.alloc(), "f($a)"))?;
+    assert_eq!(rt;
+        told.as_str(),
+        "1:6: expected `==>>` between a pattern and a template"
+    );
+    let told = said(rt.alloc(), one_pattern(rt.alloc(), "f($a) ==>> g"))?;
+    assert_eq!(rt;
+        told.as_str(),
+        "1:7: expected one pattern, without a further `==>>`"
+    );
+    Ok(())
+}
+
+#[test]
+fn hunks_are_runs_of_changed_lines(rt: HostRuntime) -> Result<(), Fail> {
+    let mut edit = TextEdit::new(rt.alloc());
+    for (from, to, text) in [(0, 1, "x"), (2, 3, "y\nz"), (8, 9, "")] {
+        let range = TextRange::new(TextSize::new(from), TextSize::new(to));
+        edit.add(Indel::replace(range, String::from_str(rt.alloc(), text)?))?;
+    }
+    let mut out = Vec::new(rt.alloc());
+    write_hunks(rt.alloc(), &mut out, "a\nb\nc\nd\ne", &edit)?;
+    let expected =
+        "@@ -1,2 +1,3 @@\n-a\n-b\n+x\n+y\n+z\n@@ -5,1 +6,0 @@\n-e\n\\ No newline at end of file\n";
+    assert!(rt; out.as_slice() == expected.as_bytes());
+    Ok(())
+}

@@ -1,0 +1,11 @@
+//! Rules of search and replace from a command line and from files, and patches of what they replace.
+//!
+//! It is tested, and **not proved yet**.
+#![tactic(auto)]
+
+mod hunks;
+mod rules;
+mod toml_rules;
+
+pub use hunks::{write_hunks, write_lines};
+pub use rules::{Note, RuleSet, RulesError, one_pattern, one_rule, rules_of, rules_of_lines};
