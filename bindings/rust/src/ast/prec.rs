@@ -1,8 +1,8 @@
 //! Precedences of expressions, and where they need parentheses.
 //!
 //! The tests are those of the proved library (`crates/ras_prec` of the repository), over the rows of a tree. For an operand of a tree of
-//! operators that reads back the test is exact there, by a theorem; here it is tested: on each node of some 1,100 texts it has to return
-//! what the library returns.
+//! operators that reads back the test is exact there, by a theorem; here it is tested: against the parser (`tests/prec.rs`), and on each
+//! node of some 1,100 texts, in few of which a pair is needed, it has to return what the library returns.
 use super::AstNode;
 use super::operators::{BinaryOp, LogicOp, binary_op, range_op};
 use super::views::{Expr, Stmt, Type};
