@@ -1,6 +1,6 @@
 //! A text that is edited, and its parse.
 use crate::range::TextRange;
-use crate::raw::{self, Handle};
+use ras_sys::{self as raw, Handle};
 use crate::tree::{Edition, ParseError, Tree, answered};
 use std::cell::RefCell;
 use std::fmt;

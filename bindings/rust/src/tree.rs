@@ -2,7 +2,7 @@
 use crate::iter::TokenAtOffset;
 use crate::node::{NodeRef, SyntaxNode, TokenRef};
 use crate::range::{TextRange, TextSize};
-use crate::raw::{self, Counts, ErrorRow, FlatRow, Range};
+use ras_sys::{self as raw, Counts, ErrorRow, FlatRow, Range};
 use crate::{SyntaxKind, iter};
 use std::fmt;
 use std::sync::Arc;

@@ -1,5 +1,4 @@
 //! The calls of the library, as `crates/ras_c` declares them. Written by bindings/make.
-#![allow(dead_code)]
 
 /// A number that no kind has.
 pub const NO_KIND: u32 = 4294967295;
