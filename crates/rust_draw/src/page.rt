@@ -119,7 +119,7 @@ fn write_errors<W: Write>(out: &mut W, errors: &[SyntaxError]) -> io::Result<()>
     Ok(())
 }
 
-/// Writes the page of a node, with the errors of its text. It has some six bytes for each of the text, and at most fifteen.
+/// Writes the page of a node, with the errors of its text. It has some three bytes for each of a usual text.
 pub fn show<W: Write>(
     alloc: Global,
     out: &mut W,
