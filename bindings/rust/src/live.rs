@@ -116,11 +116,11 @@ impl Live {
                 raw::ras_c_rows(
                     &mut *handle,
                     room.rows.as_mut_ptr(),
-                    room.rows.len(),
+                    room.rows.capacity(),
                     room.errors.as_mut_ptr(),
-                    room.errors.len(),
+                    room.errors.capacity(),
                     room.messages.as_mut_ptr(),
-                    room.messages.len(),
+                    room.messages.capacity(),
                     counts,
                 )
             }
