@@ -15,7 +15,7 @@ use Rattle.grammar_machine.specs.declared.grammar.Op.TheVariants as op
 use Rattle.grammar_machine.specs.declared.machine.Place.{Place}
 use Rattle.grammar_machine.specs.declared.made.Frame.{Frame}
 use Rattle.grammar_machine.specs.declared.made.Seal.{Seal}
-use Rattle.grammar_machine.specs.Running.{begin_of, longer_of, Tables, Stacks, State, further_of, signs_of_view, operator_view_of, here_of, has_of, holds_of, seen_at_of, power_of, goto_of, goto_if_of, bind_of, mark_of, rest_of, node_of, make_of, start_of, forget_of, close_of, extended_on, with_place, with_made, resume_of, left_of, return_of, answer_of, take_on, piece_on, sealed_on, past_of, obey_of, step_on, step_of, runs}
+use Rattle.grammar_machine.specs.Running.{begin_of, longer_of, Tables, Stacks, State, further_of, signs_of_view, signs_taken_of, seen_as_of, operator_view_of, here_of, has_of, holds_of, seen_at_of, power_of, goto_of, goto_if_of, bind_of, mark_of, rest_of, node_of, make_of, start_of, forget_of, close_of, extended_on, with_place, with_made, resume_of, left_of, return_of, answer_of, take_on, piece_on, sealed_on, past_of, obey_of, step_on, step_of, runs}
 use Rattle.grammar_machine.specs.Counting.{signs_by, taken_by, RunsCountTokens}
 use Rattle.grammar_machine.proofs.Running.{step-at, runs-none, runs-suc}
 
@@ -84,9 +84,16 @@ signs Two = omega arith
 signs Three = omega arith
 signs Word = omega arith
 
+signs-by : (x : Bool) (v : View) → (if x then 1 else signs_of_view v) ≤ 3
+signs-by true v = omega arith
+signs-by false v = signs v
+
+signs-taken : (v : View) (t : Sight) → signs_taken_of v t ≤ 3
+signs-taken v t = signs-by (nat_eq (seen_as_of v t) 0) v
+
 takes : (g : Tables) (ts : List Sight) (v : View) (o : Option Sight) (s : State) → length ts + 3 < 2 ^ 64 → slice_get ts s.place.at ≡ o → Counts s (take_on g v o s)
 takes g ts v None s short e = stays s
-takes g ts v (Some t) s short e = record { is = omega (arith, moved (length ts) s.place.at (signs_of_view v) (slice_get_within ts s.place.at t e) short (signs v)) }
+takes g ts v (Some t) s short e = record { is = omega (arith, moved (length ts) s.place.at (signs_taken_of v t) (slice_get_within ts s.place.at t e) short (signs-taken v t)) }
 
 pieces : (ts : List Sight) (part : Part) (last : Bool) (o : Option Sight) (s : State) → length ts + 3 < 2 ^ 64 → slice_get ts s.place.at ≡ o → Counts s (piece_on part last o s)
 pieces ts part last None s short e = stays s

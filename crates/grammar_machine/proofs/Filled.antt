@@ -19,13 +19,13 @@ use Rattle.grammar_machine.specs.declared.event.Part.{Part}
 use Rattle.grammar_machine.specs.declared.machine.Place.{Place}
 use Rattle.grammar_machine.specs.declared.made.Frame.{Frame}
 use Rattle.grammar_machine.specs.declared.made.Seal.{Seal}
-use Rattle.grammar_machine.specs.Running.{Tables, Stacks, State, seen_of, signs_of_view, further_of, saturated_of, has_of, target_of, kind_of, seen_as_of, goto_of, goto_if_of, bind_of, power_of, enter_of, pass_of, fresh_of, resume_of, leave_of, with_place, past_of, take_on, piece_on, sealed_on, make_of, start_of, with_made, node_of, mark_of, forget_of, open_of, close_of, call_of, seal_of, hidden_of, unseal_of, left_of, extend_of, extended_on, longer_of, first_of, rest_of, level_for_of, answer_of, frame_of, return_of, call_with, obey_of, step_on, step_of, runs}
+use Rattle.grammar_machine.specs.Running.{Tables, Stacks, State, seen_of, signs_taken_of, further_of, saturated_of, has_of, target_of, kind_of, seen_as_of, goto_of, goto_if_of, bind_of, power_of, enter_of, pass_of, fresh_of, resume_of, leave_of, with_place, past_of, take_on, piece_on, sealed_on, make_of, start_of, with_made, node_of, mark_of, forget_of, open_of, close_of, call_of, seal_of, hidden_of, unseal_of, left_of, extend_of, extended_on, longer_of, first_of, rest_of, level_for_of, answer_of, frame_of, return_of, call_with, obey_of, step_on, step_of, runs}
 use Rattle.grammar_machine.specs.Alone.{reach_of, looks_back_of}
 use Rattle.grammar_machine.specs.Framing.{Around}
 use Rattle.grammar_machine.specs.Filling.{Hole, later_than, event_later, seal_later, inserted, place_after, made_after, filled, LooksAreShort, RunsGoOn}
 use Rattle.grammar_machine.proofs.Running.{step-at, runs-none, runs-suc}
 use Rattle.grammar_machine.proofs.Growing.{Grows, runs-grow, step-grows}
-use Rattle.grammar_machine.proofs.Framed.{here-in, holds-in, min-low, view_by, roomy, further-in, few-signs}
+use Rattle.grammar_machine.proofs.Framed.{here-in, holds-in, min-low, view_by, roomy, further-in, few-taken}
 
 -- the tokens go on in the same way below b
 abbrev pub GoesBelow : ℕ → Hole → List Sight → List Sight → Type 0
@@ -195,9 +195,9 @@ goes-after h x y target s e = ap (λ b. with_place (goto_if_of b target) (filled
 take-on-after : (h : Hole) (g : Tables) (v : View) (o : Option Sight) (s : State) → h.below < length s.made.events → (s.place.at + 3) + h.taken < 2 ^ 64 → take_on g v o (filled h s) ≡ filled h (take_on g v o s)
 take-on-after h g v None s over short = refl
 take-on-after h g v (Some t) s over short =
-    ap₂ (λ n (m : Stacks). record { place = record (pass_of (signs_of_view v) s.place) { at = n }; made = m })
-    (further-in s.place.at h.taken (signs_of_view v) (few-signs v) short)
-    (make-after h (event.Token (kind_of g (seen_as_of v t)) (signs_of_view v)) s.made over)
+    ap₂ (λ n (m : Stacks). record { place = record (pass_of (signs_taken_of v t) s.place) { at = n }; made = m })
+    (further-in s.place.at h.taken (signs_taken_of v t) (few-taken v t) short)
+    (make-after h (event.Token (kind_of g (seen_as_of v t)) (signs_taken_of v t)) s.made over)
 
 piece-on-after : (h : Hole) (part : Part) (last : Bool) (o : Option Sight) (s : State) → h.below < length s.made.events → (s.place.at + 3) + h.taken < 2 ^ 64 → piece_on part last o (filled h s) ≡ filled h (piece_on part last o s)
 piece-on-after h part last None s over short = refl

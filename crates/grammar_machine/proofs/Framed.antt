@@ -21,7 +21,7 @@ use Rattle.grammar_machine.specs.declared.event.Part.{Part}
 use Rattle.grammar_machine.specs.declared.machine.Place.{Place}
 use Rattle.grammar_machine.specs.declared.made.Frame.{Frame}
 use Rattle.grammar_machine.specs.declared.made.Seal.{Seal}
-use Rattle.grammar_machine.specs.Running.{Tables, Stacks, State, seen_of, signs_of_view, further_of, saturated_of, has_of, is_brace_of, hides_of, sees_of, target_of, kind_of, holds_of, goto_of, goto_if_of, bind_of, power_of, is_some, enter_of, pass_of, fresh_of, resume_of, leave_of, with_place, past_of, take_on, piece_on, sealed_on, make_of, start_of, with_made, node_of, mark_of, forget_of, open_of, close_of, call_of, seal_of, hidden_of, unseal_of, left_of, extend_of, extended_on, longer_of, first_of, rest_of, level_for_of, answer_of, frame_of, return_of, call_with, obey_of, step_on, step_of, runs}
+use Rattle.grammar_machine.specs.Running.{Tables, Stacks, State, seen_of, signs_of_view, signs_taken_of, seen_as_of, further_of, saturated_of, has_of, is_brace_of, hides_of, sees_of, target_of, kind_of, holds_of, goto_of, goto_if_of, bind_of, power_of, is_some, enter_of, pass_of, fresh_of, resume_of, leave_of, with_place, past_of, take_on, piece_on, sealed_on, make_of, start_of, with_made, node_of, mark_of, forget_of, open_of, close_of, call_of, seal_of, hidden_of, unseal_of, left_of, extend_of, extended_on, longer_of, first_of, rest_of, level_for_of, answer_of, frame_of, return_of, call_with, obey_of, step_on, step_of, runs}
 use Rattle.grammar_machine.specs.Framing.{Around, sealed_count, IsNested, moved_event, moved_events, moved_marks, moved_seal, place_in, made_in, in_place, Stands, TestStays, IsFew, Stays, NextStays}
 use Rattle.grammar_machine.proofs.Running.{step-at, runs-none, runs-suc}
 use Rattle.grammar_machine.proofs.Hiding.{hides-none, hides-suc}
@@ -92,11 +92,18 @@ further-in at taken n h short =
     let near : at + n < 2 ^ 64 = omega (arith, h, short) in
     mod-eq_of_lt fits ∙ (let e : (at + taken) + n ≡ (at + n) + taken = omega arith in e) ∙ ap (λ k. k + taken) (sym (mod-eq_of_lt near))
 
-pub few-signs : (v : View) → signs_of_view v ≤ 3
+few-signs : (v : View) → signs_of_view v ≤ 3
 few-signs One = omega arith
 few-signs Two = omega arith
 few-signs Three = omega arith
 few-signs Word = omega arith
+
+few-by : (x : Bool) (v : View) → (if x then 1 else signs_of_view v) ≤ 3
+few-by true v = omega arith
+few-by false v = few-signs v
+
+pub few-taken : (v : View) (t : Sight) → signs_taken_of v t ≤ 3
+few-taken v t = few-by (nat_eq (seen_as_of v t) 0) v
 
 pass-in : (c : Around) (n : ℕ) (p : Place) → n ≤ 3 → (p.at + 3) + c.taken < 2 ^ 64 → pass_of n (place_in c p) ≡ place_in c (pass_of n p)
 pass-in c n p h short = ap (λ i. record (pass_of n p) { at = i }) (further-in p.at c.taken n h short)
@@ -113,7 +120,7 @@ enter-in c target l keep add p = ap (λ n. record (place_in c (enter_of target l
 
 take-on-in : (c : Around) (g : Tables) (v : View) (o : Option Sight) (s : State) → (s.place.at + 3) + c.taken < 2 ^ 64 → take_on g v o (in_place c s) ≡ in_place c (take_on g v o s)
 take-on-in c g v None s short = refl
-take-on-in c g v (Some t) s short = ap (λ p. record { place = p; made = (in_place c (take_on g v (Some t) s)).made }) (pass-in c (signs_of_view v) s.place (few-signs v) short)
+take-on-in c g v (Some t) s short = ap (λ p. record { place = p; made = (in_place c (take_on g v (Some t) s)).made }) (pass-in c (signs_taken_of v t) s.place (few-taken v t) short)
 
 piece-on-in : (c : Around) (part : Part) (last : Bool) (o : Option Sight) (s : State) → (s.place.at + 3) + c.taken < 2 ^ 64 → piece_on part last o (in_place c s) ≡ in_place c (piece_on part last o s)
 piece-on-in c part last None s short = refl

@@ -14,7 +14,7 @@ use Rattle.grammar_machine.specs.declared.grammar.Op.TheVariants as op
 use Rattle.grammar_machine.specs.declared.machine.Place.{Place}
 use Rattle.grammar_machine.specs.declared.made.Frame.{Frame}
 use Rattle.grammar_machine.specs.declared.made.Seal.{Seal}
-use Rattle.grammar_machine.specs.Running.{Tables, Stacks, State, kind_of, seen_as_of, signs_of_view, operator_view_of, here_of, mark_of, rest_of, node_of, make_of, start_of, open_of, forget_of, extended_on, with_place, with_made, resume_of, left_of, return_of, answer_of, take_on, piece_on, sealed_on, past_of, obey_of, step_on, runs}
+use Rattle.grammar_machine.specs.Running.{Tables, Stacks, State, kind_of, seen_as_of, signs_taken_of, operator_view_of, here_of, mark_of, rest_of, node_of, make_of, start_of, open_of, forget_of, extended_on, with_place, with_made, resume_of, left_of, return_of, answer_of, take_on, piece_on, sealed_on, past_of, obey_of, step_on, runs}
 use Rattle.grammar_machine.proofs.Running.{step-at, runs-none, runs-suc}
 
 abbrev pub AtMost : ℕ → List ℕ → Type 0
@@ -61,7 +61,7 @@ nodes k (Some from) m h = makes (event.Node k from) m h
 
 takes : (g : Tables) (v : View) (o : Option Sight) (s : State) → IsMarked s.made → IsMarked (take_on g v o s).made
 takes g v None s h = h
-takes g v (Some t) s h = makes (event.Token (kind_of g (seen_as_of v t)) (signs_of_view v)) s.made h
+takes g v (Some t) s h = makes (event.Token (kind_of g (seen_as_of v t)) (signs_taken_of v t)) s.made h
 
 pieces : (part : Part) (last : Bool) (o : Option Sight) (s : State) → IsMarked s.made → IsMarked (piece_on part last o s).made
 pieces part last None s h = h

@@ -99,6 +99,10 @@ signs_of_view Two = 2
 signs_of_view Three = 3
 signs_of_view Word = 1
 
+-- how many tokens are taken by a view: one, where nothing is seen in it
+abbrev pub signs_taken_of : View → Sight → ℕ
+signs_taken_of v t = if nat_eq (seen_as_of v t) 0 then 1 else signs_of_view v
+
 abbrev pub seen_of : View → Option Sight → ℕ
 seen_of v None = end_as_of v
 seen_of v (Some t) = seen_as_of v t
@@ -307,8 +311,8 @@ with_made f s = record s { made = f s.made }
 abbrev pub take_on : Tables → View → Option Sight → State → State
 take_on g v None s = s
 take_on g v (Some t) s = record {
-  place = pass_of (signs_of_view v) s.place;
-  made = make_of (event.Token (kind_of g (seen_as_of v t)) (signs_of_view v)) s.made;
+  place = pass_of (signs_taken_of v t) s.place;
+  made = make_of (event.Token (kind_of g (seen_as_of v t)) (signs_taken_of v t)) s.made;
 }
 
 abbrev pub take_of : Tables → List Sight → View → State → State

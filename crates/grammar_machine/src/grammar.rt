@@ -110,7 +110,7 @@ pub enum Op {
     },
     /// Takes the next token, if there is one.
     Take,
-    /// Takes the next token by its kind in the view, and with it those that it is seen together with.
+    /// Takes the next token by its kind in the view, and with it those that it is seen together with; by itself, if there are none.
     TakeAs {
         view: View,
     },
