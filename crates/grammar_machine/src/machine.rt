@@ -461,7 +461,10 @@ fn piece(
 {
     match sight_at(sights, place.at) {
         None => Ok(()),
-        Some(_) => {
+        Some(sight) => {
+            if sight.word == 0 {
+                return Ok(());
+            }
             made.make(Event::Piece { part, last })?;
             if last {
                 place.pass(1);
@@ -555,7 +558,7 @@ fn obey(
         Op::Wrap { kind } => made.wrap(kind),
         Op::Close { kind } => made.close(kind),
         Op::Leaf { kind } => leaf(place, made, grammar, sights, kind),
-        Op::Extend => made.extend(),
+        Op::Extend => made.extend(grammar.sealed),
         Op::Error { message } => made.make(Event::Error { message }),
         Op::Call { target } => {
             made.call(place.frame(false))?;
