@@ -9,6 +9,7 @@ ghost use Rattle.grammar_machine.specs.Filling.{RunsGoOn};
 ghost use Rattle.grammar_machine.specs.Sealing.{SealedCallsLeaveNothing};
 ghost use Rattle.grammar_machine.specs.Standing.{SealedCallsAreMoved};
 ghost use Rattle.grammar_machine.specs.Reading.{PiecesAreSealedCalls};
+ghost use Rattle.grammar_machine.specs.Exchanging.{PiecesAreExchanged};
 ghost use Rattle.grammar_machine.specs.Replacing.{SealedPiecesAreReplaced};
 
 /// A run of more operations than its fuel is the run: it has ended by then.
@@ -71,4 +72,11 @@ pub fn pieces_are_sealed_calls()
 /// place of the old ones.
 pub fn sealed_pieces_are_replaced()
     ensures { SealedPiecesAreReplaced }
+{}
+
+/// Two pieces that [`run_alone`](crate::run_alone) reads by a sealed rule, and which begin with the same brace and end with the same
+/// token, are exchanged wherever a run comes to that rule's sealed call over the first: the run over the other text makes a sealed
+/// call there too, and each call makes what its piece makes alone.
+pub fn pieces_are_exchanged()
+    ensures { PiecesAreExchanged }
 {}
