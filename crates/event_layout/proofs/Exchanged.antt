@@ -1,5 +1,5 @@
 -- The events of two runs that differ in one piece are those of one setting.
-use Rattle.std.proofs.Common.{◌≡◌, ℕ, suc, ◌+◌, ◌-◌, ◌<◌, ◌≤◌, ◌^◌, min, Bool, true, List, [], ◌∷◌, ◌++◌, length, ap, ap₂, sym, subst, ◌∙◌, refl, arith}
+use Rattle.std.proofs.Common.{◌≡◌, ℕ, suc, ◌+◌, ◌-◌, ◌<◌, ◌≤◌, ◌^◌, List, [], ◌∷◌, ◌++◌, length, ap, ap₂, sym, subst, ◌∙◌, refl, arith}
 use Rattle.std.specs.Prelude.{reverse, drop}
 use Rattle.std.proofs.lemmas.List.{append_cancel_right, length-append, length-reverse, reverse-reverse}
 use Rattle.std.proofs.Math.Nat.{min-eq_left}
@@ -7,13 +7,12 @@ use Rattle.syntax_kind.specs.declared.syntax_kind.SyntaxKind.{SyntaxKind}
 use Rattle.grammar_machine.specs.declared.event.Event.{Event}
 use Rattle.grammar_machine.specs.declared.event.Event.TheVariants.{Node}
 use Rattle.grammar_machine.specs.declared.grammar.Sight.{Sight}
-use Rattle.grammar_machine.specs.Running.{Tables, State, is_among, start_of, step_of, runs, run_of, begin_of, fuel_of, events_of}
+use Rattle.grammar_machine.specs.Running.{Tables, State, start_of, step_of, runs, run_of, begin_of, fuel_of}
 use Rattle.grammar_machine.specs.Framing.{moved_event, moved_events}
-use Rattle.grammar_machine.specs.Filling.{LooksAreShort, Fits, filled, inserted}
+use Rattle.grammar_machine.specs.Filling.{Fits, filled, inserted}
 use Rattle.grammar_machine.specs.Sealing.{SealedCall, inside, returned, behind_call}
-use Rattle.grammar_machine.specs.Replacing.{Exchanges, OneRun, hole_of, common}
+use Rattle.grammar_machine.specs.Replacing.{hole_of, common}
 use Rattle.grammar_machine.specs.Lasting.{IsOver}
-use Rattle.grammar_machine.specs.Exchanging.{Makes}
 use Rattle.grammar_machine.proofs.Running.{runs-suc, runs-add}
 use Rattle.grammar_machine.proofs.Local.{runs-same}
 use Rattle.grammar_machine.proofs.Replaced.{sealed-replaced, fits-before}

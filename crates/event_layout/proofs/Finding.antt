@@ -1,5 +1,5 @@
 -- Events find the tokens that were seen.
-use Rattle.std.proofs.Common.{◌≡◌, ℕ, zero, suc, ◌+◌, ◌-◌, ◌<◌, ◌≤◌, List, [], ◌∷◌, ◌++◌, length, take, drop, ap, sym, subst, ◌∙◌, refl, arith, Some, None, Bool, true, false, if◌then◌else◌, add-one, append_assoc}
+use Rattle.std.proofs.Common.{◌≡◌, ℕ, zero, suc, ◌+◌, ◌-◌, ◌<◌, ◌≤◌, List, [], ◌∷◌, ◌++◌, length, take, drop, ap, sym, subst, ◌∙◌, refl, arith, Some, Bool, true, false, if◌then◌else◌, add-one, append_assoc}
 use Rattle.std.specs.Prelude.{reverse, slice_get, option_map}
 use Rattle.std.proofs.lemmas.List.{length-append, length-take-le, reverse-append, take-append-drop}
 use Rattle.std.proofs.lemmas.Option.{slice_get_within}

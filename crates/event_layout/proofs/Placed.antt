@@ -1,9 +1,8 @@
 -- The events of a run take the tokens whose sights it took.
-use Rattle.std.proofs.Common.{◌≡◌, ℕ, zero, suc, ◌+◌, ◌-◌, ◌<◌, ◌≤◌, ◌^◌, Bool, true, false, List, [], ◌∷◌, ◌++◌, length, drop, take, ap, ap₂, sym, subst, ◌∙◌, refl, arith, Some, None, if◌then◌else◌, nat_le, nat_lt, append_assoc, append-nil}
+use Rattle.std.proofs.Common.{◌≡◌, ℕ, zero, suc, ◌+◌, ◌-◌, ◌<◌, ◌≤◌, Bool, true, false, List, [], ◌∷◌, ◌++◌, length, drop, take, ap, sym, subst, ◌∙◌, refl, arith, Some, None, if◌then◌else◌, nat_le, nat_lt, append_assoc}
 use Rattle.std.specs.Prelude.{reverse, slice_get, option_map, option_and_then, Option}
 use Rattle.std.proofs.lemmas.Bool.Decides.{nat_tests}
-use Rattle.std.proofs.lemmas.List.{append_cancel_right, length-append, length-reverse, reverse-append, reverse-reverse, take-append-drop}
-use Rattle.std.proofs.lemmas.Option.{slice_get_within}
+use Rattle.std.proofs.lemmas.List.{length-append, reverse-append, reverse-reverse, take-append-drop}
 use Rattle.syntax_kind.specs.declared.syntax_kind.SyntaxKind.{SyntaxKind}
 use Rattle.syntax_kind.specs.Kinds.{is_trivia}
 use Rattle.token_layout.specs.declared.span.Token.{Token as RawToken}
@@ -14,16 +13,14 @@ use Rattle.grammar_machine.specs.Running.{Tables, State, step_of, runs, begin_of
 use Rattle.grammar_machine.specs.Counting.{taken_by}
 use Rattle.grammar_machine.specs.Seen.{EventIsSeen, AllSeen, IsSeen, HasParts}
 use Rattle.grammar_machine.specs.Sealing.{SealedCall, inside, returned}
-use Rattle.grammar_machine.specs.Reading.{IsSealedRule, ReadsPiece}
-use Rattle.grammar_machine.specs.Exchanging.{ReadsAlone}
+use Rattle.grammar_machine.specs.Reading.{ReadsPiece}
 use Rattle.grammar_machine.proofs.Running.{runs-none, runs-suc, runs-add}
 use Rattle.grammar_machine.proofs.Counted.{runs-counted}
 use Rattle.grammar_machine.proofs.Seen.{runs-seen}
 use Rattle.grammar_machine.proofs.Read.{pieces-sealed}
 use Rattle.event_layout.specs.Trivia.{lead}
 use Rattle.event_layout.specs.Filled.{past_lead, taken, left_by, left_after}
-use Rattle.event_layout.specs.Taking.{seen_tokens, AllFind, LeavesSeen}
-use Rattle.event_layout.specs.Finding.{AreSightsOf}
+use Rattle.event_layout.specs.Taking.{AllFind, LeavesSeen}
 use Rattle.event_layout.specs.Placed.{NextIsPlain, EndsSeen, RunsTakeTheirTokens, PiecesTakeTheirTokens}
 use Rattle.event_layout.proofs.Taking.{events_leave, past_on, past_stops}
 use Rattle.event_layout.proofs.Finding.{events_find, taken_turned}

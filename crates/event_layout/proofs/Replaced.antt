@@ -1,6 +1,6 @@
 -- A text in which one piece is replaced is laid as the old one, but for the piece.
-use Rattle.std.proofs.Common.{◌≡◌, ℕ, zero, suc, ◌+◌, ◌<◌, ◌≤◌, ◌^◌, Bool, true, false, List, [], ◌∷◌, ◌++◌, map, length, drop, ap, ap₂, sym, subst, ◌∙◌, refl, arith, Some, None, if◌then◌else◌, append_assoc}
-use Rattle.std.specs.Prelude.{reverse, option_map, Option, slice_get}
+use Rattle.std.proofs.Common.{◌≡◌, ℕ, ◌+◌, ◌<◌, true, List, [], ◌∷◌, ◌++◌, map, length, ap, sym, subst, ◌∙◌, refl, arith, Some, if◌then◌else◌, append_assoc}
+use Rattle.std.specs.Prelude.{reverse}
 use Rattle.std.proofs.lemmas.List.{length-append, length-map, length-reverse, map-append, reverse-append, reverse-reverse}
 use Rattle.syntax_kind.specs.declared.syntax_kind.SyntaxKind.{SyntaxKind}
 use Rattle.token_layout.specs.declared.span.Token.{Token as RawToken}
@@ -13,10 +13,10 @@ use Rattle.grammar_machine.specs.Reading.{IsSealedRule}
 use Rattle.grammar_machine.specs.Exchanging.{ExchangedAt}
 use Rattle.grammar_machine.proofs.Exchanging.{exchanged as exchanged_at}
 use Rattle.event_layout.specs.Layout.{root_from, root_of, is_node_at}
-use Rattle.event_layout.specs.Filled.{Stretch, Setting, LaidAround as FilledAround, IsSetting, IsPiece, IsShort, set_in, events_in, laid, past_lead, left_after}
+use Rattle.event_layout.specs.Filled.{Stretch, Setting, LaidAround as FilledAround, IsSetting, IsPiece, IsShort, set_in, events_in, laid}
 use Rattle.event_layout.specs.Ending.{EndsInToken}
 use Rattle.event_layout.specs.Exchanged.{OneSetting, setting_of, made_before}
-use Rattle.event_layout.specs.Replaced.{Part, sights_in, whole_of, piece_of, IsReadAlone, IsPlace, EndsInNode, IsSmall, LaidIn, LaidAround, ReplacedPiecesAreLaid}
+use Rattle.event_layout.specs.Replaced.{Part, sights_in, IsReadAlone, EndsInNode, IsSmall, LaidIn, ReplacedPiecesAreLaid}
 use Rattle.event_layout.proofs.Turning.{root_behind}
 use Rattle.event_layout.proofs.Filled.{pieces_laid}
 use Rattle.event_layout.proofs.Ends.{ends_found}

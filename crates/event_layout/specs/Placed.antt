@@ -22,19 +22,21 @@ pub record EndsSeen (ts : List RawToken) : Type 0 where
   pub is : ts ≡ front ++ last ∷ []
   pub seen : is_trivia last.kind ≡ false
 
--- where a run has taken the first part of its tokens, its events take all tokens of that part, but for
--- white space and comments at the end
+-- where a run has taken the first part of its tokens, its events take all tokens of that part, but
+-- for white space and comments at the end
 abbrev pub RunsTakeTheirTokens : Type 0
 RunsTakeTheirTokens =
     (n : ℕ) (g : Tables) (rule : ℕ) (before behind : List Sight) (ts : List RawToken)
     → length (before ++ behind) + 3 < 2 ^ 64 → AreSightsOf before ts → NextIsPlain behind
     → (runs n g (before ++ behind) (begin_of rule)).place.at ≡ length before
-    → option_map past_lead (left_after (reverse (runs n g (before ++ behind) (begin_of rule)).made.events) ts) ≡ Some []
+    → option_map past_lead
+    (left_after (reverse (runs n g (before ++ behind) (begin_of rule)).made.events) ts) ≡ Some []
 
 -- the events of a piece that is read alone take all its tokens
 abbrev pub PiecesTakeTheirTokens : Type 0
 PiecesTakeTheirTokens =
-    (g : Tables) (rule target : ℕ) (k : SyntaxKind) (piece : List Sight) (es : List Event) (ts : List RawToken)
+    (g : Tables) (rule target : ℕ) (k : SyntaxKind) (piece : List Sight)
+    (es : List Event) (ts : List RawToken)
     → IsSealedRule g rule target k → ReadsAlone g rule k piece es
     → length piece + 3 < 2 ^ 64 → length es + 1 < 2 ^ 32 - 1
     → AreSightsOf piece ts → EndsSeen ts → left_after es ts ≡ Some []

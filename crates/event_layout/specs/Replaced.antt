@@ -1,4 +1,5 @@
--- A text in which one piece is replaced is laid as the old one, but for the piece: a law of the definitions.
+-- A text in which one piece is replaced is laid as the old one, but for the piece: a law of the
+-- definitions.
 use Rattle.std.specs.Prelude.{◌≡◌, ℕ, ◌+◌, ◌-◌, ◌<◌, ◌^◌, true, false, List, [], ◌∷◌, ◌++◌, length, reverse}
 use Rattle.syntax_kind.specs.declared.syntax_kind.SyntaxKind.{SyntaxKind}
 use Rattle.ras_front_end.specs.Reading.{FrontStep}
@@ -41,7 +42,8 @@ abbrev pub piece_of : SyntaxKind → Part → List Event → Stretch
 piece_of k p es = record { text = p.text; tokens = p.tokens; events = es ++ Node k 0 ∷ [] }
 
 -- a piece that its rule reads alone, with the events that are made of it
-pub record IsReadAlone (g : Tables) (rule : ℕ) (k : SyntaxKind) (p : Part) (es : List Event) : Type 0 where
+pub record IsReadAlone
+    (g : Tables) (rule : ℕ) (k : SyntaxKind) (p : Part) (es : List Event) : Type 0 where
   pub cut : IsCut p.tokens p.text
   pub sights : AreSightsOf p.sights p.tokens
   pub first : lead p.tokens ≡ 0
@@ -70,7 +72,8 @@ pub record EndsInNode (n : ℕ) (es : List Event) : Type 0 where
   pub is : es ≡ front ++ Node kind from ∷ []
   pub behind : n < length es
 
-pub record IsSmall (g : Tables) (rule : ℕ) (a p c : Part) (made : ℕ) (es : List Event) : Type 0 where
+pub record IsSmall
+    (g : Tables) (rule : ℕ) (a p c : Part) (made : ℕ) (es : List Event) : Type 0 where
   pub text : length (a.text ++ (p.text ++ c.text)) < 2 ^ 32
   pub sights : length (sights_in a p c) + 3 < 2 ^ 64
   pub fits : Fits (run_of g rule (sights_in a p c))

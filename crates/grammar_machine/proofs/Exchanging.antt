@@ -1,5 +1,5 @@
 -- Two pieces that are read alone make an exchange wherever a sealed call of their rule stands.
-use Rattle.std.proofs.Common.{◌≡◌, ℕ, zero, suc, ◌<◌, ◌≤◌, ◌+◌, ◌-◌, ◌^◌, min, List, [], ◌∷◌, ◌++◌, map, drop, length, ap, ap₂, ◌∙◌, sym, subst, refl, arith, true}
+use Rattle.std.proofs.Common.{◌≡◌, ℕ, zero, suc, ◌<◌, ◌+◌, ◌-◌, ◌^◌, List, [], ◌∷◌, ◌++◌, drop, length, ap, ap₂, ◌∙◌, sym, subst, refl, arith}
 use Rattle.std.specs.Prelude.{Option, Some, None, reverse, slice_get}
 use Rattle.std.proofs.lemmas.List.{append-nil, length-append, length-reverse, reverse-append, reverse-reverse}
 use Rattle.std.proofs.lemmas.Option.{slice_get_within}
@@ -16,7 +16,7 @@ use Rattle.grammar_machine.specs.Locality.{Agree, IsBraceAt}
 use Rattle.grammar_machine.specs.Sealing.{SealedCall, returned, behind_call}
 use Rattle.grammar_machine.specs.Standing.{StandsAt, CallsAlike}
 use Rattle.grammar_machine.specs.Reading.{IsSealedRule, ReadsPiece}
-use Rattle.grammar_machine.specs.Exchanging.{Makes, ComesToCall, ReadsAlone, EndAlike, ExchangedAt, PiecesAreExchanged}
+use Rattle.grammar_machine.specs.Exchanging.{Makes, ReadsAlone, ExchangedAt, PiecesAreExchanged}
 use Rattle.grammar_machine.proofs.Framed.{min-low}
 use Rattle.grammar_machine.proofs.Sealed.{from-place, slice_get_some}
 use Rattle.grammar_machine.proofs.Local.{runs-same}

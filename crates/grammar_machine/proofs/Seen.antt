@@ -1,5 +1,5 @@
 -- What the events of a run take is seen at its place.
-use Rattle.std.proofs.Common.{◌≡◌, ℕ, zero, suc, ◌+◌, ◌<◌, ◌≤◌, ◌^◌, Bool, true, false, nat_eq, nat_lt, if◌then◌else◌, List, [], ◌∷◌, length, ap, ◌∙◌, refl, subst, sym, arith}
+use Rattle.std.proofs.Common.{◌≡◌, ℕ, zero, suc, ◌+◌, ◌<◌, ◌^◌, Bool, true, false, nat_eq, nat_lt, if◌then◌else◌, List, [], ◌∷◌, length, ap, ◌∙◌, refl, subst, sym, arith}
 use Rattle.std.specs.Prelude.{Option, Some, None, slice_get}
 use Rattle.std.proofs.lemmas.Bool.Decides.{nat_tests}
 use Rattle.syntax_kind.specs.declared.syntax_kind.SyntaxKind.{SyntaxKind}
@@ -14,10 +14,10 @@ use Rattle.grammar_machine.specs.declared.grammar.Op.TheVariants as op
 use Rattle.grammar_machine.specs.declared.machine.Place.{Place}
 use Rattle.grammar_machine.specs.declared.made.Frame.{Frame}
 use Rattle.grammar_machine.specs.declared.made.Seal.{Seal}
-use Rattle.grammar_machine.specs.Running.{Tables, Stacks, State, kind_of, seen_as_of, signs_taken_of, operator_view_of, here_of, mark_of, rest_of, node_of, longer_of, signs_of_view, begin_of, step_of, make_of, start_of, open_of, forget_of, extended_on, with_place, with_made, resume_of, left_of, return_of, answer_of, take_on, part_of, piece_on, sealed_on, past_of, obey_of, step_on, runs}
+use Rattle.grammar_machine.specs.Running.{Tables, Stacks, State, seen_as_of, operator_view_of, here_of, mark_of, rest_of, node_of, longer_of, signs_of_view, begin_of, make_of, forget_of, extended_on, with_place, with_made, resume_of, left_of, return_of, answer_of, take_on, part_of, piece_on, sealed_on, past_of, obey_of, step_on, runs}
 use Rattle.grammar_machine.specs.Counting.{taken_by}
-use Rattle.grammar_machine.specs.Seen.{IsSeen, HasParts, EventIsSeen, AllSeen, RunsTakeWhatIsSeen}
-use Rattle.grammar_machine.proofs.Counted.{step-counts, runs-count}
+use Rattle.grammar_machine.specs.Seen.{IsSeen, EventIsSeen, AllSeen, RunsTakeWhatIsSeen}
+use Rattle.grammar_machine.proofs.Counted.{runs-count}
 use Rattle.grammar_machine.proofs.Running.{step-at, runs-none, runs-suc}
 
 abbrev Sees : List Sight → Stacks → Type 0
