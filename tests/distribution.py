@@ -5,7 +5,7 @@ import shutil
 import subprocess
 
 TOP = os.path.dirname(os.path.dirname(os.path.abspath(__file__)))
-C, RUST, PYTHON = (os.path.join(TOP, "bindings", name) for name in ("c", "rust", "python"))
+C, RUST, SYS, PYTHON = (os.path.join(TOP, "bindings", name) for name in ("c", "rust", "ras-sys", "python"))
 VERSION = "0.1.0"
 # The shared object's number grows when a call or a row changes what it means.
 SONAME = "libras.so.0"
@@ -28,7 +28,7 @@ lib/libras.so      the shared object, which has them
 lib/pkgconfig/     for `pkg-config --with-path=lib/pkgconfig`, or with PKG_CONFIG_PATH
 include/ras.h      the calls
 src/               heap.c, and the example outline.c
-cargo/ras          the crate: `ras = { path = "cargo/ras" }`
+cargo/             the crate `ras = { path = "cargo/ras" }`, and ras-sys, which it links the library by
 python/            the wheel: `pip install python/ras-*.whl`
 """
 
@@ -68,10 +68,9 @@ def distribute(archive, folder):
     shutil.copyfile(os.path.join(C, "ras.h"), os.path.join(include, "ras.h"))
     for name in ("heap.c", "outline.c"):
         shutil.copyfile(os.path.join(C, name), os.path.join(src, name))
-    crate = os.path.join(folder, "cargo", "ras")
-    shutil.copytree(RUST, crate, ignore=shutil.ignore_patterns("target", "tests", ".gitignore"))
-    for place in (folder, crate):
-        shutil.copyfile(os.path.join(TOP, "LICENSE"), os.path.join(place, "LICENSE"))
+    for crate, source in (("ras", RUST), ("ras-sys", SYS)):
+        shutil.copytree(source, os.path.join(folder, "cargo", crate), ignore=shutil.ignore_patterns("target", "tests"))
+    shutil.copyfile(os.path.join(TOP, "LICENSE"), os.path.join(folder, "LICENSE"))
     wheel(os.path.join(lib, "libras_c.a"), os.path.join(folder, "python"))
     for name, text in ((os.path.join("lib", "pkgconfig", "ras.pc"), PC), ("VERSION", f"{VERSION}\n"), ("README", README)):
         with open(os.path.join(folder, name), "w", encoding="utf-8") as file:

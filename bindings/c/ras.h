@@ -74,7 +74,7 @@ void rattle_dealloc(void *at);
 #define RAS_FAULT 64u
 
 /* A number made of the kinds, constants, structs and calls of the library. Bindings that know another number were made for others. */
-#define RAS_VERSION 3174814452u
+#define RAS_VERSION 1261704605u
 
 /* The statuses of a wrong escape or character. */
 enum ras_fault {
@@ -612,6 +612,24 @@ uint32_t ras_c_reads_back(
  * of n bytes seldom has more than 2 n rows.
  */
 uint32_t ras_c_read(
+    const uint8_t *text,
+    size_t text_len,
+    uint32_t edition,
+    ras_flat_row *rows,
+    size_t rows_len,
+    ras_error_row *errors,
+    size_t errors_len,
+    uint8_t *messages,
+    size_t messages_len,
+    ras_counts *counts);
+
+/*
+ * Parses a text as an expression of an edition, and writes what ras_c_read writes for a file. The root is a node of an expression, or
+ * ERROR if the text is not one expression; there are errors then.
+ *
+ * Returns RAS_OK, RAS_NOT_UTF8, RAS_TOO_LONG, RAS_NO_MEMORY, RAS_NO_ROOM or RAS_NO_EDITION.
+ */
+uint32_t ras_c_read_expr(
     const uint8_t *text,
     size_t text_len,
     uint32_t edition,

@@ -78,6 +78,10 @@ static void reads(void) {
     owes(read_with(counts.rows, counts.errors, counts.messages, &counts) == RAS_OK, "just enough room is enough");
     owes(memcmp(rows, filled, counts.rows * sizeof *rows) == 0, "the rows are the same");
     owes(ras_c_read(NULL, 0, 2024, rows, ROWS, NULL, 0, NULL, 0, &counts) == RAS_OK && counts.rows == 1, "no text has a root");
+    owes(ras_c_read_expr(BYTES("a + b"), 2024, rows, ROWS, NULL, 0, NULL, 0, &counts) == RAS_OK && rows[0].kind == RAS_KIND_BIN_EXPR
+        && counts.errors == 0, "an expression is read by itself");
+    owes(ras_c_read_expr(BYTES("let a = b;"), 2024, rows, ROWS, errors, ERRORS, messages, MESSAGES, &counts) == RAS_OK
+        && rows[0].kind == RAS_KIND_ERROR && counts.errors > 0, "a statement is no expression");
     ras_counts kept = counts;
     owes(ras_c_read(BYTES("\xff"), 2024, NULL, 0, NULL, 0, NULL, 0, &counts) == RAS_NOT_UTF8, "bad UTF-8 is refused");
     owes(ras_c_read(BYTES("a"), 2016, NULL, 0, NULL, 0, NULL, 0, &counts) == RAS_NO_EDITION, "there is no edition 2016");

@@ -68,6 +68,13 @@ class Trees(unittest.TestCase):
             self.assertIsNone(tree.root.parent)
             self.assertEqual(sum(1 for _ in tree.root.descendants()), len(tree))
 
+    def test_expressions(self):
+        tree = ras.parse_expr("a + b")
+        self.assertEqual((tree.root.kind, tree.errors), ("BIN_EXPR", []))
+        tree = ras.parse_expr(b"let a = b;")
+        self.assertEqual((tree.root.kind, tree.text), ("ERROR", "let a = b;"))
+        self.assertTrue(tree.errors)
+
     def test_errors_have_messages(self):
         tree = ras.parse("fn foo() { 1 + }")
         self.assertEqual(repr(tree.errors), "[14..14: expected expression]")

@@ -19,7 +19,7 @@ import weakref
 
 from . import _raw
 
-__all__ = ["Element", "EscapeError", "Live", "ParseError", "SyntaxError", "Tree", "kind_name", "kind_of_name", "parse"]
+__all__ = ["Element", "EscapeError", "Live", "ParseError", "SyntaxError", "Tree", "kind_name", "kind_of_name", "parse", "parse_expr"]
 
 _TOKEN = 1 << 31
 
@@ -154,6 +154,11 @@ def parse(text, edition=2024):
     return Tree(text, edition)
 
 
+def parse_expr(text, edition=2024):
+    """The tree of a text, read as an expression. Its root is an ERROR, and there are errors, if the text is not one expression."""
+    return Tree(text, edition, _call=_library.ras_c_read_expr)
+
+
 def _bytes_of(text):
     if isinstance(text, str):
         return text.encode()
@@ -172,9 +177,9 @@ def _edition_of(edition):
 class Tree:
     """A text, its lossless tree, and what is wrong with it."""
 
-    def __init__(self, text, edition=2024):
+    def __init__(self, text, edition=2024, *, _call=None):
         data, edition = _bytes_of(text), _edition_of(edition)
-        self._tell(data, edition, functools.partial(_library.ras_c_read, data, len(data), edition))
+        self._tell(data, edition, functools.partial(_call or _library.ras_c_read, data, len(data), edition))
 
     def _tell(self, data, edition, call):
         """Takes what a call writes to its buffers, which is called again if they had too little room."""
@@ -208,7 +213,7 @@ class Tree:
 
     @property
     def root(self):
-        """The root, a SOURCE_FILE."""
+        """The root, a SOURCE_FILE; of `parse_expr`, an expression or an ERROR."""
         return Element(self, 0)
 
     def find(self, kind):

@@ -2,7 +2,7 @@
 from array import array
 from collections.abc import Iterable, Iterator
 
-__all__ = ["Element", "EscapeError", "Live", "ParseError", "SyntaxError", "Tree", "kind_name", "kind_of_name", "parse"]
+__all__ = ["Element", "EscapeError", "Live", "ParseError", "SyntaxError", "Tree", "kind_name", "kind_of_name", "parse", "parse_expr"]
 
 class ParseError(Exception): ...
 
@@ -21,6 +21,7 @@ class EscapeError(ValueError):
 def kind_name(number: int) -> str | None: ...
 def kind_of_name(name: str) -> int | None: ...
 def parse(text: str | bytes, edition: int = 2024) -> Tree: ...
+def parse_expr(text: str | bytes, edition: int = 2024) -> Tree: ...
 
 class Tree:
     data: bytes

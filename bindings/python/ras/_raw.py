@@ -42,7 +42,7 @@ TOO_LARGE = 10
 FAULT = 64
 
 # A number made of the kinds, constants, structs and calls of the library. Bindings that know another number were made for others.
-VERSION = 3174814452
+VERSION = 1261704605
 
 # What can be wrong with an escape or a character: the names and the messages, from the status FAULT on.
 FAULTS = [
@@ -151,6 +151,8 @@ def declare(library):
     library.ras_c_reads_back.restype = ctypes.c_uint32
     library.ras_c_read.argtypes = [ctypes.c_void_p, ctypes.c_size_t, ctypes.c_uint32, ctypes.c_void_p, ctypes.c_size_t, ctypes.c_void_p, ctypes.c_size_t, ctypes.c_void_p, ctypes.c_size_t, ctypes.c_void_p]
     library.ras_c_read.restype = ctypes.c_uint32
+    library.ras_c_read_expr.argtypes = [ctypes.c_void_p, ctypes.c_size_t, ctypes.c_uint32, ctypes.c_void_p, ctypes.c_size_t, ctypes.c_void_p, ctypes.c_size_t, ctypes.c_void_p, ctypes.c_size_t, ctypes.c_void_p]
+    library.ras_c_read_expr.restype = ctypes.c_uint32
     library.ras_c_tokens.argtypes = [ctypes.c_void_p, ctypes.c_size_t, ctypes.c_uint32, ctypes.c_void_p, ctypes.c_size_t, ctypes.c_void_p]
     library.ras_c_tokens.restype = ctypes.c_uint32
     library.ras_c_string_value.argtypes = [ctypes.c_void_p, ctypes.c_size_t, ctypes.c_void_p, ctypes.c_size_t, ctypes.c_void_p]

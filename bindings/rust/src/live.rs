@@ -1,6 +1,6 @@
 //! A text that is edited, and its parse.
 use crate::range::TextRange;
-use crate::raw::{self, Handle};
+use ras_sys::{self as raw, Handle};
 use crate::tree::{Edition, ParseError, Tree, answered};
 use std::cell::RefCell;
 use std::fmt;
@@ -116,11 +116,11 @@ impl Live {
                 raw::ras_c_rows(
                     &mut *handle,
                     room.rows.as_mut_ptr(),
-                    room.rows.len(),
+                    room.rows.capacity(),
                     room.errors.as_mut_ptr(),
-                    room.errors.len(),
+                    room.errors.capacity(),
                     room.messages.as_mut_ptr(),
-                    room.messages.len(),
+                    room.messages.capacity(),
                     counts,
                 )
             }

@@ -1,5 +1,5 @@
 //! Parses as rust-analyzer's crate has them.
-use crate::ast::{AstNode, SourceFile};
+use crate::ast::{AstNode, Expr, SourceFile};
 use crate::node::SyntaxNode;
 use crate::tree::{Edition, ParseError, SyntaxError, Tree};
 use std::fmt;
@@ -82,6 +82,35 @@ impl<T> fmt::Debug for Parse<T> {
     }
 }
 
+// A parse by its type, or a panic: rust-analyzer's calls have no errors.
+fn of<T>(tree: Result<Tree, ParseError>) -> Parse<T> {
+    match tree {
+        Ok(tree) => Parse { tree, view: PhantomData },
+        Err(error @ (ParseError::TooLong | ParseError::Memory)) => panic!("{error}"),
+    }
+}
+
+impl Expr {
+    /// The parse of a text, read as an expression.
+    ///
+    /// ```
+    /// use ras::ast::{AstNode, Expr};
+    /// use ras::Edition;
+    ///
+    /// let parse = Expr::parse("a + b", Edition::CURRENT);
+    /// assert!(matches!(parse.tree(), Expr::BinExpr(_)));
+    /// assert!(Expr::parse("let a = b;", Edition::CURRENT).ok().is_err());
+    /// ```
+    ///
+    /// # Panics
+    ///
+    /// It panics if the text has 2^32 bytes or more, or if memory runs out; [`Tree::parse_expr`] returns an error instead. And `tree` of
+    /// the parse panics if the text is not one expression: there are errors then.
+    pub fn parse(text: &str, edition: Edition) -> Parse<Expr> {
+        of(Tree::parse_expr(text, edition))
+    }
+}
+
 impl SourceFile {
     /// The parse of a text, read as a file.
     ///
@@ -96,9 +125,6 @@ impl SourceFile {
     ///
     /// It panics if the text has 2^32 bytes or more, or if memory runs out; [`Tree::parse`] returns an error instead.
     pub fn parse(text: &str, edition: Edition) -> Parse<SourceFile> {
-        match Tree::parse(text, edition) {
-            Ok(tree) => Parse { tree, view: PhantomData },
-            Err(error @ (ParseError::TooLong | ParseError::Memory)) => panic!("{error}"),
-        }
+        of(Tree::parse(text, edition))
     }
 }

@@ -2,7 +2,7 @@
 use crate::node::place::Place as _;
 use crate::node::{NodeOrToken, SyntaxElement, SyntaxNode, SyntaxToken};
 use crate::range::{TextRange, TextSize};
-use crate::raw::FlatRow;
+use ras_sys::FlatRow;
 use crate::text_edit::{Indel, TextEdit};
 use crate::tree::Tree;
 use std::fmt;

@@ -2,7 +2,7 @@
 use crate::iter::TokenAtOffset;
 use crate::node::{NodeRef, SyntaxNode, TokenRef};
 use crate::range::{TextRange, TextSize};
-use crate::raw::{self, Counts, ErrorRow, FlatRow, Range};
+use ras_sys::{self as raw, Counts, ErrorRow, FlatRow, Range};
 use crate::{SyntaxKind, iter};
 use std::fmt;
 use std::sync::Arc;
@@ -127,10 +127,14 @@ struct Inner {
     errors: Box<[SyntaxError]>,
 }
 
+// A call of the library that reads a text, and writes its rows, errors and messages.
+type ReadCall = unsafe extern "C" fn(*const u8, usize, u32, *mut FlatRow, usize, *mut ErrorRow, usize, *mut u8, usize, *mut Counts) -> u32;
+
 // What the number of a token's kind has more than that of a node's.
 const TOKEN: u32 = 1 << 31;
 
-// What the library writes for a text.
+// Room for what the library writes for a text: empty lists with a capacity. It is not filled with zeros before, since it is much more than
+// most texts need.
 pub(crate) struct Room {
     pub(crate) rows: Vec<FlatRow>,
     pub(crate) errors: Vec<ErrorRow>,
@@ -144,9 +148,16 @@ impl Room {
     }
 
     fn of(rows: usize, errors: usize, messages: usize) -> Room {
-        const ROW: FlatRow = FlatRow { kind: 0, start: 0, subtree_end: 0, parent: 0 };
-        const ERROR: ErrorRow = ErrorRow { start: 0, end: 0, message: 0 };
-        Room { rows: vec![ROW; rows], errors: vec![ERROR; errors], messages: vec![0; messages] }
+        Room { rows: Vec::with_capacity(rows), errors: Vec::with_capacity(errors), messages: Vec::with_capacity(messages) }
+    }
+
+    // SAFETY: the library has written so many rows, errors and bytes to the front of each buffer.
+    unsafe fn written(&mut self, counts: &Counts) {
+        unsafe {
+            self.rows.set_len(counts.rows as usize);
+            self.errors.set_len(counts.errors as usize);
+            self.messages.set_len(counts.messages as usize);
+        }
     }
 }
 
@@ -175,20 +186,44 @@ impl Tree {
     ///
     /// It panics if the library that is linked is not the one that this crate was made for.
     pub fn parse(text: impl Into<Box<str>>, edition: Edition) -> Result<Tree, ParseError> {
-        Tree::told(text.into(), edition, |text, room, counts| {
+        Tree::read(text.into(), edition, raw::ras_c_read)
+    }
+
+    /// The tree of a text, read as an expression. Its root is a node of an expression, or `ERROR` if the text is not one expression; there
+    /// are errors then.
+    ///
+    /// ```
+    /// use ras::{Edition, SyntaxKind, Tree};
+    ///
+    /// let tree = Tree::parse_expr("1 + 2", Edition::CURRENT)?;
+    /// assert_eq!(tree.root().kind(), SyntaxKind::BIN_EXPR);
+    /// assert_eq!(Tree::parse_expr("let x = 1;", Edition::CURRENT)?.root().kind(), SyntaxKind::ERROR);
+    /// # Ok::<(), ras::ParseError>(())
+    /// ```
+    ///
+    /// # Panics
+    ///
+    /// It panics if the library that is linked is not the one that this crate was made for.
+    pub fn parse_expr(text: impl Into<Box<str>>, edition: Edition) -> Result<Tree, ParseError> {
+        Tree::read(text.into(), edition, raw::ras_c_read_expr)
+    }
+
+    // The tree of a text, by one of the calls that read a text.
+    fn read(text: Box<str>, edition: Edition, by: ReadCall) -> Result<Tree, ParseError> {
+        Tree::told(text, edition, |text, room, counts| {
             // SAFETY: the text and the three buffers are borrowed for the call, with their lengths, none overlaps another, and the
             // declaration is made from that of `crates/ras_c`.
             unsafe {
-                raw::ras_c_read(
+                by(
                     text.as_ptr(),
                     text.len(),
                     edition.year(),
                     room.rows.as_mut_ptr(),
-                    room.rows.len(),
+                    room.rows.capacity(),
                     room.errors.as_mut_ptr(),
-                    room.errors.len(),
+                    room.errors.capacity(),
                     room.messages.as_mut_ptr(),
-                    room.messages.len(),
+                    room.messages.capacity(),
                     counts,
                 )
             }
@@ -207,12 +242,9 @@ impl Tree {
         while !answered(call(&text, &mut room, &mut counts))? {
             room = Room::of(counts.rows as usize, counts.errors as usize, counts.messages as usize);
         }
-        room.rows.truncate(counts.rows as usize);
-        let errors = errors_of(
-            &room.errors[..counts.errors as usize],
-            &room.messages[..counts.messages as usize],
-            counts.violations as usize,
-        );
+        // SAFETY: the call returned `OK`, and then the counts are those of what it wrote.
+        unsafe { room.written(&counts) };
+        let errors = errors_of(&room.errors, &room.messages, counts.violations as usize);
         Ok(Tree(Arc::new(Inner { text, edition, rows: room.rows.into(), errors })))
     }
 

@@ -1,6 +1,6 @@
 //! The values of literals, by the calls of the library.
 use crate::escape::EscapeError;
-use crate::raw;
+use ras_sys as raw;
 
 type OfString = unsafe extern "C" fn(*const u8, usize, *mut u8, usize, *mut u32) -> u32;
 type OfSign = unsafe extern "C" fn(*const u8, usize, *mut u32) -> u32;

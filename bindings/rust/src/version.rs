@@ -1,5 +1,5 @@
 //! The number of the library's kinds and calls.
-use crate::raw;
+use ras_sys as raw;
 use std::sync::OnceLock;
 
 static FOUND: OnceLock<u32> = OnceLock::new();

@@ -6,6 +6,7 @@ use Rattle.tree_model.specs.Edit.{root_of}
 use Rattle.tree_rows.specs.Flat.{flat_rows}
 use Rattle.tree_rows.specs.declared.table.flat.FlatRow.{FlatRow}
 use Rattle.ras_front_end.specs.declared.edition.Edition.{Edition}
+use Rattle.ras_front_end.specs.declared.edition.Entry.{Entry}
 use Rattle.ras_front_end.specs.declared.edition.Entry.TheVariants.{SourceFile}
 use Rattle.ras_front_end.specs.Fault.{Fault}
 use Rattle.ras_front_end.specs.Parsed.{Parsed, IsParseOf}
@@ -65,8 +66,12 @@ told p b = buffers (over (flat_rows p.tree) b.rows) (over (map error_row (all_er
 abbrev pub counted : Parsed → Buffers → Buffers
 counted p b = buffers b.rows b.errors b.messages (needed p)
 
--- the parse is one of the text by the front end for Rust, in the edition of the year
-pub record IsReading (year : ℕ) (text : List ℕ) (p : Parsed) : Type 0 where
+-- the parse is one of the text by an entry of the front end for Rust, in the edition of the year
+pub record IsReadingAs (entry : Entry) (year : ℕ) (text : List ℕ) (p : Parsed) : Type 0 where
   pub edition : Edition
   pub edition_is : edition_of year ≡ Some edition
-  pub parses : IsParseOf text (rust_front.parsed SourceFile edition text) p
+  pub parses : IsParseOf text (rust_front.parsed entry edition text) p
+
+-- the same of a whole file
+abbrev pub IsReading : ℕ → List ℕ → Parsed → Type 0
+IsReading year text p = IsReadingAs SourceFile year text p

@@ -1,17 +1,18 @@
 //! Rows and errors of a text.
 ghost use Rattle.std.specs.Prelude.{◌≡◌, ◌↔◌, ◌≤◌, ◌<◌, ◌^◌, ◌⊎◌, length, map, IfOk, IfSome, IsUtf8, None, string_bytes};
 ghost use Rattle.ras_front_end.specs.Parsed.{Parsed};
+ghost use Rattle.ras_front_end.specs.declared.edition.Entry.TheVariants.{Expr};
 ghost use Rattle.tree_model.specs.Tree.{size};
 ghost use Rattle.tree_rows.specs.Flat.{flat_rows};
 ghost use Rattle.ras_c.specs.Border.{edition_of, over};
-ghost use Rattle.ras_c.specs.Read.{error_row, messages_of, told, counted, HasRoom, IsSmall, IsReading, buffers};
+ghost use Rattle.ras_c.specs.Read.{error_row, messages_of, told, counted, HasRoom, IsSmall, IsReading, IsReadingAs, buffers};
 
 use crate::fill::{fill, small};
-use crate::parsed::parsed;
+use crate::parsed::{parsed, parsed_as};
 use crate::root::Root;
 use crate::status::{NO_MEMORY, NO_ROOM, OK, TOO_LONG};
 use lossless_tree::FlatRow;
-use ras_front_end::SyntaxError;
+use ras_front_end::{Entry, SyntaxError};
 use ras_parsing::Parse;
 use std::alloc::{AllocError, Global};
 
@@ -172,6 +173,42 @@ pub extern "C" fn ras_c_read(
     ensures which { result ≤ 5 }
 {
     match parsed(alloc, text, edition) {
+        Ok(parse) => tell(alloc, &parse, rows, errors, messages, counts),
+        Err(status) => status,
+    }
+}
+
+/// Parses a text as an expression of an edition, and writes what `ras_c_read` writes for a file. The root is a node of an expression, or
+/// `ERROR` if the text is not one expression; there are errors then.
+///
+/// Returns [`OK`], [`NOT_UTF8`], [`TOO_LONG`], [`NO_MEMORY`], [`NO_ROOM`] or [`NO_EDITION`].
+#[unsafe(no_mangle)]
+pub extern "C" fn ras_c_read_expr(
+    alloc: Global,
+    text: &[u8],
+    edition: u32,
+    rows: &mut [FlatRow],
+    errors: &mut [ErrorRow],
+    messages: &mut [u8],
+    counts: &mut Counts,
+) -> u32
+    ensures done { result ≡ 0 → (p : Parsed) × IsReadingAs Expr edition text.now p × IsSmall p
+        × HasRoom p (buffers rows.old errors.old messages.old counts.old)
+        × (buffers rows.new errors.new messages.new counts.new
+        ≡ told p (buffers rows.old errors.old messages.old counts.old)) }
+    ensures room { result ≡ 4 → (p : Parsed) × IsReadingAs Expr edition text.now p × IsSmall p
+        × (HasRoom p (buffers rows.old errors.old messages.old counts.old) → ⊥)
+        × (buffers rows.new errors.new messages.new counts.new
+        ≡ counted p (buffers rows.old errors.old messages.old counts.old)) }
+    ensures kept { (result ≡ 0 → ⊥) → (result ≡ 4 → ⊥) → buffers rows.new errors.new messages.new counts.new
+        ≡ buffers rows.old errors.old messages.old counts.old }
+    ensures utf8 { (result ≡ 1) ↔ (edition_of edition ≡ None → ⊥) × (IsUtf8 text.now → ⊥) }
+    ensures long { result ≡ 2 → (2 ^ 32 ≤ length text.now)
+        ⊎ ((p : Parsed) × IsReadingAs Expr edition text.now p × (IsSmall p → ⊥)) }
+    ensures edition { (result ≡ 5) ↔ (edition_of edition ≡ None) }
+    ensures which { result ≤ 5 }
+{
+    match parsed_as(alloc, Entry::Expr, text, edition) {
         Ok(parse) => tell(alloc, &parse, rows, errors, messages, counts),
         Err(status) => status,
     }

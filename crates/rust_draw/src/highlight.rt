@@ -56,7 +56,10 @@ fn escape_of(role: Role) -> &'static str {
 
 static STYLE: &str = "<style>
 body { margin: 0; background: #fff; color: #1f2328 }
-pre { margin: 0; padding: 1em; font: 13px/1.5 ui-monospace, monospace; tab-size: 4 }
+pre { margin: 0; padding: 1em; font: 13px/1.5 ui-monospace, monospace; tab-size: 4; counter-reset: line }
+a { counter-increment: line; color: #6e7781; text-decoration: none; user-select: none }
+a::before { content: counter(line); display: inline-block; width: 4em; padding-right: 1em; text-align: right }
+a:target::before { background: #fff3b0; color: #1f2328 }
 .comment { color: #6a737d; font-style: italic }
 .keyword { color: #cf222e }
 .string { color: #0a6b2d }
@@ -80,13 +83,27 @@ body { background: #0d1117; color: #e6edf3 }
 <pre>
 ";
 
-fn write_html<W: Write>(out: &mut W, role: Role, text: &str) -> io::Result<()> {
-    let (class, text) = (class_of(role), in_html(text));
-    if class.is_empty() {
-        write!(out, "{text}")
-    } else {
-        write!(out, "<span class=\"{class}\">{text}</span>")
+// Writes what a line begins with: its number, which is a link to itself.
+fn write_anchor<W: Write>(out: &mut W, line: u64) -> io::Result<()> {
+    write!(out, "<a id=\"L{line}\" href=\"#L{line}\"></a>")
+}
+
+// Writes a text in the colour of a role, which ends at the end of each line and begins again after it. `line` is the number of the line.
+fn write_html<W: Write>(out: &mut W, role: Role, text: &str, line: &mut u64) -> io::Result<()> {
+    let class = class_of(role);
+    for part in text.split_inclusive('\n') {
+        let shown = in_html(part);
+        if class.is_empty() {
+            write!(out, "{shown}")?;
+        } else {
+            write!(out, "<span class=\"{class}\">{shown}</span>")?;
+        }
+        if part.ends_with('\n') {
+            *line = line.saturating_add(1);
+            write_anchor(out, *line)?;
+        }
     }
+    Ok(())
 }
 
 // What ends a line of a token: a line feed, with the carriage return before it. A carriage return that ends a comment is before the line
@@ -131,10 +148,11 @@ fn is_before_feed(text: &str, token: &SyntaxToken) -> bool {
 // Writes the tokens of a tree.
 fn write_tokens<W: Write>(out: &mut W, root: &SyntaxNode, ink: Ink) -> io::Result<()> {
     let text = root.as_str();
+    let mut line = 1u64;
     for element in root.descendants_with_tokens() {
         if let NodeOrToken::Token(token) = &element {
             match ink {
-                Ink::Html => write_html(out, role_of(token), token.text())?,
+                Ink::Html => write_html(out, role_of(token), token.text(), &mut line)?,
                 Ink::Ansi => {
                     let is_before_feed = is_before_feed(text, token);
                     write_ansi(out, role_of(token), token.text(), is_before_feed)?;
@@ -148,6 +166,7 @@ fn write_tokens<W: Write>(out: &mut W, root: &SyntaxNode, ink: Ink) -> io::Resul
 fn write_page<W: Write>(out: &mut W, name: &str, root: &SyntaxNode) -> io::Result<()> {
     write_head(out, name)?;
     out.write_all(STYLE.as_bytes())?;
+    write_anchor(out, 1)?;
     write_tokens(out, root, Ink::Html)?;
     out.write_all(b"</pre>\n</body>\n</html>\n")
 }

@@ -4,5 +4,6 @@
 pub mod highlight;
 pub mod html;
 pub mod page;
+mod page_parts;
 pub mod tree;
 mod tree_json;

@@ -1,7 +1,7 @@
 //! The indentation of lines: levels, and nodes with more or fewer blanks.
 use super::AstNode;
 use crate::node::{NodeOrToken, SyntaxElement, SyntaxNode, SyntaxToken, Token};
-use crate::raw::FlatRow;
+use ras_sys::FlatRow;
 use crate::tree::Tree;
 use crate::{ParseError, SyntaxKind};
 use std::fmt;

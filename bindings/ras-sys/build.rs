@@ -1,7 +1,7 @@
 //! Finds the proved static library, and links it. It runs nothing and writes nothing.
 //!
 //! It is `libras_c.a` in the folder that `RAS_C_DIR` names; else in the folder `lib` of what `./run --lib --dist` made, if the crate is in
-//! that; else in the repository's `crates/ras_c/out`, where `./run --lib` puts it.
+//! that; else in the repository's `crates/ras_c/out`, where `./run --lib` puts it. docs.rs links nothing, so nothing is looked for there.
 use std::env;
 use std::fs;
 use std::path::{Path, PathBuf};
@@ -27,6 +27,9 @@ fn main() {
     let here = PathBuf::from(env::var_os("CARGO_MANIFEST_DIR").expect("cargo names the package's folder"));
     println!("cargo:rerun-if-env-changed=RAS_C_DIR");
     println!("cargo:rerun-if-changed=build.rs");
+    if env::var_os("DOCS_RS").is_some() {
+        return;
+    }
     let beside = || [here.join("../../lib"), here.join("../../crates/ras_c/out")].into_iter().find(|it| it.join(ARCHIVE).exists());
     let folder = env::var_os("RAS_C_DIR").map(PathBuf::from).or_else(beside).unwrap_or_else(|| here.join("../../crates/ras_c/out"));
     println!("cargo:rerun-if-changed={}", folder.join(ARCHIVE).display());
@@ -34,11 +37,12 @@ fn main() {
         Ok(()) => {
             println!("cargo:rustc-link-search=native={}", folder.display());
             println!("cargo:rustc-link-lib=static=ras_c");
+            println!("cargo:lib={}", folder.display());
         }
         Err(why) => {
             eprintln!(
                 "{why}. `./run --lib` at the top of the repository proves and builds the library, which takes the toolchain's command `rt`; \
-                 RAS_C_DIR may name a folder that has it"
+                 `./run --lib --dist DIR` makes a folder to keep or to hand on. Set RAS_C_DIR to the folder that has {ARCHIVE}, such as DIR/lib"
             );
             exit(1)
         }

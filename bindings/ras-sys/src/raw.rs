@@ -1,5 +1,4 @@
 //! The calls of the library, as `crates/ras_c` declares them. Written by bindings/make.
-#![allow(dead_code)]
 
 /// A number that no kind has.
 pub const NO_KIND: u32 = 4294967295;
@@ -42,7 +41,7 @@ pub const TOO_LARGE: u32 = 10;
 pub const FAULT: u32 = 64;
 
 /// A number made of the kinds, constants, structs and calls of the library. Bindings that know another number were made for others.
-pub const VERSION: u32 = 3174814452;
+pub const VERSION: u32 = 1261704605;
 
 /// One node or token, in 16 bytes. Rows are numbered from 0 in preorder.
 #[repr(C)]
@@ -209,6 +208,23 @@ unsafe extern "C" {
     /// Returns [`OK`], [`NOT_UTF8`], [`TOO_LONG`], [`NO_MEMORY`], [`NO_ROOM`] or [`NO_EDITION`]. Text with syntax errors has a tree too. A text
     /// of n bytes seldom has more than 2 n rows.
     pub fn ras_c_read(
+        text: *const u8,
+        text_len: usize,
+        edition: u32,
+        rows: *mut FlatRow,
+        rows_len: usize,
+        errors: *mut ErrorRow,
+        errors_len: usize,
+        messages: *mut u8,
+        messages_len: usize,
+        counts: *mut Counts,
+    ) -> u32;
+
+    /// Parses a text as an expression of an edition, and writes what `ras_c_read` writes for a file. The root is a node of an expression, or
+    /// `ERROR` if the text is not one expression; there are errors then.
+    ///
+    /// Returns [`OK`], [`NOT_UTF8`], [`TOO_LONG`], [`NO_MEMORY`], [`NO_ROOM`] or [`NO_EDITION`].
+    pub fn ras_c_read_expr(
         text: *const u8,
         text_len: usize,
         edition: u32,
