@@ -32,6 +32,7 @@ TABLES = [
     ("rows", "u16", "The rows of targets."),
     ("powers", "Option<Power>", "How the operators bind."),
     ("kinds", "SyntaxKind", "The kinds of tokens, by their numbers."),
+    ("sealed", "SyntaxKind", "The kinds of the nodes that sealed calls make."),
 ]
 
 
@@ -217,7 +218,7 @@ def table_pages(source, grammar):
     """The file that lends the tables out, and the definition that names them."""
     name = f"{source.text.removesuffix('.grammar')}_tables"
     modules = [("pub(crate) ", "joint_table")] * bool(grammar.joint) + [("pub(crate) ", "kind_table")]
-    modules += [("", module) for module in ("messages", "op_table", "power_table", "row_table", "rules", "set_table")]
+    modules += [("", module) for module in ("messages", "op_table", "power_table", "row_table", "rules", "sealed_table", "set_table")]
     lent = "".join(f"// {doc}\nfn {it}() -> &'static [{kind}]\n    ensures {{ result.now ≡ {it.upper()} }}\n{{\n    &{it.upper()}\n}}\n\n" for it, kind, doc in TABLES)
     code = (
         f"//! The tables, which `tests/grammar` writes from `{source.text}`, lent out.\n"
@@ -226,7 +227,7 @@ def table_pages(source, grammar):
         f"ghost use Rattle.{source.crate}.specs.Tables.{{{name}}};\n\n"
         + "".join(f"{visible}mod {module};\n" for visible, module in modules)
         + "\nuse grammar_machine::{Grammar, Op, Power};\nuse kind_table::KINDS;\npub use messages::message;\nuse op_table::OPS;\n"
-        "use power_table::POWERS;\nuse row_table::ROWS;\npub use rules::{Rule, rule_of};\nuse set_table::SETS;\nuse syntax_kind::SyntaxKind;\n\n"
+        "use power_table::POWERS;\nuse row_table::ROWS;\npub use rules::{Rule, rule_of};\nuse sealed_table::SEALED;\nuse set_table::SETS;\nuse syntax_kind::SyntaxKind;\n\n"
         + lent
         + f"/// {source.title}, as the text `{source.text}` of this crate has it.\n///\n/// It costs nothing: the tables are part of the program.\n"
         f"#[tactic(auto, unfolding(crate::specs::Tables::{name}))]\n"
@@ -261,6 +262,9 @@ def pages(source, grammar, table, top):
     powers = [grammar.powers.get(kind) for kind in range(len(grammar.kinds))]
     powers = [f"Some(Power {{ level: {p[0]}, right: {p[1]} }})" if p else "None" for p in powers]
     made["src/tables/power_table.rt"] = page(source, "How operators bind.", [static("The powers of operators, by the numbers of kinds.", "POWERS", "Option<Power>", powers)], uses=["grammar_machine::Power"])
+    sealed = static("The kinds of the nodes that sealed calls make.", "SEALED", "SyntaxKind", [text_of(kind) for kind in grammar.sealed.values()])
+    uses = sorted({*named_in([sealed]), "syntax_kind::SyntaxKind"})
+    made["src/tables/sealed_table.rt"] = page(source, "The nodes of sealed calls.", [sealed], uses=uses)
     made["src/tables/kind_table.rt"] = kind_page(source, grammar, library, others)
     if grammar.joint:
         made["src/tables/joint_table.rt"] = joint_page(source, grammar)

@@ -58,7 +58,7 @@ above e rest (x ∷ later) y xs h =
     long [] = omega arith
     long (l ∷ ls) = omega (arith, long ls)
 
-reverse_map : (f : Event → Event) (xs : List Event) → reverse (map f xs) ≡ map f (reverse xs)
+pub reverse_map : (f : Event → Event) (xs : List Event) → reverse (map f xs) ≡ map f (reverse xs)
 reverse_map f [] = refl
 reverse_map f (x ∷ xs) =
     reverse-append (f x ∷ []) (map f xs) ∙ ap (λ ys. ys ++ f x ∷ []) (reverse_map f xs)

@@ -14,3 +14,8 @@ pub mod Staying
 pub mod Filled
 pub mod Inserting
 pub mod Taking
+pub mod Finding
+pub mod Exchanged
+pub mod Ends
+pub mod Placed
+pub mod Replaced

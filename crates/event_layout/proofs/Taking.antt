@@ -14,12 +14,12 @@ use Rattle.event_layout.specs.Filled.{past_lead, taken, left_by, left_after}
 use Rattle.event_layout.specs.Taking.{seen_tokens, FindsTokens, AllFind, EventsLeaveWhatIsSeen}
 use Rattle.event_layout.proofs.Amid.{lead_more, lead_none, lead_past}
 
-past_on : (t : RawToken) (ts : List RawToken) → is_trivia t.kind ≡ true → past_lead (t ∷ ts) ≡ past_lead ts
+pub past_on : (t : RawToken) (ts : List RawToken) → is_trivia t.kind ≡ true → past_lead (t ∷ ts) ≡ past_lead ts
 past_on t ts e =
     let l : lead (t ∷ ts) ≡ suc (lead ts) = lead_more t ts ∙ ap (λ b. if b then lead ts + 1 else 0) e ∙ add-one (lead ts) in
     ap (λ n. drop n (t ∷ ts)) l
 
-past_stops : (t : RawToken) (ts : List RawToken) → is_trivia t.kind ≡ false → past_lead (t ∷ ts) ≡ t ∷ ts
+pub past_stops : (t : RawToken) (ts : List RawToken) → is_trivia t.kind ≡ false → past_lead (t ∷ ts) ≡ t ∷ ts
 past_stops t ts e =
     let l : lead (t ∷ ts) ≡ 0 = lead_more t ts ∙ ap (λ b. if b then lead ts + 1 else 0) e in
     ap (λ n. drop n (t ∷ ts)) l
@@ -40,7 +40,7 @@ seen_both_on : (t : RawToken) (xs ys : List RawToken) (b : Bool) → seen_tokens
 seen_both_on t xs ys true h = h
 seen_both_on t xs ys false h = ap (λ zs. t ∷ zs) h
 
-seen_both : (xs ys : List RawToken) → seen_tokens (xs ++ ys) ≡ seen_tokens xs ++ seen_tokens ys
+pub seen_both : (xs ys : List RawToken) → seen_tokens (xs ++ ys) ≡ seen_tokens xs ++ seen_tokens ys
 seen_both [] ys = refl
 seen_both (t ∷ xs) ys = seen_both_on t xs ys (is_trivia t.kind) (seen_both xs ys)
 
@@ -54,7 +54,7 @@ first_seen_on : (t : RawToken) (ts : List RawToken) (b : Bool) → is_trivia t.k
 first_seen_on t ts false e h = ap (λ b. if b then [] else t ∷ []) e
 first_seen_on t ts true e h = absurd (omega (arith, h, lead_more t ts ∙ ap (λ b. if b then lead ts + 1 else 0) e))
 
-first_seen : (ts : List RawToken) → lead ts ≡ 0 → seen_tokens (take 1 ts) ≡ take 1 ts
+pub first_seen : (ts : List RawToken) → lead ts ≡ 0 → seen_tokens (take 1 ts) ≡ take 1 ts
 first_seen [] h = refl
 first_seen (t ∷ ts) h = first_seen_on t ts (is_trivia t.kind) refl h
 
@@ -66,7 +66,7 @@ none_left : (ts : List RawToken) → seen_tokens ts ≡ [] → past_lead ts ≡ 
 none_left [] h = past_empty
 none_left (t ∷ ts) h = none_left_on t ts (is_trivia t.kind) refl (none_left ts) h
 
-taken_is : (n : ℕ) (ts : List RawToken) → n ≤ length ts → taken n ts ≡ Some (drop n ts)
+pub taken_is : (n : ℕ) (ts : List RawToken) → n ≤ length ts → taken n ts ≡ Some (drop n ts)
 taken_is n ts h = let e : nat_le n (length ts) ≡ true = grind (arith, nat_tests, h) in ap (λ b. if b then Some (drop n ts) else None) e
 
 -- what one event leaves

@@ -291,7 +291,7 @@ root_behind_from xs ys (suc n) h =
     ∙ ap (λ o. if is_node_at o then length xs + n else root_from (xs ++ ys) (length xs + n)) (get_behind xs ys n)
     ∙ root_behind_on xs ys n (is_node_at (slice_get ys n)) refl (root_behind_from xs ys n) h
 
-root_behind : (xs ys : List Event) → root_of ys < length ys → root_of (xs ++ ys) ≡ length xs + root_of ys
+pub root_behind : (xs ys : List Event) → root_of ys < length ys → root_of (xs ++ ys) ≡ length xs + root_of ys
 root_behind xs ys h = ap (root_from (xs ++ ys)) (length-append xs ys) ∙ root_behind_from xs ys (length ys) h
 
 is_node_later : (e n : ℕ) (o : Option Event) → is_node_at (option_map (event_later e n) o) ≡ is_node_at o

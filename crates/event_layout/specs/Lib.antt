@@ -6,3 +6,8 @@ pub mod Orders
 pub mod Amid
 pub mod Filled
 pub mod Taking
+pub mod Finding
+pub mod Exchanged
+pub mod Ending
+pub mod Placed
+pub mod Replaced

@@ -5,9 +5,11 @@
 //! whatever the events are.
 #![tactic(auto)]
 
+mod ending;
 pub mod laws;
 mod layout;
 mod starts;
 mod trivia;
 
+pub use ending::ends_in_token;
 pub use layout::{Fault, LaidOut, lay_out, outermost};

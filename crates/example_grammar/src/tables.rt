@@ -9,6 +9,7 @@ mod op_table;
 mod power_table;
 mod row_table;
 mod rules;
+mod sealed_table;
 mod set_table;
 
 use grammar_machine::{Grammar, Op, Power};
@@ -18,6 +19,7 @@ use op_table::OPS;
 use power_table::POWERS;
 use row_table::ROWS;
 pub use rules::{Rule, rule_of};
+use sealed_table::SEALED;
 use set_table::SETS;
 use syntax_kind::SyntaxKind;
 
@@ -56,6 +58,13 @@ fn kinds() -> &'static [SyntaxKind]
     &KINDS
 }
 
+// The kinds of the nodes that sealed calls make.
+fn sealed() -> &'static [SyntaxKind]
+    ensures { result.now ≡ SEALED }
+{
+    &SEALED
+}
+
 /// The grammar of arithmetic, as the text `arithmetic.grammar` of this crate has it.
 ///
 /// It costs nothing: the tables are part of the program.
@@ -69,6 +78,7 @@ pub fn grammar() -> Grammar<'static>
         rows: rows(),
         powers: powers(),
         kinds: kinds(),
+        sealed: sealed(),
         opening: 0,
         closing: 0,
     }

@@ -15,7 +15,7 @@ use Rattle.grammar_machine.specs.declared.grammar.Op.TheVariants as op
 use Rattle.grammar_machine.specs.declared.machine.Place.{Place}
 use Rattle.grammar_machine.specs.declared.made.Frame.{Frame}
 use Rattle.grammar_machine.specs.declared.made.Seal.{Seal}
-use Rattle.grammar_machine.specs.Running.{begin_of, longer_of, Tables, Stacks, State, further_of, signs_of_view, operator_view_of, here_of, has_of, holds_of, seen_at_of, power_of, goto_of, goto_if_of, bind_of, mark_of, rest_of, node_of, make_of, start_of, forget_of, close_of, extended_on, with_place, with_made, resume_of, left_of, return_of, answer_of, take_on, piece_on, sealed_on, past_of, obey_of, step_on, step_of, runs}
+use Rattle.grammar_machine.specs.Running.{begin_of, longer_of, Tables, Stacks, State, further_of, signs_of_view, signs_taken_of, seen_as_of, operator_view_of, here_of, has_of, holds_of, seen_at_of, power_of, goto_of, goto_if_of, bind_of, mark_of, rest_of, node_of, make_of, start_of, forget_of, close_of, extended_on, with_place, with_made, resume_of, left_of, return_of, answer_of, take_on, part_of, piece_on, sealed_on, past_of, obey_of, step_on, step_of, runs}
 use Rattle.grammar_machine.specs.Counting.{signs_by, taken_by, RunsCountTokens}
 use Rattle.grammar_machine.proofs.Running.{step-at, runs-none, runs-suc}
 
@@ -64,16 +64,16 @@ forgets s = by_test (nat_lt s.made.floor (length s.made.marks))
     by_test false = stays s
 
 -- a longer node takes no more
-longer : (o : Option ℕ) (e : Event) → signs_by (longer_of o e) ≡ signs_by e
-longer None e = refl
-longer (Some mark) (event.Node k from) = refl
-longer (Some mark) (event.Token k n) = refl
-longer (Some mark) (event.Piece p last) = refl
-longer (Some mark) (event.Error n) = refl
+longer : (ks : List SyntaxKind) (o : Option ℕ) (e : Event) → signs_by (longer_of ks o e) ≡ signs_by e
+longer ks None e = refl
+longer ks (Some mark) (event.Node k from) = refl
+longer ks (Some mark) (event.Token k n) = refl
+longer ks (Some mark) (event.Piece p last) = refl
+longer ks (Some mark) (event.Error n) = refl
 
-extended : (o : Option ℕ) (es : List Event) → taken_by (extended_on o es) ≡ taken_by es
-extended o [] = refl
-extended o (e ∷ es) = ap (λ n. n + taken_by es) (longer o e)
+extended : (ks : List SyntaxKind) (o : Option ℕ) (es : List Event) → taken_by (extended_on ks o es) ≡ taken_by es
+extended ks o [] = refl
+extended ks o (e ∷ es) = ap (λ n. n + taken_by es) (longer ks o e)
 
 moved : (n at k : ℕ) → at < n → n + 3 < 2 ^ 64 → k ≤ 3 → further_of at k ≡ at + k
 moved n at k here short few = mod-eq_of_lt (omega (arith, here, short, few))
@@ -84,14 +84,28 @@ signs Two = omega arith
 signs Three = omega arith
 signs Word = omega arith
 
+signs-by : (x : Bool) (v : View) → (if x then 1 else signs_of_view v) ≤ 3
+signs-by true v = omega arith
+signs-by false v = signs v
+
+signs-taken : (v : View) (t : Sight) → signs_taken_of v t ≤ 3
+signs-taken v t = signs-by (nat_eq (seen_as_of v t) 0) v
+
 takes : (g : Tables) (ts : List Sight) (v : View) (o : Option Sight) (s : State) → length ts + 3 < 2 ^ 64 → slice_get ts s.place.at ≡ o → Counts s (take_on g v o s)
 takes g ts v None s short e = stays s
-takes g ts v (Some t) s short e = record { is = omega (arith, moved (length ts) s.place.at (signs_of_view v) (slice_get_within ts s.place.at t e) short (signs v)) }
+takes g ts v (Some t) s short e = record { is = omega (arith, moved (length ts) s.place.at (signs_taken_of v t) (slice_get_within ts s.place.at t e) short (signs-taken v t)) }
 
 pieces : (ts : List Sight) (part : Part) (last : Bool) (o : Option Sight) (s : State) → length ts + 3 < 2 ^ 64 → slice_get ts s.place.at ≡ o → Counts s (piece_on part last o s)
 pieces ts part last None s short e = stays s
-pieces ts part false (Some t) s short e = makes (event.Piece part false) s refl
-pieces ts part true (Some t) s short e = record { is = omega (arith, moved (length ts) s.place.at 1 (slice_get_within ts s.place.at t e) short (omega arith)) }
+pieces ts part last (Some t) s short e = by_test (nat_eq t.word 0)
+  where
+    by_last : (y : Bool) → Counts s (part_of part y s)
+    by_last false = makes (event.Piece part false) s refl
+    by_last true = record { is = omega (arith, moved (length ts) s.place.at 1 (slice_get_within ts s.place.at t e) short (omega arith)) }
+
+    by_test : (x : Bool) → Counts s (if x then s else part_of part last s)
+    by_test true = stays s
+    by_test false = by_last last
 
 seals : (g : Tables) (ts : List Sight) (target : ℕ) (k : SyntaxKind) (o : Option Sight) (s : State) → length ts + 3 < 2 ^ 64 → slice_get ts s.place.at ≡ o → Counts s (sealed_on g target k o s)
 seals g ts target k None s short e = stays s
@@ -143,7 +157,7 @@ obey-counts g ts (op.Close k) s short = counts-twice s (with_made forget_of s) (
 obey-counts g ts (op.Leaf k) s short =
     counts-twice s (take_on g One (slice_get ts s.place.at) s) (with_made (make_of (event.Node k (start_of s.made))) (take_on g One (slice_get ts s.place.at) s))
     (takes g ts One (slice_get ts s.place.at) s short refl) (makes (event.Node k (start_of s.made)) (take_on g One (slice_get ts s.place.at) s) refl)
-obey-counts g ts op.Extend s short = record { is = ap (λ n. s.place.at + n) (extended (mark_of s.made) s.made.events) }
+obey-counts g ts op.Extend s short = record { is = ap (λ n. s.place.at + n) (extended g.sealed (mark_of s.made) s.made.events) }
 obey-counts g ts (op.Error n) s short = makes (event.Error n) s refl
 obey-counts g ts (op.Call target) s short = record { is = refl }
 obey-counts g ts (op.Enter target) s short = record { is = refl }

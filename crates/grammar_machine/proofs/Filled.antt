@@ -19,13 +19,13 @@ use Rattle.grammar_machine.specs.declared.event.Part.{Part}
 use Rattle.grammar_machine.specs.declared.machine.Place.{Place}
 use Rattle.grammar_machine.specs.declared.made.Frame.{Frame}
 use Rattle.grammar_machine.specs.declared.made.Seal.{Seal}
-use Rattle.grammar_machine.specs.Running.{Tables, Stacks, State, seen_of, signs_of_view, further_of, saturated_of, has_of, target_of, kind_of, seen_as_of, goto_of, goto_if_of, bind_of, power_of, enter_of, pass_of, fresh_of, resume_of, leave_of, with_place, past_of, take_on, piece_on, sealed_on, make_of, start_of, with_made, node_of, mark_of, forget_of, open_of, close_of, call_of, seal_of, hidden_of, unseal_of, left_of, extend_of, extended_on, longer_of, first_of, rest_of, level_for_of, answer_of, frame_of, return_of, call_with, obey_of, step_on, step_of, runs}
+use Rattle.grammar_machine.specs.Running.{Tables, Stacks, State, seen_of, signs_taken_of, further_of, saturated_of, has_of, target_of, kind_of, seen_as_of, goto_of, goto_if_of, bind_of, power_of, enter_of, pass_of, fresh_of, resume_of, leave_of, with_place, past_of, take_on, part_of, piece_on, sealed_on, make_of, start_of, with_made, node_of, mark_of, forget_of, open_of, close_of, call_of, seal_of, hidden_of, unseal_of, left_of, extend_of, extended_on, is_among, longer_of, first_of, rest_of, level_for_of, answer_of, frame_of, return_of, call_with, obey_of, step_on, step_of, runs}
 use Rattle.grammar_machine.specs.Alone.{reach_of, looks_back_of}
 use Rattle.grammar_machine.specs.Framing.{Around}
 use Rattle.grammar_machine.specs.Filling.{Hole, later_than, event_later, seal_later, inserted, place_after, made_after, filled, LooksAreShort, RunsGoOn}
 use Rattle.grammar_machine.proofs.Running.{step-at, runs-none, runs-suc}
 use Rattle.grammar_machine.proofs.Growing.{Grows, runs-grow, step-grows}
-use Rattle.grammar_machine.proofs.Framed.{here-in, holds-in, min-low, view_by, roomy, further-in, few-signs}
+use Rattle.grammar_machine.proofs.Framed.{here-in, holds-in, min-low, view_by, roomy, further-in, few-taken}
 
 -- the tokens go on in the same way below b
 abbrev pub GoesBelow : ℕ → Hole → List Sight → List Sight → Type 0
@@ -120,19 +120,24 @@ start-after h m over few =
     ap saturated_of (length-inserted h.below h.rest m.events) ∙ min-low _ _ far
     ∙ sym (ap (later_than h.below (length h.rest)) (min-low _ _ near) ∙ later-above h.below (length h.rest) (length m.events) over)
 
-longer-after : (e n : ℕ) (o : Option ℕ) (x : Event) → longer_of (option_map (later_than e n) o) (event_later e n x) ≡ event_later e n (longer_of o x)
-longer-after e n None x = refl
-longer-after e n (Some m) (event.Node k from) = ap (λ i. event.Node k i) (later-min e n from m)
-longer-after e n (Some m) (event.Token k signs) = refl
-longer-after e n (Some m) (event.Piece p last) = refl
-longer-after e n (Some m) (event.Error i) = refl
+earlier-after : (x : Bool) (e n from m : ℕ) → (if x then later_than e n from else min (later_than e n from) (later_than e n m)) ≡ later_than e n (if x then from else min from m)
+earlier-after true e n from m = refl
+earlier-after false e n from m = later-min e n from m
 
-extended-after : (e : ℕ) (rest : List Event) (o : Option ℕ) (es : List Event) → e < length es → extended_on (option_map (later_than e (length rest)) o) (inserted e rest es) ≡ inserted e rest (extended_on o es)
-extended-after e rest o [] h = absurd (omega (arith, h))
-extended-after e rest o (x ∷ xs) h =
-    ap (extended_on (option_map (later_than e (length rest)) o)) (inserted-more e rest x xs h)
-    ∙ ap (λ y. y ∷ inserted e rest xs) (longer-after e (length rest) o x)
-    ∙ sym (inserted-more e rest (longer_of o x) xs h)
+longer-after : (ks : List SyntaxKind) (e n : ℕ) (o : Option ℕ) (x : Event) → longer_of ks (option_map (later_than e n) o) (event_later e n x) ≡ event_later e n (longer_of ks o x)
+longer-after ks e n None x = refl
+longer-after ks e n (Some m) (event.Node k from) = ap (λ i. event.Node k i) (earlier-after (is_among ks k) e n from m)
+longer-after ks e n (Some m) (event.Token k signs) = refl
+longer-after ks e n (Some m) (event.Piece p last) = refl
+longer-after ks e n (Some m) (event.Error i) = refl
+
+extended-after : (ks : List SyntaxKind) (e : ℕ) (rest : List Event) (o : Option ℕ) (es : List Event) → e < length es
+    → extended_on ks (option_map (later_than e (length rest)) o) (inserted e rest es) ≡ inserted e rest (extended_on ks o es)
+extended-after ks e rest o [] h = absurd (omega (arith, h))
+extended-after ks e rest o (x ∷ xs) h =
+    ap (extended_on ks (option_map (later_than e (length rest)) o)) (inserted-more e rest x xs h)
+    ∙ ap (λ y. y ∷ inserted e rest xs) (longer-after ks e (length rest) o x)
+    ∙ sym (inserted-more e rest (longer_of ks o x) xs h)
 
 -- ---- marks that are not hidden
 
@@ -161,10 +166,10 @@ forget-after h m =
     ap (λ x. if x then record (made_after h m) { marks = rest_of (made_after h m).marks } else made_after h m) (shown-after m.floor h m.marks)
     ∙ rest-by (nat_lt m.floor (length m.marks)) h m m.marks
 
-extend-after : (h : Hole) (m : Stacks) → h.below < length m.events → extend_of (made_after h m) ≡ made_after h (extend_of m)
-extend-after h m over =
-    ap (λ o. record (made_after h m) { events = extended_on o (made_after h m).events }) (mark-after h m)
-    ∙ ap (λ es. record (made_after h m) { events = es }) (extended-after h.below h.rest (mark_of m) m.events over)
+extend-after : (ks : List SyntaxKind) (h : Hole) (m : Stacks) → h.below < length m.events → extend_of ks (made_after h m) ≡ made_after h (extend_of ks m)
+extend-after ks h m over =
+    ap (λ o. record (made_after h m) { events = extended_on ks o (made_after h m).events }) (mark-after h m)
+    ∙ ap (λ es. record (made_after h m) { events = es }) (extended-after ks h.below h.rest (mark_of m) m.events over)
 
 node-on : (h : Hole) (k : SyntaxKind) (o : Option ℕ) (m : Stacks) → h.below < length m.events → node_of k (option_map (later_than h.below (length h.rest)) o) (made_after h m) ≡ made_after h (node_of k o m)
 node-on h k None m over = refl
@@ -195,16 +200,23 @@ goes-after h x y target s e = ap (λ b. with_place (goto_if_of b target) (filled
 take-on-after : (h : Hole) (g : Tables) (v : View) (o : Option Sight) (s : State) → h.below < length s.made.events → (s.place.at + 3) + h.taken < 2 ^ 64 → take_on g v o (filled h s) ≡ filled h (take_on g v o s)
 take-on-after h g v None s over short = refl
 take-on-after h g v (Some t) s over short =
-    ap₂ (λ n (m : Stacks). record { place = record (pass_of (signs_of_view v) s.place) { at = n }; made = m })
-    (further-in s.place.at h.taken (signs_of_view v) (few-signs v) short)
-    (make-after h (event.Token (kind_of g (seen_as_of v t)) (signs_of_view v)) s.made over)
+    ap₂ (λ n (m : Stacks). record { place = record (pass_of (signs_taken_of v t) s.place) { at = n }; made = m })
+    (further-in s.place.at h.taken (signs_taken_of v t) (few-taken v t) short)
+    (make-after h (event.Token (kind_of g (seen_as_of v t)) (signs_taken_of v t)) s.made over)
 
 piece-on-after : (h : Hole) (part : Part) (last : Bool) (o : Option Sight) (s : State) → h.below < length s.made.events → (s.place.at + 3) + h.taken < 2 ^ 64 → piece_on part last o (filled h s) ≡ filled h (piece_on part last o s)
 piece-on-after h part last None s over short = refl
-piece-on-after h part false (Some t) s over short = ap (λ (m : Stacks). record (filled h s) { made = m }) (make-after h (event.Piece part false) s.made over)
-piece-on-after h part true (Some t) s over short =
-    ap₂ (λ n (m : Stacks). record { place = record (pass_of 1 s.place) { at = n }; made = m })
-    (further-in s.place.at h.taken 1 (omega arith) short) (make-after h (event.Piece part true) s.made over)
+piece-on-after h part last (Some t) s over short = by_test (nat_eq t.word 0)
+  where
+    by_last : (y : Bool) → part_of part y (filled h s) ≡ filled h (part_of part y s)
+    by_last false = ap (λ (m : Stacks). record (filled h s) { made = m }) (make-after h (event.Piece part false) s.made over)
+    by_last true =
+        ap₂ (λ n (m : Stacks). record { place = record (pass_of 1 s.place) { at = n }; made = m })
+        (further-in s.place.at h.taken 1 (omega arith) short) (make-after h (event.Piece part true) s.made over)
+
+    by_test : (x : Bool) → (if x then filled h s else part_of part last (filled h s)) ≡ filled h (if x then s else part_of part last s)
+    by_test true = refl
+    by_test false = by_last last
 
 error-after : (h : Hole) (n : ℕ) (s : State) → h.below < length s.made.events → with_made (make_of (event.Error n)) (filled h s) ≡ filled h (with_made (make_of (event.Error n)) s)
 error-after h n s over = ap (λ (m : Stacks). record (filled h s) { made = m }) (make-after h (event.Error n) s.made over)
@@ -317,7 +329,7 @@ obey-after b h g ts us (op.Close k) s on short w = ap (λ (m : Stacks). record (
 obey-after b h g ts us (op.Leaf k) s on short w =
     ap (λ x. with_made (make_of (event.Node k (start_of (made_after h s.made)))) (take_on g One x (filled h s))) (here-in b s.place.at (around h) ts us on w.near)
     ∙ leaf-after h g k (slice_get ts s.place.at) s w.over w.few (roomy b s.place.at h.taken (omega (arith, w.near)) short)
-obey-after b h g ts us op.Extend s on short w = ap (λ (m : Stacks). record (filled h s) { made = m }) (extend-after h s.made w.over)
+obey-after b h g ts us op.Extend s on short w = ap (λ (m : Stacks). record (filled h s) { made = m }) (extend-after g.sealed h s.made w.over)
 obey-after b h g ts us (op.Error n) s on short w = error-after h n s w.over
 obey-after b h g ts us (op.Call target) s on short w = refl
 obey-after b h g ts us (op.Enter target) s on short w = open-after h (call_with target (Own 0) 0 0 s) w.over w.few

@@ -21,7 +21,7 @@ use Rattle.grammar_machine.specs.declared.event.Part.{Part}
 use Rattle.grammar_machine.specs.declared.machine.Place.{Place}
 use Rattle.grammar_machine.specs.declared.made.Frame.{Frame}
 use Rattle.grammar_machine.specs.declared.made.Seal.{Seal}
-use Rattle.grammar_machine.specs.Running.{Tables, Stacks, State, seen_of, signs_of_view, further_of, saturated_of, has_of, is_brace_of, hides_of, sees_of, target_of, kind_of, holds_of, goto_of, goto_if_of, bind_of, power_of, is_some, enter_of, pass_of, fresh_of, resume_of, leave_of, with_place, past_of, take_on, piece_on, sealed_on, make_of, start_of, with_made, node_of, mark_of, forget_of, open_of, close_of, call_of, seal_of, hidden_of, unseal_of, left_of, extend_of, extended_on, longer_of, first_of, rest_of, level_for_of, answer_of, frame_of, return_of, call_with, obey_of, step_on, step_of, runs}
+use Rattle.grammar_machine.specs.Running.{Tables, Stacks, State, seen_of, signs_of_view, signs_taken_of, seen_as_of, further_of, saturated_of, has_of, is_brace_of, hides_of, sees_of, target_of, kind_of, holds_of, goto_of, goto_if_of, bind_of, power_of, is_some, enter_of, pass_of, fresh_of, resume_of, leave_of, with_place, past_of, take_on, part_of, piece_on, sealed_on, make_of, start_of, with_made, node_of, mark_of, forget_of, open_of, close_of, call_of, seal_of, hidden_of, unseal_of, left_of, extend_of, extended_on, is_among, longer_of, first_of, rest_of, level_for_of, answer_of, frame_of, return_of, call_with, obey_of, step_on, step_of, runs}
 use Rattle.grammar_machine.specs.Framing.{Around, sealed_count, IsNested, moved_event, moved_events, moved_marks, moved_seal, place_in, made_in, in_place, Stands, TestStays, IsFew, Stays, NextStays}
 use Rattle.grammar_machine.proofs.Running.{step-at, runs-none, runs-suc}
 use Rattle.grammar_machine.proofs.Hiding.{hides-none, hides-suc}
@@ -92,11 +92,18 @@ further-in at taken n h short =
     let near : at + n < 2 ^ 64 = omega (arith, h, short) in
     mod-eq_of_lt fits ∙ (let e : (at + taken) + n ≡ (at + n) + taken = omega arith in e) ∙ ap (λ k. k + taken) (sym (mod-eq_of_lt near))
 
-pub few-signs : (v : View) → signs_of_view v ≤ 3
+few-signs : (v : View) → signs_of_view v ≤ 3
 few-signs One = omega arith
 few-signs Two = omega arith
 few-signs Three = omega arith
 few-signs Word = omega arith
+
+few-by : (x : Bool) (v : View) → (if x then 1 else signs_of_view v) ≤ 3
+few-by true v = omega arith
+few-by false v = few-signs v
+
+pub few-taken : (v : View) (t : Sight) → signs_taken_of v t ≤ 3
+few-taken v t = few-by (nat_eq (seen_as_of v t) 0) v
 
 pass-in : (c : Around) (n : ℕ) (p : Place) → n ≤ 3 → (p.at + 3) + c.taken < 2 ^ 64 → pass_of n (place_in c p) ≡ place_in c (pass_of n p)
 pass-in c n p h short = ap (λ i. record (pass_of n p) { at = i }) (further-in p.at c.taken n h short)
@@ -113,12 +120,19 @@ enter-in c target l keep add p = ap (λ n. record (place_in c (enter_of target l
 
 take-on-in : (c : Around) (g : Tables) (v : View) (o : Option Sight) (s : State) → (s.place.at + 3) + c.taken < 2 ^ 64 → take_on g v o (in_place c s) ≡ in_place c (take_on g v o s)
 take-on-in c g v None s short = refl
-take-on-in c g v (Some t) s short = ap (λ p. record { place = p; made = (in_place c (take_on g v (Some t) s)).made }) (pass-in c (signs_of_view v) s.place (few-signs v) short)
+take-on-in c g v (Some t) s short = ap (λ p. record { place = p; made = (in_place c (take_on g v (Some t) s)).made }) (pass-in c (signs_taken_of v t) s.place (few-taken v t) short)
 
 piece-on-in : (c : Around) (part : Part) (last : Bool) (o : Option Sight) (s : State) → (s.place.at + 3) + c.taken < 2 ^ 64 → piece_on part last o (in_place c s) ≡ in_place c (piece_on part last o s)
 piece-on-in c part last None s short = refl
-piece-on-in c part false (Some t) s short = refl
-piece-on-in c part true (Some t) s short = ap (λ p. record { place = p; made = (in_place c (piece_on part true (Some t) s)).made }) (pass-in c 1 s.place (omega arith) short)
+piece-on-in c part last (Some t) s short = by_test (nat_eq t.word 0)
+  where
+    by_last : (y : Bool) → part_of part y (in_place c s) ≡ in_place c (part_of part y s)
+    by_last false = refl
+    by_last true = ap (λ p. record { place = p; made = (in_place c (part_of part true s)).made }) (pass-in c 1 s.place (omega arith) short)
+
+    by_test : (x : Bool) → (if x then in_place c s else part_of part last (in_place c s)) ≡ in_place c (if x then s else part_of part last s)
+    by_test true = refl
+    by_test false = by_last last
 
 length-in : (c : Around) (es : List Event) → length (moved_events (length c.events) es ++ c.events) ≡ length es + length c.events
 length-in c es = length-append (moved_events (length c.events) es) c.events ∙ ap (λ n. n + length c.events) (length-map es (moved_event (length c.events)))
@@ -188,24 +202,28 @@ node-in c k a m = ap (λ o. node_of k o (made_in c m)) (mark-in c a) ∙ node-on
 close-in : (c : Around) (k : SyntaxKind) (m : Stacks) → close_of k (made_in c m) ≡ made_in c (close_of k m)
 close-in c k m = ap (λ x. node_of k (mark_of (made_in c m)) x) (forget-in c m) ∙ node-in c k m (forget_of m)
 
-longer-in : (by m : ℕ) (e : Event) → longer_of (Some (m + by)) (moved_event by e) ≡ moved_event by (longer_of (Some m) e)
-longer-in by m (event.Node k from) = ap (λ n. event.Node k n) (add-min-add_right from m by)
-longer-in by m (event.Token k n) = refl
-longer-in by m (event.Piece p last) = refl
-longer-in by m (event.Error n) = refl
+earlier-in : (x : Bool) (by from m : ℕ) → (if x then from + by else min (from + by) (m + by)) ≡ (if x then from else min from m) + by
+earlier-in true by from m = refl
+earlier-in false by from m = add-min-add_right from m by
 
-longer-on : (by : ℕ) (o : Option ℕ) (e : Event) → longer_of (option_map (λ n. n + by) o) (moved_event by e) ≡ moved_event by (longer_of o e)
-longer-on by None e = refl
-longer-on by (Some m) e = longer-in by m e
+longer-in : (ks : List SyntaxKind) (by m : ℕ) (e : Event) → longer_of ks (Some (m + by)) (moved_event by e) ≡ moved_event by (longer_of ks (Some m) e)
+longer-in ks by m (event.Node k from) = ap (λ n. event.Node k n) (earlier-in (is_among ks k) by from m)
+longer-in ks by m (event.Token k n) = refl
+longer-in ks by m (event.Piece p last) = refl
+longer-in ks by m (event.Error n) = refl
 
-extended-in : (by : ℕ) (o : Option ℕ) (es ds : List Event) → 0 < length es → extended_on (option_map (λ n. n + by) o) (moved_events by es ++ ds) ≡ moved_events by (extended_on o es) ++ ds
-extended-in by o [] ds h = absurd (omega (arith, h))
-extended-in by o (e ∷ es) ds h = ap (λ x. x ∷ (moved_events by es ++ ds)) (longer-on by o e)
+longer-on : (ks : List SyntaxKind) (by : ℕ) (o : Option ℕ) (e : Event) → longer_of ks (option_map (λ n. n + by) o) (moved_event by e) ≡ moved_event by (longer_of ks o e)
+longer-on ks by None e = refl
+longer-on ks by (Some m) e = longer-in ks by m e
 
-extend-in : (c : Around) (m : Stacks) → 0 < length m.events → extend_of (made_in c m) ≡ made_in c (extend_of m)
-extend-in c m h =
-    ap (λ o. record (made_in c m) { events = extended_on o (made_in c m).events }) (mark-in c m)
-    ∙ ap (λ es. record (made_in c m) { events = es }) (extended-in (length c.events) (mark_of m) m.events c.events h)
+extended-in : (ks : List SyntaxKind) (by : ℕ) (o : Option ℕ) (es ds : List Event) → 0 < length es → extended_on ks (option_map (λ n. n + by) o) (moved_events by es ++ ds) ≡ moved_events by (extended_on ks o es) ++ ds
+extended-in ks by o [] ds h = absurd (omega (arith, h))
+extended-in ks by o (e ∷ es) ds h = ap (λ x. x ∷ (moved_events by es ++ ds)) (longer-on ks by o e)
+
+extend-in : (ks : List SyntaxKind) (c : Around) (m : Stacks) → 0 < length m.events → extend_of ks (made_in c m) ≡ made_in c (extend_of ks m)
+extend-in ks c m h =
+    ap (λ o. record (made_in c m) { events = extended_on ks o (made_in c m).events }) (mark-in c m)
+    ∙ ap (λ es. record (made_in c m) { events = es }) (extended-in ks (length c.events) (mark_of m) m.events c.events h)
 
 -- ---- calls and returns
 
@@ -298,7 +316,7 @@ obey-in b c g ts us (op.Close k) s stands short h = ap (λ (m : Stacks). record 
 obey-in b c g ts us (op.Leaf k) s stands short h =
     ap (λ x. with_made (make_of (event.Node k (start_of (made_in c s.made)))) (take_on g One x (in_place c s))) (here-in b s.place.at c ts us stands h.near)
     ∙ leaf-in c g k (slice_get ts s.place.at) s h.few (roomy b s.place.at c.taken (omega (arith, h.near)) short)
-obey-in b c g ts us op.Extend s stands short h = ap (λ (m : Stacks). record (in_place c s) { made = m }) (extend-in c s.made h.event)
+obey-in b c g ts us op.Extend s stands short h = ap (λ (m : Stacks). record (in_place c s) { made = m }) (extend-in g.sealed c s.made h.event)
 obey-in b c g ts us (op.Error n) s stands short h = refl
 obey-in b c g ts us (op.Call target) s stands short h = refl
 obey-in b c g ts us (op.Enter target) s stands short h = open-in c (call_with target (Own 0) 0 0 s) h.few

@@ -15,7 +15,7 @@ use Rattle.grammar_machine.specs.declared.grammar.Op.TheVariants as op
 use Rattle.grammar_machine.specs.declared.machine.Place.{Place}
 use Rattle.grammar_machine.specs.declared.made.Frame.{Frame}
 use Rattle.grammar_machine.specs.declared.made.Seal.{Seal}
-use Rattle.grammar_machine.specs.Running.{Tables, Stacks, State, further_of, signs_of_view, operator_view_of, here_of, has_of, holds_of, seen_at_of, power_of, goto_of, goto_if_of, bind_of, mark_of, rest_of, node_of, make_of, start_of, forget_of, close_of, extended_on, with_place, with_made, resume_of, left_of, return_of, answer_of, take_on, piece_on, sealed_on, past_of, obey_of, step_on, step_of, runs}
+use Rattle.grammar_machine.specs.Running.{Tables, Stacks, State, further_of, signs_of_view, signs_taken_of, seen_as_of, operator_view_of, here_of, has_of, holds_of, seen_at_of, power_of, goto_of, goto_if_of, bind_of, mark_of, rest_of, node_of, make_of, start_of, forget_of, close_of, extended_on, with_place, with_made, resume_of, left_of, return_of, answer_of, take_on, part_of, piece_on, sealed_on, past_of, obey_of, step_on, step_of, runs}
 use Rattle.grammar_machine.specs.Framing.{sealed_count, IsNested, ground_of}
 use Rattle.grammar_machine.proofs.Running.{step-at, runs-none, runs-suc}
 
@@ -68,9 +68,9 @@ forgets s = by_test (nat_lt s.made.floor (length s.made.marks))
     by_test true = record { at = same s.place.at; events = same (length s.made.events); nested = λ h. h; ground = refl }
     by_test false = stays s
 
-extended : (o : Option ℕ) (es : List Event) → length es ≤ length (extended_on o es)
-extended o [] = same 0
-extended o (e ∷ es) = omega arith
+extended : (ks : List SyntaxKind) (o : Option ℕ) (es : List Event) → length es ≤ length (extended_on ks o es)
+extended ks o [] = same 0
+extended ks o (e ∷ es) = omega arith
 
 moves : (n at k : ℕ) → at < n → n + 3 < 2 ^ 64 → k ≤ 3 → at ≤ further_of at k
 moves n at k here short few =
@@ -83,14 +83,28 @@ signs Two = omega arith
 signs Three = omega arith
 signs Word = omega arith
 
+signs-by : (x : Bool) (v : View) → (if x then 1 else signs_of_view v) ≤ 3
+signs-by true v = omega arith
+signs-by false v = signs v
+
+signs-taken : (v : View) (t : Sight) → signs_taken_of v t ≤ 3
+signs-taken v t = signs-by (nat_eq (seen_as_of v t) 0) v
+
 takes : (g : Tables) (ts : List Sight) (v : View) (o : Option Sight) (s : State) → length ts + 3 < 2 ^ 64 → slice_get ts s.place.at ≡ o → Grows s (take_on g v o s)
 takes g ts v None s short e = stays s
-takes g ts v (Some t) s short e = record { at = moves (length ts) s.place.at (signs_of_view v) (slice_get_within ts s.place.at t e) short (signs v); events = omega arith; nested = λ h. h; ground = refl }
+takes g ts v (Some t) s short e = record { at = moves (length ts) s.place.at (signs_taken_of v t) (slice_get_within ts s.place.at t e) short (signs-taken v t); events = omega arith; nested = λ h. h; ground = refl }
 
 pieces : (ts : List Sight) (part : Part) (last : Bool) (o : Option Sight) (s : State) → length ts + 3 < 2 ^ 64 → slice_get ts s.place.at ≡ o → Grows s (piece_on part last o s)
 pieces ts part last None s short e = stays s
-pieces ts part false (Some t) s short e = makes (event.Piece part false) s
-pieces ts part true (Some t) s short e = record { at = moves (length ts) s.place.at 1 (slice_get_within ts s.place.at t e) short (omega arith); events = omega arith; nested = λ h. h; ground = refl }
+pieces ts part last (Some t) s short e = by_test (nat_eq t.word 0)
+  where
+    by_last : (y : Bool) → Grows s (part_of part y s)
+    by_last false = makes (event.Piece part false) s
+    by_last true = record { at = moves (length ts) s.place.at 1 (slice_get_within ts s.place.at t e) short (omega arith); events = omega arith; nested = λ h. h; ground = refl }
+
+    by_test : (x : Bool) → Grows s (if x then s else part_of part last s)
+    by_test true = stays s
+    by_test false = by_last last
 
 seals : (g : Tables) (ts : List Sight) (target : ℕ) (k : SyntaxKind) (o : Option Sight) (s : State) → length ts + 3 < 2 ^ 64 → slice_get ts s.place.at ≡ o → Grows s (sealed_on g target k o s)
 seals g ts target k None s short e = stays s
@@ -157,7 +171,7 @@ obey-grows g ts (op.Close k) s short = grows-twice s (with_made forget_of s) (wi
 obey-grows g ts (op.Leaf k) s short =
     grows-twice s (take_on g One (slice_get ts s.place.at) s) (with_made (make_of (event.Node k (start_of s.made))) (take_on g One (slice_get ts s.place.at) s))
     (takes g ts One (slice_get ts s.place.at) s short refl) (makes (event.Node k (start_of s.made)) (take_on g One (slice_get ts s.place.at) s))
-obey-grows g ts op.Extend s short = record { at = same s.place.at; events = extended (mark_of s.made) s.made.events; nested = λ h. h; ground = refl }
+obey-grows g ts op.Extend s short = record { at = same s.place.at; events = extended g.sealed (mark_of s.made) s.made.events; nested = λ h. h; ground = refl }
 obey-grows g ts (op.Error n) s short = makes (event.Error n) s
 obey-grows g ts (op.Call target) s short = record { at = same s.place.at; events = same (length s.made.events); nested = λ h. h; ground = refl }
 obey-grows g ts (op.Enter target) s short = record { at = same s.place.at; events = same (length s.made.events); nested = λ h. h; ground = refl }

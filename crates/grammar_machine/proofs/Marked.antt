@@ -14,7 +14,7 @@ use Rattle.grammar_machine.specs.declared.grammar.Op.TheVariants as op
 use Rattle.grammar_machine.specs.declared.machine.Place.{Place}
 use Rattle.grammar_machine.specs.declared.made.Frame.{Frame}
 use Rattle.grammar_machine.specs.declared.made.Seal.{Seal}
-use Rattle.grammar_machine.specs.Running.{Tables, Stacks, State, kind_of, seen_as_of, signs_of_view, operator_view_of, here_of, mark_of, rest_of, node_of, make_of, start_of, open_of, forget_of, extended_on, with_place, with_made, resume_of, left_of, return_of, answer_of, take_on, piece_on, sealed_on, past_of, obey_of, step_on, runs}
+use Rattle.grammar_machine.specs.Running.{Tables, Stacks, State, kind_of, seen_as_of, signs_taken_of, operator_view_of, here_of, mark_of, rest_of, node_of, make_of, start_of, open_of, forget_of, extended_on, with_place, with_made, resume_of, left_of, return_of, answer_of, take_on, part_of, piece_on, sealed_on, past_of, obey_of, step_on, runs}
 use Rattle.grammar_machine.proofs.Running.{step-at, runs-none, runs-suc}
 
 abbrev pub AtMost : ℕ → List ℕ → Type 0
@@ -61,19 +61,23 @@ nodes k (Some from) m h = makes (event.Node k from) m h
 
 takes : (g : Tables) (v : View) (o : Option Sight) (s : State) → IsMarked s.made → IsMarked (take_on g v o s).made
 takes g v None s h = h
-takes g v (Some t) s h = makes (event.Token (kind_of g (seen_as_of v t)) (signs_of_view v)) s.made h
+takes g v (Some t) s h = makes (event.Token (kind_of g (seen_as_of v t)) (signs_taken_of v t)) s.made h
 
 pieces : (part : Part) (last : Bool) (o : Option Sight) (s : State) → IsMarked s.made → IsMarked (piece_on part last o s).made
 pieces part last None s h = h
-pieces part last (Some t) s h = makes (event.Piece part last) s.made h
+pieces part last (Some t) s h = by_test (nat_eq t.word 0)
+  where
+    by_test : (x : Bool) → IsMarked (if x then s else part_of part last s).made
+    by_test true = h
+    by_test false = makes (event.Piece part last) s.made h
 
 seals : (g : Tables) (target : ℕ) (k : SyntaxKind) (o : Option Sight) (s : State) → IsMarked s.made → IsMarked (sealed_on g target k o s).made
 seals g target k None s h = h
 seals g target k (Some t) s h = makes (event.Token (kind_of g t.one) 1) (record s.made { seals = record { kind = k; from = start_of s.made; floor = s.made.floor; credit = s.place.credit } ∷ s.made.seals }) (h.0, (start s.made, h.1))
 
-extends : (o : Option ℕ) (es : List Event) (m : Stacks) → AtMost (length es) m.marks × AtMost (length es) (map (λ (x : Seal). x.from) m.seals) → IsMarked (record m { events = extended_on o es })
-extends o [] m h = h
-extends o (e ∷ es) m h = h
+extends : (ks : List SyntaxKind) (o : Option ℕ) (es : List Event) (m : Stacks) → AtMost (length es) m.marks × AtMost (length es) (map (λ (x : Seal). x.from) m.seals) → IsMarked (record m { events = extended_on ks o es })
+extends ks o [] m h = h
+extends ks o (e ∷ es) m h = h
 
 expects : (g : Tables) (x : Bool) (o : Option Sight) (n : ℕ) (s : State) → IsMarked s.made → IsMarked (if x then take_on g One o s else with_made (make_of (event.Error n)) s).made
 expects g true o n s h = takes g One o s h
@@ -113,7 +117,7 @@ obey-marks g ts op.Drop s h = forgets s.made h
 obey-marks g ts (op.Wrap k) s h = nodes k (mark_of s.made) s.made h
 obey-marks g ts (op.Close k) s h = nodes k (mark_of s.made) (forget_of s.made) (forgets s.made h)
 obey-marks g ts (op.Leaf k) s h = makes (event.Node k (start_of s.made)) (take_on g One (slice_get ts s.place.at) s).made (takes g One (slice_get ts s.place.at) s h)
-obey-marks g ts op.Extend s h = extends (mark_of s.made) s.made.events s.made h
+obey-marks g ts op.Extend s h = extends g.sealed (mark_of s.made) s.made.events s.made h
 obey-marks g ts (op.Error n) s h = makes (event.Error n) s.made h
 obey-marks g ts (op.Call target) s h = h
 obey-marks g ts (op.Enter target) s h = opens s.made h

@@ -15,7 +15,7 @@ use Rattle.grammar_machine.specs.declared.grammar.Op.TheVariants as op
 use Rattle.grammar_machine.specs.declared.machine.Place.{Place}
 use Rattle.grammar_machine.specs.declared.made.Frame.{Frame}
 use Rattle.grammar_machine.specs.declared.made.Seal.{Seal}
-use Rattle.grammar_machine.specs.Running.{Tables, Stacks, State, further_of, signs_of_view, operator_view_of, here_of, has_of, holds_of, seen_at_of, power_of, goto_of, goto_if_of, bind_of, mark_of, rest_of, first_of, node_of, make_of, forget_of, close_of, with_place, with_made, resume_of, returned_of, left_on, left_of, return_to, return_of, answer_of, take_on, piece_on, sealed_on, past_of, obey_of, step_of, runs, run_of, begin_of, fuel_of}
+use Rattle.grammar_machine.specs.Running.{Tables, Stacks, State, further_of, signs_of_view, signs_taken_of, seen_as_of, operator_view_of, here_of, has_of, holds_of, seen_at_of, power_of, goto_of, goto_if_of, bind_of, mark_of, rest_of, first_of, node_of, make_of, forget_of, close_of, with_place, with_made, resume_of, returned_of, left_on, left_of, return_to, return_of, answer_of, take_on, part_of, piece_on, sealed_on, past_of, obey_of, step_of, runs, run_of, begin_of, fuel_of}
 use Rattle.grammar_machine.proofs.Running.{step-obeys, runs-none, runs-more, runs-done}
 
 -- what sealed calls keep
@@ -80,14 +80,28 @@ signs Two = (omega arith, omega arith)
 signs Three = (omega arith, omega arith)
 signs Word = (omega arith, omega arith)
 
+signs-by : (x : Bool) (v : View) → (1 ≤ (if x then 1 else signs_of_view v)) × ((if x then 1 else signs_of_view v) ≤ 3)
+signs-by true v = (omega arith, omega arith)
+signs-by false v = signs v
+
+signs-taken : (v : View) (t : Sight) → (1 ≤ signs_taken_of v t) × (signs_taken_of v t ≤ 3)
+signs-taken v t = signs-by (nat_eq (seen_as_of v t) 0) v
+
 takes : (g : Tables) (ts : List Sight) (v : View) (o : Option Sight) (s : State) → length ts + 3 < 2 ^ 64 → slice_get ts s.place.at ≡ o → potential ts (take_on g v o s) ≤ potential ts s
 takes g ts v None s short e = same (potential ts s)
-takes g ts v (Some t) s short e = passes (length ts) s.place.credit (kept_of s.made.seals) s.place.at (signs_of_view v) (slice_get_within ts s.place.at t e) short (signs v).0 (signs v).1
+takes g ts v (Some t) s short e = passes (length ts) s.place.credit (kept_of s.made.seals) s.place.at (signs_taken_of v t) (slice_get_within ts s.place.at t e) short (signs-taken v t).0 (signs-taken v t).1
 
 pieces : (ts : List Sight) (part : Part) (last : Bool) (o : Option Sight) (s : State) → length ts + 3 < 2 ^ 64 → slice_get ts s.place.at ≡ o → potential ts (piece_on part last o s) ≤ potential ts s
 pieces ts part last None s short e = same (potential ts s)
-pieces ts part false (Some t) s short e = same (potential ts s)
-pieces ts part true (Some t) s short e = passes (length ts) s.place.credit (kept_of s.made.seals) s.place.at 1 (slice_get_within ts s.place.at t e) short (omega arith) (omega arith)
+pieces ts part last (Some t) s short e = by_test (nat_eq t.word 0)
+  where
+    by_last : (y : Bool) → potential ts (part_of part y s) ≤ potential ts s
+    by_last false = same (potential ts s)
+    by_last true = passes (length ts) s.place.credit (kept_of s.made.seals) s.place.at 1 (slice_get_within ts s.place.at t e) short (omega arith) (omega arith)
+
+    by_test : (x : Bool) → potential ts (if x then s else part_of part last s) ≤ potential ts s
+    by_test true = same (potential ts s)
+    by_test false = by_last last
 
 seals : (g : Tables) (ts : List Sight) (target : ℕ) (k : SyntaxKind) (o : Option Sight) (s : State) → length ts + 3 < 2 ^ 64 → slice_get ts s.place.at ≡ o → potential ts (sealed_on g target k o s) ≤ potential ts s
 seals g ts target k None s short e = same (potential ts s)

@@ -68,7 +68,7 @@ goes g ts rest k s x n looks short few marked l some is fits =
     (subst (λ (y : State). Fits (runs n g ts y)) here fits)
 
 -- a state that comes before another one fits if that one does
-fits-before : (n : ℕ) (g : Tables) (ts : List Sight) (x : State) → length ts + 3 < 2 ^ 64 → Fits (runs n g ts x) → Fits x
+pub fits-before : (n : ℕ) (g : Tables) (ts : List Sight) (x : State) → length ts + 3 < 2 ^ 64 → Fits (runs n g ts x) → Fits x
 fits-before n g ts x short fits =
     let grows = runs-grow n g ts x short in
     let at = grows.at in

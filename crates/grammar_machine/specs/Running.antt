@@ -1,6 +1,8 @@
 -- What the machine does, operation by operation.
 use Rattle.std.specs.Prelude.{ℕ, zero, suc, ◌+◌, ◌*◌, ◌/◌, ◌%◌, ◌-◌, ◌^◌, min, Bool, true, false, ◌||◌, ◌&&◌, not, nat_lt, nat_eq, bit_and, bit_or, if◌then◌else◌, Option, Some, None, List, [], ◌∷◌, length, reverse, drop, slice_get}
+use Rattle.std.specs.List.{list_any}
 use Rattle.syntax_kind.specs.declared.syntax_kind.SyntaxKind.{SyntaxKind}
+use Rattle.syntax_kind.specs.Kinds.{kind_raw}
 use Rattle.syntax_kind.specs.declared.syntax_kind.SyntaxKind.TheVariants as syntax
 use Rattle.syntax_kind.specs.declared.syntax_kind.token_kind.TokenKind.TheVariants as token
 use Rattle.grammar_machine.specs.declared.event.Part.{Part}
@@ -29,6 +31,7 @@ pub record Tables : Type 0 where
   pub rows : List ℕ
   pub powers : List (Option Power)
   pub kinds : List SyntaxKind
+  pub sealed : List SyntaxKind
   pub opening : ℕ
   pub closing : ℕ
 
@@ -39,6 +42,7 @@ tables_of g = record {
   rows = g.rows.now;
   powers = g.powers.now;
   kinds = g.kinds.now;
+  sealed = g.sealed.now;
   opening = g.opening;
   closing = g.closing;
 }
@@ -98,6 +102,10 @@ signs_of_view One = 1
 signs_of_view Two = 2
 signs_of_view Three = 3
 signs_of_view Word = 1
+
+-- how many tokens are taken by a view: one, where nothing is seen in it
+abbrev pub signs_taken_of : View → Sight → ℕ
+signs_taken_of v t = if nat_eq (seen_as_of v t) 0 then 1 else signs_of_view v
 
 abbrev pub seen_of : View → Option Sight → ℕ
 seen_of v None = end_as_of v
@@ -256,20 +264,24 @@ wrap_of k m = node_of k (mark_of m) m
 abbrev pub close_of : SyntaxKind → Stacks → Stacks
 close_of k m = node_of k (mark_of m) (forget_of m)
 
--- the node begins at the mark, if that is earlier
-abbrev pub longer_of : Option ℕ → Event → Event
-longer_of None e = e
-longer_of (Some mark) (event.Node k from) = event.Node k (min from mark)
-longer_of (Some mark) (event.Token k n) = event.Token k n
-longer_of (Some mark) (event.Piece p last) = event.Piece p last
-longer_of (Some mark) (event.Error n) = event.Error n
+-- the kind is one of the list
+abbrev pub is_among : List SyntaxKind → SyntaxKind → Bool
+is_among ks k = list_any (λ other. nat_eq (kind_raw other) (kind_raw k)) ks
 
-abbrev pub extended_on : Option ℕ → List Event → List Event
-extended_on mark [] = []
-extended_on mark (e ∷ es) = longer_of mark e ∷ es
+-- the node begins at the mark, if that is earlier; but for those of sealed calls
+abbrev pub longer_of : List SyntaxKind → Option ℕ → Event → Event
+longer_of sealed None e = e
+longer_of sealed (Some mark) (event.Node k from) = event.Node k (if is_among sealed k then from else min from mark)
+longer_of sealed (Some mark) (event.Token k n) = event.Token k n
+longer_of sealed (Some mark) (event.Piece p last) = event.Piece p last
+longer_of sealed (Some mark) (event.Error n) = event.Error n
 
-abbrev pub extend_of : Stacks → Stacks
-extend_of m = record m { events = extended_on (mark_of m) m.events }
+abbrev pub extended_on : List SyntaxKind → Option ℕ → List Event → List Event
+extended_on sealed mark [] = []
+extended_on sealed mark (e ∷ es) = longer_of sealed mark e ∷ es
+
+abbrev pub extend_of : List SyntaxKind → Stacks → Stacks
+extend_of sealed m = record m { events = extended_on sealed (mark_of m) m.events }
 
 abbrev pub call_of : Frame → Stacks → Stacks
 call_of f m = record m { frames = f ∷ m.frames }
@@ -307,8 +319,8 @@ with_made f s = record s { made = f s.made }
 abbrev pub take_on : Tables → View → Option Sight → State → State
 take_on g v None s = s
 take_on g v (Some t) s = record {
-  place = pass_of (signs_of_view v) s.place;
-  made = make_of (event.Token (kind_of g (seen_as_of v t)) (signs_of_view v)) s.made;
+  place = pass_of (signs_taken_of v t) s.place;
+  made = make_of (event.Token (kind_of g (seen_as_of v t)) (signs_taken_of v t)) s.made;
 }
 
 abbrev pub take_of : Tables → List Sight → View → State → State
@@ -317,12 +329,16 @@ take_of g ts v s = take_on g v (slice_get ts s.place.at) s
 abbrev pub expect_of : Tables → List Sight → ℕ → ℕ → State → State
 expect_of g ts k n s = if nat_eq (here_of ts s.place) k then take_of g ts One s else with_made (make_of (event.Error n)) s
 
-abbrev pub piece_on : Part → Bool → Option Sight → State → State
-piece_on part last None s = s
-piece_on part last (Some t) s = record {
+abbrev pub part_of : Part → Bool → State → State
+part_of part last s = record {
   place = if last then pass_of 1 s.place else s.place;
   made = make_of (event.Piece part last) s.made;
 }
+
+-- a token without a finer kind has no parts
+abbrev pub piece_on : Part → Bool → Option Sight → State → State
+piece_on part last None s = s
+piece_on part last (Some t) s = if nat_eq t.word 0 then s else part_of part last s
 
 abbrev pub piece_of : List Sight → Part → Bool → State → State
 piece_of ts part last s = piece_on part last (slice_get ts s.place.at) s
@@ -388,7 +404,7 @@ obey_of g ts op.Drop s = with_made forget_of s
 obey_of g ts (op.Wrap k) s = with_made (wrap_of k) s
 obey_of g ts (op.Close k) s = with_made (close_of k) s
 obey_of g ts (op.Leaf k) s = leaf_of g ts k s
-obey_of g ts op.Extend s = with_made extend_of s
+obey_of g ts op.Extend s = with_made (extend_of g.sealed) s
 obey_of g ts (op.Error n) s = with_made (make_of (event.Error n)) s
 obey_of g ts (op.Call target) s = call_with target (Own 0) 0 0 s
 obey_of g ts (op.Enter target) s = with_made open_of (call_with target (Own 0) 0 0 s)

@@ -110,7 +110,7 @@ pub enum Op {
     },
     /// Takes the next token, if there is one.
     Take,
-    /// Takes the next token by its kind in the view, and with it those that it is seen together with.
+    /// Takes the next token by its kind in the view, and with it those that it is seen together with; by itself, if there are none.
     TakeAs {
         view: View,
     },
@@ -121,7 +121,7 @@ pub enum Op {
         kind: u8,
         message: u16,
     },
-    /// Takes a part of the next token, if there is one; with the last part the token is taken completely.
+    /// Takes a part of the next token, if it has a finer kind; with the last part the token is taken completely.
     Piece {
         part: Part,
         last: bool,
@@ -142,7 +142,7 @@ pub enum Op {
     Leaf {
         kind: SyntaxKind,
     },
-    /// Has the node that ended just now start at the last mark, if that is earlier.
+    /// Has the node that ended just now start at the last mark, if that is earlier and no sealed call made the node.
     Extend,
     /// Makes the error of this number.
     Error {
@@ -224,6 +224,8 @@ pub struct Grammar<'a> {
     pub powers: &'a [Option<Power>],
     /// The kinds, by their numbers.
     pub kinds: &'a [SyntaxKind],
+    /// The kinds of the nodes that sealed calls make, which `Extend` leaves as they are.
+    pub sealed: &'a [SyntaxKind],
     /// The number of the kind of an opening brace, or 0. No look ahead goes over a brace.
     pub opening: u8,
     /// The number of the kind of a closing brace, or 0.

@@ -2,7 +2,7 @@
 //! grammar is.
 ghost use Rattle.std.specs.Prelude.{◌≡◌, ◌<◌, ◌+◌, ◌^◌, ◌&&◌, OnOk, IfOk, length, slice_get, option_map, nat_eq, if◌then◌else◌, Some, None};
 ghost use Rattle.grammar_machine.specs.Alone.{alone_of};
-ghost use Rattle.grammar_machine.specs.Running.{tables_of, stacks_of, state_of, seen_as_of, end_as_of, signs_of_view, seen_at_of, here_of, has_of, is_brace_of, hides_of, sees_of, target_of, kind_of, power_of, is_some, operator_view_of, holds_of, goto_of, goto_if_of, level_for_of, enter_of, bind_of, frame_of, pass_of, fresh_of, resume_of, leave_of, left_of, take_of, expect_of, piece_of, leaf_of, return_of, sealed_of, obey_of, begin_of, fuel_of, events_of};
+ghost use Rattle.grammar_machine.specs.Running.{tables_of, stacks_of, state_of, seen_as_of, end_as_of, signs_of_view, signs_taken_of, seen_at_of, here_of, has_of, is_brace_of, hides_of, sees_of, target_of, kind_of, power_of, is_some, operator_view_of, holds_of, goto_of, goto_if_of, level_for_of, enter_of, bind_of, frame_of, pass_of, fresh_of, resume_of, leave_of, left_of, take_of, expect_of, piece_of, leaf_of, return_of, sealed_of, obey_of, begin_of, fuel_of, events_of};
 
 use crate::alone::stays;
 use crate::event::{Event, Part};
@@ -70,6 +70,18 @@ fn signs_of(view: View) -> u8
         View::One | View::Word => 1,
         View::Two => 2,
         View::Three => 3,
+    }
+}
+
+// How many tokens are taken by a view: one, where nothing is seen in it.
+#[inline(always)]
+fn signs_taken(view: View, sight: Sight) -> u8
+    ensures { result ≡ signs_taken_of view sight }
+{
+    if seen_as(view, sight) == 0 {
+        1
+    } else {
+        signs_of(view)
     }
 }
 
@@ -395,7 +407,7 @@ fn take(
     match sight_at(sights, place.at) {
         None => Ok(()),
         Some(sight) => {
-            let signs = signs_of(view);
+            let signs = signs_taken(view, sight);
             let kind = grammar.kind(seen_as(view, sight));
             made.make(Event::Token { kind, signs })?;
             place.pass(signs);
@@ -449,7 +461,10 @@ fn piece(
 {
     match sight_at(sights, place.at) {
         None => Ok(()),
-        Some(_) => {
+        Some(sight) => {
+            if sight.word == 0 {
+                return Ok(());
+            }
             made.make(Event::Piece { part, last })?;
             if last {
                 place.pass(1);
@@ -543,7 +558,7 @@ fn obey(
         Op::Wrap { kind } => made.wrap(kind),
         Op::Close { kind } => made.close(kind),
         Op::Leaf { kind } => leaf(place, made, grammar, sights, kind),
-        Op::Extend => made.extend(),
+        Op::Extend => made.extend(grammar.sealed),
         Op::Error { message } => made.make(Event::Error { message }),
         Op::Call { target } => {
             made.call(place.frame(false))?;

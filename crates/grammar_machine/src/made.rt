@@ -1,6 +1,6 @@
 //! What the machine makes, and what is open.
-ghost use Rattle.std.specs.Prelude.{◌≡◌, OnOk, IfOk};
-ghost use Rattle.grammar_machine.specs.Running.{stacks_of, saturated_of, first_of, make_of, start_of, open_of, mark_of, forget_of, wrap_of, close_of, longer_of, extend_of, call_of, returned_of, seal_of, opened_of, unseal_of, nothing_of};
+ghost use Rattle.std.specs.Prelude.{◌≡◌, min, if◌then◌else◌, OnOk, IfOk};
+ghost use Rattle.grammar_machine.specs.Running.{stacks_of, saturated_of, first_of, make_of, start_of, open_of, mark_of, forget_of, wrap_of, close_of, is_among, longer_of, extend_of, call_of, returned_of, seal_of, opened_of, unseal_of, nothing_of};
 
 use crate::event::Event;
 use std::alloc::{AllocError, Global};
@@ -41,16 +41,33 @@ pub(crate) struct Made {
     pub seals: Vec<Seal>,
 }
 
+fn is_among(kinds: &[SyntaxKind], kind: SyntaxKind) -> bool
+    ensures { result ≡ is_among kinds.now kind }
+{
+    kinds.iter().any(|other| other.to_raw() == kind.to_raw())
+}
+
+// Where a node begins that is to begin at the mark, if that is earlier. It is asked for its kind only then.
+fn earlier(sealed: &[SyntaxKind], kind: SyntaxKind, from: u32, mark: u32) -> u32
+    ensures { result ≡ (if is_among sealed.now kind then from else min from mark) }
+{
+    if mark < from && !is_among(sealed, kind) {
+        mark
+    } else {
+        from
+    }
+}
+
 // The event, if it is a node, from the mark on.
-fn longer(event: Event, mark: Option<u32>) -> Event
-    ensures { result ≡ longer_of mark event }
+fn longer(sealed: &[SyntaxKind], event: Event, mark: Option<u32>) -> Event
+    ensures { result ≡ longer_of sealed.now mark event }
 {
     match mark {
         None => event,
         Some(mark) => match event {
             Event::Node { kind, from } => Event::Node {
                 kind,
-                from: from.min(mark),
+                from: earlier(sealed, kind, from, mark),
             },
             _ => event,
         },
@@ -156,13 +173,13 @@ impl Made {
         let _ = self.pop_mark();
     }
 
-    pub(crate) fn extend(&mut self) -> Result<(), AllocError>
-        ensures { OnOk result (stacks_of self.new ≡ extend_of (stacks_of self.old)) }
+    pub(crate) fn extend(&mut self, sealed: &[SyntaxKind]) -> Result<(), AllocError>
+        ensures { OnOk result (stacks_of self.new ≡ extend_of sealed.now (stacks_of self.old)) }
     {
         match self.events.pop() {
             None => Ok(()),
             Some(event) => {
-                let event = longer(event, self.mark());
+                let event = longer(sealed, event, self.mark());
                 self.make(event)
             }
         }

@@ -1,5 +1,5 @@
 -- The pieces of a text that are read by themselves as they are in the text.
-use Rattle.std.specs.Prelude.{ℕ, ◌-◌, ◌^◌, nat_lt, nat_eq, Bool, true, false, not, ◌||◌, ◌&&◌, if◌then◌else◌, Option, Some, None, option_map, List, [], ◌∷◌, length, take, slice_get}
+use Rattle.std.specs.Prelude.{ℕ, ◌-◌, ◌^◌, nat_lt, nat_eq, Bool, true, false, not, ◌||◌, ◌&&◌, if◌then◌else◌, Option, Some, None, option_map, option_and_then, List, [], ◌∷◌, length, reverse, take, slice_get}
 use Rattle.syntax_kind.specs.declared.syntax_kind.SyntaxKind.{SyntaxKind}
 use Rattle.syntax_kind.specs.declared.syntax_kind.SyntaxKind.TheVariants.{Token}
 use Rattle.syntax_kind.specs.declared.syntax_kind.token_kind.TokenKind.TheVariants as token
@@ -11,6 +11,7 @@ use Rattle.exact_front.specs.Exact.{Exact}
 use Rattle.grammar_machine.specs.declared.event.Event.{Event}
 use Rattle.grammar_machine.specs.declared.grammar.Sight.{Sight}
 use Rattle.grammar_machine.specs.Alone.{alone_of}
+use Rattle.event_layout.specs.Ending.{closes_last}
 use Rattle.rust_grammar.specs.declared.tables.rules.Rule.{Rule}
 use Rattle.rust_grammar.specs.Seeing.{sights_of}
 use Rattle.rust_grammar.specs.Tables.{rust_tables}
@@ -73,9 +74,13 @@ abbrev pub errs_early : List span.Token → List LexError → Bool
 errs_early ts [] = false
 errs_early ts (e ∷ es) = is_in e.range.start (take 5 ts)
 
+-- only errors, and the node of the piece, come after the last token
+abbrev pub if_closed : List Event → Option (List Event)
+if_closed es = if closes_last (reverse es) then Some es else None
+
 -- what the grammar makes of tokens alone
 abbrev pub alone_with : Rule → List Sight → Option (List Event)
-alone_with rule sights = alone_of rust_tables (first_op rule) sights
+alone_with rule sights = option_and_then if_closed (alone_of rust_tables (first_op rule) sights)
 
 abbrev pub exact_on : Reparser → Edition → List ℕ → List span.Token → List LexError → Option Reading
 exact_on r e text ts es =

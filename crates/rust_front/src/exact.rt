@@ -3,10 +3,11 @@ ghost use Rattle.std.specs.Prelude.{◌≡◌, ◌-◌, ◌<◌, ◌^◌, IfOk, 
 ghost use Rattle.ras_front_end.specs.Reading.{reading_of};
 ghost use Rattle.token_layout.specs.Laid.{IsCut};
 ghost use Rattle.rust_grammar.specs.Seeing.{sights_of};
-ghost use Rattle.rust_front.specs.Exact.{is_byte, has_shebang_of, is_visible, has_fence_of, has_head_of, opens_with, closes_with, is_braced_by, is_in, errs_early, alone_with, whole_exact_of, exact_piece_of};
+ghost use Rattle.rust_front.specs.Exact.{is_byte, has_shebang_of, is_visible, has_fence_of, has_head_of, opens_with, closes_with, is_braced_by, is_in, errs_early, if_closed, alone_with, whole_exact_of, exact_piece_of};
 
 use crate::front::{assemble, is_short};
 use crate::piece::rule_by;
+use event_layout::ends_in_token;
 use grammar_machine::{Event, run_alone};
 use ras_front_end::{Edition, Output, Reparser};
 use rust_grammar::{Rule, grammar, rule_of, sights};
@@ -118,7 +119,18 @@ fn errs_early(tokens: &[Token], errors: &[LexError]) -> bool
     }
 }
 
-// The events that the grammar makes of the tokens, if they are made of these alone.
+// Events after whose last token only errors come, and the node of the piece.
+fn if_closed(events: Vec<Event>) -> Option<Vec<Event>>
+    ensures { option_map (λ v. v.items) result ≡ if_closed events.items }
+{
+    if ends_in_token(&events) {
+        Some(events)
+    } else {
+        None
+    }
+}
+
+// The events that the grammar makes of the tokens, if they are made of these alone and end with the last of them.
 fn events_alone(
     alloc: Global,
     rule: Rule,
@@ -129,7 +141,10 @@ fn events_alone(
     ensures { IsCut tokens.now text.now → IfOk result (λ o. option_map (λ v. v.items) o ≡ alone_with rule (sights_of edition text.now tokens.now)) }
 {
     let sights = sights(alloc, text, tokens, edition)?;
-    run_alone(alloc, &grammar(), rule_of(rule), &sights)
+    match run_alone(alloc, &grammar(), rule_of(rule), &sights)? {
+        None => Ok(None),
+        Some(events) => Ok(if_closed(events)),
+    }
 }
 
 fn whole_exact(
@@ -158,8 +173,8 @@ fn whole_exact(
 
 /// The output for a piece, or `None` if it depends on what stands around the piece.
 ///
-/// The piece is from `{` to `}`; the rule that parses it stops right behind the `}`, and looks neither at what follows nor at what stands
-/// before; and none of its first five tokens has an error of the lexer, whose message might depend on tokens before the piece.
+/// The piece is from `{` to `}`; the rule that parses it stops right behind the `}`, looks neither at what follows nor at what stands
+/// before, and begins no node behind the `}`; and none of its first five tokens has an error of the lexer, whose message might depend on tokens before the piece.
 #[tactic(auto, unfolding(crate::specs::Exact::exact_piece_of))]
 pub fn exact_piece(
     alloc: Global,

@@ -10,6 +10,7 @@ mod op_table;
 mod power_table;
 mod row_table;
 mod rules;
+mod sealed_table;
 mod set_table;
 
 use grammar_machine::{Grammar, Op, Power};
@@ -19,6 +20,7 @@ use op_table::OPS;
 use power_table::POWERS;
 use row_table::ROWS;
 pub use rules::{Rule, rule_of};
+use sealed_table::SEALED;
 use set_table::SETS;
 use syntax_kind::SyntaxKind;
 
@@ -57,6 +59,13 @@ fn kinds() -> &'static [SyntaxKind]
     &KINDS
 }
 
+// The kinds of the nodes that sealed calls make.
+fn sealed() -> &'static [SyntaxKind]
+    ensures { result.now ≡ SEALED }
+{
+    &SEALED
+}
+
 /// Rust's grammar, of all editions, as the text `rust.grammar` of this crate has it.
 ///
 /// It costs nothing: the tables are part of the program.
@@ -70,6 +79,7 @@ pub fn grammar() -> Grammar<'static>
         rows: rows(),
         powers: powers(),
         kinds: kinds(),
+        sealed: sealed(),
         opening: 20,
         closing: 21,
     }
