@@ -2,6 +2,7 @@
 import collections
 
 from .language import NONE, ONE, WORD, Flag, Label, Op, Seen
+from .sharpen import Sharpened
 
 # A rule of at most so many operations that looks at no flag and no level is in place of its calls.
 INLINED = 12
@@ -72,6 +73,8 @@ class Table:
         for text, kind in grammar.joint.items():
             self.first_joint[kind].add(grammar.texts[text[0]])
         self.prune()
+        self.ops, self.rows, self.start_of = Sharpened(self).laid()
+        self.number_sets()
 
     def landing(self, number):
         """Where a jump to the operation ends up."""
@@ -156,6 +159,8 @@ class Table:
             ops.append(op)
         self.ops, self.rows = ops, [place for row in rows for place in row]
         self.start_of = {name: new[number] for name, number in self.start_of.items() if number in new}
+
+    def number_sets(self):
         sets = {}
         for op in self.ops:
             test = op.fields.get("test")

@@ -1,6 +1,6 @@
 -- One more move of a kind.
 use Rattle.std.proofs.Common.{◌≡◌, ℕ, zero, suc, ◌+◌, ◌<◌, ◌≤◌, refl, add-one, ap, sym, ◌∙◌, arith, Bool, true, false, List, [], ◌∷◌, length, drop, drop-cons, get_or, if◌then◌else◌, slice_get}
-use Rattle.event_layout.specs.Layout.{Given, Laying, pass_of, pass_all_of, exit_of, exit_all_of, advance_of, moves, is_node_at, root_from}
+use Rattle.event_layout.specs.Layout.{Given, Laying, pass_of, pass_all_of, pass_trivia_of, exit_of, exit_all_of, advance_of, moves, is_node_at, root_from}
 use Rattle.std.proofs.lemmas.List.{drop_all}
 use Rattle.event_layout.specs.Trivia.{lead}
 use Rattle.syntax_kind.specs.Kinds.{is_trivia}
@@ -83,3 +83,7 @@ lead_goes ts i t h e b = ap lead (drop_at ts i t h e) ∙ lead_cons t (drop (i +
 
 pub lead_ends : (ts : List Token) (i : ℕ) → length ts ≤ i → lead (drop i ts) ≡ 0
 lead_ends ts i h = ap lead (drop_all i ts h) ∙ lead_nil
+
+-- no trivia to pass
+pub trivia_none : (s : Laying) → lead s.rest ≡ 0 → s ≡ pass_trivia_of s
+trivia_none s h = sym (ap (λ n. pass_all_of n s) h ∙ pass_all_none s)

@@ -2,7 +2,8 @@
 ghost use Rattle.std.specs.Prelude.{position, nat_eq, ◌≡◌, ◌-◌, ◌≤◌, ◌<◌, ◌^◌, ◌++◌, ◌∷◌, [], OnOk, IfOk, All, length, slice_get, option_map};
 ghost use Rattle.ras_front_end.specs.Reading.{front_step, front_steps};
 ghost use Rattle.token_layout.specs.Laid.{IsCut, Laid};
-ghost use Rattle.event_layout.specs.Layout.{laying_of, given_of, kind_of_part, len_of_part, cut_at, is_node_of, is_node_at, added, leaf_of, pass_of, pass_all_of, pass_trivia_of, join_of, joined_len, piece_of, enter_of, exit_of, exit_all_of, begin_of, begin_at_of, fault_of, obey_of, advance_of, finish_of, root_of, outermost_of, moves, moves_of, start_of, laid_with, laid_of};
+ghost use Rattle.event_layout.specs.Layout.{laying_of, given_of, kind_of_part, len_of_part, cut_at, is_node_of, is_node_at, added, leaf_of, pass_of, pass_all_of, pass_trivia_of, join_of, joined_len, piece_of, enter_of, exit_of, exit_all_of, begin_with, begin_of, begin_at_of, fault_of, obey_of, advance_of, finish_of, root_of, outermost_of, moves, moves_of, start_of, laid_with, laid_of};
+ghost use Rattle.event_layout.specs.Trivia.{outside_of};
 ghost use Rattle.event_layout.specs.Made.{without_trivia, only_tokens, made_of};
 
 use crate::starts::{Starts, find_starts};
@@ -196,6 +197,7 @@ impl<'a> Layout<'a> {
         }
     }
 
+    #[inline(never)]
     #[tactic(auto, using(crate::proofs::Moves::pass_all_none, crate::proofs::Moves::pass_all_more))]
     fn pass_all(&mut self, count: usize) -> Result<(), AllocError>
         ensures { OnOk result (laying_of self.new ≡ pass_all_of count (laying_of self.old)) }
@@ -206,14 +208,21 @@ impl<'a> Layout<'a> {
         Ok(())
     }
 
+    // Most tokens have none before them.
+    #[inline(always)]
     fn pass_trivia(&mut self) -> Result<(), AllocError>
         ensures { OnOk result (laying_of self.new ≡ pass_trivia_of (laying_of self.old)) }
     {
         let count = lead(self.rest);
-        self.pass_all(count)
+        if count > 0 {
+            self.pass_all(count)
+        } else {
+            Ok(())
+        }
     }
 
     // A token that is made of the next token of the lexer and `more` after it.
+    #[inline(always)]
     fn join(&mut self, kind: SyntaxKind, more: u8) -> Result<(), AllocError>
         ensures { OnOk result (laying_of self.new ≡ join_of kind more (laying_of self.old)) }
     {
@@ -250,6 +259,7 @@ impl<'a> Layout<'a> {
     }
 
     // The digits before the dot, or the dot.
+    #[inline(never)]
     fn piece(&mut self, bytes: &[u8], piece: Part) -> Result<(), AllocError>
         ensures { OnOk result (laying_of self.new ≡ piece_of bytes.now piece (laying_of self.old)) }
     {
@@ -294,10 +304,16 @@ impl<'a> Layout<'a> {
         Ok(())
     }
 
-    fn begin(&mut self, plan: &Plan, kind: SyntaxKind) -> Result<(), AllocError>
-        ensures { OnOk result (laying_of self.new ≡ begin_of (given_of plan.now) kind (laying_of self.old)) }
+    // A node before which there are `count` trivia.
+    #[inline(never)]
+    fn begin_behind(
+        &mut self,
+        plan: &Plan,
+        kind: SyntaxKind,
+        count: usize,
+    ) -> Result<(), AllocError>
+        ensures { OnOk result (laying_of self.new ≡ begin_with kind count (outside_of plan.now.bytes.now plan.now.attaching.now kind self.old.position self.old.rest.now count) (laying_of self.old)) }
     {
-        let count = lead(self.rest);
         let outside = outside(
             plan.bytes,
             plan.attaching,
@@ -311,6 +327,20 @@ impl<'a> Layout<'a> {
         self.pass_all(count.saturating_sub(outside))
     }
 
+    // Most nodes have none before them.
+    #[inline(always)]
+    #[tactic(auto, using(crate::proofs::Moves::pass_all_none))]
+    fn begin(&mut self, plan: &Plan, kind: SyntaxKind) -> Result<(), AllocError>
+        ensures { OnOk result (laying_of self.new ≡ begin_of (given_of plan.now) kind (laying_of self.old)) }
+    {
+        let count = lead(self.rest);
+        if count > 0 {
+            self.begin_behind(plan, kind, count)
+        } else {
+            self.enter(kind)
+        }
+    }
+
     fn begin_at(&mut self, plan: &Plan, event: Option<Event>) -> Result<(), AllocError>
         ensures { OnOk result (laying_of self.new ≡ begin_at_of (given_of plan.now) event (laying_of self.old)) }
     {
@@ -320,6 +350,7 @@ impl<'a> Layout<'a> {
         }
     }
 
+    #[inline(never)]
     fn fault(&mut self, message: u16) -> Result<(), AllocError>
         ensures { OnOk result (laying_of self.new ≡ fault_of message (laying_of self.old)) }
     {

@@ -7,6 +7,7 @@ use text_size::TextSize;
 use token_layout::Token;
 
 /// The number of trivia at the front of the tokens.
+#[inline(always)]
 pub fn lead(tokens: &[Token]) -> usize
     ensures { result ≡ lead tokens.now }
 {
@@ -122,8 +123,9 @@ pub fn outside(
 ) -> usize
     ensures { result ≡ outside_of bytes.now attaching.now kind start tokens.now count }
 {
-    if count > 0 && attaches(attaching, kind) {
-        count.saturating_sub(attached(bytes, start, first(tokens, count)))
+    let attached = attached(bytes, start, first(tokens, count));
+    if attached > 0 && attaches(attaching, kind) {
+        count.saturating_sub(attached)
     } else {
         count
     }

@@ -6,4 +6,4 @@ use Rattle.example_grammar.specs.declared.tables.rules.Rule.TheVariants as rule
 -- the number of a rule's first operation
 abbrev pub first_op : Rule → ℕ
 first_op rule.SourceFile = 0
-first_op rule.WholeExpr = 89
+first_op rule.WholeExpr = 228

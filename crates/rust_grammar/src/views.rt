@@ -169,12 +169,14 @@ pub fn sights(
     let mut sights = Vec::with_capacity(alloc, tokens.len())?;
     let mut left = tokens;
     let mut rest = text;
+    let mut one = number_at(tokens, 0);
+    let mut second = number_at(tokens, 1);
     while let Some((token, behind)) = left.split_first() {
         let (piece, others) = cut(rest, token.len.raw() as usize);
-        let one = number_of(token.kind);
-        let second = number_at(behind, 0);
         let third = number_at(behind, 1);
         see(&mut sights, edition, piece, one, second, third)?;
+        one = second;
+        second = third;
         left = behind;
         rest = others;
     }

@@ -17,6 +17,6 @@ pub fn rule_of(rule: Rule) -> usize
 {
     match rule {
         Rule::SourceFile => 0,
-        Rule::WholeExpr => 89,
+        Rule::WholeExpr => 228,
     }
 }
