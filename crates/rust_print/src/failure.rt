@@ -23,6 +23,8 @@ pub enum Failure {
     Place(Spot),
     /// The text ends before this range does.
     Range(TextRange),
+    /// The matches of the file are not replaced, for this reason.
+    Kept(&'static str),
 }
 
 impl From<io::Error> for Failure {

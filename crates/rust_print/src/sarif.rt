@@ -1,4 +1,4 @@
-//! SARIF 2.1.0, the form of results that code scanners exchange: one object with a run, and in it a result for each error or pair.
+//! SARIF 2.1.0, the form of results that code scanners exchange: one object with a run, and in it a result for each error, pair or match.
 
 use crate::json;
 use rust_report::Spot;
@@ -13,6 +13,8 @@ pub enum Rule {
     Syntax,
     /// A needless pair of parentheses.
     Parentheses,
+    /// A match of a rule of search and replace.
+    Match,
 }
 
 impl Rule {
@@ -20,6 +22,7 @@ impl Rule {
         match self {
             Rule::Syntax => "syntax-error",
             Rule::Parentheses => "needless-parentheses",
+            Rule::Match => "match",
         }
     }
 
@@ -27,6 +30,7 @@ impl Rule {
         match self {
             Rule::Syntax => "error",
             Rule::Parentheses => "note",
+            Rule::Match => "warning",
         }
     }
 
@@ -34,6 +38,7 @@ impl Rule {
         match self {
             Rule::Syntax => "The text is no Rust.",
             Rule::Parentheses => "Without this pair of parentheses the text has the same tree.",
+            Rule::Match => "A rule of search and replace matches here.",
         }
     }
 }
@@ -81,7 +86,7 @@ pub fn write_start<W: Write>(out: &mut W) -> io::Result<()> {
     )?;
     out.write_all(b"\"version\":\"0.1.0\",\"rules\":[")?;
     let mut before = "";
-    for rule in [Rule::Syntax, Rule::Parentheses] {
+    for rule in [Rule::Syntax, Rule::Parentheses, Rule::Match] {
         write!(out, "{before}{{\"id\":\"{}\",", rule.id())?;
         write!(
             out,

@@ -1,6 +1,9 @@
 -- Rules by their texts.
-use Rattle.std.specs.Prelude.{◌≡◌, ◌↔◌, ℕ, Bool, true, false, List, [], ◌∷◌, ◌++◌}
+use Rattle.std.specs.Prelude.{◌≡◌, ◌↔◌, ◌==◌, ℕ, Bool, true, false, not, ◌&&◌, List, [], ◌∷◌, ◌++◌, length, count_by, slice_index}
+use Rattle.std.specs.Str.{trim_start}
 use Rattle.std.specs.Str.Iter.{HasSubslice}
+use Rattle.rust_report.specs.Changes.{lines_of}
+use Rattle.tree_match.specs.declared.rule.Rule.{Rule}
 use Rattle.rust_rewrite.specs.declared.error.RuleFault.{RuleFault}
 use Rattle.rust_rewrite.specs.declared.error.RuleFault.TheVariants as fault
 
@@ -41,3 +44,17 @@ abbrev pub IsPatternFault : List ℕ → RuleFault → Type 0
 IsPatternFault s fault.NoArrow = ⊥
 IsPatternFault s fault.FurtherArrow = HasArrow s
 IsPatternFault s _ = HasArrow s → ⊥
+
+-- ---- rules one a line
+
+-- a line has a rule: white space aside, it is not empty and does not begin with `#`
+abbrev pub has_rule : List ℕ → Bool
+has_rule line = not (length (trim_start line) == 0) && not (slice_index (trim_start line) 0 == 35)
+
+-- how many lines have a rule
+abbrev pub rule_lines : List ℕ → ℕ
+rule_lines s = count_by has_rule (lines_of s)
+
+-- a rule has no template
+abbrev pub is_bare : Rule → Bool
+is_bare r = length r.pieces.items == 0

@@ -1,6 +1,4 @@
 //! Search and replace by rules: the text of a file with the matches replaced, and parentheses exactly where they are needed.
-//!
-//! It is tested, and **not proved yet**: its clauses say what is meant, and no proof holds it to them.
 #![tactic(auto)]
 
 mod applied;

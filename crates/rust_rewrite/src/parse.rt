@@ -1,12 +1,13 @@
 //! Rules from their texts.
-ghost use Rattle.std.specs.Prelude.{◌≡◌, ◌≤◌, true, length, IfErr, OnOk, MatchOption, MatchResult};
-ghost use Rattle.rust_rewrite.specs.Rules.{HasArrow, HasOne, IsFirstSplit, is_other, IsRuleFault, IsPatternFault};
+ghost use Rattle.std.specs.Prelude.{◌≡◌, ◌≤◌, true, length, IfOk, IfErr, MatchOption, MatchResult};
+ghost use Rattle.rust_rewrite.specs.Rules.{HasArrow, HasOne, IsFirstSplit, is_other, IsRuleFault, IsPatternFault, has_rule, rule_lines};
 
 use crate::error::{RuleError, RuleFault};
 use lossless_tree::{NodeOrToken, SyntaxKind, SyntaxNode};
 use ras_front_end::{Edition, Entry, FrontEnd};
 use ras_node::sets::{Exprs, KindSet};
 use ras_parsing::{Parse, read};
+use rust_report::lines_of;
 use std::alloc::{AllocError, Global};
 use tree_match::{Piece, Rule, RuleRefusal};
 
@@ -423,6 +424,7 @@ pub fn parse_rules<F: FrontEnd>(
     edition: Edition,
     text: &str,
 ) -> Result<Vec<Rule>, RuleError>
+    ensures each { IfOk result (λ rules. length rules.items ≡ rule_lines text.now) }
     ensures refused { IfErr result (λ e. e.offset ≤ length text.now) }
 {
     match all_rules(alloc, front, edition, text) {
@@ -432,9 +434,34 @@ pub fn parse_rules<F: FrontEnd>(
 }
 
 // Whether a line has a rule.
-fn has_rule(line: &str) -> bool {
+fn has_rule(line: &str) -> bool
+    ensures { result ≡ has_rule line.now }
+{
     let shown = line.trim_start();
     !shown.is_empty() && !shown.starts_with('#')
+}
+
+// A refusal of a line that starts at an offset.
+fn moved(error: RuleError, start: usize) -> RuleError {
+    let RuleError {
+        fault: told,
+        offset,
+    } = error;
+    fault(told, start.saturating_add(offset))
+}
+
+// The rule of a line that starts at an offset.
+fn rule_at<F: FrontEnd>(
+    alloc: Global,
+    front: &F,
+    edition: Edition,
+    line: &str,
+    start: usize,
+) -> Result<Rule, RuleError> {
+    match line_rule(alloc, front, edition, line) {
+        Ok(rule) => Ok(rule),
+        Err(error) => Err(moved(error, start)),
+    }
 }
 
 // The rules of all lines.
@@ -443,24 +470,18 @@ fn all_rules<F: FrontEnd>(
     front: &F,
     edition: Edition,
     text: &str,
-) -> Result<Vec<Rule>, RuleError> {
+) -> Result<Vec<Rule>, RuleError>
+    ensures { IfOk result (λ rules. length rules.items ≡ rule_lines text.now) }
+{
+    let lines = lines_of(alloc, text)?;
     let mut rules = Vec::new(alloc);
     let mut start = 0usize;
-    for line in text.split('\n') {
+    for line in &lines {
         if has_rule(line) {
-            match line_rule(alloc, front, edition, line) {
-                Ok(rule) => rules.push(rule).map_err(AllocError::from)?,
-                Err(
-                    RuleError {
-                        fault: told,
-                        offset,
-                    },
-                ) => {
-                    return Err(fault(told, start.saturating_add(offset)));
-                }
-            }
+            let rule = rule_at(alloc, front, edition, line, start)?;
+            rules.push(rule).map_err(AllocError::from)?;
         }
-        start = start.saturating_add(line.len()).saturating_add(1);
+        start = start.saturating_add(line.len());
     }
     Ok(rules)
 }

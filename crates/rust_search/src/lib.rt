@@ -1,6 +1,4 @@
 //! Rules of search and replace from a command line and from files, and patches of what they replace.
-//!
-//! It is tested, and **not proved yet**.
 #![tactic(auto)]
 
 mod hunks;

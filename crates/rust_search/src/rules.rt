@@ -1,12 +1,19 @@
 //! Rules from a command line and from files.
 
+ghost use Rattle.std.specs.Prelude.{◌≡◌, ◌≢◌, ◌<◌, [], None, IfOk, IfErr, IfSome, OnOk, IsTrue, length, option_map, slice_get};
+ghost use Rattle.rust_search.specs.declared.rules.RulesError.TheVariants.{Memory};
+ghost use Rattle.rust_rewrite.specs.Rules.{HasArrow, HasOne, rule_lines, is_bare};
+ghost use Rattle.rust_search.specs.Rules.{IsPlaceOf, IsToldOf, IsNumberedOf, IsPatternRefused, IsRuleRefused, IsLineRefused, first_bare, IsBareTold, note_at};
+
 use crate::toml_rules;
+use line_index::LineIndex;
 use ras_front_end::Edition;
 use rust_front::Rust;
-use rust_report::plain_message;
+use rust_report::{Spot, Spots, plain_message};
 use rust_rewrite::{RuleError, RuleFault, parse_pattern, parse_rule, parse_rules};
 use std::alloc::{AllocError, Global};
 use std::fmt;
+use text_size::TextSize;
 use tree_match::Rule;
 
 /// What a file of rules says of one of them. Each text is empty if the file has none.
@@ -30,16 +37,15 @@ pub struct RuleSet {
 /// Why rules are refused.
 #[derive(Drop)]
 pub enum RulesError {
-    /// A text is no rule. The line and the column count from 1, the column in characters.
+    /// A text is no rule, for what is at this place of it.
     Rule {
-        line: u64,
-        column: u64,
+        at: Spot,
         fault: RuleFault,
     },
-    /// A rule of a file is none. Its number counts from 1, the column in characters of `PATTERN ==>> TEMPLATE`.
+    /// A rule of a file is none, for what is at this place of `PATTERN ==>> TEMPLATE`. Its number counts from 1.
     Numbered {
         number: u64,
-        column: u64,
+        at: Spot,
         fault: RuleFault,
     },
     /// A file is no TOML: what its parser says.
@@ -58,6 +64,11 @@ pub enum RulesError {
 }
 
 impl From<AllocError> for RulesError {
+    ghost use Rattle.std.specs.Prelude.{◌≡◌};
+    ghost use Rattle.rust_search.specs.declared.rules.RulesError.TheVariants.{Memory};
+
+    ghost from_gives = { λ _ e. e ≡ Memory };
+
     fn from(_error: AllocError) -> RulesError {
         RulesError::Memory
     }
@@ -80,23 +91,12 @@ fn write_fault<W: fmt::Write>(f: &mut fmt::Formatter<W>, fault: &RuleFault) -> f
 impl fmt::Display for RulesError {
     fn fmt<W: fmt::Write>(&self, f: &mut fmt::Formatter<W>) -> fmt::Result {
         match self {
-            RulesError::Rule {
-                line,
-                column,
-                fault,
-            } => {
-                write!(f, "{line}:{column}: ")?;
+            RulesError::Rule { at, fault } => {
+                write!(f, "{at}: ")?;
                 write_fault(f, fault)
             }
-            RulesError::Numbered {
-                number,
-                column,
-                fault,
-            } => {
-                write!(
-                    f,
-                    "rule {number}, column {column} of `PATTERN ==>> TEMPLATE`: "
-                )?;
+            RulesError::Numbered { number, at, fault } => {
+                write!(f, "rule {number}, {at} of `PATTERN ==>> TEMPLATE`: ")?;
                 write_fault(f, fault)
             }
             RulesError::Toml(message) => f.write_str(message.as_str()),
@@ -112,42 +112,53 @@ impl fmt::Display for RulesError {
     }
 }
 
-// The line and the column of an offset of a text.
-fn place_of(text: &str, offset: usize) -> (u64, u64) {
-    let before = text.get(..offset).unwrap_or("");
-    let line = match before.rsplit_once('\n') {
-        Some((_, line)) => line,
-        None => before,
-    };
-    let feeds = before.bytes().filter(|byte| *byte == b'\n').count() as u64;
-    let columns = line.chars().count() as u64;
-    (feeds.saturating_add(1), columns.saturating_add(1))
+// The line and the column of an offset of a text; those of its start if no character starts there.
+#[tactic(auto, using(crate::proofs::RuleLemmas::spot_there, crate::proofs::RuleLemmas::no_spot, crate::proofs::RuleLemmas::too_long, crate::proofs::RuleLemmas::past_end))]
+fn place_of(alloc: Global, text: &str, offset: usize) -> Result<Spot, AllocError>
+    ensures { IfOk result (IsPlaceOf text.now offset) }
+{
+    let start = Spot { line: 1, column: 1 };
+    if text.len() > u32::MAX as usize {
+        return Ok(start);
+    }
+    if offset > text.len() {
+        return Ok(start);
+    }
+    let spots = Spots::new(LineIndex::new(alloc, text)?);
+    match spots.spot(TextSize::new(offset as u32)) {
+        Some(at) => Ok(at),
+        None => Ok(start),
+    }
 }
 
 // A refusal of a text, at its place.
-fn placed(text: &str, error: RuleError) -> RulesError {
+fn placed(alloc: Global, text: &str, error: RuleError) -> RulesError
+    ensures { IsToldOf text.now error result }
+{
     let RuleError { fault, offset } = error;
-    let (line, column) = place_of(text, offset);
-    RulesError::Rule {
-        line,
-        column,
-        fault,
+    match place_of(alloc, text, offset) {
+        Ok(at) => RulesError::Rule { at, fault },
+        Err(_) => RulesError::Memory,
     }
 }
 
-// The refusal of the rule with a number, at its column.
-pub(crate) fn numbered(number: u64, text: &str, error: RuleError) -> RulesError {
+// The refusal of the rule with a number, at its place.
+pub(crate) fn numbered(alloc: Global, number: u64, text: &str, error: RuleError) -> RulesError
+    ensures { IsNumberedOf number text.now error result }
+{
     let RuleError { fault, offset } = error;
-    let before = text.get(..offset).unwrap_or("");
-    let column = (before.chars().count() as u64).saturating_add(1);
-    RulesError::Numbered {
-        number,
-        column,
-        fault,
+    match place_of(alloc, text, offset) {
+        Ok(at) => RulesError::Numbered { number, at, fault },
+        Err(_) => RulesError::Memory,
     }
 }
 
-fn set_of(alloc: Global, rule: Rule) -> Result<RuleSet, RulesError> {
+// One rule, of which nothing is said.
+fn set_of(alloc: Global, rule: Rule) -> Result<RuleSet, RulesError>
+    ensures one { IfOk result (λ set. length set.rules.items ≡ 1) }
+    ensures unsaid { IfOk result (λ set. set.notes.items ≡ []) }
+    ensures memory { IfErr result (λ e. e ≡ Memory) }
+{
     let mut rules = Vec::new(alloc);
     rules.push(rule).map_err(AllocError::from)?;
     Ok(RuleSet {
@@ -160,11 +171,20 @@ fn set_of(alloc: Global, rule: Rule) -> Result<RuleSet, RulesError> {
 ///
 /// # Errors
 ///
-/// Why it is refused, with its line and column.
-pub fn one_pattern(alloc: Global, text: &str) -> Result<RuleSet, RulesError> {
+/// `Rule` with the line and column of what is wrong; `Memory`.
+#[tactic(auto, using(crate::proofs::RuleLemmas::pattern_told, crate::proofs::RuleLemmas::pattern_lost))]
+pub fn one_pattern(alloc: Global, text: &str) -> Result<RuleSet, RulesError>
+    ensures one { IfOk result (λ set. length set.rules.items ≡ 1) }
+    ensures unsaid { IfOk result (λ set. set.notes.items ≡ []) }
+    ensures pattern { OnOk result (HasArrow text.now → ⊥) }
+    ensures refused { IfErr result (IsPatternRefused text.now) }
+{
     match parse_pattern(alloc, &Rust, Edition::CURRENT, text) {
-        Ok(rule) => set_of(alloc, rule),
-        Err(error) => Err(placed(text, error)),
+        Ok(rule) => {
+            let set = set_of(alloc, rule)?;
+            Ok(set)
+        }
+        Err(error) => Err(placed(alloc, text, error)),
     }
 }
 
@@ -173,10 +193,19 @@ pub fn one_pattern(alloc: Global, text: &str) -> Result<RuleSet, RulesError> {
 /// # Errors
 ///
 /// Those of [`one_pattern`].
-pub fn one_rule(alloc: Global, text: &str) -> Result<RuleSet, RulesError> {
+#[tactic(auto, using(crate::proofs::RuleLemmas::rule_told, crate::proofs::RuleLemmas::rule_lost))]
+pub fn one_rule(alloc: Global, text: &str) -> Result<RuleSet, RulesError>
+    ensures one { IfOk result (λ set. length set.rules.items ≡ 1) }
+    ensures unsaid { IfOk result (λ set. set.notes.items ≡ []) }
+    ensures rule { OnOk result (HasOne text.now) }
+    ensures refused { IfErr result (IsRuleRefused text.now) }
+{
     match parse_rule(alloc, &Rust, Edition::CURRENT, text) {
-        Ok(rule) => set_of(alloc, rule),
-        Err(error) => Err(placed(text, error)),
+        Ok(rule) => {
+            let set = set_of(alloc, rule)?;
+            Ok(set)
+        }
+        Err(error) => Err(placed(alloc, text, error)),
     }
 }
 
@@ -185,26 +214,49 @@ pub fn one_rule(alloc: Global, text: &str) -> Result<RuleSet, RulesError> {
 /// # Errors
 ///
 /// Those of [`one_pattern`].
-pub fn rules_of_lines(alloc: Global, text: &str) -> Result<RuleSet, RulesError> {
+#[tactic(auto, using(crate::proofs::RuleLemmas::line_told))]
+pub fn rules_of_lines(alloc: Global, text: &str) -> Result<RuleSet, RulesError>
+    ensures each { IfOk result (λ set. length set.rules.items ≡ rule_lines text.now) }
+    ensures unsaid { IfOk result (λ set. set.notes.items ≡ []) }
+    ensures refused { IfErr result (IsLineRefused text.now) }
+{
     match parse_rules(alloc, &Rust, Edition::CURRENT, text) {
         Ok(rules) => Ok(RuleSet {
             rules,
             notes: Vec::new(alloc),
         }),
-        Err(error) => Err(placed(text, error)),
+        Err(error) => Err(placed(alloc, text, error)),
     }
 }
 
-// Refuses rules without a template.
-fn check_templates(rules: &[Rule]) -> Result<(), RulesError> {
-    let mut number = 1u64;
-    for rule in rules {
-        if rule.pieces().is_empty() {
-            return Err(RulesError::NoTemplate(number));
+fn is_bare(rule: &Rule) -> bool
+    ensures { result ≡ is_bare rule.now }
+{
+    rule.pieces().is_empty()
+}
+
+// The index of the first rule without a template.
+fn first_bare(rules: &[Rule]) -> Option<usize>
+    ensures first { result ≡ first_bare 0 rules.now }
+    ensures within { IfSome result (λ n. n < length rules.now) }
+{
+    for (number, rule) in rules.iter().enumerate() {
+        if is_bare(rule) {
+            return Some(number);
         }
-        number = number.saturating_add(1);
     }
-    Ok(())
+    None
+}
+
+// Refuses rules without a template.
+fn check_templates(rules: &[Rule]) -> Result<(), RulesError>
+    ensures all { OnOk result (first_bare 0 rules.now ≡ None) }
+    ensures first { IfErr result (IsBareTold (first_bare 0 rules.now)) }
+{
+    match first_bare(rules) {
+        None => Ok(()),
+        Some(number) => Err(RulesError::NoTemplate(number as u64 + 1)),
+    }
 }
 
 /// The rules of a file: TOML if its name ends with `.toml`, and otherwise one a line. If they are to replace, each must have a template.
@@ -217,12 +269,11 @@ pub fn rules_of(
     name: &str,
     text: &str,
     replaces: bool,
-) -> Result<RuleSet, RulesError> {
-    let set = if name.ends_with(".toml") {
-        toml_rules::read(alloc, text)?
-    } else {
-        rules_of_lines(alloc, text)?
-    };
+) -> Result<RuleSet, RulesError>
+    ensures some { IfOk result (λ set. set.rules.items ≢ []) }
+    ensures templates { IfOk result (λ set. IsTrue replaces → first_bare 0 set.rules.items ≡ None) }
+{
+    let set = read_rules(alloc, name, text)?;
     if set.rules.is_empty() {
         return Err(RulesError::Empty);
     }
@@ -232,10 +283,28 @@ pub fn rules_of(
     Ok(set)
 }
 
+// The rules of a file.
+fn read_rules(alloc: Global, name: &str, text: &str) -> Result<RuleSet, RulesError> {
+    if name.ends_with(".toml") {
+        toml_rules::read(alloc, text)
+    } else {
+        rules_of_lines(alloc, text)
+    }
+}
+
+// What is said of the rule with a number.
+fn noted(notes: &[Note], number: usize) -> Option<&Note>
+    ensures { option_map (λ n. n.now) result ≡ slice_get notes.now number }
+{
+    notes.get(number)
+}
+
 impl RuleSet {
     /// What is said of a rule: its name and its message, each empty if there is none.
-    pub fn note(&self, number: usize) -> (&str, &str) {
-        match self.notes.get(number) {
+    pub fn note(&self, number: usize) -> (&str, &str)
+        ensures { (result.0.now, result.1.now) ≡ note_at (slice_get self.now.notes.items number) }
+    {
+        match noted(&self.notes, number) {
             Some(note) => (note.name.as_str(), note.message.as_str()),
             None => ("", ""),
         }

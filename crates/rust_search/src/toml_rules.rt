@@ -1,5 +1,7 @@
 //! Rules of a TOML file: tables `[[rule]]` with the texts `pattern`, `template`, `name` and `message`, of which only the first must be there.
 
+ghost use Rattle.std.specs.Prelude.{◌≡◌, IfOk, OnOk, length};
+
 use crate::rules::{Note, RuleSet, RulesError, numbered};
 use ras_front_end::Edition;
 use rust_front::Rust;
@@ -24,23 +26,21 @@ fn rule_by(alloc: Global, pattern: &str, template: &str, number: u64) -> Result<
     if template.is_empty() {
         return match parse_pattern(alloc, &Rust, Edition::CURRENT, pattern) {
             Ok(rule) => Ok(rule),
-            Err(error) => Err(numbered(number, pattern, error)),
+            Err(error) => Err(numbered(alloc, number, pattern, error)),
         };
     }
     let text = format!(in alloc; "{pattern} ==>> {template}")?;
     match parse_rule(alloc, &Rust, Edition::CURRENT, text.as_str()) {
         Ok(rule) => Ok(rule),
-        Err(error) => Err(numbered(number, text.as_str(), error)),
+        Err(error) => Err(numbered(alloc, number, text.as_str(), error)),
     }
 }
 
 // Adds the rule of a table.
-fn push_rule(
-    alloc: Global,
-    set: &mut RuleSet,
-    table: &Value,
-    number: u64,
-) -> Result<(), RulesError> {
+fn push_rule(alloc: Global, set: &mut RuleSet, table: &Value, number: u64) -> Result<(), RulesError>
+    requires { length set.old.notes.items ≡ length set.old.rules.items }
+    ensures { OnOk result (length set.new.notes.items ≡ length set.new.rules.items) }
+{
     let pattern = text_of(table, "pattern", number)?;
     if pattern.is_empty() {
         return Err(RulesError::Lacks {
@@ -78,7 +78,9 @@ fn refusal(alloc: Global, error: &toml::de::Error) -> RulesError {
 }
 
 /// The rules of a text.
-pub(crate) fn read(alloc: Global, text: &str) -> Result<RuleSet, RulesError> {
+pub(crate) fn read(alloc: Global, text: &str) -> Result<RuleSet, RulesError>
+    ensures { IfOk result (λ set. length set.notes.items ≡ length set.rules.items) }
+{
     let mut set = RuleSet {
         rules: Vec::new(alloc),
         notes: Vec::new(alloc),

@@ -13,6 +13,7 @@ pub fn status_of(failure: &Failure) -> u8 {
         | Failure::Text(_)
         | Failure::File(_)
         | Failure::Outside
+        | Failure::Kept(_)
         | Failure::Beside(..) => UNREAD,
     }
 }
@@ -33,6 +34,7 @@ pub fn tell(rt: &HostRuntime, failure: Failure, path: &str) -> io::Result<()> {
                 name(new.as_str())
             )
         }
+        Failure::Kept(reason) => eprintln!(rt; "rust_tree: {file}: not changed: {reason}"),
         Failure::Place(place) => eprintln!(rt; "rust_tree: {file}: no place {place}"),
         Failure::Range(range) => eprintln!(rt; "rust_tree: {file}: no range {range}"),
     }
