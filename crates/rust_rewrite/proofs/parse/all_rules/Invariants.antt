@@ -4,4 +4,4 @@ use Rattle.rust_rewrite.proofs.parse.all_rules.Given as goal
 
 abbrev pub invariant-loop-line : goal.invariant-loop-line
 invariant-loop-line g l =
-    length l.rules.items + count_by has_rule (map (λ line. line.now) (drop l.line-index l.lines.items)) ≡ rule_lines l.text
+    length l.rules.items + count_by has_rule (map (λ line. line.now) (drop l.line-index l.line-items)) ≡ rule_lines l.text
