@@ -148,7 +148,7 @@ fn write_github<W: Write>(
     from: Spot,
     to: Spot,
 ) -> io::Result<()> {
-    let said = format!(in alloc; "{}", Said { place })?;
+    let said = format!(in alloc; "{}", Said { place: &*place })?;
     let file = Escaped {
         text: place.path,
         medium: Medium::Parameter,

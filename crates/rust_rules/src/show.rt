@@ -35,11 +35,11 @@ fn place_of<'a>(
     }
 }
 
-fn write_matches<W: Write>(
+fn write_matches<'a, W: Write>(
     alloc: Global,
     out: &mut W,
-    source: Source<'_>,
-    set: &RuleSet,
+    source: Source<'a>,
+    set: &'a RuleSet,
     matches: &[Match],
     asked: Asked,
 ) -> Result<(), Failure> {
@@ -57,11 +57,11 @@ fn write_matches<W: Write>(
 }
 
 /// Writes the matches of rules in a text. Returns their number.
-pub fn search<W: Write>(
+pub fn search<'a, W: Write>(
     alloc: Global,
     out: &mut W,
-    source: Source<'_>,
-    set: &RuleSet,
+    source: Source<'a>,
+    set: &'a RuleSet,
     asked: Asked,
 ) -> Result<u64, Failure> {
     let parse = parsed(alloc, source.text, asked.reading)?;
@@ -107,13 +107,13 @@ fn is_outer(range: TextRange, end: usize) -> bool {
     end <= range.start().raw() as usize
 }
 
-fn write_changes<W: Write>(
+fn write_changes<'a, W: Write>(
     alloc: Global,
     out: &mut W,
     spots: &mut Spots<'_>,
-    source: Source<'_>,
-    set: &RuleSet,
-    done: &Rewritten,
+    source: Source<'a>,
+    set: &'a RuleSet,
+    done: &'a Rewritten,
     asked: Asked,
 ) -> io::Result<()> {
     let mut is_first = asked.is_first;
@@ -135,12 +135,12 @@ fn write_changes<W: Write>(
 }
 
 /// Writes the matches that are in no other match, each with what replaces it.
-pub fn list<W: Write>(
+pub fn list<'a, W: Write>(
     alloc: Global,
     out: &mut W,
-    source: Source<'_>,
-    set: &RuleSet,
-    done: &Rewritten,
+    source: Source<'a>,
+    set: &'a RuleSet,
+    done: &'a Rewritten,
     asked: Asked,
 ) -> Result<(), Failure> {
     if done.edit.is_empty() {
