@@ -156,7 +156,7 @@ def parse(text, edition=2024):
 
 def parse_expr(text, edition=2024):
     """The tree of a text, read as an expression. Its root is an ERROR, and there are errors, if the text is not one expression."""
-    return Tree(text, edition, _call=_library.ras_c_read_expr)
+    return Tree.__new__(Tree)._read(_library.ras_c_read_expr, text, edition)
 
 
 def _bytes_of(text):
@@ -177,9 +177,14 @@ def _edition_of(edition):
 class Tree:
     """A text, its lossless tree, and what is wrong with it."""
 
-    def __init__(self, text, edition=2024, *, _call=None):
+    def __init__(self, text, edition=2024):
+        self._read(_library.ras_c_read, text, edition)
+
+    def _read(self, call, text, edition):
+        """Takes what a call that reads a text writes."""
         data, edition = _bytes_of(text), _edition_of(edition)
-        self._tell(data, edition, functools.partial(_call or _library.ras_c_read, data, len(data), edition))
+        self._tell(data, edition, functools.partial(call, data, len(data), edition))
+        return self
 
     def _tell(self, data, edition, call):
         """Takes what a call writes to its buffers, which is called again if they had too little room."""
