@@ -5,6 +5,7 @@ use clap::ArgMatches;
 use rust_draw::highlight::Ink;
 use rust_draw::tree::{Drawing, Showing};
 use rust_query::{Pattern, QueryError, parse_pattern};
+use rust_search::{RuleSet, RulesError, one_pattern, one_rule, rules_of};
 use std::alloc::Global;
 use std::fmt;
 
@@ -25,16 +26,20 @@ pub enum Task {
     Query { pattern: Pattern },
     /// Prints texts with their tokens coloured.
     Highlight { ink: Ink },
+    /// Finds what rules match.
+    Search { set: RuleSet },
+    /// Replaces what rules match.
+    Rewrite { set: RuleSet, then: Then },
 }
 
-/// What is done with pairs of parentheses.
+/// What is done with pairs of parentheses, or with matches.
 #[derive(Clone, Copy, Debug)]
 pub enum Then {
     /// They are listed.
     List,
-    /// A patch that removes them is printed.
+    /// A patch that removes or replaces them is printed.
     Diff,
-    /// They are removed from the file.
+    /// They are removed or replaced in the file.
     Fix,
 }
 
@@ -49,6 +54,24 @@ pub enum Refusal {
     Highlights,
     /// A pattern is invalid.
     Pattern(QueryError),
+    /// A rule is invalid.
+    Rule(RulesError),
+    /// A file of rules is invalid.
+    Rules(String, RulesError),
+    /// A command has a rule and no file.
+    NoFile,
+}
+
+// Writes what is wrong with a file of rules, behind the name of the file.
+fn write_rules<W: fmt::Write>(
+    f: &mut fmt::Formatter<W>,
+    path: &str,
+    error: &RulesError,
+) -> fmt::Result {
+    match error {
+        RulesError::Rule { .. } => write!(f, "{path}:{error}"),
+        _ => write!(f, "{path}: {error}"),
+    }
 }
 
 impl fmt::Display for Refusal {
@@ -58,6 +81,9 @@ impl fmt::Display for Refusal {
             Refusal::Pages => f.write_str("`--format html` takes one file, and no folder"),
             Refusal::Highlights => f.write_str("`highlight` takes one file, and no folder"),
             Refusal::Pattern(error) => write!(f, "the pattern: {error}"),
+            Refusal::Rule(error) => write!(f, "the rule: {error}"),
+            Refusal::Rules(path, error) => write_rules(f, path.as_str(), error),
+            Refusal::NoFile => f.write_str("a file or a folder is missing behind the rule"),
         }
     }
 }
@@ -86,15 +112,94 @@ fn query_task(alloc: Global, matches: &ArgMatches) -> Result<Task, Refusal> {
     }
 }
 
-fn parens_task(matches: &ArgMatches) -> Task {
-    let then = if matches.get_flag("fix") {
+fn then_of(matches: &ArgMatches) -> Then {
+    if matches.get_flag("fix") {
         Then::Fix
     } else if matches.get_flag("diff") {
         Then::Diff
     } else {
         Then::List
+    }
+}
+
+fn parens_task(matches: &ArgMatches) -> Task {
+    Task::Parens {
+        then: then_of(matches),
+    }
+}
+
+/// Whether a command takes rules.
+pub fn takes_rules(name: &str) -> bool {
+    matches!(name, "search" | "rewrite")
+}
+
+/// The files that a command line names: its words, without the rule in front of them.
+pub fn files_of<'a>(name: &str, matches: &'a ArgMatches) -> &'a [&'a str] {
+    let words = matches.get_strs("FILE").unwrap_or(&[]);
+    if takes_rules(name) && matches.get_str("rules").is_none() {
+        words.get(1..).unwrap_or(&[])
+    } else {
+        words
+    }
+}
+
+// The task of a command with its rules.
+fn task_with(name: &str, set: RuleSet, matches: &ArgMatches) -> Task {
+    if name == "rewrite" {
+        Task::Rewrite {
+            set,
+            then: then_of(matches),
+        }
+    } else {
+        Task::Search { set }
+    }
+}
+
+// The rule of a command line, for a command.
+fn rule_of(alloc: Global, name: &str, rule: &str) -> Result<RuleSet, RulesError> {
+    if name == "rewrite" {
+        one_rule(alloc, rule)
+    } else {
+        one_pattern(alloc, rule)
+    }
+}
+
+/// The task of a command with the rule of its command line.
+pub fn task_of_rule(alloc: Global, name: &str, matches: &ArgMatches) -> Result<Task, Refusal> {
+    if files_of(name, matches).is_empty() {
+        return Err(Refusal::NoFile);
+    }
+    let words = matches.get_strs("FILE").unwrap_or(&[]);
+    let rule = match words.first() {
+        Some(rule) => *rule,
+        None => "",
     };
-    Task::Parens { then }
+    match rule_of(alloc, name, rule) {
+        Ok(set) => Ok(task_with(name, set, matches)),
+        Err(error) => Err(Refusal::Rule(error)),
+    }
+}
+
+// A refusal of the rules of a file.
+fn refusal_of(alloc: Global, path: &str, error: RulesError) -> Refusal {
+    match String::from_str(alloc, path) {
+        Ok(path) => Refusal::Rules(path, error),
+        Err(_) => Refusal::Rule(error),
+    }
+}
+
+/// The task of a command with the rules of a file.
+pub fn task_of_rules(
+    alloc: Global,
+    name: &str,
+    path: &str,
+    text: &str,
+    matches: &ArgMatches,
+) -> Result<Task, Refusal> {
+    match rules_of(alloc, path, text, name == "rewrite") {
+        Ok(set) => Ok(task_with(name, set, matches)),
+        Err(error) => Err(refusal_of(alloc, path, error)),
+    }
 }
 
 /// The task of a command with its options. `has_several`: whether the command line names more than one file, or a folder.
@@ -111,6 +216,7 @@ pub fn task_of(
         "outline" => Ok(Task::Outline),
         "tokens" => Ok(Task::Tokens),
         "query" => query_task(alloc, matches),
+        "search" | "rewrite" => task_of_rule(alloc, name, matches),
         _ => Ok(parens_task(matches)),
     }
 }

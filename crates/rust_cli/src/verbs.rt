@@ -88,6 +88,22 @@ const PATTERN: Row = Row {
     help: "Kinds, such as `FN > NAME`; `>` precedes a child, `//` a descendant; `A|B`, `*`, `=\"text\"`, `~\"regex\"`, `@name`",
 };
 
+const RULE_AND_FILES: Row = Row {
+    name: "FILE",
+    takes: Takes::Words,
+    default: None,
+    conflicts: &[],
+    help: "The rule, unless `--rules` is given, and then Rust files, and folders, which are searched for `.rs` files; `-` is standard input",
+};
+
+const RULES: Row = Row {
+    name: "rules",
+    takes: Takes::Text("FILE"),
+    default: None,
+    conflicts: &[],
+    help: "The rules of this file: one a line, or TOML if its name ends with `.toml`",
+};
+
 const SHELL: Row = Row {
     name: "SHELL",
     takes: Takes::Choice(&["bash", "zsh", "fish"]),
@@ -133,7 +149,7 @@ const COLOR: Row = Row {
     takes: Takes::OneOf(&["auto", "always", "never"]),
     default: Some("auto"),
     conflicts: &[],
-    help: "Whether check, outline, parens and query use colours; `auto`: on a terminal",
+    help: "Whether check, outline, parens, query, search and rewrite use colours; `auto`: on a terminal",
 };
 
 const FOLLOW: Row = Row {
@@ -328,6 +344,14 @@ const FIX: Row = Row {
     help: "Removes the pairs from each file; the exit status is 0 then",
 };
 
+const REPLACE: Row = Row {
+    name: "fix",
+    takes: Takes::Nothing,
+    default: None,
+    conflicts: &["diff", "format"],
+    help: "Replaces the matches in each file; the exit status is 0 then",
+};
+
 const ALL: Row = Row {
     name: "all",
     takes: Takes::Nothing,
@@ -495,6 +519,50 @@ static QUERY_VERB: Verb = Verb {
     ],
 };
 
+static SEARCH_VERB: Verb = Verb {
+    name: "search",
+    about: "Finds expressions by code with placeholders; the exit status is 1 if there is one",
+    example: "Example: rust_tree search '$a + $a' src",
+    rows: &[
+        RULES,
+        COUNT,
+        FILES_WITH_MATCHES,
+        CHECK_FORMAT,
+        FOLLOW,
+        HIDDEN,
+        NO_IGNORE,
+        GLOB,
+        EXCLUDE,
+        EDITION,
+        COLOR,
+        QUIET,
+        RULE_AND_FILES,
+    ],
+};
+
+static REWRITE_VERB: Verb = Verb {
+    name: "rewrite",
+    about: "Replaces expressions by code with placeholders; the exit status is 1 if there is one",
+    example: "Example: rust_tree rewrite '$a.clone() ==>> *$a' --diff src",
+    rows: &[
+        RULES,
+        CHECK_FORMAT,
+        DIFF,
+        REPLACE,
+        COUNT,
+        FILES_WITH_MATCHES,
+        FOLLOW,
+        HIDDEN,
+        NO_IGNORE,
+        GLOB,
+        EXCLUDE,
+        EDITION,
+        COLOR,
+        QUIET,
+        RULE_AND_FILES,
+    ],
+};
+
 static HIGHLIGHT_VERB: Verb = Verb {
     name: "highlight",
     about: "Prints a file with syntax highlighting",
@@ -532,19 +600,23 @@ pub(crate) enum Name {
     Parens,
     Tokens,
     Query,
+    Search,
+    Rewrite,
     Highlight,
     Diff,
     Completions,
     Man,
 }
 
-pub(crate) static NAMES: [Name; 10] = [
+pub(crate) static NAMES: [Name; 12] = [
     Name::Tree,
     Name::Check,
     Name::Outline,
     Name::Parens,
     Name::Tokens,
     Name::Query,
+    Name::Search,
+    Name::Rewrite,
     Name::Highlight,
     Name::Diff,
     Name::Completions,
@@ -576,6 +648,14 @@ fn query() -> &'static Verb {
     &QUERY_VERB
 }
 
+fn search() -> &'static Verb {
+    &SEARCH_VERB
+}
+
+fn rewrite() -> &'static Verb {
+    &REWRITE_VERB
+}
+
 fn highlight() -> &'static Verb {
     &HIGHLIGHT_VERB
 }
@@ -600,6 +680,8 @@ pub(crate) fn verb_of(name: Name) -> &'static Verb {
         Name::Parens => parens(),
         Name::Tokens => tokens(),
         Name::Query => query(),
+        Name::Search => search(),
+        Name::Rewrite => rewrite(),
         Name::Highlight => highlight(),
         Name::Diff => diff(),
         Name::Completions => completions(),

@@ -1,23 +1,16 @@
 //! Patches, and replacing the text of files.
 
+use crate::session::Noun;
 use rust_print::failure::Failure;
 use rust_print::shown;
 use rust_print::source::Source;
 use rust_report::{Quoted, lines_of, noun_for, other_front, same_front};
+use rust_search::{write_hunks, write_lines};
 use std::alloc::Global;
 use std::fs::File;
 use std::io::{ErrorKind, Write};
 use std::{fs, io};
-
-fn write_lines<W: Write>(out: &mut W, sign: &str, lines: &[&str]) -> io::Result<()> {
-    for line in lines {
-        write!(out, "{sign}{line}")?;
-        if !line.ends_with('\n') {
-            writeln!(out, "\n\\ No newline at end of file")?;
-        }
-    }
-    Ok(())
-}
+use text_edit::TextEdit;
 
 // Writes a hunk for each run of lines that differ, without context lines. Both texts have the same number of lines.
 fn write_changes<W: Write>(out: &mut W, old: &[&str], new: &[&str]) -> io::Result<()> {
@@ -79,37 +72,48 @@ fn patch_name(rt: &HostRuntime, path: &str) -> io::Result<Option<String>> {
     Ok(below)
 }
 
-fn write_patch<W: Write>(
-    alloc: Global,
-    out: &mut W,
-    path: &str,
-    old: &str,
-    new: &str,
-) -> Result<(), Failure> {
+fn write_names<W: Write>(out: &mut W, path: &str) -> io::Result<()> {
     let name = Quoted { name: path };
     // Without the tab, `patch` reads a name that is not in quotes up to its first blank.
     let end = if path.contains(' ') { "\t" } else { "" };
-    writeln!(out, "--- {name}{end}\n+++ {name}{end}")?;
-    let (old, new) = (lines_of(alloc, old)?, lines_of(alloc, new)?);
-    Ok(write_changes(out, old.as_slice(), new.as_slice())?)
+    writeln!(out, "--- {name}{end}\n+++ {name}{end}")
 }
 
-/// Writes the change of a file as a patch.
+// Writes the lines of a patch that name a file.
+fn write_head<W: Write>(rt: &HostRuntime, out: &mut W, name: &str) -> Result<(), Failure> {
+    let below = match patch_name(rt, name) {
+        Ok(below) => below,
+        Err(error) => return Err(Failure::File(error)),
+    };
+    let path = match &below {
+        Some(path) => path.as_str(),
+        None => name,
+    };
+    Ok(write_names(out, path)?)
+}
+
+/// Writes the change of a file as a patch. Both texts have the same number of lines.
 pub fn diff<W: Write>(
     rt: &HostRuntime,
     out: &mut W,
     source: Source<'_>,
     new: &str,
 ) -> Result<(), Failure> {
-    let below = match patch_name(rt, source.name) {
-        Ok(below) => below,
-        Err(error) => return Err(Failure::File(error)),
-    };
-    let path = match &below {
-        Some(path) => path.as_str(),
-        None => source.name,
-    };
-    write_patch(rt.alloc(), out, path, source.text, new)
+    write_head(rt, out, source.name)?;
+    let alloc = rt.alloc();
+    let (old, new) = (lines_of(alloc, source.text)?, lines_of(alloc, new)?);
+    Ok(write_changes(out, old.as_slice(), new.as_slice())?)
+}
+
+/// Writes an edit of a file as a patch.
+pub fn diff_of<W: Write>(
+    rt: &HostRuntime,
+    out: &mut W,
+    source: Source<'_>,
+    edit: &TextEdit,
+) -> Result<(), Failure> {
+    write_head(rt, out, source.name)?;
+    Ok(write_hunks(rt.alloc(), out, source.text, edit)?)
 }
 
 // The path of the new file beside another, which takes its name once it is written.
@@ -201,20 +205,32 @@ fn write_over(
     }
 }
 
-/// Replaces the text of a file, and writes how many pairs were removed. For standard input, writes the text to the output. `folder` is the
-/// folder whose search found the file.
+/// What was done in a file, and how often.
+#[derive(Clone, Copy)]
+pub struct Done {
+    /// To how many.
+    pub count: usize,
+    /// To what.
+    pub noun: Noun,
+    /// What was done.
+    pub verb: &'static str,
+}
+
+/// Replaces the text of a file, and writes what was done. For standard input, writes the text to the output. `folder` is the folder whose
+/// search found the file.
 pub fn fix<W: Write>(
     rt: &HostRuntime,
     out: &mut W,
     name: &str,
     folder: Option<&str>,
     text: &str,
-    count: usize,
+    done: Done,
 ) -> Result<(), Failure> {
     if name == "-" {
         return Ok(out.write_all(text.as_bytes())?);
     }
     write_over(rt, name, folder, text)?;
-    let pairs = noun_for(count as u64, "pair", "pairs");
-    Ok(writeln!(out, "{}: {count} {pairs} removed", shown::name(name))?)
+    let Done { count, noun, verb } = done;
+    let things = noun_for(count as u64, noun.one, noun.many);
+    Ok(writeln!(out, "{}: {count} {things} {verb}", shown::name(name))?)
 }

@@ -3,6 +3,7 @@
 use crate::editions::Manifests;
 use crate::failure::{status_of, tell};
 use crate::fix;
+use crate::fix::Done;
 use crate::inputs::{Read, files_below, is_folder, text_of};
 use crate::session::{Noun, Session, UNREAD};
 use ras_front_end::Edition;
@@ -18,6 +19,9 @@ use rust_print::shown::name;
 use rust_print::source::Source;
 use rust_print::{outline, parens, tokens};
 use rust_query::show as query;
+use rust_rewrite::Rewritten;
+use rust_rules as rules;
+use rust_search::RuleSet;
 use std::io;
 use std::io::Write;
 use std::time::Instant;
@@ -64,6 +68,43 @@ impl Progress {
     }
 }
 
+const FOUND: Noun = Noun {
+    one: "found",
+    many: "found",
+};
+
+const ERRORS: Noun = Noun {
+    one: "error",
+    many: "errors",
+};
+
+const PAIRS: Noun = Noun {
+    one: "pair",
+    many: "pairs",
+};
+
+const MATCHES: Noun = Noun {
+    one: "match",
+    many: "matches",
+};
+
+// Replaces the text of a file, if anything was done in it. The new text of standard input is always written.
+fn fix_file<W: Write>(
+    rt: &HostRuntime,
+    out: &mut W,
+    source: Source<'_>,
+    new: &str,
+    done: Done,
+) -> Result<(), Failure> {
+    if source.name != "-" {
+        fix::tidy(rt, source.name)?;
+    }
+    if done.count > 0 || source.name == "-" {
+        fix::fix(rt, out, source.name, source.folder, new, done)?;
+    }
+    Ok(())
+}
+
 // Writes what is done with the pairs of a text. Returns their number.
 fn write_pairs<W: Write>(
     rt: &HostRuntime,
@@ -86,12 +127,12 @@ fn write_pairs<W: Write>(
             }
         }
         Then::Fix => {
-            if source.name != "-" {
-                fix::tidy(rt, source.name)?;
-            }
-            if !pairs.is_empty() || source.name == "-" {
-                fix::fix(rt, out, source.name, source.folder, new, pairs.len())?;
-            }
+            let done = Done {
+                count: pairs.len(),
+                noun: PAIRS,
+                verb: "removed",
+            };
+            fix_file(rt, out, source, new, done)?;
         }
     }
     Ok(pairs.len() as u64)
@@ -107,6 +148,71 @@ fn parens<W: Write>(
 ) -> Result<u64, Failure> {
     let found = parens::needless(rt.alloc(), source.text, asked.reading, asked.wanted)?;
     write_pairs(rt, out, source, &found, asked, then)
+}
+
+// Writes what is done with a text in which nothing matches.
+fn write_unchanged<W: Write>(
+    rt: &HostRuntime,
+    out: &mut W,
+    source: Source<'_>,
+    then: Then,
+) -> Result<(), Failure> {
+    match then {
+        Then::List | Then::Diff => Ok(()),
+        Then::Fix => {
+            let done = Done {
+                count: 0,
+                noun: MATCHES,
+                verb: "replaced",
+            };
+            fix_file(rt, out, source, source.text, done)
+        }
+    }
+}
+
+// Writes what is done with the matches of a text.
+fn write_rewritten<W: Write>(
+    rt: &HostRuntime,
+    out: &mut W,
+    source: Source<'_>,
+    set: &RuleSet,
+    done: &Rewritten,
+    asked: Asked,
+    then: Then,
+) -> Result<(), Failure> {
+    match then {
+        Then::List => rules::list(rt.alloc(), out, source, set, done, asked),
+        Then::Diff => fix::diff_of(rt, out, source, &done.edit),
+        Then::Fix => {
+            let told = Done {
+                count: done.edit.len(),
+                noun: MATCHES,
+                verb: "replaced",
+            };
+            fix_file(rt, out, source, done.text.as_str(), told)
+        }
+    }
+}
+
+// Lists or replaces the matches of rules in a text. Returns the number of those that are in no other match.
+fn rewrite<W: Write>(
+    rt: &HostRuntime,
+    out: &mut W,
+    source: Source<'_>,
+    set: &RuleSet,
+    asked: Asked,
+    then: Then,
+) -> Result<u64, Failure> {
+    match rules::rewritten(rt.alloc(), source, set, asked)? {
+        None => {
+            write_unchanged(rt, out, source, then)?;
+            Ok(0)
+        }
+        Some(done) => {
+            write_rewritten(rt, out, source, set, &done, asked, then)?;
+            Ok(done.edit.len() as u64)
+        }
+    }
 }
 
 // Writes the line about a file that stands for a report.
@@ -129,13 +235,12 @@ fn write_summary<W: Write>(
 impl Job {
     // The noun for what was found, in the totals.
     fn noun(&self) -> Noun {
-        let (one, many) = match &self.task {
-            Task::Tree { .. } | Task::Outline | Task::Highlight { ink: _ } => ("found", "found"),
-            Task::Check | Task::Tokens => ("error", "errors"),
-            Task::Parens { then: _ } => ("pair", "pairs"),
-            Task::Query { pattern: _ } => ("match", "matches"),
-        };
-        Noun { one, many }
+        match &self.task {
+            Task::Tree { .. } | Task::Outline | Task::Highlight { ink: _ } => FOUND,
+            Task::Check | Task::Tokens => ERRORS,
+            Task::Parens { then: _ } => PAIRS,
+            Task::Query { .. } | Task::Search { .. } | Task::Rewrite { .. } => MATCHES,
+        }
     }
 
     // Writes the report on a text. Returns how much was found.
@@ -155,6 +260,8 @@ impl Job {
             Task::Highlight { ink } => highlight::show(alloc, out, source, asked.reading, *ink),
             Task::Tokens => tokens::show(alloc, out, source, asked),
             Task::Query { pattern } => query::show(alloc, out, source, pattern, asked),
+            Task::Search { set } => rules::search(alloc, out, source, set, asked),
+            Task::Rewrite { set, then } => rewrite(rt, out, source, set, asked, *then),
         }
     }
 
@@ -248,10 +355,14 @@ impl Job {
         Ok(())
     }
 
-    /// The exit status after a run. Pairs of parentheses that were removed do not count as found.
+    /// The exit status after a run. Pairs of parentheses that were removed do not count as found, nor do matches that were replaced.
     pub fn status(&self, session: &Session) -> u8 {
         match &self.task {
             Task::Parens { then: Then::Fix } => session.failed,
+            Task::Rewrite {
+                then: Then::Fix,
+                ..
+            } => session.failed,
             _ => session.status(),
         }
     }

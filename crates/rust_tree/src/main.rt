@@ -16,7 +16,7 @@ use inputs::{is_folder, text_of};
 use job::Job;
 use rust_cli::manual::{write_completions, write_manual};
 use rust_cli::options::{Options, edition, globs_of, limit, reading};
-use rust_cli::task::task_of;
+use rust_cli::task::{Refusal, Task, files_of, task_of, task_of_rules};
 use rust_cli::verbs;
 use rust_print::differ;
 use rust_print::failure::Failure;
@@ -48,8 +48,13 @@ fn style_of(rt: &HostRuntime, matches: &ArgMatches) -> Style {
     }
 }
 
-fn run_job(rt: &HostRuntime, job: &Job, matches: &ArgMatches) -> io::Result<Session> {
-    let names = matches.get_strs("FILE").unwrap_or(&[]);
+fn run_job(
+    rt: &HostRuntime,
+    job: &Job,
+    command: &str,
+    matches: &ArgMatches,
+) -> io::Result<Session> {
+    let names = files_of(command, matches);
     if matches.get_flag("quiet") {
         job.run(rt, &mut io::sink(), names)
     } else {
@@ -59,31 +64,65 @@ fn run_job(rt: &HostRuntime, job: &Job, matches: &ArgMatches) -> io::Result<Sess
 }
 
 // Whether the command line names more than one file, or a folder.
-fn has_several(rt: &HostRuntime, matches: &ArgMatches) -> bool {
-    match matches.get_strs("FILE").unwrap_or(&[]) {
+fn has_several(rt: &HostRuntime, command: &str, matches: &ArgMatches) -> bool {
+    match files_of(command, matches) {
         [name] => is_folder(rt, name),
         _ => true,
     }
 }
 
-// Runs a command on files. Returns the exit status.
-fn run_on_files(rt: &HostRuntime, command: &str, matches: &ArgMatches) -> io::Result<u8> {
-    match task_of(rt.alloc(), command, has_several(rt, matches), matches) {
-        Ok(task) => {
-            let options = Options::of(style_of(rt, matches), matches);
-            let globs = globs_of(rt.alloc(), matches)?;
-            let job = Job {
-                task,
-                options,
-                globs,
-            };
-            let session = run_job(rt, &job, matches)?;
-            Ok(job.status(&session))
-        }
+// Runs a task on files. Returns the exit status.
+fn run_task(rt: &HostRuntime, task: Task, command: &str, matches: &ArgMatches) -> io::Result<u8> {
+    let options = Options::of(style_of(rt, matches), matches);
+    let globs = globs_of(rt.alloc(), matches)?;
+    let job = Job {
+        task,
+        options,
+        globs,
+    };
+    let session = run_job(rt, &job, command, matches)?;
+    Ok(job.status(&session))
+}
+
+// Runs the task that a command line asks for, or reports why it is refused. Returns the exit status.
+fn run_or_tell(
+    rt: &HostRuntime,
+    task: Result<Task, Refusal>,
+    command: &str,
+    matches: &ArgMatches,
+) -> io::Result<u8> {
+    match task {
+        Ok(task) => run_task(rt, task, command, matches),
         Err(refusal) => {
             let refusal = format!(in rt.alloc(); "{refusal}")?;
             eprintln!(rt; "rust_tree: {}", name(refusal.as_str()))?;
             Ok(USAGE)
+        }
+    }
+}
+
+// Runs a command with the rules of a file on files. Returns the exit status.
+fn run_with_rules(
+    rt: &HostRuntime,
+    command: &str,
+    path: &str,
+    matches: &ArgMatches,
+) -> io::Result<u8> {
+    let Some(text) = text_or_tell(rt, path)? else {
+        return Ok(UNREAD);
+    };
+    let task = task_of_rules(rt.alloc(), command, path, text.as_str(), matches);
+    run_or_tell(rt, task, command, matches)
+}
+
+// Runs a command on files. Returns the exit status.
+fn run_on_files(rt: &HostRuntime, command: &str, matches: &ArgMatches) -> io::Result<u8> {
+    match matches.get_str("rules") {
+        Some(path) => run_with_rules(rt, command, path, matches),
+        None => {
+            let several = has_several(rt, command, matches);
+            let task = task_of(rt.alloc(), command, several, matches);
+            run_or_tell(rt, task, command, matches)
         }
     }
 }

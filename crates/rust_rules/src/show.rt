@@ -1,0 +1,151 @@
+//! The matches of rules in a text, and what replaces them.
+
+use crate::place::{Place, write_one};
+use lossless_tree::{SyntaxNode, TextRange};
+use ras_front_end::ParseError;
+use rust_front::Rust;
+use rust_print::failure::Failure;
+use rust_print::forms::Asked;
+use rust_print::source::{Source, parsed, spots};
+use rust_report::Spots;
+use rust_rewrite::{Match, RewriteError, Rewritten, find, rewrite};
+use rust_search::RuleSet;
+use std::alloc::{AllocError, Global};
+use std::io;
+use std::io::Write;
+
+// A match of a text.
+fn place_of<'a>(
+    source: Source<'a>,
+    set: &'a RuleSet,
+    found: &Match,
+    new: Option<&'a str>,
+) -> Place<'a> {
+    let start = found.range.start().raw() as usize;
+    let end = found.range.end().raw() as usize;
+    let (name, message) = set.note(found.rule);
+    Place {
+        path: source.name,
+        range: found.range,
+        text: source.text.get(start..end).unwrap_or(""),
+        new,
+        rule: (found.rule as u64).saturating_add(1),
+        name,
+        message,
+    }
+}
+
+fn write_matches<'a, W: Write>(
+    alloc: Global,
+    out: &mut W,
+    source: Source<'a>,
+    set: &'a RuleSet,
+    matches: &[Match],
+    asked: Asked,
+) -> Result<(), Failure> {
+    if matches.is_empty() {
+        return Ok(());
+    }
+    let mut spots = spots(alloc, source.text)?;
+    let mut is_first = asked.is_first;
+    for found in matches {
+        let place = place_of(source, set, found, None);
+        write_one(alloc, out, &mut spots, &place, is_first, asked)?;
+        is_first = false;
+    }
+    Ok(())
+}
+
+/// Writes the matches of rules in a text. Returns their number.
+pub fn search<'a, W: Write>(
+    alloc: Global,
+    out: &mut W,
+    source: Source<'a>,
+    set: &'a RuleSet,
+    asked: Asked,
+) -> Result<u64, Failure> {
+    let parse = parsed(alloc, source.text, asked.reading)?;
+    let matches = find(alloc, &set.rules, parse.root())?;
+    write_matches(alloc, out, source, set, &matches, asked)?;
+    Ok(matches.len() as u64)
+}
+
+fn failure_of(error: RewriteError) -> Failure {
+    match error {
+        RewriteError::Memory => Failure::Text(ParseError::Memory),
+        RewriteError::TooLong => Failure::Kept("the new text would be too long"),
+        RewriteError::ReadsOtherwise => Failure::Kept("the new text would not be read as meant"),
+        RewriteError::LosesComment => Failure::Kept("a comment would be lost"),
+    }
+}
+
+// Whether a rule matches in a tree.
+fn has_match(alloc: Global, set: &RuleSet, root: &SyntaxNode) -> Result<bool, AllocError> {
+    Ok(!find(alloc, &set.rules, root)?.is_empty())
+}
+
+/// A text with the matches of rules replaced; `None` if there are none.
+pub fn rewritten(
+    alloc: Global,
+    source: Source<'_>,
+    set: &RuleSet,
+    asked: Asked,
+) -> Result<Option<Rewritten>, Failure> {
+    let parse = parsed(alloc, source.text, asked.reading)?;
+    // In most files nothing matches, and their texts are not parsed again.
+    if !has_match(alloc, set, parse.root())? {
+        return Ok(None);
+    }
+    match rewrite(alloc, &Rust, asked.reading.edition, &set.rules, &parse) {
+        Ok(done) => Ok(Some(done)),
+        Err(error) => Err(failure_of(error)),
+    }
+}
+
+// Whether a match is in none of the matches that end before an offset or there.
+fn is_outer(range: TextRange, end: usize) -> bool {
+    end <= range.start().raw() as usize
+}
+
+fn write_changes<'a, W: Write>(
+    alloc: Global,
+    out: &mut W,
+    spots: &mut Spots<'_>,
+    source: Source<'a>,
+    set: &'a RuleSet,
+    done: &'a Rewritten,
+    asked: Asked,
+) -> io::Result<()> {
+    let mut is_first = asked.is_first;
+    let mut end = 0usize;
+    let mut indels = done.edit.iter();
+    for found in &done.matches {
+        if is_outer(found.range, end) {
+            let new = match indels.next() {
+                Some(indel) => indel.inserted(),
+                None => return Ok(()),
+            };
+            let place = place_of(source, set, found, Some(new));
+            write_one(alloc, out, spots, &place, is_first, asked)?;
+            is_first = false;
+            end = found.range.end().raw() as usize;
+        }
+    }
+    Ok(())
+}
+
+/// Writes the matches that are in no other match, each with what replaces it.
+pub fn list<'a, W: Write>(
+    alloc: Global,
+    out: &mut W,
+    source: Source<'a>,
+    set: &'a RuleSet,
+    done: &'a Rewritten,
+    asked: Asked,
+) -> Result<(), Failure> {
+    if done.edit.is_empty() {
+        return Ok(());
+    }
+    let mut spots = spots(alloc, source.text)?;
+    Ok(write_changes(alloc, out, &mut spots, source, set, done, asked)?)
+}
