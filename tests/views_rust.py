@@ -211,7 +211,7 @@ class Writer:
         kinds = snake(trait)
         out = [f"//! {it.doc} {MADE}", "ghost use Rattle.std.specs.Prelude.{◌≡◌, Some, true, ⊤, option_map};", *CURSORS, *EQUALITY]
         out += ["ghost use Rattle.ras_node.specs.Nodes.{kind_at};", "ghost use Rattle.ras_node.specs.Lookups.{if_of};"]
-        out += [f"ghost use Rattle.rust_views.specs.Sets.{{{kinds}}};", "", *listed("use ra_ap_syntax::ast::", sorted(["AstNode", trait]))]
+        out += [f"ghost use Rattle.rust_views.specs.Sets.{{{kinds}}};", "", *listed("use ra_ap_syntax::ast::", sorted(["AstNode", trait, "Within"]))]
         out += ["use ra_ap_syntax::{SyntaxKind, SyntaxNode};", "use ras_node::support;", "use std::alloc::AllocError;", "use std::fmt;", "use std::hash::{Hash, Hasher};", ""]
         out += [f"/// {it.doc}", "#[derive(Drop)]", f"pub struct {name} {{", "    syntax: SyntaxNode,"]
         out += [f"    ghost is: {{ {kinds} (kind_at syntax) ≡ true }},", "}"]
@@ -223,15 +223,25 @@ class Writer:
         out += self.filled(CASTS, name=name, **words, can_cast="\n".join(matched), cast=indented(cast), syntax="        &self.syntax")
         words = {key: f"{key}.syntax" for key in ("it", "a", "b")} | {"own": "self.syntax", "other": "other.syntax"}
         out += self.filled(self.templates.BY_NODE, name=name, node="(λ it. it.syntax)", is_clone="copy ≡ s", clone=indented(clone), **words)
-        return out + self.shown(name, words["it"], words["own"])
+        return out + self.shown(name, words["it"], words["own"]) + self.templates.from_of(name, "support::share")
 
     # ---- the crate's other files
+
+    def within(self):
+        anys = self.table.anys.values()
+        out = [f"//! Which views are within a view of several kinds. {MADE}", *self.templates.WITHIN]
+        out += [f"ghost use Rattle.rust_views.specs.Sets.{{{', '.join(sorted(snake(it.traits[0]) for it in anys))}}};", ""]
+        out += [*listed("use crate::", list(self.table.anys)), *listed("use ra_ap_syntax::ast::", ["self", "Within"])]
+        for it in anys:
+            for name in self.holders(it.traits[0]):
+                out += self.templates.within_impl(f"ast::{name}", it.name, snake(it.traits[0]), self.kind(name))
+        return out
 
     def lib(self):
         sections = [it for it in self.table.sections if self.extended(it)]
         enums, anys = self.table.enums, self.table.anys
         out = [*HEAD.format(made=MADE).rstrip("\n").split("\n"), ""]
-        modules = {it: "pub mod" for it in ("anys", "enums", "laws", "lookups", "raw")} | {"kinds": "mod", "shared_traits": "mod"}
+        modules = {it: "pub mod" for it in ("anys", "enums", "laws", "lookups", "raw")} | {"kinds": "mod", "shared_traits": "mod", "within": "mod"}
         out += [f"{modules[it]} {it};" for it in sorted(modules)] + [""]
         uses = [(f"pub use anys::{snake(it)}::", [it]) for it in anys] + [(f"pub use enums::{snake(it)}::", [it]) for it in enums]
         uses += [("pub use kinds::", sorted(self.table.kinds))]
@@ -278,7 +288,7 @@ class Writer:
     def files(self):
         src, specs = os.path.join(CRATE, "src"), os.path.join(CRATE, "specs")
         sections = sorted(it for it in self.table.sections if self.extended(it))
-        out = {"lib": self.lib(), "laws": self.laws(), "raw": self.raw(), "kinds": self.kinds(), "shared_traits": self.shared_traits()}
+        out = {"lib": self.lib(), "laws": self.laws(), "raw": self.raw(), "kinds": self.kinds(), "shared_traits": self.shared_traits(), "within": self.within()}
         out |= {"lookups": [f"//! Lookups of children by their kinds. {MADE}", *(f"pub mod {it};" for it in sections)]}
         out |= {"enums": [f"//! Views of one of several kinds. {MADE}", *(f"pub mod {snake(it)};" for it in sorted(self.table.enums))]}
         out |= {"anys": [f"//! Views of all nodes that have a trait. {MADE}", *(f"pub mod {snake(it)};" for it in sorted(self.table.anys))]}

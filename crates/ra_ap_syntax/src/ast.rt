@@ -7,6 +7,7 @@ pub mod prec;
 mod traits;
 mod typed;
 mod views;
+mod within;
 
 pub use expr_ext::{ArgsMaybeEmpty, ArrayExprKind, BlockModifier, FieldKind, RangeItem};
 pub use operators::{ArithOp, BinaryOp, CmpOp, LogicOp, Ordering, RangeOp, UnaryOp};
@@ -46,6 +47,7 @@ pub use views::traits::{
 };
 pub use views::ty::Type;
 pub use views::type_or_const_param::TypeOrConstParam;
+pub use within::Within;
 // The formatter would write this many names one per line.
 #[rattlefmt::skip]
 pub use node_ext::{

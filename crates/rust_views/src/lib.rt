@@ -14,6 +14,7 @@ pub mod laws;
 pub mod lookups;
 pub mod raw;
 mod shared_traits;
+mod within;
 
 pub use anys::any_has_arg_list::AnyHasArgList;
 pub use anys::any_has_generic_args::AnyHasGenericArgs;

@@ -3,6 +3,10 @@ use either::Either;
 use lossless_tree::KINDS;
 use ra_ap_syntax::ast::{self, AstNode, AstToken};
 use ra_ap_syntax::{SyntaxElement, SyntaxKind, SyntaxNode, SyntaxToken, TreeBuilder};
+use rust_views::{
+    AnyHasArgList, AnyHasGenericArgs, AnyHasLoopBody, AnyHasModuleItem, AnyHasName,
+    AnyHasTypeBounds, AnyHasVisibility,
+};
 use std::test::Fail;
 
 fn add_nodes(builder: &mut TreeBuilder) -> Result<(), Fail> {
@@ -447,4 +451,44 @@ fn typed_tokens(rt: HostRuntime) -> Result<(), Fail> {
     casts.token::<ast::Byte>("BYTE");
     casts.token::<ast::AnyString>("STRING BYTE_STRING C_STRING");
     casts.all_hold()
+}
+
+// The first `N` below a root becomes an `A` of the same node.
+fn is_made<N: AstNode + Drop, A: AstNode + Drop + From<N>>(root: &SyntaxNode) -> bool {
+    for node in root.children() {
+        let Ok(copy) = node.clone() else {
+            return false;
+        };
+        if let Some(it) = N::cast(node) {
+            let made = A::from(it);
+            return A::can_cast(copy.kind()) && *made.syntax() == copy;
+        }
+    }
+    false
+}
+
+#[test]
+fn conversions(rt: HostRuntime) -> Result<(), Fail> {
+    let root = all_kinds(&rt)?;
+    let made = [
+        is_made::<ast::ArrayExpr, ast::AnyHasAttrs>(&root),
+        is_made::<ast::Fn, ast::AnyHasAttrs>(&root),
+        is_made::<ast::SourceFile, ast::AnyHasAttrs>(&root),
+        is_made::<ast::YieldExpr, ast::AnyHasAttrs>(&root),
+        is_made::<ast::Enum, ast::AnyHasGenericParams>(&root),
+        is_made::<ast::Union, ast::AnyHasGenericParams>(&root),
+        is_made::<ast::CallExpr, AnyHasArgList>(&root),
+        is_made::<ast::PathSegment, AnyHasGenericArgs>(&root),
+        is_made::<ast::WhileExpr, AnyHasLoopBody>(&root),
+        is_made::<ast::StmtList, AnyHasModuleItem>(&root),
+        is_made::<ast::Fn, AnyHasName>(&root),
+        is_made::<ast::Variant, AnyHasName>(&root),
+        is_made::<ast::WherePred, AnyHasTypeBounds>(&root),
+        is_made::<ast::TupleField, AnyHasVisibility>(&root),
+    ];
+    if made.iter().all(|it| *it) {
+        Ok(())
+    } else {
+        Err(Fail::from("a view does not become the other"))
+    }
 }

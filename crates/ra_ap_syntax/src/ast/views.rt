@@ -23,3 +23,4 @@ pub mod stmt;
 pub mod traits;
 pub mod ty;
 pub mod type_or_const_param;
+mod within;

@@ -10,7 +10,7 @@ ghost use Rattle.ras_node.specs.Nodes.{kind_at};
 ghost use Rattle.ras_node.specs.Lookups.{if_of};
 ghost use Rattle.rust_views.specs.Sets.{has_arg_list};
 
-use ra_ap_syntax::ast::{AstNode, HasArgList};
+use ra_ap_syntax::ast::{AstNode, HasArgList, Within};
 use ra_ap_syntax::{SyntaxKind, SyntaxNode};
 use ras_node::support;
 use std::alloc::AllocError;
@@ -107,5 +107,15 @@ impl fmt::Debug for AnyHasArgList {
 
     fn fmt<W: fmt::Write>(&self, f: &mut fmt::Formatter<W>) -> fmt::Result {
         fmt::Debug::fmt(self.syntax(), f)
+    }
+}
+
+impl<N: Within<AnyHasArgList> + Drop> From<N> for AnyHasArgList {
+    ghost from_gives = { λ it made. made.syntax ≡ N.node it };
+
+    fn from(it: N) -> AnyHasArgList {
+        AnyHasArgList {
+            syntax: support::share(it.syntax()),
+        }
     }
 }

@@ -10,7 +10,7 @@ ghost use Rattle.ras_node.specs.Nodes.{kind_at};
 ghost use Rattle.ras_node.specs.Lookups.{if_of};
 ghost use Rattle.rust_views.specs.Sets.{has_module_item};
 
-use ra_ap_syntax::ast::{AstNode, HasModuleItem};
+use ra_ap_syntax::ast::{AstNode, HasModuleItem, Within};
 use ra_ap_syntax::{SyntaxKind, SyntaxNode};
 use ras_node::support;
 use std::alloc::AllocError;
@@ -110,5 +110,15 @@ impl fmt::Debug for AnyHasModuleItem {
 
     fn fmt<W: fmt::Write>(&self, f: &mut fmt::Formatter<W>) -> fmt::Result {
         fmt::Debug::fmt(self.syntax(), f)
+    }
+}
+
+impl<N: Within<AnyHasModuleItem> + Drop> From<N> for AnyHasModuleItem {
+    ghost from_gives = { λ it made. made.syntax ≡ N.node it };
+
+    fn from(it: N) -> AnyHasModuleItem {
+        AnyHasModuleItem {
+            syntax: support::share(it.syntax()),
+        }
     }
 }

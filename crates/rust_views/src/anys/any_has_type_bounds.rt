@@ -10,7 +10,7 @@ ghost use Rattle.ras_node.specs.Nodes.{kind_at};
 ghost use Rattle.ras_node.specs.Lookups.{if_of};
 ghost use Rattle.rust_views.specs.Sets.{has_type_bounds};
 
-use ra_ap_syntax::ast::{AstNode, HasTypeBounds};
+use ra_ap_syntax::ast::{AstNode, HasTypeBounds, Within};
 use ra_ap_syntax::{SyntaxKind, SyntaxNode};
 use ras_node::support;
 use std::alloc::AllocError;
@@ -115,5 +115,15 @@ impl fmt::Debug for AnyHasTypeBounds {
 
     fn fmt<W: fmt::Write>(&self, f: &mut fmt::Formatter<W>) -> fmt::Result {
         fmt::Debug::fmt(self.syntax(), f)
+    }
+}
+
+impl<N: Within<AnyHasTypeBounds> + Drop> From<N> for AnyHasTypeBounds {
+    ghost from_gives = { λ it made. made.syntax ≡ N.node it };
+
+    fn from(it: N) -> AnyHasTypeBounds {
+        AnyHasTypeBounds {
+            syntax: support::share(it.syntax()),
+        }
     }
 }

@@ -10,7 +10,7 @@ ghost use Rattle.ras_node.specs.Nodes.{kind_at};
 ghost use Rattle.ras_node.specs.Lookups.{if_of};
 ghost use Rattle.rust_views.specs.Sets.{has_visibility};
 
-use ra_ap_syntax::ast::{AstNode, HasVisibility};
+use ra_ap_syntax::ast::{AstNode, HasVisibility, Within};
 use ra_ap_syntax::{SyntaxKind, SyntaxNode};
 use ras_node::support;
 use std::alloc::AllocError;
@@ -126,5 +126,15 @@ impl fmt::Debug for AnyHasVisibility {
 
     fn fmt<W: fmt::Write>(&self, f: &mut fmt::Formatter<W>) -> fmt::Result {
         fmt::Debug::fmt(self.syntax(), f)
+    }
+}
+
+impl<N: Within<AnyHasVisibility> + Drop> From<N> for AnyHasVisibility {
+    ghost from_gives = { λ it made. made.syntax ≡ N.node it };
+
+    fn from(it: N) -> AnyHasVisibility {
+        AnyHasVisibility {
+            syntax: support::share(it.syntax()),
+        }
     }
 }

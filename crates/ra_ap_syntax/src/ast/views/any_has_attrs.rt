@@ -10,7 +10,7 @@ ghost use Rattle.ras_node.specs.Nodes.{kind_at};
 ghost use Rattle.ras_node.specs.Lookups.{if_of};
 ghost use Rattle.ras_node.specs.Sets.{has_attrs};
 
-use crate::ast::{AstNode, HasAttrs, support};
+use crate::ast::{AstNode, HasAttrs, Within, support};
 use lossless_tree::{SyntaxKind, SyntaxNode};
 use ras_node::sets::{AttrHolders, KindSet};
 use std::alloc::AllocError;
@@ -107,5 +107,15 @@ impl fmt::Debug for AnyHasAttrs {
 
     fn fmt<W: fmt::Write>(&self, f: &mut fmt::Formatter<W>) -> fmt::Result {
         fmt::Debug::fmt(self.syntax(), f)
+    }
+}
+
+impl<N: Within<AnyHasAttrs> + Drop> From<N> for AnyHasAttrs {
+    ghost from_gives = { λ it made. made.syntax ≡ N.node it };
+
+    fn from(it: N) -> AnyHasAttrs {
+        AnyHasAttrs {
+            syntax: support::share(it.syntax()),
+        }
     }
 }

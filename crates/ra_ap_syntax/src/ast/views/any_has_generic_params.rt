@@ -10,7 +10,7 @@ ghost use Rattle.ras_node.specs.Nodes.{kind_at};
 ghost use Rattle.ras_node.specs.Lookups.{if_of};
 ghost use Rattle.ras_node.specs.Sets.{has_generic_params};
 
-use crate::ast::{AstNode, HasGenericParams, support};
+use crate::ast::{AstNode, HasGenericParams, Within, support};
 use lossless_tree::{SyntaxKind, SyntaxNode};
 use ras_node::sets::{GenericParamHolders, KindSet};
 use std::alloc::AllocError;
@@ -107,5 +107,15 @@ impl fmt::Debug for AnyHasGenericParams {
 
     fn fmt<W: fmt::Write>(&self, f: &mut fmt::Formatter<W>) -> fmt::Result {
         fmt::Debug::fmt(self.syntax(), f)
+    }
+}
+
+impl<N: Within<AnyHasGenericParams> + Drop> From<N> for AnyHasGenericParams {
+    ghost from_gives = { λ it made. made.syntax ≡ N.node it };
+
+    fn from(it: N) -> AnyHasGenericParams {
+        AnyHasGenericParams {
+            syntax: support::share(it.syntax()),
+        }
     }
 }
