@@ -64,7 +64,7 @@ fn refusals_have_their_places(rt: HostRuntime) -> Result<(), Fail> {
             "a.toml",
             "[[rule]]\npattern = \"f(\"",
             false,
-            "rule 1, 1:3 of `PATTERN ==>> TEMPLATE`: expected an expression: expected `)`",
+            "rule 1, 1:3 of `PATTERN ==>> TEMPLATE`: this is no expression: expected `)`",
         ),
     ];
     for (name, text, replaces, expected) in &rows {

@@ -1,9 +1,9 @@
 -- Pairs that rustc needs, although rust-analyzer's parser reads the same tree without them. Source: the Rust Reference, "Macro
--- invocation expressions", "Closure expressions", "Destructuring assignment" and "let statements".
+-- invocation expressions", "Closure expressions", "Destructuring assignment", "let statements" and "Expression statements".
 use Rattle.std.specs.Prelude.{ℕ, Bool, false, not, ◌&&◌, ◌||◌, Option, Some, None, is_none, slice_get}
 use Rattle.std.specs.List.{find}
 use Rattle.std.specs.Option.{option_and_then}
-use Rattle.syntax_kind.specs.declared.syntax_kind.TheConstants.SyntaxKind.{MACRO_EXPR, EXPR_STMT, STMT_LIST, PAREN_EXPR, CONTINUE_EXPR, UNDERSCORE_EXPR, RANGE_EXPR, REF_EXPR, BLOCK_EXPR, CLOSURE_EXPR, ARG_LIST, ARRAY_EXPR, TUPLE_EXPR, RECORD_EXPR_FIELD, MATCH_ARM, LET_STMT, ELSE_KW, R_CURLY}
+use Rattle.syntax_kind.specs.declared.syntax_kind.TheConstants.SyntaxKind.{MACRO_EXPR, EXPR_STMT, STMT_LIST, PAREN_EXPR, CONTINUE_EXPR, UNDERSCORE_EXPR, RANGE_EXPR, REF_EXPR, BLOCK_EXPR, CLOSURE_EXPR, ARG_LIST, ARRAY_EXPR, TUPLE_EXPR, RECORD_EXPR_FIELD, MATCH_ARM, LET_STMT, ELSE_KW, L_CURLY, R_CURLY, UNSAFE_KW, IF_EXPR, MATCH_EXPR, FOR_EXPR, WHILE_EXPR, LOOP_EXPR}
 use Rattle.tree_model.specs.declared.direction.Direction.TheVariants.{Next, Prev}
 use Rattle.tree_model.specs.Tree.{text}
 use Rattle.tree_model.specs.Cursor.{Cursor, focus, parent_of}
@@ -71,12 +71,50 @@ is_before_else pair = is_else (token_after pair)
 abbrev pub token_before : Cursor → Option Cursor
 token_before pair = option_and_then (λ first. find has_no_trivia_kind (tokens_beyond Prev first)) (first_token_of (element.Node pair))
 
-abbrev pub is_brace : Option Cursor → Bool
-is_brace None = false
-is_brace (Some token) = is_of_kind R_CURLY token
+-- an expression with a block, but for a block: as a statement it needs no `;`, so that rustc too ends it at its `}`.
+-- Source: the Rust Reference, "Expression statements"
+abbrev pub is_with_block : Cursor → Bool
+is_with_block c =
+    is_of_kind IF_EXPR c || (is_of_kind MATCH_EXPR c || (is_of_kind FOR_EXPR c
+    || (is_of_kind WHILE_EXPR c || is_of_kind LOOP_EXPR c)))
+
+abbrev pub is_plain_start : Option Cursor → Bool
+is_plain_start None = false
+is_plain_start (Some token) = is_of_kind L_CURLY token || is_of_kind UNSAFE_KW token
+
+-- a block without a label or a word before it, but for `unsafe`
+abbrev pub is_plain_block : Cursor → Bool
+is_plain_block c = is_of_kind BLOCK_EXPR c && is_plain_start (first_token_of (element.Node c))
+
+-- a statement, or an `if` of which this is a part
+abbrev pub is_statement : Option Cursor → Bool
+is_statement None = false
+is_statement (Some above) = is_of_kind EXPR_STMT above || is_of_kind IF_EXPR above
+
+-- one of these as a statement
+abbrev pub is_ended : Cursor → Bool
+is_ended c = (is_with_block c || is_plain_block c) && is_statement (parent_of c)
+
+abbrev pub is_ended_at : Option Cursor → Bool
+is_ended_at None = false
+is_ended_at (Some c) = is_ended c
+
+-- the block, or the `match`, that a `}` is the end of
+abbrev pub body_of : Cursor → Option Cursor
+body_of brace = option_and_then parent_of (parent_of brace)
+
+-- a block or a `match` is the end of such a statement
+abbrev pub ends_statement : Option Cursor → Bool
+ends_statement None = false
+ends_statement (Some body) = is_ended body || is_ended_at (parent_of body)
+
+-- a `}` at which rustc may go on with a call, as that of `async {}`
+abbrev pub is_open_brace : Option Cursor → Bool
+is_open_brace None = false
+is_open_brace (Some token) = is_of_kind R_CURLY token && not (ends_statement (body_of token))
 
 abbrev pub is_after_brace : Cursor → Bool
-is_after_brace pair = is_brace (token_before pair)
+is_after_brace pair = is_open_brace (token_before pair)
 
 -- a letter, a digit, `_` or a byte beyond ASCII
 abbrev pub begins_with_word : Option ℕ → Bool
@@ -99,6 +137,6 @@ is_read_otherwise inside parent pair =
     is_of_kind UNDERSCORE_EXPR inside || (is_full_range inside || (is_statement_macro inside parent
     || (is_open_closure inside parent || is_before_label inside parent pair)))
 
--- one of these, or anything before an `else` or after a `}`
+-- one of these, or anything before an `else` or after a `}` that ends no statement for rustc
 abbrev pub is_needed_by_rustc : Cursor → Cursor → Cursor → Bool
 is_needed_by_rustc inside parent pair = is_read_otherwise inside parent pair || (is_before_else pair || is_after_brace pair)

@@ -1,7 +1,7 @@
 //! Pairs that rustc needs, although rust-analyzer's parser reads the same tree without them.
 ghost use Rattle.std.specs.Prelude.{◌≡◌};
 ghost use Rattle.ras_node.specs.Nodes.{is_of_kind};
-ghost use Rattle.rust_parens.specs.Rustc.{holds_statement, is_statement_macro, is_full_range, is_block, is_without_block, is_bracket, takes_closure, is_reference_in, is_open_closure, token_after, is_else, is_before_else, token_before, is_brace, is_after_brace, begins_with_word, is_word_token, is_before_word, is_before_label, is_read_otherwise, is_needed_by_rustc};
+ghost use Rattle.rust_parens.specs.Rustc.{holds_statement, is_statement_macro, is_full_range, is_block, is_without_block, is_bracket, takes_closure, is_reference_in, is_open_closure, token_after, is_else, is_before_else, token_before, is_with_block, is_plain_start, is_plain_block, is_statement, is_ended, is_ended_at, body_of, ends_statement, is_open_brace, is_after_brace, begins_with_word, is_word_token, is_before_word, is_before_label, is_read_otherwise, is_needed_by_rustc};
 
 use crate::text::is_word;
 use lossless_tree::{NodeOrToken, SyntaxKind, SyntaxNode, SyntaxToken};
@@ -122,12 +122,88 @@ fn token_before(pair: &SyntaxNode) -> Option<SyntaxToken>
     previous_non_trivia_token(NodeOrToken::Node(share(pair)))
 }
 
-fn is_brace(token: Option<SyntaxToken>) -> bool
-    ensures { result ≡ is_brace token }
+// As a statement, one of these needs no `;`: rustc too ends it at its `}`.
+fn is_with_block(node: &SyntaxNode) -> bool
+    ensures { result ≡ is_with_block node.now }
+{
+    is_a(node, SyntaxKind::IF_EXPR)
+        || is_a(node, SyntaxKind::MATCH_EXPR)
+        || is_a(node, SyntaxKind::FOR_EXPR)
+        || is_a(node, SyntaxKind::WHILE_EXPR)
+        || is_a(node, SyntaxKind::LOOP_EXPR)
+}
+
+fn is_plain_start(first: Option<SyntaxToken>) -> bool
+    ensures { result ≡ is_plain_start first }
+{
+    match first {
+        None => false,
+        Some(token) => {
+            token.kind().to_raw() == SyntaxKind::L_CURLY.to_raw()
+                || token.kind().to_raw() == SyntaxKind::UNSAFE_KW.to_raw()
+        }
+    }
+}
+
+// `{}` or `unsafe {}`: neither `async {}` nor `'a: {}`.
+fn is_plain_block(node: &SyntaxNode) -> bool
+    ensures { result ≡ is_plain_block node.now }
+{
+    is_a(node, SyntaxKind::BLOCK_EXPR) && is_plain_start(node.first_token())
+}
+
+// What is around a block: a statement, or an `if`.
+fn is_statement(above: Option<SyntaxNode>) -> bool
+    ensures { result ≡ is_statement above }
+{
+    match above {
+        None => false,
+        Some(above) => is_a(&above, SyntaxKind::EXPR_STMT) || is_a(&above, SyntaxKind::IF_EXPR),
+    }
+}
+
+fn is_ended(node: &SyntaxNode) -> bool
+    ensures { result ≡ is_ended node.now }
+{
+    (is_with_block(node) || is_plain_block(node)) && is_statement(node.parent())
+}
+
+fn is_ended_at(node: Option<SyntaxNode>) -> bool
+    ensures { result ≡ is_ended_at node }
+{
+    match node {
+        None => false,
+        Some(node) => is_ended(&node),
+    }
+}
+
+// The block, or the `match`, that a `}` is the end of.
+fn body_of(brace: &SyntaxToken) -> Option<SyntaxNode>
+    ensures { result ≡ body_of brace.now }
+{
+    let list = brace.parent()?;
+    list.parent()
+}
+
+// `for a in b {} (c)` are two expressions to rustc too.
+fn ends_statement(body: Option<SyntaxNode>) -> bool
+    ensures { result ≡ ends_statement body }
+{
+    match body {
+        None => false,
+        Some(body) => is_ended(&body) || is_ended_at(body.parent()),
+    }
+}
+
+fn is_open_brace(token: Option<SyntaxToken>) -> bool
+    ensures { result ≡ is_open_brace token }
 {
     match token {
         None => false,
-        Some(token) => token.kind().to_raw() == SyntaxKind::R_CURLY.to_raw(),
+        Some(token) => {
+            token.kind().to_raw() == SyntaxKind::R_CURLY.to_raw()
+                && !ends_statement(body_of(&token))
+        }
     }
 }
 
@@ -135,7 +211,7 @@ fn is_brace(token: Option<SyntaxToken>) -> bool
 fn is_after_brace(pair: &SyntaxNode) -> bool
     ensures { result ≡ is_after_brace pair.now }
 {
-    is_brace(token_before(pair))
+    is_open_brace(token_before(pair))
 }
 
 fn begins_with_word(first: Option<u8>) -> bool
@@ -183,7 +259,8 @@ fn is_read_otherwise(inside: &SyntaxNode, parent: &SyntaxNode, pair: &SyntaxNode
 /// Whether the contents of a pair are of a kind that rustc may read otherwise without the pair, although rust-analyzer's parser reads the
 /// same tree: a macro call as a statement or at the end of a block, `continue` before a word, `_`, a range without ends, a closure whose
 /// body is not a block (unless a comma, a bracket or a semicolon follows the pair, perhaps with a `&` before it), everything before an
-/// `else`, and everything after a `}`. Some of these pairs can be removed all the same.
+/// `else`, and everything after a `}` that does not end a statement for rustc, as that of `async {}`: it does at the end of a block, an
+/// `unsafe` block, an `if`, a `match` or a loop. Some of these pairs can be removed all the same.
 pub fn is_needed_by_rustc(inside: &SyntaxNode, parent: &SyntaxNode, pair: &SyntaxNode) -> bool
     ensures { result ≡ is_needed_by_rustc inside.now parent.now pair.now }
 {

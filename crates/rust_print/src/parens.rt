@@ -1,4 +1,9 @@
 //! The command `parens`: pairs of parentheses without which a text parses to the same tree.
+ghost use Rattle.std.specs.Prelude.{◌≡◌, IfOk, option_map, string_bytes};
+ghost use Rattle.std.specs.List.{filter};
+ghost use Rattle.tree_model.specs.Cursor.{at_node, descendants_of};
+ghost use Rattle.rust_parens.specs.Pairs.{may_go};
+ghost use Rattle.rust_print.specs.Readings.{is_wanted, AreNeedless};
 
 use crate::failure::Failure;
 use crate::forms::{Asked, Form, Wanted};
@@ -30,7 +35,9 @@ struct PairRecord<'a> {
     place: &'a str,
 }
 
-fn is_wanted(wanted: Wanted, pair: &SyntaxNode) -> bool {
+fn is_wanted(wanted: Wanted, pair: &SyntaxNode) -> bool
+    ensures { result ≡ is_wanted wanted pair.now }
+{
     match place_of(pair) {
         PairPlace::Value => wanted.values,
         PairPlace::Operand => wanted.operands,
@@ -43,7 +50,10 @@ fn wanted_pairs(
     alloc: Global,
     root: &SyntaxNode,
     wanted: Wanted,
-) -> Result<Vec<SyntaxNode>, AllocError> {
+) -> Result<Vec<SyntaxNode>, AllocError>
+    ensures { IfOk result (λ found. found.items
+        ≡ filter (is_wanted wanted) (filter may_go (filter at_node (descendants_of root.now)))) }
+{
     let mut found = Vec::new(alloc);
     for pair in pairs(alloc, root)? {
         if is_wanted(wanted, &pair) {
@@ -59,7 +69,10 @@ pub fn needless(
     text: &str,
     reading: Reading,
     wanted: Wanted,
-) -> Result<Needless, ParseError> {
+) -> Result<Needless, ParseError>
+    ensures { IfOk result (λ n. AreNeedless reading wanted text.now n.pairs.items n.tried.items
+        (option_map string_bytes n.text)) }
+{
     let parse = parsed(alloc, text, reading)?;
     let candidates = wanted_pairs(alloc, parse.root(), wanted)?;
     Ok(find_needless_among(

@@ -1,4 +1,6 @@
 //! Texts, their parses and their lines.
+ghost use Rattle.std.specs.Prelude.{IfOk};
+ghost use Rattle.rust_print.specs.Readings.{IsReadAs};
 
 use line_index::LineIndex;
 use lossless_tree::{SyntaxNode, TextSize};
@@ -35,7 +37,9 @@ pub fn parsed(
     alloc: Global,
     text: &str,
     reading: Reading,
-) -> Result<Parse<SyntaxNode>, ParseError> {
+) -> Result<Parse<SyntaxNode>, ParseError>
+    ensures { IfOk result (IsReadAs reading text.now) }
+{
     read(alloc, &Rust, reading.entry, text, reading.edition)
 }
 

@@ -22,7 +22,7 @@ pub enum RuleFault {
     #[error("expected a placeholder of the pattern")]
     Unknown,
     /// The text is no expression: what the parser says.
-    #[error("expected an expression: {0}")]
+    #[error("this is no expression: {0}")]
     Syntax(String),
     /// A placeholder stands where no expression can stand.
     #[error("expected a place of an expression for this placeholder")]

@@ -1,4 +1,7 @@
 //! The matches of rules in a text, and what replaces them.
+ghost use Rattle.std.specs.Prelude.{◌≡◌, [], IfOk, IsTrue, ◌↔◌, true, false};
+ghost use Rattle.tree_match.specs.Finds.{found_in};
+ghost use Rattle.rust_rules.specs.Reports.{IsNumberOfMatches, IsAnswer};
 
 use crate::place::{Place, write_one};
 use lossless_tree::{SyntaxNode, TextRange};
@@ -63,7 +66,9 @@ pub fn search<'a, W: Write>(
     source: Source<'a>,
     set: &'a RuleSet,
     asked: Asked,
-) -> Result<u64, Failure> {
+) -> Result<u64, Failure>
+    ensures { IfOk result (IsNumberOfMatches asked.reading set.now.rules.items source.text.now) }
+{
     let parse = parsed(alloc, source.text, asked.reading)?;
     let matches = find(alloc, &set.rules, parse.root())?;
     write_matches(alloc, out, source, set, &matches, asked)?;
@@ -80,7 +85,9 @@ fn failure_of(error: RewriteError) -> Failure {
 }
 
 // Whether a rule matches in a tree.
-fn has_match(alloc: Global, set: &RuleSet, root: &SyntaxNode) -> Result<bool, AllocError> {
+fn has_match(alloc: Global, set: &RuleSet, root: &SyntaxNode) -> Result<bool, AllocError>
+    ensures { IfOk result (λ yes. (yes ≡ false) ↔ (found_in set.now.rules.items root.now ≡ [])) }
+{
     Ok(!find(alloc, &set.rules, root)?.is_empty())
 }
 
@@ -90,7 +97,9 @@ pub fn rewritten(
     source: Source<'_>,
     set: &RuleSet,
     asked: Asked,
-) -> Result<Option<Rewritten>, Failure> {
+) -> Result<Option<Rewritten>, Failure>
+    ensures { IfOk result (IsAnswer asked.reading set.now.rules.items source.text.now) }
+{
     let parse = parsed(alloc, source.text, asked.reading)?;
     // In most files nothing matches, and their texts are not parsed again.
     if !has_match(alloc, set, parse.root())? {

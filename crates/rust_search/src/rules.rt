@@ -80,7 +80,7 @@ fn write_fault<W: fmt::Write>(f: &mut fmt::Formatter<W>, fault: &RuleFault) -> f
         RuleFault::Syntax(message) => {
             write!(
                 f,
-                "expected an expression: {}",
+                "this is no expression: {}",
                 plain_message(message.as_str())
             )
         }
