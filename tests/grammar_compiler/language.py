@@ -25,6 +25,13 @@ class Words:
                     break
                 self.words.append((number, word))
 
+    @staticmethod
+    def of(words):
+        """These words with their lines."""
+        made = Words("")
+        made.words = words
+        return made
+
     def __bool__(self):
         return self.next < len(self.words)
 
@@ -97,6 +104,7 @@ class Grammar:
         self.sets, self.flags, self.family_of = {}, {}, {}
         self.powers, self.messages, self.entries = {}, [], []
         self.rules, self.words = {}, Words(text)
+        self.bodies = {}  # the words of each rule between its braces
         self.sealed = {}  # the kinds of the nodes that sealed calls make, by their rules
         self.known, self.kept, self.given = {}, [], []
         while self.words:
@@ -165,7 +173,9 @@ class Grammar:
                 words.take()
                 self.sealed[name] = words.take()
             words.need("{")
+            begin = words.next
             self.rules[name] = Rule(self, name).ops
+            self.bodies[name] = words.words[begin : words.next - 1]
         else:
             words.fail(f"{what} begins no declaration")
 
