@@ -67,7 +67,7 @@ pub fn search<'a, W: Write>(
     set: &'a RuleSet,
     asked: Asked,
 ) -> Result<u64, Failure>
-    ensures { IfOk result (IsNumberOfMatches asked.reading set.now.rules.items source.text.now) }
+    ensures { IfOk result (IsNumberOfMatches asked.reading set.now.rules.items source.entry.text.now) }
 {
     let parse = parsed(alloc, source.text, asked.reading)?;
     let matches = find(alloc, &set.rules, parse.root())?;
@@ -98,7 +98,7 @@ pub fn rewritten(
     set: &RuleSet,
     asked: Asked,
 ) -> Result<Option<Rewritten>, Failure>
-    ensures { IfOk result (IsAnswer asked.reading set.now.rules.items source.text.now) }
+    ensures { IfOk result (IsAnswer asked.reading set.now.rules.items source.entry.text.now) }
 {
     let parse = parsed(alloc, source.text, asked.reading)?;
     // In most files nothing matches, and their texts are not parsed again.
