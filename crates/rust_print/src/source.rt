@@ -33,11 +33,7 @@ pub struct Reading {
 }
 
 /// The parse of a text.
-pub fn parsed(
-    alloc: Global,
-    text: &str,
-    reading: Reading,
-) -> Result<Parse<SyntaxNode>, ParseError>
+pub fn parsed(alloc: Global, text: &str, reading: Reading) -> Result<Parse<SyntaxNode>, ParseError>
     ensures { IfOk result (IsReadAs reading text.now) }
 {
     read(alloc, &Rust, reading.entry, text, reading.edition)
