@@ -1,9 +1,10 @@
 -- What each step of the walk of a tree adds to the new tree.
-use Rattle.std.specs.Prelude.{◌≡◌, ◌<◌, length, ℕ, zero, suc, List, [], ◌∷◌, ◌++◌, Bool, true, false, if◌then◌else◌}
+use Rattle.std.specs.Prelude.{◌≡◌, ◌<◌, ◌≤◌, length, ℕ, zero, suc, List, [], ◌∷◌, ◌++◌, Bool, true, false, if◌then◌else◌, Option}
 use Rattle.tree_model.specs.Tree.{Tree, node, token, nil, cons, Place, size, IsNode}
 use Rattle.tree_model.specs.Rows.{place_at}
 use Rattle.tree_model.specs.Cursor.{Cursor, focus}
 use Rattle.tree_model.specs.Events.{Event, enter, leaf, exit, events_of}
+use Rattle.tree_rows.specs.Walks.{IsWalk, walk_left, open_count}
 use Rattle.tree_edit_model.specs.Changes.{Change, forest_from, change_at}
 
 -- a tree as it is entered (true), and left (false)
@@ -57,3 +58,10 @@ pub record IsOneNode (es : List Event) : Type 0 where
 -- what a step adds, whatever the rest of the walk adds
 pub record Stepped (at : Place → Change) (out new : List Event) (enters : Bool) (d : Cursor) (s t : ℕ) : Type 0 where
   pub made : (rest : List (Bool × Cursor)) → new ++ walked at t rest ≡ out ++ walked at s ((enters, d) ∷ rest)
+
+-- a walk with s levels open in a place that is replaced goes on from one state to another, and what its steps between add is appended
+pub record IsWalkedOn (at : Place → Change) (tree : Tree) (out new : List Event) (s next : ℕ) (o : Option ℕ) (after : ℕ) (o' : Option ℕ) : Type 0 where
+  pub walks : IsWalk tree 0 after o'
+  pub made : new ++ walked at s (walk_left tree 0 after o') ≡ out ++ walked at s (walk_left tree 0 next o)
+  pub level : s ≤ open_count tree 0 o → s ≤ open_count tree 0 o'
+  pub shorter : length (walk_left tree 0 after o') ≤ length (walk_left tree 0 next o)

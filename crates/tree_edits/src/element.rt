@@ -1,6 +1,6 @@
 //! Nodes and tokens of other trees that are put into a tree.
-ghost use Rattle.std.specs.Prelude.{◌≡◌, ◌++◌, ◌<◌, OnOk};
-ghost use Rattle.tree_model.specs.Tree.{size, text, cons, nil};
+ghost use Rattle.std.specs.Prelude.{◌≡◌, ◌++◌, ◌<◌, OnOk, IfOk, true};
+ghost use Rattle.tree_model.specs.Tree.{size, text, is_token, cons, nil};
 ghost use Rattle.tree_model.specs.Rows.{tree_at};
 ghost use Rattle.tree_model.specs.Events.{events_of};
 ghost use Rattle.tree_edit_model.specs.Changes.{forest_from};
@@ -82,6 +82,23 @@ fn push_rows(out: &mut Steps, table: &Table, row: usize) -> Result<(), AllocErro
     Ok(())
 }
 
+// Appends what entering a row adds. Returns whether it is a token's.
+#[inline(always)]
+pub(crate) fn push_row(out: &mut Steps, table: &Table, row: usize) -> Result<bool, AllocError>
+    requires { row < size table.now }
+    ensures events { OnOk result (out.new ≡ out.old ++ step_events (tree_at table.now row) true) }
+    ensures token { IfOk result (λ token. token ≡ is_token (tree_at table.now row)) }
+{
+    let kind = table.kind_at(row);
+    if table.is_token_at(row) {
+        out.token(kind, table.text_at(row))?;
+        Ok(true)
+    } else {
+        out.enter(kind)?;
+        Ok(false)
+    }
+}
+
 // Appends what one step of a walk adds.
 pub(crate) fn push_step(
     out: &mut Steps,
@@ -92,15 +109,11 @@ pub(crate) fn push_step(
     requires { row < size table.now }
     ensures { OnOk result (out.new ≡ out.old ++ step_events (tree_at table.now row) enters) }
 {
-    let is_token = table.is_token_at(row);
     if enters {
-        let kind = table.kind_at(row);
-        if is_token {
-            out.token(kind, table.text_at(row))
-        } else {
-            out.enter(kind)
-        }
-    } else if is_token {
+        push_row(out, table, row)?;
+        return Ok(());
+    }
+    if table.is_token_at(row) {
         Ok(())
     } else {
         out.exit()

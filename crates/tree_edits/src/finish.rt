@@ -4,10 +4,12 @@ ghost use Rattle.tree_model.specs.Tree.{Place, text, size, IsNode};
 ghost use Rattle.tree_model.specs.Cursor.{cursor_at};
 ghost use Rattle.tree_model.specs.Events.{events_of};
 ghost use Rattle.tree_edit_model.specs.Changes.{Change, changed, changed_whole};
-ghost use Rattle.tree_edits.specs.Walked.{AreChangesOf, Stepped};
+ghost use Rattle.tree_rows.specs.Walks.{IsWalk};
+ghost use Rattle.tree_edits.specs.Walked.{AreChangesOf, Stepped, IsWalkedOn};
 ghost use Rattle.tree_edits.specs.declared.error.ChangeError.TheVariants.{TooLong, Memory};
 
 use crate::change::RowChanges;
+use crate::element::push_row;
 use crate::error::ChangeError;
 use crate::steps::Steps;
 use std::alloc::{AllocError, Global};
@@ -47,6 +49,64 @@ fn push_walked(
     Ok(0)
 }
 
+// Appends the steps of a walk up to the next row with a change, unless `skip` levels are open in
+// a place that is replaced. Returns the first row that is not entered yet then, and the innermost
+// one that is not left.
+fn push_unchanged(
+    out: &mut Steps,
+    table: &Table,
+    changes: &RowChanges,
+    next: usize,
+    innermost: Option<usize>,
+    skip: usize,
+) -> Result<(usize, Option<usize>), AllocError>
+    ghost at: { Place → Change }
+    requires are_changes { AreChangesOf at table.now changes.now.marks.items changes.now.changes.items }
+    requires walks { IsWalk table.now 0 next innermost }
+    ensures { IfOk result (λ after.
+        IsWalkedOn at table.now out.old out.new skip next innermost after.0 after.1) }
+{
+    if skip > 0 {
+        return Ok((next, innermost));
+    }
+    let Some(first) = innermost else {
+        return Ok((next, innermost));
+    };
+    if table.is_token_at(first) {
+        return Ok((next, innermost));
+    }
+    let mut row = next;
+    let mut inner = first;
+    let mut end = table.row_behind(inner);
+    loop {
+        if row < end {
+            if changes.is_changed(row) {
+                break;
+            }
+            let is_token = push_row(out, table, row)?;
+            if is_token {
+                // It is left at once.
+                row += 1;
+                continue;
+            }
+            inner = row;
+            end = table.row_behind(row);
+            row += 1;
+        } else {
+            if changes.is_changed(inner) {
+                break;
+            }
+            let Some(parent) = table.parent_row(inner) else {
+                break;
+            };
+            out.exit()?;
+            inner = parent;
+            end = table.row_behind(parent);
+        }
+    }
+    Ok((row, Some(inner)))
+}
+
 // Appends the steps of the tree with its changes made.
 fn push_changed(out: &mut Steps, table: &Table, changes: &RowChanges) -> Result<(), AllocError>
     ghost at: { Place → Change }
@@ -54,15 +114,16 @@ fn push_changed(out: &mut Steps, table: &Table, changes: &RowChanges) -> Result<
     requires is_node { IsNode table.now }
     ensures { OnOk result (out.new ≡ out.old ++ events_of (changed_whole at table.now)) }
 {
-    // For the proof: the number of rows fits.
-    let _count = table.len();
+    let count = table.len();
+    out.reserve(count, table.end_at(0))?;
     let mut next: usize = 0;
     let mut innermost = None;
     let mut skip: usize = 0;
     while let Some(step) = table.walk_step(0, next, innermost) {
-        next = step.next;
-        innermost = step.innermost;
         skip = push_walked(out, table, changes, step.row, step.enters, skip)?;
+        let after = push_unchanged(out, table, changes, step.next, step.innermost, skip)?;
+        next = after.0;
+        innermost = after.1;
     }
     Ok(())
 }

@@ -44,29 +44,43 @@ impl Steps {
         }
     }
 
+    /// Makes room for the steps of a tree of so many rows and bytes.
+    pub fn reserve(&mut self, rows: usize, bytes: usize) -> Result<(), AllocError>
+        ensures { self.new ≡ self.old }
+    {
+        self.steps.reserve(rows.saturating_mul(2))?;
+        self.text.reserve(bytes)
+    }
+
     /// Enters a node.
+    #[inline(always)]
     pub fn enter(&mut self, kind: SyntaxKind) -> Result<(), AllocError>
         ensures { OnOk result (self.new ≡ self.old ++ enter kind ∷ []) }
     {
-        self.steps.push(BuilderEvent::Enter(kind))?;
+        self.steps.reserve(1)?;
+        self.steps.push_reserved(BuilderEvent::Enter(kind));
         Ok(())
     }
 
     /// A token.
+    #[inline(always)]
     pub fn token(&mut self, kind: SyntaxKind, text: &str) -> Result<(), AllocError>
         ensures { OnOk result (self.new ≡ self.old ++ leaf kind text.now ∷ []) }
     {
         self.steps.reserve(1)?;
         self.text.push_str(text)?;
-        self.steps.push(BuilderEvent::Token(kind, text.len()))?;
+        self.steps
+            .push_reserved(BuilderEvent::Token(kind, text.len()));
         Ok(())
     }
 
     /// Leaves the innermost node.
+    #[inline(always)]
     pub fn exit(&mut self) -> Result<(), AllocError>
         ensures { OnOk result (self.new ≡ self.old ++ exit ∷ []) }
     {
-        self.steps.push(BuilderEvent::Exit)?;
+        self.steps.reserve(1)?;
+        self.steps.push_reserved(BuilderEvent::Exit);
         Ok(())
     }
 
