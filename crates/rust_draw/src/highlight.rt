@@ -1,7 +1,8 @@
 //! The command `highlight`: a text with its tokens coloured by their roles, as a page of HTML or with the colours of a terminal.
 
 use crate::html::{in_html, write_head};
-use lossless_tree::{NodeOrToken, SyntaxNode, SyntaxToken};
+use crate::literals::{Cut, Part, call_around, cut_of};
+use lossless_tree::{NodeOrToken, SyntaxNode, SyntaxToken, TextSize};
 use rust_print::failure::Failure;
 use rust_print::source::{Reading, Source, parsed};
 use rust_report::{Escaped, Medium, Role, role_of};
@@ -31,6 +32,7 @@ fn class_of(role: Role) -> &'static str {
         Role::Type => "type",
         Role::Field => "field",
         Role::Macro => "macro",
+        Role::Path => "path",
         Role::Attribute => "attribute",
         Role::Error => "error",
     }
@@ -49,8 +51,29 @@ fn escape_of(role: Role) -> &'static str {
         Role::Type => "\u{1b}[33m",
         Role::Field => "\u{1b}[36m",
         Role::Macro => "\u{1b}[1;34m",
+        Role::Path => "\u{1b}[36m",
         Role::Attribute => "\u{1b}[90m",
         Role::Error => "\u{1b}[1;31m",
+    }
+}
+
+// The class of a part of a literal in a page.
+fn class_of_part(part: Part) -> &'static str {
+    match part {
+        Part::Plain => class_of(Role::Text),
+        Part::Escape => "escape",
+        Part::Wrong => class_of(Role::Error),
+        Part::Place => "place",
+    }
+}
+
+// The escape that begins the colour of a part of a literal in a terminal.
+fn escape_of_part(part: Part) -> &'static str {
+    match part {
+        Part::Plain => escape_of(Role::Text),
+        Part::Escape => "\u{1b}[1;32m",
+        Part::Wrong => escape_of(Role::Error),
+        Part::Place => "\u{1b}[36m",
     }
 }
 
@@ -63,18 +86,22 @@ a:target::before { background: #fff3b0; color: #1f2328 }
 .comment { color: #6a737d; font-style: italic }
 .keyword { color: #cf222e }
 .string { color: #0a6b2d }
+.escape { color: #116329; font-weight: bold }
+.place { color: #0550ae }
 .number { color: #0550ae }
 .lifetime { color: #953800 }
 .function { color: #8250df }
 .type { color: #953800 }
 .field { color: #0550ae }
 .macro { color: #8250df; font-weight: bold }
+.path { color: #1b7c83 }
 .attribute { color: #57606a }
 .error { color: #fff; background: #cf222e }
 @media (prefers-color-scheme: dark) {
 body { background: #0d1117; color: #e6edf3 }
 .comment { color: #8b949e } .keyword { color: #ff7b72 } .string { color: #7ee787 }
-.number, .field { color: #79c0ff } .lifetime, .type { color: #ffa657 }
+.escape { color: #aff5b4 } .path { color: #76e3ea }
+.number, .field, .place { color: #79c0ff } .lifetime, .type { color: #ffa657 }
 .function, .macro { color: #d2a8ff } .attribute { color: #8b949e }
 }
 </style>
@@ -88,9 +115,13 @@ fn write_anchor<W: Write>(out: &mut W, line: u64) -> io::Result<()> {
     write!(out, "<a id=\"L{line}\" href=\"#L{line}\"></a>")
 }
 
-// Writes a text in the colour of a role, which ends at the end of each line and begins again after it. `line` is the number of the line.
-fn write_html<W: Write>(out: &mut W, role: Role, text: &str, line: &mut u64) -> io::Result<()> {
-    let class = class_of(role);
+// Writes a text in the colour of a class, which ends at the end of each line and begins again after it. `line` is the number of the line.
+fn write_html<W: Write>(
+    out: &mut W,
+    class: &'static str,
+    text: &str,
+    line: &mut u64,
+) -> io::Result<()> {
     for part in text.split_inclusive('\n') {
         let shown = in_html(part);
         if class.is_empty() {
@@ -119,15 +150,14 @@ fn line_end(line: &str, is_before_feed: bool) -> &str {
     line.get(line.len().saturating_sub(end)..).unwrap_or("")
 }
 
-// Writes a text in the colour of a role, which ends before each line feed and begins again after it. Other control characters are shown as
-// symbols: a file must not move the cursor of a terminal.
+// Writes a text in the colour that an escape begins, which ends before each line feed and begins again after it. Other control characters
+// are shown as symbols: a file must not move the cursor of a terminal.
 fn write_ansi<W: Write>(
     out: &mut W,
-    role: Role,
+    escape: &'static str,
     text: &str,
     is_before_feed: bool,
 ) -> io::Result<()> {
-    let escape = escape_of(role);
     let plain = if escape.is_empty() { "" } else { "\u{1b}[0m" };
     for line in text.split_inclusive('\n') {
         let end = line_end(line, is_before_feed);
@@ -145,18 +175,69 @@ fn is_before_feed(text: &str, token: &SyntaxToken) -> bool {
     text.as_bytes().get(token.text_range().end().raw() as usize) == Some(&b'\n')
 }
 
+// Writes a token that is no literal.
+fn write_token<W: Write>(
+    out: &mut W,
+    text: &str,
+    token: &SyntaxToken,
+    ink: Ink,
+    line: &mut u64,
+) -> io::Result<()> {
+    let role = role_of(token);
+    match ink {
+        Ink::Html => write_html(out, class_of(role), token.text(), line),
+        Ink::Ansi => write_ansi(
+            out,
+            escape_of(role),
+            token.text(),
+            is_before_feed(text, token),
+        ),
+    }
+}
+
+// Writes the parts of a literal.
+fn write_literal<W: Write>(
+    out: &mut W,
+    literal: &str,
+    cut: Cut,
+    ink: Ink,
+    line: &mut u64,
+) -> io::Result<()> {
+    let mut rest = literal;
+    for _turn in 0..literal.len() {
+        if rest.is_empty() {
+            break;
+        }
+        let (part, text, behind) = cut.split(rest);
+        match ink {
+            Ink::Html => write_html(out, class_of_part(part), text, line)?,
+            Ink::Ansi => write_ansi(out, escape_of_part(part), text, behind.starts_with('\n'))?,
+        }
+        rest = behind;
+    }
+    Ok(())
+}
+
+// How a token is cut, if it is a literal. The first string among the arguments of a macro call is taken for the text of a format: `calls` is
+// where the arguments of the last call began that had one.
+fn cut_in(token: &SyntaxToken, calls: &mut Option<TextSize>) -> Option<Cut> {
+    let call = call_around(token);
+    let is_format = call.is_some() && call != *calls;
+    if is_format {
+        *calls = call;
+    }
+    cut_of(token.kind(), token.text(), is_format)
+}
+
 // Writes the tokens of a tree.
 fn write_tokens<W: Write>(out: &mut W, root: &SyntaxNode, ink: Ink) -> io::Result<()> {
     let text = root.as_str();
-    let mut line = 1u64;
+    let (mut line, mut calls) = (1u64, None);
     for element in root.descendants_with_tokens() {
         if let NodeOrToken::Token(token) = &element {
-            match ink {
-                Ink::Html => write_html(out, role_of(token), token.text(), &mut line)?,
-                Ink::Ansi => {
-                    let is_before_feed = is_before_feed(text, token);
-                    write_ansi(out, role_of(token), token.text(), is_before_feed)?;
-                }
+            match cut_in(token, &mut calls) {
+                Some(cut) => write_literal(out, token.text(), cut, ink, &mut line)?,
+                None => write_token(out, text, token, ink, &mut line)?,
             }
         }
     }

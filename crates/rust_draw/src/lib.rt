@@ -3,6 +3,7 @@
 
 pub mod highlight;
 pub mod html;
+mod literals;
 pub mod page;
 mod page_parts;
 pub mod tree;

@@ -29,6 +29,7 @@ fn letter_of(role: Role) -> &'static str {
         Role::Type => "t",
         Role::Field => "d",
         Role::Macro => "m",
+        Role::Path => "p",
         Role::Attribute => "a",
         Role::Error => "e",
     }

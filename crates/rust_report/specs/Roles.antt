@@ -1,6 +1,6 @@
 -- What the tokens of Rust are, as highlighting shows them: by their kinds, and by the nodes around them.
 use Rattle.std.specs.Prelude.{ℕ, ◌==◌, Bool, false, ◌||◌, if◌then◌else◌, List, [], ◌∷◌, take, Option, Some, None}
-use Rattle.std.specs.Char.{is_ascii_alphabetic}
+use Rattle.std.specs.Char.{is_ascii_alphabetic, is_ascii_uppercase}
 use Rattle.std.specs.List.{list_any}
 use Rattle.syntax_kind.specs.declared.syntax_kind.SyntaxKind.{SyntaxKind}
 use Rattle.syntax_kind.specs.declared.syntax_kind.SyntaxKind.TheVariants.{Node, Token}
@@ -17,6 +17,10 @@ use Rattle.rust_report.specs.declared.roles.Role.TheVariants as role
 abbrev pub begins_word : List ℕ → Bool
 begins_word [] = false
 begins_word (b ∷ bs) = is_ascii_alphabetic b || (b == 95)
+
+abbrev pub begins_capital : List ℕ → Bool
+begins_capital [] = false
+begins_capital (b ∷ bs) = is_ascii_uppercase b
 
 -- a token by its kind; what has a kind of its own and begins as a word is a keyword
 abbrev pub role_of_token : SyntaxKind → List ℕ → Role
@@ -63,6 +67,8 @@ role_in_path (Node kind.RECORD_EXPR) above = role.«Type»
 role_in_path (Node kind.RECORD_PAT) above = role.«Type»
 role_in_path (Node kind.TUPLE_STRUCT_PAT) above = role.«Type»
 role_in_path (Node kind.MACRO_CALL) above = role.Macro
+role_in_path (Node kind.PATH) above = role.Path
+role_in_path (Node kind.USE_TREE) above = role.Path
 role_in_path (Node kind.PATH_EXPR) above = role_of_callee above
 role_in_path _ above = role.Plain
 
@@ -98,9 +104,17 @@ abbrev pub role_of_word : Option Cursor → Role
 role_of_word None = role.Plain
 role_of_word (Some name) = role_in_name (kind_at name) (parent_of name)
 
+-- a name in front of `::`, or in a `use`, is a type if it begins with a capital letter
+abbrev pub or_type : Role → Bool → Role
+or_type role.Path capital = if capital then role.«Type» else role.Path
+or_type r capital = r
+
+abbrev pub role_of_ident : Option Cursor → List ℕ → Role
+role_of_ident name s = or_type (role_of_word name) (begins_capital s)
+
 -- an identifier by the nodes around it, every other token by its kind
 abbrev pub role_alone : SyntaxKind → Cursor → Role
-role_alone (Token token.IDENT) c = role_of_word (parent_of c)
+role_alone (Token token.IDENT) c = role_of_ident (parent_of c) (text (focus c))
 role_alone k c = role_of_token k (text (focus c))
 
 -- one of the five innermost nodes from here on is an attribute

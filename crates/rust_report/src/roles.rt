@@ -2,7 +2,7 @@
 ghost use Rattle.std.specs.Prelude.{◌≡◌};
 ghost use Rattle.syntax_kind.specs.declared.syntax_kind.TheConstants.SyntaxKind.{ATTR};
 ghost use Rattle.ras_node.specs.Nodes.{is_of_kind};
-ghost use Rattle.rust_report.specs.Roles.{begins_word, role_of_token, role_of_name, role_of_callee, role_of_path, role_of_use, role_of_word, in_attribute, role_of};
+ghost use Rattle.rust_report.specs.Roles.{begins_word, begins_capital, role_of_token, role_of_name, role_of_callee, role_of_path, role_of_use, role_of_word, role_of_ident, in_attribute, role_of};
 
 use lossless_tree::{SyntaxKind, SyntaxNode, SyntaxToken};
 
@@ -29,6 +29,8 @@ pub enum Role {
     Field,
     /// The name of a macro.
     Macro,
+    /// Another name in front of `::`, or in a `use`.
+    Path,
     /// A token in an attribute that is otherwise plain.
     Attribute,
     /// Characters that form no token.
@@ -41,6 +43,16 @@ fn begins_word(text: &str) -> bool
 {
     match text.as_bytes().first() {
         Some(byte) => byte.is_ascii_alphabetic() || *byte == b'_',
+        None => false,
+    }
+}
+
+// Whether a text begins with a capital letter of ASCII.
+fn begins_capital(text: &str) -> bool
+    ensures { result ≡ begins_capital text.now }
+{
+    match text.as_bytes().first() {
+        Some(byte) => byte.is_ascii_uppercase(),
         None => false,
     }
 }
@@ -119,6 +131,7 @@ fn role_of_path(around: Option<SyntaxNode>) -> Role
         | SyntaxKind::RECORD_PAT
         | SyntaxKind::TUPLE_STRUCT_PAT => Role::Type,
         SyntaxKind::MACRO_CALL => Role::Macro,
+        SyntaxKind::PATH | SyntaxKind::USE_TREE => Role::Path,
         SyntaxKind::PATH_EXPR => role_of_callee(around.parent()),
         _ => Role::Plain,
     }
@@ -157,6 +170,22 @@ fn role_of_word(name: Option<SyntaxNode>) -> Role
     }
 }
 
+// The role of an identifier with its text: a name in front of `::`, or in a `use`, is a type if it begins with a capital letter.
+fn role_of_ident(name: Option<SyntaxNode>, text: &str) -> Role
+    ensures { result ≡ role_of_ident name text.now }
+{
+    match role_of_word(name) {
+        Role::Path => {
+            if begins_capital(text) {
+                Role::Type
+            } else {
+                Role::Path
+            }
+        }
+        role => role,
+    }
+}
+
 fn is_attribute(node: &SyntaxNode) -> bool
     ensures { result ≡ is_of_kind ATTR node.now }
 {
@@ -182,13 +211,14 @@ fn in_attribute(parent: Option<SyntaxNode>) -> bool
     false
 }
 
-/// The role of a token of a tree: by its kind, and for an identifier by the nodes around it. A token that is plain by this rule has the
-/// role `Attribute` if one of the five innermost nodes around it is an attribute.
+/// The role of a token of a tree: by its kind, and for an identifier by the nodes around it. A name in front of `::`, or in a `use`, is that
+/// of a type if it begins with a capital letter. A token that is plain by this rule has the role `Attribute` if one of the five innermost
+/// nodes around it is an attribute.
 pub fn role_of(token: &SyntaxToken) -> Role
     ensures { result ≡ role_of token.now }
 {
     let role = match token.kind() {
-        SyntaxKind::IDENT => role_of_word(token.parent()),
+        SyntaxKind::IDENT => role_of_ident(token.parent(), token.text()),
         kind => role_of_token(kind, token.text()),
     };
     match role {
