@@ -264,6 +264,14 @@ const TREE_FORMAT: Row = Row {
     help: "The form of the output; `json` is one object on each line",
 };
 
+const DIFF_FORMAT: Row = Row {
+    name: "format",
+    takes: Takes::OneOf(&["text", "html"]),
+    default: Some("text"),
+    conflicts: &[],
+    help: "The form of the output; `html` is a page with both texts side by side",
+};
+
 const INK: Row = Row {
     name: "format",
     takes: Takes::OneOf(&["html", "ansi"]),
@@ -379,9 +387,9 @@ const ONLY: Row = Row {
 const LIMIT: Row = Row {
     name: "limit",
     takes: Takes::Number,
-    default: Some("10"),
+    default: None,
     conflicts: &[],
-    help: "The number of places that are printed",
+    help: "The number of places that are printed, 10 if it is not given; of a page all are",
 };
 
 const IGNORE_TRIVIA: Row = Row {
@@ -574,7 +582,16 @@ static DIFF_VERB: Verb = Verb {
     name: "diff",
     about: "Prints where the trees of two files differ; the exit status is 1 if they do",
     example: "Example: rust_tree diff --no-trivia old.rs new.rs",
-    rows: &[IGNORE_TRIVIA, LIMIT, EDITION, ENTRY, QUIET, OLD, NEW],
+    rows: &[
+        DIFF_FORMAT,
+        IGNORE_TRIVIA,
+        LIMIT,
+        EDITION,
+        ENTRY,
+        QUIET,
+        OLD,
+        NEW,
+    ],
 };
 
 static COMPLETIONS_VERB: Verb = Verb {

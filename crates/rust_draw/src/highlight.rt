@@ -104,23 +104,49 @@ body { background: #0d1117; color: #e6edf3 }
 .number, .field, .place { color: #79c0ff } .lifetime, .type { color: #ffa657 }
 .function, .macro { color: #d2a8ff } .attribute { color: #8b949e }
 }
-</style>
-</head>
-<body>
-<pre>
 ";
 
-// Writes what a line begins with: its number, which is a link to itself.
-fn write_anchor<W: Write>(out: &mut W, line: u64) -> io::Result<()> {
-    write!(out, "<a id=\"L{line}\" href=\"#L{line}\"></a>")
+/// Where a text is in the course of being written.
+pub(crate) struct Place {
+    // The letter before the numbers of its lines, in the anchors of a page.
+    letter: &'static str,
+    // The number of the line.
+    line: u64,
+    // Where the arguments of the last macro call began that had a string.
+    calls: Option<TextSize>,
 }
 
-// Writes a text in the colour of a class, which ends at the end of each line and begins again after it. `line` is the number of the line.
+impl Place {
+    /// Before the first line of a text whose anchors are this letter and the number of a line.
+    pub(crate) fn start(letter: &'static str) -> Place {
+        Place {
+            letter,
+            line: 1,
+            calls: None,
+        }
+    }
+}
+
+/// Writes the colours of a page, which begin its style.
+pub(crate) fn write_colours<W: Write>(out: &mut W) -> io::Result<()> {
+    out.write_all(STYLE.as_bytes())
+}
+
+/// Writes what a line begins with: its number, which is a link to itself.
+pub(crate) fn write_anchor<W: Write>(out: &mut W, place: &Place) -> io::Result<()> {
+    let (letter, line) = (place.letter, place.line);
+    write!(
+        out,
+        "<a id=\"{letter}{line}\" href=\"#{letter}{line}\"></a>"
+    )
+}
+
+// Writes a text in the colour of a class, which ends at the end of each line and begins again after it.
 fn write_html<W: Write>(
     out: &mut W,
     class: &'static str,
     text: &str,
-    line: &mut u64,
+    place: &mut Place,
 ) -> io::Result<()> {
     for part in text.split_inclusive('\n') {
         let shown = in_html(part);
@@ -130,8 +156,8 @@ fn write_html<W: Write>(
             write!(out, "<span class=\"{class}\">{shown}</span>")?;
         }
         if part.ends_with('\n') {
-            *line = line.saturating_add(1);
-            write_anchor(out, *line)?;
+            place.line = place.line.saturating_add(1);
+            write_anchor(out, place)?;
         }
     }
     Ok(())
@@ -181,11 +207,11 @@ fn write_token<W: Write>(
     text: &str,
     token: &SyntaxToken,
     ink: Ink,
-    line: &mut u64,
+    place: &mut Place,
 ) -> io::Result<()> {
     let role = role_of(token);
     match ink {
-        Ink::Html => write_html(out, class_of(role), token.text(), line),
+        Ink::Html => write_html(out, class_of(role), token.text(), place),
         Ink::Ansi => write_ansi(
             out,
             escape_of(role),
@@ -201,7 +227,7 @@ fn write_literal<W: Write>(
     literal: &str,
     cut: Cut,
     ink: Ink,
-    line: &mut u64,
+    place: &mut Place,
 ) -> io::Result<()> {
     let mut rest = literal;
     for _turn in 0..literal.len() {
@@ -210,7 +236,7 @@ fn write_literal<W: Write>(
         }
         let (part, text, behind) = cut.split(rest);
         match ink {
-            Ink::Html => write_html(out, class_of_part(part), text, line)?,
+            Ink::Html => write_html(out, class_of_part(part), text, place)?,
             Ink::Ansi => write_ansi(out, escape_of_part(part), text, behind.starts_with('\n'))?,
         }
         rest = behind;
@@ -229,26 +255,43 @@ fn cut_in(token: &SyntaxToken, calls: &mut Option<TextSize>) -> Option<Cut> {
     cut_of(token.kind(), token.text(), is_format)
 }
 
+/// Writes a token of a text. In a page, a line feed is followed by the anchor of the next line.
+pub(crate) fn write_coloured<W: Write>(
+    out: &mut W,
+    text: &str,
+    token: &SyntaxToken,
+    ink: Ink,
+    place: &mut Place,
+) -> io::Result<()> {
+    match cut_in(token, &mut place.calls) {
+        Some(cut) => write_literal(out, token.text(), cut, ink, place),
+        None => write_token(out, text, token, ink, place),
+    }
+}
+
 // Writes the tokens of a tree.
-fn write_tokens<W: Write>(out: &mut W, root: &SyntaxNode, ink: Ink) -> io::Result<()> {
+fn write_tokens<W: Write>(
+    out: &mut W,
+    root: &SyntaxNode,
+    ink: Ink,
+    place: &mut Place,
+) -> io::Result<()> {
     let text = root.as_str();
-    let (mut line, mut calls) = (1u64, None);
     for element in root.descendants_with_tokens() {
         if let NodeOrToken::Token(token) = &element {
-            match cut_in(token, &mut calls) {
-                Some(cut) => write_literal(out, token.text(), cut, ink, &mut line)?,
-                None => write_token(out, text, token, ink, &mut line)?,
-            }
+            write_coloured(out, text, token, ink, place)?;
         }
     }
     Ok(())
 }
 
 fn write_page<W: Write>(out: &mut W, name: &str, root: &SyntaxNode) -> io::Result<()> {
+    let mut place = Place::start("L");
     write_head(out, name)?;
-    out.write_all(STYLE.as_bytes())?;
-    write_anchor(out, 1)?;
-    write_tokens(out, root, Ink::Html)?;
+    write_colours(out)?;
+    out.write_all(b"</style>\n</head>\n<body>\n<pre>\n")?;
+    write_anchor(out, &place)?;
+    write_tokens(out, root, Ink::Html, &mut place)?;
     out.write_all(b"</pre>\n</body>\n</html>\n")
 }
 
@@ -263,7 +306,7 @@ pub fn show<W: Write>(
     let parse = parsed(alloc, source.text, reading)?;
     match ink {
         Ink::Html => write_page(out, source.name, parse.root())?,
-        Ink::Ansi => write_tokens(out, parse.root(), ink)?,
+        Ink::Ansi => write_tokens(out, parse.root(), ink, &mut Place::start(""))?,
     }
     Ok(0)
 }

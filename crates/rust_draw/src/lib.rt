@@ -6,5 +6,6 @@ pub mod html;
 mod literals;
 pub mod page;
 mod page_parts;
+pub mod sides;
 pub mod tree;
 mod tree_json;

@@ -15,9 +15,10 @@ use failure::tell;
 use inputs::{is_folder, text_of};
 use job::Job;
 use rust_cli::manual::{write_completions, write_manual};
-use rust_cli::options::{Options, edition, globs_of, limit, reading};
+use rust_cli::options::{Options, edition, globs_of, is_page, limit, reading};
 use rust_cli::task::{Refusal, Task, files_of, task_of, task_of_rules};
 use rust_cli::verbs;
+use rust_draw::sides;
 use rust_print::differ;
 use rust_print::failure::Failure;
 use rust_print::shown::name;
@@ -156,7 +157,11 @@ fn write_differences<W: Write>(
         Trivia::Kept
     };
     let limit = limit(matches);
-    let told = differ::show(rt.alloc(), out, old, new, readings, trivia, limit)?;
+    let told = if is_page(matches) {
+        sides::show(rt.alloc(), out, old, new, readings, trivia, limit)?
+    } else {
+        differ::show(rt.alloc(), out, old, new, readings, trivia, limit)?
+    };
     out.flush()?;
     if told.more {
         eprintln!(rt; "rust_tree: the trees differ at further places; --limit N shows more")?;
