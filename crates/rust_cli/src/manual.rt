@@ -194,10 +194,10 @@ a file could not be read or written, or memory ran out
 .SH ENVIRONMENT
 .TP
 NO_COLOR
-if it is not empty, \\-\\-color auto uses no colours
+if it is not empty, \\-\\-color auto uses no colours and \\-\\-hyperlinks auto no links
 .TP
 TERM
-if it is dumb, \\-\\-color auto uses no colours
+if it is dumb, \\-\\-color auto uses no colours and \\-\\-hyperlinks auto no links
 .SH FILES
 .TP
 \\&.gitignore, \\&.ignore, \\&.git/info/exclude

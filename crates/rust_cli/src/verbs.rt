@@ -1,52 +1,8 @@
 //! The commands and their arguments, as `clap` reads them.
 
+pub(crate) use crate::rows::{Row, Takes, Verb};
 use clap::{Arg, ArgAction, Command, value_parser};
 use std::alloc::{AllocError, Global};
-
-/// What an argument takes.
-#[derive(Clone, Copy)]
-pub(crate) enum Takes {
-    // One or more words, in their place.
-    Words,
-    // A word, in its place.
-    Word,
-    // Nothing: the argument is a flag.
-    Nothing,
-    // Nothing, and the flag also has a letter.
-    Letter(char),
-    // One of these words.
-    OneOf(&'static [&'static str]),
-    // One of these words, in its place.
-    Choice(&'static [&'static str]),
-    // A number.
-    Number,
-    // A text of this form.
-    Text(&'static str),
-    // A text of this form, each time that it is given.
-    Texts(&'static str),
-    // The same, and the option also has a letter.
-    LetterTexts(char, &'static str),
-}
-
-/// An argument of a command.
-#[derive(Clone, Copy)]
-pub(crate) struct Row {
-    pub name: &'static str,
-    pub takes: Takes,
-    pub default: Option<&'static str>,
-    // The arguments that it cannot be given with.
-    pub conflicts: &'static [&'static str],
-    pub help: &'static str,
-}
-
-/// A command.
-#[derive(Clone, Copy)]
-pub(crate) struct Verb {
-    pub name: &'static str,
-    pub about: &'static str,
-    pub example: &'static str,
-    pub rows: &'static [Row],
-}
 
 const FILES: Row = Row {
     name: "FILE",
@@ -150,6 +106,14 @@ const COLOR: Row = Row {
     default: Some("auto"),
     conflicts: &[],
     help: "Whether check, outline, parens, query, search and rewrite use colours; `auto`: on a terminal",
+};
+
+const HYPERLINKS: Row = Row {
+    name: "hyperlinks",
+    takes: Takes::OneOf(&["auto", "always", "never"]),
+    default: Some("auto"),
+    conflicts: &[],
+    help: "Whether names of files in results are links on a terminal; `auto`: as `--color auto` does",
 };
 
 const FOLLOW: Row = Row {
@@ -446,6 +410,7 @@ static CHECK_VERB: Verb = Verb {
         EXCLUDE,
         EDITION,
         COLOR,
+        HYPERLINKS,
         QUIET,
         FILES,
     ],
@@ -467,6 +432,7 @@ static OUTLINE_VERB: Verb = Verb {
         EXCLUDE,
         EDITION,
         COLOR,
+        HYPERLINKS,
         QUIET,
         FILES,
     ],
@@ -492,6 +458,7 @@ static PARENS_VERB: Verb = Verb {
         EXCLUDE,
         EDITION,
         COLOR,
+        HYPERLINKS,
         QUIET,
         FILES,
     ],
@@ -522,6 +489,7 @@ static QUERY_VERB: Verb = Verb {
         EXCLUDE,
         EDITION,
         COLOR,
+        HYPERLINKS,
         QUIET,
         FILES,
     ],
@@ -543,6 +511,7 @@ static SEARCH_VERB: Verb = Verb {
         EXCLUDE,
         EDITION,
         COLOR,
+        HYPERLINKS,
         QUIET,
         RULE_AND_FILES,
     ],
@@ -566,6 +535,7 @@ static REWRITE_VERB: Verb = Verb {
         EXCLUDE,
         EDITION,
         COLOR,
+        HYPERLINKS,
         QUIET,
         RULE_AND_FILES,
     ],

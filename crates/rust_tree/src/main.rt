@@ -28,7 +28,7 @@ use rust_report::Trivia;
 use session::{FOUND, Session, UNREAD, USAGE};
 use std::io::{BufWriter, ErrorKind, IsTerminal, Write};
 use std::process::ExitCode;
-use std::{env, io};
+use std::{env, fs, io};
 
 // Whether the environment asks for a terminal without colours: `NO_COLOR` is set to any text but an empty one, or the terminal is `dumb`.
 fn is_plain_terminal(rt: &HostRuntime) -> bool {
@@ -36,13 +36,28 @@ fn is_plain_terminal(rt: &HostRuntime) -> bool {
         || env::var(rt, "TERM").is_ok_and(|it| it.as_str() == "dumb")
 }
 
-fn style_of(rt: &HostRuntime, matches: &ArgMatches) -> Style {
-    let has_colours = match matches.get_str("color") {
+// Whether the output gets escapes of a terminal: as an option says, and with `auto` on a terminal.
+fn has_escapes(rt: &HostRuntime, option: Option<&str>) -> bool {
+    match option {
         Some("always") => true,
-        Some("never") => false,
-        _ => rt.stdout().is_terminal() && !is_plain_terminal(rt),
-    };
-    if has_colours {
+        Some("auto") => rt.stdout().is_terminal() && !is_plain_terminal(rt),
+        _ => false,
+    }
+}
+
+// The path of the folder that the program runs in, if names of files are to be links. A folder without a path has no links.
+fn links_of(rt: &HostRuntime, matches: &ArgMatches) -> io::Result<Option<String>> {
+    if !has_escapes(rt, matches.get_str("hyperlinks")) {
+        return Ok(None);
+    }
+    match fs::canonicalize(rt, ".") {
+        Ok(folder) => Ok(Some(String::from_str(rt.alloc(), folder.as_str())?)),
+        Err(_) => Ok(None),
+    }
+}
+
+fn style_of(rt: &HostRuntime, matches: &ArgMatches) -> Style {
+    if has_escapes(rt, matches.get_str("color")) {
         Style::Colours
     } else {
         Style::Plain
@@ -80,6 +95,7 @@ fn run_task(rt: &HostRuntime, task: Task, command: &str, matches: &ArgMatches) -
         task,
         options,
         globs,
+        links: links_of(rt, matches)?,
     };
     let session = run_job(rt, &job, command, matches)?;
     Ok(job.status(&session))
@@ -204,11 +220,13 @@ fn run_diff(rt: &HostRuntime, matches: &ArgMatches) -> io::Result<u8> {
     let old = Source {
         name: old,
         folder: None,
+        link: "",
         text: old_text.as_str(),
     };
     let new = Source {
         name: new,
         folder: None,
+        link: "",
         text: new_text.as_str(),
     };
     match run_diff_on(rt, old, new, matches) {
