@@ -1,6 +1,7 @@
 //! The manual page and the completions for shells, made of the table of commands.
 
-use crate::verbs::{ABOUT, NAMES, PROGRAM, Row, Takes, VERSION, Verb, verb_of};
+use crate::rows::{Row, Takes, Verb};
+use crate::verbs::{ABOUT, NAMES, PROGRAM, VERSION, verb_of};
 use std::io::Write;
 use std::{fmt, io};
 

@@ -1,6 +1,6 @@
 //! The commands and their arguments, as `clap` reads them.
 
-pub(crate) use crate::rows::{Row, Takes, Verb};
+use crate::rows::{Row, Takes, Verb};
 use clap::{Arg, ArgAction, Command, value_parser};
 use std::alloc::{AllocError, Global};
 

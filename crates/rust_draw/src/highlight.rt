@@ -107,6 +107,7 @@ body { background: #0d1117; color: #e6edf3 }
 ";
 
 /// Where a text is in the course of being written.
+#[derive(Clone, Copy, Debug)]
 pub(crate) struct Place {
     // The letter before the numbers of its lines, in the anchors of a page.
     letter: &'static str,

@@ -108,9 +108,9 @@ impl Cut {
 
     // What a text begins with, and its length; of plain text 0.
     fn special(self, text: &str) -> (Part, usize) {
-        match (text.as_bytes().first(), self.mode) {
-            (Some(b'\\'), Some(mode)) => escape_of(mode, text),
-            (Some(b'{' | b'}'), _) if self.is_format => place_of(text),
+        match self.mode {
+            Some(mode) if text.starts_with('\\') => escape_of(mode, text),
+            _ if self.is_format => place_of(text),
             _ => (Part::Plain, 0),
         }
     }
