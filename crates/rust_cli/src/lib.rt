@@ -3,5 +3,6 @@
 
 pub mod manual;
 pub mod options;
+mod rows;
 pub mod task;
 pub mod verbs;

@@ -1,6 +1,7 @@
 //! The manual page and the completions for shells, made of the table of commands.
 
-use crate::verbs::{ABOUT, NAMES, PROGRAM, Row, Takes, VERSION, Verb, verb_of};
+use crate::rows::{Row, Takes, Verb};
+use crate::verbs::{ABOUT, NAMES, PROGRAM, VERSION, verb_of};
 use std::io::Write;
 use std::{fmt, io};
 
@@ -194,10 +195,10 @@ a file could not be read or written, or memory ran out
 .SH ENVIRONMENT
 .TP
 NO_COLOR
-if it is not empty, \\-\\-color auto uses no colours
+if it is not empty, \\-\\-color auto uses no colours and \\-\\-hyperlinks auto no links
 .TP
 TERM
-if it is dumb, \\-\\-color auto uses no colours
+if it is dumb, \\-\\-color auto uses no colours and \\-\\-hyperlinks auto no links
 .SH FILES
 .TP
 \\&.gitignore, \\&.ignore, \\&.git/info/exclude

@@ -185,10 +185,16 @@ pub fn reading(matches: &ArgMatches) -> Reading {
     }
 }
 
+/// Whether `diff` writes a page of HTML.
+pub fn is_page(matches: &ArgMatches) -> bool {
+    matches.get_str("format") == Some("html")
+}
+
 /// The most places that are printed.
 pub fn limit(matches: &ArgMatches) -> usize {
     match matches.get_one::<u32>("limit") {
         Some(limit) => limit as usize,
+        None if is_page(matches) => usize::MAX,
         None => 10,
     }
 }

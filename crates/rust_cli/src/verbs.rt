@@ -1,52 +1,8 @@
 //! The commands and their arguments, as `clap` reads them.
 
+use crate::rows::{Row, Takes, Verb};
 use clap::{Arg, ArgAction, Command, value_parser};
 use std::alloc::{AllocError, Global};
-
-/// What an argument takes.
-#[derive(Clone, Copy)]
-pub(crate) enum Takes {
-    // One or more words, in their place.
-    Words,
-    // A word, in its place.
-    Word,
-    // Nothing: the argument is a flag.
-    Nothing,
-    // Nothing, and the flag also has a letter.
-    Letter(char),
-    // One of these words.
-    OneOf(&'static [&'static str]),
-    // One of these words, in its place.
-    Choice(&'static [&'static str]),
-    // A number.
-    Number,
-    // A text of this form.
-    Text(&'static str),
-    // A text of this form, each time that it is given.
-    Texts(&'static str),
-    // The same, and the option also has a letter.
-    LetterTexts(char, &'static str),
-}
-
-/// An argument of a command.
-#[derive(Clone, Copy)]
-pub(crate) struct Row {
-    pub name: &'static str,
-    pub takes: Takes,
-    pub default: Option<&'static str>,
-    // The arguments that it cannot be given with.
-    pub conflicts: &'static [&'static str],
-    pub help: &'static str,
-}
-
-/// A command.
-#[derive(Clone, Copy)]
-pub(crate) struct Verb {
-    pub name: &'static str,
-    pub about: &'static str,
-    pub example: &'static str,
-    pub rows: &'static [Row],
-}
 
 const FILES: Row = Row {
     name: "FILE",
@@ -150,6 +106,14 @@ const COLOR: Row = Row {
     default: Some("auto"),
     conflicts: &[],
     help: "Whether check, outline, parens, query, search and rewrite use colours; `auto`: on a terminal",
+};
+
+const HYPERLINKS: Row = Row {
+    name: "hyperlinks",
+    takes: Takes::OneOf(&["auto", "always", "never"]),
+    default: Some("auto"),
+    conflicts: &[],
+    help: "Whether names of files in results are links on a terminal; `auto`: as `--color auto` does",
 };
 
 const FOLLOW: Row = Row {
@@ -262,6 +226,14 @@ const TREE_FORMAT: Row = Row {
     default: Some("text"),
     conflicts: &[],
     help: "The form of the output; `json` is one object on each line",
+};
+
+const DIFF_FORMAT: Row = Row {
+    name: "format",
+    takes: Takes::OneOf(&["text", "html"]),
+    default: Some("text"),
+    conflicts: &[],
+    help: "The form of the output; `html` is a page with both texts side by side",
 };
 
 const INK: Row = Row {
@@ -379,9 +351,9 @@ const ONLY: Row = Row {
 const LIMIT: Row = Row {
     name: "limit",
     takes: Takes::Number,
-    default: Some("10"),
+    default: None,
     conflicts: &[],
-    help: "The number of places that are printed",
+    help: "The number of places that are printed, 10 if it is not given; of a page all are",
 };
 
 const IGNORE_TRIVIA: Row = Row {
@@ -438,6 +410,7 @@ static CHECK_VERB: Verb = Verb {
         EXCLUDE,
         EDITION,
         COLOR,
+        HYPERLINKS,
         QUIET,
         FILES,
     ],
@@ -459,6 +432,7 @@ static OUTLINE_VERB: Verb = Verb {
         EXCLUDE,
         EDITION,
         COLOR,
+        HYPERLINKS,
         QUIET,
         FILES,
     ],
@@ -484,6 +458,7 @@ static PARENS_VERB: Verb = Verb {
         EXCLUDE,
         EDITION,
         COLOR,
+        HYPERLINKS,
         QUIET,
         FILES,
     ],
@@ -514,6 +489,7 @@ static QUERY_VERB: Verb = Verb {
         EXCLUDE,
         EDITION,
         COLOR,
+        HYPERLINKS,
         QUIET,
         FILES,
     ],
@@ -535,6 +511,7 @@ static SEARCH_VERB: Verb = Verb {
         EXCLUDE,
         EDITION,
         COLOR,
+        HYPERLINKS,
         QUIET,
         RULE_AND_FILES,
     ],
@@ -558,6 +535,7 @@ static REWRITE_VERB: Verb = Verb {
         EXCLUDE,
         EDITION,
         COLOR,
+        HYPERLINKS,
         QUIET,
         RULE_AND_FILES,
     ],
@@ -574,7 +552,16 @@ static DIFF_VERB: Verb = Verb {
     name: "diff",
     about: "Prints where the trees of two files differ; the exit status is 1 if they do",
     example: "Example: rust_tree diff --no-trivia old.rs new.rs",
-    rows: &[IGNORE_TRIVIA, LIMIT, EDITION, ENTRY, QUIET, OLD, NEW],
+    rows: &[
+        DIFF_FORMAT,
+        IGNORE_TRIVIA,
+        LIMIT,
+        EDITION,
+        ENTRY,
+        QUIET,
+        OLD,
+        NEW,
+    ],
 };
 
 static COMPLETIONS_VERB: Verb = Verb {

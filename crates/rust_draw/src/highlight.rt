@@ -1,7 +1,8 @@
 //! The command `highlight`: a text with its tokens coloured by their roles, as a page of HTML or with the colours of a terminal.
 
 use crate::html::{in_html, write_head};
-use lossless_tree::{NodeOrToken, SyntaxNode, SyntaxToken};
+use crate::literals::{Cut, Part, call_around, cut_of};
+use lossless_tree::{NodeOrToken, SyntaxNode, SyntaxToken, TextSize};
 use rust_print::failure::Failure;
 use rust_print::source::{Reading, Source, parsed};
 use rust_report::{Escaped, Medium, Role, role_of};
@@ -54,6 +55,26 @@ fn escape_of(role: Role) -> &'static str {
     }
 }
 
+// The class of a part of a literal in a page.
+fn class_of_part(part: Part) -> &'static str {
+    match part {
+        Part::Plain => class_of(Role::Text),
+        Part::Escape => "escape",
+        Part::Wrong => class_of(Role::Error),
+        Part::Place => "place",
+    }
+}
+
+// The escape that begins the colour of a part of a literal in a terminal.
+fn escape_of_part(part: Part) -> &'static str {
+    match part {
+        Part::Plain => escape_of(Role::Text),
+        Part::Escape => "\u{1b}[1;32m",
+        Part::Wrong => escape_of(Role::Error),
+        Part::Place => "\u{1b}[36m",
+    }
+}
+
 static STYLE: &str = "<style>
 body { margin: 0; background: #fff; color: #1f2328 }
 pre { margin: 0; padding: 1em; font: 13px/1.5 ui-monospace, monospace; tab-size: 4; counter-reset: line }
@@ -63,6 +84,8 @@ a:target::before { background: #fff3b0; color: #1f2328 }
 .comment { color: #6a737d; font-style: italic }
 .keyword { color: #cf222e }
 .string { color: #0a6b2d }
+.escape { color: #116329; font-weight: bold }
+.place { color: #0550ae }
 .number { color: #0550ae }
 .lifetime { color: #953800 }
 .function { color: #8250df }
@@ -74,23 +97,55 @@ a:target::before { background: #fff3b0; color: #1f2328 }
 @media (prefers-color-scheme: dark) {
 body { background: #0d1117; color: #e6edf3 }
 .comment { color: #8b949e } .keyword { color: #ff7b72 } .string { color: #7ee787 }
-.number, .field { color: #79c0ff } .lifetime, .type { color: #ffa657 }
+.escape { color: #aff5b4 }
+.number, .field, .place { color: #79c0ff } .lifetime, .type { color: #ffa657 }
 .function, .macro { color: #d2a8ff } .attribute { color: #8b949e }
 }
-</style>
-</head>
-<body>
-<pre>
 ";
 
-// Writes what a line begins with: its number, which is a link to itself.
-fn write_anchor<W: Write>(out: &mut W, line: u64) -> io::Result<()> {
-    write!(out, "<a id=\"L{line}\" href=\"#L{line}\"></a>")
+/// Where a text is in the course of being written.
+#[derive(Clone, Copy, Debug)]
+pub(crate) struct Place {
+    // The letter before the numbers of its lines, in the anchors of a page.
+    letter: &'static str,
+    // The number of the line.
+    line: u64,
+    // Where the arguments of the last macro call began that had a string.
+    calls: Option<TextSize>,
 }
 
-// Writes a text in the colour of a role, which ends at the end of each line and begins again after it. `line` is the number of the line.
-fn write_html<W: Write>(out: &mut W, role: Role, text: &str, line: &mut u64) -> io::Result<()> {
-    let class = class_of(role);
+impl Place {
+    /// Before the first line of a text whose anchors are this letter and the number of a line.
+    pub(crate) fn start(letter: &'static str) -> Place {
+        Place {
+            letter,
+            line: 1,
+            calls: None,
+        }
+    }
+}
+
+/// Writes the colours of a page, which begin its style.
+pub(crate) fn write_colours<W: Write>(out: &mut W) -> io::Result<()> {
+    out.write_all(STYLE.as_bytes())
+}
+
+/// Writes what a line begins with: its number, which is a link to itself.
+pub(crate) fn write_anchor<W: Write>(out: &mut W, place: &Place) -> io::Result<()> {
+    let (letter, line) = (place.letter, place.line);
+    write!(
+        out,
+        "<a id=\"{letter}{line}\" href=\"#{letter}{line}\"></a>"
+    )
+}
+
+// Writes a text in the colour of a class, which ends at the end of each line and begins again after it.
+fn write_html<W: Write>(
+    out: &mut W,
+    class: &'static str,
+    text: &str,
+    place: &mut Place,
+) -> io::Result<()> {
     for part in text.split_inclusive('\n') {
         let shown = in_html(part);
         if class.is_empty() {
@@ -99,8 +154,8 @@ fn write_html<W: Write>(out: &mut W, role: Role, text: &str, line: &mut u64) -> 
             write!(out, "<span class=\"{class}\">{shown}</span>")?;
         }
         if part.ends_with('\n') {
-            *line = line.saturating_add(1);
-            write_anchor(out, *line)?;
+            place.line = place.line.saturating_add(1);
+            write_anchor(out, place)?;
         }
     }
     Ok(())
@@ -119,15 +174,14 @@ fn line_end(line: &str, is_before_feed: bool) -> &str {
     line.get(line.len().saturating_sub(end)..).unwrap_or("")
 }
 
-// Writes a text in the colour of a role, which ends before each line feed and begins again after it. Other control characters are shown as
-// symbols: a file must not move the cursor of a terminal.
+// Writes a text in the colour that an escape begins, which ends before each line feed and begins again after it. Other control characters
+// are shown as symbols: a file must not move the cursor of a terminal.
 fn write_ansi<W: Write>(
     out: &mut W,
-    role: Role,
+    escape: &'static str,
     text: &str,
     is_before_feed: bool,
 ) -> io::Result<()> {
-    let escape = escape_of(role);
     let plain = if escape.is_empty() { "" } else { "\u{1b}[0m" };
     for line in text.split_inclusive('\n') {
         let end = line_end(line, is_before_feed);
@@ -145,29 +199,97 @@ fn is_before_feed(text: &str, token: &SyntaxToken) -> bool {
     text.as_bytes().get(token.text_range().end().raw() as usize) == Some(&b'\n')
 }
 
+// Writes a token that is no literal.
+fn write_token<W: Write>(
+    out: &mut W,
+    text: &str,
+    token: &SyntaxToken,
+    ink: Ink,
+    place: &mut Place,
+) -> io::Result<()> {
+    let role = role_of(token);
+    match ink {
+        Ink::Html => write_html(out, class_of(role), token.text(), place),
+        Ink::Ansi => write_ansi(
+            out,
+            escape_of(role),
+            token.text(),
+            is_before_feed(text, token),
+        ),
+    }
+}
+
+// Writes the parts of a literal.
+fn write_literal<W: Write>(
+    out: &mut W,
+    literal: &str,
+    cut: Cut,
+    ink: Ink,
+    place: &mut Place,
+) -> io::Result<()> {
+    let mut rest = literal;
+    for _turn in 0..literal.len() {
+        if rest.is_empty() {
+            break;
+        }
+        let (part, text, behind) = cut.split(rest);
+        match ink {
+            Ink::Html => write_html(out, class_of_part(part), text, place)?,
+            Ink::Ansi => write_ansi(out, escape_of_part(part), text, behind.starts_with('\n'))?,
+        }
+        rest = behind;
+    }
+    Ok(())
+}
+
+// How a token is cut, if it is a literal. The first string among the arguments of a macro call is taken for the text of a format: `calls` is
+// where the arguments of the last call began that had one.
+fn cut_in(token: &SyntaxToken, calls: &mut Option<TextSize>) -> Option<Cut> {
+    let call = call_around(token);
+    let is_format = call.is_some() && call != *calls;
+    if is_format {
+        *calls = call;
+    }
+    cut_of(token.kind(), token.text(), is_format)
+}
+
+/// Writes a token of a text. In a page, a line feed is followed by the anchor of the next line.
+pub(crate) fn write_coloured<W: Write>(
+    out: &mut W,
+    text: &str,
+    token: &SyntaxToken,
+    ink: Ink,
+    place: &mut Place,
+) -> io::Result<()> {
+    match cut_in(token, &mut place.calls) {
+        Some(cut) => write_literal(out, token.text(), cut, ink, place),
+        None => write_token(out, text, token, ink, place),
+    }
+}
+
 // Writes the tokens of a tree.
-fn write_tokens<W: Write>(out: &mut W, root: &SyntaxNode, ink: Ink) -> io::Result<()> {
+fn write_tokens<W: Write>(
+    out: &mut W,
+    root: &SyntaxNode,
+    ink: Ink,
+    place: &mut Place,
+) -> io::Result<()> {
     let text = root.as_str();
-    let mut line = 1u64;
     for element in root.descendants_with_tokens() {
         if let NodeOrToken::Token(token) = &element {
-            match ink {
-                Ink::Html => write_html(out, role_of(token), token.text(), &mut line)?,
-                Ink::Ansi => {
-                    let is_before_feed = is_before_feed(text, token);
-                    write_ansi(out, role_of(token), token.text(), is_before_feed)?;
-                }
-            }
+            write_coloured(out, text, token, ink, place)?;
         }
     }
     Ok(())
 }
 
 fn write_page<W: Write>(out: &mut W, name: &str, root: &SyntaxNode) -> io::Result<()> {
+    let mut place = Place::start("L");
     write_head(out, name)?;
-    out.write_all(STYLE.as_bytes())?;
-    write_anchor(out, 1)?;
-    write_tokens(out, root, Ink::Html)?;
+    write_colours(out)?;
+    out.write_all(b"</style>\n</head>\n<body>\n<pre>\n")?;
+    write_anchor(out, &place)?;
+    write_tokens(out, root, Ink::Html, &mut place)?;
     out.write_all(b"</pre>\n</body>\n</html>\n")
 }
 
@@ -182,7 +304,7 @@ pub fn show<W: Write>(
     let parse = parsed(alloc, source.text, reading)?;
     match ink {
         Ink::Html => write_page(out, source.name, parse.root())?,
-        Ink::Ansi => write_tokens(out, parse.root(), ink)?,
+        Ink::Ansi => write_tokens(out, parse.root(), ink, &mut Place::start(""))?,
     }
     Ok(0)
 }

@@ -3,7 +3,9 @@
 
 pub mod highlight;
 pub mod html;
+mod literals;
 pub mod page;
 mod page_parts;
+pub mod sides;
 pub mod tree;
 mod tree_json;

@@ -65,7 +65,7 @@ fn message_of<'e>(error: &'e SyntaxError, asked: Asked) -> &'e str {
 // Writes the line that an error is in, or the part of a long line around it, and marks the error in the line below.
 fn write_text<W: Write>(
     out: &mut W,
-    path: &str,
+    source: Source<'_>,
     spots: &mut Spots<'_>,
     error: &SyntaxError,
     more: More,
@@ -74,7 +74,7 @@ fn write_text<W: Write>(
     let style = asked.style;
     let from = move_to(spots, error.range().start());
     let (red, plain) = (style.red(), style.plain());
-    write_place(out, path, from, style)?;
+    write_place(out, source, from, style)?;
     writeln!(out, "{red}{}{plain}{more}", name(message_of(error, asked)))?;
     let excerpt = excerpt_at(spots.lines(), error.range());
     writeln!(out, "{:>5} | {excerpt}", from.line)?;
@@ -182,7 +182,7 @@ fn write_all<W: Write>(
         }
         let more = More(folded);
         match asked.format {
-            Form::Text => write_text(out, name, &mut spots, error, more, asked)?,
+            Form::Text => write_text(out, source, &mut spots, error, more, asked)?,
             Form::Json => write_json(alloc, out, name, &mut spots, error)?,
             Form::Github => write_github(out, name, &mut spots, error, more, asked)?,
             Form::Sarif => write_sarif(alloc, out, name, &mut spots, error, is_first, asked)?,

@@ -124,16 +124,16 @@ fn write_text<W: Write>(out: &mut W, line: &Line<'_>) -> io::Result<()> {
 fn write_line<W: Write>(
     alloc: Global,
     out: &mut W,
-    path: &str,
+    source: Source<'_>,
     spots: &mut Spots<'_>,
     line: &Line<'_>,
     asked: Asked,
 ) -> io::Result<()> {
     let at = move_to(spots, line.start);
     match asked.format {
-        Form::Json => write_json(alloc, out, path, at, line),
+        Form::Json => write_json(alloc, out, source.name, at, line),
         Form::Text | Form::Github | Form::Sarif => {
-            write_place(out, path, at, asked.style)?;
+            write_place(out, source, at, asked.style)?;
             write_text(out, line)
         }
     }
@@ -143,7 +143,7 @@ fn write_line<W: Write>(
 fn write_node<W: Write>(
     alloc: Global,
     out: &mut W,
-    path: &str,
+    source: Source<'_>,
     spots: &mut Spots<'_>,
     node: &SyntaxNode,
     word: &'static str,
@@ -168,14 +168,14 @@ fn write_node<W: Write>(
         range,
         depth,
     };
-    write_line(alloc, out, path, spots, &line, asked)
+    write_line(alloc, out, source, spots, &line, asked)
 }
 
 // Writes the line of what a walk enters, if it is listed. Returns whether it is a node that is.
 fn write_entered<W: Write>(
     alloc: Global,
     out: &mut W,
-    path: &str,
+    source: Source<'_>,
     spots: &mut Spots<'_>,
     element: &SyntaxElement,
     depth: usize,
@@ -184,7 +184,7 @@ fn write_entered<W: Write>(
     match element {
         NodeOrToken::Node(node) => match listed_word(node.kind(), asked.has_locals) {
             Some(word) => {
-                write_node(alloc, out, path, spots, node, word, depth, asked)?;
+                write_node(alloc, out, source, spots, node, word, depth, asked)?;
                 Ok(true)
             }
             None => Ok(false),
@@ -199,7 +199,7 @@ fn write_entered<W: Write>(
                     range,
                     depth,
                 };
-                write_line(alloc, out, path, spots, &line, asked)?;
+                write_line(alloc, out, source, spots, &line, asked)?;
             }
             Ok(false)
         }
@@ -227,8 +227,7 @@ pub fn show<W: Write>(
     for event in parse.root().preorder_with_tokens() {
         match event {
             WalkEvent::Enter(element) => {
-                let path = source.name;
-                if write_entered(alloc, out, path, &mut spots, &element, depth, asked)? {
+                if write_entered(alloc, out, source, &mut spots, &element, depth, asked)? {
                     depth = depth.saturating_add(1);
                 }
             }

@@ -140,7 +140,7 @@ fn write_sarif<W: Write>(
 fn write_pair<W: Write>(
     alloc: Global,
     out: &mut W,
-    path: &str,
+    source: Source<'_>,
     spots: &mut Spots<'_>,
     pair: &SyntaxNode,
     is_first: bool,
@@ -148,10 +148,10 @@ fn write_pair<W: Write>(
 ) -> io::Result<()> {
     let at = move_to(spots, pair.text_range().start());
     match asked.format {
-        Form::Json => write_json(alloc, out, path, at, pair),
-        Form::Sarif => write_sarif(alloc, out, path, spots, at, pair, is_first),
+        Form::Json => write_json(alloc, out, source.name, at, pair),
+        Form::Sarif => write_sarif(alloc, out, source.name, spots, at, pair, is_first),
         Form::Text | Form::Github => {
-            write_place(out, path, at, asked.style)?;
+            write_place(out, source, at, asked.style)?;
             write!(out, "needless parentheses: ")?;
             write_short(out, pair.as_str())
         }
@@ -172,7 +172,7 @@ pub fn list<W: Write>(
     let mut spots = spots(alloc, source.text)?;
     let mut is_first = asked.is_first;
     for pair in pairs {
-        write_pair(alloc, out, source.name, &mut spots, pair, is_first, asked)?;
+        write_pair(alloc, out, source, &mut spots, pair, is_first, asked)?;
         is_first = false;
     }
     Ok(())

@@ -56,10 +56,12 @@ pub struct Region {
     pub end: u32,
 }
 
-// A path as a reference of a URI: what is neither a letter nor a digit nor one of `-._~/` is percent-encoded.
+/// A path as a reference of a URI: what is neither a letter nor a digit nor one of `-._~/` is percent-encoded. Before an absolute path is
+/// `file://`, without the name of a host.
 #[derive(Clone, Copy)]
-struct Uri<'a> {
-    path: &'a str,
+pub struct Uri<'a> {
+    /// The path.
+    pub path: &'a str,
 }
 
 impl fmt::Display for Uri<'_> {

@@ -1,5 +1,7 @@
 //! Texts of files on a terminal.
 
+use crate::sarif::Uri;
+use crate::source::Source;
 use crate::style::Style;
 use rust_report::{Escaped, Medium, Spot, WIDEST, short_of};
 use std::io;
@@ -13,10 +15,29 @@ pub fn name(text: &str) -> Escaped<'_> {
     }
 }
 
-/// Writes the front of a line about a place of a file.
-pub fn write_place<W: Write>(out: &mut W, path: &str, at: Spot, style: Style) -> io::Result<()> {
+// Writes the name of a source and a place in it.
+fn write_spot<W: Write>(out: &mut W, source: Source<'_>, at: Spot, style: Style) -> io::Result<()> {
     let (bold, plain) = (style.bold(), style.plain());
-    write!(out, "{bold}{}:{at}:{plain} ", name(path))
+    write!(out, "{bold}{}:{at}:{plain}", name(source.name))
+}
+
+/// Writes the front of a line about a place of a file. If the source has a link, it is one to this line of the file: `OSC 8` begins it on a
+/// terminal, and in its URL each character of a path that is not plain is percent-encoded.
+pub fn write_place<W: Write>(
+    out: &mut W,
+    source: Source<'_>,
+    at: Spot,
+    style: Style,
+) -> io::Result<()> {
+    if source.link.is_empty() {
+        write_spot(out, source, at, style)?;
+    } else {
+        let uri = Uri { path: source.link };
+        write!(out, "\u{1b}]8;;{uri}#{}\u{1b}\\", at.line)?;
+        write_spot(out, source, at, style)?;
+        out.write_all(b"\x1b]8;;\x1b\\")?;
+    }
+    out.write_all(b" ")
 }
 
 /// Writes the first line of a text and a line feed. Of a long line only the first part is written.

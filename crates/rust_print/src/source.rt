@@ -17,6 +17,8 @@ pub struct Source<'a> {
     pub name: &'a str,
     /// The folder whose search found the file; `None` if the command line names it.
     pub folder: Option<&'a str>,
+    /// The absolute path of its file if its name is to be a link on a terminal; else empty.
+    pub link: &'a str,
     /// The text.
     pub text: &'a str,
 }

@@ -116,16 +116,16 @@ fn write_json<W: Write>(
 fn write_match<W: Write>(
     alloc: Global,
     out: &mut W,
-    path: &str,
+    source: Source<'_>,
     spots: &mut Spots<'_>,
     element: &SyntaxElement,
     asked: Asked,
 ) -> io::Result<()> {
     let at = move_to(spots, element.text_range().start());
     match asked.format {
-        Form::Json => write_json(alloc, out, path, at, element),
+        Form::Json => write_json(alloc, out, source.name, at, element),
         _ => {
-            write_place(out, path, at, asked.style)?;
+            write_place(out, source, at, asked.style)?;
             write_short(out, element.text())
         }
     }
@@ -144,7 +144,7 @@ fn write_elements<W: Write>(
     }
     let mut spots = spots(alloc, source.text)?;
     for element in found {
-        write_match(alloc, out, source.name, &mut spots, element, asked)?;
+        write_match(alloc, out, source, &mut spots, element, asked)?;
         if matches!(asked.format, Form::Json) {
             out.write_all(b"]}\n")?;
         }
@@ -170,7 +170,7 @@ fn write_matches<W: Write>(
         let Some(element) = root.element_at_row(it.row) else {
             continue;
         };
-        write_match(alloc, out, source.name, &mut spots, &element, asked)?;
+        write_match(alloc, out, source, &mut spots, &element, asked)?;
         if matches!(asked.format, Form::Json) {
             write_captures(alloc, out, root, pattern, it)?;
         }

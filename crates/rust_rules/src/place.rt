@@ -5,7 +5,7 @@ use rust_print::forms::{Asked, Form};
 use rust_print::json;
 use rust_print::sarif::{Region, Rule, write_result};
 use rust_print::shown::{cut, name, write_place};
-use rust_print::source::{move_to, spot};
+use rust_print::source::{Source, move_to, spot};
 use rust_report::{Escaped, Medium, Spot, Spots, short_of};
 use serde::Serialize;
 use std::alloc::Global;
@@ -48,8 +48,8 @@ struct ChangeRecord<'a> {
 /// A match.
 #[derive(Clone, Copy)]
 pub(crate) struct Place<'a> {
-    /// The path of its file.
-    pub(crate) path: &'a str,
+    /// Its file.
+    pub(crate) source: Source<'a>,
     /// Where it is.
     pub(crate) range: TextRange,
     /// Its text.
@@ -94,7 +94,7 @@ fn write_match<W: Write>(
 ) -> io::Result<()> {
     let (text, cut) = cut(place.text);
     let record = MatchRecord {
-        path: place.path,
+        path: place.source.name,
         line: at.line,
         column: at.column,
         start: place.range.start().raw(),
@@ -118,7 +118,7 @@ fn write_change<W: Write>(
     let (text, is_cut) = cut(place.text);
     let (new, new_cut) = cut(new);
     let record = ChangeRecord {
-        path: place.path,
+        path: place.source.name,
         line: at.line,
         column: at.column,
         start: place.range.start().raw(),
@@ -150,7 +150,7 @@ fn write_github<W: Write>(
 ) -> io::Result<()> {
     let said = format!(in alloc; "{}", Said { place: &*place })?;
     let file = Escaped {
-        text: place.path,
+        text: place.source.name,
         medium: Medium::Parameter,
     };
     let message = Escaped {
@@ -177,7 +177,7 @@ fn write_sarif<W: Write>(
         is_first,
         Rule::Match,
         said.as_str(),
-        place.path,
+        place.source.name,
         at,
     )
 }
@@ -195,7 +195,7 @@ pub(crate) fn write_one<W: Write>(
     let to = spot(spots, place.range.end());
     match asked.format {
         Form::Text => {
-            write_place(out, place.path, from, asked.style)?;
+            write_place(out, place.source, from, asked.style)?;
             writeln!(out, "{}", Said { place })
         }
         Form::Json => write_json(alloc, out, place, from),

@@ -28,7 +28,7 @@ fn place_of<'a>(
     let end = found.range.end().raw() as usize;
     let (name, message) = set.note(found.rule);
     Place {
-        path: source.name,
+        source,
         range: found.range,
         text: source.text.get(start..end).unwrap_or(""),
         new,

@@ -35,6 +35,8 @@ pub struct Job {
     pub options: Options,
     /// Which files of a folder are read.
     pub globs: Globs,
+    /// The path of the folder that the program runs in if names of files are links; else `None`.
+    pub links: Option<String>,
 }
 
 // What a run keeps from file to file.
@@ -232,6 +234,20 @@ fn write_summary<W: Write>(
     }
 }
 
+// The absolute path of a file, if names of files are links; else an empty text. Standard input has none.
+fn link_of(rt: &HostRuntime, links: &Option<String>, path: &str) -> io::Result<String> {
+    let below = path.strip_prefix("./").unwrap_or(path);
+    match links {
+        Some(_) if path.starts_with('/') => Ok(String::from_str(rt.alloc(), path)?),
+        Some(folder) if path != "-" => {
+            let folder = folder.as_str();
+            let folder = folder.strip_suffix('/').unwrap_or(folder);
+            Ok(format!(in rt.alloc(); "{folder}/{below}")?)
+        }
+        _ => Ok(String::new(rt.alloc())),
+    }
+}
+
 impl Job {
     // The noun for what was found, in the totals.
     fn noun(&self) -> Noun {
@@ -308,11 +324,13 @@ impl Job {
         if progress.was_read(rt, path)? {
             return Ok(());
         }
+        let link = link_of(rt, &self.links, path)?;
         match text_of(rt, path) {
             Ok(text) => {
                 let source = Source {
                     name: &*path,
                     folder,
+                    link: link.as_str(),
                     text: text.as_str(),
                 };
                 let edition = progress.manifests.edition_of(rt, path)?;

@@ -15,9 +15,10 @@ use failure::tell;
 use inputs::{is_folder, text_of};
 use job::Job;
 use rust_cli::manual::{write_completions, write_manual};
-use rust_cli::options::{Options, edition, globs_of, limit, reading};
+use rust_cli::options::{Options, edition, globs_of, is_page, limit, reading};
 use rust_cli::task::{Refusal, Task, files_of, task_of, task_of_rules};
 use rust_cli::verbs;
+use rust_draw::sides;
 use rust_print::differ;
 use rust_print::failure::Failure;
 use rust_print::shown::name;
@@ -27,7 +28,7 @@ use rust_report::Trivia;
 use session::{FOUND, Session, UNREAD, USAGE};
 use std::io::{BufWriter, ErrorKind, IsTerminal, Write};
 use std::process::ExitCode;
-use std::{env, io};
+use std::{env, fs, io};
 
 // Whether the environment asks for a terminal without colours: `NO_COLOR` is set to any text but an empty one, or the terminal is `dumb`.
 fn is_plain_terminal(rt: &HostRuntime) -> bool {
@@ -35,13 +36,28 @@ fn is_plain_terminal(rt: &HostRuntime) -> bool {
         || env::var(rt, "TERM").is_ok_and(|it| it.as_str() == "dumb")
 }
 
-fn style_of(rt: &HostRuntime, matches: &ArgMatches) -> Style {
-    let has_colours = match matches.get_str("color") {
+// Whether the output gets escapes of a terminal: as an option says, and with `auto` on a terminal.
+fn has_escapes(rt: &HostRuntime, option: Option<&str>) -> bool {
+    match option {
         Some("always") => true,
-        Some("never") => false,
-        _ => rt.stdout().is_terminal() && !is_plain_terminal(rt),
-    };
-    if has_colours {
+        Some("auto") => rt.stdout().is_terminal() && !is_plain_terminal(rt),
+        _ => false,
+    }
+}
+
+// The path of the folder that the program runs in, if names of files are to be links. A folder without a path has no links.
+fn links_of(rt: &HostRuntime, matches: &ArgMatches) -> io::Result<Option<String>> {
+    if !has_escapes(rt, matches.get_str("hyperlinks")) {
+        return Ok(None);
+    }
+    match fs::canonicalize(rt, ".") {
+        Ok(folder) => Ok(Some(String::from_str(rt.alloc(), folder.as_str())?)),
+        Err(_) => Ok(None),
+    }
+}
+
+fn style_of(rt: &HostRuntime, matches: &ArgMatches) -> Style {
+    if has_escapes(rt, matches.get_str("color")) {
         Style::Colours
     } else {
         Style::Plain
@@ -79,6 +95,7 @@ fn run_task(rt: &HostRuntime, task: Task, command: &str, matches: &ArgMatches) -
         task,
         options,
         globs,
+        links: links_of(rt, matches)?,
     };
     let session = run_job(rt, &job, command, matches)?;
     Ok(job.status(&session))
@@ -156,7 +173,11 @@ fn write_differences<W: Write>(
         Trivia::Kept
     };
     let limit = limit(matches);
-    let told = differ::show(rt.alloc(), out, old, new, readings, trivia, limit)?;
+    let told = if is_page(matches) {
+        sides::show(rt.alloc(), out, old, new, readings, trivia, limit)?
+    } else {
+        differ::show(rt.alloc(), out, old, new, readings, trivia, limit)?
+    };
     out.flush()?;
     if told.more {
         eprintln!(rt; "rust_tree: the trees differ at further places; --limit N shows more")?;
@@ -199,11 +220,13 @@ fn run_diff(rt: &HostRuntime, matches: &ArgMatches) -> io::Result<u8> {
     let old = Source {
         name: old,
         folder: None,
+        link: "",
         text: old_text.as_str(),
     };
     let new = Source {
         name: new,
         folder: None,
+        link: "",
         text: new_text.as_str(),
     };
     match run_diff_on(rt, old, new, matches) {
