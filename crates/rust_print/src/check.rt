@@ -44,7 +44,8 @@ impl fmt::Display for More {
 fn more_behind(errors: &[SyntaxError], at: usize, error: &SyntaxError) -> usize {
     let start = error.range().start();
     let mut more: usize = 0;
-    for other in errors.iter().skip(at).skip(1) {
+    // `skip(at)` would pass the errors before, one by one.
+    for other in errors.get(at.saturating_add(1)..).unwrap_or(&[]) {
         if other.range().start() != start {
             break;
         }
