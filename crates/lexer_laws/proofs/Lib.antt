@@ -1,0 +1,12 @@
+mod Tests
+mod Decoding
+mod Skipping
+mod Scanning
+mod Ending
+mod Digits
+mod Literals
+mod RawTexts
+mod Words
+mod Firsts
+mod Stepping
+mod Bracing
