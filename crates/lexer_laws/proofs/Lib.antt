@@ -10,3 +10,5 @@ mod Words
 mod Firsts
 mod Stepping
 mod Bracing
+mod Pieces
+mod Heading

@@ -14,7 +14,7 @@ use Rattle.rust_lexer.proofs.Steps.{steps-one, steps-stop, steps-end}
 use Rattle.lexer_laws.specs.Cuts.{tokens_within}
 
 -- the first token of a text, as the lexer lists it
-pub token_at : Edition → List ℕ → span.Token
+abbrev pub token_at : Edition → List ℕ → span.Token
 token_at e s = record { kind = (token_of e s).kind; len = size_of (length (front_of (token_of e s).left s)) }
 
 -- the tokens of a text, at most n
@@ -39,12 +39,12 @@ either_true : (p : Bool) → (p ≡ true) ⊎ (p ≡ false)
 either_true true = inl refl
 either_true false = inr refl
 
-mutual_steps : (n : ℕ) (e : Edition) (text : List ℕ) (l : Lexing) → ((k : Lexing) → (steps_of n e text k).tokens ≡ k.tokens ++ tokens_from n e k.rest)
+step_tokens : (n : ℕ) (e : Edition) (text : List ℕ) (l : Lexing) → ((k : Lexing) → (steps_of n e text k).tokens ≡ k.tokens ++ tokens_from n e k.rest)
     → ((length l.rest == 0) ≡ true) ⊎ ((length l.rest == 0) ≡ false) → (steps_of (suc n) e text l).tokens ≡ l.tokens ++ tokens_from (suc n) e l.rest
-mutual_steps n e text l f (inl h) =
+step_tokens n e text l f (inl h) =
     ap (λ (k : Lexing). k.tokens) (steps-stop (suc n) e text l h)
     ∙ sym (ap (λ (ts : List span.Token). l.tokens ++ ts) (from_stop (suc n) e l.rest h) ∙ append-nil l.tokens)
-mutual_steps n e text l f (inr h) =
+step_tokens n e text l f (inr h) =
     ap (λ (k : Lexing). k.tokens) (steps-one n e text l h)
     ∙ f (taken text (token_of e l.rest) l)
     ∙ append_assoc l.tokens (token_at e l.rest ∷ []) (tokens_from n e (back_of (token_of e l.rest).left l.rest))
@@ -54,7 +54,7 @@ steps_tokens : (n : ℕ) (e : Edition) (text : List ℕ) (l : Lexing) → (steps
 steps_tokens zero e text l =
     ap (λ (k : Lexing). k.tokens) (steps-end 0 e text l refl)
     ∙ sym (ap (λ (ts : List span.Token). l.tokens ++ ts) (from_end e l.rest) ∙ append-nil l.tokens)
-steps_tokens (suc n) e text l = mutual_steps n e text l (λ k. steps_tokens n e text k) (either_true (length l.rest == 0))
+steps_tokens (suc n) e text l = step_tokens n e text l (λ k. steps_tokens n e text k) (either_true (length l.rest == 0))
 
 within_from : (e : Edition) (s : List ℕ) → tokens_within e s ≡ tokens_from (length s) e s
 within_from e s = steps_tokens (length s) e s (fresh s)

@@ -3,6 +3,7 @@ use Rattle.std.specs.Prelude.{◌≡◌, ℕ, ◌+◌, ◌-◌, ◌<◌, ◌^◌
 use Rattle.ras_front_end.specs.declared.edition.Edition.{Edition}
 use Rattle.token_layout.specs.declared.span.Token.{Token}
 use Rattle.rust_lexer.specs.Lexing.{steps_of, fresh}
+use Rattle.rust_lexer.specs.Signs.{sign_kind_of}
 use Rattle.lexer_laws.specs.Behind.{IsBrace}
 
 -- the tokens of a text that is not at the head of a file
@@ -17,7 +18,13 @@ bytes_of (t ∷ ts) = t.len + bytes_of ts
 -- where the tokens of a text are cut before a brace, they are the same whatever follows the brace
 abbrev pub BracesCut : Type 0
 BracesCut =
-    (e : Edition) (s u v : List ℕ) (b : ℕ) (ts us : List Token) → IsBrace b → IsUtf8 u → IsUtf8 v
+    (e : Edition) (s u v : List ℕ) (b : ℕ) (ts us : List Token) → IsBrace b
     → length s + length u < 2 ^ 32 - 1 → length s + length v < 2 ^ 32 - 1
     → tokens_within e (s ++ b ∷ u) ≡ ts ++ us → bytes_of ts ≡ length s
     → tokens_within e (s ++ b ∷ v) ≡ ts ++ tokens_within e (b ∷ v)
+
+-- a brace at the front of a text is a token of one byte
+abbrev pub BracesAreTokens : Type 0
+BracesAreTokens =
+    (e : Edition) (b : ℕ) (s : List ℕ) → IsBrace b → IsUtf8 s
+    → tokens_within e (b ∷ s) ≡ record { kind = sign_kind_of b; len = 1 } ∷ tokens_within e s

@@ -1,2 +1,4 @@
 pub mod Behind
 pub mod Cuts
+pub mod Pieces
+pub mod Heads
