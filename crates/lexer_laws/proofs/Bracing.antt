@@ -167,7 +167,7 @@ brace_token e b y (inr h) = subst (λ (c : ℕ). token_of e (c ∷ y) ≡ plain_
 not_zero : (n : ℕ) → 0 < n → (n == 0) ≡ false
 not_zero n h = grind (arith, nat_tests)
 
-cut_one : (b : ℕ) (y : List ℕ) → IsUtf8 y → cut_of (length y) (b ∷ y) ≡ 1
+pub cut_one : (b : ℕ) (y : List ℕ) → IsUtf8 y → cut_of (length y) (b ∷ y) ≡ 1
 cut_one b y u =
     let i : ℕ = length (b ∷ y) - length y in
     let one : i ≡ 1 = omega arith in

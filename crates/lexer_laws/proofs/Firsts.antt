@@ -19,6 +19,7 @@ use Rattle.rust_lexer.specs.Shapes.{plain_of, with_of}
 use Rattle.rust_lexer.specs.Signs.{sign_kind_of}
 use Rattle.rust_lexer.specs.Tokens.{space_of, sign_of, slash_of, opens_raw_of, is_reserved_of, pound_of, letter_r_of, letter_b_of, letter_c_of, letter_of, beyond_of, mark_of, other_of, token_of}
 use Rattle.lexer_laws.specs.Behind.{IsBrace, before}
+use Rattle.lexer_laws.specs.Firsts.{EndsBefore, GoesOver}
 use Rattle.lexer_laws.proofs.Tests.{at_brace, begins_same, not_same, and_same, or_same, and_fails, skip_same, tail_same, longer}
 use Rattle.lexer_laws.proofs.Decoding.{after_char_same}
 use Rattle.lexer_laws.proofs.Skipping.{begins_wide_same, begins_emoji_same, beyond_same, begins_name_same, skip_wide_same, skip_name_same}
@@ -203,3 +204,7 @@ token_ends e x b q h =
       inl k ↦ ended (token_of e) b (x ∷ q) (x ∷ q) (λ y l. k.same y l)
     | inr k ↦ inr (record { over = λ y. k.over y })
     ]
+
+pub first_tokens_end : (e : Edition) (b : ℕ) (s : List ℕ) → IsBrace b → 0 < length s → EndsBefore e b s ⊎ GoesOver e b s
+first_tokens_end e b [] h l = absurd (omega (arith, l))
+first_tokens_end e b (x ∷ s) h l = elim (token_ends e x b s h) [ inl k ↦ inl (λ y m. k.same y m) | inr k ↦ inr (λ y. k.over y) ]

@@ -16,8 +16,7 @@ use Rattle.rust_lexer.specs.Cuts.{is_boundary_of, cut_of}
 use Rattle.rust_lexer.specs.Heads.{begins_shebang_of, behind_two_of, has_shebang_of, last_line_of, empty_lines, skip_empty_lines_of, skip_line_of, with_matter, body_of, behind_shebang_of, prelude_of}
 use Rattle.rust_lexer.specs.Lexing.{Lexing, taken_head, taken_head_on, fresh}
 use Rattle.lexer_laws.specs.Behind.{IsBrace}
-use Rattle.lexer_laws.specs.Heads.{is_byte, may_be_shebang, is_visible, may_be_fence, may_have_head}
-use Rattle.lexer_laws.specs.Pieces.{HasNoHead}
+use Rattle.lexer_laws.specs.Heads.{HasNoHead, is_byte, may_be_shebang, is_visible, may_be_fence, may_have_head}
 use Rattle.lexer_laws.proofs.Tests.{holds_at_brace, at_brace}
 use Rattle.lexer_laws.proofs.Words.{boundary_starts}
 
@@ -87,11 +86,11 @@ second_unseen b x h =
     (λ k. later_unseen x k)))) h
 
 -- what follows the character has a fence if the text has one
-abbrev Passed : List ℕ → Decoded → Type 0
-Passed s r = (c : ℕ) → r.char ≡ Some c → may_be_fence (drop r.size s) ≡ may_be_fence s
+record Passed (s : List ℕ) (r : Decoded) : Type 0 where
+  passes : (c : ℕ) → r.char ≡ Some c → may_be_fence (drop r.size s) ≡ may_be_fence s
 
 no_char : (s : List ℕ) (n : ℕ) → Passed s (bad n)
-no_char s n c h = absurd (let wrong : None ≡ Some c = h in cc)
+no_char s n = record { passes = λ c h. absurd (let wrong : None ≡ Some c = h in cc) }
 
 on : (s : List ℕ) (p : Bool) (r t : Decoded) → (p ≡ true → Passed s r) → (p ≡ false → Passed s t) → Passed s (cond p r t)
 on s true r t f g = f refl
@@ -103,10 +102,7 @@ one x s h = sym (unseen x s h)
 below : (n k : ℕ) → n < k → nat_lt n k ≡ true
 below n k h = grind (arith, nat_tests)
 
-too_few : (n k : ℕ) → n < k → nat_lt n k ≡ false → ⊥
-too_few n k h l = absurd (let bad : true ≡ false = sym (below n k h) ∙ l in cc)
-
--- the character has as many bytes as the text, at least
+-- a character of two, three and four bytes
 passed_two : (x c : ℕ) (s : List ℕ) → is_visible x ≡ false → second x c ≡ true → may_be_fence s ≡ may_be_fence (x ∷ c ∷ s)
 passed_two x c s h k = one c s (second_unseen x c k) ∙ one x (c ∷ s) h
 
@@ -118,19 +114,19 @@ passed_four x c d e s h k l m = one e s (later_unseen e m) ∙ passed_three x c 
 
 fourth_passed : (x c d : ℕ) (s : List ℕ) → is_visible x ≡ false → second x c ≡ true → continues d ≡ true
     → Passed (x ∷ c ∷ d ∷ s) (cond (nat_lt (length (x ∷ c ∷ d ∷ s)) 4) (bad 3) (cond (continues (slice_index s 0)) (good (code_of_4 x c d (slice_index s 0)) 4) (bad 3)))
-fourth_passed x c d [] h k l = on (x ∷ c ∷ d ∷ []) _ (bad 3) _ (λ z. no_char _ 3) (λ z. absurd (too_few 3 4 (omega arith) z))
+fourth_passed x c d [] h k l = no_char (x ∷ c ∷ d ∷ []) 3
 fourth_passed x c d (e ∷ s) h k l =
     on (x ∷ c ∷ d ∷ e ∷ s) _ (bad 3) _ (λ z. no_char _ 3)
-    (λ z. on (x ∷ c ∷ d ∷ e ∷ s) (continues e) (good (code_of_4 x c d e) 4) (bad 3) (λ m n o. passed_four x c d e s h k l m) (λ m. no_char _ 3))
+    (λ z. on (x ∷ c ∷ d ∷ e ∷ s) (continues e) (good (code_of_4 x c d e) 4) (bad 3) (λ m. record { passes = λ n o. passed_four x c d e s h k l m }) (λ m. no_char _ 3))
 
 third_passed : (x c : ℕ) (s : List ℕ) → is_visible x ≡ false → second x c ≡ true
     → Passed (x ∷ c ∷ s) (cond (nat_lt (length (x ∷ c ∷ s)) 3) (bad 2) (cond (continues (slice_index s 0))
       (cond (nat_lt x 0xF0) (good (code_of_3 x c (slice_index s 0)) 3)
       (cond (nat_lt (length (x ∷ c ∷ s)) 4) (bad 3) (cond (continues (slice_index s 1)) (good (code_of_4 x c (slice_index s 0) (slice_index s 1)) 4) (bad 3)))) (bad 2)))
-third_passed x c [] h k = on (x ∷ c ∷ []) _ (bad 2) _ (λ z. no_char _ 2) (λ z. absurd (too_few 2 3 (omega arith) z))
+third_passed x c [] h k = no_char (x ∷ c ∷ []) 2
 third_passed x c (d ∷ s) h k =
     on (x ∷ c ∷ d ∷ s) _ (bad 2) _ (λ z. no_char _ 2) (λ z. on (x ∷ c ∷ d ∷ s) (continues d) _ (bad 2)
-    (λ l. on (x ∷ c ∷ d ∷ s) (nat_lt x 0xF0) (good (code_of_3 x c d) 3) _ (λ m n o. passed_three x c d s h k l) (λ m. fourth_passed x c d s h k l))
+    (λ l. on (x ∷ c ∷ d ∷ s) (nat_lt x 0xF0) (good (code_of_3 x c d) 3) _ (λ m. record { passes = λ n o. passed_three x c d s h k l }) (λ m. fourth_passed x c d s h k l))
     (λ l. no_char _ 2))
 
 two_passed : (x : ℕ) (s : List ℕ) → is_visible x ≡ false
@@ -140,16 +136,16 @@ two_passed : (x : ℕ) (s : List ℕ) → is_visible x ≡ false
       (cond (nat_lt x 0xF0) (good (code_of_3 x (slice_index s 0) (slice_index s 1)) 3)
       (cond (nat_lt (length (x ∷ s)) 4) (bad 3) (cond (continues (slice_index s 2)) (good (code_of_4 x (slice_index s 0) (slice_index s 1) (slice_index s 2)) 4) (bad 3))))
       (bad 2)))) (bad 1)))
-two_passed x [] h = on (x ∷ []) _ (bad 1) _ (λ z. no_char _ 1) (λ z. absurd (too_few 1 2 (omega arith) z))
+two_passed x [] h = no_char (x ∷ []) 1
 two_passed x (c ∷ s) h =
     on (x ∷ c ∷ s) _ (bad 1) _ (λ z. no_char _ 1) (λ z. on (x ∷ c ∷ s) (second x c) _ (bad 1)
-    (λ k. on (x ∷ c ∷ s) (nat_lt x 0xE0) (good (code_of_2 x c) 2) _ (λ m n o. passed_two x c s h k) (λ m. third_passed x c s h k))
+    (λ k. on (x ∷ c ∷ s) (nat_lt x 0xE0) (good (code_of_2 x c) 2) _ (λ m. record { passes = λ n o. passed_two x c s h k }) (λ m. third_passed x c s h k))
     (λ k. no_char _ 1))
 
 char_passed : (x : ℕ) (s : List ℕ) → is_visible x ≡ false → Passed (x ∷ s) (decoded (x ∷ s))
 char_passed x s h =
     on (x ∷ s) (length (x ∷ s) == 0) (bad 0) _ (λ z. no_char _ 0)
-    (λ z. on (x ∷ s) (nat_lt x 0x80) (good x 1) _ (λ k n o. one x s h)
+    (λ z. on (x ∷ s) (nat_lt x 0x80) (good x 1) _ (λ k. record { passes = λ n o. one x s h })
     (λ k. on (x ∷ s) (nat_lt x 0xC2) (bad 1) _ (λ l. no_char _ 1)
     (λ l. on (x ∷ s) (nat_lt 0xF4 x) (bad 1) _ (λ m. no_char _ 1)
     (λ m. two_passed x s h))))
@@ -204,7 +200,7 @@ space_passed : (s : List ℕ) → begins_wide_of wides.Space s ≡ true → may_
 space_passed [] h k = absurd (cc)
 space_passed (x ∷ s) h k =
     let c = some_char is_space_of (decoded (x ∷ s)).char h in
-    char_passed x s (space_unseen x s h (either_true (is_visible x))) c.0 c.1 ∙ k
+    (char_passed x s (space_unseen x s h (either_true (is_visible x)))).passes c.0 c.1 ∙ k
 
 equal : (m n : ℕ) → m ≡ n → nat_eq m n ≡ true
 equal m n h = grind (arith, nat_tests)

@@ -10,5 +10,8 @@ mod Words
 mod Firsts
 mod Stepping
 mod Bracing
-mod Pieces
 mod Heading
+mod Pieces
+mod BraceKinds
+mod Finding
+mod Sighting

@@ -18,7 +18,7 @@ abbrev pub token_at : Edition → List ℕ → span.Token
 token_at e s = record { kind = (token_of e s).kind; len = size_of (length (front_of (token_of e s).left s)) }
 
 -- the tokens of a text, at most n
-unfoldable tokens_from : ℕ → Edition → List ℕ → List span.Token
+unfoldable pub tokens_from : ℕ → Edition → List ℕ → List span.Token
 tokens_from zero e s = []
 tokens_from (suc n) e s = if length s == 0 then [] else token_at e s ∷ tokens_from n e (back_of (token_of e s).left s)
 
@@ -50,7 +50,7 @@ step_tokens n e text l f (inr h) =
     ∙ append_assoc l.tokens (token_at e l.rest ∷ []) (tokens_from n e (back_of (token_of e l.rest).left l.rest))
     ∙ sym (ap (λ (ts : List span.Token). l.tokens ++ ts) (from_more n e l.rest h))
 
-steps_tokens : (n : ℕ) (e : Edition) (text : List ℕ) (l : Lexing) → (steps_of n e text l).tokens ≡ l.tokens ++ tokens_from n e l.rest
+pub steps_tokens : (n : ℕ) (e : Edition) (text : List ℕ) (l : Lexing) → (steps_of n e text l).tokens ≡ l.tokens ++ tokens_from n e l.rest
 steps_tokens zero e text l =
     ap (λ (k : Lexing). k.tokens) (steps-end 0 e text l refl)
     ∙ sym (ap (λ (ts : List span.Token). l.tokens ++ ts) (from_end e l.rest) ∙ append-nil l.tokens)
@@ -69,7 +69,7 @@ front_length n s =
     let b : cut_of n s ≤ length s = (cut-boundary n s).0 in
     omega (arith, length-take (cut_of n s) s, b)
 
-back_short : (n x : ℕ) (s : List ℕ) → length (back_of n (x ∷ s)) ≤ length s
+pub back_short : (n x : ℕ) (s : List ℕ) → length (back_of n (x ∷ s)) ≤ length s
 back_short n x s =
     let some : 0 < cut_of n (x ∷ s) = cut-some n (x ∷ s) (omega arith) in
     omega (arith, back_length n (x ∷ s), some)

@@ -1,5 +1,5 @@
 -- The tokens of a text that is cut at a brace.
-use Rattle.std.specs.Prelude.{◌≡◌, ℕ, ◌+◌, ◌-◌, ◌<◌, ◌^◌, IsUtf8, List, [], ◌∷◌, ◌++◌, length}
+use Rattle.std.specs.Prelude.{◌≡◌, ℕ, ◌+◌, ◌<◌, ◌^◌, IsUtf8, List, [], ◌∷◌, ◌++◌, length}
 use Rattle.ras_front_end.specs.declared.edition.Edition.{Edition}
 use Rattle.token_layout.specs.declared.span.Token.{Token}
 use Rattle.rust_lexer.specs.Lexing.{steps_of, fresh}
@@ -19,7 +19,7 @@ bytes_of (t ∷ ts) = t.len + bytes_of ts
 abbrev pub BracesCut : Type 0
 BracesCut =
     (e : Edition) (s u v : List ℕ) (b : ℕ) (ts us : List Token) → IsBrace b
-    → length s + length u < 2 ^ 32 - 1 → length s + length v < 2 ^ 32 - 1
+    → length (s ++ b ∷ u) < 2 ^ 32 → length (s ++ b ∷ v) < 2 ^ 32
     → tokens_within e (s ++ b ∷ u) ≡ ts ++ us → bytes_of ts ≡ length s
     → tokens_within e (s ++ b ∷ v) ≡ ts ++ tokens_within e (b ∷ v)
 

@@ -1,8 +1,12 @@
 -- Texts at whose head there is neither a shebang nor a front matter.
 use Rattle.std.specs.Prelude.{◌≡◌, ℕ, nat_lt, nat_eq, Bool, false, not, ◌||◌, ◌&&◌, if◌then◌else◌, IsUtf8, Option, Some, None, List, [], ◌∷◌, ◌++◌, slice_get}
 use Rattle.ras_front_end.specs.declared.edition.Edition.{Edition}
+use Rattle.rust_lexer.specs.Lexing.{taken_head, fresh}
 use Rattle.lexer_laws.specs.Behind.{IsBrace}
-use Rattle.lexer_laws.specs.Pieces.{HasNoHead}
+
+-- neither a shebang nor a front matter is at the head of the text
+abbrev pub HasNoHead : Edition → List ℕ → Type 0
+HasNoHead e text = taken_head e text (fresh text) ≡ fresh text
 
 abbrev pub is_byte : ℕ → Option ℕ → Bool
 is_byte b None = false
@@ -23,10 +27,10 @@ may_be_fence (b ∷ s) = if is_visible b then nat_eq b 45 else may_be_fence s
 abbrev pub may_have_head : List ℕ → Bool
 may_have_head s = may_be_shebang s || may_be_fence s
 
--- a text that begins with neither `#!`, but for `#![`, nor, behind white space, with a dash has no head
+-- a text that passes this test has no head
 abbrev pub PlainTextsHaveNoHead : Type 0
 PlainTextsHaveNoHead = (e : Edition) (text : List ℕ) → IsUtf8 text → may_have_head text ≡ false → HasNoHead e text
 
--- what follows a brace does not matter
+-- the test does not depend on what follows a brace
 abbrev pub HeadsEndBeforeBraces : Type 0
 HeadsEndBeforeBraces = (a u v : List ℕ) (b : ℕ) → IsBrace b → may_have_head (a ++ b ∷ u) ≡ may_have_head (a ++ b ∷ v)

@@ -1,4 +1,6 @@
 pub mod Behind
+pub mod Firsts
 pub mod Cuts
-pub mod Pieces
 pub mod Heads
+pub mod Pieces
+pub mod Sights

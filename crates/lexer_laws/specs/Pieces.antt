@@ -1,35 +1,55 @@
 -- The tokens of a text in which a piece between braces was replaced.
-use Rattle.std.specs.Prelude.{◌≡◌, ℕ, ◌+◌, ◌-◌, ◌<◌, ◌^◌, IsUtf8, List, [], ◌∷◌, ◌++◌, length}
+use Rattle.std.specs.Prelude.{◌≡◌, ℕ, ◌<◌, ◌^◌, false, IsUtf8, List, [], ◌∷◌, ◌++◌, length}
+use Rattle.syntax_kind.specs.declared.syntax_kind.SyntaxKind.TheVariants as kinds
+use Rattle.syntax_kind.specs.declared.syntax_kind.token_kind.TokenKind.TheVariants as token
 use Rattle.ras_front_end.specs.declared.edition.Edition.{Edition}
 use Rattle.token_layout.specs.declared.span.Token.{Token}
-use Rattle.rust_lexer.specs.Lexing.{taken_head, fresh, tokens_of}
+use Rattle.rust_lexer.specs.Lexing.{tokens_of}
 use Rattle.lexer_laws.specs.Cuts.{tokens_within, bytes_of}
+use Rattle.lexer_laws.specs.Heads.{may_have_head}
 
--- neither a shebang nor a front matter is at the head of the text
-abbrev pub HasNoHead : Edition → List ℕ → Type 0
-HasNoHead e text = taken_head e text (fresh text) ≡ fresh text
+-- the first of the tokens is `{`
+pub record Opens (ts : List Token) : Type 0 where
+  pub first : Token
+  pub rest : List Token
+  pub begins : ts ≡ first ∷ rest
+  pub is_open : first.kind ≡ kinds.Token token.L_CURLY
 
--- the text is from `{` to `}`, and the last of its tokens is that `}`
-pub record IsPiece (e : Edition) (text : List ℕ) (ts : List Token) : Type 0 where
-  pub inner : List ℕ
-  pub parts : text ≡ 123 ∷ (inner ++ 125 ∷ [])
-  pub are_tokens : tokens_within e text ≡ ts
+-- the last of the tokens is `}`
+pub record Closes (ts : List Token) : Type 0 where
   pub front : List Token
-  pub close : Token
-  pub closed : ts ≡ front ++ close ∷ []
-  pub one_byte : close.len ≡ 1
+  pub last : Token
+  pub ends : ts ≡ front ++ last ∷ []
+  pub is_close : last.kind ≡ kinds.Token token.R_CURLY
 
--- in a longer text a piece has the tokens that it has by itself, and what follows it too
+-- the first of the tokens is `{`, and the last one `}`
+abbrev pub IsBraced : List Token → Type 0
+IsBraced ts = Opens ts × Closes ts
+
+-- a text that is so by itself has in a longer text the tokens that it has by itself, and so has what follows it
 abbrev pub PiecesAreCut : Type 0
 PiecesAreCut =
-    (e : Edition) (piece c : List ℕ) (ts : List Token) → IsPiece e piece ts → IsUtf8 c → length piece + length c < 2 ^ 32 - 1
-    → tokens_within e (piece ++ c) ≡ ts ++ tokens_within e c
+    (e : Edition) (piece c : List ℕ) → IsUtf8 piece → IsUtf8 c → length (piece ++ c) < 2 ^ 32
+    → IsBraced (tokens_of e piece) → tokens_within e (piece ++ c) ≡ tokens_of e piece ++ tokens_within e c
 
--- where the tokens of a text are cut before and behind a part that begins with `{`, a piece in its place brings its own tokens, and
--- leaves those around it as they are
+-- a part of a text was replaced: the tokens of the text are cut before and behind the part, and the first of it is `{`; by itself the
+-- new part is from `{` to `}`; and neither text has a shebang or a front matter
+pub record IsReplaced (e : Edition) (a part piece c : List ℕ) (ts ps us : List Token) : Type 0 where
+  pub is_text : IsUtf8 (a ++ (part ++ c))
+  pub is_new_text : IsUtf8 (a ++ (piece ++ c))
+  pub is_piece_text : IsUtf8 piece
+  pub is_rest_text : IsUtf8 c
+  pub short : length (a ++ (part ++ c)) < 2 ^ 32
+  pub new_short : length (a ++ (piece ++ c)) < 2 ^ 32
+  pub no_head : may_have_head (a ++ (part ++ c)) ≡ false
+  pub are_tokens : tokens_of e (a ++ (part ++ c)) ≡ ts ++ (ps ++ us)
+  pub cut_before : bytes_of ts ≡ length a
+  pub cut_behind : bytes_of ps ≡ length part
+  pub opens : Opens ps
+  pub braced : IsBraced (tokens_of e piece)
+
+-- the new part brings the tokens that it has by itself, and those around it stay
 abbrev pub PiecesAreReplaced : Type 0
 PiecesAreReplaced =
-    (e : Edition) (a part piece c : List ℕ) (ts ps qs us : List Token) → HasNoHead e (a ++ ((123 ∷ part) ++ c)) → HasNoHead e (a ++ (piece ++ c))
-    → IsUtf8 c → length a + (length (123 ∷ part) + length c) < 2 ^ 32 - 1 → length a + (length piece + length c) < 2 ^ 32 - 1
-    → tokens_of e (a ++ ((123 ∷ part) ++ c)) ≡ ts ++ (ps ++ us) → bytes_of ts ≡ length a → bytes_of ps ≡ length (123 ∷ part)
-    → IsPiece e piece qs → tokens_of e (a ++ (piece ++ c)) ≡ ts ++ (qs ++ us)
+    (e : Edition) (a part piece c : List ℕ) (ts ps us : List Token) → IsReplaced e a part piece c ts ps us
+    → tokens_of e (a ++ (piece ++ c)) ≡ ts ++ (tokens_of e piece ++ us)

@@ -1,5 +1,5 @@
-use Rattle.lexer_laws.proofs.Pieces.{pieces_cut}
+use Rattle.lexer_laws.proofs.Finding.{braced_cut}
 use Rattle.lexer_laws.proofs.laws.pieces_are_cut.Goals as goal
 
 pub returns : goal.returns
-returns c e piece r ts p u l = pieces_cut e piece r ts p u l
+returns c e piece r u v l b = braced_cut e piece r u v l b
