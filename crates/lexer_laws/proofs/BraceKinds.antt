@@ -1,5 +1,5 @@
 -- A token of the kind of a brace is that brace.
-use Rattle.std.proofs.Common.{◌≡◌, ◌⊎◌, inl, inr, ℕ, zero, suc, ◌-◌, ◌<◌, Bool, true, false, not, ◌==◌, ◌&&◌, ◌||◌, nat_lt, nat_le, if◌then◌else◌, Option, Some, None, List, [], ◌∷◌, length, drop, ap, sym, ◌∙◌, refl, arith, subst}
+use Rattle.std.proofs.Common.{◌≡◌, ◌⊎◌, inl, inr, ℕ, ◌-◌, ◌<◌, Bool, true, false, not, ◌==◌, ◌&&◌, ◌||◌, nat_lt, nat_le, if◌then◌else◌, Option, Some, List, [], ◌∷◌, length, drop, ap, sym, ◌∙◌, refl, arith}
 use Rattle.std.specs.Prelude.{bytes_eq, codes, cond}
 use Rattle.std.specs.Map.{lookup}
 use Rattle.std.proofs.lemmas.Bool.Decides.{nat_tests}
@@ -14,20 +14,18 @@ use Rattle.rust_words.specs.Keywords.{Words, keywords, keyword_of}
 use Rattle.rust_lexer.specs.declared.class.Class.{Class}
 use Rattle.rust_lexer.specs.declared.class.Class.TheVariants as classes
 use Rattle.rust_lexer.specs.declared.class.Wide.TheVariants as wides
-use Rattle.rust_lexer.specs.declared.problem.Problem.TheVariants.{ReservedGuard}
 use Rattle.rust_lexer.specs.declared.scan.Scan.{Scan}
 use Rattle.rust_lexer.specs.declared.scan.Scan.TheVariants.{Comment, Text, Quote, QuoteLine, Raw, Closed}
 use Rattle.rust_lexer.specs.declared.shape.Shape.{Shape}
-use Rattle.rust_lexer.specs.declared.shape.Fault.TheVariants.{Prefix}
-use Rattle.rust_lexer.specs.Classes.{begins_of, begins_digit_of, begins_beyond_of, begins_wide_of, is_in_of, is_letter_of, is_digit_of, skip_of, skip_wide_of, after_char_of}
-use Rattle.rust_lexer.specs.Comments.{line_kind_of, block_kind_of, line_comment_of, block_on, block_comment_of}
+use Rattle.rust_lexer.specs.Classes.{begins_of, begins_digit_of, begins_beyond_of, begins_wide_of, is_in_of, is_letter_of, is_digit_of, skip_of, after_char_of}
+use Rattle.rust_lexer.specs.Comments.{line_kind_of, block_kind_of, block_on, block_comment_of}
 use Rattle.rust_lexer.specs.Cuts.{front_of}
-use Rattle.rust_lexer.specs.Names.{begins_name_of, begins_emoji_of, begins_wide_emoji_of, emoji_name_of, is_literal_mark_of, prefix_of, word_on, word_kind_of, name_of, skip_name_of, skip_suffix_of}
-use Rattle.rust_lexer.specs.Numbers.{begins_exponent_of, whole_of, float_of, exponent_of, fraction_of, behind_digits_of, based_of, number_of, sign_of as signed}
-use Rattle.rust_lexer.specs.Quotes.{closed_of, open_of, kind_of, string_on, string_of, is_mark_of, character_on, character_of, lifetime_of, is_raw_lifetime_of, may_be_lifetime_of, character_or_lifetime_of}
+use Rattle.rust_lexer.specs.Names.{begins_name_of, begins_emoji_of, begins_wide_emoji_of, is_literal_mark_of, prefix_of, word_on, word_kind_of, name_of, skip_name_of, skip_suffix_of}
+use Rattle.rust_lexer.specs.Numbers.{begins_exponent_of, exponent_of, fraction_of, behind_digits_of, based_of, number_of, sign_of as signed}
+use Rattle.rust_lexer.specs.Quotes.{kind_of, string_on, string_of, is_mark_of, character_on, character_of, lifetime_of, is_raw_lifetime_of, may_be_lifetime_of, character_or_lifetime_of}
 use Rattle.rust_lexer.specs.RawStrings.{invalid_of, body_on, body_of, raw_string_of}
 use Rattle.rust_lexer.specs.Scans.{run_of}
-use Rattle.rust_lexer.specs.Shapes.{plain_of, with_of}
+use Rattle.rust_lexer.specs.Shapes.{plain_of}
 use Rattle.rust_lexer.specs.Signs.{sign_kind_of}
 use Rattle.rust_lexer.specs.Tokens.{space_of, sign_of, slash_of, opens_raw_of, is_reserved_of, pound_of, letter_r_of, letter_b_of, letter_c_of, letter_of, beyond_of, mark_of, other_of, token_of}
 
@@ -38,25 +36,25 @@ brace_of (kinds.Token token.R_CURLY) = 125
 brace_of _ = 0
 
 -- the token is no brace
-abbrev None0 : Shape → Type 0
-None0 t = brace_of t.kind ≡ 0
+abbrev NoBrace : Shape → Type 0
+NoBrace t = brace_of t.kind ≡ 0
 
-pick : (c : Bool) (u v : Shape) → None0 u → None0 v → None0 (if c then u else v)
+pick : (c : Bool) (u v : Shape) → NoBrace u → NoBrace v → NoBrace (if c then u else v)
 pick true u v h k = h
 pick false u v h k = k
 
 -- or it is the sign that the first byte is
 abbrev IsSign : ℕ → List ℕ → Shape → Type 0
-IsSign x s t = None0 t ⊎ (t ≡ sign_of x s)
+IsSign x s t = NoBrace t ⊎ (t ≡ sign_of x s)
 
 pick_sign : (x : ℕ) (s : List ℕ) (c : Bool) (u v : Shape) → IsSign x s u → IsSign x s v → IsSign x s (if c then u else v)
 pick_sign x s true u v h k = h
 pick_sign x s false u v h k = k
 
-kind_is : (t : Shape) (k : SyntaxKind) → t.kind ≡ k → brace_of k ≡ 0 → None0 t
+kind_is : (t : Shape) (k : SyntaxKind) → t.kind ≡ k → brace_of k ≡ 0 → NoBrace t
 kind_is t k h e = ap brace_of h ∙ e
 
-space_none : (s : List ℕ) → None0 (space_of s)
+space_none : (s : List ℕ) → NoBrace (space_of s)
 space_none s = pick (begins_beyond_of (skip_of classes.Space s)) _ _ refl refl
 
 -- ---- words
@@ -97,10 +95,10 @@ kind_on false k l h e = e
 word_none : (e : Edition) (w : List ℕ) → brace_of (word_kind_of e w) ≡ 0
 word_none e w = kind_on (bytes_eq w (codes "_")) (kinds.Token token.UNDERSCORE) (word_on (keyword_of e w)) refl (found_none w (keywords e) (keywords_none e))
 
-prefix_none : (w : List ℕ) (n : ℕ) → None0 (prefix_of w n)
+prefix_none : (w : List ℕ) (n : ℕ) → NoBrace (prefix_of w n)
 prefix_none w n = pick (bytes_eq w (codes "builtin")) _ _ refl refl
 
-name_none : (e : Edition) (s : List ℕ) → None0 (name_of e s)
+name_none : (e : Edition) (s : List ℕ) → NoBrace (name_of e s)
 name_none e s =
     let r : List ℕ = skip_name_of s in
     pick (is_literal_mark_of r) _ _ (prefix_none (front_of (length r) s) (length r))
@@ -119,7 +117,7 @@ mode_none modes.Str = refl
 mode_none modes.ByteStr = refl
 mode_none modes.CStr = refl
 
-string_none : (m : Mode) (s : List ℕ) → None0 (string_of m s)
+string_none : (m : Mode) (s : List ℕ) → NoBrace (string_of m s)
 string_none m s = kind_is (string_of m s) (kind_of m) (string_kind m (run_of Text s).0 (run_of Text s).1) (mode_none m)
 
 character_kind : (m : Mode) (p : Scan) (r : List ℕ) → (character_on m p r).kind ≡ kind_of m
@@ -127,17 +125,17 @@ character_kind m Closed r = refl
 character_kind m QuoteLine r = refl
 character_kind m _ r = refl
 
-character_none : (m : Mode) (s : List ℕ) → None0 (character_of m s)
+character_none : (m : Mode) (s : List ℕ) → NoBrace (character_of m s)
 character_none m s =
     pick (is_mark_of s) _ _ (mode_none m)
     (kind_is (character_on m (run_of Quote s).0 (run_of Quote s).1) (kind_of m) (character_kind m (run_of Quote s).0 (run_of Quote s).1) (mode_none m))
 
-lifetime_none : (s : List ℕ) → None0 (lifetime_of s)
+lifetime_none : (s : List ℕ) → NoBrace (lifetime_of s)
 lifetime_none s =
     pick (begins_of 39 (skip_name_of s)) _ _ refl
     (pick (begins_digit_of s) _ _ refl (pick (begins_of 35 (skip_name_of s)) _ _ refl refl))
 
-character_or_lifetime_none : (s : List ℕ) → None0 (character_or_lifetime_of s)
+character_or_lifetime_none : (s : List ℕ) → NoBrace (character_or_lifetime_of s)
 character_or_lifetime_none s =
     pick (not (may_be_lifetime_of s)) _ _ (character_none modes.Char s) (pick (is_raw_lifetime_of s) _ _ refl (lifetime_none s))
 
@@ -149,7 +147,7 @@ body_kind : (k : SyntaxKind) (h : ℕ) (p : Scan) (r : List ℕ) → (body_on k 
 body_kind k h Closed r = few_kind (nat_lt h 256) k (length (skip_suffix_of r)) (length r)
 body_kind k h _ r = refl
 
-raw_none : (k : SyntaxKind) (s : List ℕ) → brace_of k ≡ 0 → None0 (raw_string_of k s)
+raw_none : (k : SyntaxKind) (s : List ℕ) → brace_of k ≡ 0 → NoBrace (raw_string_of k s)
 raw_none k s h =
     let o : List ℕ = skip_of classes.Hash s in
     let n : ℕ = length s - length o in
@@ -158,24 +156,24 @@ raw_none k s h =
 
 -- ---- numbers
 
-exponent_none : (s : List ℕ) → None0 (exponent_of s)
+exponent_none : (s : List ℕ) → NoBrace (exponent_of s)
 exponent_none s = pick (begins_digit_of (skip_of classes.Underscore (signed s))) _ _ refl refl
 
-fraction_none : (s : List ℕ) → None0 (fraction_of s)
+fraction_none : (s : List ℕ) → NoBrace (fraction_of s)
 fraction_none s =
     pick (not (begins_digit_of s)) _ _ refl (pick (begins_exponent_of (skip_of classes.Decimal s)) _ _ (exponent_none (drop 1 (skip_of classes.Decimal s))) refl)
 
-digits_none : (s : List ℕ) → None0 (behind_digits_of s)
+digits_none : (s : List ℕ) → NoBrace (behind_digits_of s)
 digits_none s =
     pick (begins_of 46 s) _ _ (pick (begins_of 46 (drop 1 s) || begins_name_of (drop 1 s)) _ _ refl (fraction_none (drop 1 s)))
     (pick (begins_exponent_of s) _ _ (exponent_none (drop 1 s)) refl)
 
-based_none : (c : Class) (s : List ℕ) → None0 (based_of c s)
+based_none : (c : Class) (s : List ℕ) → NoBrace (based_of c s)
 based_none c s =
     let d : List ℕ = skip_of classes.Underscore s in
     pick (length (skip_of c d) == length d) _ _ refl (digits_none (skip_of c d))
 
-number_none : (x : ℕ) (s : List ℕ) → None0 (number_of x s)
+number_none : (x : ℕ) (s : List ℕ) → NoBrace (number_of x s)
 number_none x s =
     pick ((x == 48) && begins_of 120 s) _ _ (based_none classes.Hexadecimal (drop 1 s))
     (pick ((x == 48) && (begins_of 98 s || begins_of 111 s)) _ _ (based_none classes.Decimal (drop 1 s)) (digits_none (skip_of classes.Decimal s)))
@@ -194,41 +192,41 @@ block_on_kind : (k : SyntaxKind) (p : Scan) (n : ℕ) → (block_on k p n).kind 
 block_on_kind k Closed n = refl
 block_on_kind k _ n = refl
 
-block_none : (s : List ℕ) → None0 (block_comment_of s)
+block_none : (s : List ℕ) → NoBrace (block_comment_of s)
 block_none s =
     kind_is (block_comment_of s) (block_kind_of s) (block_on_kind (block_kind_of s) (run_of (Comment 0) s).0 (length (run_of (Comment 0) s).1)) (block_kind_none s)
 
-slash_none : (s : List ℕ) → None0 (slash_of s)
+slash_none : (s : List ℕ) → NoBrace (slash_of s)
 slash_none s = pick (begins_of 47 s) _ _ (line_kind_none (drop 1 s)) (pick (begins_of 42 s) _ _ (block_none (drop 1 s)) refl)
 
 -- ---- all tokens
 
-letter_r_none : (e : Edition) (t s : List ℕ) → None0 (letter_r_of e t s)
+letter_r_none : (e : Edition) (t s : List ℕ) → NoBrace (letter_r_of e t s)
 letter_r_none e t s =
     pick (begins_of 35 s && begins_name_of (drop 1 s)) _ _ refl (pick (opens_raw_of s) _ _ (raw_none (kinds.Token token.STRING) s refl) (name_none e t))
 
-letter_b_none : (e : Edition) (t s : List ℕ) → None0 (letter_b_of e t s)
+letter_b_none : (e : Edition) (t s : List ℕ) → NoBrace (letter_b_of e t s)
 letter_b_none e t s =
     pick (begins_of 114 s && opens_raw_of (drop 1 s)) _ _ (raw_none (kinds.Token token.BYTE_STRING) (drop 1 s) refl)
     (pick (begins_of 34 s) _ _ (string_none modes.ByteStr (drop 1 s))
     (pick (begins_of 39 s) _ _ (character_none modes.Byte (drop 1 s)) (name_none e t)))
 
-letter_c_none : (e : Edition) (t s : List ℕ) → None0 (letter_c_of e t s)
+letter_c_none : (e : Edition) (t s : List ℕ) → NoBrace (letter_c_of e t s)
 letter_c_none e t s =
     pick (begins_of 114 s && opens_raw_of (drop 1 s)) _ _ (raw_none (kinds.Token token.C_STRING) (drop 1 s) refl)
     (pick (begins_of 34 s) _ _ (string_none modes.CStr (drop 1 s)) (name_none e t))
 
-letter_none : (e : Edition) (x : ℕ) (t s : List ℕ) → None0 (letter_of e x t s)
+letter_none : (e : Edition) (x : ℕ) (t s : List ℕ) → NoBrace (letter_of e x t s)
 letter_none e x t s =
     pick (x == 114) _ _ (letter_r_none e t s)
     (pick (x == 98) _ _ (letter_b_none e t s) (pick (x == 99) _ _ (letter_c_none e t s) (name_none e t)))
 
-beyond_none : (e : Edition) (s : List ℕ) → None0 (beyond_of e s)
+beyond_none : (e : Edition) (s : List ℕ) → NoBrace (beyond_of e s)
 beyond_none e s =
     pick (begins_wide_of wides.Space s) _ _ (space_none s)
     (pick (begins_name_of s) _ _ (name_none e s) (pick (begins_emoji_of s) _ _ refl refl))
 
-pound_none : (e : Edition) (s : List ℕ) → None0 (pound_of e s)
+pound_none : (e : Edition) (s : List ℕ) → NoBrace (pound_of e s)
 pound_none e s = pick (is_reserved_of e s) _ _ refl refl
 
 mark_sign : (e : Edition) (x : ℕ) (s : List ℕ) → IsSign x s (mark_of e x s)
@@ -305,8 +303,8 @@ by_sign x s t k (inl h) e l = absurd (omega (arith, h, e, l))
 by_sign x s t k (inr h) e l =
     let kind : brace_of (sign_kind_of x) ≡ k = sym (ap (λ (z : Shape). brace_of z.kind) h) ∙ e in
     elim (sign_brace x) [
-      inl none ↦ absurd (omega (arith, none, kind, l))
-    | inr is ↦ (sym is ∙ kind, h)
+      | inl none ↦ absurd (omega (arith, none, kind, l))
+      | inr is ↦ (sym is ∙ kind, h)
     ]
 
 -- a token of the kind of a brace begins with that brace, and is a sign

@@ -1,9 +1,9 @@
 -- The tokens of a text that is cut at a brace.
-use Rattle.std.proofs.Common.{◌≡◌, ◌⊎◌, inl, inr, ℕ, zero, suc, ◌+◌, ◌-◌, ◌<◌, ◌≤◌, ◌^◌, min, Bool, true, false, not, ◌==◌, ◌||◌, ◌&&◌, nat_lt, nat_le, if◌then◌else◌, List, [], ◌∷◌, ◌++◌, length, drop, take, slice_index, ap, ap₂, sym, ◌∙◌, refl, arith, subst, append_assoc, length-append, length-drop, length-take}
+use Rattle.std.proofs.Common.{◌≡◌, ◌⊎◌, inl, inr, ℕ, zero, suc, ◌+◌, ◌-◌, ◌<◌, ◌≤◌, ◌^◌, Bool, true, false, not, ◌==◌, ◌||◌, if◌then◌else◌, List, [], ◌∷◌, ◌++◌, length, drop, ap, ap₂, sym, ◌∙◌, refl, arith, subst, length-drop}
 use Rattle.std.specs.Prelude.{IsUtf8}
 use Rattle.std.specs.Str.{IsCharBoundary}
 use Rattle.std.proofs.lemmas.Bool.Decides.{nat_tests}
-use Rattle.std.proofs.lemmas.List.{take-append-le, drop-append-le, drop-drop}
+use Rattle.std.proofs.lemmas.List.{drop-append-le}
 use Rattle.std.proofs.lemmas.Str.{IsCharBoundary-at_seam}
 use Rattle.syntax_kind.specs.declared.syntax_kind.SyntaxKind.{SyntaxKind}
 use Rattle.ras_front_end.specs.declared.edition.Edition.{Edition}
@@ -17,9 +17,8 @@ use Rattle.rust_lexer.specs.Tokens.{token_of}
 use Rattle.lexer_laws.specs.Behind.{IsBrace, before}
 use Rattle.lexer_laws.specs.Cuts.{tokens_within, bytes_of}
 use Rattle.lexer_laws.proofs.Tests.{longer}
-use Rattle.lexer_laws.proofs.Ending.{Ended, Covered}
 use Rattle.lexer_laws.proofs.Firsts.{token_ends}
-use Rattle.lexer_laws.proofs.Stepping.{token_at, within_empty, within_more, token_some, front_length, back_length}
+use Rattle.lexer_laws.proofs.Stepping.{token_at, within_more, token_some, front_length}
 use Rattle.lexer_laws.proofs.Words.{is_whole, cut_inside, cut_whole, boundary_starts}
 
 abbrev Tokens : Type 0
@@ -67,9 +66,9 @@ inside e s b h l f w =
     let k : SyntaxKind = (token_of e s).kind in
     let first : span.Token = record { kind = k; len = i } in
     let left : (y : List ℕ) → length s + length y < 2 ^ 32 - 1 → (token_of e (s ++ b ∷ y)).left ≡ n + suc (length y) =
-        λ y m. ap (λ (t : Shape). t.left) (f y (omega (arith, m))) in
+    λ y m. ap (λ (t : Shape). t.left) (f y (omega (arith, m))) in
     let cut : (y : List ℕ) → length s + length y < 2 ^ 32 - 1 → cut_of (token_of e (s ++ b ∷ y)).left (s ++ b ∷ y) ≡ i =
-        λ y m. ap (λ (j : ℕ). cut_of j (s ++ b ∷ y)) (left y m) ∙ cut_inside n b h s y w in
+    λ y m. ap (λ (j : ℕ). cut_of j (s ++ b ∷ y)) (left y m) ∙ cut_inside n b h s y w in
     record {
       token = first;
       bytes = i;
@@ -77,9 +76,9 @@ inside e s b h l f w =
       few = omega arith;
       is_long = refl;
       is_first = λ y m.
-        let len : size_of (length (front_of (token_of e (s ++ b ∷ y)).left (s ++ b ∷ y))) ≡ i =
-            ap size_of (front_length (token_of e (s ++ b ∷ y)).left (s ++ b ∷ y) ∙ cut y m) ∙ omega (arith, l) in
-        ap₂ (λ (c : SyntaxKind) (j : ℕ). record { kind = c; len = j }) (ap (λ (t : Shape). t.kind) (f y (omega (arith, m)))) len;
+          let len : size_of (length (front_of (token_of e (s ++ b ∷ y)).left (s ++ b ∷ y))) ≡ i =
+          ap size_of (front_length (token_of e (s ++ b ∷ y)).left (s ++ b ∷ y) ∙ cut y m) ∙ omega (arith, l) in
+          ap₂ (λ (c : SyntaxKind) (j : ℕ). record { kind = c; len = j }) (ap (λ (t : Shape). t.kind) (f y (omega (arith, m)))) len;
       is_rest = λ y m. ap (λ (j : ℕ). drop j (s ++ b ∷ y)) (cut y m) ∙ drop-append-le i s (b ∷ y) (omega arith);
     }
 
@@ -88,10 +87,12 @@ whole : (e : Edition) (s : List ℕ) (b : ℕ) → IsBrace b
     → is_whole (token_of e s).left s ≡ true → Beyond e s b
 whole e s b h f w =
     let n : ℕ = (token_of e s).left in
-    record { is_longer = λ y m.
-      let cut : cut_of (token_of e (s ++ b ∷ y)).left (s ++ b ∷ y) ≡ length (s ++ b ∷ y) =
+    record {
+      is_longer = λ y m.
+          let cut : cut_of (token_of e (s ++ b ∷ y)).left (s ++ b ∷ y) ≡ length (s ++ b ∷ y) =
           ap (λ (t : Shape). cut_of t.left (s ++ b ∷ y)) (f y (omega (arith, m))) ∙ cut_whole n b h s y w in
-      long_token e (s ++ b ∷ y) (length s) (omega (arith, m)) (omega (arith, cut, longer s y b)) }
+          long_token e (s ++ b ∷ y) (length s) (omega (arith, m)) (omega (arith, cut, longer s y b));
+    }
 
 either_true : (p : Bool) → (p ≡ true) ⊎ (p ≡ false)
 either_true true = inl refl
@@ -100,11 +101,11 @@ either_true false = inr refl
 first_token : (e : Edition) (x : ℕ) (s : List ℕ) (b : ℕ) → IsBrace b → length (x ∷ s) < 2 ^ 32 - 1 → Inside e (x ∷ s) b ⊎ Beyond e (x ∷ s) b
 first_token e x s b h l =
     elim (token_ends e x b s h) [
-      inl k ↦ elim (either_true (is_whole (token_of e (x ∷ s)).left (x ∷ s))) [
-        inl w ↦ inr (whole e (x ∷ s) b h k.same w)
-      | inr w ↦ inl (inside e (x ∷ s) b h l k.same w)
+      | inl k ↦ elim (either_true (is_whole (token_of e (x ∷ s)).left (x ∷ s))) [
+        | inl w ↦ inr (whole e (x ∷ s) b h k.same w)
+        | inr w ↦ inl (inside e (x ∷ s) b h l k.same w)
       ]
-    | inr k ↦ inr (record { is_longer = λ y m. long_token e (x ∷ (s ++ b ∷ y)) (length (x ∷ s)) (omega (arith, m)) (k.over y) })
+      | inr k ↦ inr (record { is_longer = λ y m. long_token e (x ∷ (s ++ b ∷ y)) (length (x ∷ s)) (omega (arith, m)) (k.over y) })
     ]
 
 -- ---- all tokens
@@ -120,7 +121,7 @@ one_inside : (e : Edition) (x : ℕ) (s : List ℕ) (b : ℕ) (u v : List ℕ) (
     → Inside e (x ∷ s) b → length (x ∷ s) ≤ suc n → length (x ∷ s) + length u < 2 ^ 32 - 1 → length (x ∷ s) + length v < 2 ^ 32 - 1
     → tokens_within e (x ∷ (s ++ b ∷ u)) ≡ t ∷ (ts ++ us) → t.len + bytes_of ts ≡ length (x ∷ s)
     → ((r : List ℕ) → length r ≤ n → length r + length u < 2 ^ 32 - 1 → length r + length v < 2 ^ 32 - 1
-      → tokens_within e (r ++ b ∷ u) ≡ ts ++ us → bytes_of ts ≡ length r → tokens_within e (r ++ b ∷ v) ≡ ts ++ tokens_within e (b ∷ v))
+    → tokens_within e (r ++ b ∷ u) ≡ ts ++ us → bytes_of ts ≡ length r → tokens_within e (r ++ b ∷ v) ≡ ts ++ tokens_within e (b ∷ v))
     → tokens_within e (x ∷ (s ++ b ∷ v)) ≡ t ∷ (ts ++ tokens_within e (b ∷ v))
 one_inside e x s b u v t ts us n i l lu lv h k more =
     let r : List ℕ = drop i.bytes (x ∷ s) in
@@ -130,7 +131,7 @@ one_inside e x s b u v t ts us n i l lu lv h k more =
     let same_len : t.len ≡ i.bytes = sym (ap (λ (z : span.Token). z.len) first) ∙ i.is_long in
     let behind : tokens_within e (r ++ b ∷ u) ≡ ts ++ us = ap (tokens_within e) (sym (i.is_rest u lu)) ∙ tail_same _ t _ (ts ++ us) both in
     let later : tokens_within e (r ++ b ∷ v) ≡ ts ++ tokens_within e (b ∷ v) =
-        more r (omega (arith, len, i.some, i.few, l)) (omega (arith, len, lu)) (omega (arith, len, lv)) behind (omega (arith, len, same_len, k, i.few)) in
+    more r (omega (arith, len, i.some, i.few, l)) (omega (arith, len, lu)) (omega (arith, len, lv)) behind (omega (arith, len, same_len, k, i.few)) in
     within_more e x (s ++ b ∷ v)
     ∙ ap₂ (λ (z : span.Token) (zs : Tokens). z ∷ zs) (i.is_first v lv ∙ first) (ap (tokens_within e) (i.is_rest v lv) ∙ later)
 
@@ -138,7 +139,7 @@ one_more : (e : Edition) (x : ℕ) (s : List ℕ) (b : ℕ) (u v : List ℕ) (t 
     → Inside e (x ∷ s) b ⊎ Beyond e (x ∷ s) b → length (x ∷ s) ≤ suc n → length (x ∷ s) + length u < 2 ^ 32 - 1 → length (x ∷ s) + length v < 2 ^ 32 - 1
     → tokens_within e (x ∷ (s ++ b ∷ u)) ≡ t ∷ (ts ++ us) → t.len + bytes_of ts ≡ length (x ∷ s)
     → ((r : List ℕ) → length r ≤ n → length r + length u < 2 ^ 32 - 1 → length r + length v < 2 ^ 32 - 1
-      → tokens_within e (r ++ b ∷ u) ≡ ts ++ us → bytes_of ts ≡ length r → tokens_within e (r ++ b ∷ v) ≡ ts ++ tokens_within e (b ∷ v))
+    → tokens_within e (r ++ b ∷ u) ≡ ts ++ us → bytes_of ts ≡ length r → tokens_within e (r ++ b ∷ v) ≡ ts ++ tokens_within e (b ∷ v))
     → tokens_within e (x ∷ (s ++ b ∷ v)) ≡ t ∷ (ts ++ tokens_within e (b ∷ v))
 one_more e x s b u v t ts us n (inl i) l lu lv h k more = one_inside e x s b u v t ts us n i l lu lv h k more
 one_more e x s b u v t ts us n (inr i) l lu lv h k more =

@@ -1,6 +1,5 @@
 -- A number ends before a brace.
-use Rattle.std.proofs.Common.{◌≡◌, ◌≢◌, ◌⊎◌, inl, inr, ℕ, suc, ◌+◌, ◌<◌, ◌≤◌, ◌^◌, Bool, true, false, not, ◌==◌, ◌&&◌, ◌||◌, if◌then◌else◌, List, [], ◌∷◌, ◌++◌, length, drop, ap, ap₂, sym, ◌∙◌, refl, arith}
-use Rattle.std.specs.Prelude.{slice_get}
+use Rattle.std.proofs.Common.{◌≡◌, ◌≢◌, ◌⊎◌, inl, inr, ℕ, suc, ◌+◌, Bool, true, false, not, ◌==◌, ◌&&◌, ◌||◌, if◌then◌else◌, List, ◌∷◌, ◌++◌, length, drop, ap, sym, ◌∙◌, refl, arith}
 use Rattle.std.proofs.lemmas.Bool.{cases_eq}
 use Rattle.std.proofs.lemmas.Bool.Decides.{nat_tests}
 use Rattle.syntax_kind.specs.declared.syntax_kind.SyntaxKind.TheVariants.{Token}
@@ -8,7 +7,7 @@ use Rattle.syntax_kind.specs.declared.syntax_kind.token_kind.TokenKind.TheVarian
 use Rattle.rust_lexer.specs.declared.class.Class.{Class}
 use Rattle.rust_lexer.specs.declared.class.Class.TheVariants as classes
 use Rattle.rust_lexer.specs.declared.problem.Problem.TheVariants.{NoDigits, NoExponentDigits}
-use Rattle.rust_lexer.specs.Classes.{test_on, begins_of, begins_digit_of, is_in_of, skip_of}
+use Rattle.rust_lexer.specs.Classes.{begins_of, begins_digit_of, is_in_of, skip_of}
 use Rattle.rust_lexer.specs.Names.{begins_name_of, skip_suffix_of}
 use Rattle.rust_lexer.specs.Numbers.{begins_exponent_of, whole_of, whole_without_digits_of, float_of, float_without_digits_of, sign_of, exponent_of, fraction_of, behind_digits_of, based_of, number_of}
 use Rattle.lexer_laws.specs.Behind.{IsBrace}
@@ -113,14 +112,14 @@ unequal m n h = grind (arith, nat_tests)
 shifted : (m n k m' n' : ℕ) → m' ≡ m + k → n' ≡ n + k → (m' == n') ≡ (m == n)
 shifted m n k m' n' h l =
     elim (cases_eq m n) [
-      inl same ↦ equal m' n' (omega (arith, h, l, same)) ∙ sym (equal m n same)
-    | inr other ↦ unequal m' n' (λ e. other (omega (arith, h, l, e))) ∙ sym (unequal m n other)
+      | inl same ↦ equal m' n' (omega (arith, h, l, same)) ∙ sym (equal m n same)
+      | inr other ↦ unequal m' n' (λ e. other (omega (arith, h, l, e))) ∙ sym (unequal m n other)
     ]
 
 based_ends : (c : Class) (b : ℕ) (text q : List ℕ) → IsBrace b → is_in_of c b ≡ false → Ends (based_of c) b text q
 based_ends c b text q h f =
     let both : (y : List ℕ) → skip_of c (skip_of classes.Underscore (q ++ b ∷ y)) ≡ skip_of c (skip_of classes.Underscore q) ++ b ∷ y =
-        λ y. ap (skip_of c) (underscores b h q y) ∙ skip_same c b f (skip_of classes.Underscore q) y in
+    λ y. ap (skip_of c) (underscores b h q y) ∙ skip_same c b f (skip_of classes.Underscore q) y in
     choose (λ s. length (skip_of c (skip_of classes.Underscore s)) == length (skip_of classes.Underscore s))
     (λ s. whole_without_digits_of (skip_of c (skip_of classes.Underscore s))) (λ s. behind_digits_of (skip_of c (skip_of classes.Underscore s))) b text q
     (λ y. shifted _ _ (suc (length y)) _ _ (ap length (both y) ∙ longer _ y b) (ap length (underscores b h q y) ∙ longer _ y b))
@@ -142,8 +141,8 @@ number_ends first b text q h =
     (λ y. and_same _ _ _ _ refl (or_same _ _ _ _ (begins 98 b h refl refl q y) (begins 111 b h refl refl q y)))
     (λ k. skipped_ends (based_of classes.Decimal) (drop 1) b text q
     (λ y. elim (one_true (begins_of 98 q) (begins_of 111 q) (right_true (first == 48) (begins_of 98 q || begins_of 111 q) k)) [
-      inl l ↦ tail 98 b q y l
-    | inr l ↦ tail 111 b q y l
+      | inl l ↦ tail 98 b q y l
+      | inr l ↦ tail 111 b q y l
     ])
     (based_ends classes.Decimal b text (drop 1 q) h (at_brace (is_in_of classes.Decimal) b h refl refl)))
     (λ k. skipped_ends behind_digits_of (skip_of classes.Decimal) b text q (λ y. decimals b h q y) (behind_digits_ends b text _ h)))

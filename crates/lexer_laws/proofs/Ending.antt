@@ -1,12 +1,11 @@
--- A token either ends before a brace, whatever follows that, or goes over it, whatever follows.
-use Rattle.std.proofs.Common.{◌≡◌, ◌⊎◌, inl, inr, ℕ, zero, suc, ◌+◌, ◌-◌, ◌<◌, ◌≤◌, ◌^◌, Bool, true, false, not, ◌==◌, ◌||◌, if◌then◌else◌, List, [], ◌∷◌, ◌++◌, length, drop, ap, sym, ◌∙◌, refl, arith, subst}
-use Rattle.std.proofs.lemmas.Bool.Decides.{nat_tests}
+-- A token ends before a brace, or goes over it, whatever follows the brace.
+use Rattle.std.proofs.Common.{◌≡◌, ◌⊎◌, inl, inr, ℕ, suc, ◌+◌, ◌-◌, ◌<◌, ◌≤◌, ◌^◌, Bool, true, false, not, ◌==◌, ◌||◌, if◌then◌else◌, List, ◌∷◌, ◌++◌, length, ap, sym, ◌∙◌, refl, arith, subst}
 use Rattle.syntax_kind.specs.declared.syntax_kind.SyntaxKind.{SyntaxKind}
 use Rattle.rust_lexer.specs.declared.problem.Problem.{Problem}
 use Rattle.rust_lexer.specs.declared.shape.Shape.{Shape}
 use Rattle.rust_lexer.specs.Cuts.{is_boundary_of, cut_of}
 use Rattle.rust_lexer.specs.Shapes.{plain_of, with_of}
-use Rattle.lexer_laws.specs.Behind.{IsBrace, before}
+use Rattle.lexer_laws.specs.Behind.{before}
 use Rattle.lexer_laws.proofs.Tests.{longer}
 
 -- what is read of q is the same where a brace follows
@@ -30,13 +29,15 @@ cut_on false i n m h k = k
 -- a token that leaves no more than what follows the brace has the brace in it
 pub covered : (f : List ℕ → Shape) (b : ℕ) (text q : List ℕ) → ((y : List ℕ) → (f (q ++ b ∷ y)).left ≤ length y) → Ends f b text q
 covered f b text q h =
-    inr (record { over = λ y.
-      let s : List ℕ = text ++ b ∷ y in
-      let n : ℕ = (f (q ++ b ∷ y)).left in
-      let i : ℕ = length s - n in
-      let total : length s ≡ length text + suc (length y) = longer text y b in
-      let few : n ≤ length y = h y in
-      cut_on ((i == 0) || not (is_boundary_of i s)) i (length text) (length s) (omega (arith, total)) (omega (arith, total, few)) })
+    inr (record {
+      over = λ y.
+          let s : List ℕ = text ++ b ∷ y in
+          let n : ℕ = (f (q ++ b ∷ y)).left in
+          let i : ℕ = length s - n in
+          let total : length s ≡ length text + suc (length y) = longer text y b in
+          let few : n ≤ length y = h y in
+          cut_on ((i == 0) || not (is_boundary_of i s)) i (length text) (length s) (omega (arith, total)) (omega (arith, total, few));
+    })
 
 -- ---- choices
 
@@ -47,8 +48,10 @@ on_true t f g b text q h e (inl k) =
     ap (λ (r : Bool). if r then f (q ++ b ∷ y) else g (q ++ b ∷ y)) (h y ∙ e) ∙ k.same y l
     ∙ sym (ap (λ (r : Bool). before (suc (length y)) (if r then f q else g q)) e))
 on_true t f g b text q h e (inr k) =
-    inr (record { over = λ y.
-      subst (λ (r : Bool). length text < cut_of (if r then f (q ++ b ∷ y) else g (q ++ b ∷ y)).left (text ++ b ∷ y)) (sym (h y ∙ e)) (k.over y) })
+    inr (record {
+      over = λ y.
+          subst (λ (r : Bool). length text < cut_of (if r then f (q ++ b ∷ y) else g (q ++ b ∷ y)).left (text ++ b ∷ y)) (sym (h y ∙ e)) (k.over y);
+    })
 
 on_false : (t : List ℕ → Bool) (f g : List ℕ → Shape) (b : ℕ) (text q : List ℕ) → ((y : List ℕ) → t (q ++ b ∷ y) ≡ t q) → t q ≡ false
     → Ends g b text q → Ends (λ s. if t s then f s else g s) b text q
@@ -57,8 +60,10 @@ on_false t f g b text q h e (inl k) =
     ap (λ (r : Bool). if r then f (q ++ b ∷ y) else g (q ++ b ∷ y)) (h y ∙ e) ∙ k.same y l
     ∙ sym (ap (λ (r : Bool). before (suc (length y)) (if r then f q else g q)) e))
 on_false t f g b text q h e (inr k) =
-    inr (record { over = λ y.
-      subst (λ (r : Bool). length text < cut_of (if r then f (q ++ b ∷ y) else g (q ++ b ∷ y)).left (text ++ b ∷ y)) (sym (h y ∙ e)) (k.over y) })
+    inr (record {
+      over = λ y.
+          subst (λ (r : Bool). length text < cut_of (if r then f (q ++ b ∷ y) else g (q ++ b ∷ y)).left (text ++ b ∷ y)) (sym (h y ∙ e)) (k.over y);
+    })
 
 either : (p : Bool) → (p ≡ true) ⊎ (p ≡ false)
 either true = inl refl

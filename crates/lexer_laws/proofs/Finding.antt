@@ -1,5 +1,5 @@
 -- A text whose first token is `{` and whose last one is `}` is a piece.
-use Rattle.std.proofs.Common.{◌≡◌, ◌⊎◌, inl, inr, ℕ, zero, suc, ◌+◌, ◌-◌, ◌<◌, ◌≤◌, ◌^◌, Bool, true, false, ◌==◌, if◌then◌else◌, Option, Some, None, List, [], ◌∷◌, ◌++◌, length, drop, take, ap, ap₂, sym, ◌∙◌, refl, arith, subst, append_assoc, length-append, take-append-drop}
+use Rattle.std.proofs.Common.{◌≡◌, ◌⊎◌, inl, inr, ℕ, zero, suc, ◌+◌, ◌<◌, ◌≤◌, ◌^◌, Bool, true, false, ◌==◌, if◌then◌else◌, Option, Some, None, List, [], ◌∷◌, ◌++◌, length, drop, ap, ap₂, sym, ◌∙◌, refl, arith, append_assoc, length-append, take-append-drop}
 use Rattle.std.proofs.Math.Seq.{drop-append_seam}
 use Rattle.std.specs.Prelude.{IsUtf8}
 use Rattle.std.proofs.lemmas.Str.{IsUtf8-drop, IsCharBoundary-after_ascii}
@@ -12,18 +12,17 @@ use Rattle.rust_lexer.specs.declared.front_matter.Prelude.{Prelude}
 use Rattle.rust_lexer.specs.declared.shape.Shape.{Shape}
 use Rattle.rust_lexer.specs.Cuts.{cut_of, front_of, back_of}
 use Rattle.rust_lexer.specs.Heads.{prelude_of, shebang_of}
-use Rattle.rust_lexer.specs.Lexing.{Lexing, size_of, taken, taken_some, taken_head, taken_head_on, steps_of, fresh, tokens_of}
+use Rattle.rust_lexer.specs.Lexing.{Lexing, size_of, taken, taken_some, taken_head, taken_head_on, fresh, tokens_of}
 use Rattle.rust_lexer.specs.Shapes.{plain_of}
-use Rattle.rust_lexer.specs.Tokens.{sign_of, token_of}
+use Rattle.rust_lexer.specs.Tokens.{token_of}
 use Rattle.rust_lexer.proofs.Cutting.{back-utf8}
-use Rattle.lexer_laws.specs.Behind.{IsBrace}
 use Rattle.lexer_laws.specs.Cuts.{tokens_within, bytes_of}
 use Rattle.lexer_laws.specs.Heads.{HasNoHead, may_have_head}
 use Rattle.lexer_laws.specs.Pieces.{Opens, Closes, IsBraced, IsReplaced}
 use Rattle.lexer_laws.proofs.Bracing.{cut_one}
 use Rattle.lexer_laws.proofs.Heading.{plain_heads, heads_end}
 use Rattle.lexer_laws.proofs.BraceKinds.{brace_of, brace_first}
-use Rattle.lexer_laws.proofs.Pieces.{IsPiece, headless, behind_cut, bytes_append, pieces_cut, pieces_put}
+use Rattle.lexer_laws.proofs.Pieces.{IsPiece, headless, behind_cut, pieces_cut, pieces_put}
 use Rattle.lexer_laws.proofs.Stepping.{token_at, tokens_from, steps_tokens, within_empty, within_more, token_some, front_length, back_short}
 
 abbrev Tokens : Type 0
@@ -85,7 +84,7 @@ no_head e text first rest is h (inl k) = k
 no_head e text first rest is h (inr k) =
     let l : Lexing = taken_head e text (fresh text) in
     let all : tokens_of e text ≡ k.0 ∷ (k.1 ++ tokens_from (length text) e l.rest) =
-        steps_tokens (length text) e text l ∙ ap (λ (ts : Tokens). ts ++ tokens_from (length text) e l.rest) k.2 in
+    steps_tokens (length text) e text l ∙ ap (λ (ts : Tokens). ts ++ tokens_from (length text) e l.rest) k.2 in
     let same : k.0 ≡ first = head_same k.0 first _ rest (sym all ∙ is) in
     absurd (omega (arith, ap (λ (t : span.Token). brace_of t.kind) same, k.3, open_is first h))
 
@@ -122,7 +121,7 @@ closed_alone e x s t u is h =
       before = [];
       parts = ap₂ (λ (y : ℕ) (r : List ℕ). y ∷ r) brace.0 left;
       one_byte =
-        sym (ap (λ (z : span.Token). z.len) same) ∙ ap size_of (front_length (token_of e (x ∷ s)).left (x ∷ s) ∙ cut);
+          sym (ap (λ (z : span.Token). z.len) same) ∙ ap size_of (front_length (token_of e (x ∷ s)).left (x ∷ s) ∙ cut);
     }
 
 closed_text : (n : ℕ) (e : Edition) (s : List ℕ) (front : Tokens) (t : span.Token) → length s ≤ n → IsUtf8 s → tokens_within e s ≡ front ++ t ∷ []
@@ -139,8 +138,8 @@ closed_text (suc n) e (x ∷ s) (r ∷ front) t m u is h =
     record {
       before = front_of k (x ∷ s) ++ c.before;
       parts =
-        sym (take-append-drop (cut_of k (x ∷ s)) (x ∷ s)) ∙ ap (λ (z : List ℕ). front_of k (x ∷ s) ++ z) c.parts
-        ∙ sym (append_assoc (front_of k (x ∷ s)) c.before (125 ∷ []));
+          sym (take-append-drop (cut_of k (x ∷ s)) (x ∷ s)) ∙ ap (λ (z : List ℕ). front_of k (x ∷ s) ++ z) c.parts
+          ∙ sym (append_assoc (front_of k (x ∷ s)) c.before (125 ∷ []));
       one_byte = c.one_byte;
     }
 
@@ -190,8 +189,8 @@ part_opens e a part c ts ps us h l is at till o =
     let text : List ℕ = a ++ (part ++ c) in
     let len : length text ≡ length a + (length part + length c) = length-append a (part ++ c) ∙ ap (λ (n : ℕ). length a + n) (length-append part c) in
     let behind : ps ++ us ≡ tokens_within e (part ++ c) =
-        behind_cut (length text) e text ts (ps ++ us) (omega arith) (omega (arith, len, l)) (sym (headless e text h) ∙ is)
-        ∙ ap (λ (n : ℕ). tokens_within e (drop n text)) at ∙ ap (tokens_within e) (drop-append_seam a (part ++ c)) in
+    behind_cut (length text) e text ts (ps ++ us) (omega arith) (omega (arith, len, l)) (sym (headless e text h) ∙ is)
+    ∙ ap (λ (n : ℕ). tokens_within e (drop n text)) at ∙ ap (tokens_within e) (drop-append_seam a (part ++ c)) in
     let now : tokens_within e (part ++ c) ≡ o.first ∷ (o.rest ++ us) = sym behind ∙ ap (λ (rs : Tokens). rs ++ us) o.begins in
     let first : part ++ c ≡ 123 ∷ drop 1 (part ++ c) = first_byte e (part ++ c) o.first (o.rest ++ us) now o.is_open in
     let some : 0 < o.first.len = some_bytes e (part ++ c) o.first (o.rest ++ us) now in
@@ -210,5 +209,5 @@ pieces_replaced e a part piece c ts ps us r =
     let plain : HasNoHead e (a ++ (part ++ c)) = plain_heads e (a ++ (part ++ c)) r.is_text r.no_head in
     let opens : part ≡ 123 ∷ drop 1 part = part_opens e a part c ts ps us plain old r.are_tokens r.cut_before r.cut_behind r.opens in
     let new_plain : HasNoHead e (a ++ (piece ++ c)) =
-        plain_heads e (a ++ (piece ++ c)) r.is_new_text (sym (head_moved a part piece c (drop 1 part) (p.inner ++ 125 ∷ []) opens p.parts) ∙ r.no_head) in
+    plain_heads e (a ++ (piece ++ c)) r.is_new_text (sym (head_moved a part piece c (drop 1 part) (p.inner ++ 125 ∷ []) opens p.parts) ∙ r.no_head) in
     pieces_put e a part (drop 1 part) piece c ts ps (tokens_of e piece) us opens plain new_plain r.is_rest_text old new r.are_tokens r.cut_before r.cut_behind p

@@ -1,6 +1,5 @@
--- The first token of a text either ends before a brace, whatever follows that, or goes over it, whatever follows.
-use Rattle.std.proofs.Common.{◌≡◌, ◌⊎◌, inl, inr, ℕ, zero, suc, ◌+◌, ◌<◌, ◌≤◌, ◌^◌, Bool, true, false, not, ◌==◌, ◌&&◌, ◌||◌, nat_le, if◌then◌else◌, List, [], ◌∷◌, ◌++◌, length, drop, ap, sym, ◌∙◌, refl, arith}
-use Rattle.std.specs.Prelude.{slice_get}
+-- The first token of a text ends before a brace, or goes over it, whatever follows the brace.
+use Rattle.std.proofs.Common.{◌≡◌, ◌⊎◌, inl, inr, ℕ, ◌<◌, ◌≤◌, Bool, true, false, ◌==◌, ◌&&◌, ◌||◌, nat_le, if◌then◌else◌, List, [], ◌∷◌, ◌++◌, length, drop, ap, ◌∙◌, refl, arith}
 use Rattle.syntax_kind.specs.declared.syntax_kind.SyntaxKind.TheVariants.{Token}
 use Rattle.syntax_kind.specs.declared.syntax_kind.token_kind.TokenKind.TheVariants as token
 use Rattle.literal_escape.specs.declared.mode.Mode.TheVariants as modes
@@ -17,13 +16,13 @@ use Rattle.rust_lexer.specs.Quotes.{character_of, character_or_lifetime_of, stri
 use Rattle.rust_lexer.specs.RawStrings.{raw_string_of}
 use Rattle.rust_lexer.specs.Shapes.{plain_of, with_of}
 use Rattle.rust_lexer.specs.Signs.{sign_kind_of}
-use Rattle.rust_lexer.specs.Tokens.{space_of, sign_of, slash_of, opens_raw_of, is_reserved_of, pound_of, letter_r_of, letter_b_of, letter_c_of, letter_of, beyond_of, mark_of, other_of, token_of}
-use Rattle.lexer_laws.specs.Behind.{IsBrace, before}
+use Rattle.rust_lexer.specs.Tokens.{space_of, sign_of, slash_of, opens_raw_of, pound_of, letter_r_of, letter_b_of, letter_c_of, letter_of, beyond_of, mark_of, other_of, token_of}
+use Rattle.lexer_laws.specs.Behind.{IsBrace}
 use Rattle.lexer_laws.specs.Firsts.{EndsBefore, GoesOver}
-use Rattle.lexer_laws.proofs.Tests.{at_brace, begins_same, not_same, and_same, or_same, and_fails, skip_same, tail_same, longer}
+use Rattle.lexer_laws.proofs.Tests.{at_brace, begins_same, not_same, and_same, or_same, and_fails, skip_same, tail_same}
 use Rattle.lexer_laws.proofs.Decoding.{after_char_same}
 use Rattle.lexer_laws.proofs.Skipping.{begins_wide_same, begins_emoji_same, beyond_same, begins_name_same, skip_wide_same, skip_name_same}
-use Rattle.lexer_laws.proofs.Ending.{Ends, Ended, Covered, ended, choose, plain_ends, with_ends, skipped_ends}
+use Rattle.lexer_laws.proofs.Ending.{Ends, ended, choose, plain_ends, with_ends, skipped_ends}
 use Rattle.lexer_laws.proofs.Digits.{number_ends}
 use Rattle.lexer_laws.proofs.Literals.{string_ends, character_ends, character_or_lifetime_ends}
 use Rattle.lexer_laws.proofs.RawTexts.{raw_string_ends, sign_ends, slash_ends}
@@ -61,7 +60,7 @@ opens_raw_same b h q y = or_same _ _ _ _ (begins 34 b h refl refl q y) (begins 3
 space_ends : (b : ℕ) (text q : List ℕ) → IsBrace b → Ends space_of b text q
 space_ends b text q h =
     let spaces : (y : List ℕ) → skip_of classes.Space (q ++ b ∷ y) ≡ skip_of classes.Space q ++ b ∷ y =
-        λ y. skip_same classes.Space b (at_brace (is_in_of classes.Space) b h refl refl) q y in
+    λ y. skip_same classes.Space b (at_brace (is_in_of classes.Space) b h refl refl) q y in
     choose (λ s. begins_beyond_of (skip_of classes.Space s)) (λ s. plain_of (Token token.WHITESPACE) (length (skip_wide_of wides.Space (skip_of classes.Space s))))
     (λ s. plain_of (Token token.WHITESPACE) (length (skip_of classes.Space s))) b text q
     (λ y. ap begins_beyond_of (spaces y) ∙ beyond_same b h (skip_of classes.Space q) y)
@@ -137,7 +136,7 @@ beyond_ends : (e : Edition) (x b : ℕ) (q : List ℕ) → IsBrace b → Ends (�
 beyond_ends e x b q h =
     choose (λ s. begins_wide_of wides.Space (x ∷ s)) (λ s. space_of (x ∷ s))
     (λ s. if begins_name_of (x ∷ s) then name_of e (x ∷ s)
-      else (if begins_emoji_of (x ∷ s) then emoji_name_of (after_char_of (x ∷ s)) else plain_of (Token token.ERROR) (length (after_char_of (x ∷ s)))))
+    else (if begins_emoji_of (x ∷ s) then emoji_name_of (after_char_of (x ∷ s)) else plain_of (Token token.ERROR) (length (after_char_of (x ∷ s)))))
     b (x ∷ q) q (λ y. begins_wide_same wides.Space b h (x ∷ q) y)
     (λ k. whole_ends space_of x b (x ∷ q) q (space_ends b (x ∷ q) (x ∷ q) h))
     (λ k. choose (λ s. begins_name_of (x ∷ s)) (λ s. name_of e (x ∷ s))
@@ -201,8 +200,8 @@ first_ends e x b q h =
 pub token_ends : (e : Edition) (x b : ℕ) (q : List ℕ) → IsBrace b → Ends (token_of e) b (x ∷ q) (x ∷ q)
 token_ends e x b q h =
     elim (first_ends e x b q h) [
-      inl k ↦ ended (token_of e) b (x ∷ q) (x ∷ q) (λ y l. k.same y l)
-    | inr k ↦ inr (record { over = λ y. k.over y })
+      | inl k ↦ ended (token_of e) b (x ∷ q) (x ∷ q) (λ y l. k.same y l)
+      | inr k ↦ inr (record { over = λ y. k.over y })
     ]
 
 pub first_tokens_end : (e : Edition) (b : ℕ) (s : List ℕ) → IsBrace b → 0 < length s → EndsBefore e b s ⊎ GoesOver e b s

@@ -1,20 +1,20 @@
 -- Texts at whose head there is neither a shebang nor a front matter.
-use Rattle.std.proofs.Common.{◌≡◌, ◌⊎◌, inl, inr, ℕ, zero, suc, ◌+◌, ◌-◌, ◌<◌, ◌≤◌, Bool, true, false, not, ◌==◌, ◌&&◌, ◌||◌, nat_lt, nat_le, nat_eq, if◌then◌else◌, Option, Some, None, List, [], ◌∷◌, ◌++◌, length, drop, take, slice_index, ap, ap₂, sym, ◌∙◌, refl, arith, subst}
+use Rattle.std.proofs.Common.{◌≡◌, ◌⊎◌, inl, inr, ℕ, zero, suc, ◌-◌, ◌<◌, ◌≤◌, Bool, true, false, not, ◌==◌, ◌&&◌, ◌||◌, nat_lt, nat_eq, if◌then◌else◌, Option, Some, None, List, [], ◌∷◌, ◌++◌, length, drop, slice_index, ap, ap₂, sym, ◌∙◌, refl, arith, subst}
 use Rattle.std.specs.Prelude.{IsUtf8, slice_get, cond}
 use Rattle.std.specs.Str.{trim_start, chars, skip_leading_whitespace}
 use lib.Utf8.{encode, encodes}
 use Rattle.std.proofs.lemmas.Bool.{cases_eq}
 use Rattle.std.proofs.lemmas.Bool.Decides.{nat_tests}
 use Rattle.std.proofs.lemmas.Str.{encode_ascii, chars_past_char, IsUtf8-drop, IsCharBoundary-before_ascii}
-use Rattle.bstr.specs.Utf8.{Decoded, decoded, decoded_by, second, continues, bad, good, code_of_2, code_of_3, code_of_4}
+use Rattle.bstr.specs.Utf8.{Decoded, decoded, second, continues, bad, good, code_of_2, code_of_3, code_of_4}
 use Rattle.ras_front_end.specs.declared.edition.Edition.{Edition}
 use Rattle.rust_lexer.specs.declared.class.Class.TheVariants as classes
 use Rattle.rust_lexer.specs.declared.class.Wide.TheVariants as wides
 use Rattle.rust_lexer.specs.declared.front_matter.Prelude.{Prelude}
-use Rattle.rust_lexer.specs.Classes.{test_on, begins_of, begins_wide_of, is_in_of, is_space_of, skip_of, after_char_of}
+use Rattle.rust_lexer.specs.Classes.{test_on, begins_of, begins_wide_of, is_space_of, skip_of, after_char_of}
 use Rattle.rust_lexer.specs.Cuts.{is_boundary_of, cut_of}
-use Rattle.rust_lexer.specs.Heads.{begins_shebang_of, behind_two_of, has_shebang_of, last_line_of, empty_lines, skip_empty_lines_of, skip_line_of, with_matter, body_of, behind_shebang_of, prelude_of}
-use Rattle.rust_lexer.specs.Lexing.{Lexing, taken_head, taken_head_on, fresh}
+use Rattle.rust_lexer.specs.Heads.{behind_two_of, has_shebang_of, last_line_of, empty_lines, skip_empty_lines_of, skip_line_of, with_matter, body_of, prelude_of}
+use Rattle.rust_lexer.specs.Lexing.{taken_head, taken_head_on, fresh}
 use Rattle.lexer_laws.specs.Behind.{IsBrace}
 use Rattle.lexer_laws.specs.Heads.{HasNoHead, is_byte, may_be_shebang, is_visible, may_be_fence, may_have_head}
 use Rattle.lexer_laws.proofs.Tests.{holds_at_brace, at_brace}
@@ -121,8 +121,8 @@ fourth_passed x c d (e ∷ s) h k l =
 
 third_passed : (x c : ℕ) (s : List ℕ) → is_visible x ≡ false → second x c ≡ true
     → Passed (x ∷ c ∷ s) (cond (nat_lt (length (x ∷ c ∷ s)) 3) (bad 2) (cond (continues (slice_index s 0))
-      (cond (nat_lt x 0xF0) (good (code_of_3 x c (slice_index s 0)) 3)
-      (cond (nat_lt (length (x ∷ c ∷ s)) 4) (bad 3) (cond (continues (slice_index s 1)) (good (code_of_4 x c (slice_index s 0) (slice_index s 1)) 4) (bad 3)))) (bad 2)))
+    (cond (nat_lt x 0xF0) (good (code_of_3 x c (slice_index s 0)) 3)
+    (cond (nat_lt (length (x ∷ c ∷ s)) 4) (bad 3) (cond (continues (slice_index s 1)) (good (code_of_4 x c (slice_index s 0) (slice_index s 1)) 4) (bad 3)))) (bad 2)))
 third_passed x c [] h k = no_char (x ∷ c ∷ []) 2
 third_passed x c (d ∷ s) h k =
     on (x ∷ c ∷ d ∷ s) _ (bad 2) _ (λ z. no_char _ 2) (λ z. on (x ∷ c ∷ d ∷ s) (continues d) _ (bad 2)
@@ -131,11 +131,11 @@ third_passed x c (d ∷ s) h k =
 
 two_passed : (x : ℕ) (s : List ℕ) → is_visible x ≡ false
     → Passed (x ∷ s) (cond (nat_lt (length (x ∷ s)) 2) (bad 1) (cond (second x (slice_index s 0))
-      (cond (nat_lt x 0xE0) (good (code_of_2 x (slice_index s 0)) 2)
-      (cond (nat_lt (length (x ∷ s)) 3) (bad 2) (cond (continues (slice_index s 1))
-      (cond (nat_lt x 0xF0) (good (code_of_3 x (slice_index s 0) (slice_index s 1)) 3)
-      (cond (nat_lt (length (x ∷ s)) 4) (bad 3) (cond (continues (slice_index s 2)) (good (code_of_4 x (slice_index s 0) (slice_index s 1) (slice_index s 2)) 4) (bad 3))))
-      (bad 2)))) (bad 1)))
+    (cond (nat_lt x 0xE0) (good (code_of_2 x (slice_index s 0)) 2)
+    (cond (nat_lt (length (x ∷ s)) 3) (bad 2) (cond (continues (slice_index s 1))
+    (cond (nat_lt x 0xF0) (good (code_of_3 x (slice_index s 0) (slice_index s 1)) 3)
+    (cond (nat_lt (length (x ∷ s)) 4) (bad 3) (cond (continues (slice_index s 2)) (good (code_of_4 x (slice_index s 0) (slice_index s 1) (slice_index s 2)) 4) (bad 3))))
+    (bad 2)))) (bad 1)))
 two_passed x [] h = no_char (x ∷ []) 1
 two_passed x (c ∷ s) h =
     on (x ∷ c ∷ s) _ (bad 1) _ (λ z. no_char _ 1) (λ z. on (x ∷ c ∷ s) (second x c) _ (bad 1)
@@ -161,8 +161,8 @@ unfolding fine_below
 fine_at zero x h l = absurd (omega (arith, l))
 fine_at (suc n) x h l =
     elim (cases_eq x n) [
-      inl same ↦ ap (λ (j : ℕ). not (is_space_of j && is_visible j)) same ∙ first_true (not (is_space_of n && is_visible n)) (fine_below n) h
-    | inr other ↦ fine_at n x (last_true (not (is_space_of n && is_visible n)) (fine_below n) h) (omega (arith, l, other))
+      | inl same ↦ ap (λ (j : ℕ). not (is_space_of j && is_visible j)) same ∙ first_true (not (is_space_of n && is_visible n)) (fine_below n) h
+      | inr other ↦ fine_at n x (last_true (not (is_space_of n && is_visible n)) (fine_below n) h) (omega (arith, l, other))
     ]
 
 all_fine : fine_below 128 ≡ true
@@ -252,7 +252,7 @@ behind_marks x y z s h =
     let two : i ≡ 2 = omega arith in
     let at : is_boundary_of i text ≡ true = ap (λ (j : ℕ). is_boundary_of j text) two ∙ boundary_starts 2 text (IsCharBoundary-before_ascii text 2 (omega arith) h) in
     let cut : cut_of (length text - 2) text ≡ 2 =
-        ap₂ (λ (p r : Bool). if p || not r then length text else i) (not_zero i (omega (arith, two))) at ∙ two in
+    ap₂ (λ (p r : Bool). if p || not r then length text else i) (not_zero i (omega (arith, two))) at ∙ two in
     ap (λ (j : ℕ). drop j text) cut
 
 trimmed : (s : List ℕ) → IsUtf8 (91 ∷ s) → begins_of 91 (trim_start (91 ∷ s)) ≡ true
@@ -300,9 +300,9 @@ unfolding prelude_on
 no_prelude s h k =
     let f : List ℕ = skip_empty_lines_of s in
     let made : List ℕ → Option Prelude = λ r.
-        if (length f - length r) == 0 then Some (record { shebang = None; front_matter = None })
-        else (if nat_lt (length f - length r) 3 then None
-        else with_matter None (body_of (length f - length r) r)) in
+    if (length f - length r) == 0 then Some (record { shebang = None; front_matter = None })
+    else (if nat_lt (length f - length r) 3 then None
+    else with_matter None (body_of (length f - length r) r)) in
     ap (λ (p : Bool). prelude_on p s) h ∙ ap made (no_dashes f k)
     ∙ ap (λ (b : Bool). if b then Some (record { shebang = None; front_matter = None }) else (if nat_lt (length f - length f) 3 then None else with_matter None (body_of (length f - length f) f)))
     (same_length (length f))

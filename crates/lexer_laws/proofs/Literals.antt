@@ -1,30 +1,26 @@
 -- Characters, lifetimes and strings at a brace.
-use Rattle.std.proofs.Common.{◌≡◌, ◌⊎◌, inl, inr, ℕ, zero, suc, ◌+◌, ◌-◌, ◌<◌, ◌≤◌, ◌^◌, min, Bool, true, false, not, ◌==◌, ◌&&◌, ◌||◌, nat_lt, if◌then◌else◌, List, [], ◌∷◌, ◌++◌, length, drop, ap, ap₂, sym, ◌∙◌, refl, arith, subst}
-use Rattle.std.specs.Prelude.{slice_get}
+use Rattle.std.proofs.Common.{◌≡◌, ◌⊎◌, inl, inr, ℕ, suc, ◌+◌, ◌<◌, ◌≤◌, ◌^◌, Bool, true, false, not, ◌==◌, ◌&&◌, ◌||◌, if◌then◌else◌, List, [], ◌∷◌, ◌++◌, length, drop, ap, ap₂, sym, ◌∙◌, refl, arith, subst}
 use Rattle.std.proofs.lemmas.List.{length-drop}
-use Rattle.syntax_kind.specs.declared.syntax_kind.SyntaxKind.{SyntaxKind}
 use Rattle.syntax_kind.specs.declared.syntax_kind.SyntaxKind.TheVariants.{Token}
 use Rattle.syntax_kind.specs.declared.syntax_kind.token_kind.TokenKind.TheVariants as token
 use Rattle.literal_escape.specs.declared.mode.Mode.{Mode}
 use Rattle.literal_escape.specs.declared.mode.Mode.TheVariants as modes
-use Rattle.rust_lexer.specs.declared.class.Class.TheVariants as classes
 use Rattle.rust_lexer.specs.declared.problem.Problem.TheVariants as problems
 use Rattle.rust_lexer.specs.declared.scan.Scan.{Scan}
-use Rattle.rust_lexer.specs.declared.scan.Scan.TheVariants.{Text, Quote, QuoteLine, Raw, Closed}
+use Rattle.rust_lexer.specs.declared.scan.Scan.TheVariants.{Text, Quote, QuoteLine, Closed}
 use Rattle.rust_lexer.specs.declared.shape.Shape.{Shape}
 use Rattle.rust_lexer.specs.declared.shape.Fault.TheVariants.{Content}
-use Rattle.rust_lexer.specs.Classes.{test_on, begins_of, begins_digit_of, after_char_of, is_in_of, skip_of}
+use Rattle.rust_lexer.specs.Classes.{begins_of, begins_digit_of, after_char_of}
 use Rattle.rust_lexer.specs.Names.{begins_name_of, skip_name_of, skip_suffix_of}
 use Rattle.rust_lexer.specs.Quotes.{kind_of, opening_of, one_more, closed_of, open_of, string_on, string_of, is_mark_of, character_on, character_of, lifetime_of, is_raw_lifetime_of, may_be_lifetime_of, character_or_lifetime_of}
-use Rattle.rust_lexer.specs.RawStrings.{invalid_of, body_on, body_of, raw_string_of}
 use Rattle.rust_lexer.specs.Scans.{run_of}
 use Rattle.rust_lexer.specs.Shapes.{plain_of, with_of}
 use Rattle.lexer_laws.specs.Behind.{IsBrace, before}
-use Rattle.lexer_laws.proofs.Tests.{at_brace, begins_same, not_same, and_same, or_same, and_fails, skip_same, tail_same, longer}
-use Rattle.lexer_laws.proofs.Decoding.{brace_decoded, after_char_same}
-use Rattle.lexer_laws.proofs.Skipping.{digit_same, begins_name_same, skip_name_same, skip_suffix_same, skip_shorter, name_shorter, suffix_shorter}
+use Rattle.lexer_laws.proofs.Tests.{at_brace, begins_same, not_same, and_same, or_same, and_fails, tail_same, longer}
+use Rattle.lexer_laws.proofs.Decoding.{after_char_same}
+use Rattle.lexer_laws.proofs.Skipping.{digit_same, begins_name_same, skip_name_same, skip_suffix_same, suffix_shorter}
 use Rattle.lexer_laws.proofs.Scanning.{ScanStays, ScanPasses, scan_ends, run_shorter, run_lighter, line, weight, next_no_line}
-use Rattle.lexer_laws.proofs.Ending.{Ends, ended, covered, choose, plain_ends, with_ends, skipped_ends}
+use Rattle.lexer_laws.proofs.Ending.{Ends, ended, covered, choose, plain_ends, with_ends}
 
 begins : (n b : ℕ) → IsBrace b → (123 == n) ≡ false → (125 == n) ≡ false → (q y : List ℕ) → begins_of n (q ++ b ∷ y) ≡ begins_of n q
 begins n b h f g q y = begins_same n b (not_same n b h f g) q y
@@ -39,7 +35,7 @@ closed_later m r y b h l =
     let F : ℕ → ℕ → Shape = λ n k. record { kind = kind_of m; left = n; fault = Content m (opening_of m) k } in
     let left : length (skip_suffix_of (r ++ b ∷ y)) ≡ length (skip_suffix_of r) + suc (length y) = ap length (skip_suffix_same b h r y) ∙ longer (skip_suffix_of r) y b in
     let more : one_more (length (r ++ b ∷ y)) ≡ one_more (length r) + suc (length y) =
-        ap one_more (longer r y b) ∙ one_more_later (length r) (suc (length y)) (omega (arith, l)) in
+    ap one_more (longer r y b) ∙ one_more_later (length r) (suc (length y)) (omega (arith, l)) in
     ap₂ F left more
 
 fits : (n m k : ℕ) → n ≤ m → m + k < 2 ^ 32 → n + k < 2 ^ 32
@@ -160,8 +156,8 @@ lifetime_ends b text q h =
     choose (λ s. begins_of 39 (skip_name_of s))
     (λ s. record { kind = Token token.CHAR; left = length (drop 1 (skip_name_of s)); fault = Content modes.Char 1 (length (skip_name_of s)) })
     (λ s. if begins_digit_of s then with_of (Token token.LIFETIME_IDENT) (length (skip_name_of s)) problems.NumberedLifetime
-      else (if begins_of 35 (skip_name_of s) then with_of (Token token.LIFETIME_IDENT) (length (skip_name_of s)) problems.LifetimePrefix
-      else plain_of (Token token.LIFETIME_IDENT) (length (skip_name_of s))))
+    else (if begins_of 35 (skip_name_of s) then with_of (Token token.LIFETIME_IDENT) (length (skip_name_of s)) problems.LifetimePrefix
+    else plain_of (Token token.LIFETIME_IDENT) (length (skip_name_of s))))
     b text q
     (λ y. ap (begins_of 39) (skip_name_same b h q y) ∙ begins 39 b h refl refl (skip_name_of q) y)
     (λ e. ended _ b text q (λ y l.
@@ -171,7 +167,7 @@ lifetime_ends b text q h =
     ap₂ F (ap length behind ∙ longer (drop 1 r) y b) (ap length (skip_name_same b h q y) ∙ longer r y b)))
     (λ e. choose begins_digit_of (λ s. with_of (Token token.LIFETIME_IDENT) (length (skip_name_of s)) problems.NumberedLifetime)
     (λ s. if begins_of 35 (skip_name_of s) then with_of (Token token.LIFETIME_IDENT) (length (skip_name_of s)) problems.LifetimePrefix
-      else plain_of (Token token.LIFETIME_IDENT) (length (skip_name_of s)))
+    else plain_of (Token token.LIFETIME_IDENT) (length (skip_name_of s)))
     b text q (λ y. digit_same b h q y)
     (λ k. with_ends (Token token.LIFETIME_IDENT) problems.NumberedLifetime skip_name_of b text q (λ y. skip_name_same b h q y))
     (λ k. choose (λ s. begins_of 35 (skip_name_of s)) (λ s. with_of (Token token.LIFETIME_IDENT) (length (skip_name_of s)) problems.LifetimePrefix)

@@ -1,5 +1,5 @@
 -- The tokens of a text in which a piece between braces was replaced.
-use Rattle.std.proofs.Common.{◌≡◌, ◌⊎◌, inl, inr, ℕ, zero, suc, ◌+◌, ◌-◌, ◌<◌, ◌≤◌, ◌^◌, min, List, [], ◌∷◌, ◌++◌, length, drop, ap, ap₂, sym, ◌∙◌, refl, arith, subst, append_assoc, length-append, length-drop}
+use Rattle.std.proofs.Common.{◌≡◌, inl, inr, ℕ, zero, suc, ◌+◌, ◌<◌, ◌≤◌, ◌^◌, List, [], ◌∷◌, ◌++◌, length, drop, ap, ap₂, sym, ◌∙◌, refl, arith, append_assoc, length-append}
 use Rattle.std.specs.Prelude.{IsUtf8}
 use Rattle.std.proofs.Math.Seq.{drop-append_seam}
 use Rattle.std.proofs.lemmas.List.{drop-drop}
@@ -7,11 +7,10 @@ use Rattle.std.proofs.lemmas.Str.{IsUtf8-nil}
 use Rattle.ras_front_end.specs.declared.edition.Edition.{Edition}
 use Rattle.token_layout.specs.declared.span.Token as span
 use Rattle.rust_lexer.specs.Cuts.{cut_of, back_of}
-use Rattle.rust_lexer.specs.Lexing.{Lexing, steps_of, fresh, tokens_of}
+use Rattle.rust_lexer.specs.Lexing.{Lexing, steps_of, tokens_of}
 use Rattle.rust_lexer.specs.Signs.{sign_kind_of}
 use Rattle.rust_lexer.specs.Tokens.{token_of}
 use Rattle.rust_lexer.proofs.Cutting.{cut-boundary}
-use Rattle.lexer_laws.specs.Behind.{IsBrace}
 use Rattle.lexer_laws.specs.Cuts.{tokens_within, bytes_of}
 use Rattle.lexer_laws.specs.Heads.{HasNoHead}
 use Rattle.lexer_laws.proofs.Bracing.{braces_cut, brace_alone}
@@ -102,13 +101,13 @@ pieces_cut e piece c ts p u l =
     let len : length piece ≡ length s + 1 = ap length p.parts ∙ length-append s (125 ∷ []) in
     let is : tokens_within e (s ++ 125 ∷ []) ≡ p.front ++ p.close ∷ [] = ap (tokens_within e) (sym p.parts) ∙ p.are_tokens ∙ p.closed in
     let total : bytes_of (p.front ++ p.close ∷ []) ≡ length piece =
-        ap bytes_of (sym p.closed ∙ sym p.are_tokens) ∙ all_bytes (length piece) e piece (omega arith) (omega (arith, l)) in
+    ap bytes_of (sym p.closed ∙ sym p.are_tokens) ∙ all_bytes (length piece) e piece (omega arith) (omega (arith, l)) in
     let before : bytes_of p.front ≡ length s = omega (arith, total, len, bytes_append p.front (p.close ∷ []), p.one_byte) in
     let close : span.Token = record { kind = sign_kind_of 125; len = 1 } in
     let alone : tokens_within e piece ≡ p.front ++ close ∷ [] =
-        ap (tokens_within e) p.parts
-        ∙ braces_cut e s [] [] 125 p.front (p.close ∷ []) (inr refl) (omega (arith, len, l)) (omega (arith, len, l)) is before
-        ∙ ap (λ (rs : Tokens). p.front ++ rs) (closing e IsUtf8-nil) in
+    ap (tokens_within e) p.parts
+    ∙ braces_cut e s [] [] 125 p.front (p.close ∷ []) (inr refl) (omega (arith, len, l)) (omega (arith, len, l)) is before
+    ∙ ap (λ (rs : Tokens). p.front ++ rs) (closing e IsUtf8-nil) in
     ap (λ (t : List ℕ). tokens_within e (t ++ c)) p.parts
     ∙ ap (tokens_within e) (append_assoc s (125 ∷ []) c)
     ∙ braces_cut e s [] c 125 p.front (p.close ∷ []) (inr refl) (omega (arith, len, l)) (omega (arith, len, l)) is before
@@ -133,18 +132,18 @@ pieces_put e a part r piece c ts ps qs us o h k u l m is at till p =
     let text_len : length (a ++ old) ≡ length a + length old = length-append a old in
     let piece_len : length piece ≡ length (123 ∷ inner) = ap length p.parts in
     let both : bytes_of (ts ++ ps) ≡ length (a ++ part) =
-        bytes_append ts ps ∙ ap₂ (λ (x y : ℕ). x + y) at till ∙ sym (length-append a part) in
+    bytes_append ts ps ∙ ap₂ (λ (x y : ℕ). x + y) at till ∙ sym (length-append a part) in
     let rest : us ≡ tokens_within e c =
-        behind_cut (length (a ++ old)) e (a ++ old) (ts ++ ps) us (omega arith) (omega (arith, text_len, old_len, l)) (within ∙ sym (append_assoc ts ps us))
-        ∙ ap (λ (n : ℕ). tokens_within e (drop n (a ++ old))) both
-        ∙ ap (λ (t : List ℕ). tokens_within e (drop (length (a ++ part)) t)) (sym (append_assoc a part c))
-        ∙ ap (tokens_within e) (drop-append_seam (a ++ part) c) in
+    behind_cut (length (a ++ old)) e (a ++ old) (ts ++ ps) us (omega arith) (omega (arith, text_len, old_len, l)) (within ∙ sym (append_assoc ts ps us))
+    ∙ ap (λ (n : ℕ). tokens_within e (drop n (a ++ old))) both
+    ∙ ap (λ (t : List ℕ). tokens_within e (drop (length (a ++ part)) t)) (sym (append_assoc a part c))
+    ∙ ap (tokens_within e) (drop-append_seam (a ++ part) c) in
     headless e (a ++ (piece ++ c)) k
     ∙ ap (λ (t : List ℕ). tokens_within e (a ++ (t ++ c))) p.parts
     ∙ braces_cut e a (r ++ c) (inner ++ c) 123 ts (ps ++ us) (inl refl)
     (omega (arith, length-append r c, part_len, l)) (omega (arith, length-append inner c, piece_len, m)) opened at
     ∙ ap (λ (rs : Tokens). ts ++ rs) (
-      ap (λ (t : List ℕ). tokens_within e (t ++ c)) (sym p.parts)
-      ∙ pieces_cut e piece c qs p u (omega (arith, m))
-      ∙ ap (λ (rs : Tokens). qs ++ rs) (sym rest)
+    ap (λ (t : List ℕ). tokens_within e (t ++ c)) (sym p.parts)
+    ∙ pieces_cut e piece c qs p u (omega (arith, m))
+    ∙ ap (λ (rs : Tokens). qs ++ rs) (sym rest)
     )

@@ -1,15 +1,12 @@
 -- Raw strings, comments and names at a brace.
-use Rattle.std.proofs.Common.{◌≡◌, ◌⊎◌, inl, inr, ℕ, zero, suc, ◌+◌, ◌-◌, ◌<◌, ◌≤◌, ◌^◌, Bool, true, false, not, ◌==◌, ◌&&◌, ◌||◌, nat_lt, if◌then◌else◌, List, [], ◌∷◌, ◌++◌, length, drop, take, slice_index, ap, ap₂, sym, ◌∙◌, refl, arith, subst}
-use Rattle.std.specs.Prelude.{slice_get, bytes_eq, codes}
+use Rattle.std.proofs.Common.{◌≡◌, ◌⊎◌, inl, inr, ℕ, suc, ◌+◌, ◌-◌, ◌≤◌, Bool, true, false, not, ◌==◌, ◌&&◌, nat_lt, if◌then◌else◌, List, [], ◌∷◌, ◌++◌, length, drop, ap, ap₂, sym, ◌∙◌, refl, arith, subst}
 use Rattle.std.proofs.lemmas.List.{length-drop}
 use Rattle.syntax_kind.specs.declared.syntax_kind.SyntaxKind.{SyntaxKind}
 use Rattle.syntax_kind.specs.declared.syntax_kind.SyntaxKind.TheVariants.{Token}
 use Rattle.syntax_kind.specs.declared.syntax_kind.token_kind.TokenKind.TheVariants as token
 use Rattle.rust_lexer.specs.declared.class.Class.TheVariants as classes
-use Rattle.rust_lexer.specs.declared.problem.Problem.TheVariants.{InvalidRawString}
 use Rattle.rust_lexer.specs.declared.scan.Scan.{Scan}
 use Rattle.rust_lexer.specs.declared.scan.Scan.TheVariants.{Comment, Raw, Closed}
-use Rattle.rust_lexer.specs.declared.shape.Shape.{Shape}
 use Rattle.rust_lexer.specs.Classes.{begins_of, after_char_of, is_in_of, skip_of}
 use Rattle.rust_lexer.specs.Comments.{line_kind_of, block_kind_of, line_comment_of, block_on, block_comment_of}
 use Rattle.rust_lexer.specs.Names.{skip_suffix_of}
@@ -19,7 +16,7 @@ use Rattle.rust_lexer.specs.Shapes.{plain_of}
 use Rattle.rust_lexer.specs.Signs.{sign_kind_of}
 use Rattle.rust_lexer.specs.Tokens.{sign_of, slash_of}
 use Rattle.lexer_laws.specs.Behind.{IsBrace, before}
-use Rattle.lexer_laws.proofs.Tests.{at_brace, begins_same, not_same, and_same, or_same, and_fails, skip_same, tail_same, longer}
+use Rattle.lexer_laws.proofs.Tests.{at_brace, begins_same, not_same, and_same, and_fails, skip_same, tail_same, longer}
 use Rattle.lexer_laws.proofs.Decoding.{brace_decoded, after_char_same}
 use Rattle.lexer_laws.proofs.Skipping.{skip_suffix_same, skip_shorter, suffix_shorter}
 use Rattle.lexer_laws.proofs.Scanning.{ScanStays, ScanPasses, scan_ends, run_shorter}
@@ -32,7 +29,7 @@ begins n b h f g q y = begins_same n b (not_same n b h f g) q y
 
 few_on : (p : Bool) (k : SyntaxKind) (r y : List ℕ) (b : ℕ) → IsBrace b
     → (if p then plain_of k (length (skip_suffix_of (r ++ b ∷ y))) else invalid_of k (length (r ++ b ∷ y)))
-      ≡ before (suc (length y)) (if p then plain_of k (length (skip_suffix_of r)) else invalid_of k (length r))
+    ≡ before (suc (length y)) (if p then plain_of k (length (skip_suffix_of r)) else invalid_of k (length r))
 few_on true k r y b h = ap (plain_of k) (ap length (skip_suffix_same b h r y) ∙ longer (skip_suffix_of r) y b)
 few_on false k r y b h = ap (invalid_of k) (longer r y b)
 
@@ -68,7 +65,7 @@ invalid_ends : (k : SyntaxKind) (b : ℕ) (text o : List ℕ) → IsBrace b → 
 invalid_ends k b text [] h =
     covered (λ s. invalid_of k (length (after_char_of s))) b text [] (λ y.
     let rest : length (after_char_of (b ∷ y)) ≡ length y =
-        length-drop _ (b ∷ y) ∙ ap (λ r. length (b ∷ y) - r.size) (brace_decoded b h y) ∙ (omega arith) in
+    length-drop _ (b ∷ y) ∙ ap (λ r. length (b ∷ y) - r.size) (brace_decoded b h y) ∙ (omega arith) in
     omega (arith, rest))
 invalid_ends k b text (x ∷ o) h =
     ended (λ s. invalid_of k (length (after_char_of s))) b text (x ∷ o) (λ y l.
@@ -88,7 +85,7 @@ raw_string_ends k b text q h =
     (λ s. if begins_of 34 (skip_of classes.Hash s) then body_of k n (drop 1 (skip_of classes.Hash s)) else invalid_of k (length (after_char_of (skip_of classes.Hash s))))
     b text q
     (λ y. ap (λ (m : ℕ). if begins_of 34 (skip_of classes.Hash (q ++ b ∷ y)) then body_of k m (drop 1 (skip_of classes.Hash (q ++ b ∷ y)))
-      else invalid_of k (length (after_char_of (skip_of classes.Hash (q ++ b ∷ y))))) (count_same b h q y))
+    else invalid_of k (length (after_char_of (skip_of classes.Hash (q ++ b ∷ y))))) (count_same b h q y))
     refl
     (skipped_ends (λ s. if begins_of 34 s then body_of k n (drop 1 s) else invalid_of k (length (after_char_of s))) (skip_of classes.Hash) b text q
     (λ y. hashes_same b h q y) (opened_ends k n b text (skip_of classes.Hash q) h))
@@ -99,7 +96,7 @@ raw_string_ends k b text q h =
 line_on : (p : Bool) (x : ℕ) (b : ℕ) (q : List ℕ) → is_in_of classes.InLine x ≡ p
     → ((y : List ℕ) → skip_of classes.InLine (q ++ b ∷ y) ≡ skip_of classes.InLine q ++ b ∷ y) ⊎ ((y : List ℕ) → skip_of classes.InLine (q ++ b ∷ y) ≡ skip_of classes.InLine y)
     → ((y : List ℕ) → skip_of classes.InLine (x ∷ (q ++ b ∷ y)) ≡ skip_of classes.InLine (x ∷ q) ++ b ∷ y)
-      ⊎ ((y : List ℕ) → skip_of classes.InLine (x ∷ (q ++ b ∷ y)) ≡ skip_of classes.InLine y)
+    ⊎ ((y : List ℕ) → skip_of classes.InLine (x ∷ (q ++ b ∷ y)) ≡ skip_of classes.InLine y)
 line_on true x b q h (inl k) =
     inl (λ y. ap (λ (r : Bool). if r then skip_of classes.InLine (q ++ b ∷ y) else x ∷ (q ++ b ∷ y)) h ∙ k y
     ∙ sym (ap (λ (r : Bool). (if r then skip_of classes.InLine q else x ∷ q) ++ b ∷ y) h))
@@ -140,7 +137,7 @@ line_comment_ends b text q h = line_comment_on b text q h (line_ends b h q)
 
 outer_block : (b : ℕ) → IsBrace b → (q y : List ℕ)
     → (begins_of 42 (q ++ b ∷ y) && not (begins_of 42 (drop 1 (q ++ b ∷ y))) && not (begins_of 47 (drop 1 (q ++ b ∷ y))))
-      ≡ (begins_of 42 q && not (begins_of 42 (drop 1 q)) && not (begins_of 47 (drop 1 q)))
+    ≡ (begins_of 42 q && not (begins_of 42 (drop 1 q)) && not (begins_of 47 (drop 1 q)))
 outer_block b h [] y = ap (λ (p : Bool). p && not (begins_of 42 y) && not (begins_of 47 y)) (not_same 42 b h refl refl)
 outer_block b h (x ∷ q) y =
     ap₂ (λ (p r : Bool). (x == 42) && not p && not r) (begins 42 b h refl refl q y) (begins 47 b h refl refl q y)

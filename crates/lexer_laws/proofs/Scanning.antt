@@ -1,5 +1,5 @@
--- A scan of a text either ends before what follows the text, or goes over its first byte, whatever that is followed by.
-use Rattle.std.proofs.Common.{◌≡◌, ◌⊎◌, inl, inr, ℕ, zero, suc, ◌+◌, ◌-◌, ◌<◌, ◌≤◌, Bool, true, false, not, ◌==◌, nat_le, if◌then◌else◌, Option, Some, None, List, [], ◌∷◌, ◌++◌, length, ap, sym, ◌∙◌, refl, arith, subst}
+-- A scan ends before a byte, or goes over it, whatever follows the byte.
+use Rattle.std.proofs.Common.{◌≡◌, ◌⊎◌, inl, inr, ℕ, suc, ◌≤◌, Bool, true, false, ◌==◌, if◌then◌else◌, Option, Some, None, List, [], ◌∷◌, ◌++◌, length, ap, sym, ◌∙◌, refl, arith, subst}
 use Rattle.rust_lexer.specs.declared.scan.Scan.{Scan}
 use Rattle.rust_lexer.specs.declared.scan.Scan.TheVariants.{Comment, CommentSlash, CommentStar, Text, TextEscape, Quote, QuoteEscape, QuoteLine, Raw, RawHashes, Matter, Fence, Seek, SeekSecond, Closed}
 use Rattle.rust_lexer.specs.Scans.{run_of, next_of}
@@ -48,26 +48,30 @@ ends_next : (o : Option Scan) (p r : Scan) (b : ℕ) (q : List ℕ) → next_of 
     → ScanStays p b q ⊎ ScanPasses p b q
 unfolding resumed_in stepped
 ends_next None p r b q h e k =
-    inl (record { stays = λ y.
-      resumed q p (b ∷ y) ∙ ap (λ (t : List ℕ). resumed_in (run_of p q).0 t (b ∷ y)) k
-      ∙ ap (λ (t : Scan). run_of t (b ∷ y)) e ∙ one_step r b y None h
-      ∙ sym (ap (λ (t : Scan). (t, (run_of p q).1 ++ b ∷ y)) e ∙ ap (λ (t : List ℕ). (r, t ++ b ∷ y)) k) })
+    inl (record {
+      stays = λ y.
+          resumed q p (b ∷ y) ∙ ap (λ (t : List ℕ). resumed_in (run_of p q).0 t (b ∷ y)) k
+          ∙ ap (λ (t : Scan). run_of t (b ∷ y)) e ∙ one_step r b y None h
+          ∙ sym (ap (λ (t : Scan). (t, (run_of p q).1 ++ b ∷ y)) e ∙ ap (λ (t : List ℕ). (r, t ++ b ∷ y)) k);
+    })
 ends_next (Some n) p r b q h e k =
     inr (record {
       next = n;
       is_next = ap (λ (t : Scan). next_of t b) e ∙ h;
       passes = λ y.
-        resumed q p (b ∷ y) ∙ ap (λ (t : List ℕ). resumed_in (run_of p q).0 t (b ∷ y)) k
-        ∙ ap (λ (t : Scan). run_of t (b ∷ y)) e ∙ one_step r b y (Some n) h;
+          resumed q p (b ∷ y) ∙ ap (λ (t : List ℕ). resumed_in (run_of p q).0 t (b ∷ y)) k
+          ∙ ap (λ (t : Scan). run_of t (b ∷ y)) e ∙ one_step r b y (Some n) h;
     })
 
 ends_rest : (rest : List ℕ) (p : Scan) (b : ℕ) (q : List ℕ) → (run_of p q).1 ≡ rest → ScanStays p b q ⊎ ScanPasses p b q
 unfolding resumed_in
 ends_rest [] p b q k = ends_next (next_of (run_of p q).0 b) p (run_of p q).0 b q refl refl k
 ends_rest (x ∷ r) p b q k =
-    inl (record { stays = λ y.
-      resumed q p (b ∷ y) ∙ ap (λ (t : List ℕ). resumed_in (run_of p q).0 t (b ∷ y)) k
-      ∙ sym (ap (λ (t : List ℕ). ((run_of p q).0, t ++ b ∷ y)) k) })
+    inl (record {
+      stays = λ y.
+          resumed q p (b ∷ y) ∙ ap (λ (t : List ℕ). resumed_in (run_of p q).0 t (b ∷ y)) k
+          ∙ sym (ap (λ (t : List ℕ). ((run_of p q).0, t ++ b ∷ y)) k);
+    })
 
 pub scan_ends : (p : Scan) (b : ℕ) (q : List ℕ) → ScanStays p b q ⊎ ScanPasses p b q
 scan_ends p b q = ends_rest (run_of p q).1 p b q refl

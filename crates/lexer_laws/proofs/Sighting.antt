@@ -1,7 +1,7 @@
 -- How the grammar's machine sees a text that is cut at a brace.
-use Rattle.std.proofs.Common.{◌≡◌, ◌⊎◌, inl, inr, ℕ, zero, suc, ◌+◌, ◌-◌, ◌*◌, ◌<◌, ◌≤◌, Bool, true, false, ◌==◌, ◌&&◌, ◌||◌, nat_lt, nat_le, if◌then◌else◌, Option, Some, None, List, [], ◌∷◌, ◌++◌, length, drop, take, ap, ap₂, sym, ◌∙◌, refl, arith, subst, append_assoc, append-nil, take-append-drop, length-append, length-drop, length-take}
+use Rattle.std.proofs.Common.{◌≡◌, ◌⊎◌, inl, inr, ℕ, zero, suc, ◌+◌, ◌-◌, ◌<◌, ◌≤◌, Bool, true, false, ◌==◌, ◌&&◌, ◌||◌, nat_lt, nat_le, if◌then◌else◌, List, [], ◌∷◌, ◌++◌, length, drop, take, ap, ap₂, sym, ◌∙◌, refl, arith, append_assoc, append-nil, take-append-drop, length-drop, length-take}
 use Rattle.std.specs.Prelude.{slice_get}
-use Rattle.std.proofs.Math.Seq.{drop-append_seam, take-append_seam}
+use Rattle.std.proofs.Math.Seq.{drop-append_seam}
 use Rattle.std.proofs.lemmas.Bool.{cases_eq}
 use Rattle.std.proofs.lemmas.Bool.Decides.{nat_tests}
 use Rattle.std.proofs.lemmas.List.{take-append-le, drop-append-le}
@@ -11,9 +11,9 @@ use Rattle.syntax_kind.specs.declared.syntax_kind.token_kind.TokenKind.TheVarian
 use Rattle.ras_front_end.specs.declared.edition.Edition.{Edition}
 use Rattle.token_layout.specs.declared.span.Token as span
 use Rattle.grammar_machine.specs.declared.grammar.Sight.{Sight}
-use Rattle.rust_grammar.specs.Seeing.{number_of, number_on, joined_of, finer_of, sight_of, seen_of, sights_of}
+use Rattle.rust_grammar.specs.Seeing.{number_of, number_on, joined_of, finer_of, seen_of, sights_of}
 use Rattle.lexer_laws.specs.Cuts.{bytes_of}
-use Rattle.lexer_laws.specs.Pieces.{Opens, Closes, IsBraced}
+use Rattle.lexer_laws.specs.Pieces.{IsBraced}
 
 abbrev Tokens : Type 0
 Tokens = List span.Token
@@ -52,8 +52,8 @@ unfolding empty_below
 empty_at left zero i h l = absurd (omega (arith, l))
 empty_at left (suc n) i h l =
     elim (cases_eq i n) [
-      inl same ↦ ap (joined_of left) same ∙ is_zero (joined_of left n) (first_true (joined_of left n == 0) (empty_below left n) h)
-    | inr other ↦ empty_at left n i (last_true (joined_of left n == 0) (empty_below left n) h) (omega (arith, l, other))
+      | inl same ↦ ap (joined_of left) same ∙ is_zero (joined_of left n) (first_true (joined_of left n == 0) (empty_below left n) h)
+      | inr other ↦ empty_at left n i (last_true (joined_of left n == 0) (empty_below left n) h) (omega (arith, l, other))
     ]
 
 none_before : empty_below 0 43 ≡ true
@@ -97,7 +97,7 @@ last_seen e w one n t h =
     seen_same e w one n t 0 0 (not_joined one n h ∙ sym (not_joined one 0 refl))
     (ap (λ (j : ℕ). joined_of j t) (not_joined one n h) ∙ no_left t ∙ sym (ap (λ (j : ℕ). joined_of j 0) (not_joined one 0 refl) ∙ no_left 0))
 
--- what a token and those behind it are seen as does not depend on what follows the tokens, if that begins with a brace
+-- how a token before others is seen does not depend on what follows these, if that is a brace
 seen_before : (e : Edition) (w : List ℕ) (one : ℕ) (ts us : Tokens) (t : span.Token) → nat_lt (number_of t.kind) 24 ≡ true
     → seen_of e w one (number_on (slice_get (ts ++ t ∷ us) 0)) (number_on (slice_get (ts ++ t ∷ us) 1)) ≡ seen_of e w one (number_on (slice_get ts 0)) (number_on (slice_get ts 1))
 seen_before e w one [] us t h = last_seen e w one (number_of t.kind) (number_on (slice_get us 0)) h
@@ -141,8 +141,8 @@ closing_last e w c t us l h =
     let rest : drop t.len (w ++ c) ≡ c = ap (λ (n : ℕ). drop n (w ++ c)) l ∙ drop-append_seam w c in
     ap₂ (λ (x y : List ℕ). seen_of e x (number_of t.kind) (number_on (slice_get us 0)) (number_on (slice_get us 1)) ++ sights_of e y us) front rest
     ∙ ap (λ (p : List Sight). p ++ sights_of e c us) (
-      seen_last e (take t.len w) (number_of t.kind) (number_on (slice_get us 0)) (number_on (slice_get us 1)) h
-      ∙ sym (append-nil (seen_of e (take t.len w) (number_of t.kind) 0 0))
+    seen_last e (take t.len w) (number_of t.kind) (number_on (slice_get us 0)) (number_on (slice_get us 1)) h
+    ∙ sym (append-nil (seen_of e (take t.len w) (number_of t.kind) 0 0))
     )
 
 bytes_append : (ts us : Tokens) → bytes_of (ts ++ us) ≡ bytes_of ts + bytes_of us
@@ -177,6 +177,6 @@ sights_cut e a piece c ts ps us l m p =
     ∙ ap (λ (rs : Tokens). sights_of e a ts ++ sights_of e (piece ++ c) (rs ++ us)) (sym p.0.begins ∙ p.1.ends)
     ∙ ap (λ (rs : Tokens). sights_of e a ts ++ sights_of e (piece ++ c) rs) (append_assoc p.1.front (p.1.last ∷ []) us)
     ∙ ap (λ (r : List Sight). sights_of e a ts ++ r) (
-      behind_brace e piece c p.1.front us p.1.last (ap bytes_of (sym p.1.ends) ∙ m) closing
-      ∙ ap (λ (rs : Tokens). sights_of e piece rs ++ sights_of e c us) (sym p.1.ends)
+    behind_brace e piece c p.1.front us p.1.last (ap bytes_of (sym p.1.ends) ∙ m) closing
+    ∙ ap (λ (rs : Tokens). sights_of e piece rs ++ sights_of e c us) (sym p.1.ends)
     )

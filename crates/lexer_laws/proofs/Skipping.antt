@@ -1,6 +1,5 @@
 -- Names, suffixes and white space past ASCII end before a brace.
-use Rattle.std.proofs.Common.{◌≡◌, ℕ, zero, suc, ◌+◌, ◌<◌, ◌≤◌, Bool, true, false, ◌==◌, ◌&&◌, ◌||◌, nat_lt, nat_le, if◌then◌else◌, Option, Some, None, List, [], ◌∷◌, ◌++◌, length, drop, ap, sym, ◌∙◌, refl, arith}
-use Rattle.std.specs.Prelude.{slice_get}
+use Rattle.std.proofs.Common.{◌≡◌, ℕ, zero, suc, ◌≤◌, Bool, true, false, ◌==◌, ◌||◌, nat_lt, nat_le, if◌then◌else◌, List, [], ◌∷◌, ◌++◌, length, ap, sym, ◌∙◌, refl, arith}
 use Rattle.std.proofs.lemmas.List.{length-drop}
 use Rattle.unicode_ident.proofs.IdentLemmas.{is_xid_continue-ascii}
 use Rattle.bstr.specs.Utf8.{Decoded, decoded}
@@ -8,11 +7,11 @@ use Rattle.rust_lexer.specs.declared.class.Class.{Class}
 use Rattle.rust_lexer.specs.declared.class.Class.TheVariants as classes
 use Rattle.rust_lexer.specs.declared.class.Wide.{Wide}
 use Rattle.rust_lexer.specs.declared.class.Wide.TheVariants as wides
-use Rattle.rust_lexer.specs.Classes.{test_on, begins_of, begins_beyond_of, begins_digit_of, begins_wide_of, is_letter_of, is_digit_of, is_in_of, is_wide_of, is_emoji_of, is_name_start_of, is_name_continue_of, skip_of, skip_some, skip_wide_of, after_char_of}
+use Rattle.rust_lexer.specs.Classes.{test_on, begins_beyond_of, begins_digit_of, begins_wide_of, is_letter_of, is_digit_of, is_in_of, is_wide_of, is_emoji_of, is_name_start_of, is_name_continue_of, skip_of, skip_some, skip_wide_of, after_char_of}
 use Rattle.rust_lexer.specs.Names.{begins_wide_name_of, begins_name_of, begins_emoji_of, begins_wide_emoji_of, is_literal_mark_of, skip_name_of, skip_suffix_of}
 use Rattle.rust_lexer.proofs.NameFronts.{decoded_some}
 use Rattle.lexer_laws.specs.Behind.{IsBrace}
-use Rattle.lexer_laws.proofs.Tests.{at_brace, test_same, begins_same, not_same, and_same, or_same, skip_same, longer}
+use Rattle.lexer_laws.proofs.Tests.{at_brace, test_same, not_same, and_same, or_same, skip_same, longer}
 use Rattle.lexer_laws.proofs.Decoding.{brace_decoded, after_char_same, char_same}
 
 no_continue : (b : ℕ) → IsBrace b → is_name_continue_of b ≡ false

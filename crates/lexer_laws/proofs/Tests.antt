@@ -1,5 +1,5 @@
 -- What is tested at the front of a text does not depend on what follows a brace.
-use Rattle.std.proofs.Common.{◌≡◌, ℕ, ◌+◌, suc, Bool, true, false, ◌==◌, ◌&&◌, ◌||◌, if◌then◌else◌, List, [], ◌∷◌, ◌++◌, length, drop, ap, ap₂, sym, ◌∙◌, refl, inl, inr, length-append}
+use Rattle.std.proofs.Common.{◌≡◌, ℕ, ◌+◌, suc, Bool, true, false, ◌==◌, ◌&&◌, ◌||◌, if◌then◌else◌, List, [], ◌∷◌, ◌++◌, length, drop, ap, ap₂, ◌∙◌, refl, inl, inr, length-append}
 use Rattle.std.specs.Prelude.{slice_get}
 use Rattle.rust_lexer.specs.declared.class.Class.{Class}
 use Rattle.rust_lexer.specs.Classes.{test_on, begins_of, is_in_of, skip_of}

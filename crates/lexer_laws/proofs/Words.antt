@@ -1,5 +1,5 @@
 -- Names at a brace.
-use Rattle.std.proofs.Common.{◌≡◌, ◌⊎◌, inl, inr, ℕ, zero, suc, ◌+◌, ◌-◌, ◌<◌, ◌≤◌, ◌^◌, Bool, true, false, not, ◌==◌, ◌&&◌, ◌||◌, nat_lt, nat_le, if◌then◌else◌, List, [], ◌∷◌, ◌++◌, length, drop, take, slice_index, ap, ap₂, sym, ◌∙◌, refl, arith, subst}
+use Rattle.std.proofs.Common.{◌≡◌, ◌⊎◌, inl, inr, ℕ, suc, ◌+◌, ◌-◌, ◌<◌, ◌≤◌, Bool, true, false, not, ◌==◌, ◌&&◌, ◌||◌, nat_lt, nat_le, if◌then◌else◌, List, [], ◌∷◌, ◌++◌, length, take, slice_index, ap, ap₂, sym, ◌∙◌, refl, arith}
 use Rattle.std.specs.Prelude.{bytes_eq, codes}
 use Rattle.std.specs.Str.{IsCharBoundary}
 use Rattle.std.proofs.lemmas.Bool.{cases_eq}
@@ -19,7 +19,7 @@ use Rattle.rust_lexer.specs.Shapes.{plain_of}
 use Rattle.lexer_laws.specs.Behind.{IsBrace, before}
 use Rattle.lexer_laws.proofs.Tests.{holds_at_brace, longer}
 use Rattle.lexer_laws.proofs.Skipping.{skip_wide_same, skip_name_same, literal_mark_same, wide_emoji_same}
-use Rattle.lexer_laws.proofs.Ending.{Ends, Covered, ended, choose, with_ends, skipped_ends}
+use Rattle.lexer_laws.proofs.Ending.{Ends, ended, choose, with_ends, skipped_ends}
 
 -- ---- where the text is cut
 
@@ -108,14 +108,16 @@ made_on : (f : List ℕ → ℕ → Shape) (g : List ℕ → List ℕ) (b : ℕ)
     → ((w : List ℕ) (n k : ℕ) → f w (n + k) ≡ before k (f w n)) → ((w : List ℕ) (n : ℕ) → (f w n).left ≡ n)
     → (is_whole (length (g q)) q ≡ true) ⊎ (is_whole (length (g q)) q ≡ false) → Ends (λ s. f (front_of (length (g s)) s) (length (g s))) b q q
 made_on f g b q h k m r (inl e) =
-    inr (record { over = λ y.
-      let n : ℕ = length (g q) in
-      let len : length (g (q ++ b ∷ y)) ≡ n + suc (length y) = ap length (k y) ∙ longer (g q) y b in
-      let left : (f (front_of (length (g (q ++ b ∷ y))) (q ++ b ∷ y)) (length (g (q ++ b ∷ y)))).left ≡ n + suc (length y) =
+    inr (record {
+      over = λ y.
+          let n : ℕ = length (g q) in
+          let len : length (g (q ++ b ∷ y)) ≡ n + suc (length y) = ap length (k y) ∙ longer (g q) y b in
+          let left : (f (front_of (length (g (q ++ b ∷ y))) (q ++ b ∷ y)) (length (g (q ++ b ∷ y)))).left ≡ n + suc (length y) =
           r (front_of (length (g (q ++ b ∷ y))) (q ++ b ∷ y)) (length (g (q ++ b ∷ y))) ∙ len in
-      let cut : cut_of (f (front_of (length (g (q ++ b ∷ y))) (q ++ b ∷ y)) (length (g (q ++ b ∷ y)))).left (q ++ b ∷ y) ≡ length (q ++ b ∷ y) =
+          let cut : cut_of (f (front_of (length (g (q ++ b ∷ y))) (q ++ b ∷ y)) (length (g (q ++ b ∷ y)))).left (q ++ b ∷ y) ≡ length (q ++ b ∷ y) =
           ap (λ (j : ℕ). cut_of j (q ++ b ∷ y)) left ∙ cut_whole n b h q y e in
-      omega (arith, cut, longer q y b) })
+          omega (arith, cut, longer q y b);
+    })
 made_on f g b q h k m r (inr e) =
     ended _ b q q (λ y l.
     let n : ℕ = length (g q) in
@@ -131,7 +133,7 @@ made_ends f g b q h k m r = made_on f g b q h k m r (either_true (is_whole (leng
 
 prefix_on : (p : Bool) (n k : ℕ)
     → (if p then plain_of (Token token.IDENT) (n + k) else record { kind = Token token.IDENT; left = n + k; fault = Prefix })
-      ≡ before k (if p then plain_of (Token token.IDENT) n else record { kind = Token token.IDENT; left = n; fault = Prefix })
+    ≡ before k (if p then plain_of (Token token.IDENT) n else record { kind = Token token.IDENT; left = n; fault = Prefix })
 prefix_on true n k = refl
 prefix_on false n k = refl
 
@@ -146,7 +148,7 @@ pub name_ends : (e : Edition) (b : ℕ) (q : List ℕ) → IsBrace b → Ends (n
 name_ends e b q h =
     choose (λ s. is_literal_mark_of (skip_name_of s)) (λ s. prefix_of (front_of (length (skip_name_of s)) s) (length (skip_name_of s)))
     (λ s. if begins_wide_emoji_of (skip_name_of s) then emoji_name_of (skip_name_of s)
-      else plain_of (word_kind_of e (front_of (length (skip_name_of s)) s)) (length (skip_name_of s))) b q q
+    else plain_of (word_kind_of e (front_of (length (skip_name_of s)) s)) (length (skip_name_of s))) b q q
     (λ y. ap is_literal_mark_of (skip_name_same b h q y) ∙ literal_mark_same b h (skip_name_of q) y)
     (λ k. made_ends prefix_of skip_name_of b q h (λ y. skip_name_same b h q y)
     (λ w n m. prefix_on (bytes_eq w (codes "builtin")) n m) (λ w n. prefix_left (bytes_eq w (codes "builtin")) n))
@@ -168,9 +170,9 @@ reaches c n h = grind (arith, nat_tests)
 
 byte_starts : (c : ℕ) → (128 ≤ c → 192 ≤ c) → (nat_lt c 128 || nat_le 192 c) ≡ true
 byte_starts c h = elim (either_true (nat_lt c 128)) [
-      inl k ↦ or_true (nat_lt c 128) (nat_le 192 c) k
-    | inr k ↦ either_way (nat_lt c 128) (nat_le 192 c) (at_most 192 c (h (reaches c 128 k)))
-    ]
+  | inl k ↦ or_true (nat_lt c 128) (nat_le 192 c) k
+  | inr k ↦ either_way (nat_lt c 128) (nat_le 192 c) (at_most 192 c (h (reaches c 128 k)))
+]
 
 starts_on : (i : ℕ) (s : List ℕ) → IsCharBoundary s i → (i < length s) ⊎ (i ≡ length s) → is_boundary_of i s ≡ true
 starts_on i s h (inl k) = boundary_at i (length s) (slice_index s i) k ∙ byte_starts (slice_index s i) (h.1 k)

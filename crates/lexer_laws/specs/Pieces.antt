@@ -26,14 +26,14 @@ pub record Closes (ts : List Token) : Type 0 where
 abbrev pub IsBraced : List Token → Type 0
 IsBraced ts = Opens ts × Closes ts
 
--- a text that is so by itself has in a longer text the tokens that it has by itself, and so has what follows it
+-- a text that is so by itself has the same tokens in a longer text, and so has what follows it
 abbrev pub PiecesAreCut : Type 0
 PiecesAreCut =
     (e : Edition) (piece c : List ℕ) → IsUtf8 piece → IsUtf8 c → length (piece ++ c) < 2 ^ 32
     → IsBraced (tokens_of e piece) → tokens_within e (piece ++ c) ≡ tokens_of e piece ++ tokens_within e c
 
--- a part of a text was replaced: the tokens of the text are cut before and behind the part, and the first of it is `{`; by itself the
--- new part is from `{` to `}`; and neither text has a shebang or a front matter
+-- a part of a text was replaced: the tokens of the text are cut before and behind the part, and the
+-- first of it is `{`; by itself the new part is from `{` to `}`; and the text has no head
 pub record IsReplaced (e : Edition) (a part piece c : List ℕ) (ts ps us : List Token) : Type 0 where
   pub is_text : IsUtf8 (a ++ (part ++ c))
   pub is_new_text : IsUtf8 (a ++ (piece ++ c))
