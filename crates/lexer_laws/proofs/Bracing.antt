@@ -14,7 +14,7 @@ use Rattle.rust_lexer.specs.Lexing.{size_of}
 use Rattle.rust_lexer.specs.Shapes.{plain_of}
 use Rattle.rust_lexer.specs.Signs.{sign_kind_of}
 use Rattle.rust_lexer.specs.Tokens.{token_of}
-use Rattle.lexer_laws.specs.Behind.{IsBrace, before}
+use Rattle.lexer_laws.specs.Behind.{IsBrace, fault_before, before}
 use Rattle.lexer_laws.specs.Cuts.{tokens_within, bytes_of}
 use Rattle.lexer_laws.proofs.Tests.{longer}
 use Rattle.lexer_laws.proofs.Firsts.{token_ends}
@@ -38,18 +38,19 @@ no_token t ts h = absurd (cc)
 -- ---- the first token where a brace is behind the text s
 
 -- it ends after i bytes, which are some of s, whatever follows the brace
-record Inside (e : Edition) (s : List ℕ) (b : ℕ) : Type 0 where
-  token : span.Token
-  bytes : ℕ
-  some : 0 < bytes
-  few : bytes ≤ length s
-  is_long : token.len ≡ bytes
-  is_first : (y : List ℕ) → length s + length y < 2 ^ 32 - 1 → token_at e (s ++ b ∷ y) ≡ token
-  is_rest : (y : List ℕ) → length s + length y < 2 ^ 32 - 1 → back_of (token_of e (s ++ b ∷ y)).left (s ++ b ∷ y) ≡ drop bytes s ++ b ∷ y
+pub record Inside (e : Edition) (s : List ℕ) (b : ℕ) : Type 0 where
+  pub token : span.Token
+  pub bytes : ℕ
+  pub some : 0 < bytes
+  pub few : bytes ≤ length s
+  pub is_long : token.len ≡ bytes
+  pub is_first : (y : List ℕ) → length s + length y < 2 ^ 32 - 1 → token_at e (s ++ b ∷ y) ≡ token
+  pub is_fault : (y : List ℕ) → length s + length y < 2 ^ 32 - 1 → (token_of e (s ++ b ∷ y)).fault ≡ fault_before (suc (length y)) (token_of e s).fault
+  pub is_rest : (y : List ℕ) → length s + length y < 2 ^ 32 - 1 → back_of (token_of e (s ++ b ∷ y)).left (s ++ b ∷ y) ≡ drop bytes s ++ b ∷ y
 
 -- it is longer than s, whatever follows the brace
-record Beyond (e : Edition) (s : List ℕ) (b : ℕ) : Type 0 where
-  is_longer : (y : List ℕ) → length s + length y < 2 ^ 32 - 1 → length s < (token_at e (s ++ b ∷ y)).len
+pub record Beyond (e : Edition) (s : List ℕ) (b : ℕ) : Type 0 where
+  pub is_longer : (y : List ℕ) → length s + length y < 2 ^ 32 - 1 → length s < (token_at e (s ++ b ∷ y)).len
 
 long_token : (e : Edition) (s : List ℕ) (n : ℕ) → n < 2 ^ 32 - 1 → n < cut_of (token_of e s).left s → n < (token_at e s).len
 long_token e s n h k = omega (arith, front_length (token_of e s).left s, h, k)
@@ -79,6 +80,7 @@ inside e s b h l f w =
           let len : size_of (length (front_of (token_of e (s ++ b ∷ y)).left (s ++ b ∷ y))) ≡ i =
           ap size_of (front_length (token_of e (s ++ b ∷ y)).left (s ++ b ∷ y) ∙ cut y m) ∙ omega (arith, l) in
           ap₂ (λ (c : SyntaxKind) (j : ℕ). record { kind = c; len = j }) (ap (λ (t : Shape). t.kind) (f y (omega (arith, m)))) len;
+      is_fault = λ y m. ap (λ (t : Shape). t.fault) (f y (omega (arith, m)));
       is_rest = λ y m. ap (λ (j : ℕ). drop j (s ++ b ∷ y)) (cut y m) ∙ drop-append-le i s (b ∷ y) (omega arith);
     }
 
@@ -98,7 +100,7 @@ either_true : (p : Bool) → (p ≡ true) ⊎ (p ≡ false)
 either_true true = inl refl
 either_true false = inr refl
 
-first_token : (e : Edition) (x : ℕ) (s : List ℕ) (b : ℕ) → IsBrace b → length (x ∷ s) < 2 ^ 32 - 1 → Inside e (x ∷ s) b ⊎ Beyond e (x ∷ s) b
+pub first_token : (e : Edition) (x : ℕ) (s : List ℕ) (b : ℕ) → IsBrace b → length (x ∷ s) < 2 ^ 32 - 1 → Inside e (x ∷ s) b ⊎ Beyond e (x ∷ s) b
 first_token e x s b h l =
     elim (token_ends e x b s h) [
       | inl k ↦ elim (either_true (is_whole (token_of e (x ∷ s)).left (x ∷ s))) [
@@ -160,7 +162,7 @@ braces_cut e s u v b ts us h lu lv is k = cuts (length s) e b h s u v ts us (ome
 
 -- ---- a brace is a token
 
-brace_token : (e : Edition) (b : ℕ) (y : List ℕ) → IsBrace b → token_of e (b ∷ y) ≡ plain_of (sign_kind_of b) (length y)
+pub brace_token : (e : Edition) (b : ℕ) (y : List ℕ) → IsBrace b → token_of e (b ∷ y) ≡ plain_of (sign_kind_of b) (length y)
 unfolding token_of
 brace_token e b y (inl h) = subst (λ (c : ℕ). token_of e (c ∷ y) ≡ plain_of (sign_kind_of c) (length y)) (sym h) refl
 brace_token e b y (inr h) = subst (λ (c : ℕ). token_of e (c ∷ y) ≡ plain_of (sign_kind_of c) (length y)) (sym h) refl

@@ -158,9 +158,12 @@ between s r (x ∷ inner) h k =
     let first : x ≡ 123 = first_same x 123 (inner ++ 125 ∷ []) r (sym k ∙ h) in
     record { inner = inner; parts = k ∙ ap (λ (y : ℕ). y ∷ (inner ++ 125 ∷ [])) first }
 
+opens_plain : (e : Edition) (text : List ℕ) → Opens (tokens_of e text) → HasNoHead e text
+opens_plain e text o = no_head e text o.first o.rest o.begins o.is_open (headed e text)
+
 piece_found : (e : Edition) (text : List ℕ) → IsUtf8 text → Opens (tokens_of e text) → Closes (tokens_of e text) → IsPiece e text (tokens_of e text)
 piece_found e text u o c =
-    let plain : HasNoHead e text = no_head e text o.first o.rest o.begins o.is_open (headed e text) in
+    let plain : HasNoHead e text = opens_plain e text o in
     let same : tokens_of e text ≡ tokens_within e text = headless e text plain in
     let first : text ≡ 123 ∷ drop 1 text = first_byte e text o.first o.rest (sym same ∙ o.begins) o.is_open in
     let d = closed_text (length text) e text c.front c.last (omega arith) u (sym same ∙ c.ends) c.is_close in
@@ -201,13 +204,37 @@ head_moved : (a part piece c : List ℕ) (r s : List ℕ) → part ≡ 123 ∷ r
 head_moved a part piece c r s h k =
     ap (λ (t : List ℕ). may_have_head (a ++ (t ++ c))) h ∙ heads_end a (r ++ c) (s ++ c) 123 (inl refl) ∙ sym (ap (λ (t : List ℕ). may_have_head (a ++ (t ++ c))) k)
 
-pub pieces_replaced : (e : Edition) (a part piece c : List ℕ) (ts ps us : Tokens) → IsReplaced e a part piece c ts ps us → tokens_of e (a ++ (piece ++ c)) ≡ ts ++ (tokens_of e piece ++ us)
-pieces_replaced e a part piece c ts ps us r =
+-- what follows of the old text, the new part and the new text
+pub record Replaced (e : Edition) (a part piece c : List ℕ) (ts ps us : Tokens) : Type 0 where
+  pub is_piece : IsPiece e piece (tokens_of e piece)
+  pub piece_plain : HasNoHead e piece
+  pub plain : HasNoHead e (a ++ (part ++ c))
+  pub new_plain : HasNoHead e (a ++ (piece ++ c))
+  pub opens : part ≡ 123 ∷ drop 1 part
+  pub within : tokens_within e (a ++ (part ++ c)) ≡ ts ++ (ps ++ us)
+  pub short : length a + (length part + length c) < 2 ^ 32
+  pub new_short : length a + (length piece + length c) < 2 ^ 32
+
+pub replaced : (e : Edition) (a part piece c : List ℕ) (ts ps us : Tokens) → IsReplaced e a part piece c ts ps us → Replaced e a part piece c ts ps us
+replaced e a part piece c ts ps us r =
     let old : length a + (length part + length c) < 2 ^ 32 = omega (arith, r.short, length-append a (part ++ c), length-append part c) in
     let new : length a + (length piece + length c) < 2 ^ 32 = omega (arith, r.new_short, length-append a (piece ++ c), length-append piece c) in
     let p : IsPiece e piece (tokens_of e piece) = piece_found e piece r.is_piece_text r.braced.0 r.braced.1 in
     let plain : HasNoHead e (a ++ (part ++ c)) = plain_heads e (a ++ (part ++ c)) r.is_text r.no_head in
     let opens : part ≡ 123 ∷ drop 1 part = part_opens e a part c ts ps us plain old r.are_tokens r.cut_before r.cut_behind r.opens in
-    let new_plain : HasNoHead e (a ++ (piece ++ c)) =
-    plain_heads e (a ++ (piece ++ c)) r.is_new_text (sym (head_moved a part piece c (drop 1 part) (p.inner ++ 125 ∷ []) opens p.parts) ∙ r.no_head) in
-    pieces_put e a part (drop 1 part) piece c ts ps (tokens_of e piece) us opens plain new_plain r.is_rest_text old new r.are_tokens r.cut_before r.cut_behind p
+    record {
+      is_piece = p;
+      piece_plain = opens_plain e piece r.braced.0;
+      plain = plain;
+      new_plain =
+        plain_heads e (a ++ (piece ++ c)) r.is_new_text (sym (head_moved a part piece c (drop 1 part) (p.inner ++ 125 ∷ []) opens p.parts) ∙ r.no_head);
+      opens = opens;
+      within = sym (headless e (a ++ (part ++ c)) plain) ∙ r.are_tokens;
+      short = old;
+      new_short = new;
+    }
+
+pub pieces_replaced : (e : Edition) (a part piece c : List ℕ) (ts ps us : Tokens) → IsReplaced e a part piece c ts ps us → tokens_of e (a ++ (piece ++ c)) ≡ ts ++ (tokens_of e piece ++ us)
+pieces_replaced e a part piece c ts ps us r =
+    let w = replaced e a part piece c ts ps us r in
+    pieces_put e a part (drop 1 part) piece c ts ps (tokens_of e piece) us w.opens w.plain w.new_plain r.is_rest_text w.short w.new_short r.are_tokens r.cut_before r.cut_behind w.is_piece

@@ -15,3 +15,5 @@ mod Pieces
 mod BraceKinds
 mod Finding
 mod Sighting
+mod Faults
+mod Cleaning

@@ -27,7 +27,7 @@ tail_same t r ts rs h = cc
 
 -- ---- how long tokens are
 
-first_bytes : (e : Edition) (x : ℕ) (s : List ℕ) → length (x ∷ s) < 2 ^ 32 → (token_at e (x ∷ s)).len ≡ cut_of (token_of e (x ∷ s)).left (x ∷ s)
+pub first_bytes : (e : Edition) (x : ℕ) (s : List ℕ) → length (x ∷ s) < 2 ^ 32 → (token_at e (x ∷ s)).len ≡ cut_of (token_of e (x ∷ s)).left (x ∷ s)
 first_bytes e x s l =
     let n : ℕ = (token_of e (x ∷ s)).left in
     let few : cut_of n (x ∷ s) ≤ length (x ∷ s) = (cut-boundary n (x ∷ s)).0 in
@@ -93,6 +93,14 @@ pub record IsPiece (e : Edition) (text : List ℕ) (ts : Tokens) : Type 0 where
 closing : (e : Edition) → IsUtf8 [] → tokens_within e (125 ∷ []) ≡ record { kind = sign_kind_of 125; len = 1 } ∷ []
 closing e u =
     brace_alone e 125 [] (inr refl) u ∙ ap (λ (ts : Tokens). record { kind = sign_kind_of 125; len = 1 } ∷ ts) (within_empty e)
+
+-- the bytes before the `}`
+pub piece_front : (e : Edition) (piece : List ℕ) (ts : Tokens) (p : IsPiece e piece ts) → length piece < 2 ^ 32 → bytes_of p.front ≡ length (123 ∷ p.inner)
+piece_front e piece ts p l =
+    let len : length piece ≡ length (123 ∷ p.inner) + 1 = ap length p.parts ∙ length-append (123 ∷ p.inner) (125 ∷ []) in
+    let total : bytes_of (p.front ++ p.close ∷ []) ≡ length piece =
+        ap bytes_of (sym p.closed ∙ sym p.are_tokens) ∙ all_bytes (length piece) e piece (omega arith) l in
+    omega (arith, total, len, bytes_append p.front (p.close ∷ []), p.one_byte)
 
 pub pieces_cut : (e : Edition) (piece c : List ℕ) (ts : Tokens) → IsPiece e piece ts → IsUtf8 c → length piece + length c < 2 ^ 32
     → tokens_within e (piece ++ c) ≡ ts ++ tokens_within e c

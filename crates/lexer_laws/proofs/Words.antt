@@ -41,7 +41,7 @@ equal : (m n : ℕ) → m ≡ n → (m == n) ≡ true
 equal m n h = grind (arith, nat_tests)
 
 -- the byte at i, and whether it is there, decide
-boundary_at : (i n c : ℕ) → i < n → ((n == i) || (nat_lt i n && (nat_lt c 128 || nat_le 192 c))) ≡ (nat_lt c 128 || nat_le 192 c)
+pub boundary_at : (i n c : ℕ) → i < n → ((n == i) || (nat_lt i n && (nat_lt c 128 || nat_le 192 c))) ≡ (nat_lt c 128 || nat_le 192 c)
 boundary_at i n c h =
     ap₂ (λ (p r : Bool). p || (r && (nat_lt c 128 || nat_le 192 c))) (differ i n h) (below i n h)
 
@@ -51,7 +51,7 @@ inner_boundary i b q y h =
     ∙ ap (λ (c : ℕ). nat_lt c 128 || nat_le 192 c) (get_or_append_left q (b ∷ y) 0 i h)
     ∙ sym (boundary_at i (length q) (slice_index q i) h)
 
-byte_behind : (q y : List ℕ) (b : ℕ) → slice_index (q ++ b ∷ y) (length q) ≡ b
+pub byte_behind : (q y : List ℕ) (b : ℕ) → slice_index (q ++ b ∷ y) (length q) ≡ b
 byte_behind [] y b = refl
 byte_behind (x ∷ q) y b = byte_behind q y b
 

@@ -3,4 +3,5 @@ pub mod Firsts
 pub mod Cuts
 pub mod Heads
 pub mod Pieces
+pub mod Errors
 pub mod Sights

@@ -2,6 +2,7 @@
 ghost use Rattle.lexer_laws.specs.Firsts.{FirstTokensEnd};
 ghost use Rattle.lexer_laws.specs.Cuts.{BracesCut, BracesAreTokens};
 ghost use Rattle.lexer_laws.specs.Pieces.{PiecesAreCut, PiecesAreReplaced};
+ghost use Rattle.lexer_laws.specs.Errors.{ErrorsStayNone};
 ghost use Rattle.lexer_laws.specs.Heads.{PlainTextsHaveNoHead, HeadsEndBeforeBraces};
 ghost use Rattle.lexer_laws.specs.Sights.{SightsAreCut};
 
@@ -32,6 +33,12 @@ pub fn pieces_are_cut()
 /// the tokens, then the tokens of the new text are the old ones, with its own in the place of the part's.
 pub fn pieces_are_replaced()
     ensures { PiecesAreReplaced }
+{}
+
+/// If neither the text before such an exchange nor the new part by itself has errors of the lexer, the new
+/// text has none.
+pub fn errors_stay_none()
+    ensures { ErrorsStayNone }
 {}
 
 /// A text has neither a shebang nor a front matter if it begins with `#![` or not with `#!`, and if a dash
