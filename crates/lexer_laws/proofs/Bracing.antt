@@ -46,6 +46,7 @@ pub record Inside (e : Edition) (s : List ℕ) (b : ℕ) : Type 0 where
   pub is_long : token.len ≡ bytes
   pub is_first : (y : List ℕ) → length s + length y < 2 ^ 32 - 1 → token_at e (s ++ b ∷ y) ≡ token
   pub is_fault : (y : List ℕ) → length s + length y < 2 ^ 32 - 1 → (token_of e (s ++ b ∷ y)).fault ≡ fault_before (suc (length y)) (token_of e s).fault
+  pub is_cut : (y : List ℕ) → length s + length y < 2 ^ 32 - 1 → cut_of (token_of e (s ++ b ∷ y)).left (s ++ b ∷ y) ≡ bytes
   pub is_rest : (y : List ℕ) → length s + length y < 2 ^ 32 - 1 → back_of (token_of e (s ++ b ∷ y)).left (s ++ b ∷ y) ≡ drop bytes s ++ b ∷ y
 
 -- it is longer than s, whatever follows the brace
@@ -80,6 +81,7 @@ inside e s b h l f w =
           let len : size_of (length (front_of (token_of e (s ++ b ∷ y)).left (s ++ b ∷ y))) ≡ i =
           ap size_of (front_length (token_of e (s ++ b ∷ y)).left (s ++ b ∷ y) ∙ cut y m) ∙ omega (arith, l) in
           ap₂ (λ (c : SyntaxKind) (j : ℕ). record { kind = c; len = j }) (ap (λ (t : Shape). t.kind) (f y (omega (arith, m)))) len;
+      is_cut = cut;
       is_fault = λ y m. ap (λ (t : Shape). t.fault) (f y (omega (arith, m)));
       is_rest = λ y m. ap (λ (j : ℕ). drop j (s ++ b ∷ y)) (cut y m) ∙ drop-append-le i s (b ∷ y) (omega arith);
     }

@@ -60,7 +60,7 @@ problems_fine ts text s (Is p) h = absurd (cc)
 problems_fine ts text s Prefix h = absurd (cc)
 problems_fine ts text s (Content m before behind) h = h
 
-content_same : (k j b : ℕ) → IsBrace b → (s y : List ℕ) → is_whole j s ≡ false → content_of k (j + suc (length y)) (s ++ b ∷ y) ≡ content_of k j s
+pub content_same : (k j b : ℕ) → IsBrace b → (s y : List ℕ) → is_whole j s ≡ false → content_of k (j + suc (length y)) (s ++ b ∷ y) ≡ content_of k j s
 content_same k j b h s y w = ap (λ (z : List ℕ). back_of (length z - k) z) (front_same j b h s y w)
 
 fine_without : (b : ℕ) → IsBrace b → (s y : List ℕ) (f : Fault) → FitsIn s f → Fine (s ++ b ∷ y) (fault_before (suc (length y)) f) → Fine s f

@@ -212,6 +212,7 @@ pub record Replaced (e : Edition) (a part piece c : List ℕ) (ts ps us : Tokens
   pub new_plain : HasNoHead e (a ++ (piece ++ c))
   pub opens : part ≡ 123 ∷ drop 1 part
   pub within : tokens_within e (a ++ (part ++ c)) ≡ ts ++ (ps ++ us)
+  pub rest : tokens_within e (part ++ c) ≡ ps ++ us
   pub short : length a + (length part + length c) < 2 ^ 32
   pub new_short : length a + (length piece + length c) < 2 ^ 32
 
@@ -230,6 +231,10 @@ replaced e a part piece c ts ps us r =
         plain_heads e (a ++ (piece ++ c)) r.is_new_text (sym (head_moved a part piece c (drop 1 part) (p.inner ++ 125 ∷ []) opens p.parts) ∙ r.no_head);
       opens = opens;
       within = sym (headless e (a ++ (part ++ c)) plain) ∙ r.are_tokens;
+      rest = sym (
+        behind_cut (length (a ++ (part ++ c))) e (a ++ (part ++ c)) ts (ps ++ us) (omega arith) r.short (sym (headless e (a ++ (part ++ c)) plain) ∙ r.are_tokens)
+        ∙ ap (λ (n : ℕ). tokens_within e (drop n (a ++ (part ++ c)))) r.cut_before ∙ ap (tokens_within e) (drop-append_seam a (part ++ c))
+      );
       short = old;
       new_short = new;
     }

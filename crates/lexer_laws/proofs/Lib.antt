@@ -17,3 +17,4 @@ mod Finding
 mod Sighting
 mod Faults
 mod Cleaning
+mod Exchanging

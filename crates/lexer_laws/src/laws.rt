@@ -2,7 +2,7 @@
 ghost use Rattle.lexer_laws.specs.Firsts.{FirstTokensEnd};
 ghost use Rattle.lexer_laws.specs.Cuts.{BracesCut, BracesAreTokens};
 ghost use Rattle.lexer_laws.specs.Pieces.{PiecesAreCut, PiecesAreReplaced};
-ghost use Rattle.lexer_laws.specs.Errors.{ErrorsStayNone};
+ghost use Rattle.lexer_laws.specs.Errors.{ErrorsStayNone, ErrorsAreReplaced};
 ghost use Rattle.lexer_laws.specs.Heads.{PlainTextsHaveNoHead, HeadsEndBeforeBraces};
 ghost use Rattle.lexer_laws.specs.Sights.{SightsAreCut};
 
@@ -33,6 +33,12 @@ pub fn pieces_are_cut()
 /// the tokens, then the tokens of the new text are the old ones, with its own in the place of the part's.
 pub fn pieces_are_replaced()
     ensures { PiecesAreReplaced }
+{}
+
+/// The lexer's errors in the new text are those before the part, those of the new part by itself, and those
+/// behind the part, moved with the text, but for which of its two messages the error of a reserved prefix has.
+pub fn errors_are_replaced()
+    ensures { ErrorsAreReplaced }
 {}
 
 /// If neither the text before such an exchange nor the new part by itself has errors of the lexer, the new
