@@ -13,8 +13,8 @@ use Rattle.rust_lexer.specs.declared.shape.Fault.{Fault}
 use Rattle.rust_lexer.specs.declared.shape.Fault.TheVariants.{No, Is, Prefix, Content}
 use Rattle.rust_lexer.specs.declared.shape.Shape.{Shape}
 use Rattle.rust_lexer.specs.Contents.{content_problems}
-use Rattle.rust_lexer.specs.Cuts.{cut_of, front_of, back_of}
-use Rattle.rust_lexer.specs.Lexing.{Lexing, range_of, faults_at, content_of, problems_of, taken, steps_of, fresh, tokens_of, errors_of}
+use Rattle.rust_lexer.specs.Cuts.{cut_of, back_of}
+use Rattle.rust_lexer.specs.Lexing.{Lexing, range_of, faults_at, content_of, problems_of, taken, steps_of, tokens_of, errors_of}
 use Rattle.rust_lexer.specs.Shapes.{plain_of}
 use Rattle.rust_lexer.specs.Signs.{sign_kind_of}
 use Rattle.rust_lexer.specs.Tokens.{token_of}
@@ -27,7 +27,7 @@ use Rattle.lexer_laws.proofs.Bracing.{Inside, Beyond, first_token, cut_one, brac
 use Rattle.lexer_laws.proofs.Faults.{FitsIn, token_fits}
 use Rattle.lexer_laws.proofs.Finding.{Replaced, replaced}
 use Rattle.lexer_laws.proofs.Pieces.{IsPiece, piece_front, bytes_append, first_bytes}
-use Rattle.lexer_laws.proofs.Stepping.{token_at, within_empty, within_more, token_some, front_length, back_length, back_short}
+use Rattle.lexer_laws.proofs.Stepping.{token_at, within_empty, within_more, back_short}
 use Rattle.lexer_laws.proofs.Words.{is_whole, front_same}
 
 abbrev Tokens : Type 0
@@ -128,8 +128,8 @@ step_grown n e text l f (inr h) =
     record {
       more = faults_at r ps [] ++ g.more;
       is =
-        ap (λ (k : Lexing). k.errors) (steps-one n e text l h) ∙ g.is ∙ ap (λ (es : List LexError). es ++ g.more) (faults_append r ps l.errors)
-        ∙ append_assoc l.errors (faults_at r ps []) g.more;
+          ap (λ (k : Lexing). k.errors) (steps-one n e text l h) ∙ g.is ∙ ap (λ (es : List LexError). es ++ g.more) (faults_append r ps l.errors)
+          ∙ append_assoc l.errors (faults_at r ps []) g.more;
     }
 
 grown : (n : ℕ) (e : Edition) (text : List ℕ) (l : Lexing) → Grown l.errors (steps_of n e text l).errors
@@ -176,7 +176,7 @@ clean_inside : (e : Edition) (x : ℕ) (s : List ℕ) (b : ℕ) (u v : List ℕ)
     → Inside e (x ∷ s) b → length (x ∷ s) ≤ suc n → length (x ∷ s) + length u < 2 ^ 32 - 1 → length (x ∷ s) + length v < 2 ^ 32 - 1
     → tokens_within e (x ∷ (s ++ b ∷ u)) ≡ t ∷ (ts ++ us) → t.len + bytes_of ts ≡ length (x ∷ s) → Clean e (x ∷ (s ++ b ∷ u))
     → ((r : List ℕ) → length r ≤ n → length r + length u < 2 ^ 32 - 1 → length r + length v < 2 ^ 32 - 1
-      → tokens_within e (r ++ b ∷ u) ≡ ts ++ us → bytes_of ts ≡ length r → Clean e (r ++ b ∷ u) → Clean e (r ++ b ∷ v))
+    → tokens_within e (r ++ b ∷ u) ≡ ts ++ us → bytes_of ts ≡ length r → Clean e (r ++ b ∷ u) → Clean e (r ++ b ∷ v))
     → Clean e (x ∷ (s ++ b ∷ v))
 clean_inside e x s b u v t ts us n h i l lu lv is k c next =
     let r : List ℕ = drop i.bytes (x ∷ s) in
@@ -190,15 +190,15 @@ clean_inside e x s b u v t ts us n h i l lu lv is k c next =
     let old : Fine (x ∷ (s ++ b ∷ u)) (fault_before (suc (length u)) f) = subst (Fine (x ∷ (s ++ b ∷ u))) (i.is_fault u lu) (first_fine e x (s ++ b ∷ u) c) in
     let new : Fine (x ∷ (s ++ b ∷ v)) (fault_before (suc (length v)) f) = fine_with b h (x ∷ s) v f fits (fine_without b h (x ∷ s) u f fits old) in
     let rest : Clean e (r ++ b ∷ v) =
-        next r (omega (arith, len, i.some, i.few, l)) (omega (arith, len, lu)) (omega (arith, len, lv)) behind (omega (arith, len, same_len, k, i.few))
-        (subst (Clean e) (i.is_rest u lu) (rest_clean e x (s ++ b ∷ u) c)) in
+    next r (omega (arith, len, i.some, i.few, l)) (omega (arith, len, lu)) (omega (arith, len, lv)) behind (omega (arith, len, same_len, k, i.few))
+    (subst (Clean e) (i.is_rest u lu) (rest_clean e x (s ++ b ∷ u) c)) in
     more e x (s ++ b ∷ v) (subst (Fine (x ∷ (s ++ b ∷ v))) (sym (i.is_fault v lv)) new) (subst (Clean e) (sym (i.is_rest v lv)) rest)
 
 clean_one : (e : Edition) (x : ℕ) (s : List ℕ) (b : ℕ) (u v : List ℕ) (t : span.Token) (ts us : Tokens) (n : ℕ) → IsBrace b
     → Inside e (x ∷ s) b ⊎ Beyond e (x ∷ s) b → length (x ∷ s) ≤ suc n → length (x ∷ s) + length u < 2 ^ 32 - 1 → length (x ∷ s) + length v < 2 ^ 32 - 1
     → tokens_within e (x ∷ (s ++ b ∷ u)) ≡ t ∷ (ts ++ us) → t.len + bytes_of ts ≡ length (x ∷ s) → Clean e (x ∷ (s ++ b ∷ u))
     → ((r : List ℕ) → length r ≤ n → length r + length u < 2 ^ 32 - 1 → length r + length v < 2 ^ 32 - 1
-      → tokens_within e (r ++ b ∷ u) ≡ ts ++ us → bytes_of ts ≡ length r → Clean e (r ++ b ∷ u) → Clean e (r ++ b ∷ v))
+    → tokens_within e (r ++ b ∷ u) ≡ ts ++ us → bytes_of ts ≡ length r → Clean e (r ++ b ∷ u) → Clean e (r ++ b ∷ v))
     → Clean e (x ∷ (s ++ b ∷ v))
 clean_one e x s b u v t ts us n h (inl i) l lu lv is k c next = clean_inside e x s b u v t ts us n h i l lu lv is k c next
 clean_one e x s b u v t ts us n h (inr i) l lu lv is k c next =
@@ -268,16 +268,16 @@ errors_stay_none e a part piece c ts ps us r old new =
     let clean : Clean e text = no_errors e text w.plain old in
     let clean_piece : Clean e (s ++ 125 ∷ []) = subst (Clean e) p.parts (no_errors e piece w.piece_plain new) in
     let both : bytes_of (ts ++ ps) ≡ length (a ++ part) =
-        bytes_append ts ps ∙ ap₂ (λ (x y : ℕ). x + y) r.cut_before r.cut_behind ∙ sym (length-append a part) in
+    bytes_append ts ps ∙ ap₂ (λ (x y : ℕ). x + y) r.cut_before r.cut_behind ∙ sym (length-append a part) in
     let rest : drop (bytes_of (ts ++ ps)) text ≡ c =
-        ap (λ (n : ℕ). drop n text) both ∙ ap (drop (length (a ++ part))) (sym (append_assoc a part c)) ∙ drop-append_seam (a ++ part) c in
+    ap (λ (n : ℕ). drop n text) both ∙ ap (drop (length (a ++ part))) (sym (append_assoc a part c)) ∙ drop-append_seam (a ++ part) c in
     let clean_rest : Clean e c =
-        subst (Clean e) rest (clean_behind (length text) e text (ts ++ ps) us (omega arith) r.short (w.within ∙ sym (append_assoc ts ps us)) clean) in
+    subst (Clean e) rest (clean_behind (length text) e text (ts ++ ps) us (omega arith) r.short (w.within ∙ sym (append_assoc ts ps us)) clean) in
     let clean_end : Clean e (s ++ 125 ∷ c) =
-        clean_before (length s) e 125 (inr refl) s [] c p.front (p.close ∷ []) (omega arith)
-        (omega (arith, piece_len, new_len, r.new_short)) (omega (arith, piece_len, new_len, r.new_short))
-        (ap (tokens_within e) (sym p.parts) ∙ p.are_tokens ∙ p.closed) (piece_front e piece (tokens_of e piece) p (omega (arith, new_len, r.new_short)))
-        (brace_clean e 125 c (inr refl) r.is_rest_text clean_rest) clean_piece in
+    clean_before (length s) e 125 (inr refl) s [] c p.front (p.close ∷ []) (omega arith)
+    (omega (arith, piece_len, new_len, r.new_short)) (omega (arith, piece_len, new_len, r.new_short))
+    (ap (tokens_within e) (sym p.parts) ∙ p.are_tokens ∙ p.closed) (piece_front e piece (tokens_of e piece) p (omega (arith, new_len, r.new_short)))
+    (brace_clean e 125 c (inr refl) r.is_rest_text clean_rest) clean_piece in
     let clean_tail : Clean e (123 ∷ (inner ++ c)) = subst (Clean e) (sym (append_assoc s (125 ∷ []) c)) clean_end in
     let opened : a ++ (part ++ c) ≡ a ++ 123 ∷ (drop 1 part ++ c) = ap (λ (t : List ℕ). a ++ (t ++ c)) w.opens in
     still_none e (a ++ (piece ++ c)) w.new_plain

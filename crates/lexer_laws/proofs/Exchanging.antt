@@ -1,5 +1,5 @@
 -- The errors of a text in which a piece was replaced, but for the message of a reserved prefix.
-use Rattle.std.proofs.Common.{◌≡◌, ◌⊎◌, inl, inr, ℕ, zero, suc, ◌+◌, ◌-◌, ◌<◌, ◌≤◌, ◌^◌, Bool, true, false, ◌==◌, if◌then◌else◌, List, [], ◌∷◌, ◌++◌, length, drop, map, reverse, ap, ap₂, sym, ◌∙◌, refl, arith, subst, append_assoc, append-nil, length-append, length-drop}
+use Rattle.std.proofs.Common.{◌≡◌, ◌⊎◌, inl, inr, ℕ, zero, suc, ◌+◌, ◌-◌, ◌<◌, ◌≤◌, ◌^◌, Bool, true, false, ◌==◌, if◌then◌else◌, List, [], ◌∷◌, ◌++◌, length, drop, map, reverse, ap, ap₂, sym, ◌∙◌, refl, arith, append_assoc, append-nil, length-append, length-drop}
 use Rattle.std.specs.Prelude.{IsUtf8}
 use Rattle.std.proofs.Math.Seq.{drop-append_seam}
 use Rattle.std.proofs.lemmas.Bool.Decides.{nat_tests}
@@ -17,7 +17,7 @@ use Rattle.rust_lexer.specs.declared.shape.Shape.{Shape}
 use Rattle.rust_lexer.specs.Contents.{content_problems}
 use Rattle.rust_lexer.specs.Cuts.{cut_of, front_of, back_of}
 use Rattle.rust_lexer.specs.History.{is_behind_code_of}
-use Rattle.rust_lexer.specs.Lexing.{Lexing, size_of, range_of, faults_at, content_of, prefix_problem_of, problems_of, taken, steps_of, fresh, tokens_of, errors_of}
+use Rattle.rust_lexer.specs.Lexing.{Lexing, size_of, range_of, faults_at, content_of, problems_of, taken, steps_of, tokens_of}
 use Rattle.rust_lexer.specs.Shapes.{plain_of}
 use Rattle.rust_lexer.specs.Signs.{sign_kind_of}
 use Rattle.rust_lexer.specs.Tokens.{token_of}
@@ -32,7 +32,7 @@ use Rattle.lexer_laws.proofs.Bracing.{Inside, Beyond, first_token, cut_one, brac
 use Rattle.lexer_laws.proofs.Cleaning.{content_same}
 use Rattle.lexer_laws.proofs.Faults.{FitsIn, token_fits}
 use Rattle.lexer_laws.proofs.Finding.{Replaced, replaced}
-use Rattle.lexer_laws.proofs.Pieces.{IsPiece, piece_front, bytes_append, first_bytes}
+use Rattle.lexer_laws.proofs.Pieces.{IsPiece, piece_front, first_bytes}
 use Rattle.lexer_laws.proofs.Stepping.{token_at, within_empty, within_more, back_length, back_short}
 
 abbrev Tokens : Type 0
@@ -108,7 +108,7 @@ found_none zero e p = refl
 found_none (suc n) e p = refl
 
 found_more : (n : ℕ) (e : Edition) (p x : ℕ) (s : List ℕ) → found (suc n) e p (x ∷ s)
-      ≡ here e p (x ∷ s) ++ found n e (p + cut_of (token_of e (x ∷ s)).left (x ∷ s)) (back_of (token_of e (x ∷ s)).left (x ∷ s))
+    ≡ here e p (x ∷ s) ++ found n e (p + cut_of (token_of e (x ∷ s)).left (x ∷ s)) (back_of (token_of e (x ∷ s)).left (x ∷ s))
 unfolding found
 found_more n e p x s = refl
 
@@ -179,8 +179,8 @@ steps_found (suc n) e text ts es (x ∷ s) m l few =
     let end : size_of (length text - length rest) ≡ p + k = omega (arith, later, few) in
     let range : r ≡ between p k = ap₂ (λ (y z : ℕ). record { start = y; end = z }) start end in
     let now : map with_one (faults_at r ps es) ≡ map with_one es ++ here e p (x ∷ s) =
-        ap (map with_one) (faults_list r ps es) ∙ map-append with_one es (map (at_range r) ps)
-        ∙ ap (λ (fs : Errors). map with_one es ++ fs) (with_ones r ps ∙ ap₂ (λ (z : TextRange) (qs : List Problem). map (at_range z) qs) range (wrong_is ts text (x ∷ s) t.fault)) in
+    ap (map with_one) (faults_list r ps es) ∙ map-append with_one es (map (at_range r) ps)
+    ∙ ap (λ (fs : Errors). map with_one es ++ fs) (with_ones r ps ∙ ap₂ (λ (z : TextRange) (qs : List Problem). map (at_range z) qs) range (wrong_is ts text (x ∷ s) t.fault)) in
     ap (λ (j : Lexing). map with_one j.errors) (steps-one n e text i (not_empty x s))
     ∙ steps_found n e text next.tokens next.errors rest (omega (arith, back_short t.left x s, m)) (omega (arith, left, l)) few
     ∙ ap₂ (λ (fs gs : Errors). fs ++ gs) now (ap (λ (j : ℕ). found n e j rest) later)
@@ -214,7 +214,7 @@ one_side e p x s b y h i l es k =
     let cut = i.is_cut y l in
     let fits : FitsIn (x ∷ s) f = token_fits e x s (omega (arith, l)) in
     let same : wrong (x ∷ (s ++ b ∷ y)) (token_of e (x ∷ (s ++ b ∷ y))).fault ≡ wrong (x ∷ s) f =
-        ap (wrong (x ∷ (s ++ b ∷ y))) (i.is_fault y l) ∙ wrong_same b h (x ∷ s) y f fits in
+    ap (wrong (x ∷ (s ++ b ∷ y))) (i.is_fault y l) ∙ wrong_same b h (x ∷ s) y f fits in
     let first : Errors = map (at_range (between p i.bytes)) (wrong (x ∷ s) f) in
     let end : p + i.bytes + length (drop i.bytes (x ∷ s)) ≡ p + length (x ∷ s) = omega (arith, length-drop i.bytes (x ∷ s), i.few) in
     all_more e p x (s ++ b ∷ y)
@@ -227,7 +227,7 @@ before_one : (e : Edition) (p x : ℕ) (s : List ℕ) (b : ℕ) (u v : List ℕ)
     → Inside e (x ∷ s) b ⊎ Beyond e (x ∷ s) b → length (x ∷ s) ≤ suc n → length (x ∷ s) + length u < 2 ^ 32 - 1 → length (x ∷ s) + length v < 2 ^ 32 - 1
     → tokens_within e (x ∷ (s ++ b ∷ u)) ≡ t ∷ (ts ++ us) → t.len + bytes_of ts ≡ length (x ∷ s)
     → ((q : ℕ) (r : List ℕ) → length r ≤ n → length r + length u < 2 ^ 32 - 1 → length r + length v < 2 ^ 32 - 1
-      → tokens_within e (r ++ b ∷ u) ≡ ts ++ us → bytes_of ts ≡ length r → Before e q r b u v)
+    → tokens_within e (r ++ b ∷ u) ≡ ts ++ us → bytes_of ts ≡ length r → Before e q r b u v)
     → Before e p (x ∷ s) b u v
 before_one e p x s b u v t ts us n h (inr i) l lu lv is k next =
     let first : token_at e (x ∷ (s ++ b ∷ u)) ≡ t = head_same _ t _ (ts ++ us) (sym (within_more e x (s ++ b ∷ u)) ∙ is) in
@@ -240,7 +240,7 @@ before_one e p x s b u v t ts us n h (inl i) l lu lv is k next =
     let same_len : t.len ≡ i.bytes = sym (ap (λ (z : span.Token). z.len) first) ∙ i.is_long in
     let behind : tokens_within e (r ++ b ∷ u) ≡ ts ++ us = ap (tokens_within e) (sym (i.is_rest u lu)) ∙ tail_same _ t _ (ts ++ us) both in
     let w : Before e (p + i.bytes) r b u v =
-        next (p + i.bytes) r (omega (arith, len, i.some, i.few, l)) (omega (arith, len, lu)) (omega (arith, len, lv)) behind (omega (arith, len, same_len, k, i.few)) in
+    next (p + i.bytes) r (omega (arith, len, i.some, i.few, l)) (omega (arith, len, lu)) (omega (arith, len, lv)) behind (omega (arith, len, same_len, k, i.few)) in
     record {
       errors = map (at_range (between p i.bytes)) (wrong (x ∷ s) (token_of e (x ∷ s)).fault) ++ w.errors;
       first = one_side e p x s b u h i lu w.errors w.first;
@@ -281,10 +281,10 @@ parted_one e p x s t ts us l is next =
     record {
       errors = here e p (x ∷ s) ++ w.errors;
       parts =
-        all_more e p x s ∙ ap (λ (es : Errors). here e p (x ∷ s) ++ es) w.parts
-        ∙ sym (append_assoc (here e p (x ∷ s)) w.errors (all e (p + k + bytes_of ts) (drop (bytes_of ts) (back_of n (x ∷ s)))))
-        ∙ ap₂ (λ (q : ℕ) (r : List ℕ). (here e p (x ∷ s) ++ w.errors) ++ all e q r) sum
-        (drop-drop (bytes_of ts) k (x ∷ s) ∙ ap (λ (j : ℕ). drop (j + bytes_of ts) (x ∷ s)) len);
+          all_more e p x s ∙ ap (λ (es : Errors). here e p (x ∷ s) ++ es) w.parts
+          ∙ sym (append_assoc (here e p (x ∷ s)) w.errors (all e (p + k + bytes_of ts) (drop (bytes_of ts) (back_of n (x ∷ s)))))
+          ∙ ap₂ (λ (q : ℕ) (r : List ℕ). (here e p (x ∷ s) ++ w.errors) ++ all e q r) sum
+          (drop-drop (bytes_of ts) k (x ∷ s) ∙ ap (λ (j : ℕ). drop (j + bytes_of ts) (x ∷ s)) len);
     }
 
 parted : (n : ℕ) (e : Edition) (p : ℕ) (s : List ℕ) (ts us : Tokens) → length s ≤ n → length s < 2 ^ 32 → tokens_within e s ≡ ts ++ us → Parted e p s (bytes_of ts)
@@ -302,7 +302,7 @@ behind_closing e p b s h u =
     let cut : cut_of (token_of e (b ∷ s)).left (b ∷ s) ≡ 1 = ap (λ (t : Shape). cut_of t.left (b ∷ s)) sign ∙ cut_one b s u in
     all_more e p b s
     ∙ ap (λ (f : Fault). map (at_range (between p (cut_of (token_of e (b ∷ s)).left (b ∷ s)))) (wrong (b ∷ s) f)
-      ++ all e (p + cut_of (token_of e (b ∷ s)).left (b ∷ s)) (back_of (token_of e (b ∷ s)).left (b ∷ s))) (ap (λ (t : Shape). t.fault) sign)
+    ++ all e (p + cut_of (token_of e (b ∷ s)).left (b ∷ s)) (back_of (token_of e (b ∷ s)).left (b ∷ s))) (ap (λ (t : Shape). t.fault) sign)
     ∙ ap (λ (j : ℕ). all e (p + j) (drop j (b ∷ s))) cut
 
 piece_errors : (e : Edition) (p : ℕ) (piece c : List ℕ) (ts : Tokens) → IsPiece e piece ts → IsUtf8 [] → IsUtf8 c → length piece + length c < 2 ^ 32
@@ -313,11 +313,11 @@ piece_errors e p piece c ts w none u l =
     let is : tokens_within e (s ++ 125 ∷ []) ≡ w.front ++ w.close ∷ [] = ap (tokens_within e) (sym w.parts) ∙ w.are_tokens ∙ w.closed in
     let cut : bytes_of w.front ≡ length s = piece_front e piece ts w (omega (arith, l)) in
     let b : Before e p s 125 [] c =
-        before_brace (length s) e 125 (inr refl) p s [] c w.front (w.close ∷ []) (omega arith) (omega (arith, len, l)) (omega (arith, len, l)) is cut in
+    before_brace (length s) e 125 (inr refl) p s [] c w.front (w.close ∷ []) (omega arith) (omega (arith, len, l)) (omega (arith, len, l)) is cut in
     let end : p + length s + 1 ≡ p + length piece = omega (arith, len) in
     let alone : all e p piece ≡ b.errors =
-        ap (all e p) w.parts ∙ b.first
-        ∙ ap (λ (es : Errors). b.errors ++ es) (behind_closing e (p + length s) 125 [] (inr refl) none ∙ found_none 0 e (p + length s + 1)) ∙ append-nil b.errors in
+    ap (all e p) w.parts ∙ b.first
+    ∙ ap (λ (es : Errors). b.errors ++ es) (behind_closing e (p + length s) 125 [] (inr refl) none ∙ found_none 0 e (p + length s + 1)) ∙ append-nil b.errors in
     ap (λ (t : List ℕ). all e p (t ++ c)) w.parts ∙ ap (all e p) (append_assoc s (125 ∷ []) c) ∙ b.second
     ∙ ap₂ (λ (es fs : Errors). es ++ fs) (sym alone) (behind_closing e (p + length s) 125 c (inr refl) u ∙ ap (λ (q : ℕ). all e q c) end)
 
@@ -331,9 +331,9 @@ errors_exchanged e a part piece c ts ps us r =
     let opened : a ++ (part ++ c) ≡ a ++ 123 ∷ (drop 1 part ++ c) = ap (λ (t : List ℕ). a ++ (t ++ c)) w.opens in
     let replaced_text : a ++ (piece ++ c) ≡ a ++ 123 ∷ (inner ++ c) = ap (λ (t : List ℕ). a ++ (t ++ c)) p.parts in
     let b : Before e 0 a 123 (drop 1 part ++ c) (inner ++ c) =
-        before_brace (length a) e 123 (inl refl) 0 a (drop 1 part ++ c) (inner ++ c) ts (ps ++ us) (omega arith)
-        (omega (arith, length-append (drop 1 part) c, part_len, w.short)) (omega (arith, length-append inner c, piece_len, w.new_short))
-        (ap (tokens_within e) (sym opened) ∙ w.within) r.cut_before in
+    before_brace (length a) e 123 (inl refl) 0 a (drop 1 part ++ c) (inner ++ c) ts (ps ++ us) (omega arith)
+    (omega (arith, length-append (drop 1 part) c, part_len, w.short)) (omega (arith, length-append inner c, piece_len, w.new_short))
+    (ap (tokens_within e) (sym opened) ∙ w.within) r.cut_before in
     let zero_a : 0 + length a ≡ length a = omega arith in
     let rest_len : length (part ++ c) ≡ length part + length c = length-append part c in
     let rest_tokens : tokens_within e (part ++ c) ≡ ps ++ us = w.rest in
@@ -343,24 +343,24 @@ errors_exchanged e a part piece c ts ps us r =
       before = b.errors;
       own = d.errors;
       old_errors =
-        shown_found e (a ++ (part ++ c)) w.plain r.short ∙ ap (all e 0) opened ∙ b.first
-        ∙ ap (λ (es : Errors). b.errors ++ es) (
+          shown_found e (a ++ (part ++ c)) w.plain r.short ∙ ap (all e 0) opened ∙ b.first
+          ∙ ap (λ (es : Errors). b.errors ++ es) (
           ap (λ (q : ℕ). all e q (123 ∷ (drop 1 part ++ c))) zero_a ∙ ap (λ (t : List ℕ). all e (length a) (t ++ c)) (sym w.opens)
           ∙ sym (all_moved e (length a) (part ++ c)) ∙ ap (map (moved_by (length a))) (sym (within_found e (part ++ c) (omega (arith, rest_len, w.short))))
-        );
+          );
       part_errors =
-        within_found e (part ++ c) (omega (arith, rest_len, w.short)) ∙ d.parts
-        ∙ ap (λ (es : Errors). d.errors ++ es) (
+          within_found e (part ++ c) (omega (arith, rest_len, w.short)) ∙ d.parts
+          ∙ ap (λ (es : Errors). d.errors ++ es) (
           ap₂ (λ (q : ℕ) (t : List ℕ). all e q t) zero_p (ap (λ (j : ℕ). drop j (part ++ c)) r.cut_behind ∙ drop-append_seam part c)
           ∙ sym (all_moved e (length part) c) ∙ ap (map (moved_by (length part))) (sym (within_found e c (omega (arith, w.short))))
-        );
+          );
       new_errors =
-        shown_found e (a ++ (piece ++ c)) w.new_plain r.new_short ∙ ap (all e 0) replaced_text ∙ b.second
-        ∙ ap (λ (es : Errors). b.errors ++ es) (
+          shown_found e (a ++ (piece ++ c)) w.new_plain r.new_short ∙ ap (all e 0) replaced_text ∙ b.second
+          ∙ ap (λ (es : Errors). b.errors ++ es) (
           ap (λ (q : ℕ). all e q (123 ∷ (inner ++ c))) zero_a ∙ ap (λ (t : List ℕ). all e (length a) (t ++ c)) (sym p.parts)
           ∙ piece_errors e (length a) piece c (tokens_of e piece) p IsUtf8-nil r.is_rest_text (omega (arith, w.new_short))
           ∙ ap₂ (λ (es fs : Errors). es ++ fs)
           (sym (all_moved e (length a) piece) ∙ ap (map (moved_by (length a))) (sym (shown_found e piece w.piece_plain (omega (arith, w.new_short)))))
           (sym (all_moved e (length a + length piece) c) ∙ ap (map (moved_by (length a + length piece))) (sym (within_found e c (omega (arith, w.new_short)))))
-        );
+          );
     }

@@ -1,6 +1,6 @@
 -- The content of a literal ends before a quote of its token.
-use Rattle.std.proofs.Common.{◌≡◌, ◌⊎◌, inl, inr, ℕ, zero, suc, ◌+◌, ◌-◌, ◌<◌, ◌≤◌, ◌^◌, Bool, true, false, not, ◌==◌, ◌&&◌, ◌||◌, nat_lt, nat_le, if◌then◌else◌, Option, Some, None, List, [], ◌∷◌, ◌++◌, length, drop, take, ap, ap₂, sym, ◌∙◌, refl, arith, subst, append_assoc, length-append, take-append-drop}
-use Rattle.std.specs.Prelude.{bytes_eq, codes, slice_get, slice_index}
+use Rattle.std.proofs.Common.{◌≡◌, ℕ, zero, suc, ◌-◌, ◌<◌, ◌^◌, Bool, true, false, not, ◌==◌, ◌&&◌, ◌||◌, nat_lt, nat_le, if◌then◌else◌, List, [], ◌∷◌, ◌++◌, length, drop, take, ap, ap₂, sym, ◌∙◌, refl, arith, append_assoc, length-append, take-append-drop}
+use Rattle.std.specs.Prelude.{bytes_eq, codes, slice_index}
 use Rattle.std.proofs.lemmas.Bool.Decides.{nat_tests}
 use Rattle.syntax_kind.specs.declared.syntax_kind.SyntaxKind.{SyntaxKind}
 use Rattle.syntax_kind.specs.declared.syntax_kind.SyntaxKind.TheVariants as kinds
@@ -18,18 +18,18 @@ use Rattle.rust_lexer.specs.declared.scan.Scan.TheVariants.{Comment, Text, Quote
 use Rattle.rust_lexer.specs.declared.shape.Shape.{Shape}
 use Rattle.rust_lexer.specs.declared.shape.Fault.{Fault}
 use Rattle.rust_lexer.specs.declared.shape.Fault.TheVariants.{No, Is, Prefix, Content}
-use Rattle.rust_lexer.specs.Classes.{test_on, begins_of, begins_digit_of, begins_beyond_of, begins_wide_of, is_in_of, is_letter_of, is_digit_of, skip_of, skip_some, skip_wide_of, after_char_of}
-use Rattle.rust_lexer.specs.Comments.{block_kind_of, block_on, block_comment_of}
+use Rattle.rust_lexer.specs.Classes.{begins_of, begins_digit_of, begins_beyond_of, begins_wide_of, is_in_of, is_letter_of, is_digit_of, skip_of, skip_some, skip_wide_of, after_char_of}
+use Rattle.rust_lexer.specs.Comments.{block_kind_of, block_on}
 use Rattle.rust_lexer.specs.Cuts.{is_boundary_of, front_of}
 use Rattle.rust_lexer.specs.Fronts.{StringRead}
-use Rattle.rust_lexer.specs.Names.{begins_name_of, begins_emoji_of, begins_wide_emoji_of, is_literal_mark_of, prefix_of, name_of, skip_name_of, skip_suffix_of}
+use Rattle.rust_lexer.specs.Names.{begins_name_of, begins_emoji_of, begins_wide_emoji_of, is_literal_mark_of, name_of, skip_name_of, skip_suffix_of}
 use Rattle.rust_lexer.specs.Numbers.{begins_exponent_of, exponent_of, fraction_of, behind_digits_of, based_of, number_of, sign_of as signed}
 use Rattle.rust_lexer.specs.QuoteLaws.{CharacterRead}
 use Rattle.rust_lexer.specs.Quotes.{one_more, closed_of, string_on, string_of, is_mark_of, character_on, character_of, lifetime_of, is_raw_lifetime_of, may_be_lifetime_of, character_or_lifetime_of}
 use Rattle.rust_lexer.specs.RawStrings.{invalid_of, body_on, body_of, raw_string_of}
 use Rattle.rust_lexer.specs.Scans.{run_of}
 use Rattle.rust_lexer.specs.Shapes.{plain_of}
-use Rattle.rust_lexer.specs.Tokens.{space_of, sign_of, slash_of, opens_raw_of, is_reserved_of, pound_of, letter_r_of, letter_b_of, letter_c_of, letter_of, beyond_of, mark_of, other_of, token_of}
+use Rattle.rust_lexer.specs.Tokens.{space_of, slash_of, opens_raw_of, is_reserved_of, letter_r_of, letter_b_of, letter_c_of, letter_of, beyond_of, mark_of, other_of, token_of}
 use Rattle.rust_lexer.proofs.Fronts.{longest, strings_read}
 use Rattle.rust_lexer.proofs.QuoteFronts.{characters_read}
 use Rattle.lexer_laws.proofs.Words.{is_whole, boundary_at, byte_behind}
@@ -108,7 +108,7 @@ character_fits m s t before is l few =
     (λ h.
     let mark = mark_parts t h in
     let parts : s ≡ (before ++ mark.0 ∷ []) ++ 39 ∷ drop 2 t =
-        is ∙ ap (λ (z : List ℕ). before ++ z) mark.1 ∙ sym (append_assoc before (mark.0 ∷ []) (39 ∷ drop 2 t)) in
+    is ∙ ap (λ (z : List ℕ). before ++ z) mark.1 ∙ sym (append_assoc before (mark.0 ∷ []) (39 ∷ drop 2 t)) in
     closed_fits m s (before ++ mark.0 ∷ []) (drop 2 t) 39 parts (omega arith) (omega (arith, l, length-append before (mark.0 ∷ []))) few)
     (λ h. character_on_fits m (run_of Quote t).0 s t before (run_of Quote t).1 is l few (λ k. characters_read t k))
 
@@ -155,7 +155,7 @@ lifetime_fits s t before is l =
     let name = name_behind t in
     let quote : r ≡ 39 ∷ drop 1 r = first_is 39 r h in
     let parts : s ≡ (before ++ name.front) ++ 39 ∷ drop 1 r =
-        is ∙ ap (λ (z : List ℕ). before ++ z) name.parts ∙ sym (append_assoc before name.front r) ∙ ap (λ (z : List ℕ). (before ++ name.front) ++ z) quote in
+    is ∙ ap (λ (z : List ℕ). before ++ z) name.parts ∙ sym (append_assoc before name.front r) ∙ ap (λ (z : List ℕ). (before ++ name.front) ++ z) quote in
     ap (is_whole (length r)) parts
     ∙ cut_before (before ++ name.front) (drop 1 r) 39 (length r) (omega arith) (omega (arith, l, length-append before name.front)) (ap length quote))
     (λ h. pick s (begins_digit_of t) _ _ (λ k. tt) (λ k. pick s (begins_of 35 r) _ _ (λ n. tt) (λ n. tt)))

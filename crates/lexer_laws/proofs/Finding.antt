@@ -228,13 +228,13 @@ replaced e a part piece c ts ps us r =
       piece_plain = opens_plain e piece r.braced.0;
       plain = plain;
       new_plain =
-        plain_heads e (a ++ (piece ++ c)) r.is_new_text (sym (head_moved a part piece c (drop 1 part) (p.inner ++ 125 ∷ []) opens p.parts) ∙ r.no_head);
+          plain_heads e (a ++ (piece ++ c)) r.is_new_text (sym (head_moved a part piece c (drop 1 part) (p.inner ++ 125 ∷ []) opens p.parts) ∙ r.no_head);
       opens = opens;
       within = sym (headless e (a ++ (part ++ c)) plain) ∙ r.are_tokens;
       rest = sym (
-        behind_cut (length (a ++ (part ++ c))) e (a ++ (part ++ c)) ts (ps ++ us) (omega arith) r.short (sym (headless e (a ++ (part ++ c)) plain) ∙ r.are_tokens)
-        ∙ ap (λ (n : ℕ). tokens_within e (drop n (a ++ (part ++ c)))) r.cut_before ∙ ap (tokens_within e) (drop-append_seam a (part ++ c))
-      );
+          behind_cut (length (a ++ (part ++ c))) e (a ++ (part ++ c)) ts (ps ++ us) (omega arith) r.short (sym (headless e (a ++ (part ++ c)) plain) ∙ r.are_tokens)
+          ∙ ap (λ (n : ℕ). tokens_within e (drop n (a ++ (part ++ c)))) r.cut_before ∙ ap (tokens_within e) (drop-append_seam a (part ++ c))
+          );
       short = old;
       new_short = new;
     }

@@ -99,7 +99,7 @@ pub piece_front : (e : Edition) (piece : List ℕ) (ts : Tokens) (p : IsPiece e 
 piece_front e piece ts p l =
     let len : length piece ≡ length (123 ∷ p.inner) + 1 = ap length p.parts ∙ length-append (123 ∷ p.inner) (125 ∷ []) in
     let total : bytes_of (p.front ++ p.close ∷ []) ≡ length piece =
-        ap bytes_of (sym p.closed ∙ sym p.are_tokens) ∙ all_bytes (length piece) e piece (omega arith) l in
+    ap bytes_of (sym p.closed ∙ sym p.are_tokens) ∙ all_bytes (length piece) e piece (omega arith) l in
     omega (arith, total, len, bytes_append p.front (p.close ∷ []), p.one_byte)
 
 pub pieces_cut : (e : Edition) (piece c : List ℕ) (ts : Tokens) → IsPiece e piece ts → IsUtf8 c → length piece + length c < 2 ^ 32

@@ -1,6 +1,5 @@
 -- The errors of a text in which a piece between braces was replaced.
 use Rattle.std.specs.Prelude.{◌≡◌, ℕ, ◌+◌, List, [], ◌++◌, length, map}
-use Rattle.text_size.specs.declared.range.TextRange.{TextRange}
 use Rattle.ras_front_end.specs.declared.edition.Edition.{Edition}
 use Rattle.token_layout.specs.declared.span.Token.{Token}
 use Rattle.rust_lexer.specs.declared.lexer.LexError.{LexError}
