@@ -1,0 +1,7 @@
+pub mod Behind
+pub mod Firsts
+pub mod Cuts
+pub mod Heads
+pub mod Pieces
+pub mod Errors
+pub mod Sights
