@@ -18,9 +18,9 @@ pub record AreFound (r : Reading) (rules : List Rule) (s : List ℕ) (found : Li
 
 -- so many matches
 pub record IsNumberOfMatches (r : Reading) (rules : List Rule) (s : List ℕ) (n : ℕ) : Type 0 where
-  pub found : List Occurrence
-  pub are_found : AreFound r rules s found
-  pub number : n ≡ length found
+  pub parse : Parsed
+  pub is_read : IsReadAs r s parse
+  pub number : n ≡ length (found_in rules (root_of parse.tree))
 
 -- the text with its matches replaced
 pub record IsRewritten (r : Reading) (rules : List Rule) (s : List ℕ) (done : Rewritten) : Type 0 where

@@ -1,5 +1,5 @@
 //! The matches of rules in a text, and what replaces them.
-ghost use Rattle.std.specs.Prelude.{◌≡◌, [], IfOk, IsTrue, ◌↔◌, true, false};
+ghost use Rattle.std.specs.Prelude.{◌≡◌, [], length, IfOk, IsTrue, ◌↔◌, true, false};
 ghost use Rattle.tree_match.specs.Finds.{found_in};
 ghost use Rattle.rust_rules.specs.Reports.{IsNumberOfMatches, IsAnswer};
 
@@ -59,6 +59,14 @@ fn write_matches<'a, W: Write>(
     Ok(())
 }
 
+// The matches of rules in a tree.
+#[tactic(auto, using(crate::proofs::CountLemmas::as_many))]
+fn matches_of(alloc: Global, set: &RuleSet, root: &SyntaxNode) -> Result<Vec<Match>, AllocError>
+    ensures { IfOk result (λ m. length m.items ≡ length (found_in set.now.rules.items root.now)) }
+{
+    find(alloc, &set.rules, root)
+}
+
 /// Writes the matches of rules in a text. Returns their number.
 pub fn search<'a, W: Write>(
     alloc: Global,
@@ -70,7 +78,7 @@ pub fn search<'a, W: Write>(
     ensures { IfOk result (IsNumberOfMatches asked.reading set.now.rules.items source.entry.text.now) }
 {
     let parse = parsed(alloc, source.text, asked.reading)?;
-    let matches = find(alloc, &set.rules, parse.root())?;
+    let matches = matches_of(alloc, set, parse.root())?;
     write_matches(alloc, out, source, set, &matches, asked)?;
     Ok(matches.len() as u64)
 }
