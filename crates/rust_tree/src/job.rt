@@ -22,9 +22,9 @@ use rust_query::show as query;
 use rust_rewrite::Rewritten;
 use rust_rules as rules;
 use rust_search::RuleSet;
-use std::io;
 use std::io::Write;
 use std::time::Instant;
+use std::{fs, io};
 
 /// A task for a list of files.
 #[derive(Drop)]
@@ -234,10 +234,29 @@ fn write_summary<W: Write>(
     }
 }
 
+// Whether a path leads up. Behind a link to a folder, `..` is not the folder that the text before it names.
+fn leads_up(path: &str) -> bool {
+    for part in path.split('/') {
+        if part == ".." {
+            return true;
+        }
+    }
+    false
+}
+
+// The path of a file without links and `..`; an empty text if there is none.
+fn whole_path(rt: &HostRuntime, path: &str) -> io::Result<String> {
+    match fs::canonicalize(rt, path) {
+        Ok(whole) => Ok(String::from_str(rt.alloc(), whole.as_str())?),
+        Err(_) => Ok(String::new(rt.alloc())),
+    }
+}
+
 // The absolute path of a file, if names of files are links; else an empty text. Standard input has none.
 fn link_of(rt: &HostRuntime, links: &Option<String>, path: &str) -> io::Result<String> {
     let below = path.strip_prefix("./").unwrap_or(path);
     match links {
+        Some(_) if leads_up(path) => whole_path(rt, path),
         Some(_) if path.starts_with('/') => Ok(String::from_str(rt.alloc(), path)?),
         Some(folder) if path != "-" => {
             let folder = folder.as_str();
