@@ -75,7 +75,7 @@ fn syntax(rt: HostRuntime) -> Result<(), Fail> {
         (" ==>> 1", ""),
     ] {
         let told = refusal(alloc, rule)?;
-        if !told.starts_with(start) || told.find("expected an expression").is_none() {
+        if !told.starts_with(start) || told.find("this is no expression").is_none() {
             return Err(Fail::from(format!(in alloc; "{rule}: {told}")?));
         }
     }
