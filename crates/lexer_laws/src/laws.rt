@@ -6,14 +6,15 @@ ghost use Rattle.lexer_laws.specs.Errors.{ErrorsStayNone, ErrorsAreReplaced};
 ghost use Rattle.lexer_laws.specs.Heads.{PlainTextsHaveNoHead, HeadsEndBeforeBraces};
 ghost use Rattle.lexer_laws.specs.Sights.{SightsAreCut};
 
-/// The first token of a text with a brace somewhere behind its start either ends before the brace, and
-/// is then, with what is wrong with it, that of the text without the brace and all that follows; or the
-/// brace is in it, whatever follows.
+/// The first token of a text with a brace somewhere behind its start either ends before the
+/// brace, and is then, with what is wrong with it, that of the text without the brace and all
+/// that follows; or the brace is in it, whatever follows.
 pub fn first_tokens_end()
     ensures { FirstTokensEnd }
 {}
 
-/// If the tokens of a text are cut before a brace, those before it are the same whatever follows it.
+/// If the tokens of a text are cut before a brace, those before it are the same whatever
+/// follows it.
 pub fn braces_cut()
     ensures { BracesCut }
 {}
@@ -23,32 +24,35 @@ pub fn braces_are_tokens()
     ensures { BracesAreTokens }
 {}
 
-/// A text whose first token is `{` and whose last one is `}` has the same tokens at the start of a longer
-/// text, and so has what follows it there.
+/// A text whose first token is `{` and whose last one is `}` has the same tokens at the start
+/// of a longer text, and so has what follows it there.
 pub fn pieces_are_cut()
     ensures { PiecesAreCut }
 {}
 
-/// If such a text takes the place of a part of a text that begins with `{`, and that is cut out of it by
-/// the tokens, then the tokens of the new text are the old ones, with its own in the place of the part's.
+/// If such a text takes the place of a part of a text that begins with `{`, and that is cut out
+/// of it by the tokens, then the tokens of the new text are the old ones, with its own in the
+/// place of the part's.
 pub fn pieces_are_replaced()
     ensures { PiecesAreReplaced }
 {}
 
-/// The lexer's errors in the new text are those before the part, those of the new part by itself, and those
-/// behind the part, moved with the text, but for which of its two messages the error of a reserved prefix has.
+/// The lexer's errors in the new text are those before the part, those of the new part by
+/// itself, and those behind the part, moved with the text, but for which of its two messages
+/// the error of a reserved prefix has.
 pub fn errors_are_replaced()
     ensures { ErrorsAreReplaced }
 {}
 
-/// If neither the text before such an exchange nor the new part by itself has errors of the lexer, the new
-/// text has none.
+/// If neither the text before such an exchange nor the new part by itself has errors of the
+/// lexer, the new text has none.
 pub fn errors_stay_none()
     ensures { ErrorsStayNone }
 {}
 
-/// A text has neither a shebang nor a front matter if it begins with `#![` or not with `#!`, and if a dash
-/// is not its first visible character of ASCII. What follows a brace does not matter for this test.
+/// A text has neither a shebang nor a front matter if it begins with `#![` or not with `#!`,
+/// and if a dash is not its first visible character of ASCII. What follows a brace does not
+/// matter for this test.
 pub fn plain_texts_have_no_head()
     ensures plain { PlainTextsHaveNoHead }
     ensures ends { HeadsEndBeforeBraces }
