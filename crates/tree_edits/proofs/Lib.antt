@@ -1,5 +1,6 @@
 pub mod WalkLemmas
 pub mod StepLemmas
+pub mod PieceLemmas
 pub mod UnchangedLemmas
 pub mod RowLemmas
 pub mod StoreLemmas

@@ -1,4 +1,5 @@
 pub mod Walked
+pub mod Unchanged
 pub mod Rowed
 pub mod Added
 pub mod Stored

@@ -84,7 +84,7 @@ fn push_rows(out: &mut Steps, table: &Table, row: usize) -> Result<(), AllocErro
 
 // Appends what entering a row adds. Returns whether it is a token's.
 #[inline(always)]
-pub(crate) fn push_row(out: &mut Steps, table: &Table, row: usize) -> Result<bool, AllocError>
+fn push_row(out: &mut Steps, table: &Table, row: usize) -> Result<bool, AllocError>
     requires { row < size table.now }
     ensures events { OnOk result (out.new ≡ out.old ++ step_events (tree_at table.now row) true) }
     ensures token { IfOk result (λ token. token ≡ is_token (tree_at table.now row)) }

@@ -1,6 +1,7 @@
 //! The new tree.
 ghost use Rattle.std.specs.Prelude.{◌≡◌, ◌≤◌, ◌^◌, length, IfOk, IfErr, OnOk, IsErrOf, ◌++◌, ◌<◌, ◌+◌, ◌-◌, if◌then◌else◌, true};
-ghost use Rattle.tree_model.specs.Tree.{Place, text, size, IsNode};
+ghost use Rattle.tree_model.specs.Tree.{Place, text, size, IsNode, cons, nil};
+ghost use Rattle.tree_model.specs.Rows.{TextsAreUtf8};
 ghost use Rattle.tree_model.specs.Cursor.{cursor_at};
 ghost use Rattle.tree_model.specs.Events.{events_of};
 ghost use Rattle.tree_edit_model.specs.Changes.{Change, changed, changed_whole};
@@ -9,7 +10,7 @@ ghost use Rattle.tree_edits.specs.Walked.{AreChangesOf, Stepped, IsWalkedOn};
 ghost use Rattle.tree_edits.specs.declared.error.ChangeError.TheVariants.{TooLong, Memory};
 
 use crate::change::RowChanges;
-use crate::element::push_row;
+use crate::edits::texts_are_utf8;
 use crate::error::ChangeError;
 use crate::steps::Steps;
 use std::alloc::{AllocError, Global};
@@ -63,48 +64,18 @@ fn push_unchanged(
     ghost at: { Place → Change }
     requires are_changes { AreChangesOf at table.now changes.now.marks.items changes.now.changes.items }
     requires walks { IsWalk table.now 0 next innermost }
+    requires utf8 { TextsAreUtf8 (cons table.now nil) }
     ensures { IfOk result (λ after.
         IsWalkedOn at table.now out.old out.new skip next innermost after.0 after.1) }
 {
-    if skip > 0 {
-        return Ok((next, innermost));
-    }
     let Some(first) = innermost else {
         return Ok((next, innermost));
     };
-    if table.is_token_at(first) {
+    if skip > 0 || table.is_token_at(first) {
         return Ok((next, innermost));
     }
-    let mut row = next;
-    let mut inner = first;
-    let mut end = table.row_behind(inner);
-    loop {
-        if row < end {
-            if changes.is_changed(row) {
-                break;
-            }
-            let is_token = push_row(out, table, row)?;
-            if is_token {
-                // It is left at once.
-                row += 1;
-                continue;
-            }
-            inner = row;
-            end = table.row_behind(row);
-            row += 1;
-        } else {
-            if changes.is_changed(inner) {
-                break;
-            }
-            let Some(parent) = table.parent_row(inner) else {
-                break;
-            };
-            out.exit()?;
-            inner = parent;
-            end = table.row_behind(parent);
-        }
-    }
-    Ok((row, Some(inner)))
+    let reached = out.push_unchanged(table, changes, next, first)?;
+    Ok((reached.next, Some(reached.innermost)))
 }
 
 // Appends the steps of the tree with its changes made.
@@ -112,6 +83,7 @@ fn push_changed(out: &mut Steps, table: &Table, changes: &RowChanges) -> Result<
     ghost at: { Place → Change }
     requires are_changes { AreChangesOf at table.now changes.now.marks.items changes.now.changes.items }
     requires is_node { IsNode table.now }
+    requires utf8 { TextsAreUtf8 (cons table.now nil) }
     ensures { OnOk result (out.new ≡ out.old ++ events_of (changed_whole at table.now)) }
 {
     let count = table.len();
@@ -142,6 +114,8 @@ pub(crate) fn changed_table(
     ensures short { OnOk result (length (text (changed at table.now)) < 2 ^ 32) }
     ensures only { IfErr result (λ e. (e ≡ TooLong → ⊥) → e ≡ Memory) }
 {
+    // For the proof: each token's text is UTF-8.
+    texts_are_utf8(table);
     let mut out = Steps::new(alloc);
     match push_changed(&mut out, table, changes) {
         Ok(()) => out.finish(alloc),

@@ -9,6 +9,7 @@ mod error;
 mod finish;
 mod places;
 mod steps;
+mod unchanged;
 
 pub use change::Slot;
 pub use changes::Changes;

@@ -1,11 +1,17 @@
 //! The steps of a tree that is being made.
 ghost use Rattle.std.specs.Prelude.{◌≡◌, ◌↔◌, ◌≤◌, ◌<◌, ◌^◌, [], ◌∷◌, ◌++◌, OnOk, IfOk, IfErr, IsErrOf};
 ghost use Rattle.tree_model.specs.Events.{enter, leaf, exit, events_of, text_len};
-ghost use Rattle.tree_model.specs.Tree.{cons, nil};
-ghost use Rattle.tree_edits.specs.Walked.{IsOneNode};
+ghost use Rattle.std.specs.Prelude.{Some};
+ghost use Rattle.tree_model.specs.Tree.{cons, nil, Place, IsNode};
+ghost use Rattle.tree_model.specs.Rows.{tree_at, TextsAreUtf8};
+ghost use Rattle.tree_rows.specs.Walks.{IsWalk};
+ghost use Rattle.tree_edit_model.specs.Changes.{Change};
+ghost use Rattle.tree_edits.specs.Walked.{IsOneNode, AreChangesOf, IsWalkedOn};
 ghost use Rattle.tree_edits.specs.declared.error.ChangeError.TheVariants.{TooLong, Memory};
 
+use crate::change::RowChanges;
 use crate::error::ChangeError;
+use crate::unchanged::{Reached, offset_of, push_rows};
 use std::alloc::{AllocError, Global};
 use std::marker::Model;
 use syntax_kind::SyntaxKind;
@@ -72,6 +78,37 @@ impl Steps {
         self.steps
             .push_reserved(BuilderEvent::Token(kind, text.len()));
         Ok(())
+    }
+
+    /// Appends the steps of a walk over rows of a table up to the next one with a change. Returns where it has come to.
+    ///
+    /// The texts of its tokens are appended at once: each by itself takes a third of the time.
+    pub fn push_unchanged(
+        &mut self,
+        table: &Table,
+        changes: &RowChanges,
+        next: usize,
+        innermost: usize,
+    ) -> Result<Reached, AllocError>
+        ghost at: { Place → Change }
+        requires are_changes { AreChangesOf at table.now changes.now.marks.items changes.now.changes.items }
+        requires walks { IsWalk table.now 0 next (Some innermost) }
+        requires is_node { IsNode (tree_at table.now innermost) }
+        requires utf8 { TextsAreUtf8 (cons table.now nil) }
+        ensures { IfOk result (λ to.
+            IsWalkedOn at table.now self.old self.new 0 next (Some innermost) to.next (Some to.innermost)) }
+    {
+        let kept = self.steps.len();
+        let start = offset_of(table, next);
+        if let Ok(reached) = push_rows(&mut self.steps, table, changes, next, innermost) {
+            let text = &table.text_at(0)[start..reached.end];
+            if self.text.push_str(text).is_ok() {
+                return Ok(reached);
+            }
+        }
+        // Steps without their texts are taken back.
+        self.steps.truncate(kept);
+        Err(AllocError)
     }
 
     /// Leaves the innermost node.

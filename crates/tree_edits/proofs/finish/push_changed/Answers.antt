@@ -31,7 +31,7 @@ push_walked-requires g c = (
 )
 
 pub push_unchanged-requires : goal.push_unchanged-requires
-push_unchanged-requires g c = (c.requires.0, c.in-Some.ensures.state.1)
+push_unchanged-requires g c = (c.requires.0, (c.in-Some.ensures.state.1, c.requires.1.1))
 
 pub loop-step-smaller : goal.loop-step-smaller
 loop-step-smaller g c =

@@ -1,17 +1,4 @@
-use Rattle.std.proofs.Common.{◌≡◌, ◌+◌, length}
-use Rattle.std.specs.Prelude.{Some}
-use Rattle.tree_model.specs.Tree.{size, IsNode}
-use Rattle.tree_model.specs.Rows.{tree_at}
-use Rattle.tree_rows.specs.Walks.{walk_left}
-use Rattle.tree_edits.specs.Walked.{IsWalkedOn}
 use Rattle.tree_edits.proofs.finish.push_unchanged.Given as goal
 
-abbrev pub invariant-loop-row : goal.invariant-loop-row
-invariant-loop-row g l = record {
-  walked_on : IsWalkedOn g.at l.table l.fn.out l.out 0 l.next l.fn.innermost l.row (Some l.inner);
-  end_is : l.end ≡ l.inner + size (tree_at l.table l.inner);
-  is_node : IsNode (tree_at l.table l.inner);
-}
-
-abbrev pub decreases-loop-row : goal.decreases-loop-row
-decreases-loop-row g l = length (walk_left l.table 0 l.row (Some l.inner))
+abbrev pub ghost-push_unchanged : goal.ghost-push_unchanged
+ghost-push_unchanged g a = g.at
