@@ -31,6 +31,7 @@ fn class_of(role: Role) -> &'static str {
         Role::Function => "function",
         Role::Type => "type",
         Role::Field => "field",
+        Role::Path => "path",
         Role::Macro => "macro",
         Role::Attribute => "attribute",
         Role::Error => "error",
@@ -49,6 +50,7 @@ fn escape_of(role: Role) -> &'static str {
         Role::Function => "\u{1b}[34m",
         Role::Type => "\u{1b}[33m",
         Role::Field => "\u{1b}[36m",
+        Role::Path => "\u{1b}[36m",
         Role::Macro => "\u{1b}[1;34m",
         Role::Attribute => "\u{1b}[90m",
         Role::Error => "\u{1b}[1;31m",
@@ -91,6 +93,7 @@ a:target::before { background: #fff3b0; color: #1f2328 }
 .function { color: #8250df }
 .type { color: #953800 }
 .field { color: #0550ae }
+.path { color: #1b7c83 }
 .macro { color: #8250df; font-weight: bold }
 .attribute { color: #57606a }
 .error { color: #fff; background: #cf222e }
@@ -100,6 +103,7 @@ body { background: #0d1117; color: #e6edf3 }
 .escape { color: #aff5b4 }
 .number, .field, .place { color: #79c0ff } .lifetime, .type { color: #ffa657 }
 .function, .macro { color: #d2a8ff } .attribute { color: #8b949e }
+.path { color: #56d4dd }
 }
 ";
 
@@ -222,20 +226,24 @@ fn write_token<W: Write>(
 // Writes the parts of a literal.
 fn write_literal<W: Write>(
     out: &mut W,
-    literal: &str,
+    text: &str,
+    token: &SyntaxToken,
     cut: Cut,
     ink: Ink,
     place: &mut Place,
 ) -> io::Result<()> {
+    let literal = token.text();
     let mut rest = literal;
     for _turn in 0..literal.len() {
         if rest.is_empty() {
             break;
         }
-        let (part, text, behind) = cut.split(rest);
+        let (part, shown, behind) = cut.split(rest);
+        // The last part of a literal that is not terminated, as `'a` before CR LF, ends as its token does.
+        let feeds = behind.starts_with('\n') || (behind.is_empty() && is_before_feed(text, token));
         match ink {
-            Ink::Html => write_html(out, class_of_part(part), text, place)?,
-            Ink::Ansi => write_ansi(out, escape_of_part(part), text, behind.starts_with('\n'))?,
+            Ink::Html => write_html(out, class_of_part(part), shown, place)?,
+            Ink::Ansi => write_ansi(out, escape_of_part(part), shown, feeds)?,
         }
         rest = behind;
     }
@@ -262,7 +270,7 @@ pub(crate) fn write_coloured<W: Write>(
     place: &mut Place,
 ) -> io::Result<()> {
     match cut_in(token, &mut place.calls) {
-        Some(cut) => write_literal(out, token.text(), cut, ink, place),
+        Some(cut) => write_literal(out, text, token, cut, ink, place),
         None => write_token(out, text, token, ink, place),
     }
 }
@@ -285,7 +293,7 @@ fn write_tokens<W: Write>(
 
 fn write_page<W: Write>(out: &mut W, name: &str, root: &SyntaxNode) -> io::Result<()> {
     let mut place = Place::start("L");
-    write_head(out, name)?;
+    write_head(out, &[name])?;
     write_colours(out)?;
     out.write_all(b"</style>\n</head>\n<body>\n<pre>\n")?;
     write_anchor(out, &place)?;

@@ -12,11 +12,16 @@ pub fn in_html(text: &str) -> Escaped<'_> {
     }
 }
 
-/// Writes the head of a page, with its title, up to the style.
-pub fn write_head<W: Write>(out: &mut W, title: &str) -> io::Result<()> {
-    let title = in_html(title);
-    writeln!(
-        out,
-        "<!DOCTYPE html>\n<html lang=\"en\">\n<head>\n<meta charset=\"utf-8\">\n<title>{title}</title>"
-    )
+/// Writes the head of a page, whose title is the names of its files, up to the style.
+pub fn write_head<W: Write>(out: &mut W, names: &[&str]) -> io::Result<()> {
+    out.write_all(
+        b"<!DOCTYPE html>\n<html lang=\"en\">\n<head>\n<meta charset=\"utf-8\">\n<title>",
+    )?;
+    for (number, name) in names.iter().enumerate() {
+        if number > 0 {
+            out.write_all(b" and ")?;
+        }
+        write!(out, "{}", in_html(name))?;
+    }
+    out.write_all(b"</title>\n")
 }

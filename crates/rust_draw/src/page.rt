@@ -28,6 +28,7 @@ fn letter_of(role: Role) -> &'static str {
         Role::Function => "f",
         Role::Type => "t",
         Role::Field => "d",
+        Role::Path => "p",
         Role::Macro => "m",
         Role::Attribute => "a",
         Role::Error => "e",
@@ -128,7 +129,7 @@ pub fn show<W: Write>(
     errors: &[SyntaxError],
     showing: &Showing,
 ) -> io::Result<()> {
-    write_head(out, name)?;
+    write_head(out, &[name])?;
     write_style(out)?;
     let start = root.text_range().start().raw();
     writeln!(out, "<pre id=\"source\" data-start=\"{start}\">")?;

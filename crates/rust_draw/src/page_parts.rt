@@ -25,12 +25,12 @@ header * { font: inherit }
 .gap { border-left: 2px solid #cf222e; color: inherit }
 .c { color: #6a737d; font-style: italic } .k { color: #cf222e } .s { color: #0a6b2d } .n, .d { color: #0550ae }
 .l, .t { color: #953800 } .f, .m { color: #8250df } .m { font-weight: bold } .a { color: #57606a }
-.e { color: #fff; background: #cf222e }
+.p { color: #1b7c83 } .e { color: #fff; background: #cf222e }
 .on { background: #fff3b0 }
 @media (prefers-color-scheme: dark) {
 body { background: #0d1117; color: #e6edf3 } section, header { border-color: #30363d } #tree b { color: #7ee787 }
 .c { color: #8b949e } .k { color: #ff7b72 } .s { color: #7ee787 } .n, .d { color: #79c0ff } .l, .t { color: #ffa657 }
-.f, .m { color: #d2a8ff } .a { color: #8b949e } .error, .bad { color: #ff7b72 } .gap { border-color: #ff7b72 }
+.f, .m { color: #d2a8ff } .p { color: #56d4dd } .a { color: #8b949e } .error, .bad { color: #ff7b72 } .gap { border-color: #ff7b72 }
 .on { background: #5a4a00 }
 }
 </style>

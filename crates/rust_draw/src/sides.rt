@@ -255,7 +255,7 @@ fn write_page<W: Write>(
     roots: (&SyntaxNode, &SyntaxNode),
     found: &[Difference],
 ) -> Result<(), Failure> {
-    write_head(out, names.1)?;
+    write_head(out, &[names.0, names.1])?;
     write_colours(out)?;
     out.write_all(STYLE.as_bytes())?;
     write_list(alloc, out, roots.0.as_str(), roots.1.as_str(), found)?;

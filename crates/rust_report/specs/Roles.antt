@@ -7,6 +7,8 @@ use Rattle.syntax_kind.specs.declared.syntax_kind.SyntaxKind.TheVariants.{Node, 
 use Rattle.syntax_kind.specs.declared.syntax_kind.node_kind.NodeKind.TheVariants as kind
 use Rattle.syntax_kind.specs.declared.syntax_kind.token_kind.TokenKind.TheVariants as token
 use Rattle.syntax_kind.specs.declared.syntax_kind.TheConstants.SyntaxKind.{ATTR, CALL_EXPR}
+use Rattle.syntax_kind.specs.Kinds.{is_same_kind}
+use Rattle.rust_kinds.specs.declared.kinds.TheConstants.{RENAME}
 use Rattle.tree_model.specs.Tree.{text}
 use Rattle.tree_model.specs.Cursor.{Cursor, focus, parent_of, ancestors_from}
 use Rattle.ras_node.specs.Nodes.{kind_at, is_of_kind}
@@ -49,7 +51,8 @@ role_of_name (Node kind.VARIANT) = role.«Type»
 role_of_name (Node kind.RECORD_FIELD) = role.Field
 role_of_name (Node kind.MACRO_RULES) = role.Macro
 role_of_name (Node kind.MACRO_DEF) = role.Macro
-role_of_name _ = role.Plain
+role_of_name (Node kind.MODULE) = role.Path
+role_of_name k = if is_same_kind k RENAME then role.Path else role.Plain
 
 -- a path that is an expression, by the node around that
 abbrev pub role_of_callee : Option Cursor → Role
@@ -64,6 +67,8 @@ role_in_path (Node kind.RECORD_PAT) above = role.«Type»
 role_in_path (Node kind.TUPLE_STRUCT_PAT) above = role.«Type»
 role_in_path (Node kind.MACRO_CALL) above = role.Macro
 role_in_path (Node kind.PATH_EXPR) above = role_of_callee above
+role_in_path (Node kind.PATH) above = role.Path
+role_in_path (Node kind.USE_TREE) above = role.Path
 role_in_path _ above = role.Plain
 
 abbrev pub role_of_path : Option Cursor → Role
@@ -81,6 +86,7 @@ role_in_use (Node kind.METHOD_CALL_EXPR) above = role.Function
 role_in_use (Node kind.FIELD_EXPR) above = role.Field
 role_in_use (Node kind.RECORD_EXPR_FIELD) above = role.Field
 role_in_use (Node kind.RECORD_PAT_FIELD) above = role.Field
+role_in_use (Node kind.EXTERN_CRATE) above = role.Path
 role_in_use (Node kind.PATH_SEGMENT) above = role_of_segment above
 role_in_use _ above = role.Plain
 
@@ -107,9 +113,10 @@ role_alone k c = role_of_token k (text (focus c))
 abbrev pub in_attribute : Option Cursor → Bool
 in_attribute parent = list_any (is_of_kind ATTR) (take 5 (ancestors_from parent))
 
--- what is plain is a part of an attribute that it is in
+-- what is plain, or a part of a path, is a part of an attribute that it is in
 abbrev pub or_attribute : Role → Bool → Role
 or_attribute role.Plain inside = if inside then role.Attribute else role.Plain
+or_attribute role.Path inside = if inside then role.Attribute else role.Path
 or_attribute r inside = r
 
 abbrev pub role_of : Cursor → Role

@@ -5,6 +5,7 @@ ghost use Rattle.ras_node.specs.Nodes.{is_of_kind};
 ghost use Rattle.rust_report.specs.Roles.{begins_word, role_of_token, role_of_name, role_of_callee, role_of_path, role_of_use, role_of_word, in_attribute, role_of};
 
 use lossless_tree::{SyntaxKind, SyntaxNode, SyntaxToken};
+use rust_kinds::kinds::RENAME;
 
 /// The role of a token.
 #[derive(Clone, Copy, Debug, PartialEq, Eq)]
@@ -27,6 +28,8 @@ pub enum Role {
     Type,
     /// The name of a field.
     Field,
+    /// A name before a `::`, in a `use`, of a module or of a crate.
+    Path,
     /// The name of a macro.
     Macro,
     /// A token in an attribute that is otherwise plain.
@@ -86,6 +89,8 @@ fn role_of_name(item: SyntaxKind) -> Role
         | SyntaxKind::VARIANT => Role::Type,
         SyntaxKind::RECORD_FIELD => Role::Field,
         SyntaxKind::MACRO_RULES | SyntaxKind::MACRO_DEF => Role::Macro,
+        SyntaxKind::MODULE => Role::Path,
+        kind if kind == RENAME => Role::Path,
         _ => Role::Plain,
     }
 }
@@ -120,6 +125,7 @@ fn role_of_path(around: Option<SyntaxNode>) -> Role
         | SyntaxKind::TUPLE_STRUCT_PAT => Role::Type,
         SyntaxKind::MACRO_CALL => Role::Macro,
         SyntaxKind::PATH_EXPR => role_of_callee(around.parent()),
+        SyntaxKind::PATH | SyntaxKind::USE_TREE => Role::Path,
         _ => Role::Plain,
     }
 }
@@ -132,6 +138,7 @@ fn role_of_use(around: &SyntaxNode) -> Role
         SyntaxKind::METHOD_CALL_EXPR => Role::Function,
         SyntaxKind::FIELD_EXPR | SyntaxKind::RECORD_EXPR_FIELD | SyntaxKind::RECORD_PAT_FIELD =>
             Role::Field,
+        SyntaxKind::EXTERN_CRATE => Role::Path,
         SyntaxKind::PATH_SEGMENT => match around.parent() {
             Some(path) => role_of_path(path.parent()),
             None => Role::Plain,
@@ -182,8 +189,8 @@ fn in_attribute(parent: Option<SyntaxNode>) -> bool
     false
 }
 
-/// The role of a token of a tree: by its kind, and for an identifier by the nodes around it. A token that is plain by this rule has the
-/// role `Attribute` if one of the five innermost nodes around it is an attribute.
+/// The role of a token of a tree: by its kind, and for an identifier by the nodes around it. A token that is plain by this rule, or
+/// a part of a path, has the role `Attribute` if one of the five innermost nodes around it is an attribute.
 pub fn role_of(token: &SyntaxToken) -> Role
     ensures { result ≡ role_of token.now }
 {
@@ -192,13 +199,7 @@ pub fn role_of(token: &SyntaxToken) -> Role
         kind => role_of_token(kind, token.text()),
     };
     match role {
-        Role::Plain => {
-            if in_attribute(token.parent()) {
-                Role::Attribute
-            } else {
-                Role::Plain
-            }
-        }
+        Role::Plain | Role::Path if in_attribute(token.parent()) => Role::Attribute,
         role => role,
     }
 }
