@@ -69,6 +69,7 @@ role_in_path (Node kind.MACRO_CALL) above = role.Macro
 role_in_path (Node kind.PATH_EXPR) above = role_of_callee above
 role_in_path (Node kind.PATH) above = role.Path
 role_in_path (Node kind.USE_TREE) above = role.Path
+role_in_path (Node kind.VISIBILITY) above = role.Path
 role_in_path _ above = role.Plain
 
 abbrev pub role_of_path : Option Cursor → Role

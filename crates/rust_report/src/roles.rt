@@ -125,7 +125,7 @@ fn role_of_path(around: Option<SyntaxNode>) -> Role
         | SyntaxKind::TUPLE_STRUCT_PAT => Role::Type,
         SyntaxKind::MACRO_CALL => Role::Macro,
         SyntaxKind::PATH_EXPR => role_of_callee(around.parent()),
-        SyntaxKind::PATH | SyntaxKind::USE_TREE => Role::Path,
+        SyntaxKind::PATH | SyntaxKind::USE_TREE | SyntaxKind::VISIBILITY => Role::Path,
         _ => Role::Plain,
     }
 }
