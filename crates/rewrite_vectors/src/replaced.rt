@@ -134,3 +134,79 @@ fn comments(rt: HostRuntime) -> Result<(), Fail> {
         ],
     )
 }
+
+#[test]
+fn conditions(rt: HostRuntime) -> Result<(), Fail> {
+    run(
+        rt.alloc(),
+        &[
+            (
+                "f(${a:kind(literal)}) ==>> g($a)",
+                "f(1); f((2)); f(x); f(-1);",
+                "g(1); g((2)); f(x); f(-1);",
+            ),
+            (
+                "f(${a:not(kind(literal))}) ==>> g($a)",
+                "f(1); f((2)); f(x);",
+                "f(1); f((2)); g(x);",
+            ),
+            (
+                "f(${a:kind(PATH_EXPR):not(text(/^(self|Self)/))}) ==>> g($a)",
+                "f(x); f(self); f(1); f((y));",
+                "g(x); f(self); f(1); g((y));",
+            ),
+            (
+                "f(${a:not(not(kind(Path_Expr)))}) ==>> g(${a})",
+                "f(x); f(1);",
+                "g(x); f(1);",
+            ),
+            (
+                "$a + ${a:text(/^[a-m]$/)} ==>> 2 * $a",
+                "b + b; z + z; bb + bb;",
+                "2 * b; z + z; bb + bb;",
+            ),
+            (
+                "f(${ a : text(/'\"\\/}/) }) ==>> g($a)",
+                "f(x); f(\"'\\\"/}\");",
+                "f(x); f(\"'\\\"/}\");",
+            ),
+            (
+                "f(${_:text(/\"\\//)}, ${b:text(/'/)}) ==>> g($b)",
+                "f(\"/\", 'c'); f(\"\", 'c'); f(\"/\", c);",
+                "g('c'); f(\"\", 'c'); f(\"/\", c);",
+            ),
+            (
+                "${x:kind(literal)} as ${t:text(/^u/)} ==>> cast::<$t>($x)",
+                "1 as u8; 1 as i8; x as u8;",
+                "cast::<u8>(1); 1 as i8; x as u8;",
+            ),
+        ],
+    )
+}
+
+// The text of a literal of so many bytes.
+fn long(alloc: Global, len: usize) -> Result<String, Fail> {
+    let mut text = String::new(alloc);
+    for _turn in 0..len {
+        text.push('1')?;
+    }
+    Ok(text)
+}
+
+#[test]
+fn long_texts_are_not_searched(rt: HostRuntime) -> Result<(), Fail> {
+    let alloc = rt.alloc();
+    for (len, is_found) in [(1000, true), (1001, false)] {
+        let digits = long(alloc, len)?;
+        let body = format!(in alloc; "f({digits});")?;
+        let new = put(alloc, "f(${a:text(/1/)}) ==>> g($a)", body.as_str())?;
+        if new.starts_with("g(") != is_found {
+            return Err("a text of at most 1000 bytes is searched".into());
+        }
+        let new = put(alloc, "f(${a:not(text(/1/))}) ==>> g($a)", body.as_str())?;
+        if new.starts_with("g(") == is_found {
+            return Err("and a longer one is none in which something is found".into());
+        }
+    }
+    Ok(())
+}

@@ -1,4 +1,5 @@
 //! Why a rule is refused.
+ghost use Rattle.std.specs.Prelude.{◌≡◌};
 
 use ras_front_end::ParseError;
 use std::alloc::AllocError;
@@ -15,6 +16,30 @@ pub enum RuleFault {
     /// No name follows directly behind a `$`.
     #[error("expected the name of a placeholder behind `$`")]
     NoName,
+    /// Behind the name or a condition of a placeholder in braces is neither `:` nor `}`.
+    #[error("expected `:` and a condition, or `}}`")]
+    NoBrace,
+    /// A placeholder in braces has a `:` without a condition.
+    #[error("expected a condition: `kind(..)`, `text(/../)` or `not(..)`")]
+    NoCondition,
+    /// The `(` of a condition is missing.
+    #[error("expected `(`")]
+    NoOpening,
+    /// The `)` of a condition is missing.
+    #[error("expected `)`")]
+    NoClosing,
+    /// The word in `kind(..)` names no kind.
+    #[error("expected the name of a kind, as `literal`, not `{0}`; `tree` shows the kinds of a text")]
+    UnknownKind(String),
+    /// In `text(..)` is no regular expression between two `/`.
+    #[error("expected a regular expression between `/` and `/`")]
+    NoRegex,
+    /// The regular expression in `text(/../)` is not well formed.
+    #[error("{0}")]
+    BadRegex(regex::Error),
+    /// A placeholder of a template has conditions.
+    #[error("expected the condition in the pattern, not in the template")]
+    TemplateCondition,
     /// A word stands directly before a `$`.
     #[error("expected white space before the placeholder")]
     Joined,
@@ -75,4 +100,11 @@ impl From<ParseError> for RuleError {
         };
         RuleError { fault, offset: 0 }
     }
+}
+
+/// A fault at an offset of the rule.
+pub(crate) fn fault(fault: RuleFault, offset: usize) -> RuleError
+    ensures { (result.fault ≡ fault) × (result.offset ≡ offset) }
+{
+    RuleError { fault, offset }
 }

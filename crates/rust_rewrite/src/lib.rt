@@ -2,10 +2,12 @@
 #![tactic(auto)]
 
 mod applied;
+mod condition;
 mod error;
 mod parse;
 mod refusal;
 mod render;
+mod side;
 
 pub use applied::{Rewritten, rewrite};
 pub use error::{RuleError, RuleFault};

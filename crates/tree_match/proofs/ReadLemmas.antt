@@ -8,7 +8,7 @@ use Rattle.tree_match.specs.declared.rule.Rule.{Rule}
 use Rattle.tree_match.specs.declared.matching.Found.{Found}
 use Rattle.tree_match.specs.declared.reads.Task.{Task}
 use Rattle.tree_match.specs.Bare.{past, bare}
-use Rattle.tree_match.specs.Matching.{Values, match_parts, found_of}
+use Rattle.tree_match.specs.Matching.{Values, match_template, found_of}
 use Rattle.tree_match.specs.Reads.{rule_at, FirstReads, same_token, same_node, replaced, AllRead, none, some, ValueReads, unused, used, ValuesRead, no_values, values, IsReplaced, IsSameToken, IsSameNode, TaskReads, TasksRead, Leads, LeadsBy}
 
 pub if_ok : {T E : Type 0} {P Q : T → Type 0} (r : Result T E) → IfOk r P → ((x : T) → P x → Q x) → IfOk r Q
@@ -60,7 +60,7 @@ all_came os ns a b ts first c e f = record {
 pub replaced_leads : {R V E : Type 0} (rules : List Rule) (ts' ts : List Task) (new : Siblings) (f : ℕ × Values) (now : R → Rule) (x : Option R) (rule : R)
     (items : V → Values) (y : Option V) (news : V) (r : Result Bool E)
     → option_map now x ≡ slice_get rules f.0 → x ≡ Some rule
-    → option_map items y ≡ match_parts Passed (now rule).template.items (now rule).count new → y ≡ Some news
+    → option_map items y ≡ match_template (now rule) new → y ≡ Some news
     → IfOk r (λ ok. Leads (λ rs. ValuesRead rs f.1 (items news)) ok ts' ts)
     → IfOk r (λ ok. LeadsBy rules (IsReplaced rules f new) ok ts' ts)
 replaced_leads rules ts' ts new f now x rule items y news r a b c d h =

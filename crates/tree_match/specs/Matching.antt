@@ -1,16 +1,18 @@
 -- A pattern at one place of a tree, and what stands for its placeholders.
-use Rattle.std.specs.Prelude.{ℕ, suc, ◌==◌, if◌then◌else◌, List, [], ◌∷◌, Option, Some, None, option_map, length, get_or, set, replicate, nat_lt}
+use Rattle.std.specs.Prelude.{ℕ, suc, ◌==◌, if◌then◌else◌, List, [], ◌∷◌, Option, Some, None, option_map, length, get_or, set, replicate, nat_lt, slice_get}
 use Rattle.std.specs.Option.{option_and_then, option_or}
 use Rattle.syntax_kind.specs.declared.syntax_kind.SyntaxKind.{SyntaxKind}
 use Rattle.syntax_kind.specs.Kinds.{is_same_kind}
 use Rattle.lossless_tree.specs.Trees.{Siblings}
 use Rattle.tree_match.specs.declared.bare.Comments.{Comments}
 use Rattle.tree_match.specs.declared.bare.Comments.TheVariants.{Passed, Kept}
+use Rattle.tree_match.specs.declared.condition.Hole.{Hole}
 use Rattle.tree_match.specs.declared.part.Part.{Part}
 use Rattle.tree_match.specs.declared.part.Part.TheVariants as part
 use Rattle.tree_match.specs.declared.part.Sort.{Sort}
 use Rattle.tree_match.specs.declared.rule.Rule.{Rule}
 use Rattle.tree_match.specs.declared.matching.Found.{Found}
+use Rattle.tree_match.specs.Conditions.{admits}
 use Rattle.tree_match.specs.Walks.{advance, taken, is_part}
 use Rattle.tree_match.specs.Same.{is_same}
 
@@ -26,27 +28,32 @@ put_beside (Some old) n v vs = if is_same old v then Some vs else None
 abbrev pub put : ℕ → Siblings → Values → Option Values
 put n v vs = if nat_lt n (length vs) then put_beside (get_or vs n None) n v vs else None
 
--- the levels and the values behind one part of a pattern, if that is next: a placeholder passes over a node of its sort
-abbrev pub match_hole : Comments → ℕ → Sort → List Siblings → Values → Option (List Siblings × Values)
-match_hole cs n sort st vs = option_and_then (λ t. option_map (λ ws. (t.1, ws)) (put n t.0 vs)) (taken cs sort st)
+-- the same where the conditions of the placeholder hold
+abbrev pub put_held : List Hole → ℕ → Siblings → Values → Option Values
+put_held hs n v vs = if admits (slice_get hs n) v then put n v vs else None
+
+-- the levels and the values behind one part of a pattern, if that is next: a placeholder passes over a node of its sort, where its
+-- conditions hold
+abbrev pub match_hole : Comments → List Hole → ℕ → Sort → List Siblings → Values → Option (List Siblings × Values)
+match_hole cs hs n sort st vs = option_and_then (λ t. option_map (λ ws. (t.1, ws)) (put_held hs n t.0 vs)) (taken cs sort st)
 
 abbrev pub match_step : Comments → Part → List Siblings → Values → Option (List Siblings × Values)
 match_step cs p st vs = if is_part p (advance cs st).0 then Some ((advance cs st).1, vs) else None
 
-abbrev pub match_part : Comments → Part → List Siblings → Values → Option (List Siblings × Values)
-match_part cs (part.Hole n sort) st vs = match_hole cs n sort st vs
-match_part cs (part.Enter k) st vs = match_step cs (part.Enter k) st vs
-match_part cs part.Leave st vs = match_step cs part.Leave st vs
-match_part cs (part.Token k s) st vs = match_step cs (part.Token k s) st vs
+abbrev pub match_part : Comments → List Hole → Part → List Siblings → Values → Option (List Siblings × Values)
+match_part cs hs (part.Hole n sort) st vs = match_hole cs hs n sort st vs
+match_part cs hs (part.Enter k) st vs = match_step cs (part.Enter k) st vs
+match_part cs hs part.Leave st vs = match_step cs part.Leave st vs
+match_part cs hs (part.Token k s) st vs = match_step cs (part.Token k s) st vs
 
 -- the values behind all parts
-abbrev pub match_from : Comments → List Part → List Siblings → Values → Option Values
-match_from cs [] st vs = Some vs
-match_from cs (p ∷ ps) st vs = option_and_then (λ r. match_from cs ps r.0 r.1) (match_part cs p st vs)
+abbrev pub match_from : Comments → List Hole → List Part → List Siblings → Values → Option Values
+match_from cs hs [] st vs = Some vs
+match_from cs hs (p ∷ ps) st vs = option_and_then (λ r. match_from cs hs ps r.0 r.1) (match_part cs hs p st vs)
 
 -- what stands for n placeholders, if the parts are the first steps of the walk of some siblings
-abbrev pub match_parts : Comments → List Part → ℕ → Siblings → Option Values
-match_parts cs ps n s = match_from cs ps (s ∷ []) (replicate n None)
+abbrev pub match_parts : Comments → List Hole → List Part → ℕ → Siblings → Option Values
+match_parts cs hs ps n s = match_from cs hs ps (s ∷ []) (replicate n None)
 
 -- comments between the tokens of a match do not count, unless the match is replaced
 abbrev pub comments_by : List Part → Comments
@@ -56,7 +63,11 @@ comments_by (p ∷ ps) = Kept
 -- what stands for the placeholders of a rule, if a node of this kind with these children is its pattern
 abbrev pub match_rule : Rule → SyntaxKind → Siblings → Option Values
 match_rule r k s =
-    if is_same_kind r.kind k then match_parts (comments_by r.template.items) r.inside.items r.count s else None
+    if is_same_kind r.kind k then match_parts (comments_by r.template.items) r.holes.items r.inside.items (length r.holes.items) s else None
+
+-- what stands for the placeholders of a rule, if the first of some siblings is its template: conditions are those of the pattern
+abbrev pub match_template : Rule → Siblings → Option Values
+match_template r s = match_parts Passed [] r.template.items (length r.holes.items) s
 
 -- the first rule whose pattern it is
 abbrev pub first_from : ℕ → List Rule → SyntaxKind → Siblings → Option (ℕ × Values)

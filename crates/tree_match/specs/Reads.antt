@@ -7,7 +7,7 @@ use Rattle.tree_match.specs.declared.bare.Comments.TheVariants.{Passed}
 use Rattle.tree_match.specs.declared.rule.Rule.{Rule}
 use Rattle.tree_match.specs.declared.reads.Task.{Task}
 use Rattle.tree_match.specs.Bare.{past, bare}
-use Rattle.tree_match.specs.Matching.{Values, match_parts, first_rule}
+use Rattle.tree_match.specs.Matching.{Values, match_template, first_rule}
 
 -- the first rule whose pattern the first of some siblings is, and the values
 abbrev pub rule_at : List Rule → Siblings → Option (ℕ × Values)
@@ -28,7 +28,7 @@ mutual
     -- where a rule matches: the rule's template, in which each placeholder stands for what it stands for in the match, with the matches in that replaced
     replaced : {old new : Siblings} (n : ℕ) (rule : Rule) (olds news : Values) → is_token (first_of old.trees) ≡ false
         → rule_at rules old ≡ Some (n, olds) → slice_get rules n ≡ Some rule
-        → match_parts Passed rule.template.items rule.count new ≡ Some news
+        → match_template rule new ≡ Some news
         → ValuesRead rules olds news → FirstReads rules old new
 
   -- All of the new siblings are the old ones with the matches of rules replaced.
@@ -54,7 +54,7 @@ pub record IsReplaced (rules : List Rule) (found : ℕ × Values) (new : Sibling
   pub rule : Rule
   pub news : Values
   pub is_rule : slice_get rules found.0 ≡ Some rule
-  pub is_template : match_parts Passed rule.template.items rule.count new ≡ Some news
+  pub is_template : match_template rule new ≡ Some news
   pub values : ValuesRead rules found.1 news
 
 -- the first of the new siblings is the same token as that of the old ones; or a node of the same kind, whose children are the old ones

@@ -3,6 +3,7 @@
 
 mod bare;
 mod compile;
+mod condition;
 mod matching;
 mod part;
 mod places;
@@ -11,6 +12,7 @@ mod rule;
 mod same;
 mod walk;
 
+pub use condition::{Condition, Hole, Test};
 pub use part::Sort;
 pub use places::{Match, find};
 pub use reads::reads_as;

@@ -1,9 +1,10 @@
 //! A pattern at one place of a tree.
 ghost use Rattle.std.specs.Prelude.{◌≡◌, IfOk, if◌then◌else◌, Some, None, option_map, replicate, get_or};
 ghost use Rattle.tree_match.specs.Walks.{levels_of};
-ghost use Rattle.tree_match.specs.Matching.{put, match_part, match_parts, match_rule, first_rule, found_of};
+ghost use Rattle.tree_match.specs.Matching.{put, put_held, match_part, match_parts, match_rule, match_template, first_rule, found_of};
 
 use crate::bare::Comments;
+use crate::condition::{Hole, admits};
 use crate::part::Part;
 use crate::rule::Rule;
 use crate::same::is_same;
@@ -51,40 +52,58 @@ fn put<'t>(
     Ok(true)
 }
 
+// The same, if the conditions of the placeholder hold.
+fn put_held<'t>(
+    alloc: Global,
+    holes: &[Hole],
+    values: &mut Values<'t>,
+    number: usize,
+    value: SiblingsLeft<'t>,
+) -> Result<bool, AllocError>
+    ensures { IfOk result (λ ok. put_held holes.now number value.entry values.old.items ≡ (if ok then Some values.new.items else None)) }
+{
+    if !admits(alloc, holes, number, &value)? {
+        return Ok(false);
+    }
+    put(alloc, values, number, value)
+}
+
 // Passes over a part, if it is next in the walk.
 fn match_part<'t>(
     alloc: Global,
     walk: &mut Walk<'t>,
+    holes: &[Hole],
     values: &mut Values<'t>,
     part: &Part,
 ) -> Result<bool, AllocError>
-    ensures step { IfOk result (λ ok. match_part walk.old.comments part.now (levels_of walk.old) values.old.items ≡ (if ok then Some (levels_of walk.new, values.new.items) else None)) }
+    ensures step { IfOk result (λ ok. match_part walk.old.comments holes.now part.now (levels_of walk.old) values.old.items ≡ (if ok then Some (levels_of walk.new, values.new.items) else None)) }
     ensures same { walk.new.comments ≡ walk.old.comments }
 {
     if let Part::Hole(number, sort) = part {
         let Some(value) = walk.take(*sort)? else {
             return Ok(false);
         };
-        return put(alloc, values, *number, value);
+        return put_held(alloc, holes, values, *number, value);
     }
     let step = walk.next()?;
     Ok(is_part(part, step))
 }
 
-/// What stands for each placeholder, if the parts are the first steps of the walk of some siblings.
-pub(crate) fn match_parts<'t>(
+// What stands for each placeholder, if the parts are the first steps of the walk of some siblings.
+fn match_parts<'t>(
     alloc: Global,
     comments: Comments,
+    holes: &[Hole],
     parts: &[Part],
     count: usize,
     start: &SiblingsLeft<'t>,
 ) -> Result<Option<Values<'t>>, AllocError>
-    ensures { IfOk result (λ o. option_map (λ vs. vs.items) o ≡ match_parts comments parts.now count start.now) }
+    ensures { IfOk result (λ o. option_map (λ vs. vs.items) o ≡ match_parts comments holes.now parts.now count start.now) }
 {
     let mut walk = Walk::new(alloc, comments, start)?;
     let mut values = no_values(alloc, count)?;
     for part in parts {
-        if !match_part(alloc, &mut walk, &mut values, part)? {
+        if !match_part(alloc, &mut walk, holes, &mut values, part)? {
             return Ok(None);
         }
     }
@@ -103,7 +122,32 @@ fn match_rule<'t>(
     if rule.kind.to_raw() != kind.to_raw() {
         return Ok(None);
     }
-    match_parts(alloc, rule.comments(), &rule.inside, rule.count, inside)
+    match_parts(
+        alloc,
+        rule.comments(),
+        &rule.holes,
+        &rule.inside,
+        rule.count(),
+        inside,
+    )
+}
+
+/// What stands for the placeholders of a rule, if the first of some siblings is its template.
+pub(crate) fn match_template<'t>(
+    alloc: Global,
+    rule: &Rule,
+    start: &SiblingsLeft<'t>,
+) -> Result<Option<Values<'t>>, AllocError>
+    ensures { IfOk result (λ o. option_map (λ vs. vs.items) o ≡ match_template rule.now start.now) }
+{
+    match_parts(
+        alloc,
+        Comments::Passed,
+        &[],
+        &rule.template,
+        rule.count(),
+        start,
+    )
 }
 
 /// The first rule whose pattern a node is, by its kind and its children.

@@ -7,7 +7,7 @@ ghost use Rattle.tree_match.specs.Matching.{found_of};
 ghost use Rattle.tree_match.specs.Reads.{FirstReads, AllRead, ValueReads, ValuesRead, IsSameToken, IsSameNode, IsReplaced, rule_at, TaskReads, Leads, LeadsBy};
 
 use crate::bare::{Comments, bare, past};
-use crate::matching::{Found, first_rule, match_parts};
+use crate::matching::{Found, first_rule, match_template};
 use crate::rule::Rule;
 use lossless_tree::{SiblingsLeft, SyntaxNode};
 use std::alloc::{AllocError, Global};
@@ -89,7 +89,7 @@ fn is_replaced<'a, 'b>(
     let Some(rule) = numbered(rules, found.rule) else {
         return Ok(false);
     };
-    let Some(values) = match_parts(alloc, Comments::Passed, &rule.template, rule.count, new)? else {
+    let Some(values) = match_template(alloc, rule, new)? else {
         return Ok(false);
     };
     push_values(tasks, &found.values, &values)

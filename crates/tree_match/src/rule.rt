@@ -1,9 +1,10 @@
 //! Rules: a pattern, and the template that replaces what it matches.
-ghost use Rattle.std.specs.Prelude.{◌≡◌, [], IfOk};
+ghost use Rattle.std.specs.Prelude.{◌≡◌, [], IfOk, length};
 ghost use Rattle.ras_node.specs.Nodes.{kind_at};
 ghost use Rattle.tree_match.specs.Matching.{comments_by, sort_in};
 
 use crate::bare::Comments;
+use crate::condition::Hole;
 use crate::compile::{is_hole, misplaced, parts_of, push_inside};
 use crate::part::{Part, Sort};
 use lossless_tree::{SyntaxKind, SyntaxNode};
@@ -24,7 +25,7 @@ pub struct Rule {
     pub(crate) kind: SyntaxKind,
     pub(crate) inside: Vec<Part>,
     pub(crate) template: Vec<Part>,
-    pub(crate) count: usize,
+    pub(crate) holes: Vec<Hole>,
     pub(crate) pieces: Vec<Piece>,
 }
 
@@ -62,8 +63,8 @@ fn check_places(parts: &[Part], prefix: &str) -> Result<(), RuleRefusal> {
 }
 
 impl Rule {
-    /// The rule of a pattern's node, to be searched for. In it a word that is `prefix` and a number below `count` stands for the placeholder
-    /// with this number, where it is an expression, a type or a pattern.
+    /// The rule of a pattern's node, to be searched for. In it a word that is `prefix` and the number of one of the placeholders `holes` stands
+    /// for this placeholder, where it is an expression, a type or a pattern.
     ///
     /// # Errors
     ///
@@ -71,11 +72,11 @@ impl Rule {
     pub fn of_pattern(
         alloc: Global,
         prefix: &str,
-        count: usize,
+        holes: Vec<Hole>,
         node: &SyntaxNode,
     ) -> Result<Rule, RuleRefusal>
         ensures root { IfOk result (λ r. r.kind ≡ kind_at node.now) }
-        ensures count { IfOk result (λ r. r.count ≡ count) }
+        ensures holes { IfOk result (λ r. r.holes.items ≡ holes.items) }
         ensures bare { IfOk result (λ r. (r.template.items ≡ []) × (r.pieces.items ≡ [])) }
     {
         if is_hole(node, prefix) {
@@ -88,7 +89,7 @@ impl Rule {
             kind: node.kind(),
             inside,
             template: Vec::new(alloc),
-            count,
+            holes,
             pieces: Vec::new(alloc),
         })
     }
@@ -105,7 +106,7 @@ impl Rule {
         node: &SyntaxNode,
         pieces: Vec<Piece>,
     ) -> Result<Rule, RuleRefusal>
-        ensures pattern { IfOk result (λ r. (r.kind ≡ self.kind) × (r.inside.items ≡ self.inside.items) × (r.count ≡ self.count)) }
+        ensures pattern { IfOk result (λ r. (r.kind ≡ self.kind) × (r.inside.items ≡ self.inside.items) × (r.holes.items ≡ self.holes.items)) }
         ensures pieces { IfOk result (λ r. r.pieces.items ≡ pieces.items) }
     {
         let template = parts_of(alloc, node, prefix)?;
@@ -114,9 +115,16 @@ impl Rule {
             kind: self.kind,
             inside: self.inside,
             template,
-            count: self.count,
+            holes: self.holes,
             pieces,
         })
+    }
+
+    // The number of placeholders.
+    pub(crate) fn count(&self) -> usize
+        ensures { result ≡ length self.now.holes.items }
+    {
+        self.holes.len()
     }
 
     /// What the placeholder with a number stands for in the template; `None` if it is not in it.
