@@ -191,7 +191,7 @@ impl<'a> Reader<'a> {
 }
 
 /// The placeholder whose `{` is at an offset of a text that starts at `base` of the rule.
-pub(crate) fn braced<'a>(
+pub(crate) fn read_braced<'a>(
     alloc: Global,
     text: &'a str,
     at: usize,
