@@ -1,7 +1,7 @@
 //! Matches replaced in texts.
 use ra_ap_syntax::{Edition, SourceFile};
 use rust_front::Rust;
-use rust_rewrite::{parse_rule, rewrite};
+use rust_rewrite::{Rule, parse_rule, rewrite};
 use std::alloc::Global;
 use std::test::Fail;
 
@@ -12,18 +12,20 @@ fn put(alloc: Global, rule: &str, body: &str) -> Result<String, Fail> {
     let rule = parse_rule(alloc, &Rust, NOW, rule)?;
     let rules = vec![in alloc; rule]?;
     let file = format!(in alloc; "fn f() {{ {body} }}")?;
-    let parse = SourceFile::parse(alloc, file.as_str(), &Rust, NOW)?;
-    let done = match rewrite(alloc, &Rust, NOW, &rules, &parse.to_syntax()) {
-        Ok(done) => done,
-        Err(error) => return Ok(format!(in alloc; "{error}")?),
-    };
-    let text = done.text.as_str();
+    let text = changed(alloc, &rules, file.as_str())?;
     let inner = text
         .strip_prefix("fn f() { ")
-        .and_then(|it| it.strip_suffix(" }"));
-    match inner {
-        Some(inner) => Ok(String::from_str(alloc, inner)?),
-        None => Err("the function is gone".into()),
+        .and_then(|it| it.strip_suffix(" }"))
+        .unwrap_or(text.as_str());
+    Ok(String::from_str(alloc, inner)?)
+}
+
+// A file with the matches of rules replaced, or why they are not.
+pub(crate) fn changed(alloc: Global, rules: &[Rule], file: &str) -> Result<String, Fail> {
+    let parse = SourceFile::parse(alloc, file, &Rust, NOW)?;
+    match rewrite(alloc, &Rust, NOW, rules, &parse.to_syntax()) {
+        Ok(done) => Ok(done.text),
+        Err(error) => Ok(format!(in alloc; "{error}")?),
     }
 }
 

@@ -48,14 +48,26 @@ fn refused(rt: HostRuntime) -> Result<(), Fail> {
             "$a ==>> 1",
             "0: expected a pattern that is more than a placeholder",
         ),
-        (
-            "x.$a ==>> 1",
-            "2: expected a place of an expression for this placeholder",
-        ),
+        ("x.$a ==>> 1", "accepted"),
         (
             "m!($a) ==>> 1",
-            "3: expected a place of an expression for this placeholder",
+            "3: expected a place of an expression, a type, a pattern, a path or a name for this placeholder",
         ),
+        ("let $x = $e; ==>> $x = $e;", "accepted"),
+        (
+            "let $x = $e; ==>> f($e)",
+            "18: this is no statement: it is not the whole text",
+        ),
+        (
+            "let $x = $e ==>> let $x = f($e);",
+            "11: this is no statement: expected SEMICOLON",
+        ),
+        ("struct $a; ==>> struct $a {}", "accepted"),
+        (
+            "struct $a; ==>> struct $a { x }",
+            "28: this is no item: expected COLON",
+        ),
+        ("Vec<$t> ==>> Box<[$t]>", "accepted"),
         ("f(${a) ==>> 1", "5: expected `:` and a condition, or `}`"),
         (
             "f(${}) ==>> 1",

@@ -46,11 +46,11 @@ pub enum RuleFault {
     /// The template has a placeholder that the pattern has not.
     #[error("expected a placeholder of the pattern")]
     Unknown,
-    /// The text is no expression: what the parser says.
-    #[error("this is no expression: {0}")]
+    /// The text is of no kind that it could be: the name of the kind of which most of it was read, and what the parser says.
+    #[error("this is no {0}")]
     Syntax(String),
-    /// A placeholder stands where no expression can stand.
-    #[error("expected a place of an expression for this placeholder")]
+    /// A placeholder stands where nothing is that it can stand for, as in the arguments of a macro.
+    #[error("expected a place of an expression, a type, a pattern, a path or a name for this placeholder")]
     Misplaced,
     /// The pattern is a placeholder, which each expression is.
     #[error("expected a pattern that is more than a placeholder")]

@@ -4,6 +4,8 @@
 mod applied;
 mod condition;
 mod error;
+mod forms;
+mod kind;
 mod parse;
 mod refusal;
 mod render;

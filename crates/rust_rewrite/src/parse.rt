@@ -3,53 +3,14 @@ ghost use Rattle.std.specs.Prelude.{◌≡◌, ◌≤◌, true, length, IfOk, If
 ghost use Rattle.rust_rewrite.specs.Rules.{HasArrow, HasOne, IsFirstSplit, is_other, IsRuleFault, IsPatternFault, has_rule, rule_lines};
 
 use crate::error::{RuleError, RuleFault, fault};
-use crate::side::{Names, Side, Words, prefix_for, side_of};
-use lossless_tree::{SyntaxKind, SyntaxNode};
-use ras_front_end::{Edition, Entry, FrontEnd};
-use ras_node::sets::{Exprs, KindSet};
-use ras_parsing::{Parse, read};
+use crate::forms::{Sides, rule_of};
+use crate::side::{Names, Words, prefix_for, side_of};
+use ras_front_end::{Edition, FrontEnd};
 use rust_report::lines_of;
 use std::alloc::{AllocError, Global};
-use tree_match::{Rule, RuleRefusal};
+use tree_match::Rule;
 
 const ARROW: &str = "==>>";
-
-// The expression of a side, without pairs round it.
-fn expr_of<F: FrontEnd>(
-    alloc: Global,
-    words: &Words<'_, F>,
-    side: &Side,
-) -> Result<SyntaxNode, RuleError>
-    ensures { IfErr result (λ e. is_other e.fault ≡ true) }
-{
-    let text = side.text.as_str();
-    let parse: Parse<SyntaxNode> = read(alloc, words.front, Entry::Expr, text, words.edition)?;
-    let mut errors = parse.errors(alloc)?.into_iter();
-    if let Some(error) = errors.next() {
-        let at = error.range().start().raw() as usize;
-        let message = String::from_str(alloc, error.message())?;
-        return Err(fault(RuleFault::Syntax(message), side.offset_of(at)));
-    }
-    let root = parse.syntax_node();
-    let found = root.descendants().find(|node| {
-        Exprs::has(node.kind()) && node.kind() != SyntaxKind::PAREN_EXPR
-    });
-    Ok(found.unwrap_or(root))
-}
-
-// A refusal of a side that starts at an offset, with its place in the rule.
-fn placed(refusal: RuleRefusal, names: &Names, start: usize) -> RuleError
-    ensures { is_other result.fault ≡ true }
-{
-    match refusal {
-        RuleRefusal::Everything => fault(RuleFault::Everything, start),
-        RuleRefusal::Memory => fault(RuleFault::Memory, start),
-        RuleRefusal::Misplaced(number) => {
-            let offset = names.offset(number).unwrap_or(start);
-            fault(RuleFault::Misplaced, offset)
-        }
-    }
-}
 
 // The text without white space at its ends, and where it starts.
 fn trimmed(text: &str) -> (usize, &str) {
@@ -144,15 +105,17 @@ fn two_sides<F: FrontEnd>(
         prefix: prefix.as_str(),
     };
     let mut names = Names::new(alloc);
-    let rule = pattern_rule(alloc, &words, pattern, &mut names)?;
+    let (start, pattern) = trimmed(pattern);
+    let pattern = side_of(alloc, &words, pattern, start, &mut names, true)?;
     let (skipped, template) = trimmed(template);
-    let start = base.saturating_add(skipped);
-    let side = side_of(alloc, &words, template, start, &mut names, false)?;
-    let node = expr_of(alloc, &words, &side)?;
-    match rule.with_template(alloc, prefix.as_str(), &node, side.pieces) {
-        Ok(rule) => Ok(rule),
-        Err(refusal) => Err(placed(refusal, &names, start)),
-    }
+    let behind = base.saturating_add(skipped);
+    let template = side_of(alloc, &words, template, behind, &mut names, false)?;
+    let sides = Sides {
+        pattern,
+        template: Some(template),
+        start,
+    };
+    rule_of(alloc, &words, &mut names, sides)
 }
 
 /// The rule of a pattern that is searched for only.
@@ -206,7 +169,14 @@ fn one_side<F: FrontEnd>(
         prefix: prefix.as_str(),
     };
     let mut names = Names::new(alloc);
-    pattern_rule(alloc, &words, text, &mut names)
+    let (start, pattern) = trimmed(text);
+    let pattern = side_of(alloc, &words, pattern, start, &mut names, true)?;
+    let sides = Sides {
+        pattern,
+        template: None,
+        start,
+    };
+    rule_of(alloc, &words, &mut names, sides)
 }
 
 // The rule of a line: with a template if the line has `==>>`.
@@ -295,22 +265,4 @@ fn all_rules<F: FrontEnd>(
         start = start.saturating_add(line.len());
     }
     Ok(rules)
-}
-
-// The rule of a pattern, and the names of its placeholders.
-fn pattern_rule<F: FrontEnd>(
-    alloc: Global,
-    words: &Words<'_, F>,
-    text: &str,
-    names: &mut Names,
-) -> Result<Rule, RuleError>
-    ensures { IfErr result (λ e. is_other e.fault ≡ true) }
-{
-    let (skipped, pattern) = trimmed(text);
-    let side = side_of(alloc, words, pattern, skipped, names, true)?;
-    let node = expr_of(alloc, words, &side)?;
-    match Rule::of_pattern(alloc, words.prefix, names.take_holes(alloc), &node) {
-        Ok(rule) => Ok(rule),
-        Err(refusal) => Err(placed(refusal, names, skipped)),
-    }
 }

@@ -23,7 +23,7 @@ pub(crate) struct Names {
 pub(crate) struct Side {
     /// The text in which each placeholder is a word.
     pub(crate) text: String,
-    pub(crate) pieces: Vec<Piece>,
+    pieces: Vec<Piece>,
     // Where each piece starts in that text, and in the rule.
     starts: Vec<(usize, usize)>,
 }
@@ -148,6 +148,11 @@ impl Side {
     fn push_end(&mut self, offset: usize) -> Result<(), AllocError> {
         self.starts.push((self.text.len(), offset))?;
         Ok(())
+    }
+
+    /// The pieces of the text.
+    pub(crate) fn take_pieces(&mut self, alloc: Global) -> Vec<Piece> {
+        mem::replace(&mut self.pieces, Vec::new(alloc))
     }
 
     /// The offset in the rule of a byte of the text.

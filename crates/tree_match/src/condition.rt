@@ -57,11 +57,7 @@ fn passes(alloc: Global, test: &Test, inner: &SiblingsLeft<'_>) -> Result<bool, 
     }
 }
 
-fn holds(
-    alloc: Global,
-    condition: &Condition,
-    inner: &SiblingsLeft<'_>,
-) -> Result<bool, AllocError>
+fn holds(alloc: Global, condition: &Condition, inner: &SiblingsLeft<'_>) -> Result<bool, AllocError>
     ensures { IfOk result (λ yes. yes ≡ holds condition.now inner.now) }
 {
     let yes = passes(alloc, &condition.test, inner)?;

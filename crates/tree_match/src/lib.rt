@@ -16,4 +16,4 @@ pub use condition::{Condition, Hole, Test};
 pub use part::Sort;
 pub use places::{Match, find};
 pub use reads::reads_as;
-pub use rule::{Piece, Rule, RuleRefusal};
+pub use rule::{Form, Piece, Rule, RuleRefusal};

@@ -7,8 +7,8 @@ use Rattle.tree_match.proofs.reads.is_replaced.Goals as goal
 pub returns : goal.returns
 returns c =
     replaced_leads c.args.rules.now c.push_values.new.tasks.items c.args.tasks.now.items c.args.new.now (found_of c.args.found.now)
-    (λ r. r.now) c.numbered.result c.in-Some.rule (λ vs. vs.items) c.in_ok-values.field-0 c.in-Some-2.values c.push_values.result
-    c.numbered.ensures c.in-Some.is c.in_ok-values.ensures c.in-Some-2.is
+    (λ r. r.now) c.form_at.result c.in-Some.form (λ vs. vs.items) c.in_ok-values.field-0 c.in-Some-2.values c.push_values.result
+    c.form_at.ensures c.in-Some.is c.in_ok-values.ensures c.in-Some-2.is
     (if_ok c.push_values.result c.push_values.ensures (λ ok l.
     subst (λ (ns : Values). Leads (λ rs. ValuesRead rs c.args.found.now.values.items ns) ok c.push_values.new.tasks.items c.args.tasks.now.items) c.deref-2.ensures.value
     (subst (λ (os : Values). Leads (λ rs. ValuesRead rs os c.deref-2.result.now) ok c.push_values.new.tasks.items c.args.tasks.now.items) c.deref.ensures.value l)))
