@@ -28,7 +28,11 @@ struct Miss {
 impl Miss {
     // Whether more of the rule was read than for another kind.
     fn is_beyond(&self, other: &Miss) -> bool {
-        (self.in_template, self.unfit.at) > (other.in_template, other.unfit.at)
+        match (self.in_template, other.in_template) {
+            (true, false) => true,
+            (false, true) => false,
+            _ => self.unfit.at > other.unfit.at,
+        }
     }
 }
 
@@ -115,8 +119,8 @@ pub(crate) fn rule_of<F: FrontEnd>(
     };
     let mut rule = Rule::new(alloc, names.take_holes(alloc), pieces);
     let mut furthest: Option<Miss> = None;
-    for kind in KINDS {
-        if let Some(miss) = add_form(alloc, words, &mut rule, names, &sides, kind)? {
+    for kind in &KINDS {
+        if let Some(miss) = add_form(alloc, words, &mut rule, names, &sides, *kind)? {
             let is_first = match &furthest {
                 None => true,
                 Some(other) => miss.is_beyond(other),

@@ -29,7 +29,7 @@ pub(crate) enum RuleKind {
 }
 
 /// All kinds.
-pub(crate) const KINDS: [RuleKind; 6] = [
+pub(crate) static KINDS: [RuleKind; 6] = [
     RuleKind::Expr,
     RuleKind::Ty,
     RuleKind::Pat,

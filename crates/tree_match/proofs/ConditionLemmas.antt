@@ -1,5 +1,7 @@
 -- The conditions of a placeholder, and the forms of a rule.
-use Rattle.std.proofs.Common.{◌≡◌, ℕ, Bool, true, false, refl, ap, ◌∙◌, Option, Some, None}
+use Rattle.std.proofs.Common.{◌≡◌, ℕ, Bool, true, false, refl, ap, ◌∙◌, Option, Some, None, List, [], ◌∷◌, ◌++◌, map}
+use Rattle.std.proofs.lemmas.List.{map-append}
+use Rattle.syntax_kind.specs.declared.syntax_kind.SyntaxKind.{SyntaxKind}
 use Rattle.ras_node.specs.Sets.{is_expr}
 use Rattle.lossless_tree.specs.Trees.{Siblings}
 use Rattle.tree_match.specs.declared.bare.Comments.TheVariants.{Passed}
@@ -30,3 +32,10 @@ no_expr o e = ap is_expr_by e
 
 pub some_expr : (o : Option Form) (f : Form) (b : Bool) → Some f ≡ o → b ≡ is_expr f.kind → b ≡ is_expr_by o
 some_expr o f b e is = is ∙ ap is_expr_by e
+
+-- ---- a form more
+
+pub one_form_more : (fs gs : List Form) (f : Form) (k : SyntaxKind) → gs ≡ fs ++ f ∷ [] → f.kind ≡ k
+    → map (λ g. g.kind) gs ≡ map (λ g. g.kind) fs ++ k ∷ []
+one_form_more fs gs f k e is =
+    ap (map (λ (g : Form). g.kind)) e ∙ map-append (λ (g : Form). g.kind) fs (f ∷ []) ∙ ap (λ x. map (λ (g : Form). g.kind) fs ++ x ∷ []) is

@@ -34,15 +34,14 @@ IsDecided st su st' su' None =
 -- the first of some siblings and the first of others are the same token
 abbrev pub is_same_token : Siblings → Siblings → Bool
 is_same_token a b =
-    is_token (first_of a.trees) && (is_token (first_of b.trees)
-    && (is_same_kind (kind_of (first_of a.trees)) (kind_of (first_of b.trees))
-    && pointwise ◌==◌ (text (first_of a.trees)) (text (first_of b.trees))))
+    ((is_token (first_of a.trees) && is_token (first_of b.trees)) && is_same_kind (kind_of (first_of a.trees)) (kind_of (first_of b.trees)))
+    && pointwise ◌==◌ (text (first_of a.trees)) (text (first_of b.trees))
 
 -- they are nodes of one kind with the same steps inside
 abbrev pub is_same_node : Siblings → Siblings → Bool
 is_same_node a b =
-    not (is_token (first_of a.trees) || (is_token (first_of b.trees)
-    || not (is_same_kind (kind_of (first_of a.trees)) (kind_of (first_of b.trees)))))
+    not ((is_token (first_of a.trees) || is_token (first_of b.trees))
+    || not (is_same_kind (kind_of (first_of a.trees)) (kind_of (first_of b.trees))))
     && pointwise is_same_step (steps_left Passed (inside_first a ∷ [])) (steps_left Passed (inside_first b ∷ []))
 
 -- they are the same tree

@@ -20,8 +20,8 @@ use Rattle.tree_match.specs.Bare.{Step, enter, leave, leaf, end, past, bare, is_
 -- the kinds of the tokens of names
 abbrev pub is_word : SyntaxKind → Bool
 is_word k =
-    is_same_kind k IDENT || (is_same_kind k INT_NUMBER || (is_same_kind k SELF_KW || (is_same_kind k SELF_TYPE_KW
-    || (is_same_kind k SUPER_KW || is_same_kind k CRATE_KW))))
+    ((((is_same_kind k IDENT || is_same_kind k INT_NUMBER) || is_same_kind k SELF_KW) || is_same_kind k SELF_TYPE_KW)
+    || is_same_kind k SUPER_KW) || is_same_kind k CRATE_KW
 
 -- the kinds of nodes, or of tokens, that a placeholder stands for
 abbrev pub sort_has : Sort → SyntaxKind → Bool

@@ -96,8 +96,9 @@ pub(crate) fn admits(
 ) -> Result<bool, AllocError>
     ensures { IfOk result (λ yes. yes ≡ admits (slice_get holes.now number) value.now) }
 {
-    match numbered(holes, number) {
-        None => Ok(true),
-        Some(hole) => all_hold(alloc, &hole.conditions, &bare(Comments::Passed, value)),
-    }
+    let Some(hole) = numbered(holes, number) else {
+        return Ok(true);
+    };
+    let yes = all_hold(alloc, &hole.conditions, &bare(Comments::Passed, value))?;
+    Ok(yes)
 }

@@ -1,5 +1,5 @@
 //! A pattern at one place of a tree.
-ghost use Rattle.std.specs.Prelude.{◌≡◌, IfOk, if◌then◌else◌, Some, None, option_map, replicate, get_or};
+ghost use Rattle.std.specs.Prelude.{◌≡◌, IfOk, if◌then◌else◌, Some, None, option_map, replicate, get_or, length};
 ghost use Rattle.tree_match.specs.Walks.{levels_of};
 ghost use Rattle.tree_match.specs.Matching.{put, put_held, match_part, match_parts, match_form, first_form, match_rule, match_template, first_rule, found_of};
 
@@ -166,16 +166,23 @@ fn match_rule<'t>(
     first_form(alloc, &rule.holes, &rule.forms, kind, inside)
 }
 
-/// What stands for so many placeholders of a form, if the first of some siblings is its template.
+/// What stands for the placeholders of a form, if the first of some siblings is its template. There are as many as stand for them in the match.
 pub(crate) fn match_template<'t>(
     alloc: Global,
     form: &Form,
-    count: usize,
+    olds: &[Option<SiblingsLeft<'_>>],
     start: &SiblingsLeft<'t>,
 ) -> Result<Option<Values<'t>>, AllocError>
-    ensures { IfOk result (λ o. option_map (λ vs. vs.items) o ≡ match_template form.now count start.now) }
+    ensures { IfOk result (λ o. option_map (λ vs. vs.items) o ≡ match_template form.now (length olds.now) start.now) }
 {
-    match_parts(alloc, Comments::Passed, &[], &form.template, count, start)
+    match_parts(
+        alloc,
+        Comments::Passed,
+        &[],
+        &form.template,
+        olds.len(),
+        start,
+    )
 }
 
 /// The first rule whose pattern a node is, by its kind and its children.

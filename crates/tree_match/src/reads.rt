@@ -100,7 +100,7 @@ fn is_replaced<'a, 'b>(
     let Some(form) = form_at(rules, found.rule, found.form) else {
         return Ok(false);
     };
-    let Some(values) = match_template(alloc, form, found.values.len(), new)? else {
+    let Some(values) = match_template(alloc, form, &found.values, new)? else {
         return Ok(false);
     };
     push_values(tasks, &found.values, &values)

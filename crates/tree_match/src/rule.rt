@@ -141,6 +141,7 @@ impl Rule {
     ///
     /// `Everything` if the pattern is such a word; `Misplaced` if one stands elsewhere, as in the arguments of a macro; `Memory`. The rule is
     /// then as before.
+    #[tactic(auto, using(crate::proofs::ConditionLemmas::one_form_more))]
     pub fn add(
         &mut self,
         alloc: Global,
