@@ -1,7 +1,7 @@
 //! Matches replaced in texts.
 use ra_ap_syntax::{Edition, SourceFile};
 use rust_front::Rust;
-use rust_rewrite::{parse_rule, rewrite};
+use rust_rewrite::{Rule, parse_rule, rewrite};
 use std::alloc::Global;
 use std::test::Fail;
 
@@ -12,18 +12,20 @@ fn put(alloc: Global, rule: &str, body: &str) -> Result<String, Fail> {
     let rule = parse_rule(alloc, &Rust, NOW, rule)?;
     let rules = vec![in alloc; rule]?;
     let file = format!(in alloc; "fn f() {{ {body} }}")?;
-    let parse = SourceFile::parse(alloc, file.as_str(), &Rust, NOW)?;
-    let done = match rewrite(alloc, &Rust, NOW, &rules, &parse.to_syntax()) {
-        Ok(done) => done,
-        Err(error) => return Ok(format!(in alloc; "{error}")?),
-    };
-    let text = done.text.as_str();
+    let text = changed(alloc, &rules, file.as_str())?;
     let inner = text
         .strip_prefix("fn f() { ")
-        .and_then(|it| it.strip_suffix(" }"));
-    match inner {
-        Some(inner) => Ok(String::from_str(alloc, inner)?),
-        None => Err("the function is gone".into()),
+        .and_then(|it| it.strip_suffix(" }"))
+        .unwrap_or(text.as_str());
+    Ok(String::from_str(alloc, inner)?)
+}
+
+// A file with the matches of rules replaced, or why they are not.
+pub(crate) fn changed(alloc: Global, rules: &[Rule], file: &str) -> Result<String, Fail> {
+    let parse = SourceFile::parse(alloc, file, &Rust, NOW)?;
+    match rewrite(alloc, &Rust, NOW, rules, &parse.to_syntax()) {
+        Ok(done) => Ok(done.text),
+        Err(error) => Ok(format!(in alloc; "{error}")?),
     }
 }
 
@@ -133,4 +135,80 @@ fn comments(rt: HostRuntime) -> Result<(), Fail> {
             ),
         ],
     )
+}
+
+#[test]
+fn conditions(rt: HostRuntime) -> Result<(), Fail> {
+    run(
+        rt.alloc(),
+        &[
+            (
+                "f(${a:kind(literal)}) ==>> g($a)",
+                "f(1); f((2)); f(x); f(-1);",
+                "g(1); g((2)); f(x); f(-1);",
+            ),
+            (
+                "f(${a:not(kind(literal))}) ==>> g($a)",
+                "f(1); f((2)); f(x);",
+                "f(1); f((2)); g(x);",
+            ),
+            (
+                "f(${a:kind(PATH_EXPR):not(text(/^(self|Self)/))}) ==>> g($a)",
+                "f(x); f(self); f(1); f((y));",
+                "g(x); f(self); f(1); g((y));",
+            ),
+            (
+                "f(${a:not(not(kind(Path_Expr)))}) ==>> g(${a})",
+                "f(x); f(1);",
+                "g(x); f(1);",
+            ),
+            (
+                "$a + ${a:text(/^[a-m]$/)} ==>> 2 * $a",
+                "b + b; z + z; bb + bb;",
+                "2 * b; z + z; bb + bb;",
+            ),
+            (
+                "f(${ a : text(/'\"\\/}/) }) ==>> g($a)",
+                "f(x); f(\"'\\\"/}\");",
+                "f(x); f(\"'\\\"/}\");",
+            ),
+            (
+                "f(${_:text(/\"\\//)}, ${b:text(/'/)}) ==>> g($b)",
+                "f(\"/\", 'c'); f(\"\", 'c'); f(\"/\", c);",
+                "g('c'); f(\"\", 'c'); f(\"/\", c);",
+            ),
+            (
+                "${x:kind(literal)} as ${t:text(/^u/)} ==>> cast::<$t>($x)",
+                "1 as u8; 1 as i8; x as u8;",
+                "cast::<u8>(1); 1 as i8; x as u8;",
+            ),
+        ],
+    )
+}
+
+// The text of a literal of so many bytes.
+fn long(alloc: Global, len: usize) -> Result<String, Fail> {
+    let mut text = String::new(alloc);
+    for _turn in 0..len {
+        text.push('1')?;
+    }
+    Ok(text)
+}
+
+#[test]
+fn long_texts_are_not_searched(rt: HostRuntime) -> Result<(), Fail> {
+    let alloc = rt.alloc();
+    for (len, is_found) in [(1000, true), (1001, false)] {
+        let digits = long(alloc, len)?;
+        let body = format!(in alloc; "f({digits});")?;
+        let new = put(alloc, "f(${a:text(/1/)}) ==>> g($a)", body.as_str())?;
+        if new.starts_with("g(") != is_found {
+            return Err("a text of at most 1000 bytes is searched".into());
+        }
+        let new = put(alloc, "f(${a:not(text(/1/))}) ==>> g($a)", body.as_str())?;
+        if new.starts_with("g(") == is_found {
+            return Err("and a longer one is none in which something is found".into());
+        }
+    }
+    Ok(())
 }

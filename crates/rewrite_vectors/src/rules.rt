@@ -48,13 +48,53 @@ fn refused(rt: HostRuntime) -> Result<(), Fail> {
             "$a ==>> 1",
             "0: expected a pattern that is more than a placeholder",
         ),
-        (
-            "x.$a ==>> 1",
-            "2: expected a place of an expression for this placeholder",
-        ),
+        ("x.$a ==>> 1", "accepted"),
         (
             "m!($a) ==>> 1",
-            "3: expected a place of an expression for this placeholder",
+            "3: expected a place of an expression, a type, a pattern, a path or a name for this placeholder",
+        ),
+        ("let $x = $e; ==>> $x = $e;", "accepted"),
+        (
+            "let $x = $e; ==>> f($e)",
+            "18: this is no statement: it is not the whole text",
+        ),
+        (
+            "let $x = $e ==>> let $x = f($e);",
+            "11: this is no statement: expected SEMICOLON",
+        ),
+        ("struct $a; ==>> struct $a {}", "accepted"),
+        (
+            "struct $a; ==>> struct $a { x }",
+            "28: this is no item: expected COLON",
+        ),
+        ("Vec<$t> ==>> Box<[$t]>", "accepted"),
+        ("f(${a) ==>> 1", "5: expected `:` and a condition, or `}`"),
+        (
+            "f(${}) ==>> 1",
+            "2: expected the name of a placeholder behind `$`",
+        ),
+        (
+            "f(${a:kin(literal)}) ==>> 1",
+            "6: expected a condition: `kind(..)`, `text(/../)` or `not(..)`",
+        ),
+        ("f(${a:kind literal}) ==>> 1", "11: expected `(`"),
+        ("f(${a:kind(literal}) ==>> 1", "18: expected `)`"),
+        ("f(${a:not(kind(literal)}) ==>> 1", "23: expected `)`"),
+        (
+            "f(${a:kind(litteral)}) ==>> 1",
+            "11: expected the name of a kind, as `literal`, not `litteral`; `tree` shows the kinds of a text",
+        ),
+        (
+            "f(${a:text(re)}) ==>> 1",
+            "11: expected a regular expression between `/` and `/`",
+        ),
+        (
+            "f(${a:text(/re)}) ==>> 1",
+            "12: expected a regular expression between `/` and `/`",
+        ),
+        (
+            "f($a) ==>> g(${ a :kind(literal)})",
+            "19: expected the condition in the pattern, not in the template",
         ),
     ];
     for (rule, expected) in rows {
@@ -62,6 +102,15 @@ fn refused(rt: HostRuntime) -> Result<(), Fail> {
         if told.as_str() != expected {
             return Err(Fail::from(format!(in alloc; "{rule}: {told}")?));
         }
+    }
+    Ok(())
+}
+
+#[test]
+fn regexes(rt: HostRuntime) -> Result<(), Fail> {
+    let told = refusal(rt.alloc(), "f($b, ${a:text(/a(/)}) ==>> 1")?;
+    if !told.starts_with("16: ") || told.find("accepted").is_some() {
+        return Err(Fail::from(format!(in rt.alloc(); "{told}")?));
     }
     Ok(())
 }

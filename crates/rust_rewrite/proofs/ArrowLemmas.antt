@@ -77,6 +77,14 @@ other_fault : (s : List ℕ) (f : RuleFault) → HasOne s → is_other f ≡ tru
 other_fault s fault.NoArrow h e = absurd (cc)
 other_fault s fault.FurtherArrow h e = absurd (cc)
 other_fault s fault.NoName h e = h
+other_fault s fault.NoBrace h e = h
+other_fault s fault.NoCondition h e = h
+other_fault s fault.NoOpening h e = h
+other_fault s fault.NoClosing h e = h
+other_fault s (fault.UnknownKind k) h e = h
+other_fault s fault.NoRegex h e = h
+other_fault s (fault.BadRegex x) h e = h
+other_fault s fault.TemplateCondition h e = h
 other_fault s fault.Joined h e = h
 other_fault s fault.Unknown h e = h
 other_fault s (fault.Syntax m) h e = h

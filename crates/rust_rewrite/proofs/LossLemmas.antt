@@ -13,7 +13,7 @@ use Rattle.ras_front_end.specs.Front.{Front}
 use Rattle.ras_front_end.specs.Parsed.{Parsed}
 use Rattle.tree_match.specs.declared.rule.Rule.{Rule}
 use Rattle.tree_match.specs.Finds.{Occurrence, found_in}
-use Rattle.tree_match.specs.Matching.{sort_in}
+use Rattle.tree_match.specs.Matching.{sort_by}
 use Rattle.rust_rewrite.specs.declared.refusal.RewriteError.{RewriteError}
 use Rattle.rust_rewrite.specs.declared.refusal.RewriteError.TheVariants.{ReadsOtherwise, LosesComment, TooLong, Memory}
 use Rattle.rust_rewrite.specs.declared.refusal.Failure.{Failure}
@@ -45,17 +45,19 @@ ended out ys e = ap (λ k. out ++ starts_of k) e ∙ append_nil out
 
 -- ---- the same offsets in another order
 
-value_alike : (xs ys : List ℕ) → IsPermutation xs ys → (rule : Rule) (n : ℕ) (v : Option Bounds) → loses_value xs rule n v ≡ loses_value ys rule n v
-value_alike xs ys p rule n None = refl
-value_alike xs ys p rule n (Some r) = ap (λ b. is_none (sort_in n rule.template.items) && b) (list_any-IsPermutation (is_in r) xs ys p)
+value_alike : (xs ys : List ℕ) → IsPermutation xs ys → (rule : Rule) (form n : ℕ) (v : Option Bounds) → loses_value xs rule form n v ≡ loses_value ys rule form n v
+value_alike xs ys p rule form n None = refl
+value_alike xs ys p rule form n (Some r) =
+    ap (λ b. is_none (sort_by (slice_get rule.forms.items form) n) && b) (list_any-IsPermutation (is_in r) xs ys p)
 
-from_alike : (xs ys : List ℕ) → IsPermutation xs ys → (rule : Rule) (n : ℕ) (vs : List (Option Bounds)) → loses_from xs rule n vs ≡ loses_from ys rule n vs
-from_alike xs ys p rule n [] = refl
-from_alike xs ys p rule n (v ∷ vs) = ap₂ (λ a b. a || b) (value_alike xs ys p rule n v) (from_alike xs ys p rule (suc n) vs)
+from_alike : (xs ys : List ℕ) → IsPermutation xs ys → (rule : Rule) (form n : ℕ) (vs : List (Option Bounds))
+    → loses_from xs rule form n vs ≡ loses_from ys rule form n vs
+from_alike xs ys p rule form n [] = refl
+from_alike xs ys p rule form n (v ∷ vs) = ap₂ (λ a b. a || b) (value_alike xs ys p rule form n v) (from_alike xs ys p rule form (suc n) vs)
 
 by_alike : (xs ys : List ℕ) → IsPermutation xs ys → (rule : Option Rule) (m : Occurrence) → loses_by xs rule m ≡ loses_by ys rule m
 by_alike xs ys p None m = refl
-by_alike xs ys p (Some rule) m = from_alike xs ys p rule 0 m.values
+by_alike xs ys p (Some rule) m = from_alike xs ys p rule m.form 0 m.values
 
 pub loses_alike : (rules : List Rule) (xs ys : List ℕ) (ms : List Occurrence) → IsPermutation xs ys → loses_any rules xs ms ≡ loses_any rules ys ms
 loses_alike rules xs ys [] p = refl
@@ -67,7 +69,7 @@ pub no_rule : (starts : List ℕ) (o : Option Rule) (m : Occurrence) → None �
 no_rule starts o m e = ap (λ k. loses_by starts k m) e
 
 pub some_rule : (starts : List ℕ) (o : Option Rule) (rule : Rule) (m : Occurrence) (b : Bool) → Some rule ≡ o
-    → b ≡ loses_from starts rule 0 m.values → b ≡ loses_by starts o m
+    → b ≡ loses_from starts rule m.form 0 m.values → b ≡ loses_by starts o m
 some_rule starts o rule m b e is = is ∙ ap (λ k. loses_by starts k m) e
 
 -- ---- no match

@@ -16,7 +16,7 @@ use Rattle.ras_front_end.specs.Front.{Front}
 use Rattle.ras_front_end.specs.Parsed.{Parsed, IsParseOf}
 use Rattle.tree_match.specs.declared.rule.Rule.{Rule}
 use Rattle.tree_match.specs.Finds.{Occurrence, occurrence_of, found_in, inside_of}
-use Rattle.tree_match.specs.Matching.{sort_in}
+use Rattle.tree_match.specs.Matching.{sort_by}
 use Rattle.tree_match.specs.Reads.{AllRead}
 use Rattle.rust_parens.specs.declared.needless.Tried.{Tried}
 use Rattle.rust_parens.specs.Needless.{AreTriedAmong}
@@ -92,19 +92,19 @@ is_in r n = nat_le r.start n && nat_lt n r.end
 abbrev pub has_comment : List ℕ → Bounds → Bool
 has_comment starts r = list_any (is_in r) starts
 
--- a comment is in what stands for the placeholder with a number, and the rule's template has not that placeholder
-abbrev pub loses_value : List ℕ → Rule → ℕ → Option Bounds → Bool
-loses_value starts rule n None = false
-loses_value starts rule n (Some r) = is_none (sort_in n rule.template.items) && has_comment starts r
+-- a comment is in what stands for the placeholder with a number, and the template of a form of the rule has not that placeholder
+abbrev pub loses_value : List ℕ → Rule → ℕ → ℕ → Option Bounds → Bool
+loses_value starts rule form n None = false
+loses_value starts rule form n (Some r) = is_none (sort_by (slice_get rule.forms.items form) n) && has_comment starts r
 
 -- one of the placeholders from this number on
-abbrev pub loses_from : List ℕ → Rule → ℕ → List (Option Bounds) → Bool
-loses_from starts rule n [] = false
-loses_from starts rule n (v ∷ vs) = loses_value starts rule n v || loses_from starts rule (suc n) vs
+abbrev pub loses_from : List ℕ → Rule → ℕ → ℕ → List (Option Bounds) → Bool
+loses_from starts rule form n [] = false
+loses_from starts rule form n (v ∷ vs) = loses_value starts rule form n v || loses_from starts rule form (suc n) vs
 
 abbrev pub loses_by : List ℕ → Option Rule → Occurrence → Bool
 loses_by starts None m = false
-loses_by starts (Some rule) m = loses_from starts rule 0 m.values
+loses_by starts (Some rule) m = loses_from starts rule m.form 0 m.values
 
 -- one of some matches
 abbrev pub loses_any : List Rule → List ℕ → List Occurrence → Bool

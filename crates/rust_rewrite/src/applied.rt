@@ -75,13 +75,19 @@ fn has_comment(starts: &[usize], range: TextRange) -> bool
 }
 
 // Whether a comment is in what stands for a placeholder, and the template has not that placeholder.
-fn loses_value(starts: &[usize], rule: &Rule, number: usize, value: Option<TextRange>) -> bool
+fn loses_value(
+    starts: &[usize],
+    rule: &Rule,
+    form: usize,
+    number: usize,
+    value: Option<TextRange>,
+) -> bool
     requires { IsSorted nat_cmp starts.now }
-    ensures { result ≡ loses_value starts.now rule.now number value }
+    ensures { result ≡ loses_value starts.now rule.now form number value }
 {
     match value {
         None => false,
-        Some(range) => rule.sort(number).is_none() && has_comment(starts, range),
+        Some(range) => rule.sort(form, number).is_none() && has_comment(starts, range),
     }
 }
 
@@ -93,12 +99,12 @@ fn numbered(rules: &[Rule], number: usize) -> Option<&Rule>
 }
 
 // Whether a comment is in what stands for a placeholder that the template of a rule has not.
-fn loses_value_of(starts: &[usize], rule: &Rule, values: &[Option<TextRange>]) -> bool
+fn loses_value_of(starts: &[usize], rule: &Rule, form: usize, values: &[Option<TextRange>]) -> bool
     requires { IsSorted nat_cmp starts.now }
-    ensures { result ≡ loses_from starts.now rule.now 0 values.now }
+    ensures { result ≡ loses_from starts.now rule.now form 0 values.now }
 {
     for (number, value) in values.iter().enumerate() {
-        if loses_value(starts, rule, number, *value) {
+        if loses_value(starts, rule, form, number, *value) {
             return true;
         }
     }
@@ -113,7 +119,7 @@ fn loses_comment(starts: &[usize], rules: &[Rule], found: &Match) -> bool
 {
     match numbered(rules, found.rule) {
         None => false,
-        Some(rule) => loses_value_of(starts, rule, &found.values),
+        Some(rule) => loses_value_of(starts, rule, found.form, &found.values),
     }
 }
 

@@ -1,4 +1,5 @@
 //! Why a rule is refused.
+ghost use Rattle.std.specs.Prelude.{◌≡◌};
 
 use ras_front_end::ParseError;
 use std::alloc::AllocError;
@@ -15,17 +16,41 @@ pub enum RuleFault {
     /// No name follows directly behind a `$`.
     #[error("expected the name of a placeholder behind `$`")]
     NoName,
+    /// Behind the name or a condition of a placeholder in braces is neither `:` nor `}`.
+    #[error("expected `:` and a condition, or `}}`")]
+    NoBrace,
+    /// A placeholder in braces has a `:` without a condition.
+    #[error("expected a condition: `kind(..)`, `text(/../)` or `not(..)`")]
+    NoCondition,
+    /// The `(` of a condition is missing.
+    #[error("expected `(`")]
+    NoOpening,
+    /// The `)` of a condition is missing.
+    #[error("expected `)`")]
+    NoClosing,
+    /// The word in `kind(..)` names no kind.
+    #[error("expected the name of a kind, as `literal`, not `{0}`; `tree` shows the kinds of a text")]
+    UnknownKind(String),
+    /// In `text(..)` is no regular expression between two `/`.
+    #[error("expected a regular expression between `/` and `/`")]
+    NoRegex,
+    /// The regular expression in `text(/../)` is not well formed.
+    #[error("{0}")]
+    BadRegex(regex::Error),
+    /// A placeholder of a template has conditions.
+    #[error("expected the condition in the pattern, not in the template")]
+    TemplateCondition,
     /// A word stands directly before a `$`.
     #[error("expected white space before the placeholder")]
     Joined,
     /// The template has a placeholder that the pattern has not.
     #[error("expected a placeholder of the pattern")]
     Unknown,
-    /// The text is no expression: what the parser says.
-    #[error("this is no expression: {0}")]
+    /// The text is of no kind that it could be: the name of the kind of which most of it was read, and what the parser says.
+    #[error("this is no {0}")]
     Syntax(String),
-    /// A placeholder stands where no expression can stand.
-    #[error("expected a place of an expression for this placeholder")]
+    /// A placeholder stands where nothing is that it can stand for, as in the arguments of a macro.
+    #[error("expected a place of an expression, a type, a pattern, a path or a name for this placeholder")]
     Misplaced,
     /// The pattern is a placeholder, which each expression is.
     #[error("expected a pattern that is more than a placeholder")]
@@ -75,4 +100,11 @@ impl From<ParseError> for RuleError {
         };
         RuleError { fault, offset: 0 }
     }
+}
+
+/// A fault at an offset of the rule.
+pub(crate) fn fault(fault: RuleFault, offset: usize) -> RuleError
+    ensures { (result.fault ≡ fault) × (result.offset ≡ offset) }
+{
+    RuleError { fault, offset }
 }

@@ -2,10 +2,14 @@
 #![tactic(auto)]
 
 mod applied;
+mod condition;
 mod error;
+mod forms;
+mod kind;
 mod parse;
 mod refusal;
 mod render;
+mod side;
 
 pub use applied::{Rewritten, rewrite};
 pub use error::{RuleError, RuleFault};

@@ -2,247 +2,15 @@
 ghost use Rattle.std.specs.Prelude.{◌≡◌, ◌≤◌, true, length, IfOk, IfErr, MatchOption, MatchResult};
 ghost use Rattle.rust_rewrite.specs.Rules.{HasArrow, HasOne, IsFirstSplit, is_other, IsRuleFault, IsPatternFault, has_rule, rule_lines};
 
-use crate::error::{RuleError, RuleFault};
-use lossless_tree::{NodeOrToken, SyntaxKind, SyntaxNode};
-use ras_front_end::{Edition, Entry, FrontEnd};
-use ras_node::sets::{Exprs, KindSet};
-use ras_parsing::{Parse, read};
+use crate::error::{RuleError, RuleFault, fault};
+use crate::forms::{Sides, rule_of};
+use crate::side::{Names, Words, prefix_for, side_of};
+use ras_front_end::{Edition, FrontEnd};
 use rust_report::lines_of;
 use std::alloc::{AllocError, Global};
-use tree_match::{Piece, Rule, RuleRefusal};
+use tree_match::Rule;
 
 const ARROW: &str = "==>>";
-
-// A placeholder of a rule: its name, and where it stands first.
-#[derive(Drop)]
-struct Name {
-    name: String,
-    offset: usize,
-}
-
-// One side of a rule.
-#[derive(Drop)]
-struct Side {
-    // The text in which each placeholder is a word.
-    text: String,
-    pieces: Vec<Piece>,
-    // Where each piece starts in that text, and in the rule.
-    starts: Vec<(usize, usize)>,
-}
-
-fn fault(fault: RuleFault, offset: usize) -> RuleError
-    ensures { (result.fault ≡ fault) × (result.offset ≡ offset) }
-{
-    RuleError { fault, offset }
-}
-
-fn begins_word(text: &str) -> bool {
-    match text.as_bytes().first() {
-        None => false,
-        Some(byte) => byte.is_ascii_alphabetic() || *byte == b'_' || *byte >= 128,
-    }
-}
-
-fn ends_word(text: &str) -> bool {
-    match text.as_bytes().last() {
-        None => false,
-        Some(byte) => byte.is_ascii_alphanumeric() || *byte == b'_' || *byte >= 128,
-    }
-}
-
-// A word that no name of the text begins with.
-fn prefix_for(alloc: Global, text: &str) -> Result<String, AllocError> {
-    let mut longest = 0usize;
-    let mut run = 0usize;
-    for byte in text.as_bytes() {
-        run = if *byte == b'_' {
-            run.saturating_add(1)
-        } else {
-            0
-        };
-        longest = longest.max(run);
-    }
-    let mut prefix = String::from_str(alloc, "p_")?;
-    for _turn in 0..longest {
-        prefix.push('_')?;
-    }
-    Ok(prefix)
-}
-
-// The number of a name; a new one for `_` and for a name that is new, if it may be.
-fn number_of(
-    alloc: Global,
-    names: &mut Vec<Name>,
-    name: &str,
-    offset: usize,
-    may_be_new: bool,
-) -> Result<usize, RuleError>
-    ensures { IfErr result (λ e. is_other e.fault ≡ true) }
-{
-    if name != "_" {
-        for (number, known) in names.iter().enumerate() {
-            if known.name.as_str() == name {
-                return Ok(number);
-            }
-        }
-    }
-    if !may_be_new {
-        return Err(fault(RuleFault::Unknown, offset));
-    }
-    let number = names.len();
-    names
-        .push(Name {
-            name: String::from_str(alloc, name)?,
-            offset,
-        })
-        .map_err(AllocError::from)?;
-    Ok(number)
-}
-
-impl Side {
-    fn push_text(&mut self, alloc: Global, text: &str, offset: usize) -> Result<(), AllocError> {
-        if !text.is_empty() {
-            self.starts.push((self.text.len(), offset))?;
-            self.text.push_str(text)?;
-            self.pieces
-                .push(Piece::Text(String::from_str(alloc, text)?))?;
-        }
-        Ok(())
-    }
-
-    fn push_hole(&mut self, prefix: &str, number: usize, offset: usize) -> Result<(), AllocError> {
-        self.starts.push((self.text.len(), offset))?;
-        self.text.push_str(prefix)?;
-        write!(self.text, "{number}")?;
-        self.pieces
-            .push(Piece::Hole(number))
-            .map_err(AllocError::from)
-    }
-
-    fn push_end(&mut self, offset: usize) -> Result<(), AllocError> {
-        self.starts.push((self.text.len(), offset))?;
-        Ok(())
-    }
-
-    // The offset in the rule of a byte of the text.
-    fn offset_of(&self, at: usize) -> usize {
-        let mut offset = 0usize;
-        for (start, old) in &self.starts {
-            if *start > at {
-                return offset.min(*old);
-            }
-            offset = old.saturating_add(at.saturating_sub(*start));
-        }
-        offset
-    }
-}
-
-// The side of a rule that starts at an offset.
-fn side_of<F: FrontEnd>(
-    alloc: Global,
-    front: &F,
-    edition: Edition,
-    text: &str,
-    base: usize,
-    prefix: &str,
-    names: &mut Vec<Name>,
-    may_be_new: bool,
-) -> Result<Side, RuleError>
-    ensures { IfErr result (λ e. is_other e.fault ≡ true) }
-{
-    let mut side = Side {
-        text: String::new(alloc),
-        pieces: Vec::new(alloc),
-        starts: Vec::new(alloc),
-    };
-    let parse: Parse<SyntaxNode> = read(alloc, front, Entry::Expr, text, edition)?;
-    let mut done = 0usize;
-    let mut dollar: Option<usize> = None;
-    let mut before_ends_word = false;
-    for element in parse.root().descendants_with_tokens() {
-        let NodeOrToken::Token(token) = element else {
-            continue;
-        };
-        let start = token.text_range().start().raw() as usize;
-        let end = token.text_range().end().raw() as usize;
-        if let Some(at) = dollar {
-            if start != at.saturating_add(1) || !begins_word(token.text()) {
-                return Err(fault(RuleFault::NoName, base.saturating_add(at)));
-            }
-            let number = number_of(
-                alloc,
-                names,
-                token.text(),
-                base.saturating_add(at),
-                may_be_new,
-            )?;
-            side.push_text(
-                alloc,
-                text.get(done..at).unwrap_or(""),
-                base.saturating_add(done),
-            )?;
-            side.push_hole(prefix, number, base.saturating_add(at))?;
-            done = end;
-            dollar = None;
-        } else if token.kind().to_raw() == SyntaxKind::DOLLAR.to_raw() {
-            if before_ends_word {
-                return Err(fault(RuleFault::Joined, base.saturating_add(start)));
-            }
-            dollar = Some(start);
-        }
-        before_ends_word = ends_word(token.text());
-    }
-    if let Some(at) = dollar {
-        return Err(fault(RuleFault::NoName, base.saturating_add(at)));
-    }
-    side.push_text(
-        alloc,
-        text.get(done..).unwrap_or(""),
-        base.saturating_add(done),
-    )?;
-    side.push_end(base.saturating_add(text.len()))?;
-    Ok(side)
-}
-
-// The expression of a side, without pairs round it.
-fn expr_of<F: FrontEnd>(
-    alloc: Global,
-    front: &F,
-    edition: Edition,
-    side: &Side,
-) -> Result<SyntaxNode, RuleError>
-    ensures { IfErr result (λ e. is_other e.fault ≡ true) }
-{
-    let parse: Parse<SyntaxNode> = read(alloc, front, Entry::Expr, side.text.as_str(), edition)?;
-    let mut errors = parse.errors(alloc)?.into_iter();
-    if let Some(error) = errors.next() {
-        let at = error.range().start().raw() as usize;
-        let message = String::from_str(alloc, error.message())?;
-        return Err(fault(RuleFault::Syntax(message), side.offset_of(at)));
-    }
-    let root = parse.syntax_node();
-    let found = root.descendants().find(|node| {
-        Exprs::has(node.kind()) && node.kind() != SyntaxKind::PAREN_EXPR
-    });
-    Ok(found.unwrap_or(root))
-}
-
-// A refusal of a side that starts at an offset, with its place in the rule.
-fn placed(refusal: RuleRefusal, names: &[Name], start: usize) -> RuleError
-    ensures { is_other result.fault ≡ true }
-{
-    match refusal {
-        RuleRefusal::Everything => fault(RuleFault::Everything, start),
-        RuleRefusal::Memory => fault(RuleFault::Memory, start),
-        RuleRefusal::Misplaced(number) => {
-            let offset = match names.get(number) {
-                Some(name) => name.offset,
-                None => start,
-            };
-            fault(RuleFault::Misplaced, offset)
-        }
-    }
-}
 
 // The text without white space at its ends, and where it starts.
 fn trimmed(text: &str) -> (usize, &str) {
@@ -262,8 +30,11 @@ fn within(error: RuleError, text: &str) -> RuleError
     }
 }
 
-/// The rule of a text `PATTERN ==>> TEMPLATE`, two expressions. In them `$name` is a placeholder: any expression, or any type or pattern where
-/// one stands there. A placeholder that comes again stands for the same tree; `$_` is a new one each time.
+/// The rule of a text `PATTERN ==>> TEMPLATE`: for each kind of syntax that both sides are, of expressions, types, patterns, paths, statements
+/// and items. In them `$name` is a placeholder: any expression, type, pattern or path where one stands there, and a word where it is a name
+/// or of two of these sorts. A placeholder that comes again stands for the same tree; `$_` is a new one each time. `${name:kind(literal)}` stands only
+/// for a literal, `${name:text(/^_/)}` only for what has a text in which the regular expression is found, and `${name:not(kind(literal))}` only
+/// for what is no literal; more conditions may follow, each behind a `:`.
 ///
 /// # Errors
 ///
@@ -329,24 +100,23 @@ fn two_sides<F: FrontEnd>(
 {
     let base = text.len().saturating_sub(template.len());
     let prefix = prefix_for(alloc, text)?;
-    let mut names = Vec::new(alloc);
-    let rule = pattern_rule(alloc, front, edition, pattern, prefix.as_str(), &mut names)?;
-    let (skipped, template) = trimmed(template);
-    let side = side_of(
-        alloc,
+    let words = Words {
         front,
         edition,
-        template,
-        base.saturating_add(skipped),
-        prefix.as_str(),
-        &mut names,
-        false,
-    )?;
-    let node = expr_of(alloc, front, edition, &side)?;
-    match rule.with_template(alloc, prefix.as_str(), &node, side.pieces) {
-        Ok(rule) => Ok(rule),
-        Err(refusal) => Err(placed(refusal, &names, base.saturating_add(skipped))),
-    }
+        prefix: prefix.as_str(),
+    };
+    let mut names = Names::new(alloc);
+    let (start, pattern) = trimmed(pattern);
+    let pattern = side_of(alloc, &words, pattern, start, &mut names, true)?;
+    let (skipped, template) = trimmed(template);
+    let behind = base.saturating_add(skipped);
+    let template = side_of(alloc, &words, template, behind, &mut names, false)?;
+    let sides = Sides {
+        pattern,
+        template: Some(template),
+        start,
+    };
+    rule_of(alloc, &words, &mut names, sides)
 }
 
 /// The rule of a pattern that is searched for only.
@@ -394,8 +164,20 @@ fn one_side<F: FrontEnd>(
     ensures { IfErr result (λ e. is_other e.fault ≡ true) }
 {
     let prefix = prefix_for(alloc, text)?;
-    let mut names = Vec::new(alloc);
-    pattern_rule(alloc, front, edition, text, prefix.as_str(), &mut names)
+    let words = Words {
+        front,
+        edition,
+        prefix: prefix.as_str(),
+    };
+    let mut names = Names::new(alloc);
+    let (start, pattern) = trimmed(text);
+    let pattern = side_of(alloc, &words, pattern, start, &mut names, true)?;
+    let sides = Sides {
+        pattern,
+        template: None,
+        start,
+    };
+    rule_of(alloc, &words, &mut names, sides)
 }
 
 // The rule of a line: with a template if the line has `==>>`.
@@ -484,24 +266,4 @@ fn all_rules<F: FrontEnd>(
         start = start.saturating_add(line.len());
     }
     Ok(rules)
-}
-
-// The rule of a pattern, and the names of its placeholders.
-fn pattern_rule<F: FrontEnd>(
-    alloc: Global,
-    front: &F,
-    edition: Edition,
-    text: &str,
-    prefix: &str,
-    names: &mut Vec<Name>,
-) -> Result<Rule, RuleError>
-    ensures { IfErr result (λ e. is_other e.fault ≡ true) }
-{
-    let (skipped, pattern) = trimmed(text);
-    let side = side_of(alloc, front, edition, pattern, skipped, prefix, names, true)?;
-    let node = expr_of(alloc, front, edition, &side)?;
-    match Rule::of_pattern(alloc, prefix, names.len(), &node) {
-        Ok(rule) => Ok(rule),
-        Err(refusal) => Err(placed(refusal, names, skipped)),
-    }
 }

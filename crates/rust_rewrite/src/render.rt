@@ -158,6 +158,14 @@ impl<'a> Writer<'a> {
         next.saturating_add(skipped)
     }
 
+    // Whether a match is an expression, which is put into a pair.
+    fn is_expr(&self, found: &Match) -> bool {
+        match self.source.rules.get(found.rule) {
+            Some(rule) => rule.is_expr(found.form),
+            None => false,
+        }
+    }
+
     // The old text of a range up to the next match in it. Adds what follows to the tasks.
     fn copy(
         &mut self,
@@ -195,8 +203,10 @@ impl<'a> Writer<'a> {
                 .map_err(AllocError::from)?;
             tasks.push(Task::End).map_err(AllocError::from)?;
         }
-        let pair = self.open()?;
-        tasks.push(Task::Close { pair }).map_err(AllocError::from)?;
+        if self.is_expr(found) {
+            let pair = self.open()?;
+            tasks.push(Task::Close { pair }).map_err(AllocError::from)?;
+        }
         tasks
             .push(Task::Fill {
                 found: number,
@@ -233,7 +243,7 @@ impl<'a> Writer<'a> {
                 let Some(Some(value)) = found.values.get(*hole) else {
                     return Err(Failure::ReadsOtherwise);
                 };
-                if rule.sort(*hole) == Some(Sort::Expr) {
+                if rule.sort(found.form, *hole) == Some(Sort::Expr) {
                     let pair = self.open()?;
                     tasks.push(Task::Close { pair }).map_err(AllocError::from)?;
                 }

@@ -9,7 +9,7 @@ use crate::toml_rules;
 use line_index::LineIndex;
 use ras_front_end::Edition;
 use rust_front::Rust;
-use rust_report::{Spot, Spots, plain_message};
+use rust_report::{Spot, Spots};
 use rust_rewrite::{RuleError, RuleFault, parse_pattern, parse_rule, parse_rules};
 use std::alloc::{AllocError, Global};
 use std::fmt;
@@ -77,13 +77,7 @@ impl From<AllocError> for RulesError {
 // Writes what is wrong with a rule, in the words of the other commands.
 fn write_fault<W: fmt::Write>(f: &mut fmt::Formatter<W>, fault: &RuleFault) -> fmt::Result {
     match fault {
-        RuleFault::Syntax(message) => {
-            write!(
-                f,
-                "this is no expression: {}",
-                plain_message(message.as_str())
-            )
-        }
+        RuleFault::Syntax(message) => write!(f, "this is no {message}"),
         _ => write!(f, "{fault}"),
     }
 }

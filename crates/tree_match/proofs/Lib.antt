@@ -1,4 +1,5 @@
 pub mod BareLemmas
+pub mod ConditionLemmas
 pub mod StepLemmas
 pub mod ReadLemmas
 pub mod PlaceLemmas

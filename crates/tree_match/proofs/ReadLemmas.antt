@@ -1,15 +1,17 @@
 -- What the tasks that are left say of the trees that are compared.
-use Rattle.std.proofs.Common.{◌≡◌, ℕ, Bool, true, false, List, [], ◌∷◌, refl, sym, subst, ◌∙◌, ap}
+use Rattle.std.proofs.Common.{◌≡◌, ℕ, Bool, true, false, List, [], ◌∷◌, length, refl, sym, subst, ◌∙◌, ap}
 use Rattle.std.specs.Prelude.{Option, Some, None, option_map, slice_get, Result, Ok, Err, IfOk}
+use Rattle.std.specs.Option.{option_and_then}
 use Rattle.tree_model.specs.Tree.{is_token}
 use Rattle.lossless_tree.specs.Trees.{Siblings, is_done, first_of, behind_first}
 use Rattle.tree_match.specs.declared.bare.Comments.TheVariants.{Passed}
 use Rattle.tree_match.specs.declared.rule.Rule.{Rule}
+use Rattle.tree_match.specs.declared.rule.Form.{Form}
 use Rattle.tree_match.specs.declared.matching.Found.{Found}
 use Rattle.tree_match.specs.declared.reads.Task.{Task}
 use Rattle.tree_match.specs.Bare.{past, bare}
-use Rattle.tree_match.specs.Matching.{Values, match_parts, found_of}
-use Rattle.tree_match.specs.Reads.{rule_at, FirstReads, same_token, same_node, replaced, AllRead, none, some, ValueReads, unused, used, ValuesRead, no_values, values, IsReplaced, IsSameToken, IsSameNode, TaskReads, TasksRead, Leads, LeadsBy}
+use Rattle.tree_match.specs.Matching.{Values, match_template, found_of}
+use Rattle.tree_match.specs.Reads.{rule_at, form_at, FirstReads, same_token, same_node, replaced, AllRead, none, some, ValueReads, unused, used, ValuesRead, no_values, values, IsReplaced, IsSameToken, IsSameNode, TaskReads, TasksRead, Leads, LeadsBy}
 
 pub if_ok : {T E : Type 0} {P Q : T → Type 0} (r : Result T E) → IfOk r P → ((x : T) → P x → Q x) → IfOk r Q
 if_ok (Ok x) h f = f x h
@@ -57,19 +59,26 @@ all_came os ns a b ts first c e f = record {
 
 -- ---- the first of some siblings
 
-pub replaced_leads : {R V E : Type 0} (rules : List Rule) (ts' ts : List Task) (new : Siblings) (f : ℕ × Values) (now : R → Rule) (x : Option R) (rule : R)
+pub no_rule : (rules : List Rule) (n m : ℕ) → None ≡ slice_get rules n → None ≡ form_at rules n m
+no_rule rules n m a = ap (option_and_then (λ r. slice_get r.forms.items m)) a
+
+pub some_rule : (rules : List Rule) (n m : ℕ) (rule : Rule) (o : Option Form) → Some rule ≡ slice_get rules n → o ≡ slice_get rule.forms.items m
+    → o ≡ form_at rules n m
+some_rule rules n m rule o a b = b ∙ ap (option_and_then (λ r. slice_get r.forms.items m)) a
+
+pub replaced_leads : {R V E : Type 0} (rules : List Rule) (ts' ts : List Task) (new : Siblings) (f : ℕ × ℕ × Values) (now : R → Form) (x : Option R) (form : R)
     (items : V → Values) (y : Option V) (news : V) (r : Result Bool E)
-    → option_map now x ≡ slice_get rules f.0 → x ≡ Some rule
-    → option_map items y ≡ match_parts Passed (now rule).template.items (now rule).count new → y ≡ Some news
-    → IfOk r (λ ok. Leads (λ rs. ValuesRead rs f.1 (items news)) ok ts' ts)
+    → option_map now x ≡ form_at rules f.0 f.1 → x ≡ Some form
+    → option_map items y ≡ match_template (now form) (length f.2) new → y ≡ Some news
+    → IfOk r (λ ok. Leads (λ rs. ValuesRead rs f.2 (items news)) ok ts' ts)
     → IfOk r (λ ok. LeadsBy rules (IsReplaced rules f new) ok ts' ts)
-replaced_leads rules ts' ts new f now x rule items y news r a b c d h =
+replaced_leads rules ts' ts new f now x form items y news r a b c d h =
     if_ok r h (λ ok l. record {
       leads = λ t k. (let both = l.leads t rules k in (
         record {
-          rule = now rule;
+          form = now form;
           news = items news;
-          is_rule = sym a ∙ ap (option_map now) b;
+          is_form = sym a ∙ ap (option_map now) b;
           is_template = sym c ∙ ap (option_map items) d;
           values = both.0;
         },
@@ -90,7 +99,7 @@ pub match_leads : {E : Type 0} (rules : List Rule) (ts' ts : List Task) (old new
 match_leads rules ts' ts old new x f r k a b h =
     if_ok r h (λ ok l. record {
       leads = λ t q. (let both = l.leads t q in let it = both.0 in
-          (replaced f.rule it.rule f.values.items it.news k (sym a ∙ ap (option_map found_of) b) it.is_rule it.is_template it.values, both.1));
+          (replaced f.rule f.form it.form f.values.items it.news k (sym a ∙ ap (option_map found_of) b) it.is_form it.is_template it.values, both.1));
     })
 
 pub node_leads : {E : Type 0} (rules : List Rule) (ts' ts : List Task) (old new : Siblings) (x : Option Found) (r : Result Bool E)

@@ -1,6 +1,7 @@
 -- The places of a tree where rules match: the outermost, and those inside what stands for placeholders.
 use Rattle.std.specs.Prelude.{ℕ, ◌+◌, Bool, true, false, ◌&&◌, if◌then◌else◌, List, [], ◌∷◌, ◌++◌, Option, Some, None, option_map, map, reverse, length, nat_le}
-use Rattle.tree_model.specs.Tree.{text, forest_of_children}
+use Rattle.std.specs.Option.{option_and_then}
+use Rattle.tree_model.specs.Tree.{text, forest_of_children, is_token}
 use Rattle.tree_model.specs.Cursor.{Cursor, focus, range_of, range_start, at_node, descendants_of}
 use Rattle.std.specs.List.{filter}
 use Rattle.text_size.specs.TextRange.{Bounds}
@@ -10,14 +11,16 @@ use Rattle.tree_match.specs.declared.rule.Rule.{Rule}
 use Rattle.tree_match.specs.declared.places.Match.{Match}
 use Rattle.tree_match.specs.Matching.{Values, first_rule}
 
--- a rule, where it matches, and where what stands for each placeholder is
+-- a rule, which of its forms, where it matches, where what stands for each placeholder is, and where if that is a node
 pub record Occurrence : Type 0 where
   pub rule : ℕ
+  pub form : ℕ
   pub range : Bounds
   pub values : List (Option Bounds)
+  pub nodes : List (Option Bounds)
 
 abbrev pub occurrence_of : Match → Occurrence
-occurrence_of m = record { rule = m.rule; range = m.range; values = m.values.items }
+occurrence_of m = record { rule = m.rule; form = m.form; range = m.range; values = m.values.items; nodes = m.nodes.items }
 
 -- the range of the first of some siblings
 abbrev pub first_range : Siblings → Bounds
@@ -26,6 +29,13 @@ first_range s = record { start = s.start; end = s.start + length (text (first_of
 abbrev pub ranges_of : Values → List (Option Bounds)
 ranges_of vs = map (option_map first_range) vs
 
+-- of those that are nodes
+abbrev pub node_range : Siblings → Option Bounds
+node_range s = if is_token (first_of s.trees) then None else Some (first_range s)
+
+abbrev pub nodes_of : Values → List (Option Bounds)
+nodes_of vs = map (option_and_then node_range) vs
+
 -- the children of a node
 abbrev pub inside_of : Cursor → Siblings
 inside_of c = record { trees = forest_of_children (focus c); start = range_start c }
@@ -33,7 +43,8 @@ inside_of c = record { trees = forest_of_children (focus c); start = range_start
 -- the first rule that matches a node
 abbrev pub match_at : List Rule → Cursor → Option Occurrence
 match_at rules c =
-    option_map (λ f. record { rule = f.0; range = range_of c; values = ranges_of f.1 }) (first_rule rules (kind_at c) (inside_of c))
+    option_map (λ f. record { rule = f.0; form = f.1; range = range_of c; values = ranges_of f.2; nodes = nodes_of f.2 })
+    (first_rule rules (kind_at c) (inside_of c))
 
 -- the ranges that may still be searched, without those that end where a node starts, or before
 abbrev pub drop_behind : ℕ → List Bounds → List Bounds
@@ -59,7 +70,7 @@ behind found next = if nat_le found.end next.end then record { start = found.end
 abbrev pub take_out : Option Occurrence → List Bounds → List Bounds
 take_out None rs = rs
 take_out (Some m) [] = []
-take_out (Some m) (next ∷ rs) = with_some m.values (behind m.range next ∷ rs)
+take_out (Some m) (next ∷ rs) = with_some m.nodes (behind m.range next ∷ rs)
 
 -- the match at a node that may be searched, and what may be searched behind it
 abbrev pub found_at : List Rule → List Bounds → Cursor → Option Occurrence

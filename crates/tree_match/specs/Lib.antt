@@ -1,4 +1,5 @@
 pub mod Bare
+pub mod Conditions
 pub mod Walks
 pub mod Same
 pub mod Matching

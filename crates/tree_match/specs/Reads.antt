@@ -1,17 +1,23 @@
 -- A tree in which the matches of rules are replaced.
-use Rattle.std.specs.Prelude.{◌≡◌, ℕ, ⊤, IsTrue, Bool, true, false, List, [], ◌∷◌, Option, Some, None, slice_get}
+use Rattle.std.specs.Prelude.{◌≡◌, ℕ, ⊤, IsTrue, Bool, true, false, List, [], ◌∷◌, length, Option, Some, None, slice_get}
+use Rattle.std.specs.Option.{option_and_then}
 use Rattle.syntax_kind.specs.Kinds.{is_same_kind}
 use Rattle.tree_model.specs.Tree.{kind_of, text, is_token}
 use Rattle.lossless_tree.specs.Trees.{Siblings, is_done, first_of, behind_first, inside_first}
 use Rattle.tree_match.specs.declared.bare.Comments.TheVariants.{Passed}
 use Rattle.tree_match.specs.declared.rule.Rule.{Rule}
+use Rattle.tree_match.specs.declared.rule.Form.{Form}
 use Rattle.tree_match.specs.declared.reads.Task.{Task}
 use Rattle.tree_match.specs.Bare.{past, bare}
-use Rattle.tree_match.specs.Matching.{Values, match_parts, first_rule}
+use Rattle.tree_match.specs.Matching.{Values, match_template, first_rule}
 
--- the first rule whose pattern the first of some siblings is, and the values
-abbrev pub rule_at : List Rule → Siblings → Option (ℕ × Values)
+-- the first rule whose pattern the first of some siblings is, in which of its forms, and the values
+abbrev pub rule_at : List Rule → Siblings → Option (ℕ × ℕ × Values)
 rule_at rules s = first_rule rules (kind_of (first_of (bare Passed s).trees)) (inside_first (bare Passed s))
+
+-- form number m of rule number n
+abbrev pub form_at : List Rule → ℕ → ℕ → Option Form
+form_at rules n m = option_and_then (λ r. slice_get r.forms.items m) (slice_get rules n)
 
 mutual
   -- The first of the new siblings is the first of the old ones with the matches of rules replaced.
@@ -25,10 +31,10 @@ mutual
         → is_token (first_of (bare Passed new).trees) ≡ false
         → is_same_kind (kind_of (first_of (bare Passed old).trees)) (kind_of (first_of (bare Passed new).trees)) ≡ true
         → AllRead rules (inside_first (bare Passed old)) (inside_first (bare Passed new)) → FirstReads rules old new
-    -- where a rule matches: the rule's template, in which each placeholder stands for what it stands for in the match, with the matches in that replaced
-    replaced : {old new : Siblings} (n : ℕ) (rule : Rule) (olds news : Values) → is_token (first_of old.trees) ≡ false
-        → rule_at rules old ≡ Some (n, olds) → slice_get rules n ≡ Some rule
-        → match_parts Passed rule.template.items rule.count new ≡ Some news
+    -- where a rule matches: the template of its form, in which each placeholder stands for what it stands for in the match, with the matches in that replaced
+    replaced : {old new : Siblings} (n m : ℕ) (form : Form) (olds news : Values) → is_token (first_of old.trees) ≡ false
+        → rule_at rules old ≡ Some (n, m, olds) → form_at rules n m ≡ Some form
+        → match_template form (length olds) new ≡ Some news
         → ValuesRead rules olds news → FirstReads rules old new
 
   -- All of the new siblings are the old ones with the matches of rules replaced.
@@ -50,12 +56,12 @@ mutual
         → ValuesRead rules (old ∷ olds) (new ∷ news)
 
 -- the new siblings are the template of a rule, with what its placeholders stand for in the match
-pub record IsReplaced (rules : List Rule) (found : ℕ × Values) (new : Siblings) : Type 0 where
-  pub rule : Rule
+pub record IsReplaced (rules : List Rule) (found : ℕ × ℕ × Values) (new : Siblings) : Type 0 where
+  pub form : Form
   pub news : Values
-  pub is_rule : slice_get rules found.0 ≡ Some rule
-  pub is_template : match_parts Passed rule.template.items rule.count new ≡ Some news
-  pub values : ValuesRead rules found.1 news
+  pub is_form : form_at rules found.0 found.1 ≡ Some form
+  pub is_template : match_template form (length found.2) new ≡ Some news
+  pub values : ValuesRead rules found.2 news
 
 -- the first of the new siblings is the same token as that of the old ones; or a node of the same kind, whose children are the old ones
 -- with the matches in them replaced

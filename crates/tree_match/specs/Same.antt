@@ -1,8 +1,8 @@
 -- Trees that are the same but for what does not count.
-use Rattle.std.specs.Prelude.{◌≡◌, ◌<◌, length, Option, Some, None, Bool, true, false, ◌&&◌, if◌then◌else◌, List, [], ◌∷◌, ◌++◌}
+use Rattle.std.specs.Prelude.{◌≡◌, ◌<◌, ◌==◌, ℕ, length, Option, Some, None, Bool, true, false, not, ◌&&◌, ◌||◌, if◌then◌else◌, List, [], ◌∷◌, ◌++◌}
 use Rattle.std.specs.Cmp.Lexicographic.{pointwise}
 use Rattle.syntax_kind.specs.Kinds.{is_same_kind}
-use Rattle.tree_model.specs.Tree.{node, token, Forest, nil, cons, kind_of}
+use Rattle.tree_model.specs.Tree.{node, token, Forest, nil, cons, kind_of, text, is_token}
 use Rattle.lossless_tree.specs.Trees.{Siblings, first_of, inside_first}
 use Rattle.tree_match.specs.declared.bare.Comments.{Comments}
 use Rattle.tree_match.specs.declared.bare.Comments.TheVariants.{Passed}
@@ -31,8 +31,19 @@ IsDecided st su st' su' None =
     (pointwise is_same_step (steps_left Passed st') (steps_left Passed su') ≡ pointwise is_same_step (steps_left Passed st) (steps_left Passed su))
     × (length (steps_left Passed st') < length (steps_left Passed st))
 
--- the first of some siblings and the first of others are the same tree
+-- the first of some siblings and the first of others are the same token
+abbrev pub is_same_token : Siblings → Siblings → Bool
+is_same_token a b =
+    ((is_token (first_of a.trees) && is_token (first_of b.trees)) && is_same_kind (kind_of (first_of a.trees)) (kind_of (first_of b.trees)))
+    && pointwise ◌==◌ (text (first_of a.trees)) (text (first_of b.trees))
+
+-- they are nodes of one kind with the same steps inside
+abbrev pub is_same_node : Siblings → Siblings → Bool
+is_same_node a b =
+    not ((is_token (first_of a.trees) || is_token (first_of b.trees))
+    || not (is_same_kind (kind_of (first_of a.trees)) (kind_of (first_of b.trees))))
+    && pointwise is_same_step (steps_left Passed (inside_first a ∷ [])) (steps_left Passed (inside_first b ∷ []))
+
+-- they are the same tree
 abbrev pub is_same : Siblings → Siblings → Bool
-is_same a b =
-    is_same_kind (kind_of (first_of (bare Passed a).trees)) (kind_of (first_of (bare Passed b).trees))
-    && pointwise is_same_step (steps_left Passed (inside_first (bare Passed a) ∷ [])) (steps_left Passed (inside_first (bare Passed b) ∷ []))
+is_same a b = is_same_token (bare Passed a) (bare Passed b) || is_same_node (bare Passed a) (bare Passed b)

@@ -1,10 +1,25 @@
-//! The parts of a pattern or template, from the tree of its text.
+//! The parts of a pattern and its template, from the trees of their texts.
 
 use crate::bare::Comments;
 use crate::part::{Part, Sort};
 use crate::walk::{Seen, Walk};
 use lossless_tree::{SyntaxKind, SyntaxNode};
 use std::alloc::{AllocError, Global};
+
+/// The parts of a pattern's node, without itself, and of its template's.
+#[derive(Drop)]
+pub(crate) struct Compiled {
+    pub(crate) inside: Vec<Part>,
+    pub(crate) template: Vec<Part>,
+}
+
+// What says which words are placeholders.
+#[derive(Drop)]
+struct Words<'a> {
+    prefix: &'a str,
+    // Which of them are words wherever they stand.
+    only_words: &'a [bool],
+}
 
 // The number of the placeholder that a word stands for: digits behind the prefix.
 fn number_in(word: &str, prefix: &str) -> Option<usize> {
@@ -17,78 +32,162 @@ fn sort_of(kind: SyntaxKind) -> Option<Sort> {
         SyntaxKind::PATH_EXPR => Some(Sort::Expr),
         SyntaxKind::PATH_TYPE => Some(Sort::Ty),
         SyntaxKind::IDENT_PAT => Some(Sort::Pat),
+        SyntaxKind::PATH => Some(Sort::Path),
         _ => None,
     }
 }
 
-// The placeholder that a node is, with what it can stand for.
-fn hole_at(kind: SyntaxKind, text: &str, prefix: &str) -> Option<Part> {
-    let sort = sort_of(kind)?;
-    Some(Part::Hole(number_in(text, prefix)?, sort))
-}
-
 /// Whether a node is a placeholder.
 pub(crate) fn is_hole(node: &SyntaxNode, prefix: &str) -> bool {
-    hole_at(node.kind(), node.as_str(), prefix).is_some()
+    sort_of(node.kind()).is_some() && number_in(node.as_str(), prefix).is_some()
 }
 
-// The placeholder that is next in a walk; passes over it.
-fn next_hole(walk: &mut Walk<'_>, prefix: &str) -> Result<Option<Part>, AllocError> {
-    let Some((kind, text)) = walk.peek() else {
-        return Ok(None);
-    };
-    let Some(hole) = hole_at(kind, text, prefix) else {
-        return Ok(None);
-    };
-    if let Part::Hole(_, sort) = &hole {
-        walk.take(*sort)?;
-    }
-    Ok(Some(hole))
-}
-
-/// Adds the parts of a node's children, up to its end, in which words of the prefix and a number are placeholders.
-pub(crate) fn push_inside(
-    alloc: Global,
-    node: &SyntaxNode,
-    prefix: &str,
-    parts: &mut Vec<Part>,
-) -> Result<(), AllocError> {
-    let mut walk = Walk::new(alloc, Comments::Passed, &node.trees())?;
-    // There are at most as many steps as events.
-    for _event in node.preorder_with_tokens() {
-        if let Some(hole) = next_hole(&mut walk, prefix)? {
-            parts.push(hole)?;
-            continue;
+impl<'a> Words<'a> {
+    // The placeholder that a node is, with what it can stand for.
+    fn hole_at(&self, kind: SyntaxKind, text: &str) -> Option<Part> {
+        let sort = sort_of(kind)?;
+        let number = number_in(text, self.prefix)?;
+        if matches!(self.only_words.get(number), Some(true)) {
+            return None;
         }
-        match walk.next()? {
-            Seen::Enter(kind) => parts.push(Part::Enter(kind))?,
-            Seen::Leave => parts.push(Part::Leave)?,
-            Seen::Token(kind, text) => {
-                parts.push(Part::Token(kind, String::from_str(alloc, text)?))?;
+        Some(Part::Hole(number, sort))
+    }
+
+    // The placeholder that is next in a walk; passes over it.
+    fn next_hole(&self, walk: &mut Walk<'_>) -> Result<Option<Part>, AllocError> {
+        let Some((kind, text)) = walk.peek() else {
+            return Ok(None);
+        };
+        let Some(hole) = self.hole_at(kind, text) else {
+            return Ok(None);
+        };
+        if let Part::Hole(_, sort) = &hole {
+            walk.take(*sort)?;
+        }
+        Ok(Some(hole))
+    }
+
+    // The part of a token behind some parts: a word if it is that of a name.
+    fn token(
+        &self,
+        alloc: Global,
+        before: Option<&Part>,
+        kind: SyntaxKind,
+        text: &str,
+    ) -> Result<Part, AllocError> {
+        if let Some(Part::Enter(SyntaxKind::NAME | SyntaxKind::NAME_REF)) = before {
+            if let Some(number) = number_in(text, self.prefix) {
+                return Ok(Part::Hole(number, Sort::Word));
             }
-            Seen::End => return Ok(()),
+        }
+        Ok(Part::Token(kind, String::from_str(alloc, text)?))
+    }
+
+    // Adds the parts of a node's children, up to its end.
+    fn push_inside(
+        &self,
+        alloc: Global,
+        node: &SyntaxNode,
+        parts: &mut Vec<Part>,
+    ) -> Result<(), AllocError> {
+        let mut walk = Walk::new(alloc, Comments::Passed, &node.trees())?;
+        // There are at most as many steps as events.
+        for _event in node.preorder_with_tokens() {
+            if let Some(hole) = self.next_hole(&mut walk)? {
+                parts.push(hole)?;
+                continue;
+            }
+            match walk.next()? {
+                Seen::Enter(kind) => parts.push(Part::Enter(kind))?,
+                Seen::Leave => parts.push(Part::Leave)?,
+                Seen::Token(kind, text) => {
+                    let part = self.token(alloc, parts.last(), kind, text)?;
+                    parts.push(part)?;
+                }
+                Seen::End => return Ok(()),
+            }
+        }
+        Ok(())
+    }
+
+    // The parts of a node, itself included.
+    fn parts_of(&self, alloc: Global, node: &SyntaxNode) -> Result<Vec<Part>, AllocError> {
+        let mut parts = Vec::new(alloc);
+        if let Some(hole) = self.hole_at(node.kind(), node.as_str()) {
+            parts.push(hole)?;
+            return Ok(parts);
+        }
+        parts.push(Part::Enter(node.kind()))?;
+        self.push_inside(alloc, node, &mut parts)?;
+        Ok(parts)
+    }
+
+    // The parts of a pattern and of its template; none if it has none.
+    fn compiled(
+        &self,
+        alloc: Global,
+        pattern: &SyntaxNode,
+        template: Option<&SyntaxNode>,
+    ) -> Result<Compiled, AllocError> {
+        let mut inside = Vec::new(alloc);
+        self.push_inside(alloc, pattern, &mut inside)?;
+        let template = match template {
+            Some(node) => self.parts_of(alloc, node)?,
+            None => Vec::new(alloc),
+        };
+        Ok(Compiled { inside, template })
+    }
+}
+
+// Marks the placeholders that stand for one sort in a part and for another one in an earlier part.
+fn mark_words(parts: &[Part], sorts: &mut Vec<Option<Sort>>, only_words: &mut Vec<bool>) -> bool {
+    let mut is_any = false;
+    for part in parts {
+        let Part::Hole(number, sort) = part else {
+            continue;
+        };
+        if let Some(known) = sorts.get_mut(*number) {
+            if known.is_some_and(|other| other != *sort) {
+                if let Some(mark) = only_words.get_mut(*number) {
+                    *mark = true;
+                    is_any = true;
+                }
+            }
+            *known = Some(*sort);
         }
     }
-    Ok(())
+    is_any
 }
 
-/// The parts of a node, itself included.
-pub(crate) fn parts_of(
+/// The parts of a pattern and of its template, in which words of the prefix and a number below `count` are placeholders. One that is of one
+/// sort here and of another one there is a word everywhere: the `$f` of `fn $f() { $f() }`.
+pub(crate) fn compile(
     alloc: Global,
-    node: &SyntaxNode,
     prefix: &str,
-) -> Result<Vec<Part>, AllocError> {
-    let mut parts = Vec::new(alloc);
-    if let Some(hole) = hole_at(node.kind(), node.as_str(), prefix) {
-        parts.push(hole)?;
-        return Ok(parts);
+    count: usize,
+    pattern: &SyntaxNode,
+    template: Option<&SyntaxNode>,
+) -> Result<Compiled, AllocError> {
+    let mut only_words = vec![in alloc; false; count]?;
+    let mut sorts = vec![in alloc; None; count]?;
+    let first = Words {
+        prefix,
+        only_words: &[],
     }
-    parts.push(Part::Enter(node.kind()))?;
-    push_inside(alloc, node, prefix, &mut parts)?;
-    Ok(parts)
+    .compiled(alloc, pattern, template)?;
+    let in_pattern = mark_words(&first.inside, &mut sorts, &mut only_words);
+    let in_template = mark_words(&first.template, &mut sorts, &mut only_words);
+    if !in_pattern && !in_template {
+        return Ok(first);
+    }
+    Words {
+        prefix,
+        only_words: &only_words,
+    }
+    .compiled(alloc, pattern, template)
 }
 
-// The placeholder of a token that is one in a place of no expression.
+// The placeholder of a token that is one in a place of nothing that it can stand for.
 fn misplaced_in(part: &Part, prefix: &str) -> Option<usize> {
     match part {
         Part::Token(_, text) => number_in(text.as_str(), prefix),
@@ -96,7 +195,7 @@ fn misplaced_in(part: &Part, prefix: &str) -> Option<usize> {
     }
 }
 
-/// The first placeholder that stands where no expression can.
+/// The first placeholder that stands where nothing is that it can stand for.
 pub(crate) fn misplaced(parts: &[Part], prefix: &str) -> Option<usize> {
     for part in parts {
         if let Some(number) = misplaced_in(part, prefix) {

@@ -3,6 +3,7 @@
 
 mod bare;
 mod compile;
+mod condition;
 mod matching;
 mod part;
 mod places;
@@ -11,7 +12,8 @@ mod rule;
 mod same;
 mod walk;
 
+pub use condition::{Condition, Hole, Test};
 pub use part::Sort;
 pub use places::{Match, find};
 pub use reads::reads_as;
-pub use rule::{Piece, Rule, RuleRefusal};
+pub use rule::{Form, Piece, Rule, RuleRefusal};

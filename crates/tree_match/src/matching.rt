@@ -1,11 +1,12 @@
 //! A pattern at one place of a tree.
-ghost use Rattle.std.specs.Prelude.{◌≡◌, IfOk, if◌then◌else◌, Some, None, option_map, replicate, get_or};
+ghost use Rattle.std.specs.Prelude.{◌≡◌, IfOk, if◌then◌else◌, Some, None, option_map, replicate, get_or, length};
 ghost use Rattle.tree_match.specs.Walks.{levels_of};
-ghost use Rattle.tree_match.specs.Matching.{put, match_part, match_parts, match_rule, first_rule, found_of};
+ghost use Rattle.tree_match.specs.Matching.{put, put_held, match_part, match_parts, match_form, first_form, match_rule, match_template, first_rule, found_of};
 
 use crate::bare::Comments;
+use crate::condition::{Hole, admits};
 use crate::part::Part;
-use crate::rule::Rule;
+use crate::rule::{Form, Rule};
 use crate::same::is_same;
 use crate::walk::{Walk, is_part};
 use lossless_tree::{SiblingsLeft, SyntaxKind};
@@ -14,10 +15,11 @@ use std::alloc::{AllocError, Global};
 /// What stands for each placeholder: siblings of which the first is its value; `None` if it has none.
 pub(crate) type Values<'t> = Vec<Option<SiblingsLeft<'t>>>;
 
-/// A rule that matches, and what stands for its placeholders.
+/// A rule that matches, which of its forms, and what stands for its placeholders.
 #[derive(Drop)]
 pub(crate) struct Found<'t> {
     pub(crate) rule: usize,
+    pub(crate) form: usize,
     pub(crate) values: Values<'t>,
 }
 
@@ -51,59 +53,136 @@ fn put<'t>(
     Ok(true)
 }
 
+// The same, if the conditions of the placeholder hold.
+fn put_held<'t>(
+    alloc: Global,
+    holes: &[Hole],
+    values: &mut Values<'t>,
+    number: usize,
+    value: SiblingsLeft<'t>,
+) -> Result<bool, AllocError>
+    ensures { IfOk result (λ ok. put_held holes.now number value.entry values.old.items ≡ (if ok then Some values.new.items else None)) }
+{
+    if !admits(alloc, holes, number, &value)? {
+        return Ok(false);
+    }
+    put(alloc, values, number, value)
+}
+
 // Passes over a part, if it is next in the walk.
 fn match_part<'t>(
     alloc: Global,
     walk: &mut Walk<'t>,
+    holes: &[Hole],
     values: &mut Values<'t>,
     part: &Part,
 ) -> Result<bool, AllocError>
-    ensures step { IfOk result (λ ok. match_part walk.old.comments part.now (levels_of walk.old) values.old.items ≡ (if ok then Some (levels_of walk.new, values.new.items) else None)) }
+    ensures step { IfOk result (λ ok. match_part walk.old.comments holes.now part.now (levels_of walk.old) values.old.items ≡ (if ok then Some (levels_of walk.new, values.new.items) else None)) }
     ensures same { walk.new.comments ≡ walk.old.comments }
 {
     if let Part::Hole(number, sort) = part {
         let Some(value) = walk.take(*sort)? else {
             return Ok(false);
         };
-        return put(alloc, values, *number, value);
+        return put_held(alloc, holes, values, *number, value);
     }
     let step = walk.next()?;
     Ok(is_part(part, step))
 }
 
-/// What stands for each placeholder, if the parts are the first steps of the walk of some siblings.
-pub(crate) fn match_parts<'t>(
+// What stands for each placeholder, if the parts are the first steps of the walk of some siblings.
+fn match_parts<'t>(
     alloc: Global,
     comments: Comments,
+    holes: &[Hole],
     parts: &[Part],
     count: usize,
     start: &SiblingsLeft<'t>,
 ) -> Result<Option<Values<'t>>, AllocError>
-    ensures { IfOk result (λ o. option_map (λ vs. vs.items) o ≡ match_parts comments parts.now count start.now) }
+    ensures { IfOk result (λ o. option_map (λ vs. vs.items) o ≡ match_parts comments holes.now parts.now count start.now) }
 {
     let mut walk = Walk::new(alloc, comments, start)?;
     let mut values = no_values(alloc, count)?;
     for part in parts {
-        if !match_part(alloc, &mut walk, &mut values, part)? {
+        if !match_part(alloc, &mut walk, holes, &mut values, part)? {
             return Ok(None);
         }
     }
     Ok(Some(values))
 }
 
-// What stands for the placeholders of a rule, if a node is its pattern.
+// What stands for the placeholders of a rule, if a node is the pattern of this form.
+fn match_form<'t>(
+    alloc: Global,
+    holes: &[Hole],
+    form: &Form,
+    kind: SyntaxKind,
+    inside: &SiblingsLeft<'t>,
+) -> Result<Option<Values<'t>>, AllocError>
+    ensures { IfOk result (λ o. option_map (λ vs. vs.items) o ≡ match_form holes.now form.now kind inside.now) }
+{
+    if form.kind.to_raw() != kind.to_raw() {
+        return Ok(None);
+    }
+    match_parts(
+        alloc,
+        form.comments(),
+        holes,
+        &form.inside,
+        holes.len(),
+        inside,
+    )
+}
+
+// The first of some forms whose pattern a node is.
+fn first_form<'t>(
+    alloc: Global,
+    holes: &[Hole],
+    forms: &[Form],
+    kind: SyntaxKind,
+    inside: &SiblingsLeft<'t>,
+) -> Result<Option<(usize, Values<'t>)>, AllocError>
+    ensures { IfOk result (λ o. option_map (λ f. (f.0, f.1.items)) o ≡ first_form holes.now forms.now kind inside.now) }
+{
+    let mut number = 0usize;
+    while number < forms.len() {
+        if let Some(values) = match_form(alloc, holes, &forms[number], kind, inside)? {
+            return Ok(Some((number, values)));
+        }
+        number += 1;
+    }
+    Ok(None)
+}
+
+// The first form of a rule whose pattern a node is.
 fn match_rule<'t>(
     alloc: Global,
     rule: &Rule,
     kind: SyntaxKind,
     inside: &SiblingsLeft<'t>,
-) -> Result<Option<Values<'t>>, AllocError>
-    ensures { IfOk result (λ o. option_map (λ vs. vs.items) o ≡ match_rule rule.now kind inside.now) }
+) -> Result<Option<(usize, Values<'t>)>, AllocError>
+    ensures { IfOk result (λ o. option_map (λ f. (f.0, f.1.items)) o ≡ match_rule rule.now kind inside.now) }
 {
-    if rule.kind.to_raw() != kind.to_raw() {
-        return Ok(None);
-    }
-    match_parts(alloc, rule.comments(), &rule.inside, rule.count, inside)
+    first_form(alloc, &rule.holes, &rule.forms, kind, inside)
+}
+
+/// What stands for the placeholders of a form, if the first of some siblings is its template. There are as many as stand for them in the match.
+pub(crate) fn match_template<'t>(
+    alloc: Global,
+    form: &Form,
+    olds: &[Option<SiblingsLeft<'_>>],
+    start: &SiblingsLeft<'t>,
+) -> Result<Option<Values<'t>>, AllocError>
+    ensures { IfOk result (λ o. option_map (λ vs. vs.items) o ≡ match_template form.now (length olds.now) start.now) }
+{
+    match_parts(
+        alloc,
+        Comments::Passed,
+        &[],
+        &form.template,
+        olds.len(),
+        start,
+    )
 }
 
 /// The first rule whose pattern a node is, by its kind and its children.
@@ -117,9 +196,10 @@ pub(crate) fn first_rule<'t>(
 {
     let mut number = 0usize;
     while number < rules.len() {
-        if let Some(values) = match_rule(alloc, &rules[number], kind, inside)? {
+        if let Some((form, values)) = match_rule(alloc, &rules[number], kind, inside)? {
             return Ok(Some(Found {
                 rule: number,
+                form,
                 values,
             }));
         }

@@ -1,6 +1,6 @@
 //! Patterns and templates, as walks of their trees.
 ghost use Rattle.std.specs.Prelude.{◌≡◌};
-ghost use Rattle.tree_match.specs.Walks.{sort_has};
+ghost use Rattle.tree_match.specs.Walks.{is_word, sort_has};
 
 use lossless_tree::SyntaxKind;
 use ras_node::sets::{Exprs, KindSet, Pats, Types};
@@ -14,10 +14,26 @@ pub enum Sort {
     Ty,
     /// A pattern, as that of an arm.
     Pat,
+    /// A path, or a part of one from its start on.
+    Path,
+    /// A word: the token of a name.
+    Word,
+}
+
+// Whether a token of this kind can be a name: also `0` of `x.0`, and the words of paths.
+fn is_word(kind: SyntaxKind) -> bool
+    ensures { result ≡ is_word kind }
+{
+    kind == SyntaxKind::IDENT
+        || kind == SyntaxKind::INT_NUMBER
+        || kind == SyntaxKind::SELF_KW
+        || kind == SyntaxKind::SELF_TYPE_KW
+        || kind == SyntaxKind::SUPER_KW
+        || kind == SyntaxKind::CRATE_KW
 }
 
 impl Sort {
-    /// Whether a node of this kind is of the sort.
+    /// Whether a node of this kind is of the sort; for a word, a token.
     pub fn has(self, kind: SyntaxKind) -> bool
         ensures { result ≡ sort_has self kind }
     {
@@ -25,6 +41,8 @@ impl Sort {
             Sort::Expr => Exprs::has(kind),
             Sort::Ty => Types::has(kind),
             Sort::Pat => Pats::has(kind),
+            Sort::Path => kind == SyntaxKind::PATH,
+            Sort::Word => is_word(kind),
         }
     }
 }

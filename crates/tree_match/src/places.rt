@@ -1,6 +1,6 @@
 //! The places of a tree where rules match.
 ghost use Rattle.std.specs.Prelude.{◌≡◌, ◌∷◌, [], IfOk, OnOk, map, option_map};
-ghost use Rattle.tree_match.specs.Finds.{occurrence_of, first_range, ranges_of, match_at, drop_behind, is_free, with_some, behind, take_out, found_at, free_behind, found_in};
+ghost use Rattle.tree_match.specs.Finds.{occurrence_of, first_range, ranges_of, node_range, nodes_of, match_at, drop_behind, is_free, with_some, behind, take_out, found_at, free_behind, found_in};
 
 use crate::matching::first_rule;
 use crate::rule::Rule;
@@ -13,10 +13,14 @@ use std::collections::VecDeque;
 pub struct Match {
     /// The number of the rule.
     pub rule: usize,
+    /// Which form of the rule, as that of expressions or that of types.
+    pub form: usize,
     /// The range of the node.
     pub range: TextRange,
     /// The range of what stands for each placeholder, with the pairs of parentheses round it; `None` if it is not in the pattern.
     pub values: Vec<Option<TextRange>>,
+    // The ranges of those values that are nodes.
+    pub(crate) nodes: Vec<Option<TextRange>>,
 }
 
 // The range of the first of some siblings.
@@ -42,6 +46,34 @@ fn ranges_of(
     Ok(ranges)
 }
 
+// The range of the first of some siblings, if it is a node.
+fn node_range(left: &SiblingsLeft<'_>) -> Option<TextRange>
+    ensures { result ≡ node_range left.now }
+{
+    if left.is_token() {
+        None
+    } else {
+        Some(first_range(left))
+    }
+}
+
+// The ranges of those values that are nodes: there is nothing to find in a token.
+fn nodes_of(
+    alloc: Global,
+    values: &[Option<SiblingsLeft<'_>>],
+) -> Result<Vec<Option<TextRange>>, AllocError>
+    ensures { IfOk result (λ r. r.items ≡ nodes_of values.now) }
+{
+    let mut ranges = Vec::with_capacity(alloc, values.len())?;
+    for value in values {
+        match value {
+            Some(left) => ranges.push(node_range(left))?,
+            None => ranges.push(None)?,
+        }
+    }
+    Ok(ranges)
+}
+
 // The match of the first rule that matches a node.
 fn match_at(alloc: Global, rules: &[Rule], node: &SyntaxNode) -> Result<Option<Match>, AllocError>
     ensures { IfOk result (λ o. option_map occurrence_of o ≡ match_at rules.now node.now) }
@@ -51,8 +83,10 @@ fn match_at(alloc: Global, rules: &[Rule], node: &SyntaxNode) -> Result<Option<M
     };
     Ok(Some(Match {
         rule: found.rule,
+        form: found.form,
         range: node.text_range(),
         values: ranges_of(alloc, &found.values)?,
+        nodes: nodes_of(alloc, &found.values)?,
     }))
 }
 
@@ -127,7 +161,7 @@ fn take_out(free: &mut VecDeque<TextRange>, found: &Option<Match>) -> Result<(),
         return Ok(());
     };
     free.push_front(behind(found.range, next))?;
-    push_values(free, &found.values)
+    push_values(free, &found.nodes)
 }
 
 // The match at a node, if it may be searched. Afterwards what may be searched behind it.

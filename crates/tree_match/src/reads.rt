@@ -4,11 +4,11 @@ ghost use Rattle.tree_match.specs.declared.bare.Comments.TheVariants.{Passed};
 ghost use Rattle.tree_match.specs.Bare.{bare};
 ghost use Rattle.tree_match.specs.Finds.{inside_of};
 ghost use Rattle.tree_match.specs.Matching.{found_of};
-ghost use Rattle.tree_match.specs.Reads.{FirstReads, AllRead, ValueReads, ValuesRead, IsSameToken, IsSameNode, IsReplaced, rule_at, TaskReads, Leads, LeadsBy};
+ghost use Rattle.tree_match.specs.Reads.{FirstReads, AllRead, ValueReads, ValuesRead, IsSameToken, IsSameNode, IsReplaced, rule_at, form_at, TaskReads, Leads, LeadsBy};
 
 use crate::bare::{Comments, bare, past};
-use crate::matching::{Found, first_rule, match_parts};
-use crate::rule::Rule;
+use crate::matching::{Found, first_rule, match_template};
+use crate::rule::{Form, Rule};
 use lossless_tree::{SiblingsLeft, SyntaxNode};
 use std::alloc::{AllocError, Global};
 use std::collections::VecDeque;
@@ -75,6 +75,17 @@ fn numbered(rules: &[Rule], number: usize) -> Option<&Rule>
     rules.get(number)
 }
 
+// A form of the rule with a number.
+#[tactic(auto, using(crate::proofs::ReadLemmas::no_rule, crate::proofs::ReadLemmas::some_rule))]
+fn form_at(rules: &[Rule], number: usize, form: usize) -> Option<&Form>
+    ensures { option_map (λ f. f.now) result ≡ form_at rules.now number form }
+{
+    match numbered(rules, number) {
+        None => None,
+        Some(rule) => rule.form(form),
+    }
+}
+
 // A match: whether the new tree is its rule's template. Adds tasks for the placeholders.
 #[tactic(auto, using(crate::proofs::ReadLemmas::replaced_leads, crate::proofs::ReadLemmas::not_led_by))]
 fn is_replaced<'a, 'b>(
@@ -86,10 +97,10 @@ fn is_replaced<'a, 'b>(
 ) -> Result<bool, AllocError>
     ensures { IfOk result (λ ok. LeadsBy rules.now (IsReplaced rules.now (found_of found.now) new.now) ok tasks.new.items tasks.old.items) }
 {
-    let Some(rule) = numbered(rules, found.rule) else {
+    let Some(form) = form_at(rules, found.rule, found.form) else {
         return Ok(false);
     };
-    let Some(values) = match_parts(alloc, Comments::Passed, &rule.template, rule.count, new)? else {
+    let Some(values) = match_template(alloc, form, &found.values, new)? else {
         return Ok(false);
     };
     push_values(tasks, &found.values, &values)

@@ -4,7 +4,7 @@ ghost use Rattle.std.specs.Cmp.Lexicographic.{pointwise};
 ghost use Rattle.tree_match.specs.declared.bare.Comments.TheVariants.{Passed};
 ghost use Rattle.tree_match.specs.Bare.{is_same_step, is_end};
 ghost use Rattle.tree_match.specs.Walks.{step_of, levels_of};
-ghost use Rattle.tree_match.specs.Same.{steps_left, IsDecided, is_same};
+ghost use Rattle.tree_match.specs.Same.{steps_left, IsDecided, is_same_token, is_same_node, is_same};
 
 use crate::bare::{Comments, bare};
 use crate::walk::{Seen, Walk};
@@ -67,7 +67,28 @@ fn same_siblings(
     }
 }
 
-/// Whether the first of some siblings and the first of others, both nodes, are the same tree.
+// Whether the first of some siblings and the first of others are the same token.
+fn is_same_token(a: &SiblingsLeft<'_>, b: &SiblingsLeft<'_>) -> bool
+    ensures { result ≡ is_same_token a.now b.now }
+{
+    a.is_token() && b.is_token() && a.kind().to_raw() == b.kind().to_raw() && a.text() == b.text()
+}
+
+// Whether they are nodes that are the same tree.
+fn is_same_node(
+    alloc: Global,
+    a: &SiblingsLeft<'_>,
+    b: &SiblingsLeft<'_>,
+) -> Result<bool, AllocError>
+    ensures { IfOk result (λ same. same ≡ is_same_node a.now b.now) }
+{
+    if a.is_token() || b.is_token() || a.kind().to_raw() != b.kind().to_raw() {
+        return Ok(false);
+    }
+    same_siblings(alloc, &a.inside(), &b.inside())
+}
+
+/// Whether the first of some siblings and the first of others are the same tree.
 pub(crate) fn is_same(
     alloc: Global,
     a: &SiblingsLeft<'_>,
@@ -77,8 +98,8 @@ pub(crate) fn is_same(
 {
     let a = bare(Comments::Passed, a);
     let b = bare(Comments::Passed, b);
-    if a.kind().to_raw() != b.kind().to_raw() {
-        return Ok(false);
+    if is_same_token(&a, &b) {
+        return Ok(true);
     }
-    same_siblings(alloc, &a.inside(), &b.inside())
+    is_same_node(alloc, &a, &b)
 }

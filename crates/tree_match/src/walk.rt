@@ -1,6 +1,6 @@
 //! Walks of trees without what does not count.
 ghost use Rattle.std.specs.Prelude.{◌≡◌, ◌∷◌, [], IfOk, option_map};
-ghost use Rattle.tree_match.specs.Walks.{levels_of, advance, taken, step_of, is_part};
+ghost use Rattle.tree_match.specs.Walks.{levels_of, advance, is_there, taken, step_of, is_part};
 
 use crate::bare::{Comments, bare, is_node_there, past};
 use crate::part::{Part, Sort};
@@ -75,7 +75,7 @@ impl<'t> Walk<'t> {
         Some((inner.kind(), inner.text()))
     }
 
-    /// Passes over the next node, if it is of the sort; returns the siblings from it on.
+    /// Passes over the next node, or token for a word, if it is of the sort; returns the siblings from it on.
     pub(crate) fn take(&mut self, sort: Sort) -> Result<Option<SiblingsLeft<'t>>, AllocError>
         ensures taken { IfOk result (λ o. option_map (λ v. (v, levels_of self.new)) o ≡ taken self.old.comments sort (levels_of self.old)) }
         ensures same { self.new.comments ≡ self.old.comments }
@@ -84,11 +84,21 @@ impl<'t> Walk<'t> {
             return Ok(None);
         };
         let here = past(self.comments, &level);
-        if !(is_node_there(&here) && sort.has(here.kind())) {
+        if !(is_there(sort, &here) && sort.has(here.kind())) {
             return Ok(None);
         }
         self.levels.push_front(here.rest())?;
         Ok(Some(here))
+    }
+}
+
+// Whether the first of some siblings is a token, if a word is asked for, and else a node.
+fn is_there(sort: Sort, left: &SiblingsLeft<'_>) -> bool
+    ensures { result ≡ is_there sort left.now.trees }
+{
+    match sort {
+        Sort::Word => left.is_token(),
+        Sort::Expr | Sort::Ty | Sort::Pat | Sort::Path => is_node_there(left),
     }
 }
 

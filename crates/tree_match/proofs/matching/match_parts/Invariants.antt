@@ -6,4 +6,4 @@ use Rattle.tree_match.proofs.matching.match_parts.Given as goal
 abbrev pub invariant-loop-part : goal.invariant-loop-part
 invariant-loop-part l =
     (l.walk.comments ≡ l.fn.comments)
-    × (match_from l.fn.comments (drop l.part-index l.parts) (levels_of l.walk) l.values.items ≡ match_parts l.fn.comments l.parts l.count l.start)
+    × (match_from l.fn.comments l.holes (drop l.part-index l.parts) (levels_of l.walk) l.values.items ≡ match_parts l.fn.comments l.holes l.parts l.count l.start)

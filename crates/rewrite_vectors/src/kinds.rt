@@ -1,0 +1,185 @@
+//! Rules of types, patterns, paths, statements and items.
+use crate::replaced::changed;
+use ra_ap_syntax::Edition;
+use rust_front::Rust;
+use rust_rewrite::parse_rule;
+use std::alloc::Global;
+use std::test::Fail;
+
+const NOW: Edition = Edition::CURRENT;
+
+// Each row is a rule, a file, and the file with the matches replaced.
+fn run(alloc: Global, rows: &[(&str, &str, &str)]) -> Result<(), Fail> {
+    for (rule, file, expected) in rows {
+        let rules = vec![in alloc; parse_rule(alloc, &Rust, NOW, rule)?]?;
+        let new = changed(alloc, &rules, file)?;
+        if new.as_str() != *expected {
+            return Err(Fail::from(format!(in alloc; "{rule}: {file} became {new}")?));
+        }
+    }
+    Ok(())
+}
+
+#[test]
+fn types(rt: HostRuntime) -> Result<(), Fail> {
+    run(
+        rt.alloc(),
+        &[
+            (
+                "Vec<$t> ==>> Box<[$t]>",
+                "struct S(Vec<u8>, Option<Vec<Vec<S>>>); fn f(v: &Vec<i8>) -> Vec<u8> { v as Vec<u8> }",
+                "struct S(Box<[u8]>, Option<Box<[Box<[S]>]>>); fn f(v: &Box<[i8]>) -> Box<[u8]> { v as Box<[u8]> }",
+            ),
+            (
+                "&mut $t ==>> Mut<$t>",
+                "fn f(a: &mut A, b: &B) -> &mut (A, B) {}",
+                "fn f(a: Mut<A>, b: &B) -> Mut<(A, B)> {}",
+            ),
+            (
+                "[$t; $n] ==>> [Option<$t>; $n]",
+                "type A = [u8; 1]; type B = [[u8; 1 + 1]; N];",
+                "type A = [Option<u8>; 1]; type B = [Option<[Option<u8>; 1 + 1]>; N];",
+            ),
+            (
+                "Box<$t> ==>> &$t",
+                "type A = Box<dyn A + B>;",
+                "the new text reads otherwise",
+            ),
+        ],
+    )
+}
+
+#[test]
+fn patterns(rt: HostRuntime) -> Result<(), Fail> {
+    run(
+        rt.alloc(),
+        &[
+            (
+                "Some($p) ==>> Ok($p)",
+                "fn f() { match x { Some(Some(1)) => Some(y + 1), Some(ref y) | None => Some } }",
+                "fn f() { match x { Ok(Ok(1)) => Ok(y + 1), Ok(ref y) | None => Some } }",
+            ),
+            (
+                "S { $f: $p } ==>> T { $f: Some($p) }",
+                "fn f() { let S { a: b } = S { a: 1 + 1 }; }",
+                "fn f() { let T { a: Some(b) } = T { a: Some(1 + 1) }; }",
+            ),
+            (
+                "S { $f: $f } ==>> S { $f }",
+                "fn f() { let S { a: a } = S { b: b }; S { a: b }; }",
+                "fn f() { let S { a } = S { b }; S { a: b }; }",
+            ),
+            (
+                "$a | $a ==>> $a",
+                "fn f() { match x { 1 | 1 => y | y, 1 | 2 => (z) | z } }",
+                "fn f() { match x { 1 => y, 1 | 2 => (z) } }",
+            ),
+        ],
+    )
+}
+
+#[test]
+fn paths(rt: HostRuntime) -> Result<(), Fail> {
+    run(
+        rt.alloc(),
+        &[
+            (
+                "foo::Bar ==>> foo::Baz",
+                "use foo::Bar; fn f(b: foo::Bar) -> foo::Bar { match b { foo::Bar => foo::Bar::new(foo::Bar), _ => foo::bar } }",
+                "use foo::Baz; fn f(b: foo::Baz) -> foo::Baz { match b { foo::Baz => foo::Baz::new(foo::Baz), _ => foo::bar } }",
+            ),
+            (
+                "$p::new() ==>> $p::default()",
+                "fn f() { a::B::new(); C::new(); Vec::<u8>::new(); C::new(1); }",
+                "fn f() { a::B::default(); C::default(); Vec::<u8>::default(); C::new(1); }",
+            ),
+            (
+                "old::$name ==>> new::$name",
+                "use old::a; fn f() { old::b(); other::old::c(); old::d::e(); }",
+                "use new::a; fn f() { new::b(); other::old::c(); new::d::e(); }",
+            ),
+        ],
+    )
+}
+
+#[test]
+fn statements(rt: HostRuntime) -> Result<(), Fail> {
+    run(
+        rt.alloc(),
+        &[
+            (
+                "let $p = $e.unwrap(); ==>> let $p = $e?;",
+                "fn f() { let x = g().unwrap(); let (a, b) = (x + 1).unwrap(); let y: u8 = g().unwrap(); }",
+                "fn f() { let x = g()?; let (a, b) = (x + 1)?; let y: u8 = g().unwrap(); }",
+            ),
+            (
+                "let mut $x = $e; ==>> let $x = Cell::new($e);",
+                "fn f() { let mut x = 1 + 1; let y = 1; }",
+                "fn f() { let x = Cell::new(1 + 1); let y = 1; }",
+            ),
+            (
+                "drop($x); ==>> let _ = $x;",
+                "fn f() { drop(a); if drop(b) { drop(a + b); } }",
+                "fn f() { let _ = a; if drop(b) { let _ = a + b; } }",
+            ),
+            (
+                "$s.$field = $e; ==>> $s.set($e);",
+                "fn f() { a.b.c = 1 + 1; a.0 = 1; a = 2; }",
+                "fn f() { a.b.set(1 + 1); a.set(1); a = 2; }",
+            ),
+            (
+                "{ let $x = $e; $x } ==>> { $e }",
+                "fn f() { let a = { let x = g(x) + 1; x }; let b = { let x = 1; y }; }",
+                "fn f() { let a = { g(x) + 1 }; let b = { let x = 1; y }; }",
+            ),
+        ],
+    )
+}
+
+#[test]
+fn items(rt: HostRuntime) -> Result<(), Fail> {
+    run(
+        rt.alloc(),
+        &[
+            (
+                "fn $f($p: $t) -> $r { $b } ==>> fn $f($p: &$t) -> $r { $f($b) }",
+                "fn f(x: u8) -> u8 { x + 1 } impl S { fn g((a, b): (A, B)) -> A { a } fn h() {} }",
+                "fn f(x: &u8) -> u8 { f(x + 1) } impl S { fn g((a, b): &(A, B)) -> A { g(a) } fn h() {} }",
+            ),
+            (
+                "impl Default for $t { fn default() -> Self { Self::new() } } ==>> impl Default for $t { fn default() -> $t { <$t>::new() } }",
+                "impl Default for a::S { fn default() -> Self { Self::new() } } impl Default for T {}",
+                "impl Default for a::S { fn default() -> a::S { <a::S>::new() } } impl Default for T {}",
+            ),
+            (
+                "const $n: $t = $e; ==>> static $n: $t = $e;",
+                "const A: u8 = 1 + 1; mod m { const B: &str = \"\"; pub const C: u8 = 0; }",
+                "static A: u8 = 1 + 1; mod m { static B: &str = \"\"; pub const C: u8 = 0; }",
+            ),
+        ],
+    )
+}
+
+#[test]
+fn words(rt: HostRuntime) -> Result<(), Fail> {
+    run(
+        rt.alloc(),
+        &[
+            (
+                "$x.$m($x) ==>> twice($x.$m)",
+                "fn f() { a.b(a); a.b(c); a.0(a); }",
+                "fn f() { twice(a.b); a.b(c); a.0(a); }",
+            ),
+            (
+                "$x.${m:text(/^get_/)}() ==>> $x[$m]",
+                "fn f() { a.get_b(); a.b(); }",
+                "fn f() { a[get_b]; a.b(); }",
+            ),
+            (
+                "${x:kind(ident)}.$x ==>> $x",
+                "fn f() { a.a; a.b; self.a; }",
+                "fn f() { a; a.b; self.a; }",
+            ),
+        ],
+    )
+}
