@@ -69,7 +69,7 @@ fn write_rules<W: fmt::Write>(
     error: &RulesError,
 ) -> fmt::Result {
     match error {
-        RulesError::Rule { .. } => write!(f, "{path}:{error}"),
+        RulesError::Rule { .. } | RulesError::Wrong { .. } => write!(f, "{path}:{error}"),
         _ => write!(f, "{path}: {error}"),
     }
 }

@@ -6,7 +6,7 @@ use crate::fix;
 use crate::fix::Done;
 use crate::inputs::{Read, files_below, is_folder, text_of};
 use crate::session::{Noun, Session, UNREAD};
-use ras_front_end::Edition;
+use ras_front_end::{Edition, ParseError};
 use rust_cli::options::{Choice, Globs, Options, Summary};
 use rust_cli::task::{Task, Then};
 use rust_draw::{highlight, tree};
@@ -21,7 +21,7 @@ use rust_print::{outline, parens, tokens};
 use rust_query::show as query;
 use rust_rewrite::Rewritten;
 use rust_rules as rules;
-use rust_search::RuleSet;
+use rust_search::{Chosen, RuleSet, path_in};
 use std::io::Write;
 use std::time::Instant;
 use std::{fs, io};
@@ -46,6 +46,8 @@ struct Progress {
     manifests: Manifests,
     // If the command line names several files or folders: a file may be among them twice.
     read: Option<Read>,
+    // The rules for the file that is read.
+    chosen: Chosen,
 }
 
 impl Progress {
@@ -58,6 +60,7 @@ impl Progress {
             } else {
                 None
             },
+            chosen: Chosen::new(rt.alloc()),
         }
     }
 
@@ -196,6 +199,33 @@ fn write_rewritten<W: Write>(
     }
 }
 
+// The rules for a file.
+fn rules_for<'a>(
+    rt: &HostRuntime,
+    chosen: &'a mut Chosen,
+    set: &'a RuleSet,
+    source: Source<'_>,
+) -> Result<&'a RuleSet, Failure> {
+    let path = path_in(source.name, source.folder);
+    match chosen.rules_for(rt.alloc(), set, path) {
+        Ok(set) => Ok(set),
+        Err(_) => Err(Failure::Text(ParseError::Memory)),
+    }
+}
+
+// Lists the matches of rules in a text. Returns their number.
+fn search<W: Write>(
+    rt: &HostRuntime,
+    out: &mut W,
+    source: Source<'_>,
+    set: &RuleSet,
+    asked: Asked,
+    chosen: &mut Chosen,
+) -> Result<u64, Failure> {
+    let set = rules_for(rt, chosen, set, source)?;
+    rules::search(rt.alloc(), out, source, set, asked)
+}
+
 // Lists or replaces the matches of rules in a text. Returns the number of those that are in no other match.
 fn rewrite<W: Write>(
     rt: &HostRuntime,
@@ -204,7 +234,9 @@ fn rewrite<W: Write>(
     set: &RuleSet,
     asked: Asked,
     then: Then,
+    chosen: &mut Chosen,
 ) -> Result<u64, Failure> {
+    let set = rules_for(rt, chosen, set, source)?;
     match rules::rewritten(rt.alloc(), source, set, asked)? {
         None => {
             write_unchanged(rt, out, source, then)?;
@@ -285,6 +317,7 @@ impl Job {
         out: &mut W,
         source: Source<'_>,
         asked: Asked,
+        chosen: &mut Chosen,
     ) -> Result<u64, Failure> {
         let alloc = rt.alloc();
         match &self.task {
@@ -295,8 +328,8 @@ impl Job {
             Task::Highlight { ink } => highlight::show(alloc, out, source, asked.reading, *ink),
             Task::Tokens => tokens::show(alloc, out, source, asked),
             Task::Query { pattern } => query::show(alloc, out, source, pattern, asked),
-            Task::Search { set } => rules::search(alloc, out, source, set, asked),
-            Task::Rewrite { set, then } => rewrite(rt, out, source, set, asked, *then),
+            Task::Search { set } => search(rt, out, source, set, asked, chosen),
+            Task::Rewrite { set, then } => rewrite(rt, out, source, set, asked, *then, chosen),
         }
     }
 
@@ -308,13 +341,14 @@ impl Job {
         source: Source<'_>,
         edition: Edition,
         session: &mut Session,
+        chosen: &mut Chosen,
     ) -> io::Result<()> {
         let mut asked = self.options.asked;
         asked.reading.edition = edition;
         asked.is_first = session.found == 0;
         let reported = match self.options.summary {
-            Summary::Whole => self.report(rt, out, source, asked),
-            _ => self.report(rt, &mut io::sink(), source, asked),
+            Summary::Whole => self.report(rt, out, source, asked, chosen),
+            _ => self.report(rt, &mut io::sink(), source, asked, chosen),
         };
         match reported {
             Ok(found) => {
@@ -353,7 +387,12 @@ impl Job {
                     text: text.as_str(),
                 };
                 let edition = progress.manifests.edition_of(rt, path)?;
-                self.reported(rt, out, source, edition, &mut progress.session)
+                let Progress {
+                    session,
+                    chosen,
+                    ..
+                } = progress;
+                self.reported(rt, out, source, edition, session, chosen)
             }
             Err(error) => {
                 progress.session.fail(UNREAD);
