@@ -32,7 +32,7 @@ pub one_more : (n : ℕ) (marks new : List Bool) (answers whole : List Answer) �
     → (length new ≤ n) × (new ++ taken (n - length new) (further answers) ≡ taken n whole)
 one_more n marks new answers whole h o e =
     subst (λ l. (length l ≤ n) × (l ++ taken (n - length l) (further answers) ≡ taken n whole)) (sym e)
-        (omega (arith, h, len_one marks (is_taken (first_answer answers))), after_one n marks answers whole h o)
+    (omega (arith, h, len_one marks (is_taken (first_answer answers))), after_one n marks answers whole h o)
 
 none_left : (n k : ℕ) → n ≤ k → n - k ≡ 0
 none_left n k h = omega (arith, h)

@@ -6,8 +6,8 @@ use Rattle.rule_plan.specs.declared.answer.Answer.{Answer}
 use Rattle.rule_plan.specs.declared.answer.Answer.TheVariants.{Yes, No, All, Quit}
 
 -- the answer that a word is, or its first letter
-abbrev pub answer_named : List ℕ → Option Answer
-answer_named s =
+abbrev pub answer_of : List ℕ → Option Answer
+answer_of s =
     if is_text s (codes "y") then Some Yes
     else (if is_text s (codes "yes") then Some Yes
     else (if is_text s (codes "n") then Some No

@@ -1,7 +1,7 @@
 //! Which replacements are taken, by the answers of somebody who is asked.
 ghost use Rattle.std.specs.Prelude.{◌≡◌, [], IfOk};
 ghost use Rattle.text_edit.specs.Replacements.{with_all};
-ghost use Rattle.rule_plan.specs.Answers.{answer_named, is_taken, is_last, first_answer, further, taken, is_first_marked, behind_first, chosen};
+ghost use Rattle.rule_plan.specs.Answers.{answer_of, is_taken, is_last, first_answer, further, taken, is_first_marked, behind_first, chosen};
 
 use std::alloc::{AllocError, Global};
 use text_edit::{Indel, OverlapError, TextEdit};
@@ -19,13 +19,9 @@ pub enum Answer {
     Quit,
 }
 
-/// The answer that a line is, without the white space around it: `y`, `n`, `a` or `q`, or its word; `None` if it is none.
-pub fn answer_of(line: &str) -> Option<Answer> {
-    answer_named(line.trim())
-}
-
-fn answer_named(word: &str) -> Option<Answer>
-    ensures { result ≡ answer_named word.now }
+/// The answer that a word is: `y`, `n`, `a` or `q`, or `yes`, `no`, `all` or `quit`; `None` if it is none.
+pub fn answer_of(word: &str) -> Option<Answer>
+    ensures { result ≡ answer_of word.now }
 {
     match word {
         "y" => Some(Answer::Yes),

@@ -74,6 +74,7 @@ pub fn arguments(alloc: Global, pieces: &[Piece]) -> Result<Vec<TextRange>, Allo
             }
         }
     }
-    push_begun(&mut ranges, begun)?;
+    let last = begun;
+    push_begun(&mut ranges, last)?;
     Ok(ranges)
 }

@@ -18,7 +18,7 @@ use std::io;
 use std::io::Write;
 
 // A match of a text.
-fn place_of<'a>(
+pub(crate) fn place_of<'a>(
     source: Source<'a>,
     set: &'a RuleSet,
     found: &Match,

@@ -8,5 +8,5 @@ mod toml_place;
 mod toml_rules;
 
 pub use choice::{Chosen, path_in};
-pub use hunks::{write_hunks, write_lines};
+pub use hunks::{lines_by, write_hunks, write_lines};
 pub use rules::{Note, RuleSet, RulesError, one_pattern, one_rule, rules_of, rules_of_lines};

@@ -1,5 +1,6 @@
 //! The commands on files, and their run over all files.
 
+use crate::ask::ask;
 use crate::editions::Manifests;
 use crate::failure::{status_of, tell};
 use crate::fix;
@@ -46,8 +47,16 @@ struct Progress {
     manifests: Manifests,
     // If the command line names several files or folders: a file may be among them twice.
     read: Option<Read>,
+    kept: Kept,
+}
+
+// What a run with rules keeps from file to file.
+#[derive(Drop)]
+struct Kept {
     // The rules for the file that is read.
     chosen: Chosen,
+    // Whether somebody who was asked ended the run.
+    is_over: bool,
 }
 
 impl Progress {
@@ -60,7 +69,10 @@ impl Progress {
             } else {
                 None
             },
-            chosen: Chosen::new(rt.alloc()),
+            kept: Kept {
+                chosen: Chosen::new(rt.alloc()),
+                is_over: false,
+            },
         }
     }
 
@@ -131,7 +143,7 @@ fn write_pairs<W: Write>(
                 fix::diff(rt, out, source, new)?;
             }
         }
-        Then::Fix => {
+        Then::Fix | Then::Ask => {
             let done = Done {
                 count: pairs.len(),
                 noun: PAIRS,
@@ -163,7 +175,7 @@ fn write_unchanged<W: Write>(
     then: Then,
 ) -> Result<(), Failure> {
     match then {
-        Then::List | Then::Diff => Ok(()),
+        Then::List | Then::Diff | Then::Ask => Ok(()),
         Then::Fix => {
             let done = Done {
                 count: 0,
@@ -175,6 +187,41 @@ fn write_unchanged<W: Write>(
     }
 }
 
+// Whether a file still has this text.
+fn is_unchanged(rt: &HostRuntime, source: Source<'_>) -> bool {
+    match text_of(rt, source.name) {
+        Ok(text) => text.as_str() == source.text,
+        Err(_) => false,
+    }
+}
+
+// Asks for each replacement of a text, and replaces those that are taken in its file.
+fn ask_and_fix<W: Write>(
+    rt: &HostRuntime,
+    out: &mut W,
+    source: Source<'_>,
+    set: &RuleSet,
+    done: &Rewritten,
+    asked: Asked,
+    is_over: &mut bool,
+) -> Result<(), Failure> {
+    let marks = ask(rt, out, source, set, done, asked, is_over)?;
+    let count = marks.iter().filter(|mark| **mark).count();
+    if count == 0 {
+        return Ok(());
+    }
+    let taken = rules::with_taken(rt.alloc(), source, done, marks.as_slice(), asked)?;
+    if !is_unchanged(rt, source) {
+        return Err(Failure::Kept("it was changed meanwhile"));
+    }
+    let told = Done {
+        count,
+        noun: MATCHES,
+        verb: "replaced",
+    };
+    fix_file(rt, out, source, taken.text.as_str(), told)
+}
+
 // Writes what is done with the matches of a text.
 fn write_rewritten<W: Write>(
     rt: &HostRuntime,
@@ -184,8 +231,10 @@ fn write_rewritten<W: Write>(
     done: &Rewritten,
     asked: Asked,
     then: Then,
+    is_over: &mut bool,
 ) -> Result<(), Failure> {
     match then {
+        Then::Ask => ask_and_fix(rt, out, source, set, done, asked, is_over),
         Then::List => rules::list(rt.alloc(), out, source, set, done, asked),
         Then::Diff => fix::diff_of(rt, out, source, &done.edit),
         Then::Fix => {
@@ -220,9 +269,9 @@ fn search<W: Write>(
     source: Source<'_>,
     set: &RuleSet,
     asked: Asked,
-    chosen: &mut Chosen,
+    kept: &mut Kept,
 ) -> Result<u64, Failure> {
-    let set = rules_for(rt, chosen, set, source)?;
+    let set = rules_for(rt, &mut kept.chosen, set, source)?;
     rules::search(rt.alloc(), out, source, set, asked)
 }
 
@@ -234,16 +283,16 @@ fn rewrite<W: Write>(
     set: &RuleSet,
     asked: Asked,
     then: Then,
-    chosen: &mut Chosen,
+    kept: &mut Kept,
 ) -> Result<u64, Failure> {
-    let set = rules_for(rt, chosen, set, source)?;
+    let set = rules_for(rt, &mut kept.chosen, set, source)?;
     match rules::rewritten(rt.alloc(), source, set, asked)? {
         None => {
             write_unchanged(rt, out, source, then)?;
             Ok(0)
         }
         Some(done) => {
-            write_rewritten(rt, out, source, set, &done, asked, then)?;
+            write_rewritten(rt, out, source, set, &done, asked, then, &mut kept.is_over)?;
             Ok(done.edit.len() as u64)
         }
     }
@@ -317,7 +366,7 @@ impl Job {
         out: &mut W,
         source: Source<'_>,
         asked: Asked,
-        chosen: &mut Chosen,
+        kept: &mut Kept,
     ) -> Result<u64, Failure> {
         let alloc = rt.alloc();
         match &self.task {
@@ -328,8 +377,8 @@ impl Job {
             Task::Highlight { ink } => highlight::show(alloc, out, source, asked.reading, *ink),
             Task::Tokens => tokens::show(alloc, out, source, asked),
             Task::Query { pattern } => query::show(alloc, out, source, pattern, asked),
-            Task::Search { set } => search(rt, out, source, set, asked, chosen),
-            Task::Rewrite { set, then } => rewrite(rt, out, source, set, asked, *then, chosen),
+            Task::Search { set } => search(rt, out, source, set, asked, kept),
+            Task::Rewrite { set, then } => rewrite(rt, out, source, set, asked, *then, kept),
         }
     }
 
@@ -341,14 +390,14 @@ impl Job {
         source: Source<'_>,
         edition: Edition,
         session: &mut Session,
-        chosen: &mut Chosen,
+        kept: &mut Kept,
     ) -> io::Result<()> {
         let mut asked = self.options.asked;
         asked.reading.edition = edition;
         asked.is_first = session.found == 0;
         let reported = match self.options.summary {
-            Summary::Whole => self.report(rt, out, source, asked, chosen),
-            _ => self.report(rt, &mut io::sink(), source, asked, chosen),
+            Summary::Whole => self.report(rt, out, source, asked, kept),
+            _ => self.report(rt, &mut io::sink(), source, asked, kept),
         };
         match reported {
             Ok(found) => {
@@ -374,7 +423,7 @@ impl Job {
         folder: Option<&str>,
         progress: &mut Progress,
     ) -> io::Result<()> {
-        if progress.was_read(rt, path)? {
+        if progress.kept.is_over || progress.was_read(rt, path)? {
             return Ok(());
         }
         let link = link_of(rt, &self.links, path)?;
@@ -387,12 +436,8 @@ impl Job {
                     text: text.as_str(),
                 };
                 let edition = progress.manifests.edition_of(rt, path)?;
-                let Progress {
-                    session,
-                    chosen,
-                    ..
-                } = progress;
-                self.reported(rt, out, source, edition, session, chosen)
+                let Progress { session, kept, .. } = progress;
+                self.reported(rt, out, source, edition, session, kept)
             }
             Err(error) => {
                 progress.session.fail(UNREAD);
@@ -436,7 +481,7 @@ impl Job {
         match &self.task {
             Task::Parens { then: Then::Fix } => session.failed,
             Task::Rewrite {
-                then: Then::Fix,
+                then: Then::Fix | Then::Ask,
                 ..
             } => session.failed,
             _ => session.status(),
