@@ -2,12 +2,14 @@
 #![tactic(auto)]
 
 mod class;
+mod globs;
 mod line;
 mod matching;
 mod piece;
 mod rules;
 
 pub use class::{Class, Item};
+pub use globs::{chooses, covers};
 pub use line::{Rule, rule_of, rules_of};
 pub use matching::fits;
 pub use piece::{Piece, pieces_of};

@@ -50,7 +50,12 @@ fn says(rule: &Rule) -> Verdict
 }
 
 // Whether a rule names a path, which is counted from the folder of its file on.
-fn applies(alloc: Global, rule: &Rule, path: &[u8], is_folder: bool) -> Result<bool, AllocError>
+pub(crate) fn applies(
+    alloc: Global,
+    rule: &Rule,
+    path: &[u8],
+    is_folder: bool,
+) -> Result<bool, AllocError>
     ensures { IfOk result (λ r. r ≡ applies rule.now path.now is_folder) }
 {
     if rule.is_for_folders && !is_folder {

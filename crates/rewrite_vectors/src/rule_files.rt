@@ -52,13 +52,31 @@ fn refusals_have_their_places(rt: HostRuntime) -> Result<(), Fail> {
             "a.toml",
             "[[rule]]\ntemplate = \"g\"",
             false,
-            "rule 1: expected a text `pattern = \"..\"`",
+            "1:1: rule 1: pattern: expected a text",
         ),
         (
             "a.toml",
             "[[rule]]\npattern = \"f()\"\nname = 1",
             false,
-            "rule 1: expected a text `name = \"..\"`",
+            "3:8: rule 1: name: expected a text",
+        ),
+        (
+            "a.toml",
+            "[[rule]]\npattern = \"f()\"\n\n[[rule]]\npattern = \"g()\"\nseverity = \"bad\"",
+            false,
+            "6:12: rule 2: severity: expected \"error\", \"warning\", \"note\" or \"help\"",
+        ),
+        (
+            "a.toml",
+            "[other]\nfiles = 1\n[[rule]] # one\npattern = \"\"\"\nf()\"\"\"\nfiles = [\"a\", '#']",
+            false,
+            "6:9: rule 1: files: expected a glob or a list of globs",
+        ),
+        (
+            "a.toml",
+            "rule = [{ pattern = \"f()\", files = [] }]",
+            false,
+            "1:1: rule 1: files: expected a glob or a list of globs",
         ),
         (
             "a.toml",

@@ -41,6 +41,8 @@ pub enum Then {
     Diff,
     /// They are removed or replaced in the file.
     Fix,
+    /// Those are replaced for which somebody who is asked says so.
+    Ask,
 }
 
 /// Why a command line is refused.
@@ -69,7 +71,7 @@ fn write_rules<W: fmt::Write>(
     error: &RulesError,
 ) -> fmt::Result {
     match error {
-        RulesError::Rule { .. } => write!(f, "{path}:{error}"),
+        RulesError::Rule { .. } | RulesError::Wrong { .. } => write!(f, "{path}:{error}"),
         _ => write!(f, "{path}: {error}"),
     }
 }
@@ -113,7 +115,9 @@ fn query_task(alloc: Global, matches: &ArgMatches) -> Result<Task, Refusal> {
 }
 
 fn then_of(matches: &ArgMatches) -> Then {
-    if matches.get_flag("fix") {
+    if matches.get_flag("interactive") {
+        Then::Ask
+    } else if matches.get_flag("fix") {
         Then::Fix
     } else if matches.get_flag("diff") {
         Then::Diff

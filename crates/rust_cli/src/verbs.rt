@@ -324,6 +324,21 @@ const REPLACE: Row = Row {
     help: "Replaces the matches in each file; the exit status is 0 then",
 };
 
+const INTERACTIVE: Row = Row {
+    name: "interactive",
+    takes: Takes::Nothing,
+    default: None,
+    conflicts: &[
+        "diff",
+        "fix",
+        "format",
+        "count",
+        "files-with-matches",
+        "quiet",
+    ],
+    help: "Asks on a terminal for each replacement whether it is made",
+};
+
 const ALL: Row = Row {
     name: "all",
     takes: Takes::Nothing,
@@ -526,6 +541,7 @@ static REWRITE_VERB: Verb = Verb {
         CHECK_FORMAT,
         DIFF,
         REPLACE,
+        INTERACTIVE,
         COUNT,
         FILES_WITH_MATCHES,
         FOLLOW,

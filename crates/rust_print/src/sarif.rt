@@ -26,7 +26,8 @@ impl Rule {
         }
     }
 
-    fn level(self) -> &'static str {
+    /// The level of its results; of a match that no rule gives a severity.
+    pub fn level(self) -> &'static str {
         match self {
             Rule::Syntax => "error",
             Rule::Parentheses => "note",
@@ -112,7 +113,7 @@ fn write_region<W: Write>(out: &mut W, at: Region) -> io::Result<()> {
     write!(out, "\"byteOffset\":{},\"byteLength\":{length}}}", at.start)
 }
 
-/// Writes a result, with a comma before it unless it is the first.
+/// Writes a result, with a comma before it unless it is the first. Its level is that of what it is about.
 pub fn write_result<W: Write>(
     alloc: Global,
     out: &mut W,
@@ -122,16 +123,26 @@ pub fn write_result<W: Write>(
     path: &str,
     at: Region,
 ) -> io::Result<()> {
+    write_leveled(alloc, out, is_first, rule, rule.level(), message, path, at)
+}
+
+/// The same with another level: `error`, `warning` or `note`.
+pub fn write_leveled<W: Write>(
+    alloc: Global,
+    out: &mut W,
+    is_first: bool,
+    rule: Rule,
+    level: &str,
+    message: &str,
+    path: &str,
+    at: Region,
+) -> io::Result<()> {
     let uri = Uri {
         path: path.strip_prefix("./").unwrap_or(path),
     };
     let comma = if is_first { "" } else { "," };
     write!(out, "{comma}\n{{\"ruleId\":\"{}\",", rule.id())?;
-    write!(
-        out,
-        "\"level\":\"{}\",\"message\":{{\"text\":",
-        rule.level()
-    )?;
+    write!(out, "\"level\":\"{level}\",\"message\":{{\"text\":")?;
     json::write(alloc, out, &message)?;
     write!(
         out,

@@ -1,9 +1,10 @@
 //! One match, in each form of a report.
 
 use lossless_tree::TextRange;
+use rule_plan::Severity;
 use rust_print::forms::{Asked, Form};
 use rust_print::json;
-use rust_print::sarif::{Region, Rule, write_result};
+use rust_print::sarif::{Region, Rule, write_leveled};
 use rust_print::shown::{cut, name, write_place};
 use rust_print::source::{Source, move_to, spot};
 use rust_report::{Escaped, Medium, Spot, Spots, short_of};
@@ -24,6 +25,7 @@ struct MatchRecord<'a> {
     rule: u64,
     name: &'a str,
     message: &'a str,
+    severity: &'static str,
     text: &'a str,
     cut: bool,
 }
@@ -39,6 +41,7 @@ struct ChangeRecord<'a> {
     rule: u64,
     name: &'a str,
     message: &'a str,
+    severity: &'static str,
     text: &'a str,
     cut: bool,
     new: &'a str,
@@ -61,6 +64,18 @@ pub(crate) struct Place<'a> {
     /// The rule's name and message, each empty if there is none.
     pub(crate) name: &'a str,
     pub(crate) message: &'a str,
+    /// How severe it is, if the rule says so.
+    pub(crate) severity: Option<Severity>,
+}
+
+impl Place<'_> {
+    // How severe it is: a warning if the rule does not say.
+    fn severity(&self) -> Severity {
+        match self.severity {
+            Some(severity) => severity,
+            None => Severity::Warning,
+        }
+    }
 }
 
 // What is said of a match on one line: the rule's name and message, the match, and what replaces it.
@@ -102,6 +117,7 @@ fn write_match<W: Write>(
         rule: place.rule,
         name: place.name,
         message: place.message,
+        severity: place.severity().name(),
         text,
         cut,
     };
@@ -126,6 +142,7 @@ fn write_change<W: Write>(
         rule: place.rule,
         name: place.name,
         message: place.message,
+        severity: place.severity().name(),
         text,
         cut: is_cut,
         new,
@@ -157,7 +174,7 @@ fn write_github<W: Write>(
         text: said.as_str(),
         medium: Medium::Message,
     };
-    write!(out, "::warning file={file},")?;
+    write!(out, "::{} file={file},", place.severity().command())?;
     write!(out, "line={},col={},", from.line, from.column)?;
     write!(out, "endLine={},endColumn={}", to.line, to.column)?;
     writeln!(out, "::{message}")
@@ -171,11 +188,12 @@ fn write_sarif<W: Write>(
     is_first: bool,
 ) -> io::Result<()> {
     let said = format!(in alloc; "{}", Said { place })?;
-    write_result(
+    write_leveled(
         alloc,
         out,
         is_first,
         Rule::Match,
+        place.severity().level(),
         said.as_str(),
         place.source.name,
         at,
@@ -196,6 +214,9 @@ pub(crate) fn write_one<W: Write>(
     match asked.format {
         Form::Text => {
             write_place(out, place.source, from, asked.style)?;
+            if let Some(severity) = place.severity {
+                write!(out, "{}: ", severity.name())?;
+            }
             writeln!(out, "{}", Said { place })
         }
         Form::Json => write_json(alloc, out, place, from),

@@ -18,7 +18,7 @@ use std::io;
 use std::io::Write;
 
 // A match of a text.
-fn place_of<'a>(
+pub(crate) fn place_of<'a>(
     source: Source<'a>,
     set: &'a RuleSet,
     found: &Match,
@@ -32,9 +32,10 @@ fn place_of<'a>(
         range: found.range,
         text: source.text.get(start..end).unwrap_or(""),
         new,
-        rule: (found.rule as u64).saturating_add(1),
+        rule: set.number(found.rule),
         name,
         message,
+        severity: set.severity(found.rule),
     }
 }
 

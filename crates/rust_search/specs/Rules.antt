@@ -1,5 +1,5 @@
 -- Sets of rules, and why a text has none.
-use Rattle.std.specs.Prelude.{◌≡◌, ℕ, suc, ◌+◌, ◌<◌, ◌≤◌, ◌^◌, ⊤, List, [], ◌∷◌, length, if◌then◌else◌, Option, Some, None, string_bytes}
+use Rattle.std.specs.Prelude.{◌≡◌, ℕ, suc, ◌+◌, ◌<◌, ◌≤◌, ◌^◌, ⊤, List, [], ◌∷◌, length, if◌then◌else◌, Option, Some, None, string_bytes, Bool, true, false}
 use Rattle.std.specs.Str.{IsCharBoundary}
 use Rattle.rust_report.specs.declared.place.Spot.{Spot}
 use Rattle.rust_report.specs.Spots.{IsSpot}
@@ -7,6 +7,10 @@ use Rattle.tree_match.specs.declared.rule.Rule.{Rule}
 use Rattle.rust_rewrite.specs.declared.error.RuleError.{RuleError}
 use Rattle.rust_rewrite.specs.declared.error.RuleFault.{RuleFault}
 use Rattle.rust_rewrite.specs.Rules.{IsPatternFault, IsRuleFault, is_bare}
+use Rattle.gitignore.specs.declared.line.Rule.{Rule as Glob}
+use Rattle.gitignore.specs.Globs.{chooses}
+use Rattle.rule_plan.specs.declared.severity.Severity.{Severity}
+use Rattle.rule_plan.specs.Severities.{severity_named}
 use Rattle.rust_search.specs.declared.rules.Note.{Note}
 use Rattle.rust_search.specs.declared.rules.RulesError.{RulesError}
 use Rattle.rust_search.specs.declared.rules.RulesError.TheVariants as error
@@ -68,3 +72,31 @@ IsBareTold _ _ = ⊥
 abbrev pub note_at : Option Note → List ℕ × List ℕ
 note_at None = ([], [])
 note_at (Some n) = (string_bytes n.name, string_bytes n.message)
+
+-- how severe a match of a rule is, if that is said
+abbrev pub severity_at : Option Note → Option Severity
+severity_at None = None
+severity_at (Some n) = n.severity
+
+-- a severity is that of its name
+abbrev pub IsSeverityBy : List ℕ → Severity → Type 0
+IsSeverityBy name s = severity_named name ≡ Some s
+
+-- ---- the files that a rule is for
+
+abbrev pub is_empty : List Glob → Bool
+is_empty [] = true
+is_empty (g ∷ gs) = false
+
+-- a rule is for all files: it has no globs
+abbrev pub is_for_all : Note → Bool
+is_for_all n = is_empty n.files.items
+
+-- a rule is for the file with a path: its globs choose it
+abbrev pub is_for : Note → List ℕ → Bool
+is_for n path = chooses n.files.items path
+
+-- the numbers of the rules that are for a file; the first has this number
+abbrev pub numbers_for : ℕ → List ℕ → List Note → List ℕ
+numbers_for n path [] = []
+numbers_for n path (r ∷ rs) = if is_for r path then n ∷ numbers_for (suc n) path rs else numbers_for (suc n) path rs

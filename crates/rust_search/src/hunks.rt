@@ -56,6 +56,21 @@ fn push_change(hunk: &mut Hunk, text: &str, indel: &Indel) -> Result<(), AllocEr
     Ok(())
 }
 
+/// The whole lines that a replacement changes, and what they become by it alone.
+pub fn lines_by<'a>(
+    alloc: Global,
+    text: &'a str,
+    indel: &Indel,
+) -> Result<(&'a str, String), AllocError> {
+    let start = line_start(text, starts_at(indel));
+    let end = line_end(text, ends_at(indel));
+    let mut new = String::new(alloc);
+    push_old(&mut new, text, start, starts_at(indel))?;
+    new.push_str(indel.inserted())?;
+    push_old(&mut new, text, ends_at(indel), end)?;
+    Ok((text.get(start..end).unwrap_or(""), new))
+}
+
 // The hunks: a run of changed lines each.
 fn hunks_of(alloc: Global, text: &str, edit: &TextEdit) -> Result<Vec<Hunk>, AllocError> {
     let mut hunks: Vec<Hunk> = Vec::new(alloc);

@@ -3,11 +3,13 @@
 ghost use Rattle.std.specs.Prelude.{◌≡◌, ◌≢◌, ◌<◌, [], None, IfOk, IfErr, IfSome, OnOk, IsTrue, length, option_map, slice_get};
 ghost use Rattle.rust_search.specs.declared.rules.RulesError.TheVariants.{Memory};
 ghost use Rattle.rust_rewrite.specs.Rules.{HasArrow, HasOne, rule_lines, is_bare};
-ghost use Rattle.rust_search.specs.Rules.{IsPlaceOf, IsToldOf, IsNumberedOf, IsPatternRefused, IsRuleRefused, IsLineRefused, first_bare, IsBareTold, note_at};
+ghost use Rattle.rust_search.specs.Rules.{IsPlaceOf, IsToldOf, IsNumberedOf, IsPatternRefused, IsRuleRefused, IsLineRefused, first_bare, IsBareTold, note_at, severity_at};
 
 use crate::toml_rules;
+use gitignore::Rule as Glob;
 use line_index::LineIndex;
 use ras_front_end::Edition;
+use rule_plan::Severity;
 use rust_front::Rust;
 use rust_report::{Spot, Spots};
 use rust_rewrite::{RuleError, RuleFault, parse_pattern, parse_rule, parse_rules};
@@ -16,13 +18,23 @@ use std::fmt;
 use text_size::TextSize;
 use tree_match::Rule;
 
-/// What a file of rules says of one of them. Each text is empty if the file has none.
+/// A rule as a file of rules has it. Each text is empty if the file has none.
 #[derive(Drop)]
 pub struct Note {
+    /// The number of the rule in the file, from 1.
+    pub number: u64,
     /// The name of the rule.
     pub name: String,
     /// What is said where it matches.
     pub message: String,
+    /// How severe a match is, if the file says so.
+    pub severity: Option<Severity>,
+    /// The globs of the files that it is for; none if it is for all.
+    pub files: Vec<Glob>,
+    /// Its pattern.
+    pub pattern: String,
+    /// Its template.
+    pub template: String,
 }
 
 /// Rules that are searched for together. At one place the first that matches counts.
@@ -50,10 +62,12 @@ pub enum RulesError {
     },
     /// A file is no TOML: what its parser says.
     Toml(String),
-    /// A table of a file has not this text, or something else by its name.
-    Lacks {
+    /// At this place of a file a rule has something else than this under a key.
+    Wrong {
+        at: Spot,
         number: u64,
         key: &'static str,
+        expected: &'static str,
     },
     /// There is no rule.
     Empty,
@@ -94,9 +108,12 @@ impl fmt::Display for RulesError {
                 write_fault(f, fault)
             }
             RulesError::Toml(message) => f.write_str(message.as_str()),
-            RulesError::Lacks { number, key } => {
-                write!(f, "rule {number}: expected a text `{key} = \"..\"`")
-            }
+            RulesError::Wrong {
+                at,
+                number,
+                key,
+                expected,
+            } => write!(f, "{at}: rule {number}: {key}: expected {expected}"),
             RulesError::Empty => f.write_str("expected a rule"),
             RulesError::NoTemplate(number) => {
                 write!(f, "rule {number}: expected `==>>` and a template")
@@ -108,7 +125,7 @@ impl fmt::Display for RulesError {
 
 // The line and the column of an offset of a text; those of its start if no character starts there.
 #[tactic(auto, using(crate::proofs::RuleLemmas::spot_there, crate::proofs::RuleLemmas::no_spot, crate::proofs::RuleLemmas::too_long, crate::proofs::RuleLemmas::past_end))]
-fn place_of(alloc: Global, text: &str, offset: usize) -> Result<Spot, AllocError>
+pub(crate) fn place_of(alloc: Global, text: &str, offset: usize) -> Result<Spot, AllocError>
     ensures { IfOk result (IsPlaceOf text.now offset) }
 {
     let start = Spot { line: 1, column: 1 };
@@ -293,6 +310,16 @@ fn noted(notes: &[Note], number: usize) -> Option<&Note>
     notes.get(number)
 }
 
+// The severity of the rule with a number, if the file says one.
+fn severity_at(notes: &[Note], number: usize) -> Option<Severity>
+    ensures { result ≡ severity_at (slice_get notes.now number) }
+{
+    match noted(notes, number) {
+        Some(note) => note.severity,
+        None => None,
+    }
+}
+
 impl RuleSet {
     /// What is said of a rule: its name and its message, each empty if there is none.
     pub fn note(&self, number: usize) -> (&str, &str)
@@ -301,6 +328,21 @@ impl RuleSet {
         match noted(&self.notes, number) {
             Some(note) => (note.name.as_str(), note.message.as_str()),
             None => ("", ""),
+        }
+    }
+
+    /// How severe a match of a rule is; `None` if nothing is said of it.
+    pub fn severity(&self, number: usize) -> Option<Severity>
+        ensures { result ≡ severity_at (slice_get self.now.notes.items number) }
+    {
+        severity_at(&self.notes, number)
+    }
+
+    /// The number of a rule in its file, from 1.
+    pub fn number(&self, number: usize) -> u64 {
+        match noted(&self.notes, number) {
+            Some(note) => note.number,
+            None => (number as u64).saturating_add(1),
         }
     }
 }

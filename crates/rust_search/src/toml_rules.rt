@@ -1,28 +1,129 @@
-//! Rules of a TOML file: tables `[[rule]]` with the texts `pattern`, `template`, `name` and `message`, of which only the first must be there.
+//! Rules of a TOML file: tables `[[rule]]` with the texts `pattern`, `template`, `name`, `message` and `severity`, of which only the first must be there, and `files`, a glob or a list of globs.
 
 ghost use Rattle.std.specs.Prelude.{◌≡◌, IfOk, OnOk, length};
+ghost use Rattle.rust_search.specs.Rules.{IsSeverityBy};
 
-use crate::rules::{Note, RuleSet, RulesError, numbered};
+use crate::rules::{Note, RuleSet, RulesError, numbered, place_of};
+use crate::toml_place::value_at;
+use gitignore::{Rule as Glob, rule_of};
 use ras_front_end::Edition;
+use rule_plan::Severity;
 use rust_front::Rust;
 use rust_rewrite::{parse_pattern, parse_rule};
 use std::alloc::{AllocError, Global};
 use toml::Value;
 use tree_match::Rule;
 
+// What a value is to be.
+const TEXT: &str = "a text";
+
+const SEVERITY: &str = "\"error\", \"warning\", \"note\" or \"help\"";
+
+const GLOBS: &str = "a glob or a list of globs";
+
+// Why a table is refused: under this key it has not what is expected.
+#[derive(Clone, Copy)]
+struct Fault {
+    key: &'static str,
+    expected: &'static str,
+}
+
+// Why a table has no rule.
+#[derive(Drop)]
+enum Trouble {
+    // The value of a key.
+    Value(Fault),
+    // The rule itself, or memory.
+    Rule(RulesError),
+}
+
+impl From<AllocError> for Trouble {
+    fn from(_error: AllocError) -> Trouble {
+        Trouble::Rule(RulesError::Memory)
+    }
+}
+
 // The text of a key; empty if there is none.
-fn text_of<'a>(table: &'a Value, key: &'static str, number: u64) -> Result<&'a str, RulesError> {
+fn text_of<'a>(table: &'a Value, key: &'static str) -> Result<&'a str, Trouble> {
     match table.get(key) {
         None => Ok(""),
         Some(value) => match value.as_str() {
             Some(text) => Ok(text),
-            None => Err(RulesError::Lacks { number, key }),
+            None => Err(Trouble::Value(Fault {
+                key,
+                expected: TEXT,
+            })),
         },
     }
 }
 
+// The severity of a name.
+fn named(name: &str) -> Result<Severity, Trouble>
+    ensures { IfOk result (IsSeverityBy name.now) }
+{
+    match Severity::named(name) {
+        Some(severity) => Ok(severity),
+        None => Err(Trouble::Value(Fault {
+            key: "severity",
+            expected: SEVERITY,
+        })),
+    }
+}
+
+// The severity of a table, if it says one.
+fn severity_of(table: &Value) -> Result<Option<Severity>, Trouble> {
+    match table.get("severity") {
+        None => Ok(None),
+        Some(value) => Ok(Some(named(value.as_str().unwrap_or(""))?)),
+    }
+}
+
+fn not_globs() -> Trouble {
+    Trouble::Value(Fault {
+        key: "files",
+        expected: GLOBS,
+    })
+}
+
+// Adds the glob of a value. One that names nothing, as a comment or an open bracket, is none.
+fn push_glob(alloc: Global, globs: &mut Vec<Glob>, value: &Value) -> Result<(), Trouble> {
+    let Some(text) = value.as_str() else {
+        return Err(not_globs());
+    };
+    let glob = rule_of(alloc, text.as_bytes())?;
+    match &glob.glob {
+        Some(pieces) if !pieces.is_empty() => {}
+        _ => return Err(not_globs()),
+    }
+    globs.push(glob).map_err(AllocError::from)?;
+    Ok(())
+}
+
+// The globs of a table; none if it is for all files.
+fn files_of(alloc: Global, table: &Value) -> Result<Vec<Glob>, Trouble> {
+    let mut globs = Vec::new(alloc);
+    match table.get("files") {
+        None => return Ok(globs),
+        Some(Value::Array(values)) => {
+            for value in values {
+                push_glob(alloc, &mut globs, value)?;
+            }
+        }
+        Some(value) => push_glob(alloc, &mut globs, value)?,
+    }
+    if globs.is_empty() {
+        return Err(not_globs());
+    }
+    Ok(globs)
+}
+
 // The rule of a pattern and a template; of the pattern alone if the template is empty.
-fn rule_by(alloc: Global, pattern: &str, template: &str, number: u64) -> Result<Rule, RulesError> {
+pub(crate) fn rule_by(
+    alloc: Global,
+    pattern: &str,
+    template: &str,
+    number: u64,
+) -> Result<Rule, RulesError> {
     if template.is_empty() {
         return match parse_pattern(alloc, &Rust, Edition::CURRENT, pattern) {
             Ok(rule) => Ok(rule),
@@ -36,28 +137,72 @@ fn rule_by(alloc: Global, pattern: &str, template: &str, number: u64) -> Result<
     }
 }
 
-// Adds the rule of a table.
-fn push_rule(alloc: Global, set: &mut RuleSet, table: &Value, number: u64) -> Result<(), RulesError>
+// What a table says of its rule.
+fn note_of(alloc: Global, table: &Value, number: u64) -> Result<Note, Trouble> {
+    let pattern = text_of(table, "pattern")?;
+    if pattern.is_empty() {
+        return Err(Trouble::Value(Fault {
+            key: "pattern",
+            expected: TEXT,
+        }));
+    }
+    Ok(Note {
+        number,
+        name: String::from_str(alloc, text_of(table, "name")?)?,
+        message: String::from_str(alloc, text_of(table, "message")?)?,
+        severity: severity_of(table)?,
+        files: files_of(alloc, table)?,
+        pattern: String::from_str(alloc, pattern)?,
+        template: String::from_str(alloc, text_of(table, "template")?)?,
+    })
+}
+
+// A note with its rule.
+fn noted_rule(alloc: Global, table: &Value, number: u64) -> Result<(Note, Rule), Trouble> {
+    let note = note_of(alloc, table, number)?;
+    match rule_by(alloc, note.pattern.as_str(), note.template.as_str(), number) {
+        Ok(rule) => Ok((note, rule)),
+        Err(error) => Err(Trouble::Rule(error)),
+    }
+}
+
+// Adds a rule and what is said of it.
+pub(crate) fn push_noted(set: &mut RuleSet, note: Note, rule: Rule) -> Result<(), AllocError>
     requires { length set.old.notes.items ≡ length set.old.rules.items }
     ensures { OnOk result (length set.new.notes.items ≡ length set.new.rules.items) }
 {
-    let pattern = text_of(table, "pattern", number)?;
-    if pattern.is_empty() {
-        return Err(RulesError::Lacks {
-            number,
-            key: "pattern",
-        });
-    }
-    let template = text_of(table, "template", number)?;
-    let name = String::from_str(alloc, text_of(table, "name", number)?)?;
-    let message = String::from_str(alloc, text_of(table, "message", number)?)?;
-    set.rules
-        .push(rule_by(alloc, pattern, template, number)?)
-        .map_err(AllocError::from)?;
-    set.notes
-        .push(Note { name, message })
-        .map_err(AllocError::from)?;
+    set.rules.push(rule)?;
+    set.notes.push(note)?;
     Ok(())
+}
+
+// Adds the rule of a table.
+fn push_rule(alloc: Global, set: &mut RuleSet, table: &Value, number: u64) -> Result<(), Trouble>
+    requires { length set.old.notes.items ≡ length set.old.rules.items }
+    ensures { OnOk result (length set.new.notes.items ≡ length set.new.rules.items) }
+{
+    let (note, rule) = noted_rule(alloc, table, number)?;
+    push_noted(set, note, rule)?;
+    Ok(())
+}
+
+// The refusal of the rule with a number, at its place in the file.
+fn refused(alloc: Global, text: &str, number: u64, trouble: Trouble) -> RulesError {
+    match trouble {
+        Trouble::Rule(error) => error,
+        Trouble::Value(Fault { key, expected }) => {
+            let offset = value_at(alloc, text, number, key).unwrap_or(0);
+            match place_of(alloc, text, offset) {
+                Ok(at) => RulesError::Wrong {
+                    at,
+                    number,
+                    key,
+                    expected,
+                },
+                Err(_) => RulesError::Memory,
+            }
+        }
+    }
 }
 
 // What the parser says of a text, on one line.
@@ -94,7 +239,9 @@ pub(crate) fn read(alloc: Global, text: &str) -> Result<RuleSet, RulesError>
     };
     let mut number = 1u64;
     for table in tables {
-        push_rule(alloc, &mut set, table, number)?;
+        if let Err(trouble) = push_rule(alloc, &mut set, table, number) {
+            return Err(refused(alloc, text, number, trouble));
+        }
         number = number.saturating_add(1);
     }
     Ok(set)

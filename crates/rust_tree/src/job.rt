@@ -1,12 +1,13 @@
 //! The commands on files, and their run over all files.
 
+use crate::ask::ask;
 use crate::editions::Manifests;
 use crate::failure::{status_of, tell};
 use crate::fix;
 use crate::fix::Done;
 use crate::inputs::{Read, files_below, is_folder, text_of};
 use crate::session::{Noun, Session, UNREAD};
-use ras_front_end::Edition;
+use ras_front_end::{Edition, ParseError};
 use rust_cli::options::{Choice, Globs, Options, Summary};
 use rust_cli::task::{Task, Then};
 use rust_draw::{highlight, tree};
@@ -21,7 +22,7 @@ use rust_print::{outline, parens, tokens};
 use rust_query::show as query;
 use rust_rewrite::Rewritten;
 use rust_rules as rules;
-use rust_search::RuleSet;
+use rust_search::{Chosen, RuleSet, path_in};
 use std::io::Write;
 use std::time::Instant;
 use std::{fs, io};
@@ -46,6 +47,16 @@ struct Progress {
     manifests: Manifests,
     // If the command line names several files or folders: a file may be among them twice.
     read: Option<Read>,
+    kept: Kept,
+}
+
+// What a run with rules keeps from file to file.
+#[derive(Drop)]
+struct Kept {
+    // The rules for the file that is read.
+    chosen: Chosen,
+    // Whether somebody who was asked ended the run.
+    is_over: bool,
 }
 
 impl Progress {
@@ -57,6 +68,10 @@ impl Progress {
                 Some(Read::new(rt.alloc()))
             } else {
                 None
+            },
+            kept: Kept {
+                chosen: Chosen::new(rt.alloc()),
+                is_over: false,
             },
         }
     }
@@ -128,7 +143,7 @@ fn write_pairs<W: Write>(
                 fix::diff(rt, out, source, new)?;
             }
         }
-        Then::Fix => {
+        Then::Fix | Then::Ask => {
             let done = Done {
                 count: pairs.len(),
                 noun: PAIRS,
@@ -160,7 +175,7 @@ fn write_unchanged<W: Write>(
     then: Then,
 ) -> Result<(), Failure> {
     match then {
-        Then::List | Then::Diff => Ok(()),
+        Then::List | Then::Diff | Then::Ask => Ok(()),
         Then::Fix => {
             let done = Done {
                 count: 0,
@@ -172,6 +187,41 @@ fn write_unchanged<W: Write>(
     }
 }
 
+// Whether a file still has this text.
+fn is_unchanged(rt: &HostRuntime, source: Source<'_>) -> bool {
+    match text_of(rt, source.name) {
+        Ok(text) => text.as_str() == source.text,
+        Err(_) => false,
+    }
+}
+
+// Asks for each replacement of a text, and replaces those that are taken in its file.
+fn ask_and_fix<W: Write>(
+    rt: &HostRuntime,
+    out: &mut W,
+    source: Source<'_>,
+    set: &RuleSet,
+    done: &Rewritten,
+    asked: Asked,
+    is_over: &mut bool,
+) -> Result<(), Failure> {
+    let marks = ask(rt, out, source, set, done, asked, is_over)?;
+    let count = marks.iter().filter(|mark| **mark).count();
+    if count == 0 {
+        return Ok(());
+    }
+    let taken = rules::with_taken(rt.alloc(), source, done, marks.as_slice(), asked)?;
+    if !is_unchanged(rt, source) {
+        return Err(Failure::Kept("it was changed meanwhile"));
+    }
+    let told = Done {
+        count,
+        noun: MATCHES,
+        verb: "replaced",
+    };
+    fix_file(rt, out, source, taken.text.as_str(), told)
+}
+
 // Writes what is done with the matches of a text.
 fn write_rewritten<W: Write>(
     rt: &HostRuntime,
@@ -181,8 +231,10 @@ fn write_rewritten<W: Write>(
     done: &Rewritten,
     asked: Asked,
     then: Then,
+    is_over: &mut bool,
 ) -> Result<(), Failure> {
     match then {
+        Then::Ask => ask_and_fix(rt, out, source, set, done, asked, is_over),
         Then::List => rules::list(rt.alloc(), out, source, set, done, asked),
         Then::Diff => fix::diff_of(rt, out, source, &done.edit),
         Then::Fix => {
@@ -196,6 +248,33 @@ fn write_rewritten<W: Write>(
     }
 }
 
+// The rules for a file.
+fn rules_for<'a>(
+    rt: &HostRuntime,
+    chosen: &'a mut Chosen,
+    set: &'a RuleSet,
+    source: Source<'_>,
+) -> Result<&'a RuleSet, Failure> {
+    let path = path_in(source.name, source.folder);
+    match chosen.rules_for(rt.alloc(), set, path) {
+        Ok(set) => Ok(set),
+        Err(_) => Err(Failure::Text(ParseError::Memory)),
+    }
+}
+
+// Lists the matches of rules in a text. Returns their number.
+fn search<W: Write>(
+    rt: &HostRuntime,
+    out: &mut W,
+    source: Source<'_>,
+    set: &RuleSet,
+    asked: Asked,
+    kept: &mut Kept,
+) -> Result<u64, Failure> {
+    let set = rules_for(rt, &mut kept.chosen, set, source)?;
+    rules::search(rt.alloc(), out, source, set, asked)
+}
+
 // Lists or replaces the matches of rules in a text. Returns the number of those that are in no other match.
 fn rewrite<W: Write>(
     rt: &HostRuntime,
@@ -204,14 +283,16 @@ fn rewrite<W: Write>(
     set: &RuleSet,
     asked: Asked,
     then: Then,
+    kept: &mut Kept,
 ) -> Result<u64, Failure> {
+    let set = rules_for(rt, &mut kept.chosen, set, source)?;
     match rules::rewritten(rt.alloc(), source, set, asked)? {
         None => {
             write_unchanged(rt, out, source, then)?;
             Ok(0)
         }
         Some(done) => {
-            write_rewritten(rt, out, source, set, &done, asked, then)?;
+            write_rewritten(rt, out, source, set, &done, asked, then, &mut kept.is_over)?;
             Ok(done.edit.len() as u64)
         }
     }
@@ -285,6 +366,7 @@ impl Job {
         out: &mut W,
         source: Source<'_>,
         asked: Asked,
+        kept: &mut Kept,
     ) -> Result<u64, Failure> {
         let alloc = rt.alloc();
         match &self.task {
@@ -295,8 +377,8 @@ impl Job {
             Task::Highlight { ink } => highlight::show(alloc, out, source, asked.reading, *ink),
             Task::Tokens => tokens::show(alloc, out, source, asked),
             Task::Query { pattern } => query::show(alloc, out, source, pattern, asked),
-            Task::Search { set } => rules::search(alloc, out, source, set, asked),
-            Task::Rewrite { set, then } => rewrite(rt, out, source, set, asked, *then),
+            Task::Search { set } => search(rt, out, source, set, asked, kept),
+            Task::Rewrite { set, then } => rewrite(rt, out, source, set, asked, *then, kept),
         }
     }
 
@@ -308,13 +390,14 @@ impl Job {
         source: Source<'_>,
         edition: Edition,
         session: &mut Session,
+        kept: &mut Kept,
     ) -> io::Result<()> {
         let mut asked = self.options.asked;
         asked.reading.edition = edition;
         asked.is_first = session.found == 0;
         let reported = match self.options.summary {
-            Summary::Whole => self.report(rt, out, source, asked),
-            _ => self.report(rt, &mut io::sink(), source, asked),
+            Summary::Whole => self.report(rt, out, source, asked, kept),
+            _ => self.report(rt, &mut io::sink(), source, asked, kept),
         };
         match reported {
             Ok(found) => {
@@ -340,7 +423,7 @@ impl Job {
         folder: Option<&str>,
         progress: &mut Progress,
     ) -> io::Result<()> {
-        if progress.was_read(rt, path)? {
+        if progress.kept.is_over || progress.was_read(rt, path)? {
             return Ok(());
         }
         let link = link_of(rt, &self.links, path)?;
@@ -353,7 +436,8 @@ impl Job {
                     text: text.as_str(),
                 };
                 let edition = progress.manifests.edition_of(rt, path)?;
-                self.reported(rt, out, source, edition, &mut progress.session)
+                let Progress { session, kept, .. } = progress;
+                self.reported(rt, out, source, edition, session, kept)
             }
             Err(error) => {
                 progress.session.fail(UNREAD);
@@ -397,7 +481,7 @@ impl Job {
         match &self.task {
             Task::Parens { then: Then::Fix } => session.failed,
             Task::Rewrite {
-                then: Then::Fix,
+                then: Then::Fix | Then::Ask,
                 ..
             } => session.failed,
             _ => session.status(),

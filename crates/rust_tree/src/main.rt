@@ -1,6 +1,7 @@
 //! The program `rust_tree`: parses Rust files and prints errors, items, tokens, trees and differences.
 #![tactic(auto)]
 
+mod ask;
 mod editions;
 mod failure;
 mod fix;
@@ -16,7 +17,7 @@ use inputs::{is_folder, text_of};
 use job::Job;
 use rust_cli::manual::{write_completions, write_manual};
 use rust_cli::options::{Options, edition, globs_of, is_page, limit, reading};
-use rust_cli::task::{Refusal, Task, files_of, task_of, task_of_rules};
+use rust_cli::task::{Refusal, Task, Then, files_of, task_of, task_of_rules};
 use rust_cli::verbs;
 use rust_draw::sides;
 use rust_print::differ;
@@ -87,8 +88,29 @@ fn has_several(rt: &HostRuntime, command: &str, matches: &ArgMatches) -> bool {
     }
 }
 
+// Whether a task asks, and there is nobody who answers: standard input or output is no terminal, or standard input is a file to be read.
+fn lacks_answers(rt: &HostRuntime, task: &Task, names: &[&str]) -> bool {
+    match task {
+        Task::Rewrite {
+            then: Then::Ask,
+            ..
+        } => {
+            !rt.stdin().is_terminal()
+                || !rt.stdout().is_terminal()
+                || names.iter().any(|name| *name == "-")
+        }
+        _ => false,
+    }
+}
+
 // Runs a task on files. Returns the exit status.
 fn run_task(rt: &HostRuntime, task: Task, command: &str, matches: &ArgMatches) -> io::Result<u8> {
+    if lacks_answers(rt, &task, files_of(command, matches)) {
+        eprintln!(rt;
+            "rust_tree: --interactive asks on a terminal: standard input and output must be one"
+        )?;
+        return Ok(USAGE);
+    }
     let options = Options::of(style_of(rt, matches), matches);
     let globs = globs_of(rt.alloc(), matches)?;
     let job = Job {

@@ -1,0 +1,3 @@
+pub mod Severities
+pub mod Answers
+pub mod Arguments

@@ -1,0 +1,60 @@
+//! What is shown of a replacement before it is taken.
+
+use crate::show::place_of;
+use rust_print::forms::Asked;
+use rust_print::shown::{name, write_place};
+use rust_print::source::{Source, move_to};
+use rust_report::{Spots, short_of};
+use rust_rewrite::{Match, Rewritten};
+use rust_search::{RuleSet, lines_by};
+use std::alloc::{AllocError, Global};
+use std::io;
+use std::io::Write;
+use text_edit::Indel;
+
+/// The numbers of the matches that are in no other match: what replaces each is the replacement with its place among these.
+pub fn outer_matches(alloc: Global, done: &Rewritten) -> Result<Vec<usize>, AllocError> {
+    let mut numbers = Vec::new(alloc);
+    let mut end = 0usize;
+    for (number, found) in done.matches.iter().enumerate() {
+        if end <= found.range.start().raw() as usize {
+            numbers.push(number)?;
+            end = found.range.end().raw() as usize;
+        }
+    }
+    Ok(numbers)
+}
+
+// Writes lines with a sign before each. Control characters in them are symbols, and of a long line only the front is written.
+fn write_signed<W: Write>(out: &mut W, sign: &str, text: &str) -> io::Result<()> {
+    for line in text.trim_end_matches('\n').split('\n') {
+        writeln!(out, "{sign}{}", short_of(line.trim_end_matches('\r')))?;
+    }
+    Ok(())
+}
+
+/// Writes the place of a replacement, and its lines before and after it.
+pub fn write_question<W: Write>(
+    alloc: Global,
+    out: &mut W,
+    spots: &mut Spots<'_>,
+    source: Source<'_>,
+    set: &RuleSet,
+    found: &Match,
+    indel: &Indel,
+    asked: Asked,
+) -> io::Result<()> {
+    let place = place_of(source, set, found, None);
+    let at = move_to(spots, place.range.start());
+    write_place(out, source, at, asked.style)?;
+    if let Some(severity) = place.severity {
+        write!(out, "{}: ", severity.name())?;
+    }
+    if !place.name.is_empty() {
+        write!(out, "{}: ", name(place.name))?;
+    }
+    writeln!(out, "{}", name(place.message))?;
+    let (old, new) = lines_by(alloc, source.text, indel)?;
+    write_signed(out, "-", old)?;
+    write_signed(out, "+", new.as_str())
+}
