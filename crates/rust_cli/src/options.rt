@@ -234,9 +234,23 @@ fn part_of(matches: &ArgMatches) -> Option<Part> {
     }
 }
 
+// The address that an option gives.
+fn address_of(alloc: Global, matches: &ArgMatches) -> Result<Option<String>, AllocError> {
+    match matches.get_str("grammar") {
+        Some(text) => Ok(Some(String::from_str(alloc, text)?)),
+        None => Ok(None),
+    }
+}
+
 /// What is shown of the tree of one file, or of several, and how. Returns `None` if a place or a range is invalid.
-pub fn showing(matches: &ArgMatches, has_several: bool) -> Option<Showing> {
-    let part = part_of(matches)?;
+pub fn showing(
+    alloc: Global,
+    matches: &ArgMatches,
+    has_several: bool,
+) -> Result<Option<Showing>, AllocError> {
+    let Some(part) = part_of(matches) else {
+        return Ok(None);
+    };
     let drawing = match matches.get_str("format") {
         Some("json") => Drawing::Json,
         Some("sexp") => Drawing::Sexp,
@@ -247,7 +261,7 @@ pub fn showing(matches: &ArgMatches, has_several: bool) -> Option<Showing> {
         Some(depth) => depth as usize,
         None => usize::MAX,
     };
-    Some(Showing {
+    Ok(Some(Showing {
         drawing,
         part,
         trivia: !matches.get_flag("no-trivia"),
@@ -256,5 +270,6 @@ pub fn showing(matches: &ArgMatches, has_several: bool) -> Option<Showing> {
         ancestors: matches.get_flag("ancestors"),
         // An object of JSON has the name of its file.
         named: has_several && !matches!(drawing, Drawing::Json),
-    })
+        grammar: address_of(alloc, matches)?,
+    }))
 }

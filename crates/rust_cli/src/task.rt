@@ -6,7 +6,7 @@ use rust_draw::highlight::Ink;
 use rust_draw::tree::{Drawing, Showing};
 use rust_query::{Pattern, QueryError, parse_pattern};
 use rust_search::{RuleSet, RulesError, one_pattern, one_rule, rules_of};
-use std::alloc::Global;
+use std::alloc::{AllocError, Global};
 use std::fmt;
 
 /// A command with its options.
@@ -62,6 +62,14 @@ pub enum Refusal {
     Rules(String, RulesError),
     /// A command has a rule and no file.
     NoFile,
+    /// Out of memory.
+    Memory,
+}
+
+impl From<AllocError> for Refusal {
+    fn from(_error: AllocError) -> Refusal {
+        Refusal::Memory
+    }
 }
 
 // Writes what is wrong with a file of rules, behind the name of the file.
@@ -86,12 +94,13 @@ impl fmt::Display for Refusal {
             Refusal::Rule(error) => write!(f, "the rule: {error}"),
             Refusal::Rules(path, error) => write_rules(f, path.as_str(), error),
             Refusal::NoFile => f.write_str("a file or a folder is missing behind the rule"),
+            Refusal::Memory => f.write_str("out of memory"),
         }
     }
 }
 
-fn tree_task(has_several: bool, matches: &ArgMatches) -> Result<Task, Refusal> {
-    let Some(showing) = showing(matches, has_several) else {
+fn tree_task(alloc: Global, has_several: bool, matches: &ArgMatches) -> Result<Task, Refusal> {
+    let Some(showing) = showing(alloc, matches, has_several)? else {
         return Err(Refusal::Place);
     };
     if has_several && matches!(showing.drawing, Drawing::Html) && !showing.stats {
@@ -214,7 +223,7 @@ pub fn task_of(
     matches: &ArgMatches,
 ) -> Result<Task, Refusal> {
     match name {
-        "tree" => tree_task(has_several, matches),
+        "tree" => tree_task(alloc, has_several, matches),
         "check" => Ok(Task::Check),
         "highlight" => highlight_task(has_several, matches),
         "outline" => Ok(Task::Outline),

@@ -268,6 +268,14 @@ const ANCESTORS: Row = Row {
     help: "Shows the nodes around the token of `--at` or the range of `--range`, outermost first",
 };
 
+const GRAMMAR: Row = Row {
+    name: "grammar",
+    takes: Takes::Text("URL"),
+    default: None,
+    conflicts: &["stats", "ancestors"],
+    help: "In a page, kinds link to their rules in the page that is at this URL",
+};
+
 const DEPTH: Row = Row {
     name: "depth",
     takes: Takes::Number,
@@ -390,6 +398,7 @@ static TREE_VERB: Verb = Verb {
         AT,
         RANGE,
         ANCESTORS,
+        GRAMMAR,
         DEPTH,
         NO_TRIVIA,
         STATS,

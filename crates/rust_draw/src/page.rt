@@ -142,5 +142,9 @@ pub fn show<W: Write>(
     out.write_all(b"</ol>\n<script type=\"text/plain\" id=\"rows\">\n")?;
     write_rows(alloc, out, root, showing)?;
     out.write_all(b"\n</script>\n")?;
+    if let Some(grammar) = &showing.grammar {
+        let grammar = in_html(grammar.as_str());
+        writeln!(out, "<a id=\"grammar\" href=\"{grammar}\" hidden></a>")?;
+    }
     write_script(out)
 }

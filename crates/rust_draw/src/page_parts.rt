@@ -18,6 +18,7 @@ header * { font: inherit }
 .seen div { height: 20px; white-space: pre; padding-right: 1em }
 #text i { display: inline-block; width: 5em; padding-right: 1em; text-align: right; color: #6e7781; font-style: normal; user-select: none }
 #tree div { cursor: default }
+#tree a { color: inherit }
 #tree i { color: #6e7781; font-style: normal }
 #tree b { color: #0a6b2d; font-weight: normal }
 .error, .bad, .gap { color: #cf222e }
@@ -132,6 +133,13 @@ const piece = (tag, text, name) => {
   if (name) made.className = name;
   return made;
 };
+const grammar = at('grammar');
+const kindOf = row => {
+  if (!grammar) return kinds[row];
+  const link = piece('a', kinds[row]);
+  link.href = `${grammar.href}#${kinds[row]}`;
+  return link;
+};
 let chosen = -1, shown = [];
 const folded = new Set();
 const text = new Pane('text', n => {
@@ -152,7 +160,7 @@ const tree = new Pane('tree', n => {
   const row = shown[n], line = document.createElement('div'), isToken = behind[row] === row + 1 && roles[row] !== undefined;
   line.dataset.row = row;
   line.style.paddingLeft = `${Math.min(depth[row], 64) + 0.5}em`;
-  line.append(isToken ? '  ' : folded.has(row) ? '\\u25b8 ' : '\\u25be ', kinds[row], piece('i', `@${first[row]}..${end[row]}`));
+  line.append(isToken ? '  ' : folded.has(row) ? '\\u25b8 ' : '\\u25be ', kindOf(row), piece('i', `@${first[row]}..${end[row]}`));
   if (isToken) line.append(' ', piece('b', JSON.stringify(source.slice(from[row], Math.min(to[row], from[row] + 200)))));
   if (row === chosen) line.classList.add('on');
   return line;
@@ -178,7 +186,7 @@ const rowOf = event => { const found = event.target.closest('[data-row]'); retur
 tree.pane.addEventListener('mousemove', event => choose(rowOf(event), text));
 text.pane.addEventListener('mousemove', event => choose(rowOf(event), tree));
 tree.pane.addEventListener('click', event => {
-  const row = rowOf(event);
+  const row = event.target.closest('a') ? -1 : rowOf(event);
   if (row < 0 || behind[row] === row + 1) return;
   if (!folded.delete(row)) folded.add(row);
   collect();

@@ -41,7 +41,7 @@ pub enum Part {
 }
 
 /// What is shown of a tree, and how.
-#[derive(Clone, Copy, Debug)]
+#[derive(Debug, Drop)]
 pub struct Showing {
     /// The form.
     pub drawing: Drawing,
@@ -57,6 +57,8 @@ pub struct Showing {
     pub ancestors: bool,
     /// Whether a line with the name of the file precedes the tree.
     pub named: bool,
+    /// Where a page with the rules of the grammar is, to which the kinds of a page link: `KIND` to its anchor `#KIND`.
+    pub grammar: Option<String>,
 }
 
 // The counts of a tree, also as an object of JSON.
