@@ -60,12 +60,12 @@ fn refused(rt: HostRuntime) -> Result<(), Fail> {
         ),
         (
             "let $x = $e ==>> let $x = f($e);",
-            "11: this is no statement: expected SEMICOLON",
+            "11: this is no statement: expected `;`",
         ),
         ("struct $a; ==>> struct $a {}", "accepted"),
         (
             "struct $a; ==>> struct $a { x }",
-            "28: this is no item: expected COLON",
+            "28: this is no item: expected `:`",
         ),
         ("Vec<$t> ==>> Box<[$t]>", "accepted"),
         ("f(${a) ==>> 1", "5: expected `:` and a condition, or `}`"),
