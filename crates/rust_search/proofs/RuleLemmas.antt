@@ -12,7 +12,7 @@ pub pattern_told : (s : List ℕ) (e : RuleError) (r : RulesError) → IsToldOf 
 pattern_told s e (error.Rule at f) t w h = record { offset = e.offset; within = w; place = t.0; fault = subst (IsPatternFault s) (sym t.1) h }
 pattern_told s e (error.Numbered n at f) t w h = absurd t
 pattern_told s e (error.Toml m) t w h = absurd t
-pattern_told s e (error.Lacks n k) t w h = absurd t
+pattern_told s e (error.Wrong at n k x) t w h = absurd t
 pattern_told s e error.Empty t w h = absurd t
 pattern_told s e (error.NoTemplate n) t w h = absurd t
 pattern_told s e error.Memory t w h = tt
@@ -21,7 +21,7 @@ pub rule_told : (s : List ℕ) (e : RuleError) (r : RulesError) → IsToldOf s e
 rule_told s e (error.Rule at f) t w h = record { offset = e.offset; within = w; place = t.0; fault = subst (IsRuleFault s) (sym t.1) h }
 rule_told s e (error.Numbered n at f) t w h = absurd t
 rule_told s e (error.Toml m) t w h = absurd t
-rule_told s e (error.Lacks n k) t w h = absurd t
+rule_told s e (error.Wrong at n k x) t w h = absurd t
 rule_told s e error.Empty t w h = absurd t
 rule_told s e (error.NoTemplate n) t w h = absurd t
 rule_told s e error.Memory t w h = tt
@@ -30,7 +30,7 @@ pub line_told : (s : List ℕ) (e : RuleError) (r : RulesError) → IsToldOf s e
 line_told s e (error.Rule at f) t w = record { offset = e.offset; within = w; place = t.0; fault = tt }
 line_told s e (error.Numbered n at f) t w = absurd t
 line_told s e (error.Toml m) t w = absurd t
-line_told s e (error.Lacks n k) t w = absurd t
+line_told s e (error.Wrong at n k x) t w = absurd t
 line_told s e error.Empty t w = absurd t
 line_told s e (error.NoTemplate n) t w = absurd t
 line_told s e error.Memory t w = tt
