@@ -65,7 +65,7 @@ fn refused(rt: HostRuntime) -> Result<(), Fail> {
         ("struct $a; ==>> struct $a {}", "accepted"),
         (
             "struct $a; ==>> struct $a { x }",
-            "28: this is no item: expected `:`",
+            "29: this is no item: expected `:`",
         ),
         ("Vec<$t> ==>> Box<[$t]>", "accepted"),
         ("f(${a) ==>> 1", "5: expected `:` and a condition, or `}`"),
