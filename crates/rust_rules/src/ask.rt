@@ -1,5 +1,6 @@
 //! What is shown of a replacement before it is taken.
 
+use crate::place::write_severity;
 use crate::show::place_of;
 use rust_print::forms::Asked;
 use rust_print::shown::{name, write_place};
@@ -34,12 +35,12 @@ fn write_signed<W: Write>(out: &mut W, sign: &str, text: &str) -> io::Result<()>
 }
 
 /// Writes the place of a replacement, and its lines before and after it.
-pub fn write_question<W: Write>(
+pub fn write_question<'a, W: Write>(
     alloc: Global,
     out: &mut W,
     spots: &mut Spots<'_>,
-    source: Source<'_>,
-    set: &RuleSet,
+    source: Source<'a>,
+    set: &'a RuleSet,
     found: &Match,
     indel: &Indel,
     asked: Asked,
@@ -47,9 +48,7 @@ pub fn write_question<W: Write>(
     let place = place_of(source, set, found, None);
     let at = move_to(spots, place.range.start());
     write_place(out, source, at, asked.style)?;
-    if let Some(severity) = place.severity {
-        write!(out, "{}: ", severity.name())?;
-    }
+    write_severity(out, place.severity)?;
     if !place.name.is_empty() {
         write!(out, "{}: ", name(place.name))?;
     }

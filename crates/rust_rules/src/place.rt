@@ -200,6 +200,14 @@ fn write_sarif<W: Write>(
     )
 }
 
+/// Writes how severe a match is, if its rule says so.
+pub(crate) fn write_severity<W: Write>(out: &mut W, severity: Option<Severity>) -> io::Result<()> {
+    match severity {
+        Some(severity) => write!(out, "{}: ", severity.name()),
+        None => Ok(()),
+    }
+}
+
 /// Writes a match.
 pub(crate) fn write_one<W: Write>(
     alloc: Global,
@@ -214,9 +222,7 @@ pub(crate) fn write_one<W: Write>(
     match asked.format {
         Form::Text => {
             write_place(out, place.source, from, asked.style)?;
-            if let Some(severity) = place.severity {
-                write!(out, "{}: ", severity.name())?;
-            }
+            write_severity(out, place.severity)?;
             writeln!(out, "{}", Said { place })
         }
         Form::Json => write_json(alloc, out, place, from),
