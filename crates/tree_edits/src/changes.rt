@@ -10,7 +10,7 @@ ghost use Rattle.tree_edits.specs.Run.{IsRun, IsNoRun, IsRunReplaced, IsRunRefus
 ghost use Rattle.tree_edits.specs.declared.error.ChangeError.TheVariants.{Memory};
 
 use crate::change::{RowChanges, Slot};
-use crate::edits::{edits, texts_are_utf8};
+use crate::edits::edits;
 use crate::element::Element;
 use crate::error::ChangeError;
 use crate::finish::changed_table;
@@ -318,7 +318,7 @@ impl Changes {
     {
         let table = self.table.as_ref();
         // For the proof: each token's text is UTF-8.
-        texts_are_utf8(table);
+        table.texts_are_utf8();
         let indels = edits(alloc, table, &self.rows)?;
         Ok(TextEdit::from_ordered(indels))
     }

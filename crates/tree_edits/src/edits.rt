@@ -1,8 +1,8 @@
 //! The edit of the text that the changes are.
 ghost use Rattle.std.specs.Prelude.{length, ◌≡◌, ◌≤◌, ◌^◌, ◌++◌, ◌∷◌, [], ◌<◌, ◌+◌, ◌-◌, if◌then◌else◌, true, IfOk, OnOk, string_bytes};
-ghost use Rattle.tree_model.specs.Tree.{Place, forest_text, size, IsNode, cons, nil};
+ghost use Rattle.tree_model.specs.Tree.{Place, forest_text, size, IsNode};
 ghost use Rattle.tree_model.specs.Cursor.{cursor_at};
-ghost use Rattle.tree_model.specs.Rows.{tree_at, start_at, TextsAreUtf8};
+ghost use Rattle.tree_model.specs.Rows.{tree_at, start_at};
 ghost use Rattle.text_edit.specs.Replacements.{nonempty};
 ghost use Rattle.tree_edit_model.specs.Changes.{Change, forest_from, change_at};
 ghost use Rattle.tree_edit_model.specs.Texts.{put, text_edit_of};
@@ -207,15 +207,6 @@ fn push_walked(
     }
     changes.push_edits_after(alloc, out, table, step.row)?;
     Ok(0)
-}
-
-// Each token's text is UTF-8, since each row's is. For the proof alone; takes constant time for each row.
-pub(crate) fn texts_are_utf8(table: &Table)
-    ensures { TextsAreUtf8 (cons table.now nil) }
-{
-    for row in 0..table.len() {
-        let _text = table.text_at(row);
-    }
 }
 
 // The replacements that the changes are, in the order of the text.

@@ -10,7 +10,6 @@ ghost use Rattle.tree_edits.specs.Walked.{AreChangesOf, Stepped, IsWalkedOn};
 ghost use Rattle.tree_edits.specs.declared.error.ChangeError.TheVariants.{TooLong, Memory};
 
 use crate::change::RowChanges;
-use crate::edits::texts_are_utf8;
 use crate::error::ChangeError;
 use crate::steps::Steps;
 use std::alloc::{AllocError, Global};
@@ -114,8 +113,8 @@ pub(crate) fn changed_table(
     ensures short { OnOk result (length (text (changed at table.now)) < 2 ^ 32) }
     ensures only { IfErr result (λ e. (e ≡ TooLong → ⊥) → e ≡ Memory) }
 {
-    // For the proof: each token's text is UTF-8.
-    texts_are_utf8(table);
+    // For the proof.
+    table.texts_are_utf8();
     let mut out = Steps::new(alloc);
     match push_changed(&mut out, table, changes) {
         Ok(()) => out.finish(alloc),

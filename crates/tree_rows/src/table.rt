@@ -1,7 +1,7 @@
 //! A tree as one text and one row for each place in preorder.
 ghost use Rattle.std.specs.Prelude.{◌≡◌, ◌<◌, ◌+◌, ◌^◌, option_map, IfSome, string_bytes};
-ghost use Rattle.tree_model.specs.Tree.{size, text, kind_of, is_token, IsNode, parent_place, first_child_place, next_sibling_place};
-ghost use Rattle.tree_model.specs.Rows.{tree_at, start_at, end_at, place_at};
+ghost use Rattle.tree_model.specs.Tree.{size, text, kind_of, is_token, IsNode, cons, nil, parent_place, first_child_place, next_sibling_place};
+ghost use Rattle.tree_model.specs.Rows.{tree_at, start_at, end_at, place_at, TextsAreUtf8};
 ghost use Rattle.tree_rows.specs.Rows.{row_at, parent_at, tree_of_rows, Represents};
 
 mod edit;
@@ -57,6 +57,14 @@ impl Table {
         ensures { result ≡ size self.now }
     {
         self.rows.len()
+    }
+
+    /// The text of each token is UTF-8. The contract is the law: the function reads the number of rows, and that opens the invariant.
+    #[inline(always)]
+    pub fn texts_are_utf8(&self)
+        ensures { TextsAreUtf8 (cons self.now nil) }
+    {
+        let _count = self.rows.len();
     }
 
     // Row `n`.
