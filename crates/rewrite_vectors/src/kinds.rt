@@ -42,9 +42,14 @@ fn types(rt: HostRuntime) -> Result<(), Fail> {
             ),
             (
                 "Box<$t> ==>> &$t",
-                // rustc wants a pair round `dyn A + B` here: types get none.
+                // A pair is wanted round `dyn A + B`, and types get none.
                 "type A = Box<dyn A + B>;",
-                "type A = &dyn A + B;",
+                "the new text reads otherwise",
+            ),
+            (
+                "Box<$t> ==>> &($t)",
+                "type A = Box<dyn A + B>;",
+                "type A = &(dyn A + B);",
             ),
         ],
     )

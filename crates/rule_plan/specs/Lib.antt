@@ -1,3 +1,2 @@
 pub mod Severities
 pub mod Answers
-pub mod Arguments

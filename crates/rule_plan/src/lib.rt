@@ -1,10 +1,8 @@
-//! What is decided about rules of search and replace without a tree: how severe a match is, which replacements are taken, and what the arguments of a macro call are.
+//! What is decided about rules of search and replace without a tree: how severe a match is, and which replacements are taken.
 #![tactic(auto)]
 
 mod answer;
-mod argument;
 mod severity;
 
 pub use answer::{Answer, answer_of, chosen, taken};
-pub use argument::{Mark, Piece, arguments};
 pub use severity::Severity;

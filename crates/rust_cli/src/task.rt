@@ -13,23 +13,38 @@ use std::fmt;
 #[derive(Drop)]
 pub enum Task {
     /// Prints trees.
-    Tree { showing: Showing },
+    Tree {
+        showing: Showing,
+    },
     /// Prints errors.
     Check,
     /// Lists items.
     Outline,
     /// Finds pairs of parentheses.
-    Parens { then: Then },
+    Parens {
+        then: Then,
+    },
     /// Lists tokens.
     Tokens,
     /// Finds nodes and tokens.
-    Query { pattern: Pattern },
+    Query {
+        pattern: Pattern,
+    },
     /// Prints texts with their tokens coloured.
-    Highlight { ink: Ink },
-    /// Finds what rules match.
-    Search { set: RuleSet },
+    Highlight {
+        ink: Ink,
+    },
+    /// Finds what rules match, also in the arguments of macros if that is asked.
+    Search {
+        set: RuleSet,
+        in_macros: bool,
+    },
     /// Replaces what rules match.
-    Rewrite { set: RuleSet, then: Then },
+    Rewrite {
+        set: RuleSet,
+        then: Then,
+        in_macros: bool,
+    },
 }
 
 /// What is done with pairs of parentheses, or with matches.
@@ -158,13 +173,15 @@ pub fn files_of<'a>(name: &str, matches: &'a ArgMatches) -> &'a [&'a str] {
 
 // The task of a command with its rules.
 fn task_with(name: &str, set: RuleSet, matches: &ArgMatches) -> Task {
+    let in_macros = matches.get_flag("macros");
     if name == "rewrite" {
         Task::Rewrite {
             set,
             then: then_of(matches),
+            in_macros,
         }
     } else {
-        Task::Search { set }
+        Task::Search { set, in_macros }
     }
 }
 

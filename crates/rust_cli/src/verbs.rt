@@ -332,6 +332,14 @@ const REPLACE: Row = Row {
     help: "Replaces the matches in each file; the exit status is 0 then",
 };
 
+const MACROS: Row = Row {
+    name: "macros",
+    takes: Takes::Nothing,
+    default: None,
+    conflicts: &[],
+    help: "Looks into the arguments of macros too, where they are a list of expressions",
+};
+
 const INTERACTIVE: Row = Row {
     name: "interactive",
     takes: Takes::Nothing,
@@ -525,6 +533,7 @@ static SEARCH_VERB: Verb = Verb {
     example: "Example: rust_tree search '$a + $a' src",
     rows: &[
         RULES,
+        MACROS,
         COUNT,
         FILES_WITH_MATCHES,
         CHECK_FORMAT,
@@ -547,6 +556,7 @@ static REWRITE_VERB: Verb = Verb {
     example: "Example: rust_tree rewrite '$a.clone() ==>> *$a' --diff src",
     rows: &[
         RULES,
+        MACROS,
         CHECK_FORMAT,
         DIFF,
         REPLACE,

@@ -14,6 +14,7 @@ use Rattle.ras_front_end.specs.declared.edition.Entry.TheVariants.{SourceFile}
 use Rattle.ras_front_end.specs.declared.edition.Edition.{Edition}
 use Rattle.ras_front_end.specs.Front.{Front}
 use Rattle.ras_front_end.specs.Parsed.{Parsed, IsParseOf}
+use Rattle.ras_parsing.specs.AllErrors.{all_errors}
 use Rattle.tree_match.specs.declared.rule.Rule.{Rule}
 use Rattle.tree_match.specs.Finds.{Occurrence, occurrence_of, found_in, inside_of}
 use Rattle.tree_match.specs.Matching.{sort_by}
@@ -34,11 +35,11 @@ abbrev pub ranges_of : List Replacement → List Bounds
 ranges_of es = map (λ e. e.delete) es
 
 -- the text parses to the tree of the old one in which each match is its rule's template, with what its placeholders stand for put in,
--- but for white space, comments and pairs of parentheses; and with no more errors
+-- but for white space, comments and pairs of parentheses; and with no more errors, those of validation among them
 pub record ReadsAs (front : Front) (edition : Edition) (rules : List Rule) (old : Parsed) (s : List ℕ) : Type 0 where
   pub parse : Parsed
   pub is_parse : IsParseOf s (front.parsed SourceFile edition s) parse
-  pub errors : length parse.errors ≤ length old.errors
+  pub errors : length (all_errors parse) ≤ length (all_errors old)
   pub reads : AllRead rules (inside_of (root_of old.tree)) (inside_of (root_of parse.tree))
 
 -- the text is the old one with the outermost matches replaced, and nothing else, and reads as it is meant

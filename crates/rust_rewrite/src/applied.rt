@@ -257,7 +257,7 @@ fn reads<F: FrontEnd>(
     ensures { IfOk result (λ yes. IsTrue yes → ReadsAs (F.answers front.now) edition rules.now old.now text.now) }
 {
     let new: Parse<SyntaxNode> = read(alloc, front, Entry::SourceFile, text, edition)?;
-    if new.stored().len() > old.stored().len() {
+    if new.errors(alloc)?.len() > old.errors(alloc)?.len() {
         return Ok(false);
     }
     Ok(reads_as(alloc, rules, old.root(), new.root())?)

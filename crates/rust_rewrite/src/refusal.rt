@@ -6,7 +6,7 @@ use std::alloc::AllocError;
 /// Why the matches of a text are not replaced.
 #[derive(Clone, Copy, Debug, PartialEq, Eq, Drop, thiserror::Error)]
 pub enum RewriteError {
-    /// The new text does not parse to the tree that is meant, or with more errors.
+    /// The new text does not parse to the tree that is meant, or it has more errors, those of validation among them.
     #[error("the new text reads otherwise")]
     ReadsOtherwise,
     /// A comment would be lost: it is in what stands for a placeholder that is not in the template.

@@ -2,29 +2,16 @@
 
 use crate::place::write_severity;
 use crate::show::place_of;
+use crate::within::Found;
 use rust_print::forms::Asked;
 use rust_print::shown::{name, write_place};
 use rust_print::source::{Source, move_to};
 use rust_report::{Spots, short_of};
-use rust_rewrite::{Match, Rewritten};
 use rust_search::{RuleSet, lines_by};
-use std::alloc::{AllocError, Global};
+use std::alloc::Global;
 use std::io;
 use std::io::Write;
 use text_edit::Indel;
-
-/// The numbers of the matches that are in no other match: what replaces each is the replacement with its place among these.
-pub fn outer_matches(alloc: Global, done: &Rewritten) -> Result<Vec<usize>, AllocError> {
-    let mut numbers = Vec::new(alloc);
-    let mut end = 0usize;
-    for (number, found) in done.matches.iter().enumerate() {
-        if end <= found.range.start().raw() as usize {
-            numbers.push(number)?;
-            end = found.range.end().raw() as usize;
-        }
-    }
-    Ok(numbers)
-}
 
 // Writes lines with a sign before each. Control characters in them are symbols, and of a long line only the front is written.
 fn write_signed<W: Write>(out: &mut W, sign: &str, text: &str) -> io::Result<()> {
@@ -41,7 +28,7 @@ pub fn write_question<'a, W: Write>(
     spots: &mut Spots<'_>,
     source: Source<'a>,
     set: &'a RuleSet,
-    found: &Match,
+    found: Found,
     indel: &Indel,
     asked: Asked,
 ) -> io::Result<()> {

@@ -2,11 +2,14 @@
 #![tactic(auto)]
 
 mod ask;
+mod lists;
 mod place;
 mod show;
 mod taken;
 mod walk;
+mod within;
 
-pub use ask::{outer_matches, write_question};
-pub use show::{list, rewritten, search};
+pub use ask::write_question;
+pub use show::{list, rewritten, search, search_within};
 pub use taken::{Taken, with_taken};
+pub use within::{Found, Replaced, replaced_within};

@@ -4,7 +4,8 @@ ghost use Rattle.tree_match.specs.Finds.{found_in};
 ghost use Rattle.rust_rules.specs.Reports.{IsNumberOfMatches, IsAnswer};
 
 use crate::place::{Place, write_one};
-use lossless_tree::{SyntaxNode, TextRange};
+use crate::within::{Found, Replaced, all_found, found_within};
+use lossless_tree::SyntaxNode;
 use ras_front_end::ParseError;
 use rust_front::Rust;
 use rust_print::failure::Failure;
@@ -21,7 +22,7 @@ use std::io::Write;
 pub(crate) fn place_of<'a>(
     source: Source<'a>,
     set: &'a RuleSet,
-    found: &Match,
+    found: Found,
     new: Option<&'a str>,
 ) -> Place<'a> {
     let start = found.range.start().raw() as usize;
@@ -44,7 +45,7 @@ fn write_matches<'a, W: Write>(
     out: &mut W,
     source: Source<'a>,
     set: &'a RuleSet,
-    matches: &[Match],
+    matches: &[Found],
     asked: Asked,
 ) -> Result<(), Failure> {
     if matches.is_empty() {
@@ -53,7 +54,7 @@ fn write_matches<'a, W: Write>(
     let mut spots = spots(alloc, source.text)?;
     let mut is_first = asked.is_first;
     for found in matches {
-        let place = place_of(source, set, found, None);
+        let place = place_of(source, set, *found, None);
         write_one(alloc, out, &mut spots, &place, is_first, asked)?;
         is_first = false;
     }
@@ -80,11 +81,26 @@ pub fn search<'a, W: Write>(
 {
     let parse = parsed(alloc, source.text, asked.reading)?;
     let matches = matches_of(alloc, set, parse.root())?;
-    write_matches(alloc, out, source, set, &matches, asked)?;
+    write_matches(alloc, out, source, set, &all_found(alloc, &matches)?, asked)?;
     Ok(matches.len() as u64)
 }
 
-fn failure_of(error: RewriteError) -> Failure {
+/// Writes the matches of rules in a text and in the arguments of its macro calls, where these read as a list of expressions. Returns their
+/// number.
+pub fn search_within<'a, W: Write>(
+    alloc: Global,
+    out: &mut W,
+    source: Source<'a>,
+    set: &'a RuleSet,
+    asked: Asked,
+) -> Result<u64, Failure> {
+    let found = found_within(alloc, source.text, &set.rules, asked.reading)?;
+    write_matches(alloc, out, source, set, &found, asked)?;
+    Ok(found.len() as u64)
+}
+
+// Why a text was not rewritten.
+pub(crate) fn failure_of(error: RewriteError) -> Failure {
     match error {
         RewriteError::Memory => Failure::Text(ParseError::Memory),
         RewriteError::TooLong => Failure::Kept("the new text would be too long"),
@@ -120,34 +136,20 @@ pub fn rewritten(
     }
 }
 
-// Whether a match is in none of the matches that end before an offset or there.
-fn is_outer(range: TextRange, end: usize) -> bool {
-    end <= range.start().raw() as usize
-}
-
 fn write_changes<'a, W: Write>(
     alloc: Global,
     out: &mut W,
     spots: &mut Spots<'_>,
     source: Source<'a>,
     set: &'a RuleSet,
-    done: &'a Rewritten,
+    done: &'a Replaced,
     asked: Asked,
 ) -> io::Result<()> {
     let mut is_first = asked.is_first;
-    let mut end = 0usize;
-    let mut indels = done.edit.iter();
-    for found in &done.matches {
-        if is_outer(found.range, end) {
-            let new = match indels.next() {
-                Some(indel) => indel.inserted(),
-                None => return Ok(()),
-            };
-            let place = place_of(source, set, found, Some(new));
-            write_one(alloc, out, spots, &place, is_first, asked)?;
-            is_first = false;
-            end = found.range.end().raw() as usize;
-        }
+    for (found, indel) in done.places.iter().zip(done.edit.iter()) {
+        let place = place_of(source, set, *found, Some(indel.inserted()));
+        write_one(alloc, out, spots, &place, is_first, asked)?;
+        is_first = false;
     }
     Ok(())
 }
@@ -158,7 +160,7 @@ pub fn list<'a, W: Write>(
     out: &mut W,
     source: Source<'a>,
     set: &'a RuleSet,
-    done: &'a Rewritten,
+    done: &'a Replaced,
     asked: Asked,
 ) -> Result<(), Failure> {
     if done.edit.is_empty() {

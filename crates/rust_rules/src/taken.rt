@@ -4,13 +4,13 @@ ghost use Rattle.text_edit.specs.Replacements.{with_all, edited};
 ghost use Rattle.rule_plan.specs.Answers.{chosen};
 
 use crate::walk::{Step, are_same, end_of_part, steps};
+use crate::within::Replaced;
 use lossless_tree::TextRange;
 use ras_front_end::ParseError;
 use rule_plan::chosen;
 use rust_print::failure::Failure;
 use rust_print::forms::Asked;
 use rust_print::source::{Source, parsed};
-use rust_rewrite::Rewritten;
 use std::alloc::Global;
 use text_edit::TextEdit;
 
@@ -135,7 +135,7 @@ fn reads_as_meant(
 pub fn with_taken(
     alloc: Global,
     source: Source<'_>,
-    done: &Rewritten,
+    done: &Replaced,
     marks: &[bool],
     asked: Asked,
 ) -> Result<Taken, Failure>

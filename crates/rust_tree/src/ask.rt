@@ -1,12 +1,10 @@
 //! Questions on a terminal: which replacements are made.
 
-use ras_front_end::ParseError;
 use rule_plan::{Answer, answer_of, taken};
 use rust_print::failure::Failure;
 use rust_print::forms::Asked;
 use rust_print::source::{Source, spots};
-use rust_rewrite::Rewritten;
-use rust_rules::{outer_matches, write_question};
+use rust_rules::{Replaced, write_question};
 use rust_search::RuleSet;
 use std::alloc::AllocError;
 use std::io;
@@ -35,19 +33,15 @@ pub fn ask<W: Write>(
     out: &mut W,
     source: Source<'_>,
     set: &RuleSet,
-    done: &Rewritten,
+    done: &Replaced,
     asked: Asked,
     is_over: &mut bool,
 ) -> Result<Vec<bool>, Failure> {
     let alloc = rt.alloc();
     let mut spots = spots(alloc, source.text)?;
     let mut answers = Vec::new(alloc);
-    let numbers = outer_matches(alloc, done)?;
-    for (number, indel) in numbers.iter().zip(done.edit.iter()) {
-        let Some(found) = done.matches.get(*number) else {
-            return Err(Failure::Text(ParseError::Memory));
-        };
-        write_question(alloc, out, &mut spots, source, set, found, indel, asked)?;
+    for (found, indel) in done.places.iter().zip(done.edit.iter()) {
+        write_question(alloc, out, &mut spots, source, set, *found, indel, asked)?;
         let answer = answer(rt, out)?;
         answers.push(answer).map_err(AllocError::from)?;
         if answer == Answer::Quit {

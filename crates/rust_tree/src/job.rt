@@ -20,9 +20,10 @@ use rust_print::shown::name;
 use rust_print::source::Source;
 use rust_print::{outline, parens, tokens};
 use rust_query::show as query;
-use rust_rewrite::Rewritten;
 use rust_rules as rules;
+use rust_rules::Replaced;
 use rust_search::{Chosen, RuleSet, path_in};
+use std::alloc::Global;
 use std::io::Write;
 use std::time::Instant;
 use std::{fs, io};
@@ -201,7 +202,7 @@ fn ask_and_fix<W: Write>(
     out: &mut W,
     source: Source<'_>,
     set: &RuleSet,
-    done: &Rewritten,
+    done: &Replaced,
     asked: Asked,
     is_over: &mut bool,
 ) -> Result<(), Failure> {
@@ -228,7 +229,7 @@ fn write_rewritten<W: Write>(
     out: &mut W,
     source: Source<'_>,
     set: &RuleSet,
-    done: &Rewritten,
+    done: &Replaced,
     asked: Asked,
     then: Then,
     is_over: &mut bool,
@@ -269,10 +270,32 @@ fn search<W: Write>(
     source: Source<'_>,
     set: &RuleSet,
     asked: Asked,
+    in_macros: bool,
     kept: &mut Kept,
 ) -> Result<u64, Failure> {
     let set = rules_for(rt, &mut kept.chosen, set, source)?;
-    rules::search(rt.alloc(), out, source, set, asked)
+    if in_macros {
+        rules::search_within(rt.alloc(), out, source, set, asked)
+    } else {
+        rules::search(rt.alloc(), out, source, set, asked)
+    }
+}
+
+// A text with the matches of rules replaced; `None` if there are none.
+fn replaced(
+    alloc: Global,
+    source: Source<'_>,
+    set: &RuleSet,
+    asked: Asked,
+    in_macros: bool,
+) -> Result<Option<Replaced>, Failure> {
+    if in_macros {
+        return rules::replaced_within(alloc, source.text, &set.rules, asked.reading);
+    }
+    match rules::rewritten(alloc, source, set, asked)? {
+        Some(done) => Ok(Some(Replaced::of(alloc, done)?)),
+        None => Ok(None),
+    }
 }
 
 // Lists or replaces the matches of rules in a text. Returns the number of those that are in no other match.
@@ -283,10 +306,11 @@ fn rewrite<W: Write>(
     set: &RuleSet,
     asked: Asked,
     then: Then,
+    in_macros: bool,
     kept: &mut Kept,
 ) -> Result<u64, Failure> {
     let set = rules_for(rt, &mut kept.chosen, set, source)?;
-    match rules::rewritten(rt.alloc(), source, set, asked)? {
+    match replaced(rt.alloc(), source, set, asked, in_macros)? {
         None => {
             write_unchanged(rt, out, source, then)?;
             Ok(0)
@@ -377,8 +401,14 @@ impl Job {
             Task::Highlight { ink } => highlight::show(alloc, out, source, asked.reading, *ink),
             Task::Tokens => tokens::show(alloc, out, source, asked),
             Task::Query { pattern } => query::show(alloc, out, source, pattern, asked),
-            Task::Search { set } => search(rt, out, source, set, asked, kept),
-            Task::Rewrite { set, then } => rewrite(rt, out, source, set, asked, *then, kept),
+            Task::Search { set, in_macros } => {
+                search(rt, out, source, set, asked, *in_macros, kept)
+            }
+            Task::Rewrite {
+                set,
+                then,
+                in_macros,
+            } => rewrite(rt, out, source, set, asked, *then, *in_macros, kept),
         }
     }
 
