@@ -9,7 +9,8 @@ use ras_algo::algo::{next_non_trivia_token, previous_non_trivia_token};
 use ras_node::support::share;
 use ras_prec_walks::parts::first_expr;
 
-fn is_a(node: &SyntaxNode, kind: SyntaxKind) -> bool
+/// Whether a node is of a kind.
+pub(crate) fn is_a(node: &SyntaxNode, kind: SyntaxKind) -> bool
     ensures { result ≡ is_of_kind kind node.now }
 {
     node.kind().to_raw() == kind.to_raw()
