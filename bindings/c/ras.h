@@ -578,9 +578,10 @@ void ras_c_free(
  * Finds the needless pairs of parentheses of a text of an edition, such as 2024, in preorder of the tree: those that
  * rust_tree parens --all --mixed lists. All of them can be removed together.
  *
- * Returns RAS_OK, RAS_NOT_UTF8, RAS_TOO_LONG, RAS_NO_MEMORY, RAS_NO_ROOM or RAS_NO_EDITION. A range is that of a PAREN_EXPR, with both
- * parentheses. Put a blank in place of a parenthesis whose neighbours would be joined, as in return(a). Pairs that rustc needs stay,
- * for example around a macro call that is a statement. It usually takes a few parses of the text; at worst one for each pair that stays.
+ * Returns RAS_OK, RAS_NOT_UTF8, RAS_TOO_LONG, RAS_NO_MEMORY, RAS_NO_ROOM or RAS_NO_EDITION. A range is that of a PAREN_EXPR or a
+ * PAREN_PAT, with both parentheses. Put a blank in place of a parenthesis whose neighbours would be joined, as in return(a). Pairs
+ * that rustc needs stay, for example around a macro call that is a statement. It usually takes a few parses of the text; at worst one for
+ * each pair that stays.
  */
 uint32_t ras_c_parens(
     const uint8_t *text,

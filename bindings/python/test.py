@@ -85,6 +85,8 @@ class Trees(unittest.TestCase):
     def test_needless_pairs_are_found(self):
         tree = ras.parse("fn f() { (a * b) + c; (a + b) * c; g((x)) }")
         self.assertEqual([it.text for it in tree.needless_parens()], ["(a * b)", "(x)"])
+        tree = ras.parse("fn f((a): u8) { let (b) = (c); let (A | B) = d; }")
+        self.assertEqual([it.text for it in tree.needless_parens()], ["(a)", "(b)", "(c)"])
 
     def test_literals_have_values(self):
         def value(text):

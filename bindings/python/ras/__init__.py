@@ -252,7 +252,8 @@ class Tree:
         return Tree(b"".join([*pieces, self.data[at:]]), self.edition)
 
     def needless_parens(self):
-        """The needless pairs of parentheses, in preorder: those that `rust_tree parens --all --mixed` lists.
+        """The needless pairs of parentheses, each a PAREN_EXPR or a PAREN_PAT, in preorder: those that `rust_tree parens --all --mixed`
+        lists.
 
         All of them can be removed together, with a blank in place of a parenthesis whose neighbours would be joined, as in `return(a)`.
         The text is parsed again, usually a few times; at worst once for each pair that stays.
@@ -264,7 +265,8 @@ class Tree:
         while not _had_room(_library.ras_c_parens(self.data, len(self.data), self.edition, pairs, len(pairs), ctypes.byref(count))):
             pairs = (_raw.Range * count.value)()
         wanted = {(it.start, it.end) for it in pairs[: count.value]}
-        return [it for it in self.find("PAREN_EXPR") if (it.start, it.end) in wanted]
+        found = sorted([*self.find("PAREN_EXPR"), *self.find("PAREN_PAT")], key=lambda it: it.row)
+        return [it for it in found if (it.start, it.end) in wanted]
 
 
 class Live:

@@ -177,9 +177,10 @@ unsafe extern "C" {
     /// Finds the needless pairs of parentheses of a text of an edition, such as 2024, in preorder of the tree: those that
     /// `rust_tree parens --all --mixed` lists. All of them can be removed together.
     ///
-    /// Returns [`OK`], [`NOT_UTF8`], [`TOO_LONG`], [`NO_MEMORY`], [`NO_ROOM`] or [`NO_EDITION`]. A range is that of a `PAREN_EXPR`, with both
-    /// parentheses. Put a blank in place of a parenthesis whose neighbours would be joined, as in `return(a)`. Pairs that rustc needs stay,
-    /// for example around a macro call that is a statement. It usually takes a few parses of the text; at worst one for each pair that stays.
+    /// Returns [`OK`], [`NOT_UTF8`], [`TOO_LONG`], [`NO_MEMORY`], [`NO_ROOM`] or [`NO_EDITION`]. A range is that of a `PAREN_EXPR` or a
+    /// `PAREN_PAT`, with both parentheses. Put a blank in place of a parenthesis whose neighbours would be joined, as in `return(a)`. Pairs
+    /// that rustc needs stay, for example around a macro call that is a statement. It usually takes a few parses of the text; at worst one for
+    /// each pair that stays.
     pub fn ras_c_parens(
         text: *const u8,
         text_len: usize,

@@ -294,7 +294,8 @@ impl Tree {
         &self.0.rows
     }
 
-    /// The needless pairs of parentheses, each a `PAREN_EXPR`, in preorder: those that `rust_tree parens --all --mixed` lists.
+    /// The needless pairs of parentheses, each a `PAREN_EXPR` or a `PAREN_PAT`, in preorder: those that
+    /// `rust_tree parens --all --mixed` lists.
     ///
     /// All of them can be removed together, with a blank in place of a parenthesis whose neighbours would be joined, as in `return(a)`.
     /// The text is parsed again, usually a few times; at worst once for each pair that stays.
@@ -310,7 +311,7 @@ impl Tree {
     /// ```
     pub fn needless_parens(&self) -> Result<Vec<NodeRef<'_>>, ParseError> {
         let ranges = needless_ranges(self.text(), self.edition())?;
-        let mut pairs = self.root().descendants().filter(|it| it.kind() == SyntaxKind::PAREN_EXPR);
+        let mut pairs = self.root().descendants().filter(|it| matches!(it.kind(), SyntaxKind::PAREN_EXPR | SyntaxKind::PAREN_PAT));
         // Both go in preorder, and no two pairs have one range.
         let found = ranges.iter().filter_map(|range| {
             let range = TextRange::new(range.start.into(), range.end.into());

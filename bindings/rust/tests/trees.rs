@@ -129,10 +129,13 @@ fn needless_pairs_are_found() {
     let tree = tree("fn f() { (a * b) + c; (a + b) * c; g((x)) }");
     let found: Vec<_> = tree.needless_parens().unwrap().iter().map(|it| it.text()).collect();
     assert_eq!(found, ["(a * b)", "(x)"]);
+    let tree = self::tree("fn f((a): u8) { let (b) = (c); let (A | B) = d; }");
+    let found: Vec<_> = tree.needless_parens().unwrap().iter().map(|it| it.text()).collect();
+    assert_eq!(found, ["(a)", "(b)", "(c)"]);
 }
 
 // Without the pairs these texts have errors or mean something else.
-const STAY: [&str; 12] = [
+const STAY: [&str; 14] = [
     "fn f() { if let x = (a && b) {} }",
     "fn f() { if (S {} == x) {} }",
     "fn f() { for x in (S {}.f()) {} }",
@@ -145,6 +148,8 @@ const STAY: [&str; 12] = [
     "fn f() { (m! {}); }",
     "fn f() { (continue) as u8; }",
     "fn f() { match (|| S {}) { _ => {} } }",
+    "fn f((A | B): T) { let &(mut x) = y; }",
+    "fn f() { let &(1..=2) = x else { return }; }",
 ];
 
 #[test]

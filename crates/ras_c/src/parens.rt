@@ -85,9 +85,10 @@ fn listed(alloc: Global, text: &[u8], year: u32) -> Result<Vec<Range>, u32>
 /// Finds the needless pairs of parentheses of a text of an edition, such as 2024, in preorder of the tree: those that
 /// `rust_tree parens --all --mixed` lists. All of them can be removed together.
 ///
-/// Returns [`OK`], [`NOT_UTF8`], [`TOO_LONG`], [`NO_MEMORY`], [`NO_ROOM`] or [`NO_EDITION`]. A range is that of a `PAREN_EXPR`, with both
-/// parentheses. Put a blank in place of a parenthesis whose neighbours would be joined, as in `return(a)`. Pairs that rustc needs stay,
-/// for example around a macro call that is a statement. It usually takes a few parses of the text; at worst one for each pair that stays.
+/// Returns [`OK`], [`NOT_UTF8`], [`TOO_LONG`], [`NO_MEMORY`], [`NO_ROOM`] or [`NO_EDITION`]. A range is that of a `PAREN_EXPR` or a
+/// `PAREN_PAT`, with both parentheses. Put a blank in place of a parenthesis whose neighbours would be joined, as in `return(a)`. Pairs
+/// that rustc needs stay, for example around a macro call that is a statement. It usually takes a few parses of the text; at worst one for
+/// each pair that stays.
 #[tactic(auto, using(crate::proofs::ParensLemmas::at_ranges))]
 #[unsafe(no_mangle)]
 pub extern "C" fn ras_c_parens(

@@ -1,5 +1,5 @@
 -- Pairs of parentheses that may go.
-use Rattle.std.specs.Prelude.{Bool, false, not, ◌&&◌, ◌==◌, Option, Some, None, option_map}
+use Rattle.std.specs.Prelude.{Bool, false, not, ◌&&◌, ◌||◌, ◌==◌, Option, Some, None, option_map}
 use Rattle.std.specs.Option.{option_and_then}
 use Rattle.syntax_kind.specs.declared.syntax_kind.TheConstants.SyntaxKind.{PAREN_EXPR, L_PAREN, R_PAREN}
 use Rattle.text_size.specs.TextRange.{Bounds}
@@ -8,6 +8,7 @@ use Rattle.ras_node.specs.Nodes.{is_of_kind, typed_child, token_child}
 use Rattle.ras_node.specs.Sets.{is_expr}
 use Rattle.ras_prec.specs.Rules.{asks}
 use Rattle.rust_parens.specs.Rustc.{is_needed_by_rustc}
+use Rattle.rust_parens.specs.Patterns.{pattern_may_go}
 
 -- the ranges of `(` and of `)`, where the node has both
 abbrev pub parens_of : Cursor → Option (Bounds × Bounds)
@@ -31,6 +32,10 @@ begins_at (Some two) c = two.0.start == range_start c
 abbrev pub is_bare : Cursor → Bool
 is_bare c = begins_at (parens_of c) c
 
--- such a pair around such an expression
+-- an expression or a pattern that needs no parentheses in place of the pair
+abbrev pub contents_may_go : Cursor → Bool
+contents_may_go c = (is_of_kind PAREN_EXPR c && inside_may_go c) || pattern_may_go c
+
+-- such a pair around such contents
 abbrev pub may_go : Cursor → Bool
-may_go c = is_of_kind PAREN_EXPR c && (is_bare c && inside_may_go c)
+may_go c = is_bare c && contents_may_go c

@@ -1,5 +1,5 @@
 -- What a pair of parentheses is a part of. Source: rustc's lint `unused_parens` (a value, a condition, an argument, an index, the end of
--- a block, an arm, the body of a closure, the length of an array), and clippy's lint `precedence` (arithmetic below a shift).
+-- a block, an arm, the body of a closure, the length of an array, a pattern but for a range), and clippy's lint `precedence` (arithmetic below a shift).
 use Rattle.std.specs.Prelude.{Bool, true, false, not, ◌&&◌, ◌||◌, if◌then◌else◌, Option, Some, None, option_map}
 use Rattle.syntax_kind.specs.declared.syntax_kind.SyntaxKind.{SyntaxKind}
 use Rattle.syntax_kind.specs.declared.syntax_kind.SyntaxKind.TheVariants.{Token, Node}
@@ -11,6 +11,7 @@ use Rattle.ras_node.specs.Sets.{is_expr}
 use Rattle.ras_node.specs.PartSets.{is_binary_operator}
 use Rattle.ras_node.specs.Searches.{first_token}
 use Rattle.ras_prec_walks.specs.Parts.{is_it}
+use Rattle.rust_parens.specs.Patterns.{holds_a_range}
 use Rattle.rust_parens.specs.declared.place.PairPlace.{PairPlace}
 use Rattle.rust_parens.specs.declared.place.PairPlace.TheVariants.{Value, Operand, Mixed, Other}
 
@@ -111,6 +112,11 @@ abbrev pub place_below : Option Cursor → Cursor → PairPlace
 place_below None pair = Other
 place_below (Some parent) pair = place_in parent pair
 
--- by the node around it
+-- a range beside other patterns; rustc's lint asks to remove the pairs around these
+abbrev pub place_around : Bool → PairPlace
+place_around true = Other
+place_around false = Value
+
+-- of an expression by the node around it, and of a pattern by what is in it
 abbrev pub place_of : Cursor → PairPlace
-place_of pair = place_below (parent_of pair) pair
+place_of pair = if is_of_kind (Node kind.PAREN_PAT) pair then place_around (holds_a_range pair) else place_below (parent_of pair) pair

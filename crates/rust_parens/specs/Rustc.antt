@@ -1,16 +1,21 @@
 -- Pairs that rustc needs, although rust-analyzer's parser reads the same tree without them. Source: the Rust Reference, "Macro
 -- invocation expressions", "Closure expressions", "Destructuring assignment", "let statements" and "Expression statements".
-use Rattle.std.specs.Prelude.{ℕ, Bool, false, not, ◌&&◌, ◌||◌, Option, Some, None, is_none, slice_get}
+use Rattle.std.specs.Prelude.{ℕ, Bool, true, false, not, ◌&&◌, ◌||◌, Option, Some, None, is_none, slice_get}
 use Rattle.std.specs.List.{find}
 use Rattle.std.specs.Option.{option_and_then}
-use Rattle.syntax_kind.specs.declared.syntax_kind.TheConstants.SyntaxKind.{MACRO_EXPR, EXPR_STMT, STMT_LIST, PAREN_EXPR, CONTINUE_EXPR, UNDERSCORE_EXPR, RANGE_EXPR, REF_EXPR, BLOCK_EXPR, CLOSURE_EXPR, ARG_LIST, ARRAY_EXPR, TUPLE_EXPR, RECORD_EXPR_FIELD, MATCH_ARM, LET_STMT, ELSE_KW, L_CURLY, R_CURLY, UNSAFE_KW, IF_EXPR, MATCH_EXPR, FOR_EXPR, WHILE_EXPR, LOOP_EXPR}
+use Rattle.syntax_kind.specs.declared.syntax_kind.SyntaxKind.{SyntaxKind}
+use Rattle.syntax_kind.specs.declared.syntax_kind.SyntaxKind.TheVariants.{Node}
+use Rattle.syntax_kind.specs.declared.syntax_kind.node_kind.NodeKind.TheVariants as kind
+use Rattle.syntax_kind.specs.declared.syntax_kind.TheConstants.SyntaxKind.{MACRO_EXPR, EXPR_STMT, STMT_LIST, PAREN_EXPR, CONTINUE_EXPR, UNDERSCORE_EXPR, RANGE_EXPR, BIN_EXPR, BLOCK_EXPR, CLOSURE_EXPR, LET_STMT, ELSE_KW, L_CURLY, R_CURLY, R_PAREN, R_BRACK, COMMA, SEMICOLON, AMP2, PIPE2, UNSAFE_KW, IF_EXPR, MATCH_EXPR, FOR_EXPR, WHILE_EXPR, LOOP_EXPR}
 use Rattle.tree_model.specs.declared.direction.Direction.TheVariants.{Next, Prev}
 use Rattle.tree_model.specs.Tree.{text}
-use Rattle.tree_model.specs.Cursor.{Cursor, focus, parent_of}
+use Rattle.tree_model.specs.Cursor.{Cursor, focus, children_of, parent_of}
 use Rattle.tree_model.specs.NearestToken.{tokens_beyond}
 use Rattle.lossless_tree.specs.declared.cursor.element.NodeOrToken.TheVariants as element
-use Rattle.ras_node.specs.Nodes.{is_of_kind, typed_child}
+use Rattle.ras_node.specs.Nodes.{kind_at, is_of_kind, typed_child}
 use Rattle.ras_node.specs.Sets.{is_expr}
+use Rattle.ras_node.specs.PartSets.{is_binary_operator}
+use Rattle.ras_node.specs.Searches.{first_token}
 use Rattle.ras_algo.specs.Algo.{first_token_of, last_token_of, has_no_trivia_kind}
 use Rattle.rust_parens.specs.Words.{is_word}
 
@@ -34,38 +39,49 @@ is_block (Some body) = is_of_kind BLOCK_EXPR body
 abbrev pub is_without_block : Cursor → Bool
 is_without_block inside = is_of_kind CLOSURE_EXPR inside && not (is_block (typed_child is_expr inside))
 
--- what is directly in one of these ends before a comma or a bracket
-abbrev pub is_bracket : Cursor → Bool
-is_bracket parent =
-    is_of_kind ARG_LIST parent || (is_of_kind ARRAY_EXPR parent || (is_of_kind TUPLE_EXPR parent
-    || (is_of_kind RECORD_EXPR_FIELD parent || is_of_kind MATCH_ARM parent)))
-
--- or before a semicolon
-abbrev pub takes_closure : Cursor → Bool
-takes_closure parent =
-    is_bracket parent || (is_of_kind LET_STMT parent || (is_of_kind EXPR_STMT parent || is_of_kind STMT_LIST parent))
-
-abbrev pub takes_closure_at : Option Cursor → Bool
-takes_closure_at None = false
-takes_closure_at (Some above) = takes_closure above
-
--- a `&` whose operand ends there
-abbrev pub is_reference_in : Cursor → Bool
-is_reference_in parent = is_of_kind REF_EXPR parent && takes_closure_at (parent_of parent)
-
-abbrev pub is_open_closure : Cursor → Cursor → Bool
-is_open_closure inside parent = is_without_block inside && not (takes_closure parent || is_reference_in parent)
-
 -- the token after a pair that is neither white space nor a comment
 abbrev pub token_after : Cursor → Option Cursor
 token_after pair = option_and_then (λ last. find has_no_trivia_kind (tokens_beyond Next last)) (last_token_of (element.Node pair))
+
+abbrev pub is_pair_at : Option Cursor → Bool
+is_pair_at None = false
+is_pair_at (Some c) = is_of_kind PAREN_EXPR c
+
+-- a comma, a semicolon or a closing bracket, but for that of a pair, which may go too
+abbrev pub is_end : Option Cursor → Bool
+is_end None = false
+is_end (Some token) =
+    is_of_kind COMMA token || (is_of_kind SEMICOLON token || (is_of_kind R_BRACK token || (is_of_kind R_CURLY token
+    || (is_of_kind R_PAREN token && not (is_pair_at (parent_of token))))))
+
+-- a closure that ends at none of these: before `{`, rustc may read its body otherwise
+abbrev pub is_open_closure : Cursor → Cursor → Bool
+is_open_closure inside pair = is_without_block inside && not (is_end (token_after pair))
 
 abbrev pub is_else : Option Cursor → Bool
 is_else None = false
 is_else (Some token) = is_of_kind ELSE_KW token
 
-abbrev pub is_before_else : Cursor → Bool
-is_before_else pair = is_else (token_after pair)
+-- `&&` and `||`
+abbrev pub is_lazy_token : Option Cursor → Bool
+is_lazy_token None = false
+is_lazy_token (Some token) = is_of_kind AMP2 token || is_of_kind PIPE2 token
+
+abbrev pub is_lazy : Cursor → Bool
+is_lazy c = is_of_kind BIN_EXPR c && is_lazy_token (first_token is_binary_operator (children_of c))
+
+abbrev pub is_closing_brace : Option Cursor → Bool
+is_closing_brace None = false
+is_closing_brace (Some token) = is_of_kind R_CURLY token
+
+-- what may precede the `else` of a `let` as its whole value; of pairs in pairs the outermost stays
+abbrev pub is_plain_value : Cursor → Bool
+is_plain_value inside =
+    not (is_of_kind PAREN_EXPR inside || (is_lazy inside || is_closing_brace (last_token_of (element.Node inside))))
+
+-- something before an `else`, but for such a value
+abbrev pub is_before_else : Cursor → Cursor → Cursor → Bool
+is_before_else inside parent pair = is_else (token_after pair) && not (is_of_kind LET_STMT parent && is_plain_value inside)
 
 -- the token before a pair that is neither white space nor a comment
 abbrev pub token_before : Cursor → Option Cursor
@@ -91,19 +107,42 @@ abbrev pub is_statement : Option Cursor → Bool
 is_statement None = false
 is_statement (Some above) = is_of_kind EXPR_STMT above || is_of_kind IF_EXPR above
 
+abbrev pub is_expression_statement : Option Cursor → Bool
+is_expression_statement None = false
+is_expression_statement (Some above) = is_of_kind EXPR_STMT above
+
+-- a macro call as a statement: rustc too ends it at its `}`
+abbrev pub is_macro_statement : Cursor → Bool
+is_macro_statement c = is_of_kind MACRO_EXPR c && is_expression_statement (parent_of c)
+
+-- an item that may end with `}`
+abbrev pub is_item : SyntaxKind → Bool
+is_item (Node kind.FN) = true
+is_item (Node kind.STRUCT) = true
+is_item (Node kind.ENUM) = true
+is_item (Node kind.UNION) = true
+is_item (Node kind.TRAIT) = true
+is_item (Node kind.IMPL) = true
+is_item (Node kind.MODULE) = true
+is_item (Node kind.EXTERN_BLOCK) = true
+is_item (Node kind.MACRO_RULES) = true
+is_item (Node kind.MACRO_DEF) = true
+is_item _ = false
+
 -- one of these as a statement
 abbrev pub is_ended : Cursor → Bool
-is_ended c = (is_with_block c || is_plain_block c) && is_statement (parent_of c)
+is_ended c =
+    ((is_with_block c || is_plain_block c) && is_statement (parent_of c)) || (is_macro_statement c || is_item (kind_at c))
 
 abbrev pub is_ended_at : Option Cursor → Bool
 is_ended_at None = false
 is_ended_at (Some c) = is_ended c
 
--- the block, or the `match`, that a `}` is the end of
+-- the block, the `match`, the item or the call that a `}` is the end of
 abbrev pub body_of : Cursor → Option Cursor
 body_of brace = option_and_then parent_of (parent_of brace)
 
--- a block or a `match` is the end of such a statement
+-- one of these is the end of such a statement
 abbrev pub ends_statement : Option Cursor → Bool
 ends_statement None = false
 ends_statement (Some body) = is_ended body || is_ended_at (parent_of body)
@@ -135,8 +174,9 @@ is_before_label inside parent pair = is_of_kind CONTINUE_EXPR inside && (is_of_k
 abbrev pub is_read_otherwise : Cursor → Cursor → Cursor → Bool
 is_read_otherwise inside parent pair =
     is_of_kind UNDERSCORE_EXPR inside || (is_full_range inside || (is_statement_macro inside parent
-    || (is_open_closure inside parent || is_before_label inside parent pair)))
+    || (is_open_closure inside pair || is_before_label inside parent pair)))
 
--- one of these, or anything before an `else` or after a `}` that ends no statement for rustc
+-- one of these, or something before an `else` or after a `}` that ends no statement for rustc
 abbrev pub is_needed_by_rustc : Cursor → Cursor → Cursor → Bool
-is_needed_by_rustc inside parent pair = is_read_otherwise inside parent pair || (is_before_else pair || is_after_brace pair)
+is_needed_by_rustc inside parent pair =
+    is_read_otherwise inside parent pair || (is_before_else inside parent pair || is_after_brace pair)

@@ -5,7 +5,7 @@ ghost use Rattle.rust_parens.specs.Alone.{IsAlike, IsReadAlone, IsTold, IsToldAr
 use crate::text::{marks_of, text_without};
 use lossless_tree::{SyntaxKind, SyntaxNode};
 use ras_front_end::{Edition, Entry, FrontEnd, ParseError};
-use ras_node::sets::{Exprs, KindSet};
+use ras_node::sets::{Exprs, KindSet, Pats};
 use ras_parsing::{Parse, read};
 use rust_report::{Trivia, first_difference};
 use std::alloc::{AllocError, Global};
@@ -63,15 +63,18 @@ fn is_tried(node: &SyntaxNode) -> bool {
     Exprs::has(node.kind()) && node.kind() != SyntaxKind::PAREN_EXPR
 }
 
-// Whether a node is an expression, or stands in one.
+// Whether a node is an expression or a pattern, or stands in one.
 fn is_within(node: &SyntaxNode) -> bool {
     Exprs::has(node.kind())
+        || Pats::has(node.kind())
         || matches!(
             node.kind(),
             SyntaxKind::ARG_LIST
                 | SyntaxKind::MATCH_ARM
                 | SyntaxKind::MATCH_ARM_LIST
                 | SyntaxKind::MATCH_GUARD
+                | SyntaxKind::PARAM
+                | SyntaxKind::PARAM_LIST
         )
 }
 

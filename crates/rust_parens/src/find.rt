@@ -2,8 +2,9 @@
 ghost use Rattle.std.specs.Prelude.{◌≡◌, IfOk};
 ghost use Rattle.std.specs.List.{filter};
 ghost use Rattle.tree_model.specs.Cursor.{at_node, descendants_of};
-ghost use Rattle.rust_parens.specs.Pairs.{may_go, inside_may_go, is_bare, parens_of};
+ghost use Rattle.rust_parens.specs.Pairs.{may_go, contents_may_go, inside_may_go, is_bare, parens_of};
 
+use crate::patterns::pattern_may_go;
 use crate::rustc::is_needed_by_rustc;
 use lossless_tree::{SyntaxKind, SyntaxNode, TextRange};
 use ras_node::support;
@@ -47,15 +48,23 @@ fn is_bare(pair: &SyntaxNode) -> bool
     }
 }
 
+// Whether a node is a pair whose contents need no parentheses in its place.
+fn contents_may_go(node: &SyntaxNode) -> bool
+    ensures { result ≡ contents_may_go node.now }
+{
+    (node.kind() == SyntaxKind::PAREN_EXPR && inside_may_go(node)) || pattern_may_go(node)
+}
+
 /// Whether a node is a pair of parentheses, with both parentheses and without attributes, around an expression for which
-/// [`needs_parens_in_place_of`] returns false, and that [`is_needed_by_rustc`] does not keep.
+/// [`needs_parens_in_place_of`] returns false, and that [`is_needed_by_rustc`] does not keep; or around a pattern, but for alternatives,
+/// ranges and `mut x` in places that do not take them, such as the `A | B` of `let (A | B) = c` and the `mut x` of `&(mut x)`.
 ///
 /// That test covers operators and statements. If the pair is in something else, such as the arm of a `match`, only a parse of the text
 /// without the pair shows that it is needless.
 pub fn may_go(node: &SyntaxNode) -> bool
     ensures { result ≡ may_go node.now }
 {
-    node.kind() == SyntaxKind::PAREN_EXPR && is_bare(node) && inside_may_go(node)
+    is_bare(node) && contents_may_go(node)
 }
 
 // Whether the contents of a pair need parentheses in place of the outermost of the pairs directly around it; false for a pair around

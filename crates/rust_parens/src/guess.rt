@@ -3,10 +3,10 @@
 ghost use Rattle.std.specs.Prelude.{◌≤◌, length, IfOk};
 
 use crate::find::is_needed_outside;
-use lossless_tree::{SyntaxElement, SyntaxKind, SyntaxNode, TextSize, WalkEvent};
+use lossless_tree::{SyntaxElement, SyntaxNode, TextSize, WalkEvent};
 use ras_node::support::share;
 use ras_parsing::Parse;
-use rust_report::{Difference, Trivia, differences};
+use rust_report::{Difference, Trivia, differences, is_pair};
 use std::alloc::{AllocError, Global};
 
 // How many differences of two trees are used, while most guesses are right.
@@ -157,7 +157,7 @@ fn count_before(pairs: &[SyntaxNode], offset: TextSize) -> usize {
 fn start_of(element: &SyntaxElement) -> TextSize {
     match element.parent() {
         Some(parent) => {
-            if parent.kind() == SyntaxKind::PAREN_EXPR {
+            if is_pair(&parent) {
                 parent.text_range().start()
             } else {
                 element.text_range().start()

@@ -1,10 +1,12 @@
-//! Needless pairs of parentheses of a tree: by the tests of operators and statements, and by the parse of the text without them.
+//! Needless pairs of parentheses of a tree, around expressions and patterns: by the tests of operators and statements, and by the parse of
+//! the text without them.
 #![tactic(auto)]
 
 mod alone;
 mod find;
 mod guess;
 mod needless;
+mod patterns;
 mod place;
 mod rustc;
 mod text;

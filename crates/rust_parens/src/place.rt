@@ -1,7 +1,8 @@
 //! What a pair of parentheses is a part of.
 ghost use Rattle.std.specs.Prelude.{◌≡◌};
-ghost use Rattle.rust_parens.specs.Places.{holds_value, holds_operand, is_assignment, is_shift, is_arithmetic, operator, is_behind, is_right_value, is_mixed, place_in, place_of};
+ghost use Rattle.rust_parens.specs.Places.{holds_value, holds_operand, is_assignment, is_shift, is_arithmetic, operator, is_behind, is_right_value, is_mixed, place_in, place_around, place_of};
 
+use crate::patterns::holds_a_range;
 use lossless_tree::{SyntaxKind, SyntaxNode};
 use ras_node::sets::BinaryOperators;
 use ras_prec_walks::parts::{first_expr, is_it};
@@ -9,14 +10,14 @@ use ras_prec_walks::parts::{first_expr, is_it};
 /// What a pair of parentheses is a part of, by the node around it.
 #[derive(Clone, Copy, Debug, PartialEq, Eq)]
 pub enum PairPlace {
-    /// A whole value, as that of a `let`, of an argument or of a condition; also a pair directly in another one. rustc's lint
-    /// `unused_parens` asks to remove these.
+    /// A whole value, as that of a `let`, of an argument or of a condition; also a pair directly in another one; and every pattern but
+    /// a range. rustc's lint `unused_parens` asks to remove these.
     Value,
     /// An operand of an operator, a call, a field or a reference.
     Operand,
     /// A sum or a product below `<<` or `>>`: clippy's lint `precedence` asks for this pair.
     Mixed,
-    /// Anything else, as an element of an array or a statement.
+    /// Anything else, as an element of an array, a statement or a pattern that is a range.
     Other,
 }
 
@@ -158,11 +159,26 @@ fn place_in(parent: &SyntaxNode, pair: &SyntaxNode) -> PairPlace
     }
 }
 
-/// What a pair of parentheses, a `PAREN_EXPR`, is a part of. Of `(a) + [(b)]`, the first pair is an operand and the second is of another
-/// place; of `f((a))` and `x = (a);` the pair is a value.
+// What a pair around a pattern is a part of.
+fn place_around(is_range: bool) -> PairPlace
+    ensures { result ≡ place_around is_range }
+{
+    if is_range {
+        PairPlace::Other
+    } else {
+        PairPlace::Value
+    }
+}
+
+/// What a pair of parentheses, a `PAREN_EXPR` or a `PAREN_PAT`, is a part of. Of `(a) + [(b)]`, the first pair is an operand and the
+/// second is of another place; of `f((a))` and `x = (a);` the pair is a value, and of `let (a) = b;` too. Of `let (1..) = a else { c };`
+/// it is of another place.
 pub fn place_of(pair: &SyntaxNode) -> PairPlace
     ensures { result ≡ place_of pair.now }
 {
+    if pair.kind() == SyntaxKind::PAREN_PAT {
+        return place_around(holds_a_range(pair));
+    }
     match pair.parent() {
         None => PairPlace::Other,
         Some(parent) => place_in(&parent, pair),

@@ -1,15 +1,17 @@
 //! Pairs that rustc needs, although rust-analyzer's parser reads the same tree without them.
 ghost use Rattle.std.specs.Prelude.{◌≡◌};
 ghost use Rattle.ras_node.specs.Nodes.{is_of_kind};
-ghost use Rattle.rust_parens.specs.Rustc.{holds_statement, is_statement_macro, is_full_range, is_block, is_without_block, is_bracket, takes_closure, is_reference_in, is_open_closure, token_after, is_else, is_before_else, token_before, is_with_block, is_plain_start, is_plain_block, is_statement, is_ended, is_ended_at, body_of, ends_statement, is_open_brace, is_after_brace, begins_with_word, is_word_token, is_before_word, is_before_label, is_read_otherwise, is_needed_by_rustc};
+ghost use Rattle.rust_parens.specs.Rustc.{holds_statement, is_statement_macro, is_full_range, is_block, is_without_block, token_after, is_pair_at, is_end, is_open_closure, is_else, is_lazy_token, is_lazy, is_closing_brace, is_plain_value, is_before_else, token_before, is_with_block, is_plain_start, is_plain_block, is_statement, is_expression_statement, is_macro_statement, is_item, is_ended, is_ended_at, body_of, ends_statement, is_open_brace, is_after_brace, begins_with_word, is_word_token, is_before_word, is_before_label, is_read_otherwise, is_needed_by_rustc};
 
 use crate::text::is_word;
 use lossless_tree::{NodeOrToken, SyntaxKind, SyntaxNode, SyntaxToken};
 use ras_algo::algo::{next_non_trivia_token, previous_non_trivia_token};
+use ras_node::sets::BinaryOperators;
 use ras_node::support::share;
 use ras_prec_walks::parts::first_expr;
 
-fn is_a(node: &SyntaxNode, kind: SyntaxKind) -> bool
+/// Whether a node is of a kind.
+pub(crate) fn is_a(node: &SyntaxNode, kind: SyntaxKind) -> bool
     ensures { result ≡ is_of_kind kind node.now }
 {
     node.kind().to_raw() == kind.to_raw()
@@ -53,45 +55,6 @@ fn is_without_block(inside: &SyntaxNode) -> bool
     is_a(inside, SyntaxKind::CLOSURE_EXPR) && !is_block(first_expr(inside))
 }
 
-// What is directly in one of these ends before a comma or a bracket.
-fn is_bracket(parent: &SyntaxNode) -> bool
-    ensures { result ≡ is_bracket parent.now }
-{
-    is_a(parent, SyntaxKind::ARG_LIST)
-        || is_a(parent, SyntaxKind::ARRAY_EXPR)
-        || is_a(parent, SyntaxKind::TUPLE_EXPR)
-        || is_a(parent, SyntaxKind::RECORD_EXPR_FIELD)
-        || is_a(parent, SyntaxKind::MATCH_ARM)
-}
-
-// What is directly in one of these ends before a comma, a bracket or a semicolon.
-fn takes_closure(parent: &SyntaxNode) -> bool
-    ensures { result ≡ takes_closure parent.now }
-{
-    is_bracket(parent)
-        || is_a(parent, SyntaxKind::LET_STMT)
-        || is_a(parent, SyntaxKind::EXPR_STMT)
-        || is_a(parent, SyntaxKind::STMT_LIST)
-}
-
-// A `&` whose operand ends there.
-fn is_reference_in(parent: &SyntaxNode) -> bool
-    ensures { result ≡ is_reference_in parent.now }
-{
-    is_a(parent, SyntaxKind::REF_EXPR)
-        && match parent.parent() {
-            None => false,
-            Some(above) => takes_closure(&above),
-        }
-}
-
-// In `match (|| S {}) {`, rustc ends the closure before `{` if there are no parentheses.
-fn is_open_closure(inside: &SyntaxNode, parent: &SyntaxNode) -> bool
-    ensures { result ≡ is_open_closure inside.now parent.now }
-{
-    is_without_block(inside) && !(takes_closure(parent) || is_reference_in(parent))
-}
-
 // The token after a pair that is neither white space nor a comment.
 fn token_after(pair: &SyntaxNode) -> Option<SyntaxToken>
     ensures { result ≡ token_after pair.now }
@@ -99,20 +62,92 @@ fn token_after(pair: &SyntaxNode) -> Option<SyntaxToken>
     next_non_trivia_token(NodeOrToken::Node(share(pair)))
 }
 
+fn is_token(token: &SyntaxToken, kind: SyntaxKind) -> bool
+    ensures { result ≡ is_of_kind kind token.now }
+{
+    token.kind().to_raw() == kind.to_raw()
+}
+
+fn is_pair_at(node: Option<SyntaxNode>) -> bool
+    ensures { result ≡ is_pair_at node }
+{
+    match node {
+        None => false,
+        Some(node) => is_a(&node, SyntaxKind::PAREN_EXPR),
+    }
+}
+
+// A comma, a semicolon or a closing bracket, but for that of a pair, which may go too.
+fn is_end(token: Option<SyntaxToken>) -> bool
+    ensures { result ≡ is_end token }
+{
+    match token {
+        None => false,
+        Some(token) => {
+            is_token(&token, SyntaxKind::COMMA)
+                || is_token(&token, SyntaxKind::SEMICOLON)
+                || is_token(&token, SyntaxKind::R_BRACK)
+                || is_token(&token, SyntaxKind::R_CURLY)
+                || (is_token(&token, SyntaxKind::R_PAREN) && !is_pair_at(token.parent()))
+        }
+    }
+}
+
+// In `match (|| S {}) {`, rustc ends the closure before `{` if there are no parentheses.
+fn is_open_closure(inside: &SyntaxNode, pair: &SyntaxNode) -> bool
+    ensures { result ≡ is_open_closure inside.now pair.now }
+{
+    is_without_block(inside) && !is_end(token_after(pair))
+}
+
 fn is_else(token: Option<SyntaxToken>) -> bool
     ensures { result ≡ is_else token }
 {
     match token {
         None => false,
-        Some(token) => token.kind().to_raw() == SyntaxKind::ELSE_KW.to_raw(),
+        Some(token) => is_token(&token, SyntaxKind::ELSE_KW),
     }
 }
 
-// `let x = &(S {}) else {`: rustc allows few expressions before `else`.
-fn is_before_else(pair: &SyntaxNode) -> bool
-    ensures { result ≡ is_before_else pair.now }
+fn is_lazy_token(token: Option<SyntaxToken>) -> bool
+    ensures { result ≡ is_lazy_token token }
 {
-    is_else(token_after(pair))
+    match token {
+        None => false,
+        Some(token) => { is_token(&token, SyntaxKind::AMP2) || is_token(&token, SyntaxKind::PIPE2) }
+    }
+}
+
+fn is_lazy(node: &SyntaxNode) -> bool
+    ensures { result ≡ is_lazy node.now }
+{
+    is_a(node, SyntaxKind::BIN_EXPR)
+        && is_lazy_token(ras_node::first_token::<BinaryOperators>(node.children_with_tokens()))
+}
+
+fn is_closing_brace(token: Option<SyntaxToken>) -> bool
+    ensures { result ≡ is_closing_brace token }
+{
+    match token {
+        None => false,
+        Some(token) => is_token(&token, SyntaxKind::R_CURLY),
+    }
+}
+
+// `let x = (a + b) else {`: what may precede the `else` as the whole value. Of pairs in pairs the outermost stays.
+fn is_plain_value(inside: &SyntaxNode) -> bool
+    ensures { result ≡ is_plain_value inside.now }
+{
+    !(is_a(inside, SyntaxKind::PAREN_EXPR)
+        || is_lazy(inside)
+        || is_closing_brace(inside.last_token()))
+}
+
+// `let x = &(S {}) else {`: rustc allows few expressions before `else`.
+fn is_before_else(inside: &SyntaxNode, parent: &SyntaxNode, pair: &SyntaxNode) -> bool
+    ensures { result ≡ is_before_else inside.now parent.now pair.now }
+{
+    is_else(token_after(pair)) && !(is_a(parent, SyntaxKind::LET_STMT) && is_plain_value(inside))
 }
 
 // The token before a pair that is neither white space nor a comment.
@@ -162,10 +197,47 @@ fn is_statement(above: Option<SyntaxNode>) -> bool
     }
 }
 
+fn is_expression_statement(above: Option<SyntaxNode>) -> bool
+    ensures { result ≡ is_expression_statement above }
+{
+    match above {
+        None => false,
+        Some(above) => is_a(&above, SyntaxKind::EXPR_STMT),
+    }
+}
+
+// `m! {}` as a statement, of which nothing goes on for rustc either.
+fn is_macro_statement(node: &SyntaxNode) -> bool
+    ensures { result ≡ is_macro_statement node.now }
+{
+    is_a(node, SyntaxKind::MACRO_EXPR) && is_expression_statement(node.parent())
+}
+
+// Whether nodes of the kind are items that may end with `}`.
+fn is_item(kind: SyntaxKind) -> bool
+    ensures { result ≡ is_item kind }
+{
+    matches!(
+        kind,
+        SyntaxKind::FN
+            | SyntaxKind::STRUCT
+            | SyntaxKind::ENUM
+            | SyntaxKind::UNION
+            | SyntaxKind::TRAIT
+            | SyntaxKind::IMPL
+            | SyntaxKind::MODULE
+            | SyntaxKind::EXTERN_BLOCK
+            | SyntaxKind::MACRO_RULES
+            | SyntaxKind::MACRO_DEF
+    )
+}
+
 fn is_ended(node: &SyntaxNode) -> bool
     ensures { result ≡ is_ended node.now }
 {
-    (is_with_block(node) || is_plain_block(node)) && is_statement(node.parent())
+    ((is_with_block(node) || is_plain_block(node)) && is_statement(node.parent()))
+        || is_macro_statement(node)
+        || is_item(node.kind())
 }
 
 fn is_ended_at(node: Option<SyntaxNode>) -> bool
@@ -177,7 +249,7 @@ fn is_ended_at(node: Option<SyntaxNode>) -> bool
     }
 }
 
-// The block, or the `match`, that a `}` is the end of.
+// The block, the `match`, the item or the call that a `}` is the end of.
 fn body_of(brace: &SyntaxToken) -> Option<SyntaxNode>
     ensures { result ≡ body_of brace.now }
 {
@@ -185,7 +257,7 @@ fn body_of(brace: &SyntaxToken) -> Option<SyntaxNode>
     list.parent()
 }
 
-// `for a in b {} (c)` are two expressions to rustc too.
+// `for a in b {} (c)` are two expressions to rustc too, and `fn f() {} (c)` an item and one.
 fn ends_statement(body: Option<SyntaxNode>) -> bool
     ensures { result ≡ ends_statement body }
 {
@@ -252,17 +324,20 @@ fn is_read_otherwise(inside: &SyntaxNode, parent: &SyntaxNode, pair: &SyntaxNode
     is_a(inside, SyntaxKind::UNDERSCORE_EXPR)
         || is_full_range(inside)
         || is_statement_macro(inside, parent)
-        || is_open_closure(inside, parent)
+        || is_open_closure(inside, pair)
         || is_before_label(inside, parent, pair)
 }
 
 /// Whether the contents of a pair are of a kind that rustc may read otherwise without the pair, although rust-analyzer's parser reads the
 /// same tree: a macro call as a statement or at the end of a block, `continue` before a word, `_`, a range without ends, a closure whose
-/// body is not a block (unless a comma, a bracket or a semicolon follows the pair, perhaps with a `&` before it), everything before an
-/// `else`, and everything after a `}` that does not end a statement for rustc, as that of `async {}`: it does at the end of a block, an
-/// `unsafe` block, an `if`, a `match` or a loop. Some of these pairs can be removed all the same.
+/// body is not a block (unless a comma, a bracket that is not a pair's, or a semicolon follows the pair), everything before an `else` but
+/// a whole value that is neither `&&` nor `||` nor ends with `}`, and everything after a `}` that does not end a statement for rustc, as
+/// that of `async {}`: it does at the end of a block, an `unsafe` block, an `if`, a `match`, a loop, an item or a macro call. Some of
+/// these pairs can be removed all the same.
 pub fn is_needed_by_rustc(inside: &SyntaxNode, parent: &SyntaxNode, pair: &SyntaxNode) -> bool
     ensures { result ≡ is_needed_by_rustc inside.now parent.now pair.now }
 {
-    is_read_otherwise(inside, parent, pair) || is_before_else(pair) || is_after_brace(pair)
+    is_read_otherwise(inside, parent, pair)
+        || is_before_else(inside, parent, pair)
+        || is_after_brace(pair)
 }

@@ -1,5 +1,5 @@
 -- Two trees, read as walks that enter and leave each node and token.
-use Rattle.std.specs.Prelude.{◌≡◌, ℕ, Bool, true, false, not, ◌&&◌, List, [], ◌∷◌, ◌++◌, Option, Some, None, map, get_or}
+use Rattle.std.specs.Prelude.{◌≡◌, ℕ, Bool, true, false, not, ◌&&◌, ◌||◌, List, [], ◌∷◌, ◌++◌, Option, Some, None, map, get_or}
 use Rattle.std.specs.List.{filter}
 use Rattle.syntax_kind.specs.declared.syntax_kind.SyntaxKind.{SyntaxKind}
 use Rattle.syntax_kind.specs.declared.syntax_kind.SyntaxKind.TheVariants.{Token}
@@ -11,7 +11,7 @@ use Rattle.lossless_tree.specs.declared.cursor.element.NodeOrToken.TheVariants a
 use Rattle.lossless_tree.specs.Element.{is_trivia_element}
 use Rattle.lossless_tree.specs.WalkEvent.{walk_event}
 use Rattle.tree_model.specs.Tree.{text}
-use Rattle.syntax_kind.specs.declared.syntax_kind.TheConstants.SyntaxKind.{PAREN_EXPR}
+use Rattle.syntax_kind.specs.declared.syntax_kind.TheConstants.SyntaxKind.{PAREN_EXPR, PAREN_PAT}
 use Rattle.tree_model.specs.Cursor.{Cursor, focus, range_start, walk_of}
 use Rattle.ras_node.specs.Nodes.{kind_at, is_of_kind}
 use Rattle.rust_report.specs.declared.same.Trivia.{Trivia}
@@ -37,9 +37,13 @@ is_paren _ = false
 abbrev pub is_marked : List Bool → ℕ → Bool
 is_marked marks o = get_or marks o false
 
+-- a pair of parentheses around an expression or a pattern
+abbrev pub is_pair : Cursor → Bool
+is_pair c = is_of_kind PAREN_EXPR c || is_of_kind PAREN_PAT c
+
 -- a pair of parentheses that starts at a marked byte, or a parenthesis that does
 abbrev pub is_left_out : List Bool → Element → Bool
-is_left_out marks (element.Node c) = is_of_kind PAREN_EXPR c && is_marked marks (range_start c)
+is_left_out marks (element.Node c) = is_pair c && is_marked marks (range_start c)
 is_left_out marks (element.Token c) = is_paren (kind_at c) && is_marked marks (range_start c)
 
 -- white space or a comment, where these are passed over

@@ -30,7 +30,7 @@ pub use numbers::with_commas;
 pub use pattern::{Link, Step, query};
 pub use place::{Spot, Spots, offset_of, spot_of};
 pub use roles::{Role, role_of};
-pub use same::{Difference, Trivia, differences, first_difference, is_left_out};
+pub use same::{Difference, Trivia, differences, first_difference, is_left_out, is_pair};
 pub use shown::{Marks, excerpt_at, short_of};
 pub use texts::{AFTER, BEFORE, Excerpt, WIDEST, excerpt_of, first_line, line_at};
 pub use words::{PatternError, kind_named, parse_pattern};

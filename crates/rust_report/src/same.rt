@@ -1,7 +1,7 @@
 //! Where two trees differ, also with some pairs of parentheses left out of the first.
 ghost use Rattle.std.specs.Prelude.{◌≡◌, ◌↔◌, IsTrue, IsNone, IfSome, IfOk, OnOk, [], map};
 ghost use Rattle.tree_model.specs.Cursor.{walk_of};
-ghost use Rattle.rust_report.specs.Steps.{is_marked, is_left_out, counts_element, counts, shown, step, steps_of, counted, IsNext, IsFirstDifference};
+ghost use Rattle.rust_report.specs.Steps.{is_marked, is_pair, is_left_out, counts_element, counts, shown, step, steps_of, counted, IsNext, IsFirstDifference};
 ghost use Rattle.rust_report.specs.Differences.{past, levels, AreDifferences, DifferThen};
 
 use lossless_tree::{
@@ -37,15 +37,20 @@ fn is_marked(marks: &[bool], offset: TextSize) -> bool
     }
 }
 
-/// Whether marks, one for each byte of the text, leave out a node or token: a node `PAREN_EXPR` or a parenthesis that starts at a marked
-/// byte.
+/// Whether a node is a pair of parentheses around an expression or a pattern: a `PAREN_EXPR` or a `PAREN_PAT`.
+pub fn is_pair(node: &SyntaxNode) -> bool
+    ensures { result ≡ is_pair node.now }
+{
+    node.kind() == SyntaxKind::PAREN_EXPR || node.kind() == SyntaxKind::PAREN_PAT
+}
+
+/// Whether marks, one for each byte of the text, leave out a node or token: a pair, by [`is_pair`], or a parenthesis that starts at a
+/// marked byte.
 pub fn is_left_out(marks: &[bool], element: &SyntaxElement) -> bool
     ensures { result ≡ is_left_out marks.now element.now }
 {
     match element {
-        NodeOrToken::Node(node) => {
-            node.kind() == SyntaxKind::PAREN_EXPR && is_marked(marks, node.text_range().start())
-        }
+        NodeOrToken::Node(node) => { is_pair(node) && is_marked(marks, node.text_range().start()) }
         NodeOrToken::Token(token) => match token.kind() {
             SyntaxKind::L_PAREN | SyntaxKind::R_PAREN => {
                 is_marked(marks, token.text_range().start())
