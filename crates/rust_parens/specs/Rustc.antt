@@ -1,6 +1,6 @@
 -- Pairs that rustc needs, although rust-analyzer's parser reads the same tree without them. Source: the Rust Reference, "Macro
 -- invocation expressions", "Closure expressions", "Destructuring assignment", "let statements" and "Expression statements".
-use Rattle.std.specs.Prelude.{ℕ, Bool, true, false, not, ◌&&◌, ◌||◌, Option, Some, None, is_none, slice_get}
+use Rattle.std.specs.Prelude.{ℕ, Bool, true, false, not, ◌&&◌, ◌||◌, if◌then◌else◌, List, [], ◌∷◌, Option, Some, None, is_none, slice_get}
 use Rattle.std.specs.List.{find}
 use Rattle.std.specs.Option.{option_and_then}
 use Rattle.syntax_kind.specs.declared.syntax_kind.SyntaxKind.{SyntaxKind}
@@ -9,7 +9,7 @@ use Rattle.syntax_kind.specs.declared.syntax_kind.node_kind.NodeKind.TheVariants
 use Rattle.syntax_kind.specs.declared.syntax_kind.TheConstants.SyntaxKind.{MACRO_EXPR, EXPR_STMT, STMT_LIST, PAREN_EXPR, CONTINUE_EXPR, UNDERSCORE_EXPR, RANGE_EXPR, BIN_EXPR, BLOCK_EXPR, CLOSURE_EXPR, LET_STMT, ELSE_KW, L_CURLY, R_CURLY, R_PAREN, R_BRACK, COMMA, SEMICOLON, AMP2, PIPE2, UNSAFE_KW, IF_EXPR, MATCH_EXPR, FOR_EXPR, WHILE_EXPR, LOOP_EXPR}
 use Rattle.tree_model.specs.declared.direction.Direction.TheVariants.{Next, Prev}
 use Rattle.tree_model.specs.Tree.{text}
-use Rattle.tree_model.specs.Cursor.{Cursor, focus, children_of, parent_of}
+use Rattle.tree_model.specs.Cursor.{Cursor, focus, ancestors_of, children_of, parent_of}
 use Rattle.tree_model.specs.NearestToken.{tokens_beyond}
 use Rattle.lossless_tree.specs.declared.cursor.element.NodeOrToken.TheVariants as element
 use Rattle.ras_node.specs.Nodes.{kind_at, is_of_kind, typed_child}
@@ -19,13 +19,18 @@ use Rattle.ras_node.specs.Searches.{first_token}
 use Rattle.ras_algo.specs.Algo.{first_token_of, last_token_of, has_no_trivia_kind}
 use Rattle.rust_parens.specs.Words.{is_word}
 
--- statements, and the last expression of a block, are in these, or in further pairs
+-- statements, and the last expression of a block, are in these
 abbrev pub holds_statement : Cursor → Bool
-holds_statement parent = is_of_kind EXPR_STMT parent || (is_of_kind STMT_LIST parent || is_of_kind PAREN_EXPR parent)
+holds_statement c = is_of_kind EXPR_STMT c || is_of_kind STMT_LIST c
 
--- a macro call as a statement or at the end of a block
+-- the first of these nodes that is no pair holds a statement
+abbrev pub is_in_statement : List Cursor → Bool
+is_in_statement [] = false
+is_in_statement (c ∷ cs) = if is_of_kind PAREN_EXPR c then is_in_statement cs else holds_statement c
+
+-- a macro call as a statement or at the end of a block, in pairs of which the innermost stays
 abbrev pub is_statement_macro : Cursor → Cursor → Bool
-is_statement_macro inside parent = is_of_kind MACRO_EXPR inside && holds_statement parent
+is_statement_macro inside pair = is_of_kind MACRO_EXPR inside && is_in_statement (ancestors_of pair)
 
 -- `..` without ends
 abbrev pub is_full_range : Cursor → Bool
@@ -173,7 +178,7 @@ is_before_label inside parent pair = is_of_kind CONTINUE_EXPR inside && (is_of_k
 
 abbrev pub is_read_otherwise : Cursor → Cursor → Cursor → Bool
 is_read_otherwise inside parent pair =
-    is_of_kind UNDERSCORE_EXPR inside || (is_full_range inside || (is_statement_macro inside parent
+    is_of_kind UNDERSCORE_EXPR inside || (is_full_range inside || (is_statement_macro inside pair
     || (is_open_closure inside pair || is_before_label inside parent pair)))
 
 -- one of these, or something before an `else` or after a `}` that ends no statement for rustc

@@ -1,7 +1,8 @@
 //! Pairs that rustc needs, although rust-analyzer's parser reads the same tree without them.
 ghost use Rattle.std.specs.Prelude.{◌≡◌};
+ghost use Rattle.tree_model.specs.Cursor.{ancestors_of};
 ghost use Rattle.ras_node.specs.Nodes.{is_of_kind};
-ghost use Rattle.rust_parens.specs.Rustc.{holds_statement, is_statement_macro, is_full_range, is_block, is_without_block, token_after, is_pair_at, is_end, is_open_closure, is_else, is_lazy_token, is_lazy, is_closing_brace, is_plain_value, is_before_else, token_before, is_with_block, is_plain_start, is_plain_block, is_statement, is_expression_statement, is_macro_statement, is_item, is_ended, is_ended_at, body_of, ends_statement, is_open_brace, is_after_brace, begins_with_word, is_word_token, is_before_word, is_before_label, is_read_otherwise, is_needed_by_rustc};
+ghost use Rattle.rust_parens.specs.Rustc.{holds_statement, is_in_statement, is_statement_macro, is_full_range, is_block, is_without_block, token_after, is_pair_at, is_end, is_open_closure, is_else, is_lazy_token, is_lazy, is_closing_brace, is_plain_value, is_before_else, token_before, is_with_block, is_plain_start, is_plain_block, is_statement, is_expression_statement, is_macro_statement, is_item, is_ended, is_ended_at, body_of, ends_statement, is_open_brace, is_after_brace, begins_with_word, is_word_token, is_before_word, is_before_label, is_read_otherwise, is_needed_by_rustc};
 
 use crate::text::is_word;
 use lossless_tree::{NodeOrToken, SyntaxKind, SyntaxNode, SyntaxToken};
@@ -17,20 +18,31 @@ pub(crate) fn is_a(node: &SyntaxNode, kind: SyntaxKind) -> bool
     node.kind().to_raw() == kind.to_raw()
 }
 
-// Of pairs around a macro call the innermost stays, since the others may go.
-fn holds_statement(parent: &SyntaxNode) -> bool
-    ensures { result ≡ holds_statement parent.now }
+fn holds_statement(node: &SyntaxNode) -> bool
+    ensures { result ≡ holds_statement node.now }
 {
-    is_a(parent, SyntaxKind::EXPR_STMT)
-        || is_a(parent, SyntaxKind::STMT_LIST)
-        || is_a(parent, SyntaxKind::PAREN_EXPR)
+    is_a(node, SyntaxKind::EXPR_STMT) || is_a(node, SyntaxKind::STMT_LIST)
 }
 
-// `(m! {});` is an expression; `m! {}` as a statement or at the end of a block is the statements that it expands to.
-fn is_statement_macro(inside: &SyntaxNode, parent: &SyntaxNode) -> bool
-    ensures { result ≡ is_statement_macro inside.now parent.now }
+// Whether a pair, or the outermost of those directly around it, is a statement or ends a block.
+fn is_in_statement(pair: &SyntaxNode) -> bool
+    ensures { result ≡ is_in_statement (ancestors_of pair.now) }
 {
-    is_a(inside, SyntaxKind::MACRO_EXPR) && holds_statement(parent)
+    let mut around = pair.ancestors();
+    while let Some(node) = around.next() {
+        if !is_a(&node, SyntaxKind::PAREN_EXPR) {
+            return holds_statement(&node);
+        }
+    }
+    false
+}
+
+// `(m! {});` is an expression; `m! {}` as a statement or at the end of a block is the statements that it expands to. Of pairs around the
+// call the innermost stays there, since the others may go.
+fn is_statement_macro(inside: &SyntaxNode, pair: &SyntaxNode) -> bool
+    ensures { result ≡ is_statement_macro inside.now pair.now }
+{
+    is_a(inside, SyntaxKind::MACRO_EXPR) && is_in_statement(pair)
 }
 
 // `(..) = t` is a range, and `.. = t` leaves out what it does not name.
@@ -323,7 +335,7 @@ fn is_read_otherwise(inside: &SyntaxNode, parent: &SyntaxNode, pair: &SyntaxNode
 {
     is_a(inside, SyntaxKind::UNDERSCORE_EXPR)
         || is_full_range(inside)
-        || is_statement_macro(inside, parent)
+        || is_statement_macro(inside, pair)
         || is_open_closure(inside, pair)
         || is_before_label(inside, parent, pair)
 }
