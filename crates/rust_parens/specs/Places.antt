@@ -112,6 +112,9 @@ abbrev pub place_below : Option Cursor → Cursor → PairPlace
 place_below None pair = Other
 place_below (Some parent) pair = place_in parent pair
 
+abbrev pub place_by_parent : Cursor → PairPlace
+place_by_parent pair = place_below (parent_of pair) pair
+
 -- a range beside other patterns; rustc's lint asks to remove the pairs around these
 abbrev pub place_around : Bool → PairPlace
 place_around true = Other
@@ -119,4 +122,4 @@ place_around false = Value
 
 -- of an expression by the node around it, and of a pattern by what is in it
 abbrev pub place_of : Cursor → PairPlace
-place_of pair = if is_of_kind (Node kind.PAREN_PAT) pair then place_around (holds_a_range pair) else place_below (parent_of pair) pair
+place_of pair = if is_of_kind (Node kind.PAREN_PAT) pair then place_around (holds_a_range pair) else place_by_parent pair

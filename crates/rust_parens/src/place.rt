@@ -1,8 +1,9 @@
 //! What a pair of parentheses is a part of.
 ghost use Rattle.std.specs.Prelude.{◌≡◌};
-ghost use Rattle.rust_parens.specs.Places.{holds_value, holds_operand, is_assignment, is_shift, is_arithmetic, operator, is_behind, is_right_value, is_mixed, place_in, place_around, place_of};
+ghost use Rattle.rust_parens.specs.Places.{holds_value, holds_operand, is_assignment, is_shift, is_arithmetic, operator, is_behind, is_right_value, is_mixed, place_in, place_by_parent, place_around, place_of};
 
 use crate::patterns::holds_a_range;
+use crate::rustc::is_a;
 use lossless_tree::{SyntaxKind, SyntaxNode};
 use ras_node::sets::BinaryOperators;
 use ras_prec_walks::parts::{first_expr, is_it};
@@ -170,17 +171,25 @@ fn place_around(is_range: bool) -> PairPlace
     }
 }
 
+// What a pair is a part of, by the node around it.
+fn place_by_parent(pair: &SyntaxNode) -> PairPlace
+    ensures { result ≡ place_by_parent pair.now }
+{
+    match pair.parent() {
+        None => PairPlace::Other,
+        Some(parent) => place_in(&parent, pair),
+    }
+}
+
 /// What a pair of parentheses, a `PAREN_EXPR` or a `PAREN_PAT`, is a part of. Of `(a) + [(b)]`, the first pair is an operand and the
 /// second is of another place; of `f((a))` and `x = (a);` the pair is a value, and of `let (a) = b;` too. Of `let (1..) = a else { c };`
 /// it is of another place.
 pub fn place_of(pair: &SyntaxNode) -> PairPlace
     ensures { result ≡ place_of pair.now }
 {
-    if pair.kind() == SyntaxKind::PAREN_PAT {
-        return place_around(holds_a_range(pair));
-    }
-    match pair.parent() {
-        None => PairPlace::Other,
-        Some(parent) => place_in(&parent, pair),
+    if is_a(pair, SyntaxKind::PAREN_PAT) {
+        place_around(holds_a_range(pair))
+    } else {
+        place_by_parent(pair)
     }
 }
