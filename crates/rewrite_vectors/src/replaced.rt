@@ -116,6 +116,81 @@ fn placeholders(rt: HostRuntime) -> Result<(), Fail> {
 }
 
 #[test]
+fn commas_at_the_end(rt: HostRuntime) -> Result<(), Fail> {
+    run(
+        rt.alloc(),
+        &[
+            (
+                "f($a, $b) ==>> g($b, $a)",
+                "f(1, 2,); f(\n1,\n2,\n);",
+                "g(2, 1); g(2, 1);",
+            ),
+            (
+                "f($a, $b,) ==>> g($b, $a)",
+                "f(1, 2); f(1, 2,);",
+                "g(2, 1); g(2, 1);",
+            ),
+            (
+                "[$a, $b] ==>> [$b, $a,]",
+                "[1, 2,]; [1; 2];",
+                "[2, 1,]; [1; 2];",
+            ),
+            (
+                "S { a: $a } ==>> S { a: f($a) }",
+                "S { a: 1, }; S { a: 1, ..b };",
+                "S { a: f(1) }; S { a: 1, ..b };",
+            ),
+            (
+                "|$p, $q| $e ==>> |$q, $p| $e",
+                "f(|a, b,| a);",
+                "f(|b, a| a);",
+            ),
+            (
+                "f::<$t>($a) ==>> g::<$t>($a)",
+                "f::<u8,>(1,);",
+                "g::<u8>(1);",
+            ),
+            (
+                "match $x { A => $a, B => $b } ==>> h($x, $a, $b)",
+                "match x { A => 1, B => 2, }; match x { A => {} B => {} }",
+                "h(x, 1, 2); h(x, {}, {})",
+            ),
+            (
+                "let ($p, $q) = $e; ==>> let ($q, $p) = $e;",
+                "let (a, b,) = (1, 2,);",
+                "let (b, a) = (1, 2,);",
+            ),
+            ("$a + $a ==>> 2 * $a", "f(a,) + f(a);", "2 * f(a,);"),
+            // A tuple of one element and a pair, and a comma that is not at the end.
+            (
+                "f(($a,)) ==>> $a",
+                "f((1,)); f((1)); f(1);",
+                "1; f((1)); f(1);",
+            ),
+            ("f(($a)) ==>> $a", "f((1,)); f((1));", "(1,); (1);"),
+            ("f($a) ==>> $a", "f(1, 2); f(,);", "f(1, 2); f(,);"),
+            // Commas of the arguments of a macro count, as all their tokens.
+            (
+                "f(m![1, 2]) ==>> 0",
+                "f(m![1, 2]); f(m![1, 2,]); f(m![1, 2],);",
+                "0; f(m![1, 2,]); 0;",
+            ),
+            (
+                "$a + $a ==>> 2 * $a",
+                "x = m!(a,) + m!(a);",
+                "x = m!(a,) + m!(a);",
+            ),
+            // A comment beside the comma stays.
+            (
+                "f($a) ==>> $a",
+                "f(1, /* c */); f(1 /* c */,);",
+                "f(1, /* c */); f(1 /* c */,);",
+            ),
+        ],
+    )
+}
+
+#[test]
 fn comments(rt: HostRuntime) -> Result<(), Fail> {
     run(
         rt.alloc(),

@@ -1,14 +1,15 @@
 -- The steps of a walk are those of the trees that are left.
-use Rattle.std.proofs.Common.{◌≡◌, ℕ, suc, ◌+◌, ◌<◌, Bool, true, false, ◌&&◌, List, [], ◌∷◌, ◌++◌, length, refl, sym, subst, ◌∙◌, ap, inl, inr, arith}
+use Rattle.std.proofs.Common.{◌≡◌, ℕ, suc, ◌+◌, ◌<◌, Bool, true, false, ◌&&◌, ◌||◌, List, [], ◌∷◌, ◌++◌, length, refl, sym, subst, ◌∙◌, ap, inl, inr, arith}
 use Rattle.std.specs.Prelude.{if◌then◌else◌, ◌⊎◌, Option, Some, None}
 use Rattle.std.specs.Cmp.Lexicographic.{pointwise}
 use Rattle.syntax_kind.specs.declared.syntax_kind.SyntaxKind.{SyntaxKind}
-use Rattle.syntax_kind.specs.declared.syntax_kind.TheConstants.SyntaxKind.{PAREN_EXPR, L_PAREN, R_PAREN}
+use Rattle.syntax_kind.specs.declared.syntax_kind.TheConstants.SyntaxKind.{PAREN_EXPR, L_PAREN, R_PAREN, COMMA}
+use Rattle.syntax_kind.specs.Kinds.{is_same_kind}
 use Rattle.tree_model.specs.Tree.{Tree, node, token, Forest, nil, cons, kind_of, text, is_token, forest_of_children}
 use Rattle.lossless_tree.specs.Trees.{Siblings, is_done, first_of, rest_of, behind_first, inside_first}
 use Rattle.tree_match.specs.declared.bare.Comments.{Comments}
 use Rattle.tree_match.specs.declared.bare.Comments.TheVariants.{Passed}
-use Rattle.tree_match.specs.Bare.{Step, enter, leave, leaf, end, is_passed, is_passed_tree, past_trees, past_start, past, is_token_of, is_node_there, is_node_of, opening, held, closing, opens, closes, is_pair, inner, bare, is_same_step, is_end}
+use Rattle.tree_match.specs.Bare.{Step, enter, leave, leaf, end, is_passed, is_passed_tree, past_trees, past_start, past, is_token_of, is_node_there, is_node_of, opening, held, closing, opens, closes, is_pair, inner, bare, ends_list, is_last_comma, without_comma, is_element, behind_one, is_same_step, is_end}
 use Rattle.tree_match.specs.Walks.{step_at, advance}
 use Rattle.tree_match.specs.Same.{steps, steps_left, IsDecided}
 use Rattle.tree_match.proofs.BareLemmas.{at, and_left, and_right}
@@ -19,15 +20,15 @@ append_three (x ∷ l) m n = ap (λ k. x ∷ k) (append_three l m n)
 
 -- ---- what is passed over is no step
 
-steps_past : (cs : Comments) (f : Forest) → steps cs false f ≡ steps cs false (past_trees cs f)
+steps_past : (cs : Comments) (f : Forest) → steps cs false false f ≡ steps cs false false (past_trees cs f)
 steps_past cs nil = refl
 steps_past cs (cons (node k c) r) = refl
 steps_past cs (cons (token k t) r) = by (is_passed cs k) (steps_past cs r) refl
   where
-    by : (x : Bool) → steps cs false r ≡ steps cs false (past_trees cs r) → is_passed cs k ≡ x
-        → (if x then [] else leaf k t ∷ []) ++ steps cs false r ≡ steps cs false (if x then past_trees cs r else cons (token k t) r)
+    by : (x : Bool) → steps cs false false r ≡ steps cs false false (past_trees cs r) → is_passed cs k ≡ x
+        → (if x || false then [] else leaf k t ∷ []) ++ steps cs false false r ≡ steps cs false false (if x then past_trees cs r else cons (token k t) r)
     by true h e = h
-    by false h e = ap (λ y. (if y then [] else leaf k t ∷ []) ++ steps cs false r) (sym e)
+    by false h e = ap (λ y. (if y || false then [] else leaf k t ∷ []) ++ steps cs false false r) (sym e)
 
 past_counts : (cs : Comments) (f : Forest) → is_passed_tree cs (first_of (past_trees cs f)) ≡ false
 past_counts cs nil = refl
@@ -38,6 +39,47 @@ past_counts cs (cons (token k t) r) = by (is_passed cs k) (past_counts cs r) ref
         → is_passed_tree cs (first_of (if x then past_trees cs r else cons (token k t) r)) ≡ false
     by true h e = h
     by false h e = e
+
+-- ---- a comma at the end of a list is no step behind an element
+
+-- the siblings from the first on that counts, if a token in front of them is passed over or not
+abbrev past_by : Comments → SyntaxKind → List ℕ → Forest → ℕ → Bool → Siblings
+past_by cs k t r b x = at (if x then past_trees cs r else cons (token k t) r) (if x then past_start cs r (b + length t) else b)
+
+abbrev comma_by : Bool → Siblings → Siblings → Siblings
+comma_by y next s = if y then behind_first next else s
+
+steps_comma : (cs : Comments) (f : Forest) (b : ℕ) → steps cs false true f ≡ steps cs false false (without_comma cs (at f b)).trees
+steps_comma cs nil b = refl
+steps_comma cs (cons (node k c) r) b = refl
+steps_comma cs (cons (token k t) r) b = by (is_passed cs k) (steps_comma cs r (b + length t)) refl
+  where
+    passed : (y : Bool) → is_passed cs k ≡ true
+        → steps cs false true r ≡ steps cs false false (comma_by y (past_by cs k t r b true) (at r (b + length t))).trees
+        → steps cs false true r ≡ steps cs false false (comma_by y (past_by cs k t r b true) (at (cons (token k t) r) b)).trees
+    passed true e i = i
+    passed false e i = i ∙ ap (λ z. (if z || false then [] else leaf k t ∷ []) ++ steps cs false false r) (sym e)
+
+    counts : (y : Bool) → is_passed cs k ≡ false
+        → (if y then [] else leaf k t ∷ []) ++ steps cs false false r
+        ≡ steps cs false false (comma_by y (past_by cs k t r b false) (at (cons (token k t) r) b)).trees
+    counts true e = refl
+    counts false e = ap (λ z. (if z || false then [] else leaf k t ∷ []) ++ steps cs false false r) (sym e)
+
+    by : (x : Bool) → steps cs false true r ≡ steps cs false false (without_comma cs (at r (b + length t))).trees → is_passed cs k ≡ x
+        → (if x || is_last_comma cs (cons (token k t) r) then [] else leaf k t ∷ []) ++ steps cs false x r
+        ≡ steps cs false false (comma_by (is_last_comma cs (past_by cs k t r b x).trees) (past_by cs k t r b x) (at (cons (token k t) r) b)).trees
+    by true h e = passed (is_last_comma cs (past_trees cs r)) e h
+    by false h e = counts (is_last_comma cs (cons (token k t) r)) e
+
+-- the siblings behind a node
+steps_behind : (cs : Comments) (k : SyntaxKind) (c r : Forest) (b : ℕ)
+    → steps cs false (is_element (cons (node k c) r)) r ≡ steps cs false false (behind_one cs (at (cons (node k c) r) b)).trees
+steps_behind cs k c r b = by (is_element (cons (node k c) r))
+  where
+    by : (x : Bool) → steps cs false x r ≡ steps cs false false (if x then without_comma cs (behind_first (at (cons (node k c) r) b)) else behind_first (at (cons (node k c) r) b)).trees
+    by true = steps_comma cs r (behind_first (at (cons (node k c) r) b)).start
+    by false = refl
 
 -- ---- a pair has a node in it
 
@@ -79,16 +121,16 @@ pair_has cs k c r b h =
 -- ---- the steps of a node, in whatever pairs it is
 
 abbrev node_steps : Comments → Siblings → List Step
-node_steps cs s = enter (kind_of (first_of s.trees)) ∷ (steps cs false (forest_of_children (first_of s.trees)) ++ leave ∷ [])
+node_steps cs s = enter (kind_of (first_of s.trees)) ∷ (steps cs false false (forest_of_children (first_of s.trees)) ++ leave ∷ [])
 
-held_steps : (cs : Comments) (f : Forest) (b : ℕ) → has_node f ≡ true → steps cs true f ≡ node_steps cs (inner cs f b)
+held_steps : (cs : Comments) (f : Forest) (b : ℕ) → has_node f ≡ true → steps cs true false f ≡ node_steps cs (inner cs f b)
 unfolding has_node
 held_steps cs nil b h = absurd (let bad : false ≡ true = h in cc)
 held_steps cs (cons (token k t) r) b h = held_steps cs r (b + length t) h
 held_steps cs (cons (node k c) r) b h = by (is_pair cs (at (cons (node k c) r) b)) (held_steps cs c b) (pair_has cs k c r b)
   where
-    by : (x : Bool) → (has_node c ≡ true → steps cs true c ≡ node_steps cs (inner cs c b)) → (x ≡ true → has_node c ≡ true)
-        → (if x then steps cs true c else enter k ∷ (steps cs false c ++ leave ∷ []))
+    by : (x : Bool) → (has_node c ≡ true → steps cs true false c ≡ node_steps cs (inner cs c b)) → (x ≡ true → has_node c ≡ true)
+        → (if x then steps cs true false c else enter k ∷ (steps cs false false c ++ leave ∷ []))
         ≡ node_steps cs (if x then inner cs c b else at (cons (node k c) r) b)
     by true i e = i (e refl)
     by false i e = refl
@@ -96,16 +138,19 @@ held_steps cs (cons (node k c) r) b h = by (is_pair cs (at (cons (node k c) r) b
 -- ---- the next step
 
 step_view : (cs : Comments) (g : Forest) (b : ℕ) (below : List Siblings) → is_passed_tree cs (first_of g) ≡ false
-    → steps cs false g ++ leave ∷ steps_left cs below ≡ (step_at cs (at g b) below).0 ∷ steps_left cs (step_at cs (at g b) below).1
+    → steps cs false false g ++ leave ∷ steps_left cs below ≡ (step_at cs (at g b) below).0 ∷ steps_left cs (step_at cs (at g b) below).1
 step_view cs nil b below h = refl
 step_view cs (cons (token k t) r) b below h =
-    ap (λ x. ((if x then [] else leaf k t ∷ []) ++ steps cs false r) ++ leave ∷ steps_left cs below) h
+    ap (λ x. ((if x || false then [] else leaf k t ∷ []) ++ steps cs false false r) ++ leave ∷ steps_left cs below) h
 step_view cs (cons (node k c) r) b below h =
     let s : Siblings = inner cs (cons (node k c) r) b in
-    let l : List Step = steps cs false r ++ leave ∷ steps_left cs below in
-    append_three (steps cs true (cons (node k c) r)) (steps cs false r) (leave ∷ steps_left cs below)
-    ∙ ap (λ x. x ++ l) (held_steps cs (cons (node k c) r) b (there_has (cons (node k c) r) refl))
-    ∙ ap (λ x. enter (kind_of (first_of s.trees)) ∷ x) (append_three (steps cs false (forest_of_children (first_of s.trees))) (leave ∷ []) l)
+    let f : Forest = cons (node k c) r in
+    let m : List Step = steps cs false false (behind_one cs (at f b)).trees in
+    let l : List Step = m ++ leave ∷ steps_left cs below in
+    ap (λ x. (steps cs true false f ++ x) ++ leave ∷ steps_left cs below) (steps_behind cs k c r b)
+    ∙ append_three (steps cs true false f) m (leave ∷ steps_left cs below)
+    ∙ ap (λ x. x ++ l) (held_steps cs f b (there_has f refl))
+    ∙ ap (λ x. enter (kind_of (first_of s.trees)) ∷ x) (append_three (steps cs false false (forest_of_children (first_of s.trees))) (leave ∷ []) l)
 
 step_goes : (cs : Comments) (g : Forest) (b : ℕ) (below : List Siblings) → is_end (step_at cs (at g b) below).0 ≡ false
 step_goes cs nil b below = refl

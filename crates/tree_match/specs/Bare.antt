@@ -1,8 +1,8 @@
--- Trees without what does not count: white space, comments, and pairs of parentheses round an expression.
-use Rattle.std.specs.Prelude.{ℕ, ◌+◌, ◌==◌, Bool, true, false, not, ◌&&◌, if◌then◌else◌, List, [], ◌∷◌, ◌++◌, length}
+-- Trees without what does not count: white space, comments, pairs of parentheses round an expression, and commas at the end of lists.
+use Rattle.std.specs.Prelude.{ℕ, ◌+◌, ◌==◌, Bool, true, false, not, ◌&&◌, ◌||◌, if◌then◌else◌, List, [], ◌∷◌, ◌++◌, length}
 use Rattle.std.specs.Cmp.Lexicographic.{pointwise}
 use Rattle.syntax_kind.specs.declared.syntax_kind.SyntaxKind.{SyntaxKind}
-use Rattle.syntax_kind.specs.declared.syntax_kind.TheConstants.SyntaxKind.{PAREN_EXPR, L_PAREN, R_PAREN, WHITESPACE}
+use Rattle.syntax_kind.specs.declared.syntax_kind.TheConstants.SyntaxKind.{PAREN_EXPR, TOKEN_TREE, L_PAREN, R_PAREN, R_BRACK, R_CURLY, R_ANGLE, PIPE, COMMA, WHITESPACE}
 use Rattle.syntax_kind.specs.Kinds.{is_trivia, is_same_kind}
 use Rattle.tree_model.specs.Tree.{Tree, node, token, Forest, nil, cons, kind_of, text, is_token}
 use Rattle.lossless_tree.specs.Trees.{Siblings, is_done, first_of, rest_of, behind_first, inside_first}
@@ -75,6 +75,31 @@ inner cs (cons (node k c) r) b =
 -- siblings of which the first is what is in the pairs directly round one another
 abbrev pub bare : Comments → Siblings → Siblings
 bare cs s = if is_node_there s.trees then inner cs s.trees s.start else s
+
+-- ---- a comma at the end of a list
+
+-- nothing, or the token that closes a list
+abbrev pub is_closing : SyntaxKind → Bool
+is_closing k =
+    (((is_same_kind k R_PAREN || is_same_kind k R_BRACK) || is_same_kind k R_CURLY) || is_same_kind k R_ANGLE) || is_same_kind k PIPE
+
+abbrev pub ends_list : Forest → Bool
+ends_list f = is_done f || (is_token (first_of f) && is_closing (kind_of (first_of f)))
+
+-- the first sibling is a comma behind which the list ends
+abbrev pub is_last_comma : Comments → Forest → Bool
+is_last_comma cs f = is_token_of COMMA f && ends_list (past_trees cs (rest_of f))
+
+abbrev pub without_comma : Comments → Siblings → Siblings
+without_comma cs s = if is_last_comma cs (past cs s).trees then behind_first (past cs s) else s
+
+-- a node may be an element of a list, unless it is a tree of tokens, in which each comma counts
+abbrev pub is_element : Forest → Bool
+is_element f = is_node_there f && not (is_same_kind (kind_of (first_of f)) TOKEN_TREE)
+
+-- the siblings behind the first; a comma at the end of a list does not count behind an element
+abbrev pub behind_one : Comments → Siblings → Siblings
+behind_one cs s = if is_element s.trees then without_comma cs (behind_first s) else behind_first s
 
 -- ---- the steps of a walk
 

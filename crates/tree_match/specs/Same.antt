@@ -6,23 +6,25 @@ use Rattle.tree_model.specs.Tree.{node, token, Forest, nil, cons, kind_of, text,
 use Rattle.lossless_tree.specs.Trees.{Siblings, first_of, inside_first}
 use Rattle.tree_match.specs.declared.bare.Comments.{Comments}
 use Rattle.tree_match.specs.declared.bare.Comments.TheVariants.{Passed}
-use Rattle.tree_match.specs.Bare.{Step, enter, leave, leaf, is_passed, is_pair, bare, is_same_step}
+use Rattle.tree_match.specs.Bare.{Step, enter, leave, leaf, is_passed, is_pair, is_last_comma, is_element, bare, is_same_step}
 
--- the steps of the walk of some siblings, or, in a pair, of its first node alone
-abbrev pub steps : Comments → Bool → Forest → List Step
-steps cs in_pair nil = []
-steps cs true (cons (token k t) r) = steps cs true r
-steps cs false (cons (token k t) r) = (if is_passed cs k then [] else leaf k t ∷ []) ++ steps cs false r
-steps cs true (cons (node k c) r) =
-    if is_pair cs (record { trees = cons (node k c) r; start = 0 }) then steps cs true c else enter k ∷ (steps cs false c ++ leave ∷ [])
-steps cs false (cons (node k c) r) =
-    (if is_pair cs (record { trees = cons (node k c) r; start = 0 }) then steps cs true c else enter k ∷ (steps cs false c ++ leave ∷ []))
-    ++ steps cs false r
+-- the steps of the walk of some siblings, behind an element of a list or not; or, in a pair, of its first node alone
+abbrev pub steps : Comments → Bool → Bool → Forest → List Step
+steps cs in_pair behind nil = []
+steps cs true behind (cons (token k t) r) = steps cs true behind r
+steps cs false behind (cons (token k t) r) =
+    (if is_passed cs k || (behind && is_last_comma cs (cons (token k t) r)) then [] else leaf k t ∷ [])
+    ++ steps cs false (behind && is_passed cs k) r
+steps cs true behind (cons (node k c) r) =
+    if is_pair cs (record { trees = cons (node k c) r; start = 0 }) then steps cs true false c else enter k ∷ (steps cs false false c ++ leave ∷ [])
+steps cs false behind (cons (node k c) r) =
+    (if is_pair cs (record { trees = cons (node k c) r; start = 0 }) then steps cs true false c else enter k ∷ (steps cs false false c ++ leave ∷ []))
+    ++ steps cs false (is_element (cons (node k c) r)) r
 
 -- the steps of some siblings, and then the end of the node around them; and so on outwards
 abbrev pub steps_left : Comments → List Siblings → List Step
 steps_left cs [] = []
-steps_left cs (s ∷ below) = steps cs false s.trees ++ leave ∷ steps_left cs below
+steps_left cs (s ∷ below) = steps cs false false s.trees ++ leave ∷ steps_left cs below
 
 -- whether all steps of two walks are the same is decided; or it is what is left of them, which is less
 abbrev pub IsDecided : List Siblings → List Siblings → List Siblings → List Siblings → Option Bool → Type 0

@@ -15,7 +15,7 @@ use Rattle.tree_match.specs.declared.part.Part.TheVariants as part
 use Rattle.tree_match.specs.declared.walk.Walk.{Walk}
 use Rattle.tree_match.specs.declared.walk.Seen.{Seen}
 use Rattle.tree_match.specs.declared.walk.Seen.TheVariants as shown
-use Rattle.tree_match.specs.Bare.{Step, enter, leave, leaf, end, past, bare, is_node_there}
+use Rattle.tree_match.specs.Bare.{Step, enter, leave, leaf, end, past, bare, is_node_there, behind_one}
 
 -- the kinds of the tokens of names
 abbrev pub is_word : SyntaxKind → Bool
@@ -48,20 +48,20 @@ abbrev pub step_at : Comments → Siblings → List Siblings → Step × List Si
 step_at cs here below =
     if is_done here.trees then (leave, below)
     else (if is_token (first_of here.trees) then (leaf (kind_of (first_of here.trees)) (text (first_of here.trees)), behind_first here ∷ below)
-    else (enter (kind_of (first_of (bare cs here).trees)), inside_first (bare cs here) ∷ (behind_first here ∷ below)))
+    else (enter (kind_of (first_of (bare cs here).trees)), inside_first (bare cs here) ∷ (behind_one cs here ∷ below)))
 
 abbrev pub advance : Comments → List Siblings → Step × List Siblings
 advance cs [] = (end, [])
 advance cs (s ∷ below) = step_at cs (past cs s) below
 
 -- the siblings from the next node on, or token for a word, if that is of the sort, and the levels behind it
-abbrev pub taken_at : Sort → Siblings → List Siblings → Option (Siblings × List Siblings)
-taken_at sort here below =
-    if is_there sort here.trees && sort_has sort (kind_of (first_of here.trees)) then Some (here, behind_first here ∷ below) else None
+abbrev pub taken_at : Comments → Sort → Siblings → List Siblings → Option (Siblings × List Siblings)
+taken_at cs sort here below =
+    if is_there sort here.trees && sort_has sort (kind_of (first_of here.trees)) then Some (here, behind_one cs here ∷ below) else None
 
 abbrev pub taken : Comments → Sort → List Siblings → Option (Siblings × List Siblings)
 taken cs sort [] = None
-taken cs sort (s ∷ below) = taken_at sort (past cs s) below
+taken cs sort (s ∷ below) = taken_at cs sort (past cs s) below
 
 -- a step of the code
 abbrev pub step_of : Seen → Step

@@ -1,6 +1,6 @@
-//! Siblings without white space, comments and pairs of parentheses.
+//! Siblings without white space, comments, pairs of parentheses and commas at the end of lists.
 ghost use Rattle.std.specs.Prelude.{◌≡◌};
-ghost use Rattle.tree_match.specs.Bare.{is_passed, past, is_token_of, is_node_there, is_node_of, is_pair, held, opens, closing, closes, bare};
+ghost use Rattle.tree_match.specs.Bare.{is_passed, past, is_token_of, is_node_there, is_node_of, is_pair, held, opens, closing, closes, bare, is_closing, ends_list, is_last_comma, without_comma, is_element, behind_one};
 
 use lossless_tree::{SiblingsLeft, SyntaxKind};
 
@@ -99,4 +99,60 @@ pub(crate) fn bare<'t>(comments: Comments, left: &SiblingsLeft<'t>) -> SiblingsL
         inner = held(comments, &inner);
     }
     inner
+}
+
+// Whether a token of this kind closes a list.
+fn is_closing(kind: SyntaxKind) -> bool
+    ensures { result ≡ is_closing kind }
+{
+    kind == SyntaxKind::R_PAREN
+        || kind == SyntaxKind::R_BRACK
+        || kind == SyntaxKind::R_CURLY
+        || kind == SyntaxKind::R_ANGLE
+        || kind == SyntaxKind::PIPE
+}
+
+// Whether nothing is left, or what closes a list is first.
+fn ends_list(left: &SiblingsLeft<'_>) -> bool
+    ensures { result ≡ ends_list left.now.trees }
+{
+    left.is_done() || (left.is_token() && is_closing(left.kind()))
+}
+
+// Whether the first of the siblings is a comma behind which the list ends.
+fn is_last_comma(comments: Comments, left: &SiblingsLeft<'_>) -> bool
+    ensures { result ≡ is_last_comma comments left.now.trees }
+{
+    is_token_of(SyntaxKind::COMMA, left) && ends_list(&past(comments, &left.rest()))
+}
+
+// The siblings without a comma that ends the list.
+fn without_comma<'t>(comments: Comments, left: &SiblingsLeft<'t>) -> SiblingsLeft<'t>
+    ensures { result ≡ without_comma comments left.now }
+{
+    let next = past(comments, left);
+    if is_last_comma(comments, &next) {
+        next.rest()
+    } else {
+        left.all()
+    }
+}
+
+// Whether the first of the siblings is a node that may be an element of a list. In a tree of tokens each comma counts.
+fn is_element(left: &SiblingsLeft<'_>) -> bool
+    ensures { result ≡ is_element left.now.trees }
+{
+    is_node_there(left) && left.kind().to_raw() != SyntaxKind::TOKEN_TREE.to_raw()
+}
+
+/// The siblings behind the first one, if that is an element of a list without a comma that ends the list.
+pub(crate) fn behind_one<'t>(comments: Comments, left: &SiblingsLeft<'t>) -> SiblingsLeft<'t>
+    ensures { result ≡ behind_one comments left.now }
+{
+    let rest = left.rest();
+    if is_element(left) {
+        without_comma(comments, &rest)
+    } else {
+        rest
+    }
 }

@@ -2,7 +2,7 @@
 ghost use Rattle.std.specs.Prelude.{◌≡◌, ◌∷◌, [], IfOk, option_map};
 ghost use Rattle.tree_match.specs.Walks.{levels_of, advance, is_there, taken, step_of, is_part};
 
-use crate::bare::{Comments, bare, is_node_there, past};
+use crate::bare::{Comments, bare, behind_one, is_node_there, past};
 use crate::part::{Part, Sort};
 use lossless_tree::{SiblingsLeft, SyntaxKind};
 use std::alloc::{AllocError, Global};
@@ -55,7 +55,7 @@ impl<'t> Walk<'t> {
             return Ok(Seen::Leave);
         }
         let kind = here.kind();
-        self.levels.push_front(here.rest())?;
+        self.levels.push_front(behind_one(self.comments, &here))?;
         if here.is_token() {
             return Ok(Seen::Token(kind, here.text()));
         }
@@ -87,7 +87,7 @@ impl<'t> Walk<'t> {
         if !(is_there(sort, &here) && sort.has(here.kind())) {
             return Ok(None);
         }
-        self.levels.push_front(here.rest())?;
+        self.levels.push_front(behind_one(self.comments, &here))?;
         Ok(Some(here))
     }
 }
