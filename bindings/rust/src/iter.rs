@@ -1,5 +1,6 @@
 //! Walks over the nodes and tokens of a tree.
 use crate::node::{Node, NodeOrToken};
+use crate::SyntaxKind;
 use crate::tree::Tree;
 use std::iter::FusedIterator;
 
@@ -101,9 +102,19 @@ impl<N: Node> ChildrenWithTokens<N> {
     }
 
     // The next child that is a node of which the kind is accepted.
-    pub(crate) fn next_node(&mut self, accepts: impl Fn(crate::SyntaxKind) -> bool) -> Option<N> {
+    pub(crate) fn next_node(&mut self, accepts: impl Fn(SyntaxKind) -> bool) -> Option<N> {
         let row = self.next_row(|tree, row| !tree.is_token(row) && accepts(tree.kind_of(row)))?;
         Some(self.parent.node_at(row))
+    }
+}
+
+impl<N: Node> ChildrenWithTokens<N> {
+    /// The children of which the kind is accepted, nodes and tokens, in order.
+    pub fn by_kind(mut self, accepts: impl Fn(SyntaxKind) -> bool) -> impl Iterator<Item = NodeOrToken<N, N::Token>> {
+        std::iter::from_fn(move || {
+            let row = self.next_row(|tree, row| accepts(tree.kind_of(row)))?;
+            Some(self.parent.element_at(row))
+        })
     }
 }
 
@@ -121,6 +132,13 @@ impl<N: Node> FusedIterator for ChildrenWithTokens<N> {}
 /// The child nodes of a node, in order.
 #[derive(Clone, Debug)]
 pub struct Children<N>(pub(crate) ChildrenWithTokens<N>);
+
+impl<N: Node> Children<N> {
+    /// The child nodes of which the kind is accepted, in order.
+    pub fn by_kind(mut self, accepts: impl Fn(SyntaxKind) -> bool) -> impl Iterator<Item = N> {
+        std::iter::from_fn(move || self.0.next_node(&accepts))
+    }
+}
 
 impl<N: Node> Iterator for Children<N> {
     type Item = N;

@@ -23,7 +23,7 @@ pub(crate) mod place {
 use place::Place;
 
 /// A direction among siblings or tokens.
-#[derive(Clone, Copy, Debug, PartialEq, Eq, Hash)]
+#[derive(Clone, Copy, Debug, PartialEq, Eq, PartialOrd, Ord, Hash)]
 pub enum Direction {
     /// To later ones.
     Next,
@@ -167,7 +167,7 @@ pub trait Token: Place + Eq + Hash + fmt::Debug + fmt::Display {
 }
 
 /// A node or a token.
-#[derive(Clone, Copy, PartialEq, Eq, Hash)]
+#[derive(Clone, Copy, PartialEq, Eq, PartialOrd, Ord, Hash)]
 pub enum NodeOrToken<N, T> {
     /// A node.
     Node(N),
@@ -248,6 +248,28 @@ impl<N: Node> NodeOrToken<N, N::Token> {
         match self {
             NodeOrToken::Node(node) => node.parent(),
             NodeOrToken::Token(token) => token.parent(),
+        }
+    }
+
+    /// How many siblings, nodes and tokens, are before it. It takes time in their number.
+    pub fn index(&self) -> usize {
+        let (tree, row) = self.place();
+        tree.index_of(row)
+    }
+
+    /// The first token of it: itself, if it is one.
+    pub fn first_token(&self) -> Option<N::Token> {
+        match self {
+            NodeOrToken::Node(node) => node.first_token(),
+            NodeOrToken::Token(token) => Some(token.clone()),
+        }
+    }
+
+    /// The last token of it: itself, if it is one.
+    pub fn last_token(&self) -> Option<N::Token> {
+        match self {
+            NodeOrToken::Node(node) => node.last_token(),
+            NodeOrToken::Token(token) => Some(token.clone()),
         }
     }
 
@@ -380,6 +402,17 @@ macro_rules! places {
                 self.children().next()
             }
 
+            /// The first child node of which the kind is accepted.
+            pub fn first_child_by_kind(&self, accepts: &impl Fn(SyntaxKind) -> bool) -> Option<Self> {
+                self.children_with_tokens().next_node(accepts)
+            }
+
+            /// The first child, node or token, of which the kind is accepted.
+            pub fn first_child_or_token_by_kind(&self, accepts: &impl Fn(SyntaxKind) -> bool) -> Option<NodeOrToken<Self, <Self as Node>::Token>> {
+                let row = self.children_with_tokens().next_row(|tree, row| accepts(tree.kind_of(row)))?;
+                Some(self.element_at(row))
+            }
+
             /// The last child node.
             pub fn last_child(&self) -> Option<Self> {
                 let last = self.last_child_or_token()?;
@@ -399,6 +432,16 @@ macro_rules! places {
             /// The next sibling that is a node.
             pub fn next_sibling(&self) -> Option<Self> {
                 self.siblings(Direction::Next).nth(1)
+            }
+
+            /// The nearest later sibling that is a node of which the kind is accepted.
+            pub fn next_sibling_by_kind(&self, accepts: &impl Fn(SyntaxKind) -> bool) -> Option<Self> {
+                self.siblings(Direction::Next).skip(1).find(|it| accepts(it.kind()))
+            }
+
+            /// The nearest later sibling, node or token, of which the kind is accepted.
+            pub fn next_sibling_or_token_by_kind(&self, accepts: &impl Fn(SyntaxKind) -> bool) -> Option<NodeOrToken<Self, <Self as Node>::Token>> {
+                self.siblings_with_tokens(Direction::Next).skip(1).find(|it| accepts(it.kind()))
             }
 
             /// The nearest sibling before that is a node.
@@ -500,6 +543,16 @@ macro_rules! places {
                 self.element_at(self.tree_of().covering(self.row, range))
             }
 
+            /// The first child, node or token, whose range contains the whole of a range.
+            pub fn child_or_token_at_range(&self, range: TextRange) -> Option<NodeOrToken<Self, <Self as Node>::Token>> {
+                self.children_with_tokens().find(|it| it.text_range().contains_range(range))
+            }
+
+            /// How many siblings, nodes and tokens, are before it. It takes time in their number.
+            pub fn index(&self) -> usize {
+                self.tree_of().index_of(self.row)
+            }
+
             /// The number of the node's row in [`Tree::rows`](crate::Tree::rows).
             pub fn row(&self) -> usize {
                 self.row as usize
@@ -540,6 +593,11 @@ macro_rules! places {
             /// This token, and its siblings in a direction, nodes and tokens.
             pub fn siblings_with_tokens(&self, direction: Direction) -> impl Iterator<Item = NodeOrToken<<Self as Token>::Node, Self>> + use<$($life)?> {
                 NodeOrToken::<<Self as Token>::Node, Self>::Token(self.clone()).siblings_with_tokens(direction)
+            }
+
+            /// How many siblings, nodes and tokens, are before it. It takes time in their number.
+            pub fn index(&self) -> usize {
+                self.tree_of().index_of(self.row)
             }
 
             /// The next token of the tree.
@@ -679,6 +737,23 @@ macro_rules! owned_calls {
 
 owned_calls!(SyntaxNode);
 owned_calls!(SyntaxToken);
+
+impl SyntaxNode {
+    /// A copy of the node with all below it, as the root of a tree of its own. That tree has no errors.
+    ///
+    /// ```
+    /// use ras::ast::{self, AstNode};
+    /// use ras::{Edition, SourceFile};
+    ///
+    /// let file = SourceFile::parse("struct S; fn f() {}", Edition::CURRENT).tree();
+    /// let function = file.syntax().children().find_map(ast::Fn::cast).unwrap().clone_subtree();
+    /// assert_eq!(function.syntax().parent(), None);
+    /// assert_eq!(function.syntax().text_range().to_string(), "0..9");
+    /// ```
+    pub fn clone_subtree(&self) -> SyntaxNode {
+        self.tree.subtree(self.row).syntax_node()
+    }
+}
 
 macro_rules! borrowed_calls {
     ($name:ident, $owned:ident) => {

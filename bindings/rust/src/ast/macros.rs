@@ -10,6 +10,10 @@ macro_rules! node {
         }
 
         impl<N: Node> AstNode<N> for $name<N> {
+            fn kind() -> SyntaxKind {
+                SyntaxKind::$kind
+            }
+
             fn can_cast(kind: SyntaxKind) -> bool {
                 kind == SyntaxKind::$kind
             }

@@ -164,9 +164,13 @@ impl<N: Node> PathSegment<N> {
         Some(PathSegmentKind::Type { type_ref: support::first(&anchor.syntax), trait_ref })
     }
 
-    /// The path that it is the segment of: the parent, if that is a path.
-    pub fn parent_path(&self) -> Option<Path<N>> {
-        support::parent_as(&self.syntax)
+    /// The path that it is the segment of: the parent.
+    ///
+    /// # Panics
+    ///
+    /// It panics if the parent is no path, or if there is none. In a tree that was parsed there is one.
+    pub fn parent_path(&self) -> Path<N> {
+        support::parent_as(&self.syntax).expect("a segment is in a path")
     }
 
     /// The trait of `<T as Trait>`: the second path type in the anchor, otherwise the first.
@@ -228,7 +232,7 @@ impl<N: Node> UseTree<N> {
 
     /// The outermost use tree around it, through lists of use trees; this tree if it is not in such a list.
     pub fn top_use_tree(&self) -> UseTree<N> {
-        let around = |it: &UseTree<N>| it.parent_use_tree_list()?.parent_use_tree();
+        let around = |it: &UseTree<N>| it.parent_use_tree_list()?.use_tree_around();
         std::iter::successors(Some(self.clone()), around).last().unwrap_or_else(|| self.clone())
     }
 
@@ -239,8 +243,16 @@ impl<N: Node> UseTree<N> {
 }
 
 impl<N: Node> UseTreeList<N> {
-    /// The use tree of the list: the parent, if that is a use tree.
-    pub fn parent_use_tree(&self) -> Option<UseTree<N>> {
+    /// The use tree of the list: the parent.
+    ///
+    /// # Panics
+    ///
+    /// It panics if the parent is no use tree, or if there is none. In a tree that was parsed there is one.
+    pub fn parent_use_tree(&self) -> UseTree<N> {
+        self.use_tree_around().expect("a list of use trees is in a use tree")
+    }
+
+    fn use_tree_around(&self) -> Option<UseTree<N>> {
         support::parent_as(&self.syntax)
     }
 
@@ -339,9 +351,13 @@ macro_rules! struct_kinds {
 struct_kinds!(Struct Union Variant);
 
 impl<N: Node> Variant<N> {
-    /// The enum that it is a variant of: the parent's parent, if that is one.
-    pub fn parent_enum(&self) -> Option<Enum<N>> {
-        support::grandparent_as(&self.syntax)
+    /// The enum that it is a variant of: the parent's parent.
+    ///
+    /// # Panics
+    ///
+    /// It panics if that is no enum, or if there is none. In a tree that was parsed there is one.
+    pub fn parent_enum(&self) -> Enum<N> {
+        support::grandparent_as(&self.syntax).expect("a variant is in an enum")
     }
 }
 
@@ -581,8 +597,12 @@ impl<N: Node> RecordPatField<N> {
     }
 
     /// The record that it is a field of: the nearest record pattern above it.
-    pub fn parent_record_pat(&self) -> Option<RecordPat<N>> {
-        support::ancestor_as(&self.syntax)
+    ///
+    /// # Panics
+    ///
+    /// It panics if there is none. In a tree that was parsed there is one.
+    pub fn parent_record_pat(&self) -> RecordPat<N> {
+        support::ancestor_as(&self.syntax).expect("a field is in a record pattern")
     }
 }
 
@@ -638,25 +658,28 @@ impl<N: Node> DocComment<N> {
         kind_by(support::leaf(&self.syntax, SyntaxKind::INNER_DOC_COMMENT).is_some())
     }
 
-    /// The first token, at any depth, if it is a comment.
-    pub fn token(&self) -> Option<super::token_ext::AnyComment<N::Token>> {
-        AstToken::cast(self.syntax.first_token()?)
+    /// The first token, at any depth: the comment.
+    ///
+    /// # Panics
+    ///
+    /// It panics if that is no comment, or if there is none. In a tree that was parsed there is one.
+    pub fn token(&self) -> super::token_ext::AnyComment<N::Token> {
+        self.syntax.first_token().and_then(AstToken::cast).expect("a doc comment has a comment")
     }
 
-    /// Whether the text ends with its line or with its closing marker; `None` if the first child is not a token.
-    pub fn shape(&self) -> Option<CommentShape> {
-        Some(CommentShape::from_text(self.text_with_markers()?))
+    /// Whether the text ends with its line or with its closing marker.
+    pub fn shape(&self) -> CommentShape {
+        CommentShape::from_text(self.text_with_markers())
     }
 
-    /// The text of the first child, if that is a token.
-    pub fn text_with_markers(&self) -> Option<&str> {
-        support::first_text(&self.syntax)
+    /// The text of the first child; empty if that is not a token.
+    pub fn text_with_markers(&self) -> &str {
+        support::first_text(&self.syntax).unwrap_or_default()
     }
 
-    /// The text of the first child without the markers, of which the closing one may be missing. `None` if that is not a token, is
-    /// shorter than three bytes, or if byte 3 is not a character boundary.
-    pub fn text(&self) -> Option<&str> {
-        comment_text(self.text_with_markers()?, Self::PREFIX_LEN)
+    /// The text of the first child without the markers, of which the closing one may be missing.
+    pub fn text(&self) -> &str {
+        comment_text(self.text_with_markers(), Self::PREFIX_LEN)
     }
 }
 

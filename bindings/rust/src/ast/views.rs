@@ -7,6 +7,7 @@ use crate::node::{Node, Token};
 
 pub use super::expr_ext::*;
 pub use super::node_ext::*;
+pub use super::string_ext::AnyString;
 pub use super::token_ext::AnyComment;
 
 mod lookups;
