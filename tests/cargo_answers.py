@@ -13,6 +13,11 @@ TOP = os.path.dirname(os.path.dirname(os.path.abspath(__file__)))
 SOURCES = os.path.join(TOP, "crates", "answers_views", "src")
 # Calls that the cargo crate does not have: the static library exports them for whole files.
 RULES = "reads_back needless_parens".split()
+# Calls that always return a part in the cargo crate, as in rust-analyzer's, and panic where the library's return none.
+TOTAL = (
+    "DocComment.shape DocComment.token Literal.token MatchArm.parent_match PathSegment.parent_path RecordExprField.parent_record_lit "
+    "RecordPatField.parent_record_pat UseTreeList.parent_use_tree Variant.parent_enum"
+).split()
 
 SHEET = '''\
 pub use std::string::String;
@@ -182,6 +187,7 @@ def translated(text):
     text = text.replace("let answer = it.as_simple_call(alloc);", "let answer = Ok(it.as_simple_call());")
     text = text.replace("it.components(sheet.alloc())", "Ok::<_, AllocError>(it.components())").replace("(alloc)", "()")
     text = text.replace("PathSegmentKind::Ty {", "PathSegmentKind::Type {")
+    text = re.sub(rf'("(?:{"|".join(TOTAL)})", )(it\.\w+\(\))', r"\1Some(\2)", text).replace("literal_kind(sheet, it.kind())", "literal_kind(sheet, Some(it.kind()))")
     # The names of calls are the keys of their numbers.
     text = re.sub(r"(\w+): &str\b", r"\1: &'static str", text)
     return re.sub(r"\n(ghost |    requires ).*", "", text)

@@ -2,7 +2,7 @@
 use crate::ast::{AstNode, Expr};
 use crate::tree::{Edition, Tree};
 
-/// The expression that a text is, with blanks and comments around it or not; `None` if it is none. It may have errors inside.
+/// The expression that a text is, without the white space around it; `None` if it is none. It may have errors inside.
 ///
 /// ```
 /// use ras::ast::Expr;
@@ -12,5 +12,5 @@ use crate::tree::{Edition, Tree};
 /// assert_eq!(hacks::parse_expr_from_str("let a = b;", Edition::CURRENT), None);
 /// ```
 pub fn parse_expr_from_str(text: &str, edition: Edition) -> Option<Expr> {
-    Expr::cast(Tree::parse_expr(text, edition).ok()?.syntax_node())
+    Expr::cast(Tree::parse_expr(text.trim(), edition).ok()?.syntax_node())
 }

@@ -4,7 +4,7 @@ use super::views::*;
 use super::{AstChildren, AstNode, AstToken, support};
 use crate::iter::{ChildrenWithTokens, WalkEvent, PreorderWithTokens};
 use crate::node::{Node, NodeOrToken, Token};
-use crate::range::TextRange;
+use crate::range::{TextRange, TextSize};
 use crate::{SyntaxKind, T};
 
 // ---- names
@@ -650,8 +650,8 @@ impl<N: Node> Attr<N> {
 }
 
 impl<N: Node> DocComment<N> {
-    /// The length of the opening marker of a documentation comment, in bytes.
-    pub const PREFIX_LEN: usize = 3;
+    /// The length of the opening marker of a documentation comment.
+    pub const PREFIX_LEN: TextSize = TextSize::new(3);
 
     /// Inner if it has an inner comment token, otherwise outer.
     pub fn kind(&self) -> AttrKind {
@@ -679,7 +679,7 @@ impl<N: Node> DocComment<N> {
 
     /// The text of the first child without the markers, of which the closing one may be missing.
     pub fn text(&self) -> &str {
-        comment_text(self.text_with_markers(), Self::PREFIX_LEN)
+        comment_text(self.text_with_markers(), Self::PREFIX_LEN.into())
     }
 }
 
