@@ -15,6 +15,7 @@
 //! assert_eq!(names, ["one", "three"]);
 //! ```
 mod aliases;
+mod attr_ext;
 pub mod edit;
 mod expr_ext;
 mod macros;

@@ -24,6 +24,7 @@
 pub mod algo;
 pub mod ast;
 mod either;
+mod element;
 mod escape;
 pub mod hacks;
 mod iter;
@@ -47,11 +48,12 @@ mod version;
 
 pub use ast::{AstNode, AstToken, SourceFile};
 pub use either::Either;
+pub use element::{Direction, NodeOrToken};
 pub use escape::EscapeError;
 pub use iter::{Children, ChildrenWithTokens, Descendants, DescendantsWithTokens, Preorder, PreorderWithTokens, TokenAtOffset, WalkEvent};
 pub use kind::SyntaxKind;
 pub use live::{EditError, Live};
-pub use node::{Direction, ElementRef, Node, NodeOrToken, NodeRef, SyntaxElement, SyntaxNode, SyntaxToken, Token, TokenRef};
+pub use node::{ElementRef, Node, NodeRef, SyntaxElement, SyntaxNode, SyntaxToken, Token, TokenRef};
 pub use parse::Parse;
 pub use ptr::{AstPtr, SyntaxNodePtr};
 pub use range::{TextLen, TextRange, TextSize};

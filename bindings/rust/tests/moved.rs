@@ -195,7 +195,7 @@ fn children_are_found_by_kind() {
     assert_eq!(node.next_sibling_or_token_by_kind(&|kind| kind == WHITESPACE).map(|it| it.index()), Some(node.index() + 1));
     let name = shape.name().unwrap();
     assert_eq!(node.child_or_token_at_range(name.syntax().text_range()), Some(name.syntax().clone().into()));
-    assert_eq!(algo::least_common_ancestor_element(&name.syntax().clone(), node.first_token().unwrap()), Some(node.clone()));
+    assert_eq!(algo::least_common_ancestor_element(name.syntax(), node.first_token().unwrap()), Some(node.clone()));
     assert_eq!(algo::neighbor(&shape, Direction::Next).map(|it: ast::Enum| it.to_string()), None);
 }
 

@@ -5,6 +5,7 @@ use super::{AstNode, AstToken};
 use crate::SyntaxKind;
 use crate::node::{Node, Token};
 
+pub use super::attr_ext::*;
 pub use super::expr_ext::*;
 pub use super::node_ext::*;
 pub use super::string_ext::AnyString;
