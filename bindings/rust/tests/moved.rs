@@ -253,6 +253,7 @@ fn kinds_are_numbers() {
     }
     assert!(places > 300 && size_of::<SyntaxKind>() == 2);
     assert_eq!((T![=>].text(), T![crate].text(), IDENT.text()), ("=>", "crate", ""));
+    assert_eq!([T![$], T!['$'], T![asm], T![abstract], T![safe], T![shebang]], [DOLLAR, DOLLAR, ASM_KW, ABSTRACT_KW, SAFE_KW, SHEBANG]);
 }
 
 #[test]
