@@ -1,5 +1,5 @@
 //! Walks over the nodes and tokens of a tree.
-use crate::node::{Node, NodeOrToken};
+use crate::node::{Node, NodeOrToken, SyntaxNode};
 use crate::SyntaxKind;
 use crate::tree::Tree;
 use std::iter::FusedIterator;
@@ -77,7 +77,7 @@ impl<T> ExactSizeIterator for TokenAtOffset<T> {}
 
 /// The children of a node, nodes and tokens, in order.
 #[derive(Clone, Debug)]
-pub struct ChildrenWithTokens<N> {
+pub struct ChildrenWithTokens<N = SyntaxNode> {
     parent: N,
     next: u32,
     behind: u32,
@@ -131,7 +131,7 @@ impl<N: Node> FusedIterator for ChildrenWithTokens<N> {}
 
 /// The child nodes of a node, in order.
 #[derive(Clone, Debug)]
-pub struct Children<N>(pub(crate) ChildrenWithTokens<N>);
+pub struct Children<N = SyntaxNode>(pub(crate) ChildrenWithTokens<N>);
 
 impl<N: Node> Children<N> {
     /// The child nodes of which the kind is accepted, in order.
@@ -152,7 +152,7 @@ impl<N: Node> FusedIterator for Children<N> {}
 
 /// A node and all nodes and tokens below it, in preorder.
 #[derive(Clone, Debug)]
-pub struct DescendantsWithTokens<N> {
+pub struct DescendantsWithTokens<N = SyntaxNode> {
     node: N,
     next: u32,
     behind: u32,
@@ -199,7 +199,7 @@ impl<N: Node> FusedIterator for DescendantsWithTokens<N> {}
 
 /// A node and all nodes below it, in preorder.
 #[derive(Clone, Debug)]
-pub struct Descendants<N>(pub(crate) DescendantsWithTokens<N>);
+pub struct Descendants<N = SyntaxNode>(pub(crate) DescendantsWithTokens<N>);
 
 impl<N: Node> Iterator for Descendants<N> {
     type Item = N;
@@ -240,7 +240,7 @@ impl<T> WalkEvent<T> {
 
 /// A walk that enters and leaves a node and each node and token below it.
 #[derive(Clone, Debug)]
-pub struct PreorderWithTokens<N> {
+pub struct PreorderWithTokens<N = SyntaxNode> {
     root: N,
     next: Option<WalkEvent<u32>>,
 }
@@ -294,7 +294,7 @@ impl<N: Node> FusedIterator for PreorderWithTokens<N> {}
 
 /// A walk that enters and leaves a node and each node below it.
 #[derive(Clone, Debug)]
-pub struct Preorder<N>(pub(crate) PreorderWithTokens<N>);
+pub struct Preorder<N = SyntaxNode>(pub(crate) PreorderWithTokens<N>);
 
 impl<N: Node> Preorder<N> {
     /// Passes over what is below the node that was entered last, as [`PreorderWithTokens::skip_subtree`].

@@ -1,7 +1,7 @@
 //! Code as it is written over rust-analyzer's crate: with `ra_ap_syntax` in place of `ras` in the `use` lines it is the same.
 use ras::ast::{self, AnyComment, AnyString, AstNode, AstToken, HasArgList, HasAttrs, HasGenericParams, HasModuleItem, HasName, HasVisibility, IsString, LiteralKind};
 use ras::{
-    AstPtr, Direction, Edition, NodeOrToken, Parse, SourceFile, SyntaxElement, SyntaxError,
+    AstPtr, Direction, Edition, NodeOrToken, Parse, Preorder, SourceFile, SyntaxElement, SyntaxError,
     SyntaxKind::{self, *},
     SyntaxNode, SyntaxNodePtr, SyntaxToken, SyntaxTreeBuilder, T, TextRange, TextSize, WalkEvent, algo, hacks, match_ast, utils,
 };
@@ -70,7 +70,8 @@ fn nodes_are_kept() {
 #[test]
 fn walks_pass_over_subtrees() {
     fn kinds_outside_of_functions(root: &SyntaxNode) -> Vec<SyntaxKind> {
-        let (mut kinds, mut events) = (Vec::new(), root.preorder());
+        let mut kinds = Vec::new();
+        let mut events: Preorder = root.preorder();
         while let Some(event) = events.next() {
             match event {
                 WalkEvent::Enter(node) if ast::Fn::can_cast(node.kind()) => events.skip_subtree(),

@@ -5,7 +5,7 @@ use super::{AstNode, AstToken, support};
 use crate::iter::{ChildrenWithTokens, PreorderWithTokens, WalkEvent};
 use crate::node::{Node, NodeOrToken, Token};
 use crate::range::TextSize;
-use crate::{SyntaxKind, T};
+use crate::{SmolStr, SyntaxKind, T};
 
 fn kind_by(is_inner: bool) -> AttrKind {
     if is_inner { AttrKind::Inner } else { AttrKind::Outer }
@@ -28,17 +28,17 @@ impl<N: Node> Attr<N> {
     }
 
     /// The text of its meta, if that is one name.
-    pub fn as_simple_atom(&self) -> Option<std::string::String> {
+    pub fn as_simple_atom(&self) -> Option<SmolStr> {
         self.meta()?.as_simple_atom()
     }
 
     /// The name and the arguments of its meta, if that is one name with arguments.
-    pub fn as_simple_call(&self) -> Option<(std::string::String, TokenTree<N>)> {
+    pub fn as_simple_call(&self) -> Option<(SmolStr, TokenTree<N>)> {
         self.meta()?.as_simple_call()
     }
 
     /// The name of its meta: `cfg`, `cfg_attr`, or for others the first token of their path, if that has only one segment.
-    pub fn simple_name(&self) -> Option<std::string::String> {
+    pub fn simple_name(&self) -> Option<SmolStr> {
         self.meta()?.simple_name()
     }
 
@@ -111,12 +111,12 @@ impl<N: Node> Meta<N> {
     }
 
     /// The text of a meta that is one name, as `a`; `None` for others.
-    pub fn as_simple_atom(&self) -> Option<std::string::String> {
+    pub fn as_simple_atom(&self) -> Option<SmolStr> {
         atom_of(self.as_simple_path()?)
     }
 
     /// The name and the arguments of a meta that is one name with arguments, as `a(..)`; `None` for others.
-    pub fn as_simple_call(&self) -> Option<(std::string::String, TokenTree<N>)> {
+    pub fn as_simple_call(&self) -> Option<(SmolStr, TokenTree<N>)> {
         if self.syntax().kind() != SyntaxKind::TOKEN_TREE_META {
             return None;
         }
@@ -125,7 +125,7 @@ impl<N: Node> Meta<N> {
     }
 
     /// The name of the attribute: `cfg`, `cfg_attr`, or for others the first token of their path, if that has only one segment.
-    pub fn simple_name(&self) -> Option<std::string::String> {
+    pub fn simple_name(&self) -> Option<SmolStr> {
         match self.syntax().kind() {
             SyntaxKind::CFG_ATTR_META => Some("cfg_attr".into()),
             SyntaxKind::CFG_META => Some("cfg".into()),
@@ -156,7 +156,7 @@ impl<N: Node> Meta<N> {
 }
 
 // The text of a path that is only one name.
-fn atom_of<N: Node>(path: Path<N>) -> Option<std::string::String> {
+fn atom_of<N: Node>(path: Path<N>) -> Option<SmolStr> {
     support::first_text(path.as_single_name_ref()?.syntax()).map(Into::into)
 }
 
