@@ -13,6 +13,11 @@ TOP = os.path.dirname(os.path.dirname(os.path.abspath(__file__)))
 SOURCES = os.path.join(TOP, "crates", "answers_views", "src")
 # Calls that the cargo crate does not have: the static library exports them for whole files.
 RULES = "reads_back needless_parens".split()
+# Calls that always return a part in the cargo crate, as in rust-analyzer's, and panic where the library's return none.
+TOTAL = (
+    "DocComment.shape DocComment.token Literal.token MatchArm.parent_match PathSegment.parent_path RecordExprField.parent_record_lit "
+    "RecordPatField.parent_record_pat UseTreeList.parent_use_tree Variant.parent_enum"
+).split()
 
 SHEET = '''\
 pub use std::string::String;
@@ -74,8 +79,8 @@ impl Sheet {
     pub fn value<D: Debug>(&mut self, call: &'static str, found: Option<D>) -> Done { self.found(call, found, |it| format!("{it:?}")) }
     pub fn shown<D: Display>(&mut self, call: &'static str, answer: D) -> Done { self.told(call, true, || format!("\\"{answer}\\"")) }
     pub fn text<T: Text>(&mut self, call: &'static str, found: T) -> Done { self.found(call, found.text(), |it| format!("\\"{it}\\"")) }
-    pub fn string(&mut self, call: &'static str, found: Option<String>) -> Done { self.text(call, found.as_deref()) }
-    pub fn asked(&mut self, call: &'static str, answer: Option<String>) -> Done { self.string(call, answer) }
+    pub fn string<S: AsRef<str>>(&mut self, call: &'static str, found: Option<S>) -> Done { self.text(call, found.as_ref().map(AsRef::as_ref)) }
+    pub fn asked<S: AsRef<str>>(&mut self, call: &'static str, answer: Option<S>) -> Done { self.string(call, answer) }
     pub fn token(&mut self, call: &'static str, found: Option<SyntaxToken>) -> Done { self.found(call, found, |it| format!("{it:?}")) }
     pub fn typed_token<T: AstToken>(&mut self, call: &'static str, found: Option<T>) -> Done { self.found(call, found, |it| format!("{:?}", it.syntax())) }
     pub fn node<N: AstNode>(&mut self, call: &'static str, found: Option<N>) -> Done { self.found(call, found, |it| node_of(it.syntax())) }
@@ -179,9 +184,10 @@ def translated(text):
     text = re.sub(r"use (ra_ap_syntax::ast|rust_views)::\{(.*?)\};", lambda found: f"use ras::ast::{{{names(found)}}};", text, flags=re.S)
     text = re.sub(r"use rust_views::(\w+);", lambda found: "" if found[1].endswith("Ext") else f"use ras::ast::{found[1]};", text)
     text = text.replace("ra_ap_syntax", "ras").replace(" + Drop", "").replace("rust_views::", "ras::ast::")
-    text = text.replace("let answer = it.as_simple_call(alloc);", "let answer = Ok(it.as_simple_call());")
+    text = text.replace("let answer = it.as_simple_call(alloc);", "let answer = Ok(it.as_simple_call().map(|it| (it.0.into(), it.1)));")
     text = text.replace("it.components(sheet.alloc())", "Ok::<_, AllocError>(it.components())").replace("(alloc)", "()")
     text = text.replace("PathSegmentKind::Ty {", "PathSegmentKind::Type {")
+    text = re.sub(rf'("(?:{"|".join(TOTAL)})", )(it\.\w+\(\))', r"\1Some(\2)", text).replace("literal_kind(sheet, it.kind())", "literal_kind(sheet, Some(it.kind()))")
     # The names of calls are the keys of their numbers.
     text = re.sub(r"(\w+): &str\b", r"\1: &'static str", text)
     return re.sub(r"\n(ghost |    requires ).*", "", text)

@@ -68,6 +68,34 @@ class Trees(unittest.TestCase):
             self.assertIsNone(tree.root.parent)
             self.assertEqual(sum(1 for _ in tree.root.descendants()), len(tree))
 
+    def test_walks_enter_and_leave(self):
+        def wanted(element):
+            yield True, element
+            for child in element.children():
+                yield from wanted(child)
+            yield False, element
+
+        for text in TEXTS:
+            tree = ras.parse(text)
+            for element in tree.root.descendants():
+                self.assertEqual(list(element.walk()), list(wanted(element)))
+        steps, kinds = ras.parse("fn f() { fn g() {} } struct S;").root.walk(), []
+        for enters, it in steps:
+            if enters and not it.is_token:
+                kinds.append(it.kind)
+                if it.kind == "FN":
+                    self.assertEqual(steps.send(False), (False, it))
+        self.assertEqual(kinds, ["SOURCE_FILE", "FN", "STRUCT", "NAME"])
+
+    def test_kinds_are_found_below_an_element(self):
+        for text in TEXTS:
+            root = ras.parse(text).root
+            for element in root.descendants():
+                for kind in ("NAME", "WHITESPACE", element.kind):
+                    self.assertEqual(list(element.find(kind)), [it for it in element.descendants() if it.kind == kind])
+        with self.assertRaises(ValueError):
+            list(root.find("NO_SUCH_KIND"))
+
     def test_expressions(self):
         tree = ras.parse_expr("a + b")
         self.assertEqual((tree.root.kind, tree.errors), ("BIN_EXPR", []))

@@ -223,12 +223,7 @@ class Tree:
 
     def find(self, kind):
         """The nodes and tokens of a kind, in preorder. It looks at numbers alone until one is found."""
-        number = kind_of_name(kind)
-        if number is None:
-            raise ValueError(f"no kind has the name {kind}")
-        for n, it in enumerate(self.rows[::4].tolist()):
-            if it % _TOKEN == number:
-                yield Element(self, n)
+        return self.root.find(kind)
 
     def edit(self, edits):
         """The tree of the text in which each range of bytes is replaced: `edits` are tuples of a start, an end and a text, in any order.
@@ -413,6 +408,37 @@ class Element:
     def descendants(self):
         """It and all nodes and tokens below it, in preorder."""
         return (Element(self.tree, row) for row in range(self.row, self.subtree_end))
+
+    def find(self, kind):
+        """It and the nodes and tokens below it that are of a kind, in preorder. It looks at numbers alone until one is found."""
+        number = kind_of_name(kind)
+        if number is None:
+            raise ValueError(f"no kind has the name {kind}")
+        for n, it in enumerate(self.tree.rows[4 * self.row : 4 * self.subtree_end : 4].tolist(), self.row):
+            if it % _TOKEN == number:
+                yield Element(self.tree, n)
+
+    def walk(self):
+        """It and all nodes and tokens below it, entered and left: pairs of True and an element where what is below it comes next, and of
+        False and the element where all of that came. A token is entered and left at once.
+
+        To pass over what is below an element that was just entered, send False to the generator; it gives the pair that leaves it.
+
+        >>> steps = parse("fn f() {}").root.walk()
+        >>> [(enters, it.kind) for enters, it in steps][:4]
+        [(True, 'SOURCE_FILE'), (True, 'FN'), (True, 'FN_KW'), (False, 'FN_KW')]
+        """
+        opened, row, after = [], self.row, self.subtree_end
+        while row < after or opened:
+            if opened and opened[-1].subtree_end <= row:
+                yield False, opened.pop()
+                continue
+            element = Element(self.tree, row)
+            opened.append(element)
+            row += 1
+            if (yield True, element) is False:
+                row = element.subtree_end
+                yield False, opened.pop()
 
     def tokens(self):
         """Its tokens, in order; of a token itself."""

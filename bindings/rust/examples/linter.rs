@@ -1,44 +1,48 @@
-//! A linter: functions that do nothing, `unwrap` calls, and `if` whose condition is in parentheses.
+//! A linter: functions that do nothing, `unwrap` calls, conditions in parentheses, comparisons with `true`, and variants without docs.
 //!
 //! Over rust-analyzer's crate it is the same text with `ra_ap_syntax` in place of `ras` in the two `use` lines.
 //!
 //! usage: cargo run --example linter -- FILE..
-use ras::ast::{self, AstNode, HasName};
-use ras::{Edition, SourceFile, SyntaxNode};
+use ras::ast::{self, AstNode, BinaryOp, CmpOp, HasAttrs, HasName, HasVisibility, LiteralKind};
+use ras::{Edition, SourceFile, SyntaxNode, TextRange, match_ast};
 use std::{env, fs, io};
 
-fn empty(node: &SyntaxNode) -> Option<String> {
-    let function = ast::Fn::cast(node.clone())?;
-    let (name, body) = (function.name()?, function.body()?.stmt_list()?);
-    let is_empty = body.statements().next().is_none() && body.tail_expr().is_none();
-    is_empty.then(|| format!("{} does nothing", name.syntax().text()))
+fn is_true(expr: ast::Expr) -> bool {
+    matches!(expr, ast::Expr::Literal(it) if matches!(it.kind(), LiteralKind::Bool(true)))
 }
 
-fn unwraps(node: &SyntaxNode) -> Option<String> {
-    let call = ast::MethodCallExpr::cast(node.clone())?;
-    let name = call.name_ref()?;
-    (name.syntax().text() == "unwrap").then(|| format!("{} may panic", call.syntax().text()))
-}
-
-fn parenthesized(node: &SyntaxNode) -> Option<String> {
-    let condition = node.children().find_map(ast::ParenExpr::cast)?;
-    let is_if = ast::IfExpr::cast(node.clone()).is_some();
-    is_if.then(|| format!("{} needs no parentheses", condition.syntax().text()))
-}
-
-fn lint(name: &str, text: &str) {
-    let parse = SourceFile::parse(text, Edition::CURRENT);
-    for node in parse.tree().syntax().descendants() {
-        for told in [empty(&node), unwraps(&node), parenthesized(&node)].into_iter().flatten() {
-            let start = usize::from(node.text_range().start());
-            println!("{name}:{}: {told}", text[..start].matches('\n').count() + 1);
+fn finding(node: &SyntaxNode) -> Option<(TextRange, String)> {
+    let (at, told) = match_ast! {
+        match node {
+            ast::Fn(it) if it.body()?.stmt_list()?.statements().next().is_none() && it.body()?.tail_expr().is_none() => {
+                (it.name()?.syntax().text_range(), format!("{} does nothing", it.name()?.text()))
+            },
+            ast::MethodCallExpr(it) if it.name_ref()?.text() == "unwrap" => {
+                (it.name_ref()?.syntax().text_range(), format!("{} may panic", it.syntax()))
+            },
+            ast::IfExpr(it) => match it.condition()? {
+                ast::Expr::ParenExpr(it) => (it.syntax().text_range(), format!("{it} needs no parentheses")),
+                _ => return None,
+            },
+            ast::BinExpr(it) if it.op_kind() == Some(BinaryOp::CmpOp(CmpOp::Eq { negated: false })) && is_true(it.rhs()?) => {
+                (it.op_token()?.text_range(), format!("{} is enough", it.lhs()?))
+            },
+            ast::Variant(it) if it.parent_enum().visibility().is_some() && it.doc_comments().next().is_none() => {
+                (it.name()?.syntax().text_range(), format!("{} is not documented", it.name()?.text()))
+            },
+            _ => return None,
         }
-    }
+    };
+    Some((at, told))
 }
 
 fn main() -> io::Result<()> {
     for name in env::args().skip(1) {
-        lint(&name, &fs::read_to_string(&name)?);
+        let text = fs::read_to_string(&name)?;
+        let parse = SourceFile::parse(&text, Edition::CURRENT);
+        for (at, told) in parse.tree().syntax().descendants().filter_map(|node| finding(&node)) {
+            println!("{name}:{}: {told}", text[..at.start().into()].matches('\n').count() + 1);
+        }
     }
     Ok(())
 }

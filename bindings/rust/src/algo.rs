@@ -2,6 +2,7 @@
 use crate::ast::AstNode;
 use crate::node::{Direction, NodeOrToken, SyntaxElement, SyntaxNode, SyntaxToken};
 use crate::range::{TextRange, TextSize};
+use crate::syntax_editor::Element;
 use crate::{SyntaxKind, T};
 use std::iter::successors;
 
@@ -83,8 +84,8 @@ fn node_of(element: SyntaxElement) -> Option<SyntaxNode> {
 }
 
 /// The deepest node that is an ancestor of both; the nearest ancestor of a token is its parent.
-pub fn least_common_ancestor_element(u: impl Into<SyntaxElement>, v: impl Into<SyntaxElement>) -> Option<SyntaxNode> {
-    least_common_ancestor(&node_of(u.into())?, &node_of(v.into())?)
+pub fn least_common_ancestor_element(u: impl Element, v: impl Element) -> Option<SyntaxNode> {
+    least_common_ancestor(&node_of(u.syntax_element())?, &node_of(v.syntax_element())?)
 }
 
 /// The nearest sibling node in a direction that can be viewed as the type of `me`.

@@ -15,12 +15,14 @@
 //! assert_eq!(names, ["one", "three"]);
 //! ```
 mod aliases;
+mod attr_ext;
 pub mod edit;
 mod expr_ext;
 mod macros;
 mod node_ext;
 mod operators;
 pub mod prec;
+mod string_ext;
 pub mod support;
 mod token_ext;
 mod traits;
@@ -30,9 +32,10 @@ pub mod visit;
 pub use crate::make;
 pub use aliases::*;
 pub use operators::{ArithOp, BinaryOp, CmpOp, LogicOp, Ordering, RangeOp, UnaryOp};
-pub use token_ext::{AttrKind, CommentKind, CommentShape, QuoteOffsets, Radix};
+pub use string_ext::{IsString, QuoteOffsets};
+pub use token_ext::{AttrKind, CommentKind, CommentShape, Radix};
 pub use traits::{
-    HasArgList, HasAttrs, HasGenericArgs, HasGenericParams, HasLoopBody, HasModuleItem, HasName, HasTypeBounds, HasVisibility,
+    AttrsIter, HasArgList, HasAttrs, HasGenericArgs, HasGenericParams, HasLoopBody, HasModuleItem, HasName, HasTypeBounds, HasVisibility,
     attrs_including_inner, attrs_with_doc_including_inner,
 };
 pub use views::RangeItem;
@@ -45,6 +48,18 @@ use std::marker::PhantomData;
 
 /// A view of a node.
 pub trait AstNode<N: Node = SyntaxNode> {
+    /// The kind of the nodes that can be viewed so.
+    ///
+    /// # Panics
+    ///
+    /// It panics for a type of nodes of several kinds, as [`Expr`].
+    fn kind() -> SyntaxKind
+    where
+        Self: Sized,
+    {
+        panic!("nodes of several kinds can be viewed so")
+    }
+
     /// Whether a node of this kind can be viewed so.
     fn can_cast(kind: SyntaxKind) -> bool
     where
@@ -57,6 +72,15 @@ pub trait AstNode<N: Node = SyntaxNode> {
 
     /// The node.
     fn syntax(&self) -> &N;
+
+    /// A copy of the node with all below it, as the root of a tree of its own.
+    fn clone_subtree(&self) -> Self
+    where
+        Self: Sized + AstNode<SyntaxNode>,
+    {
+        let copy = <Self as AstNode<SyntaxNode>>::syntax(self).clone_subtree();
+        <Self as AstNode<SyntaxNode>>::cast(copy).expect("a copy has the kind of the node")
+    }
 }
 
 /// A view of a token.
@@ -100,6 +124,10 @@ impl<N: Node, L: AstNode<N>, R: AstNode<N>> AstNode<N> for Either<L, R> {
         }
     }
 }
+
+impl<N: Node, L: HasAttrs<N>, R: HasAttrs<N>> HasAttrs<N> for Either<L, R> {}
+
+impl<N: Node, L: HasName<N>, R: HasName<N>> HasName<N> for Either<L, R> {}
 
 /// The children of a node that can be viewed as an `A`, in order.
 pub struct AstChildren<A, N = SyntaxNode> {

@@ -1,5 +1,6 @@
 //! Walks over the nodes and tokens of a tree.
-use crate::node::{Node, NodeOrToken};
+use crate::node::{Node, NodeOrToken, SyntaxNode};
+use crate::SyntaxKind;
 use crate::tree::Tree;
 use std::iter::FusedIterator;
 
@@ -76,7 +77,7 @@ impl<T> ExactSizeIterator for TokenAtOffset<T> {}
 
 /// The children of a node, nodes and tokens, in order.
 #[derive(Clone, Debug)]
-pub struct ChildrenWithTokens<N> {
+pub struct ChildrenWithTokens<N = SyntaxNode> {
     parent: N,
     next: u32,
     behind: u32,
@@ -101,9 +102,19 @@ impl<N: Node> ChildrenWithTokens<N> {
     }
 
     // The next child that is a node of which the kind is accepted.
-    pub(crate) fn next_node(&mut self, accepts: impl Fn(crate::SyntaxKind) -> bool) -> Option<N> {
+    pub(crate) fn next_node(&mut self, accepts: impl Fn(SyntaxKind) -> bool) -> Option<N> {
         let row = self.next_row(|tree, row| !tree.is_token(row) && accepts(tree.kind_of(row)))?;
         Some(self.parent.node_at(row))
+    }
+}
+
+impl<N: Node> ChildrenWithTokens<N> {
+    /// The children of which the kind is accepted, nodes and tokens, in order.
+    pub fn by_kind(mut self, accepts: impl Fn(SyntaxKind) -> bool) -> impl Iterator<Item = NodeOrToken<N, N::Token>> {
+        std::iter::from_fn(move || {
+            let row = self.next_row(|tree, row| accepts(tree.kind_of(row)))?;
+            Some(self.parent.element_at(row))
+        })
     }
 }
 
@@ -120,7 +131,14 @@ impl<N: Node> FusedIterator for ChildrenWithTokens<N> {}
 
 /// The child nodes of a node, in order.
 #[derive(Clone, Debug)]
-pub struct Children<N>(pub(crate) ChildrenWithTokens<N>);
+pub struct Children<N = SyntaxNode>(pub(crate) ChildrenWithTokens<N>);
+
+impl<N: Node> Children<N> {
+    /// The child nodes of which the kind is accepted, in order.
+    pub fn by_kind(mut self, accepts: impl Fn(SyntaxKind) -> bool) -> impl Iterator<Item = N> {
+        std::iter::from_fn(move || self.0.next_node(&accepts))
+    }
+}
 
 impl<N: Node> Iterator for Children<N> {
     type Item = N;
@@ -134,7 +152,7 @@ impl<N: Node> FusedIterator for Children<N> {}
 
 /// A node and all nodes and tokens below it, in preorder.
 #[derive(Clone, Debug)]
-pub struct DescendantsWithTokens<N> {
+pub struct DescendantsWithTokens<N = SyntaxNode> {
     node: N,
     next: u32,
     behind: u32,
@@ -181,7 +199,7 @@ impl<N: Node> FusedIterator for DescendantsWithTokens<N> {}
 
 /// A node and all nodes below it, in preorder.
 #[derive(Clone, Debug)]
-pub struct Descendants<N>(pub(crate) DescendantsWithTokens<N>);
+pub struct Descendants<N = SyntaxNode>(pub(crate) DescendantsWithTokens<N>);
 
 impl<N: Node> Iterator for Descendants<N> {
     type Item = N;
@@ -222,7 +240,7 @@ impl<T> WalkEvent<T> {
 
 /// A walk that enters and leaves a node and each node and token below it.
 #[derive(Clone, Debug)]
-pub struct PreorderWithTokens<N> {
+pub struct PreorderWithTokens<N = SyntaxNode> {
     root: N,
     next: Option<WalkEvent<u32>>,
 }
@@ -276,7 +294,7 @@ impl<N: Node> FusedIterator for PreorderWithTokens<N> {}
 
 /// A walk that enters and leaves a node and each node below it.
 #[derive(Clone, Debug)]
-pub struct Preorder<N>(pub(crate) PreorderWithTokens<N>);
+pub struct Preorder<N = SyntaxNode>(pub(crate) PreorderWithTokens<N>);
 
 impl<N: Node> Preorder<N> {
     /// Passes over what is below the node that was entered last, as [`PreorderWithTokens::skip_subtree`].

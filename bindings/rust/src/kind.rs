@@ -1,6 +1,6 @@
 //! Kinds of nodes and tokens.
 use crate::Edition;
-use crate::kinds::{CONTEXTUAL, KEYWORDS, PUNCTUATION};
+use crate::kinds::{CONTEXTUAL, KEYWORDS, KNOWN, OTHERS, PUNCTUATION, text_of};
 use std::fmt;
 
 pub use crate::kinds::SyntaxKind;
@@ -23,16 +23,16 @@ macro_rules! kinds {
         /// ```
         #[derive(Clone, Copy, PartialEq, Eq, PartialOrd, Ord, Hash)]
         #[allow(non_camel_case_types, clippy::upper_case_acronyms)]
-        #[repr(u32)]
+        #[repr(u16)]
         pub enum SyntaxKind {
             $($(#[$doc])* #[doc = concat!("`", stringify!($name), "`.")] $name = $number,)*
-            $($(#[$odoc])* #[doc = concat!("`", stringify!($other), "`.")] $other = $onumber,)*
+            $($(#[$odoc])* #[doc = concat!("`", stringify!($other), "`.")] $other,)*
         }
 
-        // The kinds whose numbers are their places here.
+        // The kinds whose numbers in rows are their places here.
         pub(crate) const KNOWN: &[SyntaxKind] = &[$(SyntaxKind::$name),*];
-        // The others, by their numbers.
-        pub(crate) const OTHERS: &[SyntaxKind] = &[$(SyntaxKind::$other),*];
+        // The others, in the order of their numbers in rows. In the enum they come after the known ones, in this order.
+        pub(crate) const OTHERS: &[(u32, SyntaxKind)] = &[$(($onumber, SyntaxKind::$other)),*];
 
         impl SyntaxKind {
             /// Its name, as `"FN"`.
@@ -48,24 +48,50 @@ macro_rules! kinds {
 pub(crate) use kinds;
 
 impl SyntaxKind {
-    /// The kind with this number, which a row has; `None` if no kind has it.
+    /// The kind with this number, which a row of a tree has; `None` if no kind has it.
     pub fn from_number(number: u32) -> Option<SyntaxKind> {
-        use crate::kinds::{KNOWN, OTHERS};
         match KNOWN.get(number as usize) {
             Some(kind) => Some(*kind),
-            None => OTHERS.binary_search_by_key(&number, |it| it.number()).ok().map(|at| OTHERS[at]),
+            None => OTHERS.binary_search_by_key(&number, |it| it.0).ok().map(|at| OTHERS[at].1),
         }
     }
 
-    /// Its number.
+    /// Its number in the rows of a tree.
     pub const fn number(self) -> u32 {
-        self as u32
+        let place = self as usize;
+        if place < KNOWN.len() { place as u32 } else { OTHERS[place - KNOWN.len()].0 }
+    }
+
+    /// The kind at this place of the enum, `kind as u16`; `None` past its end.
+    ///
+    /// ```
+    /// use ras::SyntaxKind;
+    ///
+    /// assert_eq!(SyntaxKind::from_place(SyntaxKind::VARIANT_LIST as u16), Some(SyntaxKind::VARIANT_LIST));
+    /// assert_eq!(SyntaxKind::from_place(u16::MAX), None);
+    /// ```
+    pub fn from_place(place: u16) -> Option<SyntaxKind> {
+        let place = usize::from(place);
+        KNOWN.get(place).copied().or_else(|| OTHERS.get(place - KNOWN.len()).map(|it| it.1))
     }
 
     /// The kind with this name, if there is one. It takes time in the number of kinds.
     pub fn from_name(name: &str) -> Option<SyntaxKind> {
-        use crate::kinds::{KNOWN, OTHERS};
-        KNOWN.iter().chain(OTHERS).copied().find(|it| it.name() == name)
+        KNOWN.iter().copied().chain(OTHERS.iter().map(|it| it.1)).find(|it| it.name() == name)
+    }
+
+    /// The text of the punctuation or word that it is the kind of, as `"+"` or `"fn"`. It is empty for other kinds, whose texts differ.
+    ///
+    /// ```
+    /// use ras::{SyntaxKind, T};
+    ///
+    /// assert_eq!((T![=>].text(), T![union].text(), SyntaxKind::IDENT.text()), ("=>", "union", ""));
+    /// ```
+    pub const fn text(self) -> &'static str {
+        match text_of(self) {
+            Some(text) => text,
+            None => "",
+        }
     }
 
     /// Whether it is that of white space or of a comment that documents nothing.
@@ -159,6 +185,24 @@ impl SyntaxKind {
             '-' => MINUS,
             _ => return None,
         })
+    }
+}
+
+impl From<SyntaxKind> for u16 {
+    /// Its place in the enum.
+    fn from(kind: SyntaxKind) -> u16 {
+        kind as u16
+    }
+}
+
+impl From<u16> for SyntaxKind {
+    /// The kind at a place of the enum.
+    ///
+    /// # Panics
+    ///
+    /// It panics past the end of the enum; [`SyntaxKind::from_place`] returns `None` there.
+    fn from(place: u16) -> SyntaxKind {
+        SyntaxKind::from_place(place).expect("a kind has this place")
     }
 }
 

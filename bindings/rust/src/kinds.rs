@@ -436,6 +436,149 @@ pub(crate) const PUNCTUATION: [SyntaxKind; 52] = [
     SyntaxKind::SHREQ,
 ];
 
+// The text of a punctuation or a word; `None` for other kinds.
+pub(crate) const fn text_of(kind: SyntaxKind) -> Option<&'static str> {
+    Some(match kind {
+        SyntaxKind::SEMICOLON => ";",
+        SyntaxKind::COMMA => ",",
+        SyntaxKind::L_PAREN => "(",
+        SyntaxKind::R_PAREN => ")",
+        SyntaxKind::L_CURLY => "{",
+        SyntaxKind::R_CURLY => "}",
+        SyntaxKind::L_BRACK => "[",
+        SyntaxKind::R_BRACK => "]",
+        SyntaxKind::L_ANGLE => "<",
+        SyntaxKind::R_ANGLE => ">",
+        SyntaxKind::AT => "@",
+        SyntaxKind::POUND => "#",
+        SyntaxKind::DOLLAR => "$",
+        SyntaxKind::TILDE => "~",
+        SyntaxKind::QUESTION => "?",
+        SyntaxKind::AMP => "&",
+        SyntaxKind::PIPE => "|",
+        SyntaxKind::PLUS => "+",
+        SyntaxKind::STAR => "*",
+        SyntaxKind::SLASH => "/",
+        SyntaxKind::CARET => "^",
+        SyntaxKind::PERCENT => "%",
+        SyntaxKind::UNDERSCORE => "_",
+        SyntaxKind::DOT => ".",
+        SyntaxKind::DOT2 => "..",
+        SyntaxKind::DOT3 => "...",
+        SyntaxKind::DOT2EQ => "..=",
+        SyntaxKind::COLON => ":",
+        SyntaxKind::COLON2 => "::",
+        SyntaxKind::EQ => "=",
+        SyntaxKind::EQ2 => "==",
+        SyntaxKind::FAT_ARROW => "=>",
+        SyntaxKind::BANG => "!",
+        SyntaxKind::NEQ => "!=",
+        SyntaxKind::MINUS => "-",
+        SyntaxKind::THIN_ARROW => "->",
+        SyntaxKind::LTEQ => "<=",
+        SyntaxKind::GTEQ => ">=",
+        SyntaxKind::PLUSEQ => "+=",
+        SyntaxKind::MINUSEQ => "-=",
+        SyntaxKind::PIPEEQ => "|=",
+        SyntaxKind::AMPEQ => "&=",
+        SyntaxKind::CARETEQ => "^=",
+        SyntaxKind::SLASHEQ => "/=",
+        SyntaxKind::STAREQ => "*=",
+        SyntaxKind::PERCENTEQ => "%=",
+        SyntaxKind::AMP2 => "&&",
+        SyntaxKind::PIPE2 => "||",
+        SyntaxKind::SHL => "<<",
+        SyntaxKind::SHR => ">>",
+        SyntaxKind::SHLEQ => "<<=",
+        SyntaxKind::SHREQ => ">>=",
+        SyntaxKind::SELF_TYPE_KW => "Self",
+        SyntaxKind::ABSTRACT_KW => "abstract",
+        SyntaxKind::AS_KW => "as",
+        SyntaxKind::ASYNC_KW => "async",
+        SyntaxKind::AWAIT_KW => "await",
+        SyntaxKind::BECOME_KW => "become",
+        SyntaxKind::BOX_KW => "box",
+        SyntaxKind::BREAK_KW => "break",
+        SyntaxKind::CONST_KW => "const",
+        SyntaxKind::CONTINUE_KW => "continue",
+        SyntaxKind::CRATE_KW => "crate",
+        SyntaxKind::DO_KW => "do",
+        SyntaxKind::DYN_KW => "dyn",
+        SyntaxKind::ELSE_KW => "else",
+        SyntaxKind::ENUM_KW => "enum",
+        SyntaxKind::EXTERN_KW => "extern",
+        SyntaxKind::FALSE_KW => "false",
+        SyntaxKind::FINAL_KW => "final",
+        SyntaxKind::FN_KW => "fn",
+        SyntaxKind::FOR_KW => "for",
+        SyntaxKind::GEN_KW => "gen",
+        SyntaxKind::IF_KW => "if",
+        SyntaxKind::IMPL_KW => "impl",
+        SyntaxKind::IN_KW => "in",
+        SyntaxKind::LET_KW => "let",
+        SyntaxKind::LOOP_KW => "loop",
+        SyntaxKind::MACRO_KW => "macro",
+        SyntaxKind::MATCH_KW => "match",
+        SyntaxKind::MOD_KW => "mod",
+        SyntaxKind::MOVE_KW => "move",
+        SyntaxKind::MUT_KW => "mut",
+        SyntaxKind::OVERRIDE_KW => "override",
+        SyntaxKind::PRIV_KW => "priv",
+        SyntaxKind::PUB_KW => "pub",
+        SyntaxKind::REF_KW => "ref",
+        SyntaxKind::RETURN_KW => "return",
+        SyntaxKind::SELF_KW => "self",
+        SyntaxKind::STATIC_KW => "static",
+        SyntaxKind::STRUCT_KW => "struct",
+        SyntaxKind::SUPER_KW => "super",
+        SyntaxKind::TRAIT_KW => "trait",
+        SyntaxKind::TRUE_KW => "true",
+        SyntaxKind::TRY_KW => "try",
+        SyntaxKind::TYPE_KW => "type",
+        SyntaxKind::TYPEOF_KW => "typeof",
+        SyntaxKind::UNSAFE_KW => "unsafe",
+        SyntaxKind::UNSIZED_KW => "unsized",
+        SyntaxKind::USE_KW => "use",
+        SyntaxKind::VIRTUAL_KW => "virtual",
+        SyntaxKind::WHERE_KW => "where",
+        SyntaxKind::WHILE_KW => "while",
+        SyntaxKind::YIELD_KW => "yield",
+        SyntaxKind::ASM_KW => "asm",
+        SyntaxKind::ATT_SYNTAX_KW => "att_syntax",
+        SyntaxKind::AUTO_KW => "auto",
+        SyntaxKind::BIKESHED_KW => "bikeshed",
+        SyntaxKind::BUILTIN_KW => "builtin",
+        SyntaxKind::CFG_KW => "cfg",
+        SyntaxKind::CFG_ATTR_KW => "cfg_attr",
+        SyntaxKind::CLOBBER_ABI_KW => "clobber_abi",
+        SyntaxKind::DEFAULT_KW => "default",
+        SyntaxKind::FORMAT_ARGS_KW => "format_args",
+        SyntaxKind::GLOBAL_ASM_KW => "global_asm",
+        SyntaxKind::INLATEOUT_KW => "inlateout",
+        SyntaxKind::INOUT_KW => "inout",
+        SyntaxKind::LABEL_KW => "label",
+        SyntaxKind::LATEOUT_KW => "lateout",
+        SyntaxKind::MACRO_RULES_KW => "macro_rules",
+        SyntaxKind::MAY_UNWIND_KW => "may_unwind",
+        SyntaxKind::NAKED_ASM_KW => "naked_asm",
+        SyntaxKind::NOMEM_KW => "nomem",
+        SyntaxKind::NORETURN_KW => "noreturn",
+        SyntaxKind::NOSTACK_KW => "nostack",
+        SyntaxKind::OFFSET_OF_KW => "offset_of",
+        SyntaxKind::OPTIONS_KW => "options",
+        SyntaxKind::OUT_KW => "out",
+        SyntaxKind::PRESERVES_FLAGS_KW => "preserves_flags",
+        SyntaxKind::PURE_KW => "pure",
+        SyntaxKind::RAW_KW => "raw",
+        SyntaxKind::READONLY_KW => "readonly",
+        SyntaxKind::SAFE_KW => "safe",
+        SyntaxKind::SYM_KW => "sym",
+        SyntaxKind::UNION_KW => "union",
+        SyntaxKind::YEET_KW => "yeet",
+        _ => return None,
+    })
+}
+
 // The words that are keywords everywhere, sorted, each with the edition since which it is one.
 pub(crate) const KEYWORDS: [(&str, SyntaxKind, Edition); 52] = [
     ("Self", SyntaxKind::SELF_TYPE_KW, Edition2015),
@@ -635,6 +778,40 @@ macro_rules! T {
     [while] => { $crate::SyntaxKind::WHILE_KW };
     [yeet] => { $crate::SyntaxKind::YEET_KW };
     [yield] => { $crate::SyntaxKind::YIELD_KW };
+    [$] => { $crate::SyntaxKind::DOLLAR };
+    [abstract] => { $crate::SyntaxKind::ABSTRACT_KW };
+    [box] => { $crate::SyntaxKind::BOX_KW };
+    [final] => { $crate::SyntaxKind::FINAL_KW };
+    [override] => { $crate::SyntaxKind::OVERRIDE_KW };
+    [priv] => { $crate::SyntaxKind::PRIV_KW };
+    [typeof] => { $crate::SyntaxKind::TYPEOF_KW };
+    [unsized] => { $crate::SyntaxKind::UNSIZED_KW };
+    [virtual] => { $crate::SyntaxKind::VIRTUAL_KW };
+    [asm] => { $crate::SyntaxKind::ASM_KW };
+    [att_syntax] => { $crate::SyntaxKind::ATT_SYNTAX_KW };
+    [cfg] => { $crate::SyntaxKind::CFG_KW };
+    [cfg_attr] => { $crate::SyntaxKind::CFG_ATTR_KW };
+    [clobber_abi] => { $crate::SyntaxKind::CLOBBER_ABI_KW };
+    [format_args] => { $crate::SyntaxKind::FORMAT_ARGS_KW };
+    [global_asm] => { $crate::SyntaxKind::GLOBAL_ASM_KW };
+    [inlateout] => { $crate::SyntaxKind::INLATEOUT_KW };
+    [inout] => { $crate::SyntaxKind::INOUT_KW };
+    [label] => { $crate::SyntaxKind::LABEL_KW };
+    [lateout] => { $crate::SyntaxKind::LATEOUT_KW };
+    [may_unwind] => { $crate::SyntaxKind::MAY_UNWIND_KW };
+    [naked_asm] => { $crate::SyntaxKind::NAKED_ASM_KW };
+    [nomem] => { $crate::SyntaxKind::NOMEM_KW };
+    [noreturn] => { $crate::SyntaxKind::NORETURN_KW };
+    [nostack] => { $crate::SyntaxKind::NOSTACK_KW };
+    [offset_of] => { $crate::SyntaxKind::OFFSET_OF_KW };
+    [options] => { $crate::SyntaxKind::OPTIONS_KW };
+    [out] => { $crate::SyntaxKind::OUT_KW };
+    [preserves_flags] => { $crate::SyntaxKind::PRESERVES_FLAGS_KW };
+    [pure] => { $crate::SyntaxKind::PURE_KW };
+    [raw] => { $crate::SyntaxKind::RAW_KW };
+    [readonly] => { $crate::SyntaxKind::READONLY_KW };
+    [safe] => { $crate::SyntaxKind::SAFE_KW };
+    [sym] => { $crate::SyntaxKind::SYM_KW };
     [whitespace] => { $crate::SyntaxKind::WHITESPACE };
     [comment] => { $crate::SyntaxKind::COMMENT };
     [inner_doc_comment] => { $crate::SyntaxKind::INNER_DOC_COMMENT };
@@ -648,4 +825,6 @@ macro_rules! T {
     [string] => { $crate::SyntaxKind::STRING };
     [byte_string] => { $crate::SyntaxKind::BYTE_STRING };
     [c_string] => { $crate::SyntaxKind::C_STRING };
+    [frontmatter] => { $crate::SyntaxKind::FRONTMATTER };
+    [shebang] => { $crate::SyntaxKind::SHEBANG };
 }

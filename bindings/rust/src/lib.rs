@@ -24,44 +24,56 @@
 pub mod algo;
 pub mod ast;
 mod either;
+mod element;
 mod escape;
+pub mod hacks;
 mod iter;
 mod kind;
 mod kinds;
+mod line_index;
 mod live;
 pub mod make;
 mod node;
 mod parse;
 mod ptr;
 mod range;
+mod smol_str;
 pub mod syntax_editor;
 mod syntax_text;
 mod text_edit;
 mod tree;
+mod tree_builder;
+pub mod unescape;
+pub mod utils;
 mod values;
 mod version;
 
 pub use ast::{AstNode, AstToken, SourceFile};
 pub use either::Either;
+pub use element::{Direction, NodeOrToken};
 pub use escape::EscapeError;
 pub use iter::{Children, ChildrenWithTokens, Descendants, DescendantsWithTokens, Preorder, PreorderWithTokens, TokenAtOffset, WalkEvent};
 pub use kind::SyntaxKind;
+pub use line_index::{LineCol, LineIndex, WideEncoding, WideLineCol};
 pub use live::{EditError, Live};
-pub use node::{Direction, ElementRef, Node, NodeOrToken, NodeRef, SyntaxElement, SyntaxNode, SyntaxToken, Token, TokenRef};
+pub use node::{ElementRef, Node, NodeRef, SyntaxElement, SyntaxNode, SyntaxToken, Token, TokenRef};
 pub use parse::Parse;
 pub use ptr::{AstPtr, SyntaxNodePtr};
 pub use range::{TextLen, TextRange, TextSize};
 pub use ras_sys::FlatRow;
+pub use smol_str::{SmolStr, ToSmolStr};
 pub use syntax_text::SyntaxText;
 pub use text_edit::{ApplyError, Indel, OverlapError, TextEdit};
-pub use tree::{Edition, ParseError, SyntaxError, Tree};
+pub use tree_builder::SyntaxTreeBuilder;
+pub use tree::{Edition, ParseEditionError, ParseError, SyntaxError, Tree};
 
 /// The children of a node, by the name that rust-analyzer's crate has for them.
 pub type SyntaxNodeChildren = Children<SyntaxNode>;
 /// The children of a node, tokens too, by the name that rust-analyzer's crate has for them.
 pub type SyntaxElementChildren = ChildrenWithTokens<SyntaxNode>;
 
-/// A `match` by the types that a node may have, in order: `match_ast!(match node { ast::Fn(it) => .., _ => .. })`.
+/// A `match` by the types that a node may have, in order: `match_ast!(match node { ast::Fn(it) => .., _ => .. })`. An arm may have a
+/// condition, as `ast::Fn(it) if it.body().is_some() => ..`, and ends with a comma.
 ///
 /// ```
 /// use ras::ast::{self, AstNode, HasName};
@@ -86,4 +98,11 @@ macro_rules! match_ast {
         $(if let Some($it) = $($path::)+cast($node.clone()) { $result } else)*
         { $other }
     }};
+    // With a condition somewhere: arm by arm.
+    (match ($node:expr) { $($path:ident)::+ ($it:pat) $(if $condition:expr)? => $result:expr, $($left:tt)* }) => {
+        match $($path::)+cast($node.clone()) {
+            Some($it) $(if $condition)? => $result,
+            _ => $crate::match_ast!(match ($node) { $($left)* }),
+        }
+    };
 }

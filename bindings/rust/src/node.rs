@@ -2,6 +2,7 @@
 //!
 //! [`SyntaxNode`] and [`SyntaxToken`] own a share of their tree, [`NodeRef`] and [`TokenRef`] borrow it. The calls are the same: each is
 //! defined once, in the traits [`Node`] and [`Token`], over the rows of the tree.
+pub use crate::element::{Direction, NodeOrToken};
 use crate::iter::{Children, ChildrenWithTokens, Descendants, DescendantsWithTokens, Preorder, PreorderWithTokens, TokenAtOffset};
 use crate::kind::SyntaxKind;
 use crate::range::{TextRange, TextSize};
@@ -21,15 +22,6 @@ pub(crate) mod place {
     }
 }
 use place::Place;
-
-/// A direction among siblings or tokens.
-#[derive(Clone, Copy, Debug, PartialEq, Eq, Hash)]
-pub enum Direction {
-    /// To later ones.
-    Next,
-    /// To earlier ones.
-    Prev,
-}
 
 /// A node, which owns a share of its tree or borrows it: a [`SyntaxNode`] or a [`NodeRef`]. Code that is to work with both takes this
 /// as a bound; the calls are those that both types have of their own.
@@ -166,139 +158,6 @@ pub trait Token: Place + Eq + Hash + fmt::Debug + fmt::Display {
     }
 }
 
-/// A node or a token.
-#[derive(Clone, Copy, PartialEq, Eq, Hash)]
-pub enum NodeOrToken<N, T> {
-    /// A node.
-    Node(N),
-    /// A token.
-    Token(T),
-}
-
-impl<N, T> NodeOrToken<N, T> {
-    /// The node; `None` for a token.
-    pub fn into_node(self) -> Option<N> {
-        match self {
-            NodeOrToken::Node(node) => Some(node),
-            NodeOrToken::Token(_) => None,
-        }
-    }
-
-    /// The token; `None` for a node.
-    pub fn into_token(self) -> Option<T> {
-        match self {
-            NodeOrToken::Node(_) => None,
-            NodeOrToken::Token(token) => Some(token),
-        }
-    }
-
-    /// The node; `None` for a token.
-    pub fn as_node(&self) -> Option<&N> {
-        match self {
-            NodeOrToken::Node(node) => Some(node),
-            NodeOrToken::Token(_) => None,
-        }
-    }
-
-    /// The token; `None` for a node.
-    pub fn as_token(&self) -> Option<&T> {
-        match self {
-            NodeOrToken::Node(_) => None,
-            NodeOrToken::Token(token) => Some(token),
-        }
-    }
-}
-
-impl<N: Node> NodeOrToken<N, N::Token> {
-    fn place(&self) -> (&Tree, u32) {
-        match self {
-            NodeOrToken::Node(node) => (node.tree_of(), node.row_number()),
-            NodeOrToken::Token(token) => (token.tree_of(), token.row_number()),
-        }
-    }
-
-    fn at(&self, row: u32) -> NodeOrToken<N, N::Token> {
-        match self {
-            NodeOrToken::Node(node) => node.element_at(row),
-            NodeOrToken::Token(token) if token.tree_of().is_token(row) => NodeOrToken::Token(token.token_at(row)),
-            NodeOrToken::Token(token) => NodeOrToken::Node(token.node_at(row)),
-        }
-    }
-
-    /// The kind.
-    pub fn kind(&self) -> SyntaxKind {
-        let (tree, row) = self.place();
-        tree.kind_of(row)
-    }
-
-    /// The range in the text, in bytes.
-    pub fn text_range(&self) -> TextRange {
-        let (tree, row) = self.place();
-        tree.range_of(row)
-    }
-
-    /// The text, a slice of the tree's text.
-    pub fn text(&self) -> &str {
-        let (tree, row) = self.place();
-        tree.text_of(row)
-    }
-
-    /// The node that it is a child of; `None` for the root.
-    pub fn parent(&self) -> Option<N> {
-        match self {
-            NodeOrToken::Node(node) => node.parent(),
-            NodeOrToken::Token(token) => token.parent(),
-        }
-    }
-
-    /// The nodes above it, the nearest first; of a node, itself is the first.
-    pub fn ancestors(&self) -> impl Iterator<Item = N> + use<N> {
-        let first = match self {
-            NodeOrToken::Node(node) => Some(node.clone()),
-            NodeOrToken::Token(token) => token.parent(),
-        };
-        successors(first, Node::parent)
-    }
-
-    /// The next sibling, node or token.
-    pub fn next_sibling_or_token(&self) -> Option<NodeOrToken<N, N::Token>> {
-        let (tree, row) = self.place();
-        tree.next_sibling_of(row).map(|row| self.at(row))
-    }
-
-    /// The sibling before, node or token. It climbs from the row before, so it takes time in the depth there.
-    pub fn prev_sibling_or_token(&self) -> Option<NodeOrToken<N, N::Token>> {
-        let (tree, row) = self.place();
-        tree.prev_sibling_of(row).map(|row| self.at(row))
-    }
-
-    /// It, and its siblings in a direction.
-    pub fn siblings_with_tokens(&self, direction: Direction) -> impl Iterator<Item = NodeOrToken<N, N::Token>> + use<N> {
-        successors(Some(self.clone()), move |it| match direction {
-            Direction::Next => it.next_sibling_or_token(),
-            Direction::Prev => it.prev_sibling_or_token(),
-        })
-    }
-}
-
-impl<N: fmt::Display, T: fmt::Display> fmt::Display for NodeOrToken<N, T> {
-    fn fmt(&self, f: &mut fmt::Formatter<'_>) -> fmt::Result {
-        match self {
-            NodeOrToken::Node(node) => node.fmt(f),
-            NodeOrToken::Token(token) => token.fmt(f),
-        }
-    }
-}
-
-impl<N: fmt::Debug, T: fmt::Debug> fmt::Debug for NodeOrToken<N, T> {
-    fn fmt(&self, f: &mut fmt::Formatter<'_>) -> fmt::Result {
-        match self {
-            NodeOrToken::Node(node) => node.fmt(f),
-            NodeOrToken::Token(token) => token.fmt(f),
-        }
-    }
-}
-
 // The types of nodes and tokens that hold a tree in one way, with their calls.
 macro_rules! places {
     ($(#[$node_doc:meta])* $node:ident, $(#[$token_doc:meta])* $token:ident, [$($life:lifetime)?] $tree:ty) => {
@@ -380,6 +239,17 @@ macro_rules! places {
                 self.children().next()
             }
 
+            /// The first child node of which the kind is accepted.
+            pub fn first_child_by_kind(&self, accepts: &impl Fn(SyntaxKind) -> bool) -> Option<Self> {
+                self.children_with_tokens().next_node(accepts)
+            }
+
+            /// The first child, node or token, of which the kind is accepted.
+            pub fn first_child_or_token_by_kind(&self, accepts: &impl Fn(SyntaxKind) -> bool) -> Option<NodeOrToken<Self, <Self as Node>::Token>> {
+                let row = self.children_with_tokens().next_row(|tree, row| accepts(tree.kind_of(row)))?;
+                Some(self.element_at(row))
+            }
+
             /// The last child node.
             pub fn last_child(&self) -> Option<Self> {
                 let last = self.last_child_or_token()?;
@@ -399,6 +269,16 @@ macro_rules! places {
             /// The next sibling that is a node.
             pub fn next_sibling(&self) -> Option<Self> {
                 self.siblings(Direction::Next).nth(1)
+            }
+
+            /// The nearest later sibling that is a node of which the kind is accepted.
+            pub fn next_sibling_by_kind(&self, accepts: &impl Fn(SyntaxKind) -> bool) -> Option<Self> {
+                self.siblings(Direction::Next).skip(1).find(|it| accepts(it.kind()))
+            }
+
+            /// The nearest later sibling, node or token, of which the kind is accepted.
+            pub fn next_sibling_or_token_by_kind(&self, accepts: &impl Fn(SyntaxKind) -> bool) -> Option<NodeOrToken<Self, <Self as Node>::Token>> {
+                self.siblings_with_tokens(Direction::Next).skip(1).find(|it| accepts(it.kind()))
             }
 
             /// The nearest sibling before that is a node.
@@ -500,6 +380,16 @@ macro_rules! places {
                 self.element_at(self.tree_of().covering(self.row, range))
             }
 
+            /// The first child, node or token, whose range contains the whole of a range.
+            pub fn child_or_token_at_range(&self, range: TextRange) -> Option<NodeOrToken<Self, <Self as Node>::Token>> {
+                self.children_with_tokens().find(|it| it.text_range().contains_range(range))
+            }
+
+            /// How many siblings, nodes and tokens, are before it. It takes time in their number.
+            pub fn index(&self) -> usize {
+                self.tree_of().index_of(self.row)
+            }
+
             /// The number of the node's row in [`Tree::rows`](crate::Tree::rows).
             pub fn row(&self) -> usize {
                 self.row as usize
@@ -540,6 +430,11 @@ macro_rules! places {
             /// This token, and its siblings in a direction, nodes and tokens.
             pub fn siblings_with_tokens(&self, direction: Direction) -> impl Iterator<Item = NodeOrToken<<Self as Token>::Node, Self>> + use<$($life)?> {
                 NodeOrToken::<<Self as Token>::Node, Self>::Token(self.clone()).siblings_with_tokens(direction)
+            }
+
+            /// How many siblings, nodes and tokens, are before it. It takes time in their number.
+            pub fn index(&self) -> usize {
+                self.tree_of().index_of(self.row)
             }
 
             /// The next token of the tree.
@@ -679,6 +574,23 @@ macro_rules! owned_calls {
 
 owned_calls!(SyntaxNode);
 owned_calls!(SyntaxToken);
+
+impl SyntaxNode {
+    /// A copy of the node with all below it, as the root of a tree of its own. That tree has no errors.
+    ///
+    /// ```
+    /// use ras::ast::{self, AstNode};
+    /// use ras::{Edition, SourceFile};
+    ///
+    /// let file = SourceFile::parse("struct S; fn f() {}", Edition::CURRENT).tree();
+    /// let function = file.syntax().children().find_map(ast::Fn::cast).unwrap().clone_subtree();
+    /// assert_eq!(function.syntax().parent(), None);
+    /// assert_eq!(function.syntax().text_range().to_string(), "0..9");
+    /// ```
+    pub fn clone_subtree(&self) -> SyntaxNode {
+        self.tree.subtree(self.row).syntax_node()
+    }
+}
 
 macro_rules! borrowed_calls {
     ($name:ident, $owned:ident) => {

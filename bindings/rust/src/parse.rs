@@ -1,6 +1,7 @@
 //! Parses as rust-analyzer's crate has them.
 use crate::ast::{AstNode, Expr, SourceFile};
 use crate::node::SyntaxNode;
+use crate::range::TextRange;
 use crate::tree::{Edition, ParseError, SyntaxError, Tree};
 use std::fmt;
 use std::marker::PhantomData;
@@ -14,6 +15,10 @@ pub struct Parse<T = SourceFile> {
 }
 
 impl<T> Parse<T> {
+    pub(crate) fn of_tree(tree: Tree) -> Parse<T> {
+        Parse { tree, view: PhantomData }
+    }
+
     /// The root.
     pub fn syntax_node(&self) -> SyntaxNode {
         self.tree.syntax_node()
@@ -59,6 +64,25 @@ impl Parse<SourceFile> {
     pub fn debug_dump(&self) -> String {
         let errors = self.tree.errors().iter().map(|it| format!("error {:?}: {it}\n", it.range()));
         format!("{:#?}{}", self.tree.root(), errors.collect::<String>())
+    }
+
+    /// The parse of the text in which a range is replaced by another text. The whole text is parsed again; [`Live`](crate::Live) parses
+    /// one token or one block again if that is enough.
+    ///
+    /// ```
+    /// use ras::{AstNode, Edition, SourceFile, TextRange};
+    ///
+    /// let parse = SourceFile::parse("fn f() {}", Edition::CURRENT);
+    /// let new = parse.reparse(TextRange::new(3.into(), 4.into()), "main", Edition::CURRENT);
+    /// assert_eq!(new.tree().syntax().text(), "fn main() {}");
+    /// ```
+    ///
+    /// # Panics
+    ///
+    /// It panics if the range is not one of the text, if the new text has 2^32 bytes or more, or if memory runs out.
+    pub fn reparse(&self, delete: TextRange, insert: &str, edition: Edition) -> Parse<SourceFile> {
+        let text = self.tree.text();
+        of(Tree::parse([&text[..delete.start().into()], insert, &text[delete.end().into()..]].concat(), edition))
     }
 }
 

@@ -202,8 +202,11 @@ impl TextRange {
     }
 
     /// The range of so many bytes from an offset on. It panics if its end is 2^32 or more.
-    pub fn at(offset: TextSize, len: TextSize) -> TextRange {
-        TextRange::new(offset, offset + len)
+    pub const fn at(offset: TextSize, len: TextSize) -> TextRange {
+        match offset.checked_add(len) {
+            Some(end) => TextRange { start: offset, end },
+            None => panic!("a range ends before 2^32"),
+        }
     }
 
     /// The range without bytes at an offset.

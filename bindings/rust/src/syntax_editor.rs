@@ -516,22 +516,6 @@ impl fmt::Debug for SyntaxEdit {
 }
 
 impl SyntaxNode {
-    /// The node as the root of a tree of its own.
-    pub fn clone_subtree(&self) -> SyntaxNode {
-        let mut walk = Vec::with_capacity((self.tree().end_of(self.row_number()) - self.row_number()) as usize);
-        let (tree, first) = (self.tree(), self.row_number());
-        let start = u32::from(tree.start_of(first));
-        for row in &tree.rows()[first as usize..tree.end_of(first) as usize] {
-            walk.push(FlatRow {
-                kind: row.kind,
-                start: row.start - start,
-                subtree_end: row.subtree_end - first,
-                parent: row.parent.saturating_sub(first),
-            });
-        }
-        Tree::made(self.text().to_owned(), tree.edition(), walk).syntax_node()
-    }
-
     /// The root of the tree in which another node is in the place of this one; the root of the other one, if this is a root.
     ///
     /// # Errors

@@ -5,10 +5,12 @@ use crate::range::{TextRange, TextSize};
 use ras_sys::{self as raw, Counts, ErrorRow, FlatRow, Range};
 use crate::{SyntaxKind, iter};
 use std::fmt;
+use std::str::FromStr;
 use std::sync::Arc;
 
 /// An edition of Rust. Which words are keywords depends on it.
 #[derive(Clone, Copy, Debug, PartialEq, Eq, PartialOrd, Ord, Hash)]
+#[repr(u8)]
 pub enum Edition {
     /// Rust 2015.
     Edition2015,
@@ -25,6 +27,33 @@ impl Edition {
     pub const CURRENT: Edition = Edition::Edition2024;
     /// The newest edition, by the other name that rust-analyzer has for it.
     pub const LATEST: Edition = Edition::CURRENT;
+    /// The edition of a package whose `Cargo.toml` names none, Rust 2015.
+    pub const DEFAULT: Edition = Edition::Edition2015;
+
+    /// All editions, from the oldest.
+    pub fn iter() -> impl Iterator<Item = Edition> {
+        [Edition::Edition2015, Edition::Edition2018, Edition::Edition2021, Edition::Edition2024].into_iter()
+    }
+
+    /// Its year.
+    pub fn number(&self) -> usize {
+        self.year() as usize
+    }
+
+    /// Whether it is Rust 2018 or later.
+    pub fn at_least_2018(self) -> bool {
+        self >= Edition::Edition2018
+    }
+
+    /// Whether it is Rust 2021 or later.
+    pub fn at_least_2021(self) -> bool {
+        self >= Edition::Edition2021
+    }
+
+    /// Whether it is Rust 2024 or later.
+    pub fn at_least_2024(self) -> bool {
+        self >= Edition::Edition2024
+    }
 
     pub(crate) fn year(self) -> u32 {
         match self {
@@ -33,6 +62,41 @@ impl Edition {
             Edition::Edition2021 => 2021,
             Edition::Edition2024 => 2024,
         }
+    }
+}
+
+impl fmt::Display for Edition {
+    /// The year.
+    fn fmt(&self, f: &mut fmt::Formatter<'_>) -> fmt::Result {
+        self.year().fmt(f)
+    }
+}
+
+/// A text names no edition.
+#[derive(Clone, Debug, PartialEq, Eq)]
+pub struct ParseEditionError(Box<str>);
+
+impl fmt::Display for ParseEditionError {
+    fn fmt(&self, f: &mut fmt::Formatter<'_>) -> fmt::Result {
+        write!(f, "invalid edition: {:?}", self.0)
+    }
+}
+
+impl std::error::Error for ParseEditionError {}
+
+impl FromStr for Edition {
+    type Err = ParseEditionError;
+
+    /// The edition of a year.
+    ///
+    /// ```
+    /// use ras::Edition;
+    ///
+    /// assert_eq!("2021".parse(), Ok(Edition::Edition2021));
+    /// assert!("2022".parse::<Edition>().is_err());
+    /// ```
+    fn from_str(text: &str) -> Result<Edition, ParseEditionError> {
+        Edition::iter().find(|it| it.to_string() == text).ok_or_else(|| ParseEditionError(text.into()))
     }
 }
 
@@ -67,7 +131,7 @@ pub(crate) fn answered(status: u32) -> Result<bool, ParseError> {
 }
 
 /// What is wrong with a text, and where.
-#[derive(Clone, Debug, PartialEq, Eq)]
+#[derive(Clone, Debug, PartialEq, Eq, Hash)]
 pub struct SyntaxError {
     message: Box<str>,
     range: TextRange,
@@ -75,6 +139,29 @@ pub struct SyntaxError {
 }
 
 impl SyntaxError {
+    /// An error of one's own, with a message and a range. It is no violation.
+    ///
+    /// ```
+    /// use ras::{SyntaxError, TextRange};
+    ///
+    /// let error = SyntaxError::new("too long", TextRange::new(3.into(), 9.into()));
+    /// assert_eq!((error.to_string(), error.range().to_string()), ("too long".to_owned(), "3..9".to_owned()));
+    /// ```
+    pub fn new(message: impl Into<String>, range: TextRange) -> SyntaxError {
+        SyntaxError { message: message.into().into(), range, is_violation: false }
+    }
+
+    /// An error of one's own at an offset, with an empty range.
+    pub fn new_at_offset(message: impl Into<String>, offset: TextSize) -> SyntaxError {
+        SyntaxError::new(message, TextRange::empty(offset))
+    }
+
+    /// The same error with another range.
+    pub fn with_range(mut self, range: TextRange) -> SyntaxError {
+        self.range = range;
+        self
+    }
+
     /// The message.
     pub fn message(&self) -> &str {
         &self.message
@@ -131,7 +218,7 @@ struct Inner {
 type ReadCall = unsafe extern "C" fn(*const u8, usize, u32, *mut FlatRow, usize, *mut ErrorRow, usize, *mut u8, usize, *mut Counts) -> u32;
 
 // What the number of a token's kind has more than that of a node's.
-const TOKEN: u32 = 1 << 31;
+pub(crate) const TOKEN: u32 = 1 << 31;
 
 // Room for what the library writes for a text: empty lists with a capacity. It is not filled with zeros before, since it is much more than
 // most texts need.
@@ -250,7 +337,12 @@ impl Tree {
 
     // The tree of a text and its rows, which no parse made: it has no errors of its own.
     pub(crate) fn made(text: String, edition: Edition, rows: Vec<FlatRow>) -> Tree {
-        Tree(Arc::new(Inner { text: text.into(), edition, rows: rows.into(), errors: Box::default() }))
+        Tree::built(text, edition, rows, Vec::new())
+    }
+
+    // The same with errors.
+    pub(crate) fn built(text: String, edition: Edition, rows: Vec<FlatRow>, errors: Vec<SyntaxError>) -> Tree {
+        Tree(Arc::new(Inner { text: text.into(), edition, rows: rows.into(), errors: errors.into() }))
     }
 
     // Whether both have the same text and the same rows.
@@ -413,6 +505,24 @@ impl Tree {
     pub(crate) fn prev_sibling_of(&self, row: u32) -> Option<u32> {
         let parent = self.parent_of(row)?;
         (row - 1 > parent).then(|| self.child_above(row - 1, parent))
+    }
+
+    // How many siblings are before a row.
+    pub(crate) fn index_of(&self, row: u32) -> usize {
+        self.parent_of(row).map_or(0, |parent| iter::rows_of_children(self, parent).take_while(|it| *it < row).count())
+    }
+
+    // The subtree of a row, as a tree of its own.
+    pub(crate) fn subtree(&self, row: u32) -> Tree {
+        let (start, end) = (self.row(row).start, self.end_of(row));
+        let moved = |it: &FlatRow| FlatRow {
+            kind: it.kind,
+            start: it.start - start,
+            subtree_end: it.subtree_end - row,
+            parent: it.parent.saturating_sub(row),
+        };
+        let rows = self.0.rows[row as usize..end as usize].iter().map(moved).collect();
+        Tree::made(self.text_of(row).to_owned(), self.edition(), rows)
     }
 
     // The row on the way up whose parent is `parent`.

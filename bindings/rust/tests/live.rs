@@ -29,7 +29,7 @@ impl Random {
         (self.0 >> 33) as usize % end
     }
 
-    fn of<'a, T: Copy>(&mut self, items: &'a [T]) -> T {
+    fn of<T: Copy>(&mut self, items: &[T]) -> T {
         items[self.below(items.len())]
     }
 }

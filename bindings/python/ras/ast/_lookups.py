@@ -31,7 +31,9 @@ class View:
     @classmethod
     def cast(cls: Type[V], element: Optional[Element]) -> Optional[V]:
         """The view of a node or token; None if its kind is of no such view, as of `Expr` for a FN."""
-        view = _by_kind.get(element.kind) if element is not None else None
+        if element is None:
+            return None
+        view = _by_kind.get(element.kind)
         return view(element) if view is not None and issubclass(view, cls) else None
 
     @classmethod

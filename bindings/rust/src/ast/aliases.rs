@@ -215,6 +215,7 @@ super::macros::aliases! {
     ;
     tokens:
         AnyComment
+        AnyString
         Byte
         ByteString
         CString

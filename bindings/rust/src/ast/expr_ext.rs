@@ -61,9 +61,13 @@ impl<N: Node> ForExpr<N> {
 }
 
 impl<N: Node> MatchArm<N> {
-    /// The `match` that it is an arm of: the parent's parent, if that is one.
-    pub fn parent_match(&self) -> Option<MatchExpr<N>> {
-        support::grandparent_as(&self.syntax)
+    /// The `match` that it is an arm of: the parent's parent.
+    ///
+    /// # Panics
+    ///
+    /// It panics if that is no `match`, or if there is none. In a tree that was parsed there is one.
+    pub fn parent_match(&self) -> MatchExpr<N> {
+        support::grandparent_as(&self.syntax).expect("an arm is in a match")
     }
 }
 
@@ -261,27 +265,43 @@ pub enum LiteralKind<T> {
 }
 
 impl<N: Node> Literal<N> {
-    /// The first child that is not an attribute, doc comment, white space or comment, if it is a token.
-    pub fn token(&self) -> Option<N::Token> {
+    // The first child that is not an attribute, doc comment, white space or comment, if it is a token.
+    fn value_token(&self) -> Option<N::Token> {
         use SyntaxKind::{ATTR, DOC_COMMENT};
         support::first_if_token(&self.syntax, |kind| !kind.is_trivia() && !matches!(kind, ATTR | DOC_COMMENT))
     }
 
-    /// The kind of literal that [`token`](Self::token) is, or `None` if there is no token or its kind is not that of a literal.
-    pub fn kind(&self) -> Option<LiteralKind<N::Token>> {
-        let token = self.token()?;
-        match token.kind() {
-            SyntaxKind::STRING => AstToken::cast(token).map(LiteralKind::String),
-            SyntaxKind::BYTE_STRING => AstToken::cast(token).map(LiteralKind::ByteString),
-            SyntaxKind::C_STRING => AstToken::cast(token).map(LiteralKind::CString),
-            SyntaxKind::INT_NUMBER => AstToken::cast(token).map(LiteralKind::IntNumber),
-            SyntaxKind::FLOAT_NUMBER => AstToken::cast(token).map(LiteralKind::FloatNumber),
-            SyntaxKind::CHAR => AstToken::cast(token).map(LiteralKind::Char),
-            SyntaxKind::BYTE => AstToken::cast(token).map(LiteralKind::Byte),
-            SyntaxKind::TRUE_KW => Some(LiteralKind::Bool(true)),
-            SyntaxKind::FALSE_KW => Some(LiteralKind::Bool(false)),
-            _ => None,
-        }
+    /// The token: the first child that is not an attribute, doc comment, white space or comment.
+    ///
+    /// # Panics
+    ///
+    /// It panics if that is not a token, or if there is none. In a tree that was parsed there is one.
+    pub fn token(&self) -> N::Token {
+        self.value_token().expect("a literal has a token")
+    }
+
+    /// The kind of literal that [`token`](Self::token) is.
+    ///
+    /// # Panics
+    ///
+    /// It panics if there is no token of a literal. In a tree that was parsed there is one.
+    pub fn kind(&self) -> LiteralKind<N::Token> {
+        self.value_token().and_then(literal_kind).expect("a literal has a token of a literal")
+    }
+}
+
+fn literal_kind<T: Token>(token: T) -> Option<LiteralKind<T>> {
+    match token.kind() {
+        SyntaxKind::STRING => AstToken::cast(token).map(LiteralKind::String),
+        SyntaxKind::BYTE_STRING => AstToken::cast(token).map(LiteralKind::ByteString),
+        SyntaxKind::C_STRING => AstToken::cast(token).map(LiteralKind::CString),
+        SyntaxKind::INT_NUMBER => AstToken::cast(token).map(LiteralKind::IntNumber),
+        SyntaxKind::FLOAT_NUMBER => AstToken::cast(token).map(LiteralKind::FloatNumber),
+        SyntaxKind::CHAR => AstToken::cast(token).map(LiteralKind::Char),
+        SyntaxKind::BYTE => AstToken::cast(token).map(LiteralKind::Byte),
+        SyntaxKind::TRUE_KW => Some(LiteralKind::Bool(true)),
+        SyntaxKind::FALSE_KW => Some(LiteralKind::Bool(false)),
+        _ => None,
     }
 }
 
@@ -462,7 +482,11 @@ impl<N: Node> RecordExprField<N> {
     }
 
     /// The record that it is a field of: the nearest record expression above it.
-    pub fn parent_record_lit(&self) -> Option<RecordExpr<N>> {
-        support::ancestor_as(&self.syntax)
+    ///
+    /// # Panics
+    ///
+    /// It panics if there is none. In a tree that was parsed there is one.
+    pub fn parent_record_lit(&self) -> RecordExpr<N> {
+        support::ancestor_as(&self.syntax).expect("a field is in a record expression")
     }
 }

@@ -10,6 +10,10 @@ macro_rules! node {
         }
 
         impl<N: Node> AstNode<N> for $name<N> {
+            fn kind() -> SyntaxKind {
+                SyntaxKind::$kind
+            }
+
             fn can_cast(kind: SyntaxKind) -> bool {
                 kind == SyntaxKind::$kind
             }
@@ -112,9 +116,22 @@ macro_rules! choice {
     };
 }
 
-// A node of a kind that has a trait.
+// One of several views, from one of fewer: for each variant the variant that it becomes.
+macro_rules! widened {
+    ($name:ident: $source:ident: $($variant:ident $wide:ident),+) => {
+        impl<N> From<$source<N>> for $name<N> {
+            fn from(it: $source<N>) -> $name<N> {
+                match it {
+                    $($source::$variant(it) => $name::$wide(it),)+
+                }
+            }
+        }
+    };
+}
+
+// A node of a kind that has a trait; the last views are each one of several.
 macro_rules! any {
-    ($name:ident: $shared:ident: $($view:ident),+) => {
+    ($name:ident: $shared:ident: $($view:ident),+ $(; $($choice:ident),+)?) => {
         #[doc = concat!("A node of a kind that has `", stringify!($shared), "`.")]
         #[derive(Clone, Copy, Debug, PartialEq, Eq, Hash)]
         pub struct $name<N> {
@@ -153,10 +170,17 @@ macro_rules! any {
         $(
             impl<N: Node> From<$view<N>> for $name<N> {
                 fn from(it: $view<N>) -> $name<N> {
-                    $name { syntax: it.syntax().clone() }
+                    $name { syntax: it.syntax }
                 }
             }
         )+
+        $($(
+            impl<N: Node> From<$choice<N>> for $name<N> {
+                fn from(it: $choice<N>) -> $name<N> {
+                    $name { syntax: it.syntax().clone() }
+                }
+            }
+        )+)?
     };
 }
 
@@ -242,4 +266,4 @@ macro_rules! aliases {
     };
 }
 
-pub(in crate::ast) use {aliases, all, any, calls, choice, first, leaf, node, second, shared, token};
+pub(in crate::ast) use {aliases, all, any, calls, choice, first, leaf, node, second, shared, token, widened};

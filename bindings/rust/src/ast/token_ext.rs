@@ -1,11 +1,9 @@
 //! Accessors of tokens.
 use super::AstToken;
-use super::views::{Byte, ByteString, CString, Char, Comment, FloatNumber, IntNumber, String, Whitespace};
+use super::views::{Byte, Char, Comment, FloatNumber, IntNumber, Whitespace};
 use crate::escape::EscapeError;
 use crate::node::Token;
-use crate::range::{TextRange, TextSize};
 use crate::{SyntaxKind, values};
-use std::borrow::Cow;
 use std::fmt;
 
 /// What an attribute or a doc comment belongs to.
@@ -39,7 +37,8 @@ pub enum CommentShape {
 }
 
 impl CommentShape {
-    pub(super) fn from_text(text: &str) -> CommentShape {
+    /// A block if the text begins with `/*`, otherwise a line.
+    pub fn from_text(text: &str) -> CommentShape {
         if text.starts_with("/*") { CommentShape::Block } else { CommentShape::Line }
     }
 
@@ -77,10 +76,11 @@ impl CommentKind {
     }
 }
 
-// The text of a comment after an opening marker of so many bytes; for a block without the closing `*/`, if it has one.
-pub(super) fn comment_text(text: &str, marker: usize) -> Option<&str> {
-    let behind = text.get(marker..)?;
-    Some(if CommentShape::from_text(text).is_block() { behind.strip_suffix("*/").unwrap_or(behind) } else { behind })
+// The text of a comment after an opening marker of so many bytes, and empty if it is shorter; for a block without the closing `*/`, if it
+// has one.
+pub(super) fn comment_text(text: &str, marker: usize) -> &str {
+    let behind = text.get(marker..).unwrap_or_default();
+    if CommentShape::from_text(text).is_block() { behind.strip_suffix("*/").unwrap_or(behind) } else { behind }
 }
 
 /// A comment, which may be a documentation comment.
@@ -144,8 +144,22 @@ impl<T: Token> AnyComment<T> {
         self.doc_kind() == Some(AttrKind::Outer)
     }
 
-    /// The text without the markers, of which the closing one may be missing. `None` if the text is shorter than its opening marker.
-    pub fn text_without_markers(&self) -> Option<&str> {
+    /// The text, with its markers.
+    pub fn text_with_markers(&self) -> &str {
+        Token::text(&self.syntax)
+    }
+
+    /// The text without its markers, of which the closing one may be missing.
+    ///
+    /// ```
+    /// use ras::ast::{AnyComment, AstNode, AstToken};
+    /// use ras::{Edition, SourceFile};
+    ///
+    /// let file = SourceFile::parse("/// a\n/* b */ struct S;", Edition::CURRENT).tree();
+    /// let comments: Vec<_> = file.syntax().tokens().filter_map(AnyComment::cast).collect();
+    /// assert_eq!((comments[0].text(), comments[1].text()), (" a", " b "));
+    /// ```
+    pub fn text(&self) -> &str {
         comment_text(Token::text(&self.syntax), self.prefix().len())
     }
 }
@@ -157,7 +171,7 @@ impl<T: Token> Comment<T> {
     }
 
     /// The text without the markers `//`, or `/*` and `*/`, of which the last may be missing.
-    pub fn text_without_markers(&self) -> Option<&str> {
+    pub fn text_without_markers(&self) -> &str {
         comment_text(Token::text(&self.syntax), 2)
     }
 }
@@ -180,6 +194,11 @@ pub enum Radix {
     Decimal = 10,
     /// `0xf`
     Hexadecimal = 16,
+}
+
+impl Radix {
+    /// All of them, by the size of the base.
+    pub const ALL: &'static [Radix] = &[Radix::Binary, Radix::Octal, Radix::Decimal, Radix::Hexadecimal];
 }
 
 impl<T: Token> IntNumber<T> {
@@ -211,7 +230,7 @@ impl<T: Token> IntNumber<T> {
     }
 
     /// The digits without the underscores.
-    pub fn value_string(&self) -> std::string::String {
+    pub fn value_string(&self) -> String {
         self.split_into_parts().1.replace('_', "")
     }
 
@@ -237,121 +256,8 @@ impl<T: Token> FloatNumber<T> {
     }
 
     /// The digits with point and exponent, without the underscores.
-    pub fn value_string(&self) -> std::string::String {
+    pub fn value_string(&self) -> String {
         self.split_into_parts().0.replace('_', "")
-    }
-}
-
-/// The ranges of the quotes of a string and of what is between them. Prefixes, `#` and suffixes are part of the quotes.
-#[derive(Clone, Copy, Debug, PartialEq, Eq, Hash)]
-pub struct QuoteOffsets {
-    /// From the token's start up to the content, and from the content up to the token's end.
-    pub quotes: (TextRange, TextRange),
-    /// Between the first and the last `"`.
-    pub contents: TextRange,
-}
-
-// The ranges of a text that starts at an offset; `None` if it does not have two quotes.
-fn offsets(text: &str, start: TextSize) -> Option<QuoteOffsets> {
-    let (left, right) = (text.find('"')?, text.rfind('"')?);
-    if left == right {
-        return None;
-    }
-    let at = |offset: usize| start + TextSize::new(offset as u32);
-    let contents = TextRange::new(at(left + 1), at(right));
-    let end = start + TextSize::of(text);
-    Some(QuoteOffsets { quotes: (TextRange::new(start, contents.start()), TextRange::new(contents.end(), end)), contents })
-}
-
-macro_rules! strings {
-    ($($name:ident: $raw:literal;)+) => {
-        $(
-            impl<T: Token> $name<T> {
-                #[doc = concat!("Whether the text begins with `", $raw, "`.")]
-                pub fn is_raw(&self) -> bool {
-                    Token::text(&self.syntax).starts_with($raw)
-                }
-
-                /// The ranges of the quotes and of the content in the whole text; `None` if the token does not have two quotes.
-                pub fn quote_offsets(&self) -> Option<QuoteOffsets> {
-                    offsets(Token::text(&self.syntax), self.syntax.text_range().start())
-                }
-
-                /// The range of the content in the whole text.
-                pub fn text_range_between_quotes(&self) -> Option<TextRange> {
-                    self.quote_offsets().map(|it| it.contents)
-                }
-
-                /// The content; the whole text if it does not have two quotes.
-                pub fn text_without_quotes(&self) -> &str {
-                    let text = Token::text(&self.syntax);
-                    offsets(text, 0.into()).map_or(text, |it| &text[it.contents])
-                }
-
-                /// The range from the token's start up to the content.
-                pub fn open_quote_text_range(&self) -> Option<TextRange> {
-                    self.quote_offsets().map(|it| it.quotes.0)
-                }
-
-                /// The range from the content up to the token's end.
-                pub fn close_quote_text_range(&self) -> Option<TextRange> {
-                    self.quote_offsets().map(|it| it.quotes.1)
-                }
-            }
-        )+
-    };
-}
-
-strings! {
-    String: "r";
-    ByteString: "br";
-    CString: "cr";
-}
-
-impl<T: Token> String<T> {
-    /// The text that it stands for, or what is wrong with it; of several wrong escapes the last. Borrowed if it is the content itself.
-    ///
-    /// ```
-    /// use ras::ast::{self, AstToken};
-    /// use ras::{Edition, EscapeError, SourceFile};
-    ///
-    /// let value = |text: &str| {
-    ///     let file = SourceFile::parse(&format!("const A: &str = {text};"), Edition::CURRENT).tree();
-    ///     let mut tokens = file.syntax().descendants_with_tokens().filter_map(|it| it.into_token());
-    ///     tokens.find_map(ast::String::cast).unwrap().value().map(|it| it.into_owned())
-    /// };
-    /// # use ras::ast::AstNode;
-    /// assert_eq!(value(r#""a\tb""#), Ok("a\tb".to_owned()));
-    /// assert_eq!(value(r#""a\yb""#), Err(EscapeError::InvalidEscape));
-    /// ```
-    ///
-    /// # Panics
-    ///
-    /// If memory runs out.
-    pub fn value(&self) -> Result<Cow<'_, str>, EscapeError> {
-        let value = values::string(Token::text(&self.syntax))?;
-        let content = self.text_without_quotes();
-        Ok(if value == content { Cow::Borrowed(content) } else { Cow::Owned(value) })
-    }
-}
-
-// The value, borrowed if it is the content itself.
-fn bytes(value: Vec<u8>, content: &str) -> Cow<'_, [u8]> {
-    if value == content.as_bytes() { Cow::Borrowed(content.as_bytes()) } else { Cow::Owned(value) }
-}
-
-impl<T: Token> ByteString<T> {
-    /// The bytes that it stands for, or what is wrong with it; of several wrong escapes the last. Panics if memory runs out.
-    pub fn value(&self) -> Result<Cow<'_, [u8]>, EscapeError> {
-        values::byte_string(Token::text(&self.syntax)).map(|it| bytes(it, self.text_without_quotes()))
-    }
-}
-
-impl<T: Token> CString<T> {
-    /// The bytes that it stands for, without the zero behind them, or what is wrong with it; of several wrong escapes the last. Panics if
-    /// memory runs out.
-    pub fn value(&self) -> Result<Cow<'_, [u8]>, EscapeError> {
-        values::c_string(Token::text(&self.syntax)).map(|it| bytes(it, self.text_without_quotes()))
     }
 }
 

@@ -1,5 +1,6 @@
 //! The calls that several views share.
 use super::expr_ext::may_carry_attributes;
+use super::macros::shared;
 use super::token_ext::AttrKind;
 use super::views::*;
 use super::{AstChildren, AstNode, support};
@@ -125,16 +126,54 @@ pub trait HasAttrs<N: Node = SyntaxNode>: AstNode<N> {
 }
 
 /// The outer attributes and documentation comments of an owner, and then the inner ones, in order.
-pub fn attrs_with_doc_including_inner<N: Node, A: HasAttrs<N>>(owner: &A) -> impl Iterator<Item = AnyAttr<N>> + use<N, A> {
+pub fn attrs_with_doc_including_inner<N: Node, A: HasAttrs<N> + ?Sized>(owner: &A) -> impl Iterator<Item = AnyAttr<N>> + Clone + use<N, A> {
     let of = |node: &N, kind| support::all(node).filter(move |it: &AnyAttr<N>| it.kind() == kind);
     let inner = owner.inner_attributes_node();
     of(owner.syntax(), AttrKind::Outer).chain(inner.into_iter().flat_map(move |it| of(&it, AttrKind::Inner)))
 }
 
 /// The outer attributes of an owner, and then the inner ones, in order, without documentation comments.
-pub fn attrs_including_inner<N: Node, A: HasAttrs<N>>(owner: &A) -> impl Iterator<Item = Attr<N>> + use<N, A> {
-    attrs_with_doc_including_inner(owner).filter_map(|it| match it {
-        AnyAttr::Attr(it) => Some(it),
-        AnyAttr::DocComment(_) => None,
-    })
+///
+/// ```
+/// use ras::ast::{self, AstNode, HasAttrs, attrs_including_inner};
+/// use ras::{Edition, SourceFile};
+///
+/// let file = SourceFile::parse("#[a] /// b\nmod m { #![c] }", Edition::CURRENT).tree();
+/// let module = file.syntax().children().find_map(ast::Module::cast).unwrap();
+/// let owner: &dyn HasAttrs = &module;
+/// assert_eq!(attrs_including_inner(owner).map(|it| it.to_string()).collect::<Vec<_>>(), ["#[a]", "#![c]"]);
+/// ```
+pub fn attrs_including_inner<N: Node, A: HasAttrs<N> + ?Sized>(owner: &A) -> impl Iterator<Item = Attr<N>> + Clone + use<N, A> {
+    AttrsIter::new(attrs_with_doc_including_inner(owner))
 }
+
+/// The attributes among attributes and documentation comments.
+#[derive(Clone, Debug)]
+pub struct AttrsIter<I> {
+    all: I,
+}
+
+impl<I> AttrsIter<I> {
+    /// The attributes among these.
+    pub fn new(all: I) -> AttrsIter<I> {
+        AttrsIter { all }
+    }
+}
+
+impl<N, I: Iterator<Item = AnyAttr<N>>> Iterator for AttrsIter<I> {
+    type Item = Attr<N>;
+
+    fn next(&mut self) -> Option<Attr<N>> {
+        self.all.find_map(|it| match it {
+            AnyAttr::Attr(it) => Some(it),
+            AnyAttr::DocComment(_) => None,
+        })
+    }
+}
+
+// Views that have a trait in rust-analyzer's crate, and calls of their own by the library's tables.
+shared!(HasAttrs: IdentPat, RecordExprFieldList, RestPat);
+shared!(HasGenericParams: Adt, Const);
+shared!(HasModuleItem: MacroItems);
+shared!(HasName: Adt, AsmOperandNamed, Rename);
+shared!(HasVisibility: Adt);

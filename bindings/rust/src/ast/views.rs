@@ -5,8 +5,10 @@ use super::{AstNode, AstToken};
 use crate::SyntaxKind;
 use crate::node::{Node, Token};
 
+pub use super::attr_ext::*;
 pub use super::expr_ext::*;
 pub use super::node_ext::*;
+pub use super::string_ext::AnyString;
 pub use super::token_ext::AnyComment;
 
 mod lookups;
@@ -208,9 +210,14 @@ choice!(NameOrNameRef: Name(Name), NameRef(NameRef));
 choice!(Pat: BoxPat(BoxPat), ConstBlockPat(ConstBlockPat), IdentPat(IdentPat), LiteralPat(LiteralPat), MacroPat(MacroPat), OrPat(OrPat), ParenPat(ParenPat), PathPat(PathPat), RangePat(RangePat), RecordPat(RecordPat), RefPat(RefPat), RestPat(RestPat), SlicePat(SlicePat), TuplePat(TuplePat), TupleStructPat(TupleStructPat), WildcardPat(WildcardPat));
 choice!(Stmt: ExprStmt(ExprStmt), Item(Item), LetStmt(LetStmt));
 choice!(Type: ArrayType(ArrayType), DynTraitType(DynTraitType), FnPtrType(FnPtrType), ForType(ForType), ImplTraitType(ImplTraitType), InferType(InferType), MacroType(MacroType), NeverType(NeverType), ParenType(ParenType), PathType(PathType), PtrType(PtrType), RefType(RefType), SliceType(SliceType), TupleType(TupleType));
-choice!(TypeOrConstParam: Ty(TypeParam), Const(ConstParam));
+choice!(TypeOrConstParam: Type(TypeParam), Const(ConstParam));
 choice!(UseBoundGenericArg: Lifetime(Lifetime), NameRef(NameRef));
 choice!(VariantDef: Struct(Struct), Union(Union), Variant(Variant));
+
+widened!(GenericParam: TypeOrConstParam: Type TypeParam, Const ConstParam);
+widened!(Item: AssocItem: Const Const, Fn Fn, MacroCall MacroCall, TypeAlias TypeAlias);
+widened!(Item: ExternItem: Static Static, Fn Fn, MacroCall MacroCall, TypeAlias TypeAlias);
+widened!(Item: Adt: Enum Enum, Struct Struct, Union Union);
 
 shared!(HasArgList: CallExpr, CallableExpr, MethodCallExpr);
 shared!(HasAttrs: Adt, ArrayExpr, AsmExpr, AssocItem, AssocItemList, AwaitExpr, BecomeExpr, BinExpr, BlockExpr, BreakExpr, CallExpr, CallableExpr, CastExpr, CfgPredExpr, ClosureExpr, Const, ConstParam, ContinueExpr, Enum, Expr, ExternBlock, ExternCrate, ExternItem, ExternItemList, FieldExpr, Fn, ForExpr, FormatArgsExpr, GenericParam, IfExpr, Impl, IncludeBytesExpr, IndexExpr, Item, ItemList, LetExpr, LetStmt, LifetimeParam, Literal, LoopExpr, Macro, MacroCall, MacroDef, MacroExpr, MacroRules, MatchArm, MatchArmList, MatchExpr, MethodCallExpr, Module, OffsetOfExpr, Param, ParenExpr, PathExpr, PrefixExpr, RangeExpr, RecordExpr, RecordExprField, RecordField, RecordPatField, RefExpr, ReturnExpr, SelfParam, SourceFile, Static, StmtList, Struct, Trait, TryExpr, TupleExpr, TupleField, TypeAlias, TypeOrConstParam, TypeParam, UnderscoreExpr, Union, Use, Variant, VariantDef, WhileExpr, YeetExpr, YieldExpr);
@@ -222,12 +229,12 @@ shared!(HasName: Const, ConstParam, Enum, Fn, IdentPat, Macro, MacroDef, MacroRu
 shared!(HasTypeBounds: AssocTypeArg, LifetimeParam, Trait, TypeAlias, TypeParam, WherePred);
 shared!(HasVisibility: Const, Enum, ExternCrate, Fn, Impl, MacroDef, MacroRules, Module, RecordField, Static, Struct, Trait, TupleField, TypeAlias, Union, Use, Variant, VariantDef);
 
-any!(AnyHasArgList: HasArgList: CallExpr, MethodCallExpr);
-any!(AnyHasAttrs: HasAttrs: ArrayExpr, AsmExpr, AssocItemList, AwaitExpr, BecomeExpr, BinExpr, BlockExpr, BreakExpr, CallExpr, CastExpr, CfgPredExpr, ClosureExpr, Const, ConstParam, ContinueExpr, Enum, ExternBlock, ExternCrate, ExternItemList, FieldExpr, Fn, ForExpr, FormatArgsExpr, IfExpr, Impl, IncludeBytesExpr, IndexExpr, ItemList, LetExpr, LetStmt, LifetimeParam, Literal, LoopExpr, MacroCall, MacroDef, MacroExpr, MacroRules, MatchArm, MatchArmList, MatchExpr, MethodCallExpr, Module, OffsetOfExpr, Param, ParenExpr, PathExpr, PrefixExpr, RangeExpr, RecordExpr, RecordExprField, RecordField, RecordPatField, RefExpr, ReturnExpr, SelfParam, SourceFile, Static, StmtList, Struct, Trait, TryExpr, TupleExpr, TupleField, TypeAlias, TypeParam, UnderscoreExpr, Union, Use, Variant, WhileExpr, YeetExpr, YieldExpr);
+any!(AnyHasArgList: HasArgList: CallExpr, MethodCallExpr; CallableExpr);
+any!(AnyHasAttrs: HasAttrs: ArrayExpr, AsmExpr, AssocItemList, AwaitExpr, BecomeExpr, BinExpr, BlockExpr, BreakExpr, CallExpr, CastExpr, CfgPredExpr, ClosureExpr, Const, ConstParam, ContinueExpr, Enum, ExternBlock, ExternCrate, ExternItemList, FieldExpr, Fn, ForExpr, FormatArgsExpr, IfExpr, Impl, IncludeBytesExpr, IndexExpr, ItemList, LetExpr, LetStmt, LifetimeParam, Literal, LoopExpr, MacroCall, MacroDef, MacroExpr, MacroRules, MatchArm, MatchArmList, MatchExpr, MethodCallExpr, Module, OffsetOfExpr, Param, ParenExpr, PathExpr, PrefixExpr, RangeExpr, RecordExpr, RecordExprField, RecordField, RecordPatField, RefExpr, ReturnExpr, SelfParam, SourceFile, Static, StmtList, Struct, Trait, TryExpr, TupleExpr, TupleField, TypeAlias, TypeParam, UnderscoreExpr, Union, Use, Variant, WhileExpr, YeetExpr, YieldExpr; Adt, AssocItem, CallableExpr, Expr, ExternItem, GenericParam, Item, Macro, TypeOrConstParam, VariantDef);
 any!(AnyHasGenericArgs: HasGenericArgs: AssocTypeArg, MethodCallExpr, PathSegment);
 any!(AnyHasGenericParams: HasGenericParams: Enum, Fn, Impl, Struct, Trait, TypeAlias, Union);
 any!(AnyHasLoopBody: HasLoopBody: ForExpr, LoopExpr, WhileExpr);
 any!(AnyHasModuleItem: HasModuleItem: ItemList, SourceFile, StmtList);
-any!(AnyHasName: HasName: Const, ConstParam, Enum, Fn, IdentPat, MacroDef, MacroRules, Module, RecordField, SelfParam, Static, Struct, Trait, TypeAlias, TypeParam, Union, Variant);
+any!(AnyHasName: HasName: Const, ConstParam, Enum, Fn, IdentPat, MacroDef, MacroRules, Module, RecordField, SelfParam, Static, Struct, Trait, TypeAlias, TypeParam, Union, Variant; Macro, VariantDef);
 any!(AnyHasTypeBounds: HasTypeBounds: AssocTypeArg, LifetimeParam, Trait, TypeAlias, TypeParam, WherePred);
-any!(AnyHasVisibility: HasVisibility: Const, Enum, ExternCrate, Fn, Impl, MacroDef, MacroRules, Module, RecordField, Static, Struct, Trait, TupleField, TypeAlias, Union, Use, Variant);
+any!(AnyHasVisibility: HasVisibility: Const, Enum, ExternCrate, Fn, Impl, MacroDef, MacroRules, Module, RecordField, Static, Struct, Trait, TupleField, TypeAlias, Union, Use, Variant; VariantDef);
