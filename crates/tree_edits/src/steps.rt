@@ -122,6 +122,7 @@ impl Steps {
     }
 
     /// The table of the one tree that the steps are.
+    #[inline(never)]
     pub fn finish(self, alloc: Global) -> Result<Table, ChangeError>
         requires { IsOneNode self }
         ensures ok { IfOk result (λ t. events_of (cons t nil) ≡ self) }

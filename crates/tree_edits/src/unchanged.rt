@@ -58,6 +58,8 @@ fn push_row(
 
 /// Appends the steps of a walk up to the next row with a change, but not the texts of its tokens: these are one part of the text of
 /// the table, from where the first row starts to where the walk has come to.
+// In a caller that is long, its variables would not stay in registers.
+#[inline(never)]
 pub(crate) fn push_rows(
     steps: &mut Vec<BuilderEvent>,
     table: &Table,
