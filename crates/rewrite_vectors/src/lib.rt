@@ -4,6 +4,8 @@
 #[cfg(test)]
 mod kinds;
 #[cfg(test)]
+mod lists;
+#[cfg(test)]
 mod replaced;
 #[cfg(test)]
 mod rule_files;

@@ -29,7 +29,8 @@ pub(crate) fn changed(alloc: Global, rules: &[Rule], file: &str) -> Result<Strin
     }
 }
 
-fn run(alloc: Global, rows: &[(&str, &str, &str)]) -> Result<(), Fail> {
+// Each rule on a body, and what that becomes.
+pub(crate) fn run(alloc: Global, rows: &[(&str, &str, &str)]) -> Result<(), Fail> {
     for (rule, body, expected) in rows {
         let new = put(alloc, rule, body)?;
         if new.as_str() != *expected {
@@ -111,6 +112,46 @@ fn placeholders(rt: HostRuntime) -> Result<(), Fail> {
             ("(f($a)) ==>> ($a)", "f(1);", "(1);"),
             ("f(1) ==>> 2", "(f)((1));", "2;"),
             ("f($x) ==>> $x", "m!(f(1));", "m!(f(1));"),
+        ],
+    )
+}
+
+// Examples of ast-grep's catalog for Rust, and what surrounds them.
+#[test]
+fn examples_of_ast_grep(rt: HostRuntime) -> Result<(), Fail> {
+    run(
+        rt.alloc(),
+        &[
+            (
+                "$a.chars().enumerate() ==>> $a.char_indices()",
+                "source.chars().enumerate().map(f);",
+                "source.char_indices().map(f);",
+            ),
+            (
+                "$n.to_string().chars().count() ==>> $n.checked_ilog10().unwrap_or(0) + 1",
+                "let width = (lines + 1).to_string().chars().count();",
+                "let width = (lines + 1).checked_ilog10().unwrap_or(0) + 1;",
+            ),
+            (
+                "$n.to_string().chars().count() ==>> $n.checked_ilog10().unwrap_or(0) + 1",
+                "pad(2 * n.to_string().chars().count());",
+                "pad(2 * (n.checked_ilog10().unwrap_or(0) + 1));",
+            ),
+            (
+                "$f.unwrap_or($e) ==>> $f.unwrap_or_else(|| $e)",
+                "a.unwrap_or(b(1, 2));",
+                "a.unwrap_or_else(|| b(1, 2));",
+            ),
+            (
+                "unsafe { $$s } ==>> { $$s }",
+                "unsafe { a(); *b }",
+                "{ a(); *b }",
+            ),
+            (
+                "log($$args) ==>> debug($$args)",
+                "log(); log(1); log(1, a.b);",
+                "debug(); debug(1); debug(1, a.b);",
+            ),
         ],
     )
 }

@@ -8,7 +8,7 @@ use std::test::Fail;
 const NOW: Edition = Edition::CURRENT;
 
 // The offset and the reason of a refusal.
-fn refusal(alloc: Global, rule: &str) -> Result<String, Fail> {
+pub(crate) fn refusal(alloc: Global, rule: &str) -> Result<String, Fail> {
     match parse_rule(alloc, &Rust, NOW, rule) {
         Ok(_) => Ok(String::from_str(alloc, "accepted")?),
         Err(error) => {

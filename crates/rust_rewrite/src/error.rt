@@ -52,6 +52,12 @@ pub enum RuleFault {
     /// A placeholder stands where nothing is that it can stand for, as in the arguments of a macro.
     #[error("expected a place of an expression, a type, a pattern, a path or a name for this placeholder")]
     Misplaced,
+    /// A placeholder has one `$` here and two of them there.
+    #[error("expected one `$` or two before this name, as where it stands first")]
+    ListName,
+    /// A placeholder for a list comes twice in a side, or beside another one in one list.
+    #[error("expected one placeholder for a list, which comes once, in each list")]
+    ListTwice,
     /// The pattern is a placeholder, which each expression is.
     #[error("expected a pattern that is more than a placeholder")]
     Everything,

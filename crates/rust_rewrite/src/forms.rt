@@ -18,20 +18,24 @@ pub(crate) struct Sides {
     pub(crate) start: usize,
 }
 
-// Why the sides are not of a kind.
+// Why a rule is none for a kind of syntax.
 #[derive(Drop)]
-struct Miss {
-    unfit: Unfit,
-    in_template: bool,
+enum Miss {
+    // A side is not of the kind; whether it is the template.
+    Unfit(Unfit, bool),
+    // The placeholder with this number stands where nothing is that it can stand for.
+    Misplaced(usize),
 }
 
 impl Miss {
     // Whether more of the rule was read than for another kind.
     fn is_beyond(&self, other: &Miss) -> bool {
-        match (self.in_template, other.in_template) {
-            (true, false) => true,
-            (false, true) => false,
-            _ => self.unfit.at > other.unfit.at,
+        match (self, other) {
+            (_, Miss::Misplaced(_)) => false,
+            (Miss::Misplaced(_), _) => true,
+            (Miss::Unfit(_, true), Miss::Unfit(_, false)) => true,
+            (Miss::Unfit(_, false), Miss::Unfit(_, true)) => false,
+            (Miss::Unfit(unfit, _), Miss::Unfit(other, _)) => unfit.at > other.at,
         }
     }
 }
@@ -46,6 +50,10 @@ fn placed(refusal: RuleRefusal, names: &Names, start: usize) -> RuleError
         RuleRefusal::Misplaced(number) => {
             let offset = names.offset(number).unwrap_or(start);
             fault(RuleFault::Misplaced, offset)
+        }
+        RuleRefusal::Twice(number) => {
+            let offset = names.offset(number).unwrap_or(start);
+            fault(RuleFault::ListTwice, offset)
         }
     }
 }
@@ -64,10 +72,7 @@ fn add_form<F: FrontEnd>(
     let pattern = match node_of(alloc, words, &sides.pattern, kind)? {
         Ok(node) => node,
         Err(unfit) => {
-            return Ok(Some(Miss {
-                unfit,
-                in_template: false,
-            }));
+            return Ok(Some(Miss::Unfit(unfit, false)));
         }
     };
     let template = match &sides.template {
@@ -75,32 +80,35 @@ fn add_form<F: FrontEnd>(
         Some(side) => match node_of(alloc, words, side, kind)? {
             Ok(node) => Some(node),
             Err(unfit) => {
-                return Ok(Some(Miss {
-                    unfit,
-                    in_template: true,
-                }));
+                return Ok(Some(Miss::Unfit(unfit, true)));
             }
         },
     };
     match rule.add(alloc, words.prefix, &pattern, template.as_ref()) {
         Ok(()) => Ok(None),
+        Err(RuleRefusal::Misplaced(number)) => Ok(Some(Miss::Misplaced(number))),
         Err(refusal) => Err(placed(refusal, names, sides.start)),
     }
 }
 
 // The refusal of sides that are of no kind: by the one of which most was read, of those before the first.
-fn refusal_of(sides: &Sides, miss: Option<Miss>) -> RuleError
+fn refusal_of(sides: &Sides, names: &Names, miss: Option<Miss>) -> RuleError
     ensures { is_other result.fault ≡ true }
 {
-    let Some(miss) = miss else {
-        return fault(RuleFault::Everything, sides.start);
-    };
-    let side = match &sides.template {
-        Some(side) if miss.in_template => side,
-        _ => &sides.pattern,
-    };
-    let offset = side.offset_of(miss.unfit.at);
-    fault(RuleFault::Syntax(miss.unfit.message), offset)
+    match miss {
+        None => fault(RuleFault::Everything, sides.start),
+        Some(Miss::Misplaced(number)) => {
+            placed(RuleRefusal::Misplaced(number), names, sides.start)
+        }
+        Some(Miss::Unfit(unfit, in_template)) => {
+            let side = match &sides.template {
+                Some(side) if in_template => side,
+                _ => &sides.pattern,
+            };
+            let offset = side.offset_of(unfit.at);
+            fault(RuleFault::Syntax(unfit.message), offset)
+        }
+    }
 }
 
 /// The rule of some sides, for each kind of syntax that they are.
@@ -114,7 +122,7 @@ pub(crate) fn rule_of<F: FrontEnd>(
     ensures refused { IfErr result (λ e. is_other e.fault ≡ true) }
 {
     let pieces = match &mut sides.template {
-        Some(side) => side.take_pieces(alloc),
+        Some(side) => side.take_pieces(alloc, names)?,
         None => Vec::new(alloc),
     };
     let mut rule = Rule::new(alloc, names.take_holes(alloc), pieces);
@@ -131,7 +139,7 @@ pub(crate) fn rule_of<F: FrontEnd>(
         }
     }
     if rule.forms() == 0 {
-        return Err(refusal_of(&sides, furthest));
+        return Err(refusal_of(&sides, names, furthest));
     }
     Ok(rule)
 }

@@ -98,6 +98,13 @@ fn node_in(kind: RuleKind, root: &SyntaxNode, start: usize, end: usize) -> Optio
     None
 }
 
+// Whether a place of a side is directly behind the word of a placeholder for a list that is an element by itself: `p_0` of
+// `match x { p_0 }`, where the parser expects `=>`.
+fn is_behind_list(side: &Side, at: usize) -> bool {
+    let rest = side.text.as_str().get(at..).unwrap_or("").trim_start();
+    side.lists.contains(&at) && (rest.is_empty() || rest.starts_with([',', ';', '}', ')', ']', '>', '|']))
+}
+
 /// The node of a side as one of a kind; or why it is none.
 pub(crate) fn node_of<F: FrontEnd>(
     alloc: Global,
@@ -110,9 +117,11 @@ pub(crate) fn node_of<F: FrontEnd>(
     let (entry, before, behind) = kind.entry();
     let text = format!(in alloc; "{before}{}{behind}", side.text)?;
     let parse: Parse<SyntaxNode> = read(alloc, words.front, entry, text.as_str(), words.edition)?;
-    let mut errors = parse.errors(alloc)?.into_iter();
-    if let Some(error) = errors.next() {
+    for error in parse.errors(alloc)? {
         let at = (error.range().start().raw() as usize).saturating_sub(before.len());
+        if is_behind_list(side, at) {
+            continue;
+        }
         return Ok(Err(Unfit {
             message: format!(in alloc; "{}: {}", kind.name(), plain_message(error.message()))?,
             at: at.min(side.text.len()),

@@ -57,22 +57,47 @@ fn limit(source: &Source) -> usize {
         .min(u32::MAX as usize)
 }
 
-// The white space that the line of an offset begins with.
-fn indent_at(text: &str, offset: usize) -> &str {
-    let before = text.get(..offset).unwrap_or("");
-    let line = match before.rfind('\n') {
-        Some(at) => before.get(at.saturating_add(1)..).unwrap_or(""),
-        None => before,
-    };
+// The white space that a line begins with, up to an offset at most.
+fn indent_of(text: &str, line: usize, offset: usize) -> &str {
+    let line = text.get(line..offset).unwrap_or("");
     let rest = line.trim_start();
     line.get(..line.len().saturating_sub(rest.len()))
         .unwrap_or("")
+}
+
+// Whether a template has several lines.
+fn is_long(rule: &Rule) -> bool {
+    rule.pieces()
+        .iter()
+        .any(|piece| matches!(piece, Piece::Text(text) if text.as_str().contains('\n')))
+}
+
+// Where the line of each match starts, if a template has several lines.
+fn lines_of(alloc: Global, source: &Source) -> Result<Vec<usize>, AllocError> {
+    let mut lines = Vec::new(alloc);
+    if !source.rules.iter().any(is_long) {
+        return Ok(lines);
+    }
+    let mut line = 0usize;
+    let mut seen = 0usize;
+    for found in source.matches {
+        let start = found.range.start().raw() as usize;
+        let between = source.old.get(seen..start).unwrap_or("");
+        if let Some(at) = between.rfind('\n') {
+            line = seen.saturating_add(at).saturating_add(1);
+        }
+        seen = start;
+        lines.push(line)?;
+    }
+    Ok(lines)
 }
 
 // Writes a text.
 #[derive(Drop)]
 struct Writer<'a> {
     source: &'a Source<'a>,
+    // Where the line of each match starts, if that counts.
+    lines: &'a [usize],
     out: Rendered,
     count: usize,
     gap: bool,
@@ -236,8 +261,27 @@ impl<'a> Writer<'a> {
             .map_err(AllocError::from)?;
         match here {
             Piece::Text(text) => {
-                let indent = indent_at(source.old, found.range.start().raw() as usize);
+                let start = found.range.start().raw() as usize;
+                let indent = match self.lines.get(number) {
+                    None => "",
+                    Some(line) => indent_of(source.old, *line, start),
+                };
                 self.push_lines(text.as_str(), indent)
+            }
+            Piece::Comma(text, list) => {
+                let Some(Some(value)) = found.values.get(*list) else {
+                    return Err(Failure::ReadsOtherwise);
+                };
+                let from = value.start().raw() as usize;
+                let to = value.end().raw() as usize;
+                let old = source.old.get(from..to).unwrap_or("");
+                let text = text.as_str();
+                match text.strip_prefix(',') {
+                    _ if old.is_empty() => Ok(()),
+                    // An arm of a `match` has its comma itself.
+                    Some(rest) if old.ends_with(',') => self.push(rest),
+                    _ => self.push(text),
+                }
             }
             Piece::Hole(hole) => {
                 let Some(Some(value)) = found.values.get(*hole) else {
@@ -262,8 +306,10 @@ impl<'a> Writer<'a> {
 
 /// The text.
 pub(crate) fn render(alloc: Global, source: &Source) -> Result<Rendered, Failure> {
+    let lines = lines_of(alloc, source)?;
     let mut writer = Writer {
         source,
+        lines: &lines,
         out: Rendered {
             text: String::with_capacity(alloc, source.old.len())?,
             pairs: Vec::new(alloc),

@@ -26,6 +26,8 @@ pub(crate) struct Side {
     pieces: Vec<Piece>,
     // Where each piece starts in that text, and in the rule.
     starts: Vec<(usize, usize)>,
+    /// Where the words of placeholders for lists end in the text.
+    pub(crate) lists: Vec<usize>,
 }
 
 /// What the sides of a rule are made of.
@@ -71,11 +73,17 @@ impl Names {
         }
     }
 
+    // Whether the placeholder with a number is one for a list.
+    fn is_list(&self, number: usize) -> bool {
+        self.holes.get(number).is_some_and(|hole| hole.is_list)
+    }
+
     // The number of a name; a new one for `_` and for a name that is new, if it may be.
     fn number_of(
         &mut self,
         alloc: Global,
         name: &str,
+        is_list: bool,
         offset: usize,
         may_be_new: bool,
     ) -> Result<usize, RuleError>
@@ -84,6 +92,9 @@ impl Names {
         if name != "_" {
             for (number, known) in self.names.iter().enumerate() {
                 if known.0.as_str() == name {
+                    if self.is_list(number) != is_list {
+                        return Err(fault(RuleFault::ListName, offset));
+                    }
                     return Ok(number);
                 }
             }
@@ -98,6 +109,7 @@ impl Names {
         self.holes
             .push(Hole {
                 conditions: Vec::new(alloc),
+                is_list,
             })
             .map_err(AllocError::from)?;
         Ok(number)
@@ -136,10 +148,19 @@ impl Side {
         Ok(())
     }
 
-    fn push_hole(&mut self, prefix: &str, number: usize, offset: usize) -> Result<(), AllocError> {
+    fn push_hole(
+        &mut self,
+        prefix: &str,
+        number: usize,
+        is_list: bool,
+        offset: usize,
+    ) -> Result<(), AllocError> {
         self.starts.push((self.text.len(), offset))?;
         self.text.push_str(prefix)?;
         write!(self.text, "{number}")?;
+        if is_list {
+            self.lists.push(self.text.len())?;
+        }
         self.pieces
             .push(Piece::Hole(number))
             .map_err(AllocError::from)
@@ -150,9 +171,14 @@ impl Side {
         Ok(())
     }
 
-    /// The pieces of the text.
-    pub(crate) fn take_pieces(&mut self, alloc: Global) -> Vec<Piece> {
-        mem::replace(&mut self.pieces, Vec::new(alloc))
+    /// The pieces of the text, in which the comma that goes with a list is one of its own.
+    pub(crate) fn take_pieces(
+        &mut self,
+        alloc: Global,
+        names: &Names,
+    ) -> Result<Vec<Piece>, AllocError> {
+        let pieces = mem::replace(&mut self.pieces, Vec::new(alloc));
+        with_commas(alloc, pieces, names)
     }
 
     /// The offset in the rule of a byte of the text.
@@ -168,10 +194,91 @@ impl Side {
     }
 }
 
-// A `$` of a text, and the end of the name behind it; `None` if it has braces.
+// The number of the placeholder for a list that a piece is.
+fn list_of(piece: Option<&Piece>, names: &Names) -> Option<usize> {
+    match piece {
+        Some(Piece::Hole(number)) if names.is_list(*number) => Some(*number),
+        _ => None,
+    }
+}
+
+// A text in three: the comma at its front, what follows, and the comma at its end, each with the blanks round it. A `;` at the front goes,
+// since statements have their own.
+fn cut<'a>(text: &'a str, is_behind: bool, is_before: bool) -> (&'a str, &'a str, &'a str) {
+    let mut front = "";
+    let mut rest = text;
+    if is_behind {
+        let shown = text.trim_start();
+        if let Some(inner) = shown.strip_prefix(';') {
+            rest = inner;
+        } else if let Some(inner) = shown.strip_prefix(',') {
+            let blank = inner.len().saturating_sub(inner.trim_start().len());
+            let at = text.len().saturating_sub(inner.len()).saturating_add(blank);
+            (front, rest) = text.split_at(at);
+        }
+    }
+    let mut end = "";
+    if is_before {
+        if let Some(inner) = rest.trim_end().strip_suffix(',') {
+            (rest, end) = rest.split_at(inner.len());
+        }
+    }
+    (front, rest, end)
+}
+
+fn push_comma(
+    alloc: Global,
+    pieces: &mut Vec<Piece>,
+    text: &str,
+    list: Option<usize>,
+) -> Result<(), AllocError> {
+    if let Some(number) = list {
+        if !text.is_empty() {
+            pieces.push(Piece::Comma(String::from_str(alloc, text)?, number))?;
+        }
+    }
+    Ok(())
+}
+
+// Some pieces, in which the comma before a list, or else behind it, is a piece of its own.
+fn with_commas(
+    alloc: Global,
+    pieces: Vec<Piece>,
+    names: &Names,
+) -> Result<Vec<Piece>, AllocError> {
+    let mut out = Vec::with_capacity(alloc, pieces.len())?;
+    let mut has_comma = false;
+    for (index, piece) in pieces.iter().enumerate() {
+        match piece {
+            Piece::Text(text) => {
+                let before = list_of(index.checked_sub(1).and_then(|at| pieces.get(at)), names);
+                let next = list_of(pieces.get(index.saturating_add(1)), names);
+                let behind = if has_comma { None } else { before };
+                let (front, rest, end) = cut(text.as_str(), before.is_some(), next.is_some());
+                push_comma(alloc, &mut out, front, behind)?;
+                if behind.is_none() && !front.is_empty() {
+                    out.push(Piece::Text(String::from_str(alloc, front)?))?;
+                }
+                if !rest.is_empty() {
+                    out.push(Piece::Text(String::from_str(alloc, rest)?))?;
+                }
+                push_comma(alloc, &mut out, end, next)?;
+                has_comma = !end.is_empty();
+            }
+            Piece::Hole(number) => out.push(Piece::Hole(*number))?,
+            Piece::Comma(text, number) => {
+                push_comma(alloc, &mut out, text.as_str(), Some(*number))?;
+            }
+        }
+    }
+    Ok(out)
+}
+
+// The `$`s of a placeholder, and the end of the name behind them; `None` if it has braces.
 #[derive(Clone, Copy, Drop)]
 struct Dollar {
     at: usize,
+    is_list: bool,
     end: Option<usize>,
 }
 
@@ -189,6 +296,7 @@ fn dollars_of<F: FrontEnd>(
     let parse: Parse<SyntaxNode> = read(alloc, words.front, Entry::Expr, rest, words.edition)?;
     let mut dollars = Vec::new(alloc);
     let mut dollar: Option<usize> = None;
+    let mut is_list = false;
     let mut before_ends_word = false;
     for element in parse.root().descendants_with_tokens() {
         let NodeOrToken::Token(token) = element else {
@@ -196,10 +304,20 @@ fn dollars_of<F: FrontEnd>(
         };
         let start = from.saturating_add(token.text_range().start().raw() as usize);
         if let Some(at) = dollar {
-            let is_next = start == at.saturating_add(1);
-            if is_next && token.kind().to_raw() == SyntaxKind::L_CURLY.to_raw() {
+            let signs = if is_list { 2 } else { 1 };
+            let is_next = start == at.saturating_add(signs);
+            let kind = token.kind();
+            if is_next && !is_list && kind == SyntaxKind::DOLLAR {
+                is_list = true;
+                continue;
+            }
+            if is_next && !is_list && kind == SyntaxKind::L_CURLY {
                 dollars
-                    .push(Dollar { at, end: None })
+                    .push(Dollar {
+                        at,
+                        is_list,
+                        end: None,
+                    })
                     .map_err(AllocError::from)?;
                 return Ok(dollars);
             }
@@ -208,9 +326,14 @@ fn dollars_of<F: FrontEnd>(
             }
             let end = start.saturating_add(token.text().len());
             dollars
-                .push(Dollar { at, end: Some(end) })
+                .push(Dollar {
+                    at,
+                    is_list,
+                    end: Some(end),
+                })
                 .map_err(AllocError::from)?;
             dollar = None;
+            is_list = false;
         } else if token.kind().to_raw() == SyntaxKind::DOLLAR.to_raw() {
             if before_ends_word {
                 return Err(fault(RuleFault::Joined, base.saturating_add(start)));
@@ -242,7 +365,7 @@ fn braced_number(
             return Err(fault(RuleFault::TemplateCondition, base.saturating_add(first)));
         }
     }
-    let number = names.number_of(alloc, found.name, base.saturating_add(at), may_be_new)?;
+    let number = names.number_of(alloc, found.name, false, base.saturating_add(at), may_be_new)?;
     names.add(number, found.conditions)?;
     Ok((number, found.end))
 }
@@ -262,8 +385,10 @@ fn number_at(
     let Some(end) = dollar.end else {
         return braced_number(alloc, text, at, base, names, may_be_new);
     };
-    let name = text.get(at.saturating_add(1)..end).unwrap_or("");
-    let number = names.number_of(alloc, name, base.saturating_add(at), may_be_new)?;
+    let is_list = dollar.is_list;
+    let start = at.saturating_add(if is_list { 2 } else { 1 });
+    let name = text.get(start..end).unwrap_or("");
+    let number = names.number_of(alloc, name, is_list, base.saturating_add(at), may_be_new)?;
     Ok((number, end))
 }
 
@@ -282,6 +407,7 @@ pub(crate) fn side_of<F: FrontEnd>(
         text: String::new(alloc),
         pieces: Vec::new(alloc),
         starts: Vec::new(alloc),
+        lists: Vec::new(alloc),
     };
     let mut done = 0usize;
     // A text has at most as many placeholders as bytes.
@@ -292,7 +418,8 @@ pub(crate) fn side_of<F: FrontEnd>(
             let (number, end) = number_at(alloc, text, *dollar, base, names, may_be_new)?;
             let before = text.get(done..dollar.at).unwrap_or("");
             side.push_text(alloc, before, base.saturating_add(done))?;
-            side.push_hole(words.prefix, number, base.saturating_add(dollar.at))?;
+            let offset = base.saturating_add(dollar.at);
+            side.push_hole(words.prefix, number, dollar.is_list, offset)?;
             done = end;
             has_braces = dollar.end.is_none();
         }

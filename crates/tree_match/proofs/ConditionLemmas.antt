@@ -1,6 +1,10 @@
 -- The conditions of a placeholder, and the forms of a rule.
-use Rattle.std.proofs.Common.{◌≡◌, ℕ, Bool, true, false, refl, ap, ◌∙◌, Option, Some, None, List, [], ◌∷◌, ◌++◌, map}
+use Rattle.std.proofs.Common.{◌≡◌, ℕ, suc, Bool, ◌||◌, length, if◌then◌else◌, true, false, refl, ap, ◌∙◌, Option, Some, None, List, [], ◌∷◌, ◌++◌, map}
 use Rattle.std.proofs.lemmas.List.{map-append}
+use Rattle.std.specs.Prelude.{option_map}
+use Rattle.std.specs.Option.{option_or}
+use Rattle.std.specs.List.{list_any}
+use Rattle.syntax_kind.specs.Kinds.{is_same_kind}
 use Rattle.syntax_kind.specs.declared.syntax_kind.SyntaxKind.{SyntaxKind}
 use Rattle.ras_node.specs.Sets.{is_expr}
 use Rattle.lossless_tree.specs.Trees.{Siblings}
@@ -8,8 +12,9 @@ use Rattle.tree_match.specs.declared.bare.Comments.TheVariants.{Passed}
 use Rattle.tree_match.specs.declared.condition.Hole.{Hole}
 use Rattle.tree_match.specs.declared.part.Sort.{Sort}
 use Rattle.tree_match.specs.declared.rule.Form.{Form}
+use Rattle.tree_match.specs.declared.rule.Rule.{Rule}
 use Rattle.tree_match.specs.Bare.{bare}
-use Rattle.tree_match.specs.Matching.{sort_in, sort_by, is_expr_by}
+use Rattle.tree_match.specs.Matching.{Values, comments_by, match_parts, form_from, is_for, match_rule, sort_in, sort_by, is_expr_by}
 use Rattle.tree_match.specs.Conditions.{all_hold, admits}
 
 pub no_hole : (o : Option Hole) (v : Siblings) → None ≡ o → true ≡ admits o v
@@ -39,3 +44,20 @@ pub one_form_more : (fs gs : List Form) (f : Form) (k : SyntaxKind) → gs ≡ f
     → map (λ g. g.kind) gs ≡ map (λ g. g.kind) fs ++ k ∷ []
 one_form_more fs gs f k e is =
     ap (map (λ (g : Form). g.kind)) e ∙ map-append (λ (g : Form). g.kind) fs (f ∷ []) ∙ ap (λ x. map (λ (g : Form). g.kind) fs ++ x ∷ []) is
+
+-- ---- no form is for a kind
+
+no_form : (n : ℕ) (hs : List Hole) (fs : List Form) (k : SyntaxKind) (s : Siblings) → list_any (λ f. is_same_kind f.kind k) fs ≡ false
+    → None ≡ form_from n hs fs k s
+no_form n hs [] k s e = refl
+no_form n hs (f ∷ fs) k s e = by (is_same_kind f.kind k) e (no_form (suc n) hs fs k s)
+  where
+    by : (b : Bool) → (b || list_any (λ f. is_same_kind f.kind k) fs) ≡ false
+        → (list_any (λ f. is_same_kind f.kind k) fs ≡ false → None ≡ form_from (suc n) hs fs k s)
+        → None ≡ option_or (option_map (λ (vs : Values). (n, vs)) (if b then match_parts (comments_by f.template.items) hs f.inside.items (length hs) s else None))
+        (form_from (suc n) hs fs k s)
+    by false h g = g h
+    by true h g = absurd (let bad : true ≡ false = h in cc)
+
+pub not_for : (r : Rule) (k : SyntaxKind) (s : Siblings) → is_for k r ≡ false → None ≡ match_rule r k s
+not_for r k s e = no_form 0 r.holes.items r.forms.items k s e

@@ -1,3 +1,5 @@
+pub mod RunLemmas
+pub mod ListLemmas
 pub mod BareLemmas
 pub mod ConditionLemmas
 pub mod StepLemmas

@@ -11,7 +11,7 @@ use Rattle.tree_match.specs.declared.matching.Found.{Found}
 use Rattle.tree_match.specs.declared.reads.Task.{Task}
 use Rattle.tree_match.specs.Bare.{past, bare}
 use Rattle.tree_match.specs.Matching.{Values, match_template, found_of}
-use Rattle.tree_match.specs.Reads.{rule_at, form_at, FirstReads, same_token, same_node, replaced, AllRead, none, some, ValueReads, unused, used, ValuesRead, no_values, values, IsReplaced, IsSameToken, IsSameNode, TaskReads, TasksRead, Leads, LeadsBy}
+use Rattle.tree_match.specs.Reads.{rule_at, form_at, FirstReads, same_token, same_node, replaced, AllRead, none, some, ValueReads, unused, used, ValuesRead, no_values, values, IsReplaced, IsSameToken, IsSameNode, TasksRead, Leads, LeadsBy}
 
 pub if_ok : {T E : Type 0} {P Q : T → Type 0} (r : Result T E) → IfOk r P → ((x : T) → P x → Q x) → IfOk r Q
 if_ok (Ok x) h f = f x h
@@ -31,9 +31,9 @@ value_unused ts old new e = record {
 }
 
 pub value_used : (ts ts' : List Task) (old new : Option Siblings) (o n : Siblings) → old ≡ Some o → new ≡ Some n
-    → ts' ≡ record { all = false; old = o; new = n } ∷ ts → Leads (λ rules. ValueReads rules old new) true ts' ts
+    → ts' ≡ record { old = o; new = n } ∷ ts → Leads (λ rules. ValueReads rules old new) true ts' ts
 value_used ts ts' old new o n e f g = record {
-  leads = λ t rules h. (let both : FirstReads rules o n × TasksRead rules ts = subst (TasksRead rules) g h in
+  leads = λ t rules h. (let both : AllRead rules o n × TasksRead rules ts = subst (TasksRead rules) g h in
       (subst (λ (x : Option Siblings). ValueReads rules x new) (sym e) (subst (λ (y : Option Siblings). ValueReads rules (Some o) y) (sym f) (used both.0)), both.1));
 }
 
@@ -122,7 +122,7 @@ none_lead rules ts old new o n y e f d g = record {
 
 pub some_lead : {E : Type 0} (rules : List Rule) (ts'' ts' ts : List Task) (old new o n p q : Siblings) (r : Result Bool E)
     → o ≡ past Passed old → n ≡ past Passed new → is_done o.trees ≡ false → is_done n.trees ≡ false
-    → p ≡ behind_first o → q ≡ behind_first n → ts' ≡ record { all = true; old = p; new = q } ∷ ts
+    → p ≡ behind_first o → q ≡ behind_first n → ts' ≡ record { old = p; new = q } ∷ ts
     → IfOk r (λ ok. LeadsBy rules (FirstReads rules o n) ok ts'' ts') → IfOk r (λ ok. LeadsBy rules (AllRead rules old new) ok ts'' ts)
 some_lead rules ts'' ts' ts old new o n p q r e f d g a b c h =
     if_ok r h (λ ok l. record {
@@ -138,21 +138,11 @@ some_lead rules ts'' ts' ts old new o n p q r e f d g a b c h =
 
 -- ---- tasks
 
-pub task_of_all : {E : Type 0} (rules : List Rule) (ts' ts : List Task) (t : Task) (r : Result Bool E) → t.all ≡ true
-    → IfOk r (λ ok. LeadsBy rules (AllRead rules t.old t.new) ok ts' ts) → IfOk r (λ ok. LeadsBy rules (TaskReads rules t.all t.old t.new) ok ts' ts)
-task_of_all rules ts' ts t r e h =
-    if_ok r h (λ ok l. subst (λ (b : Bool). LeadsBy rules (TaskReads rules b t.old t.new) ok ts' ts) (sym e) l)
-
-pub task_of_first : {E : Type 0} (rules : List Rule) (ts' ts : List Task) (t : Task) (r : Result Bool E) → t.all ≡ false
-    → IfOk r (λ ok. LeadsBy rules (FirstReads rules t.old t.new) ok ts' ts) → IfOk r (λ ok. LeadsBy rules (TaskReads rules t.all t.old t.new) ok ts' ts)
-task_of_first rules ts' ts t r e h =
-    if_ok r h (λ ok l. subst (λ (b : Bool). LeadsBy rules (TaskReads rules b t.old t.new) ok ts' ts) (sym e) l)
-
 -- the tasks that are left lead to a fact
 pub record Remains (rules : List Rule) (ts : List Task) (P : Type 0) : Type 0 where
   pub rest : TasksRead rules ts → P
 
-pub begun : (rules : List Rule) (ts : List Task) (o n a b : Siblings) → o ≡ a → n ≡ b → ts ≡ record { all = true; old = o; new = n } ∷ []
+pub begun : (rules : List Rule) (ts : List Task) (o n a b : Siblings) → o ≡ a → n ≡ b → ts ≡ record { old = o; new = n } ∷ []
     → Remains rules ts (AllRead rules a b)
 begun rules ts o n a b e f g = record {
   rest = λ h. (let both : AllRead rules o n × TasksRead rules [] = subst (TasksRead rules) g h in
@@ -160,7 +150,7 @@ begun rules ts o n a b e f g = record {
 }
 
 pub turned : (rules : List Rule) (ts ts1 ts2 : List Task) (t : Task) (a b : Siblings) (y : Bool) → Remains rules ts (AllRead rules a b) → ts ≡ t ∷ ts1
-    → y ≡ true → LeadsBy rules (TaskReads rules t.all t.old t.new) y ts2 ts1 → Remains rules ts2 (AllRead rules a b)
+    → y ≡ true → LeadsBy rules (AllRead rules t.old t.new) y ts2 ts1 → Remains rules ts2 (AllRead rules a b)
 turned rules ts ts1 ts2 t a b y m e k l = record {
   rest = λ h. m.rest (subst (TasksRead rules) (sym e) (l.leads k h));
 }

@@ -1,7 +1,7 @@
 -- The places of a tree where rules match: the outermost, and those inside what stands for placeholders.
-use Rattle.std.specs.Prelude.{ℕ, ◌+◌, Bool, true, false, ◌&&◌, if◌then◌else◌, List, [], ◌∷◌, ◌++◌, Option, Some, None, option_map, map, reverse, length, nat_le}
+use Rattle.std.specs.Prelude.{ℕ, Bool, true, false, ◌&&◌, if◌then◌else◌, List, [], ◌∷◌, ◌++◌, Option, Some, None, option_map, map, nat_le}
 use Rattle.std.specs.Option.{option_and_then}
-use Rattle.tree_model.specs.Tree.{text, forest_of_children, is_token}
+use Rattle.tree_model.specs.Tree.{forest_of_children, is_token}
 use Rattle.tree_model.specs.Cursor.{Cursor, focus, range_of, range_start, at_node, descendants_of}
 use Rattle.std.specs.List.{filter}
 use Rattle.text_size.specs.TextRange.{Bounds}
@@ -9,6 +9,7 @@ use Rattle.lossless_tree.specs.Trees.{Siblings, first_of}
 use Rattle.ras_node.specs.Nodes.{kind_at}
 use Rattle.tree_match.specs.declared.rule.Rule.{Rule}
 use Rattle.tree_match.specs.declared.places.Match.{Match}
+use Rattle.tree_match.specs.Runs.{run_range}
 use Rattle.tree_match.specs.Matching.{Values, first_rule}
 
 -- a rule, which of its forms, where it matches, where what stands for each placeholder is, and where if that is a node
@@ -22,16 +23,12 @@ pub record Occurrence : Type 0 where
 abbrev pub occurrence_of : Match → Occurrence
 occurrence_of m = record { rule = m.rule; form = m.form; range = m.range; values = m.values.items; nodes = m.nodes.items }
 
--- the range of the first of some siblings
-abbrev pub first_range : Siblings → Bounds
-first_range s = record { start = s.start; end = s.start + length (text (first_of s.trees)) }
-
 abbrev pub ranges_of : Values → List (Option Bounds)
-ranges_of vs = map (option_map first_range) vs
+ranges_of vs = map (option_map run_range) vs
 
--- of those that are nodes
+-- of a value, if it is no token
 abbrev pub node_range : Siblings → Option Bounds
-node_range s = if is_token (first_of s.trees) then None else Some (first_range s)
+node_range s = if is_token (first_of s.trees) then None else Some (run_range s)
 
 abbrev pub nodes_of : Values → List (Option Bounds)
 nodes_of vs = map (option_and_then node_range) vs

@@ -1,5 +1,7 @@
+pub mod Runs
 pub mod Bare
 pub mod Conditions
+pub mod Lists
 pub mod Walks
 pub mod Same
 pub mod Matching

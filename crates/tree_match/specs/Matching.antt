@@ -1,6 +1,7 @@
 -- A pattern at one place of a tree, and what stands for its placeholders.
-use Rattle.std.specs.Prelude.{ℕ, suc, Bool, false, ◌==◌, if◌then◌else◌, List, [], ◌∷◌, Option, Some, None, option_map, length, get_or, set, replicate, nat_lt, slice_get}
+use Rattle.std.specs.Prelude.{ℕ, suc, Bool, false, ◌==◌, ◌&&◌, if◌then◌else◌, List, [], ◌∷◌, Option, Some, None, is_none, option_map, length, get_or, set, replicate, nat_lt, slice_get}
 use Rattle.std.specs.Option.{option_and_then, option_or}
+use Rattle.std.specs.List.{list_any}
 use Rattle.syntax_kind.specs.declared.syntax_kind.SyntaxKind.{SyntaxKind}
 use Rattle.syntax_kind.specs.Kinds.{is_same_kind}
 use Rattle.ras_node.specs.Sets.{is_expr}
@@ -10,15 +11,18 @@ use Rattle.tree_match.specs.declared.bare.Comments.TheVariants.{Passed, Kept}
 use Rattle.tree_match.specs.declared.condition.Hole.{Hole}
 use Rattle.tree_match.specs.declared.part.Part.{Part}
 use Rattle.tree_match.specs.declared.part.Part.TheVariants as part
+use Rattle.tree_match.specs.declared.part.Comma.{Comma}
 use Rattle.tree_match.specs.declared.part.Sort.{Sort}
+use Rattle.tree_match.specs.declared.part.Sort.TheVariants as sort
 use Rattle.tree_match.specs.declared.rule.Rule.{Rule}
 use Rattle.tree_match.specs.declared.rule.Form.{Form}
 use Rattle.tree_match.specs.declared.matching.Found.{Found}
 use Rattle.tree_match.specs.Conditions.{admits}
 use Rattle.tree_match.specs.Walks.{advance, taken, is_part}
+use Rattle.tree_match.specs.Lists.{taken_list}
 use Rattle.tree_match.specs.Same.{is_same}
 
--- what stands for each placeholder: siblings of which the first is its value
+-- what stands for each placeholder: a run of siblings, of one or of the elements of a list
 abbrev pub Values : Type 0
 Values = List (Option Siblings)
 
@@ -34,16 +38,25 @@ put n v vs = if nat_lt n (length vs) then put_beside (get_or vs n None) n v vs e
 abbrev pub put_held : List Hole → ℕ → Siblings → Values → Option Values
 put_held hs n v vs = if admits (slice_get hs n) v then put n v vs else None
 
+-- a value for a placeholder that has none
+abbrev pub put_new : ℕ → Siblings → Values → Option Values
+put_new n v vs = if nat_lt n (length vs) && is_none (get_or vs n None) then Some (set vs n (Some v)) else None
+
 -- the levels and the values behind one part of a pattern, if that is next: a placeholder passes over a node of its sort, where its
 -- conditions hold
 abbrev pub match_hole : Comments → List Hole → ℕ → Sort → List Siblings → Values → Option (List Siblings × Values)
 match_hole cs hs n sort st vs = option_and_then (λ t. option_map (λ ws. (t.1, ws)) (put_held hs n t.0 vs)) (taken cs sort st)
+
+-- a placeholder for a list takes its elements
+abbrev pub match_list : Comments → ℕ → Comma → ℕ → List Siblings → Values → Option (List Siblings × Values)
+match_list cs n c behind st vs = option_and_then (λ t. option_map (λ ws. (t.1, ws)) (put_new n t.0 vs)) (taken_list cs c behind st)
 
 abbrev pub match_step : Comments → Part → List Siblings → Values → Option (List Siblings × Values)
 match_step cs p st vs = if is_part p (advance cs st).0 then Some ((advance cs st).1, vs) else None
 
 abbrev pub match_part : Comments → List Hole → Part → List Siblings → Values → Option (List Siblings × Values)
 match_part cs hs (part.Hole n sort) st vs = match_hole cs hs n sort st vs
+match_part cs hs (part.List n c behind) st vs = match_list cs n c behind st vs
 match_part cs hs (part.Enter k) st vs = match_step cs (part.Enter k) st vs
 match_part cs hs part.Leave st vs = match_step cs part.Leave st vs
 match_part cs hs (part.Token k s) st vs = match_step cs (part.Token k s) st vs
@@ -75,6 +88,10 @@ form_from n hs (f ∷ fs) k s = option_or (option_map (λ vs. (n, vs)) (match_fo
 abbrev pub first_form : List Hole → List Form → SyntaxKind → Siblings → Option (ℕ × Values)
 first_form hs fs k s = form_from 0 hs fs k s
 
+-- a rule has a form for nodes of a kind
+abbrev pub is_for : SyntaxKind → Rule → Bool
+is_for k r = list_any (λ f. is_same_kind f.kind k) r.forms.items
+
 abbrev pub match_rule : Rule → SyntaxKind → Siblings → Option (ℕ × Values)
 match_rule r k s = first_form r.holes.items r.forms.items k s
 
@@ -96,6 +113,7 @@ found_of f = (f.rule, f.form, f.values.items)
 -- what the placeholder with a number stands for in a template
 abbrev pub sort_at : ℕ → Part → Option Sort → Option Sort
 sort_at n (part.Hole m sort) rest = if m == n then Some sort else rest
+sort_at n (part.List m c behind) rest = if m == n then Some sort.List else rest
 sort_at n (part.Enter k) rest = rest
 sort_at n part.Leave rest = rest
 sort_at n (part.Token k s) rest = rest

@@ -47,7 +47,7 @@ mutual
   -- What a placeholder of a template stands for: the same with the matches of rules replaced. A placeholder that is not in the template has no value there.
   pub data ValueReads (rules : List Rule) : Option Siblings → Option Siblings → Type 0 where
     unused : {old : Option Siblings} → ValueReads rules old None
-    used : {old new : Siblings} → FirstReads rules old new → ValueReads rules (Some old) (Some new)
+    used : {old new : Siblings} → AllRead rules old new → ValueReads rules (Some old) (Some new)
 
   -- The same of each placeholder.
   pub data ValuesRead (rules : List Rule) : Values → Values → Type 0 where
@@ -78,14 +78,9 @@ pub record IsSameNode (rules : List Rule) (old new : Siblings) : Type 0 where
 
 -- ---- what is still to be compared
 
--- all of some siblings, or the first
-abbrev pub TaskReads : List Rule → Bool → Siblings → Siblings → Type 0
-TaskReads rules true old new = AllRead rules old new
-TaskReads rules false old new = FirstReads rules old new
-
 abbrev pub TasksRead : List Rule → List Task → Type 0
 TasksRead rules [] = ⊤
-TasksRead rules (t ∷ ts) = TaskReads rules t.all t.old t.new × TasksRead rules ts
+TasksRead rules (t ∷ ts) = AllRead rules t.old t.new × TasksRead rules ts
 
 -- if a call returned true, and the tasks that it left hold, so do a fact and the tasks that there were
 pub record Leads (P : List Rule → Type 0) (ok : Bool) (new old : List Task) : Type 0 where

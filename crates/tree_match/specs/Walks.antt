@@ -15,6 +15,7 @@ use Rattle.tree_match.specs.declared.part.Part.TheVariants as part
 use Rattle.tree_match.specs.declared.walk.Walk.{Walk}
 use Rattle.tree_match.specs.declared.walk.Seen.{Seen}
 use Rattle.tree_match.specs.declared.walk.Seen.TheVariants as shown
+use Rattle.tree_match.specs.Runs.{run_of}
 use Rattle.tree_match.specs.Bare.{Step, enter, leave, leaf, end, past, bare, is_node_there, behind_one}
 
 -- the kinds of the tokens of names
@@ -30,6 +31,7 @@ sort_has sort.Ty k = is_ty k
 sort_has sort.Pat k = is_pat k
 sort_has sort.Path k = is_same_kind k PATH
 sort_has sort.Word k = is_word k
+sort_has sort.List k = false
 
 -- the first of some siblings is a token, if a word is asked for, and else a node
 abbrev pub is_there : Sort → Forest → Bool
@@ -38,6 +40,7 @@ is_there sort.Expr f = is_node_there f
 is_there sort.Ty f = is_node_there f
 is_there sort.Pat f = is_node_there f
 is_there sort.Path f = is_node_there f
+is_there sort.List f = is_node_there f
 
 -- the levels of a walk, the innermost first
 abbrev pub levels_of : Walk → List Siblings
@@ -54,10 +57,11 @@ abbrev pub advance : Comments → List Siblings → Step × List Siblings
 advance cs [] = (end, [])
 advance cs (s ∷ below) = step_at cs (past cs s) below
 
--- the siblings from the next node on, or token for a word, if that is of the sort, and the levels behind it
+-- the next node, or token for a word, if that is of the sort, and the levels behind it
 abbrev pub taken_at : Comments → Sort → Siblings → List Siblings → Option (Siblings × List Siblings)
 taken_at cs sort here below =
-    if is_there sort here.trees && sort_has sort (kind_of (first_of here.trees)) then Some (here, behind_one cs here ∷ below) else None
+    if is_there sort here.trees && sort_has sort (kind_of (first_of here.trees))
+    then Some (run_of (Some 1) here, behind_one cs here ∷ below) else None
 
 abbrev pub taken : Comments → Sort → List Siblings → Option (Siblings × List Siblings)
 taken cs sort [] = None

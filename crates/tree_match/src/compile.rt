@@ -1,9 +1,14 @@
 //! The parts of a pattern and its template, from the trees of their texts.
 
 use crate::bare::Comments;
-use crate::part::{Part, Sort};
+use crate::condition::Hole;
+use crate::fit::fit_lists;
+use crate::part::{Comma, Part, Sort};
+use crate::rule::RuleRefusal;
+use crate::run::Run;
 use crate::walk::{Seen, Walk};
 use lossless_tree::{SyntaxKind, SyntaxNode};
+use rust_kinds::kinds;
 use std::alloc::{AllocError, Global};
 
 /// The parts of a pattern's node, without itself, and of its template's.
@@ -17,6 +22,7 @@ pub(crate) struct Compiled {
 #[derive(Drop)]
 struct Words<'a> {
     prefix: &'a str,
+    holes: &'a [Hole],
     // Which of them are words wherever they stand.
     only_words: &'a [bool],
 }
@@ -37,20 +43,80 @@ fn sort_of(kind: SyntaxKind) -> Option<Sort> {
     }
 }
 
+// Whether a node of this kind has a list of nodes.
+fn has_list(kind: SyntaxKind) -> bool {
+    matches!(
+        kind,
+        SyntaxKind::ARG_LIST
+            | SyntaxKind::ARRAY_EXPR
+            | SyntaxKind::ASSOC_ITEM_LIST
+            | SyntaxKind::EXTERN_ITEM_LIST
+            | SyntaxKind::GENERIC_ARG_LIST
+            | SyntaxKind::GENERIC_PARAM_LIST
+            | SyntaxKind::ITEM_LIST
+            | SyntaxKind::MATCH_ARM_LIST
+            | SyntaxKind::PARAM_LIST
+            | kinds::PARENTHESIZED_ARG_LIST
+            | kinds::RECORD_EXPR_FIELD_LIST
+            | SyntaxKind::RECORD_FIELD_LIST
+            | kinds::RECORD_PAT_FIELD_LIST
+            | SyntaxKind::SLICE_PAT
+            | SyntaxKind::STMT_LIST
+            | SyntaxKind::TUPLE_EXPR
+            | SyntaxKind::TUPLE_FIELD_LIST
+            | SyntaxKind::TUPLE_PAT
+            | SyntaxKind::TUPLE_STRUCT_PAT
+            | SyntaxKind::TUPLE_TYPE
+            | SyntaxKind::USE_TREE_LIST
+            | kinds::VARIANT_LIST
+    )
+}
+
+// The word of an element of a list that is a word alone, or with the sign that ends it.
+fn word_of(element: &str) -> &str {
+    match element.strip_suffix(';') {
+        Some(word) => word,
+        None => element.strip_suffix(',').unwrap_or(element),
+    }
+}
+
 /// Whether a node is a placeholder.
 pub(crate) fn is_hole(node: &SyntaxNode, prefix: &str) -> bool {
     sort_of(node.kind()).is_some() && number_in(node.as_str(), prefix).is_some()
 }
 
 impl<'a> Words<'a> {
+    // Whether a placeholder is one for a list.
+    fn is_list(&self, number: usize) -> bool {
+        self.holes.get(number).is_some_and(|hole| hole.is_list)
+    }
+
     // The placeholder that a node is, with what it can stand for.
     fn hole_at(&self, kind: SyntaxKind, text: &str) -> Option<Part> {
         let sort = sort_of(kind)?;
         let number = number_in(text, self.prefix)?;
-        if matches!(self.only_words.get(number), Some(true)) {
+        if self.is_list(number) || matches!(self.only_words.get(number), Some(true)) {
             return None;
         }
         Some(Part::Hole(number, sort))
+    }
+
+    // The placeholder for a list that is next in a walk of the children of a node of a kind; passes over it.
+    fn next_list(
+        &self,
+        walk: &mut Walk<'_>,
+        parent: SyntaxKind,
+    ) -> Result<Option<Part>, AllocError> {
+        let Some((_, text)) = walk.peek() else {
+            return Ok(None);
+        };
+        match number_in(word_of(text), self.prefix) {
+            Some(number) if self.is_list(number) && has_list(parent) => {
+                walk.pass()?;
+                Ok(Some(Part::List(number, Comma::Nowhere, 0)))
+            }
+            _ => Ok(None),
+        }
     }
 
     // The placeholder that is next in a walk; passes over it.
@@ -76,8 +142,11 @@ impl<'a> Words<'a> {
         text: &str,
     ) -> Result<Part, AllocError> {
         if let Some(Part::Enter(SyntaxKind::NAME | SyntaxKind::NAME_REF)) = before {
-            if let Some(number) = number_in(text, self.prefix) {
-                return Ok(Part::Hole(number, Sort::Word));
+            match number_in(text, self.prefix) {
+                Some(number) if !self.is_list(number) => {
+                    return Ok(Part::Hole(number, Sort::Word));
+                }
+                _ => {}
             }
         }
         Ok(Part::Token(kind, String::from_str(alloc, text)?))
@@ -90,16 +159,29 @@ impl<'a> Words<'a> {
         node: &SyntaxNode,
         parts: &mut Vec<Part>,
     ) -> Result<(), AllocError> {
-        let mut walk = Walk::new(alloc, Comments::Passed, &node.trees())?;
+        let mut walk = Walk::new(alloc, Comments::Passed, &Run::of(node.trees()))?;
+        let mut around = Vec::new(alloc);
+        let mut parent = node.kind();
         // There are at most as many steps as events.
         for _event in node.preorder_with_tokens() {
+            if let Some(list) = self.next_list(&mut walk, parent)? {
+                parts.push(list)?;
+                continue;
+            }
             if let Some(hole) = self.next_hole(&mut walk)? {
                 parts.push(hole)?;
                 continue;
             }
             match walk.next()? {
-                Seen::Enter(kind) => parts.push(Part::Enter(kind))?,
-                Seen::Leave => parts.push(Part::Leave)?,
+                Seen::Enter(kind) => {
+                    parts.push(Part::Enter(kind))?;
+                    around.push(parent)?;
+                    parent = kind;
+                }
+                Seen::Leave => {
+                    parts.push(Part::Leave)?;
+                    parent = around.pop().unwrap_or(parent);
+                }
                 Seen::Token(kind, text) => {
                     let part = self.token(alloc, parts.last(), kind, text)?;
                     parts.push(part)?;
@@ -128,14 +210,17 @@ impl<'a> Words<'a> {
         alloc: Global,
         pattern: &SyntaxNode,
         template: Option<&SyntaxNode>,
-    ) -> Result<Compiled, AllocError> {
+    ) -> Result<Compiled, RuleRefusal> {
         let mut inside = Vec::new(alloc);
         self.push_inside(alloc, pattern, &mut inside)?;
         let template = match template {
             Some(node) => self.parts_of(alloc, node)?,
             None => Vec::new(alloc),
         };
-        Ok(Compiled { inside, template })
+        Ok(Compiled {
+            inside: fit_lists(alloc, inside)?,
+            template: fit_lists(alloc, template)?,
+        })
     }
 }
 
@@ -159,19 +244,20 @@ fn mark_words(parts: &[Part], sorts: &mut Vec<Option<Sort>>, only_words: &mut Ve
     is_any
 }
 
-/// The parts of a pattern and of its template, in which words of the prefix and a number below `count` are placeholders. One that is of one
+/// The parts of a pattern and of its template, in which words of the prefix and the number of a placeholder stand for it. One that is of one
 /// sort here and of another one there is a word everywhere: the `$f` of `fn $f() { $f() }`.
 pub(crate) fn compile(
     alloc: Global,
     prefix: &str,
-    count: usize,
+    holes: &[Hole],
     pattern: &SyntaxNode,
     template: Option<&SyntaxNode>,
-) -> Result<Compiled, AllocError> {
-    let mut only_words = vec![in alloc; false; count]?;
-    let mut sorts = vec![in alloc; None; count]?;
+) -> Result<Compiled, RuleRefusal> {
+    let mut only_words = vec![in alloc; false; holes.len()]?;
+    let mut sorts = vec![in alloc; None; holes.len()]?;
     let first = Words {
         prefix,
+        holes,
         only_words: &[],
     }
     .compiled(alloc, pattern, template)?;
@@ -182,6 +268,7 @@ pub(crate) fn compile(
     }
     Words {
         prefix,
+        holes,
         only_words: &only_words,
     }
     .compiled(alloc, pattern, template)

@@ -4,7 +4,8 @@ ghost use Rattle.regex.specs.Strings.{regex_pattern};
 ghost use Rattle.tree_match.specs.Conditions.{has_text, passes, holds, all_hold, admits};
 
 use crate::bare::{Comments, bare};
-use lossless_tree::{SiblingsLeft, SyntaxKind};
+use crate::run::Run;
+use lossless_tree::SyntaxKind;
 use regex::Regex;
 use std::alloc::{AllocError, Global};
 
@@ -34,6 +35,8 @@ pub struct Condition {
 pub struct Hole {
     /// What has to hold wherever it stands in the pattern.
     pub conditions: Vec<Condition>,
+    /// Whether it stands for the elements of a list.
+    pub is_list: bool,
 }
 
 // Whether a regular expression is found in a text that is not too long for it.
@@ -48,7 +51,7 @@ fn has_text(alloc: Global, regex: &Regex, text: &str) -> Result<bool, AllocError
 }
 
 // Whether the first of some siblings passes a test.
-fn passes(alloc: Global, test: &Test, inner: &SiblingsLeft<'_>) -> Result<bool, AllocError>
+fn passes(alloc: Global, test: &Test, inner: &Run<'_>) -> Result<bool, AllocError>
     ensures { IfOk result (λ yes. yes ≡ passes test.now inner.now) }
 {
     match test {
@@ -57,7 +60,7 @@ fn passes(alloc: Global, test: &Test, inner: &SiblingsLeft<'_>) -> Result<bool, 
     }
 }
 
-fn holds(alloc: Global, condition: &Condition, inner: &SiblingsLeft<'_>) -> Result<bool, AllocError>
+fn holds(alloc: Global, condition: &Condition, inner: &Run<'_>) -> Result<bool, AllocError>
     ensures { IfOk result (λ yes. yes ≡ holds condition.now inner.now) }
 {
     let yes = passes(alloc, &condition.test, inner)?;
@@ -67,7 +70,7 @@ fn holds(alloc: Global, condition: &Condition, inner: &SiblingsLeft<'_>) -> Resu
 fn all_hold(
     alloc: Global,
     conditions: &[Condition],
-    inner: &SiblingsLeft<'_>,
+    inner: &Run<'_>,
 ) -> Result<bool, AllocError>
     ensures { IfOk result (λ yes. yes ≡ all_hold conditions.now inner.now) }
 {
@@ -92,7 +95,7 @@ pub(crate) fn admits(
     alloc: Global,
     holes: &[Hole],
     number: usize,
-    value: &SiblingsLeft<'_>,
+    value: &Run<'_>,
 ) -> Result<bool, AllocError>
     ensures { IfOk result (λ yes. yes ≡ admits (slice_get holes.now number) value.now) }
 {

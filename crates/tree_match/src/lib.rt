@@ -4,11 +4,14 @@
 mod bare;
 mod compile;
 mod condition;
+mod fit;
+mod list;
 mod matching;
 mod part;
 mod places;
 mod reads;
 mod rule;
+mod run;
 mod same;
 mod walk;
 

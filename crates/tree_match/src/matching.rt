@@ -1,7 +1,7 @@
 //! A pattern at one place of a tree.
 ghost use Rattle.std.specs.Prelude.{◌≡◌, IfOk, if◌then◌else◌, Some, None, option_map, replicate, get_or, length};
 ghost use Rattle.tree_match.specs.Walks.{levels_of};
-ghost use Rattle.tree_match.specs.Matching.{put, put_held, match_part, match_parts, match_form, first_form, match_rule, match_template, first_rule, found_of};
+ghost use Rattle.tree_match.specs.Matching.{put, put_held, put_new, match_part, match_parts, match_form, first_form, is_for, match_rule, match_template, first_rule, found_of};
 
 use crate::bare::Comments;
 use crate::condition::{Hole, admits};
@@ -9,11 +9,12 @@ use crate::part::Part;
 use crate::rule::{Form, Rule};
 use crate::same::is_same;
 use crate::walk::{Walk, is_part};
-use lossless_tree::{SiblingsLeft, SyntaxKind};
+use crate::run::Run;
+use lossless_tree::SyntaxKind;
 use std::alloc::{AllocError, Global};
 
-/// What stands for each placeholder: siblings of which the first is its value; `None` if it has none.
-pub(crate) type Values<'t> = Vec<Option<SiblingsLeft<'t>>>;
+/// What stands for each placeholder: a run of siblings, of one or of the elements of a list; `None` if it has none.
+pub(crate) type Values<'t> = Vec<Option<Run<'t>>>;
 
 /// A rule that matches, which of its forms, and what stands for its placeholders.
 #[derive(Drop)]
@@ -39,7 +40,7 @@ fn put<'t>(
     alloc: Global,
     values: &mut Values<'t>,
     number: usize,
-    value: SiblingsLeft<'t>,
+    value: Run<'t>,
 ) -> Result<bool, AllocError>
     ensures { IfOk result (λ ok. put number value.entry values.old.items ≡ (if ok then Some values.new.items else None)) }
 {
@@ -59,7 +60,7 @@ fn put_held<'t>(
     holes: &[Hole],
     values: &mut Values<'t>,
     number: usize,
-    value: SiblingsLeft<'t>,
+    value: Run<'t>,
 ) -> Result<bool, AllocError>
     ensures { IfOk result (λ ok. put_held holes.now number value.entry values.old.items ≡ (if ok then Some values.new.items else None)) }
 {
@@ -67,6 +68,18 @@ fn put_held<'t>(
         return Ok(false);
     }
     put(alloc, values, number, value)
+}
+
+// Notes what stands for a placeholder. Returns false if something does already.
+fn put_new<'t>(values: &mut Values<'t>, number: usize, value: Run<'t>) -> bool
+    ensures { put_new number value.entry values.old.items
+        ≡ (if result then Some values.new.items else None) }
+{
+    if number >= values.len() || values[number].is_some() {
+        return false;
+    }
+    values[number] = Some(value);
+    true
 }
 
 // Passes over a part, if it is next in the walk.
@@ -86,6 +99,12 @@ fn match_part<'t>(
         };
         return put_held(alloc, holes, values, *number, value);
     }
+    if let Part::List(number, comma, behind) = part {
+        let Some(list) = walk.take_list(*comma, *behind)? else {
+            return Ok(false);
+        };
+        return Ok(put_new(values, *number, list));
+    }
     let step = walk.next()?;
     Ok(is_part(part, step))
 }
@@ -97,7 +116,7 @@ fn match_parts<'t>(
     holes: &[Hole],
     parts: &[Part],
     count: usize,
-    start: &SiblingsLeft<'t>,
+    start: &Run<'t>,
 ) -> Result<Option<Values<'t>>, AllocError>
     ensures { IfOk result (λ o. option_map (λ vs. vs.items) o ≡ match_parts comments holes.now parts.now count start.now) }
 {
@@ -117,7 +136,7 @@ fn match_form<'t>(
     holes: &[Hole],
     form: &Form,
     kind: SyntaxKind,
-    inside: &SiblingsLeft<'t>,
+    inside: &Run<'t>,
 ) -> Result<Option<Values<'t>>, AllocError>
     ensures { IfOk result (λ o. option_map (λ vs. vs.items) o ≡ match_form holes.now form.now kind inside.now) }
 {
@@ -140,7 +159,7 @@ fn first_form<'t>(
     holes: &[Hole],
     forms: &[Form],
     kind: SyntaxKind,
-    inside: &SiblingsLeft<'t>,
+    inside: &Run<'t>,
 ) -> Result<Option<(usize, Values<'t>)>, AllocError>
     ensures { IfOk result (λ o. option_map (λ f. (f.0, f.1.items)) o ≡ first_form holes.now forms.now kind inside.now) }
 {
@@ -154,15 +173,28 @@ fn first_form<'t>(
     Ok(None)
 }
 
+// Whether a rule has a form for nodes of a kind. Most rules have none for most nodes.
+fn is_for(kind: SyntaxKind, rule: &Rule) -> bool
+    ensures { result ≡ is_for kind rule.now }
+{
+    rule.forms
+        .iter()
+        .any(|form| form.kind.to_raw() == kind.to_raw())
+}
+
 // The first form of a rule whose pattern a node is.
+#[tactic(auto, using(crate::proofs::ConditionLemmas::not_for))]
 fn match_rule<'t>(
     alloc: Global,
     rule: &Rule,
     kind: SyntaxKind,
-    inside: &SiblingsLeft<'t>,
+    inside: &Run<'t>,
 ) -> Result<Option<(usize, Values<'t>)>, AllocError>
     ensures { IfOk result (λ o. option_map (λ f. (f.0, f.1.items)) o ≡ match_rule rule.now kind inside.now) }
 {
+    if !is_for(kind, rule) {
+        return Ok(None);
+    }
     first_form(alloc, &rule.holes, &rule.forms, kind, inside)
 }
 
@@ -170,8 +202,8 @@ fn match_rule<'t>(
 pub(crate) fn match_template<'t>(
     alloc: Global,
     form: &Form,
-    olds: &[Option<SiblingsLeft<'_>>],
-    start: &SiblingsLeft<'t>,
+    olds: &[Option<Run<'_>>],
+    start: &Run<'t>,
 ) -> Result<Option<Values<'t>>, AllocError>
     ensures { IfOk result (λ o. option_map (λ vs. vs.items) o ≡ match_template form.now (length olds.now) start.now) }
 {
@@ -190,7 +222,7 @@ pub(crate) fn first_rule<'t>(
     alloc: Global,
     rules: &[Rule],
     kind: SyntaxKind,
-    inside: &SiblingsLeft<'t>,
+    inside: &Run<'t>,
 ) -> Result<Option<Found<'t>>, AllocError>
     ensures { IfOk result (λ o. option_map found_of o ≡ first_rule rules.now kind inside.now) }
 {

@@ -18,6 +18,16 @@ pub enum Sort {
     Path,
     /// A word: the token of a name.
     Word,
+    /// Elements of a list, as arguments, statements or fields.
+    List,
+}
+
+/// Where the comma is that goes with a list: a list without elements has none.
+#[derive(Clone, Copy, Debug, PartialEq, Eq, Drop)]
+pub enum Comma {
+    Nowhere,
+    Before,
+    Behind,
 }
 
 // Whether a token of this kind can be a name: also `0` of `x.0`, and the words of paths.
@@ -43,6 +53,7 @@ impl Sort {
             Sort::Pat => Pats::has(kind),
             Sort::Path => kind == SyntaxKind::PATH,
             Sort::Word => is_word(kind),
+            Sort::List => false,
         }
     }
 }
@@ -58,4 +69,6 @@ pub enum Part {
     Token(SyntaxKind, String),
     /// The placeholder with this number.
     Hole(usize, Sort),
+    /// The placeholder with this number for a list: all nodes that are left on its level, but for as many as this at the end.
+    List(usize, Comma, usize),
 }

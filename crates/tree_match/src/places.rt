@@ -1,10 +1,11 @@
 //! The places of a tree where rules match.
 ghost use Rattle.std.specs.Prelude.{◌≡◌, ◌∷◌, [], IfOk, OnOk, map, option_map};
-ghost use Rattle.tree_match.specs.Finds.{occurrence_of, first_range, ranges_of, node_range, nodes_of, match_at, drop_behind, is_free, with_some, behind, take_out, found_at, free_behind, found_in};
+ghost use Rattle.tree_match.specs.Finds.{occurrence_of, ranges_of, node_range, nodes_of, match_at, drop_behind, is_free, with_some, behind, take_out, found_at, free_behind, found_in};
 
 use crate::matching::first_rule;
 use crate::rule::Rule;
-use lossless_tree::{SiblingsLeft, SyntaxNode, TextRange, TextSize};
+use crate::run::Run;
+use lossless_tree::{SyntaxNode, TextRange, TextSize};
 use std::alloc::{AllocError, Global};
 use std::collections::VecDeque;
 
@@ -23,51 +24,44 @@ pub struct Match {
     pub(crate) nodes: Vec<Option<TextRange>>,
 }
 
-// The range of the first of some siblings.
-fn first_range(left: &SiblingsLeft<'_>) -> TextRange
-    ensures { result ≡ first_range left.now }
-{
-    TextRange::new(left.start(), left.rest().start())
-}
-
 fn ranges_of(
     alloc: Global,
-    values: &[Option<SiblingsLeft<'_>>],
+    values: &[Option<Run<'_>>],
 ) -> Result<Vec<Option<TextRange>>, AllocError>
     ensures { IfOk result (λ r. r.items ≡ ranges_of values.now) }
 {
     let mut ranges = Vec::with_capacity(alloc, values.len())?;
     for value in values {
         match value {
-            Some(left) => ranges.push(Some(first_range(left)))?,
+            Some(run) => ranges.push(Some(run.range()))?,
             None => ranges.push(None)?,
         }
     }
     Ok(ranges)
 }
 
-// The range of the first of some siblings, if it is a node.
-fn node_range(left: &SiblingsLeft<'_>) -> Option<TextRange>
-    ensures { result ≡ node_range left.now }
+// The range of a run of siblings, if the first is no token.
+fn node_range(run: &Run<'_>) -> Option<TextRange>
+    ensures { result ≡ node_range run.now }
 {
-    if left.is_token() {
+    if run.is_token() {
         None
     } else {
-        Some(first_range(left))
+        Some(run.range())
     }
 }
 
 // The ranges of those values that are nodes: there is nothing to find in a token.
 fn nodes_of(
     alloc: Global,
-    values: &[Option<SiblingsLeft<'_>>],
+    values: &[Option<Run<'_>>],
 ) -> Result<Vec<Option<TextRange>>, AllocError>
     ensures { IfOk result (λ r. r.items ≡ nodes_of values.now) }
 {
     let mut ranges = Vec::with_capacity(alloc, values.len())?;
     for value in values {
         match value {
-            Some(left) => ranges.push(node_range(left))?,
+            Some(run) => ranges.push(node_range(run))?,
             None => ranges.push(None)?,
         }
     }
@@ -78,7 +72,7 @@ fn nodes_of(
 fn match_at(alloc: Global, rules: &[Rule], node: &SyntaxNode) -> Result<Option<Match>, AllocError>
     ensures { IfOk result (λ o. option_map occurrence_of o ≡ match_at rules.now node.now) }
 {
-    let Some(found) = first_rule(alloc, rules, node.kind(), &node.trees())? else {
+    let Some(found) = first_rule(alloc, rules, node.kind(), &Run::of(node.trees()))? else {
         return Ok(None);
     };
     Ok(Some(Match {

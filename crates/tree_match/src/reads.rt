@@ -4,29 +4,29 @@ ghost use Rattle.tree_match.specs.declared.bare.Comments.TheVariants.{Passed};
 ghost use Rattle.tree_match.specs.Bare.{bare};
 ghost use Rattle.tree_match.specs.Finds.{inside_of};
 ghost use Rattle.tree_match.specs.Matching.{found_of};
-ghost use Rattle.tree_match.specs.Reads.{FirstReads, AllRead, ValueReads, ValuesRead, IsSameToken, IsSameNode, IsReplaced, rule_at, form_at, TaskReads, Leads, LeadsBy};
+ghost use Rattle.tree_match.specs.Reads.{FirstReads, AllRead, ValueReads, ValuesRead, IsSameToken, IsSameNode, IsReplaced, rule_at, form_at, Leads, LeadsBy};
 
 use crate::bare::{Comments, bare, past};
 use crate::matching::{Found, first_rule, match_template};
 use crate::rule::{Form, Rule};
-use lossless_tree::{SiblingsLeft, SyntaxNode};
+use crate::run::Run;
+use lossless_tree::SyntaxNode;
 use std::alloc::{AllocError, Global};
 use std::collections::VecDeque;
 
-// Two lists of siblings that are compared, all or the first of each.
+// Two lists of siblings that are compared.
 #[derive(Drop)]
 struct Task<'a, 'b> {
-    all: bool,
-    old: SiblingsLeft<'a>,
-    new: SiblingsLeft<'b>,
+    old: Run<'a>,
+    new: Run<'b>,
 }
 
 // Adds a task for what stands for a placeholder, if a template has it. Returns false if the pattern has it not.
 #[tactic(auto, using(crate::proofs::ReadLemmas::value_unused, crate::proofs::ReadLemmas::value_used, crate::proofs::ReadLemmas::not_led))]
 fn push_value<'a, 'b>(
     tasks: &mut VecDeque<Task<'a, 'b>>,
-    old: &Option<SiblingsLeft<'a>>,
-    new: &Option<SiblingsLeft<'b>>,
+    old: &Option<Run<'a>>,
+    new: &Option<Run<'b>>,
 ) -> Result<bool, AllocError>
     ensures { IfOk result (λ ok. Leads (λ rules. ValueReads rules old.now new.now) ok tasks.new.items tasks.old.items) }
 {
@@ -35,8 +35,7 @@ fn push_value<'a, 'b>(
         (None, Some(_)) => Ok(false),
         (Some(old), Some(new)) => {
             tasks.push_front(Task {
-                all: false,
-                old: old.all(),
+                    old: old.all(),
                 new: new.all(),
             })?;
             Ok(true)
@@ -48,8 +47,8 @@ fn push_value<'a, 'b>(
 #[tactic(auto, using(crate::proofs::ReadLemmas::none_come, crate::proofs::ReadLemmas::one_came, crate::proofs::ReadLemmas::all_came, crate::proofs::ReadLemmas::not_led))]
 fn push_values<'a, 'b>(
     tasks: &mut VecDeque<Task<'a, 'b>>,
-    olds: &[Option<SiblingsLeft<'a>>],
-    news: &[Option<SiblingsLeft<'b>>],
+    olds: &[Option<Run<'a>>],
+    news: &[Option<Run<'b>>],
 ) -> Result<bool, AllocError>
     ensures { IfOk result (λ ok. Leads (λ rules. ValuesRead rules olds.now news.now) ok tasks.new.items tasks.old.items) }
 {
@@ -93,7 +92,7 @@ fn is_replaced<'a, 'b>(
     tasks: &mut VecDeque<Task<'a, 'b>>,
     rules: &[Rule],
     found: &Found<'a>,
-    new: &SiblingsLeft<'b>,
+    new: &Run<'b>,
 ) -> Result<bool, AllocError>
     ensures { IfOk result (λ ok. LeadsBy rules.now (IsReplaced rules.now (found_of found.now) new.now) ok tasks.new.items tasks.old.items) }
 {
@@ -107,7 +106,7 @@ fn is_replaced<'a, 'b>(
 }
 
 // Compares the first of two lists of siblings, a token.
-fn is_same_token(old: &SiblingsLeft<'_>, new: &SiblingsLeft<'_>) -> bool
+fn is_same_token(old: &Run<'_>, new: &Run<'_>) -> bool
     ensures { IsTrue result → IsSameToken old.now new.now }
 {
     old.is_token()
@@ -119,8 +118,8 @@ fn is_same_token(old: &SiblingsLeft<'_>, new: &SiblingsLeft<'_>) -> bool
 // Compares the first of two lists of siblings, nodes without pairs. Adds a task for what is below.
 fn push_inside<'a, 'b>(
     tasks: &mut VecDeque<Task<'a, 'b>>,
-    old: &SiblingsLeft<'a>,
-    new: &SiblingsLeft<'b>,
+    old: &Run<'a>,
+    new: &Run<'b>,
 ) -> Result<bool, AllocError>
     ensures { IfOk result (λ ok. Leads (λ rules. IsSameNode rules old.now new.now) ok tasks.new.items tasks.old.items) }
 {
@@ -128,7 +127,6 @@ fn push_inside<'a, 'b>(
         return Ok(false);
     }
     tasks.push_front(Task {
-        all: true,
         old: old.inside(),
         new: new.inside(),
     })?;
@@ -138,8 +136,8 @@ fn push_inside<'a, 'b>(
 // The same of nodes with pairs.
 fn push_bare<'a, 'b>(
     tasks: &mut VecDeque<Task<'a, 'b>>,
-    old: &SiblingsLeft<'a>,
-    new: &SiblingsLeft<'b>,
+    old: &Run<'a>,
+    new: &Run<'b>,
 ) -> Result<bool, AllocError>
     ensures { IfOk result (λ ok. Leads (λ rules. IsSameNode rules (bare Passed old.now) (bare Passed new.now)) ok tasks.new.items tasks.old.items) }
 {
@@ -154,7 +152,7 @@ fn push_bare<'a, 'b>(
 fn rule_at<'a>(
     alloc: Global,
     rules: &[Rule],
-    old: &SiblingsLeft<'a>,
+    old: &Run<'a>,
 ) -> Result<Option<Found<'a>>, AllocError>
     ensures { IfOk result (λ o. option_map found_of o ≡ rule_at rules.now old.now) }
 {
@@ -168,8 +166,8 @@ fn step_into<'a, 'b>(
     alloc: Global,
     tasks: &mut VecDeque<Task<'a, 'b>>,
     rules: &[Rule],
-    old: &SiblingsLeft<'a>,
-    new: &SiblingsLeft<'b>,
+    old: &Run<'a>,
+    new: &Run<'b>,
 ) -> Result<bool, AllocError>
     ensures { IfOk result (λ ok. LeadsBy rules.now (FirstReads rules.now old.now new.now) ok tasks.new.items tasks.old.items) }
 {
@@ -188,8 +186,8 @@ fn step_along<'a, 'b>(
     alloc: Global,
     tasks: &mut VecDeque<Task<'a, 'b>>,
     rules: &[Rule],
-    old: &SiblingsLeft<'a>,
-    new: &SiblingsLeft<'b>,
+    old: &Run<'a>,
+    new: &Run<'b>,
 ) -> Result<bool, AllocError>
     ensures { IfOk result (λ ok. LeadsBy rules.now (AllRead rules.now old.now new.now) ok tasks.new.items tasks.old.items) }
 {
@@ -202,28 +200,10 @@ fn step_along<'a, 'b>(
         return Ok(false);
     }
     tasks.push_front(Task {
-        all: true,
         old: old.rest(),
         new: new.rest(),
     })?;
     step_into(alloc, tasks, rules, &old, &new)
-}
-
-// Compares what a task says. Adds tasks for what is left.
-#[tactic(auto, using(crate::proofs::ReadLemmas::task_of_all, crate::proofs::ReadLemmas::task_of_first))]
-fn turn<'a, 'b>(
-    alloc: Global,
-    tasks: &mut VecDeque<Task<'a, 'b>>,
-    rules: &[Rule],
-    task: &Task<'a, 'b>,
-) -> Result<bool, AllocError>
-    ensures { IfOk result (λ ok. LeadsBy rules.now (TaskReads rules.now task.now.all task.now.old task.now.new) ok tasks.new.items tasks.old.items) }
-{
-    if task.all {
-        step_along(alloc, tasks, rules, &task.old, &task.new)
-    } else {
-        step_into(alloc, tasks, rules, &task.old, &task.new)
-    }
 }
 
 /// Whether a tree is another one in which each match is replaced by its rule's template, with what stands for placeholders put in, in which
@@ -246,16 +226,15 @@ pub fn reads_as(
 {
     let mut tasks = VecDeque::new(alloc);
     tasks.push_front(Task {
-        all: true,
-        old: old.trees(),
-        new: new.trees(),
+        old: Run::of(old.trees()),
+        new: Run::of(new.trees()),
     })?;
     // Each turn takes a task, and there are at most three for each node and token of the tree.
     for _turn in 0..u64::MAX {
         let Some(task) = tasks.pop_front() else {
             return Ok(true);
         };
-        if !turn(alloc, &mut tasks, rules, &task)? {
+        if !step_along(alloc, &mut tasks, rules, &task.old, &task.new)? {
             return Ok(false);
         }
     }

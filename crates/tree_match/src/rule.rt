@@ -18,6 +18,8 @@ pub enum Piece {
     Text(String),
     /// The placeholder with this number.
     Hole(usize),
+    /// The comma before or behind a placeholder for a list, which goes where the one with this number has no elements.
+    Comma(String, usize),
 }
 
 /// What a rule is for one kind of syntax, as for expressions: its pattern and its template.
@@ -45,6 +47,9 @@ pub enum RuleRefusal {
     /// The placeholder with this number stands where nothing of a sort can.
     #[error("a placeholder stands where nothing is that it can stand for")]
     Misplaced(usize),
+    /// The placeholder with this number for a list comes twice, or beside another one in one list.
+    #[error("a placeholder for a list comes twice, or two stand in one list")]
+    Twice(usize),
     /// Out of memory.
     #[error("out of memory")]
     Memory,
@@ -74,7 +79,7 @@ impl Form {
     fn of(
         alloc: Global,
         prefix: &str,
-        count: usize,
+        holes: &[Hole],
         pattern: &SyntaxNode,
         template: Option<&SyntaxNode>,
     ) -> Result<Form, RuleRefusal>
@@ -83,7 +88,7 @@ impl Form {
         if is_hole(pattern, prefix) {
             return Err(RuleRefusal::Everything);
         }
-        let compiled = compile(alloc, prefix, count, pattern, template)?;
+        let compiled = compile(alloc, prefix, holes, pattern, template)?;
         check_places(&compiled.inside, prefix)?;
         check_places(&compiled.template, prefix)?;
         Ok(Form {
@@ -109,10 +114,10 @@ impl Form {
         ensures { result ≡ sort_in number self.now.template.items }
     {
         for part in &self.template {
-            if let Part::Hole(other, sort) = part {
-                if *other == number {
-                    return Some(*sort);
-                }
+            match part {
+                Part::Hole(other, sort) if *other == number => return Some(*sort),
+                Part::List(other, ..) if *other == number => return Some(Sort::List),
+                _ => {}
             }
         }
         None
@@ -154,7 +159,7 @@ impl Rule {
         ensures holes { self.new.holes.items ≡ self.old.holes.items }
         ensures pieces { self.new.pieces.items ≡ self.old.pieces.items }
     {
-        let form = Form::of(alloc, prefix, self.holes.len(), pattern, template)?;
+        let form = Form::of(alloc, prefix, &self.holes, pattern, template)?;
         self.forms.push(form).map_err(AllocError::from)?;
         Ok(())
     }

@@ -8,7 +8,7 @@ ghost use Rattle.tree_match.specs.Same.{steps_left, IsDecided, is_same_token, is
 
 use crate::bare::{Comments, bare};
 use crate::walk::{Seen, Walk};
-use lossless_tree::SiblingsLeft;
+use crate::run::Run;
 use std::alloc::{AllocError, Global};
 
 // Whether two steps are the same.
@@ -53,8 +53,8 @@ fn compare_next(first: &mut Walk<'_>, second: &mut Walk<'_>) -> Result<Option<bo
 // Whether all of some siblings and all of others are the same.
 fn same_siblings(
     alloc: Global,
-    a: &SiblingsLeft<'_>,
-    b: &SiblingsLeft<'_>,
+    a: &Run<'_>,
+    b: &Run<'_>,
 ) -> Result<bool, AllocError>
     ensures { IfOk result (λ same. same ≡ pointwise is_same_step (steps_left Passed (a.now ∷ [])) (steps_left Passed (b.now ∷ []))) }
 {
@@ -68,7 +68,7 @@ fn same_siblings(
 }
 
 // Whether the first of some siblings and the first of others are the same token.
-fn is_same_token(a: &SiblingsLeft<'_>, b: &SiblingsLeft<'_>) -> bool
+fn is_same_token(a: &Run<'_>, b: &Run<'_>) -> bool
     ensures { result ≡ is_same_token a.now b.now }
 {
     a.is_token() && b.is_token() && a.kind().to_raw() == b.kind().to_raw() && a.text() == b.text()
@@ -77,8 +77,8 @@ fn is_same_token(a: &SiblingsLeft<'_>, b: &SiblingsLeft<'_>) -> bool
 // Whether they are nodes that are the same tree.
 fn is_same_node(
     alloc: Global,
-    a: &SiblingsLeft<'_>,
-    b: &SiblingsLeft<'_>,
+    a: &Run<'_>,
+    b: &Run<'_>,
 ) -> Result<bool, AllocError>
     ensures { IfOk result (λ same. same ≡ is_same_node a.now b.now) }
 {
@@ -91,8 +91,8 @@ fn is_same_node(
 /// Whether the first of some siblings and the first of others are the same tree.
 pub(crate) fn is_same(
     alloc: Global,
-    a: &SiblingsLeft<'_>,
-    b: &SiblingsLeft<'_>,
+    a: &Run<'_>,
+    b: &Run<'_>,
 ) -> Result<bool, AllocError>
     ensures { IfOk result (λ same. same ≡ is_same a.now b.now) }
 {

@@ -1,10 +1,13 @@
 //! Walks of trees without what does not count.
 ghost use Rattle.std.specs.Prelude.{◌≡◌, ◌∷◌, [], IfOk, option_map};
 ghost use Rattle.tree_match.specs.Walks.{levels_of, advance, is_there, taken, step_of, is_part};
+ghost use Rattle.tree_match.specs.Lists.{taken_list};
 
 use crate::bare::{Comments, bare, behind_one, is_node_there, past};
-use crate::part::{Part, Sort};
-use lossless_tree::{SiblingsLeft, SyntaxKind};
+use crate::list::list_at;
+use crate::part::{Comma, Part, Sort};
+use crate::run::Run;
+use lossless_tree::SyntaxKind;
 use std::alloc::{AllocError, Global};
 use std::collections::VecDeque;
 
@@ -25,7 +28,7 @@ pub(crate) enum Seen<'t> {
 #[derive(Drop)]
 pub(crate) struct Walk<'t> {
     comments: Comments,
-    levels: VecDeque<SiblingsLeft<'t>>,
+    levels: VecDeque<Run<'t>>,
 }
 
 impl<'t> Walk<'t> {
@@ -33,7 +36,7 @@ impl<'t> Walk<'t> {
     pub(crate) fn new(
         alloc: Global,
         comments: Comments,
-        start: &SiblingsLeft<'t>,
+        start: &Run<'t>,
     ) -> Result<Walk<'t>, AllocError>
         ensures { IfOk result (λ w. (w.comments ≡ comments) × (levels_of w ≡ start.now ∷ [])) }
     {
@@ -75,8 +78,17 @@ impl<'t> Walk<'t> {
         Some((inner.kind(), inner.text()))
     }
 
-    /// Passes over the next node, or token for a word, if it is of the sort; returns the siblings from it on.
-    pub(crate) fn take(&mut self, sort: Sort) -> Result<Option<SiblingsLeft<'t>>, AllocError>
+    /// Passes over the next node or token, if one is next.
+    pub(crate) fn pass(&mut self) -> Result<(), AllocError> {
+        if let Some(level) = self.levels.pop_front() {
+            let here = past(self.comments, &level);
+            self.levels.push_front(behind_one(self.comments, &here))?;
+        }
+        Ok(())
+    }
+
+    /// Passes over the next node, or token for a word, if it is of the sort; returns it.
+    pub(crate) fn take(&mut self, sort: Sort) -> Result<Option<Run<'t>>, AllocError>
         ensures taken { IfOk result (λ o. option_map (λ v. (v, levels_of self.new)) o ≡ taken self.old.comments sort (levels_of self.old)) }
         ensures same { self.new.comments ≡ self.old.comments }
     {
@@ -88,17 +100,38 @@ impl<'t> Walk<'t> {
             return Ok(None);
         }
         self.levels.push_front(behind_one(self.comments, &here))?;
-        Ok(Some(here))
+        Ok(Some(here.first(1)))
+    }
+
+    /// Passes over the elements of a list on the innermost level, but for so many at its end; returns them.
+    pub(crate) fn take_list(
+        &mut self,
+        comma: Comma,
+        behind: usize,
+    ) -> Result<Option<Run<'t>>, AllocError>
+        ensures taken { IfOk result (λ o. option_map (λ v. (v, levels_of self.new)) o
+            ≡ taken_list self.old.comments comma behind (levels_of self.old)) }
+        ensures same { self.new.comments ≡ self.old.comments }
+    {
+        let Some(level) = self.levels.pop_front() else {
+            return Ok(None);
+        };
+        let here = past(self.comments, &level);
+        let Some((list, rest)) = list_at(self.comments, comma, behind, &here)? else {
+            return Ok(None);
+        };
+        self.levels.push_front(rest)?;
+        Ok(Some(list))
     }
 }
 
 // Whether the first of some siblings is a token, if a word is asked for, and else a node.
-fn is_there(sort: Sort, left: &SiblingsLeft<'_>) -> bool
+fn is_there(sort: Sort, left: &Run<'_>) -> bool
     ensures { result ≡ is_there sort left.now.trees }
 {
     match sort {
         Sort::Word => left.is_token(),
-        Sort::Expr | Sort::Ty | Sort::Pat | Sort::Path => is_node_there(left),
+        Sort::Expr | Sort::Ty | Sort::Pat | Sort::Path | Sort::List => is_node_there(left),
     }
 }
 
