@@ -42,7 +42,6 @@ fn arguments(rt: HostRuntime) -> Result<(), Fail> {
             ("[$$_] ==>> v", "[]; [1, 2]; [0; 8];", "v; v; [0; 8];"),
             ("($$a,) ==>> [$$a]", "(1, 2); (1,); (1); ();", "[1, 2]; [1]; (1); [];"),
             ("$x.f($$a) ==>> f($x, $$a)", "a.f().f(1);", "f(f(a), 1);"),
-            ("f($$a) ==>> $$a", "f(1);", "f(1);"),
             ("f::<$$t>() ==>> g::<$$t>()", "f::<u8, A>();", "g::<u8, A>();"),
             ("|$$p| $e ==>> f(|$$p| $e)", "x(|a, b| 1);", "x(f(|a, b| 1));"),
         ],
@@ -85,6 +84,11 @@ fn statements_and_arms(rt: HostRuntime) -> Result<(), Fail> {
                 "match a { 1 => 2, _ => g(3) }",
             ),
             (
+                "match $x { $$arms, _ => f($$a) } ==>> match $x { $$arms, _ => g($$a) }",
+                "match a { 1 => 2, _ => f(3, 4) }",
+                "match a { 1 => 2, _ => g(3, 4) }",
+            ),
+            (
                 "S { $$f, ..$b } ==>> T { $$f, ..$b }",
                 "S { a: 1, b, ..c }; S { ..c };",
                 "T { a: 1, b, ..c }; T { ..c };",
@@ -117,6 +121,11 @@ fn items(rt: HostRuntime) -> Result<(), Fail> {
             "struct $n { $$f } ==>> union $n { $$f }",
             "struct S { a: u8, pub b: u8 }",
             "union S { a: u8, pub b: u8 }",
+        ),
+        (
+            "struct $n { $$f, z: $t } ==>> struct $n { z: $t, $$f }",
+            "struct S { a: u8, z: u8 } struct T { z: u8 }",
+            "struct S { z: u8, a: u8 } struct T { z: u8 }",
         ),
         (
             "enum $n { $$v } ==>> enum $n { $$v, Z }",
@@ -166,6 +175,10 @@ fn refused(rt: HostRuntime) -> Result<(), Fail> {
         (
             "$$a + 1 ==>> 1",
             "0: expected a place of an expression, a type, a pattern, a path or a name for this placeholder",
+        ),
+        (
+            "f($$a) ==>> $$a",
+            "2: expected a place of an expression, a type, a pattern, a path or a name for this placeholder",
         ),
         (
             "$$a ==>> 1",

@@ -9,7 +9,8 @@ use ras_front_end::{Entry, FrontEnd};
 use ras_node::sets::{Exprs, Items, KindSet, Pats, Types};
 use ras_parsing::{Parse, read};
 use rust_report::plain_message;
-use std::alloc::Global;
+use std::alloc::{AllocError, Global};
+use tree_match::ARM;
 
 /// A kind of syntax that the sides of a rule can be.
 #[derive(Clone, Copy, Debug, PartialEq, Eq, Drop)]
@@ -98,11 +99,69 @@ fn node_in(kind: RuleKind, root: &SyntaxNode, start: usize, end: usize) -> Optio
     None
 }
 
-// Whether a place of a side is directly behind the word of a placeholder for a list that is an element by itself: `p_0` of
-// `match x { p_0 }`, where the parser expects `=>`.
-fn is_behind_list(side: &Side, at: usize) -> bool {
-    let rest = side.text.as_str().get(at..).unwrap_or("").trim_start();
-    side.lists.contains(&at) && (rest.is_empty() || rest.starts_with([',', ';', '}', ')', ']', '>', '|']))
+// Whether the sign behind a place of a text ends an element of a list: an error behind a word for a list is passed over there, as that
+// behind `p_0` in `match x { p_0 }`, where the parser expects `=>`.
+fn ends_element(text: &str, at: usize) -> bool {
+    let rest = text.get(at..).unwrap_or("").trim_start();
+    rest.is_empty() || rest.starts_with([',', ';', '}', ')', ']', '>', '|'])
+}
+
+// What was read of a side as one of a kind.
+#[derive(Drop)]
+struct Reading {
+    node: Option<SyntaxNode>,
+    // The first error that counts: its message, and where it is in the text.
+    error: Option<(String, usize)>,
+    // Where the errors are that do not.
+    passed: Vec<usize>,
+}
+
+// Reads a text as one of a kind. Errors at some places of it do not count.
+fn reading_of<F: FrontEnd>(
+    alloc: Global,
+    words: &Words<'_, F>,
+    text: &str,
+    passed: &[usize],
+    kind: RuleKind,
+) -> Result<Reading, RuleError>
+    ensures { IfErr result (λ e. is_other e.fault ≡ true) }
+{
+    let (entry, before, behind) = kind.entry();
+    let file = format!(in alloc; "{before}{text}{behind}")?;
+    let parse: Parse<SyntaxNode> = read(alloc, words.front, entry, file.as_str(), words.edition)?;
+    let start = before.len();
+    let end = start.saturating_add(text.len());
+    let mut reading = Reading {
+        node: node_in(kind, parse.root(), start, end),
+        error: None,
+        passed: Vec::new(alloc),
+    };
+    for error in parse.errors(alloc)? {
+        let at = (error.range().start().raw() as usize).saturating_sub(start);
+        if passed.contains(&at) && ends_element(text, at) {
+            reading.passed.push(at).map_err(AllocError::from)?;
+        } else if reading.error.is_none() {
+            let message = format!(in alloc; "{}", plain_message(error.message()))?;
+            reading.error = Some((message, at.min(text.len())));
+        }
+    }
+    Ok(reading)
+}
+
+// A text in which an arm of a `match` stands in place of the word that ends at each of some places: behind `p_0` in
+// `match x { p_0, _ => 1 }` the parser takes the comma for an expression.
+fn with_arms(alloc: Global, text: &str, ends: &[usize]) -> Result<String, AllocError> {
+    let mut out = String::with_capacity(alloc, text.len())?;
+    let mut done = 0usize;
+    for end in ends {
+        if *end > done {
+            out.push_str(text.get(done..*end).unwrap_or(""))?;
+            out.push_str(ARM)?;
+            done = *end;
+        }
+    }
+    out.push_str(text.get(done..).unwrap_or(""))?;
+    Ok(out)
 }
 
 /// The node of a side as one of a kind; or why it is none.
@@ -114,26 +173,22 @@ pub(crate) fn node_of<F: FrontEnd>(
 ) -> Result<Result<SyntaxNode, Unfit>, RuleError>
     ensures { IfErr result (λ e. is_other e.fault ≡ true) }
 {
-    let (entry, before, behind) = kind.entry();
-    let text = format!(in alloc; "{before}{}{behind}", side.text)?;
-    let parse: Parse<SyntaxNode> = read(alloc, words.front, entry, text.as_str(), words.edition)?;
-    for error in parse.errors(alloc)? {
-        let at = (error.range().start().raw() as usize).saturating_sub(before.len());
-        if is_behind_list(side, at) {
-            continue;
+    let text = side.text.as_str();
+    let mut reading = reading_of(alloc, words, text, &side.lists, kind)?;
+    if reading.error.is_some() && !reading.passed.is_empty() {
+        let arms = with_arms(alloc, text, &reading.passed)?;
+        let other = reading_of(alloc, words, arms.as_str(), &[], kind)?;
+        if other.error.is_none() {
+            reading = other;
         }
-        return Ok(Err(Unfit {
-            message: format!(in alloc; "{}: {}", kind.name(), plain_message(error.message()))?,
-            at: at.min(side.text.len()),
-        }));
     }
-    let start = before.len();
-    let end = start.saturating_add(side.text.len());
-    match node_in(kind, parse.root(), start, end) {
-        Some(node) => Ok(Ok(node)),
-        None => Ok(Err(Unfit {
-            message: format!(in alloc; "{}: it is not the whole text", kind.name())?,
-            at: 0,
-        })),
-    }
+    let (told, at) = match (reading.error, reading.node) {
+        (Some((message, at)), _) => (message, at),
+        (None, Some(node)) => return Ok(Ok(node)),
+        (None, None) => (String::from_str(alloc, "it is not the whole text")?, 0),
+    };
+    Ok(Err(Unfit {
+        message: format!(in alloc; "{}: {told}", kind.name())?,
+        at,
+    }))
 }

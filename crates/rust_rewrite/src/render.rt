@@ -97,7 +97,7 @@ fn lines_of(alloc: Global, source: &Source) -> Result<Vec<usize>, AllocError> {
 struct Writer<'a> {
     source: &'a Source<'a>,
     // Where the line of each match starts, if that counts.
-    lines: &'a [usize],
+    lines: Vec<usize>,
     out: Rendered,
     count: usize,
     gap: bool,
@@ -306,10 +306,9 @@ impl<'a> Writer<'a> {
 
 /// The text.
 pub(crate) fn render(alloc: Global, source: &Source) -> Result<Rendered, Failure> {
-    let lines = lines_of(alloc, source)?;
     let mut writer = Writer {
         source,
-        lines: &lines,
+        lines: lines_of(alloc, source)?,
         out: Rendered {
             text: String::with_capacity(alloc, source.old.len())?,
             pairs: Vec::new(alloc),

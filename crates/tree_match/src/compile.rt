@@ -72,12 +72,16 @@ fn has_list(kind: SyntaxKind) -> bool {
     )
 }
 
-// The word of an element of a list that is a word alone, or with the sign that ends it.
+/// What makes an arm of a `match` of a word: `p_0=>()`.
+pub const ARM: &str = "=>()";
+
+// The word of an element of a list that is a word alone, or an arm of it, also with the sign that ends it.
 fn word_of(element: &str) -> &str {
-    match element.strip_suffix(';') {
+    let word = match element.strip_suffix(';') {
         Some(word) => word,
         None => element.strip_suffix(',').unwrap_or(element),
-    }
+    };
+    word.strip_suffix(ARM).unwrap_or(word)
 }
 
 /// Whether a node is a placeholder.

@@ -15,6 +15,7 @@ mod run;
 mod same;
 mod walk;
 
+pub use compile::ARM;
 pub use condition::{Condition, Hole, Test};
 pub use part::Sort;
 pub use places::{Match, find};
