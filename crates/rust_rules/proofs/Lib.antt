@@ -1,1 +1,4 @@
 mod CountLemmas
+mod EachLemmas
+mod ListLemmas
+mod MoveLemmas

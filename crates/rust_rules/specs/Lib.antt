@@ -1,1 +1,2 @@
+pub mod Macros
 pub mod Reports

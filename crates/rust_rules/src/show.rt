@@ -1,18 +1,17 @@
 //! The matches of rules in a text, and what replaces them.
-ghost use Rattle.std.specs.Prelude.{◌≡◌, [], length, IfOk, IsTrue, ◌↔◌, true, false};
+ghost use Rattle.std.specs.Prelude.{◌≡◌, length, IfOk};
 ghost use Rattle.tree_match.specs.Finds.{found_in};
+ghost use Rattle.rust_rules.specs.Macros.{IsNumberWithin};
 ghost use Rattle.rust_rules.specs.Reports.{IsNumberOfMatches, IsAnswer};
 
 use crate::place::{Place, write_one};
-use crate::within::{Found, Replaced, all_found, found_within};
+use crate::within::{Found, Replaced, all_found, found_within, rewriting};
 use lossless_tree::SyntaxNode;
-use ras_front_end::ParseError;
-use rust_front::Rust;
 use rust_print::failure::Failure;
 use rust_print::forms::Asked;
 use rust_print::source::{Source, parsed, spots};
 use rust_report::Spots;
-use rust_rewrite::{Match, RewriteError, Rewritten, find, rewrite};
+use rust_rewrite::{Match, Rewritten, find};
 use rust_search::RuleSet;
 use std::alloc::{AllocError, Global};
 use std::io;
@@ -85,38 +84,27 @@ pub fn search<'a, W: Write>(
     Ok(matches.len() as u64)
 }
 
-/// Writes the matches of rules in a text and in the arguments of its macro calls, where these read as a list of expressions. Returns their
+/// Writes the matches of rules in a text and in the arguments of its macro calls, up to eight deep, in the order of the text. Returns their
 /// number.
+///
+/// The arguments are searched if they read as a list of expressions, as in `vec![a; 3]` and `println!("{}", a.clone())`. A match that reaches
+/// out of them is none. Takes a parse of each list.
 pub fn search_within<'a, W: Write>(
     alloc: Global,
     out: &mut W,
     source: Source<'a>,
     set: &'a RuleSet,
     asked: Asked,
-) -> Result<u64, Failure> {
+) -> Result<u64, Failure>
+    ensures { IfOk result (IsNumberWithin asked.reading set.now.rules.items source.entry.text.now) }
+{
     let found = found_within(alloc, source.text, &set.rules, asked.reading)?;
     write_matches(alloc, out, source, set, &found, asked)?;
     Ok(found.len() as u64)
 }
 
-// Why a text was not rewritten.
-pub(crate) fn failure_of(error: RewriteError) -> Failure {
-    match error {
-        RewriteError::Memory => Failure::Text(ParseError::Memory),
-        RewriteError::TooLong => Failure::Kept("the new text would be too long"),
-        RewriteError::ReadsOtherwise => Failure::Kept("the new text would not be read as meant"),
-        RewriteError::LosesComment => Failure::Kept("a comment would be lost"),
-    }
-}
-
-// Whether a rule matches in a tree.
-fn has_match(alloc: Global, set: &RuleSet, root: &SyntaxNode) -> Result<bool, AllocError>
-    ensures { IfOk result (λ yes. (yes ≡ false) ↔ (found_in set.now.rules.items root.now ≡ [])) }
-{
-    Ok(!find(alloc, &set.rules, root)?.is_empty())
-}
-
 /// A text with the matches of rules replaced; `None` if there are none.
+#[tactic(auto, using(crate::proofs::MoveLemmas::answered))]
 pub fn rewritten(
     alloc: Global,
     source: Source<'_>,
@@ -126,14 +114,7 @@ pub fn rewritten(
     ensures { IfOk result (IsAnswer asked.reading set.now.rules.items source.entry.text.now) }
 {
     let parse = parsed(alloc, source.text, asked.reading)?;
-    // In most files nothing matches, and their texts are not parsed again.
-    if !has_match(alloc, set, parse.root())? {
-        return Ok(None);
-    }
-    match rewrite(alloc, &Rust, asked.reading.edition, &set.rules, &parse) {
-        Ok(done) => Ok(Some(done)),
-        Err(error) => Err(failure_of(error)),
-    }
+    Ok(rewriting(alloc, &set.rules, asked.reading, &parse)?)
 }
 
 fn write_changes<'a, W: Write>(
