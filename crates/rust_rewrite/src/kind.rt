@@ -99,8 +99,8 @@ fn node_in(kind: RuleKind, root: &SyntaxNode, start: usize, end: usize) -> Optio
     None
 }
 
-// Whether the sign behind a place of a text ends an element of a list: an error behind a word for a list is passed over there, as that
-// behind `p_0` in `match x { p_0 }`, where the parser expects `=>`.
+// Whether the sign behind a place of a text ends an element of a list: an error behind a word for a
+// list is passed over there, as that behind `p_0` in `match x { p_0 }`, where the parser expects `=>`.
 fn ends_element(text: &str, at: usize) -> bool {
     let rest = text.get(at..).unwrap_or("").trim_start();
     rest.is_empty() || rest.starts_with([',', ';', '}', ')', ']', '>', '|'])
@@ -148,8 +148,8 @@ fn reading_of<F: FrontEnd>(
     Ok(reading)
 }
 
-// A text in which an arm of a `match` stands in place of the word that ends at each of some places: behind `p_0` in
-// `match x { p_0, _ => 1 }` the parser takes the comma for an expression.
+// A text in which an arm of a `match` stands in place of the word that ends at each of some places:
+// behind `p_0` in `match x { p_0, _ => 1 }` the parser takes the comma for an expression.
 fn with_arms(alloc: Global, text: &str, ends: &[usize]) -> Result<String, AllocError> {
     let mut out = String::with_capacity(alloc, text.len())?;
     let mut done = 0usize;

@@ -67,9 +67,9 @@ fn indent_of(text: &str, line: usize, offset: usize) -> &str {
 
 // Whether a template has several lines.
 fn is_long(rule: &Rule) -> bool {
-    rule.pieces()
-        .iter()
-        .any(|piece| matches!(piece, Piece::Text(text) if text.as_str().contains('\n')))
+    rule.pieces().iter().any(
+        |piece| matches!(piece, Piece::Text(text) if text.as_str().contains('\n')),
+    )
 }
 
 // Where the line of each match starts, if a template has several lines.

@@ -202,8 +202,8 @@ fn list_of(piece: Option<&Piece>, names: &Names) -> Option<usize> {
     }
 }
 
-// A text in three: the comma at its front, what follows, and the comma at its end, each with the blanks round it. A `;` at the front goes,
-// since statements have their own.
+// A text in three: the comma at its front, what follows, and the comma at its end, each with the blanks
+// round it. A `;` at the front goes, since statements have their own.
 fn cut<'a>(text: &'a str, is_behind: bool, is_before: bool) -> (&'a str, &'a str, &'a str) {
     let mut front = "";
     let mut rest = text;
@@ -241,11 +241,7 @@ fn push_comma(
 }
 
 // Some pieces, in which the comma before a list, or else behind it, is a piece of its own.
-fn with_commas(
-    alloc: Global,
-    pieces: Vec<Piece>,
-    names: &Names,
-) -> Result<Vec<Piece>, AllocError> {
+fn with_commas(alloc: Global, pieces: Vec<Piece>, names: &Names) -> Result<Vec<Piece>, AllocError> {
     let mut out = Vec::with_capacity(alloc, pieces.len())?;
     let mut has_comma = false;
     for (index, piece) in pieces.iter().enumerate() {
@@ -365,7 +361,13 @@ fn braced_number(
             return Err(fault(RuleFault::TemplateCondition, base.saturating_add(first)));
         }
     }
-    let number = names.number_of(alloc, found.name, false, base.saturating_add(at), may_be_new)?;
+    let number = names.number_of(
+        alloc,
+        found.name,
+        false,
+        base.saturating_add(at),
+        may_be_new,
+    )?;
     names.add(number, found.conditions)?;
     Ok((number, found.end))
 }

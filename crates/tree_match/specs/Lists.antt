@@ -22,17 +22,22 @@ has_more (suc n) (cons (node k c) r) = has_more n r
 abbrev pub is_listed : Comments → Tree → Bool
 is_listed cs t = not (is_token t) || (is_passed cs (kind_of t) || is_same_kind (kind_of t) COMMA)
 
--- How many trees there are up to the last node but so many; none where something else is between the elements.
+-- How many trees there are up to the last node but so many; none where something else is between
+-- the elements.
 abbrev pub extent : Comments → ℕ → Forest → Option ℕ
 extent cs behind nil = Some 0
 extent cs behind (cons t r) =
-    if has_more behind (cons t r) then (if is_listed cs t then option_map suc (extent cs behind r) else None) else Some 0
+    if has_more behind (cons t r)
+    then (if is_listed cs t then option_map suc (extent cs behind r) else None)
+    else Some 0
 
 -- the siblings behind a comma, which has to be there
 abbrev pub behind_comma : Comments → Siblings → Option Siblings
-behind_comma cs s = if is_token_of COMMA (past cs s).trees then Some (past cs (behind_first (past cs s))) else None
+behind_comma cs s =
+    if is_token_of COMMA (past cs s).trees then Some (past cs (behind_first (past cs s))) else None
 
--- the siblings from a list on that is not empty, and those behind it: without the comma that goes with it
+-- the siblings from a list on that is not empty, and those behind it: without the comma that goes
+-- with it
 abbrev pub opened : Comments → Comma → Siblings → Option Siblings
 opened cs comma.Before s = behind_comma cs s
 opened cs comma.Behind s = Some s
@@ -45,17 +50,22 @@ closed cs comma.Nowhere s = Some s
 
 -- the first siblings, and those behind them; a comma at the end of a list does not count
 abbrev pub cut : Comments → Comma → Siblings → ℕ → Option (Siblings × Siblings)
-cut cs c s n = option_map (λ rest. (run_of (Some n) s, rest)) (closed cs c (without_comma cs (behind_run n s)))
+cut cs c s n =
+    option_map (λ rest. (run_of (Some n) s, rest)) (closed cs c (without_comma cs (behind_run n s)))
 
 abbrev pub listed : Comments → Comma → ℕ → Siblings → Option (Siblings × Siblings)
 listed cs c behind s = option_and_then (cut cs c s) (extent cs behind s.trees)
 
--- the elements of a list that leave so many nodes, and what is behind them; if there are no more nodes, there is none
+-- the elements of a list that leave so many nodes, and what is behind them; none, if there are no
+-- more nodes
 abbrev pub list_at : Comments → Comma → ℕ → Siblings → Option (Siblings × Siblings)
 list_at cs c behind here =
-    if has_more behind here.trees then option_and_then (listed cs c behind) (opened cs c here) else Some (run_of (Some 0) here, here)
+    if has_more behind here.trees
+    then option_and_then (listed cs c behind) (opened cs c here)
+    else Some (run_of (Some 0) here, here)
 
 -- what a list takes on the innermost level, and the levels behind it
 abbrev pub taken_list : Comments → Comma → ℕ → List Siblings → Option (Siblings × List Siblings)
 taken_list cs c behind [] = None
-taken_list cs c behind (s ∷ below) = option_map (λ p. (p.0, p.1 ∷ below)) (list_at cs c behind (past cs s))
+taken_list cs c behind (s ∷ below) =
+    option_map (λ p. (p.0, p.1 ∷ below)) (list_at cs c behind (past cs s))

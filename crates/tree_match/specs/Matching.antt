@@ -40,7 +40,8 @@ put_held hs n v vs = if admits (slice_get hs n) v then put n v vs else None
 
 -- a value for a placeholder that has none
 abbrev pub put_new : ℕ → Siblings → Values → Option Values
-put_new n v vs = if nat_lt n (length vs) && is_none (get_or vs n None) then Some (set vs n (Some v)) else None
+put_new n v vs =
+    if nat_lt n (length vs) && is_none (get_or vs n None) then Some (set vs n (Some v)) else None
 
 -- the levels and the values behind one part of a pattern, if that is next: a placeholder passes over a node of its sort, where its
 -- conditions hold
@@ -48,8 +49,10 @@ abbrev pub match_hole : Comments → List Hole → ℕ → Sort → List Sibling
 match_hole cs hs n sort st vs = option_and_then (λ t. option_map (λ ws. (t.1, ws)) (put_held hs n t.0 vs)) (taken cs sort st)
 
 -- a placeholder for a list takes its elements
-abbrev pub match_list : Comments → ℕ → Comma → ℕ → List Siblings → Values → Option (List Siblings × Values)
-match_list cs n c behind st vs = option_and_then (λ t. option_map (λ ws. (t.1, ws)) (put_new n t.0 vs)) (taken_list cs c behind st)
+abbrev pub match_list : Comments → ℕ → Comma → ℕ → List Siblings → Values
+    → Option (List Siblings × Values)
+match_list cs n c behind st vs =
+    option_and_then (λ t. option_map (λ ws. (t.1, ws)) (put_new n t.0 vs)) (taken_list cs c behind st)
 
 abbrev pub match_step : Comments → Part → List Siblings → Values → Option (List Siblings × Values)
 match_step cs p st vs = if is_part p (advance cs st).0 then Some ((advance cs st).1, vs) else None

@@ -67,11 +67,7 @@ fn holds(alloc: Global, condition: &Condition, inner: &Run<'_>) -> Result<bool, 
     Ok(if condition.is_not { !yes } else { yes })
 }
 
-fn all_hold(
-    alloc: Global,
-    conditions: &[Condition],
-    inner: &Run<'_>,
-) -> Result<bool, AllocError>
+fn all_hold(alloc: Global, conditions: &[Condition], inner: &Run<'_>) -> Result<bool, AllocError>
     ensures { IfOk result (λ yes. yes ≡ all_hold conditions.now inner.now) }
 {
     for condition in conditions {

@@ -36,7 +36,8 @@ fn is_listed(comments: Comments, left: &Run<'_>) -> bool
     !left.is_token() || is_passed(comments, kind) || kind == SyntaxKind::COMMA
 }
 
-// How many siblings there are up to the last node but so many; `None` if something else is between the elements.
+// How many siblings there are up to the last node but so many; `None` if something else is between
+// the elements.
 fn extent(comments: Comments, behind: usize, left: &Run<'_>) -> Result<Option<usize>, AllocError>
     ensures { IfOk result (λ o. o ≡ extent comments behind left.now.trees) }
 {
@@ -97,7 +98,8 @@ fn closed<'t>(comments: Comments, comma: Comma, left: &Run<'t>) -> Option<Run<'t
     }
 }
 
-/// The elements of a list that leave so many nodes, and the siblings behind it. The list is empty if there are no more nodes.
+/// The elements of a list that leave so many nodes, and the siblings behind it. The list is empty if
+/// there are no more nodes.
 pub(crate) fn list_at<'t>(
     comments: Comments,
     comma: Comma,

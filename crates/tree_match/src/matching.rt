@@ -7,13 +7,14 @@ use crate::bare::Comments;
 use crate::condition::{Hole, admits};
 use crate::part::Part;
 use crate::rule::{Form, Rule};
+use crate::run::Run;
 use crate::same::is_same;
 use crate::walk::{Walk, is_part};
-use crate::run::Run;
 use lossless_tree::SyntaxKind;
 use std::alloc::{AllocError, Global};
 
-/// What stands for each placeholder: a run of siblings, of one or of the elements of a list; `None` if it has none.
+/// What stands for each placeholder: a run of siblings, of one or of the elements of a list; `None` if
+/// it has none.
 pub(crate) type Values<'t> = Vec<Option<Run<'t>>>;
 
 /// A rule that matches, which of its forms, and what stands for its placeholders.

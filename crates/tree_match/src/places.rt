@@ -52,10 +52,7 @@ fn node_range(run: &Run<'_>) -> Option<TextRange>
 }
 
 // The ranges of those values that are nodes: there is nothing to find in a token.
-fn nodes_of(
-    alloc: Global,
-    values: &[Option<Run<'_>>],
-) -> Result<Vec<Option<TextRange>>, AllocError>
+fn nodes_of(alloc: Global, values: &[Option<Run<'_>>]) -> Result<Vec<Option<TextRange>>, AllocError>
     ensures { IfOk result (λ r. r.items ≡ nodes_of values.now) }
 {
     let mut ranges = Vec::with_capacity(alloc, values.len())?;

@@ -35,7 +35,7 @@ fn push_value<'a, 'b>(
         (None, Some(_)) => Ok(false),
         (Some(old), Some(new)) => {
             tasks.push_front(Task {
-                    old: old.all(),
+                old: old.all(),
                 new: new.all(),
             })?;
             Ok(true)

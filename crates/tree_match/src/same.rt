@@ -7,8 +7,8 @@ ghost use Rattle.tree_match.specs.Walks.{step_of, levels_of};
 ghost use Rattle.tree_match.specs.Same.{steps_left, IsDecided, is_same_token, is_same_node, is_same};
 
 use crate::bare::{Comments, bare};
-use crate::walk::{Seen, Walk};
 use crate::run::Run;
+use crate::walk::{Seen, Walk};
 use std::alloc::{AllocError, Global};
 
 // Whether two steps are the same.
@@ -51,11 +51,7 @@ fn compare_next(first: &mut Walk<'_>, second: &mut Walk<'_>) -> Result<Option<bo
 }
 
 // Whether all of some siblings and all of others are the same.
-fn same_siblings(
-    alloc: Global,
-    a: &Run<'_>,
-    b: &Run<'_>,
-) -> Result<bool, AllocError>
+fn same_siblings(alloc: Global, a: &Run<'_>, b: &Run<'_>) -> Result<bool, AllocError>
     ensures { IfOk result (λ same. same ≡ pointwise is_same_step (steps_left Passed (a.now ∷ [])) (steps_left Passed (b.now ∷ []))) }
 {
     let mut first = Walk::new(alloc, Comments::Passed, a)?;
@@ -75,11 +71,7 @@ fn is_same_token(a: &Run<'_>, b: &Run<'_>) -> bool
 }
 
 // Whether they are nodes that are the same tree.
-fn is_same_node(
-    alloc: Global,
-    a: &Run<'_>,
-    b: &Run<'_>,
-) -> Result<bool, AllocError>
+fn is_same_node(alloc: Global, a: &Run<'_>, b: &Run<'_>) -> Result<bool, AllocError>
     ensures { IfOk result (λ same. same ≡ is_same_node a.now b.now) }
 {
     if a.is_token() || b.is_token() || a.kind().to_raw() != b.kind().to_raw() {
@@ -89,11 +81,7 @@ fn is_same_node(
 }
 
 /// Whether the first of some siblings and the first of others are the same tree.
-pub(crate) fn is_same(
-    alloc: Global,
-    a: &Run<'_>,
-    b: &Run<'_>,
-) -> Result<bool, AllocError>
+pub(crate) fn is_same(alloc: Global, a: &Run<'_>, b: &Run<'_>) -> Result<bool, AllocError>
     ensures { IfOk result (λ same. same ≡ is_same a.now b.now) }
 {
     let a = bare(Comments::Passed, a);
