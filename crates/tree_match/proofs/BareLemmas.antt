@@ -1,12 +1,12 @@
 -- What is passed over, and pairs of parentheses round a node.
-use Rattle.std.proofs.Common.{◌≡◌, ℕ, suc, ◌+◌, ◌<◌, ◌≤◌, Bool, true, false, ◌&&◌, length, refl, sym, ◌∙◌, ap, arith}
+use Rattle.std.proofs.Common.{◌≡◌, ℕ, suc, ◌+◌, ◌<◌, ◌≤◌, Bool, true, false, ◌&&◌, length, refl, ◌∙◌, ap, arith}
 use Rattle.std.specs.Prelude.{if◌then◌else◌}
 use Rattle.syntax_kind.specs.declared.syntax_kind.SyntaxKind.{SyntaxKind}
-use Rattle.syntax_kind.specs.declared.syntax_kind.TheConstants.SyntaxKind.{PAREN_EXPR, L_PAREN, R_PAREN}
-use Rattle.tree_model.specs.Tree.{Tree, node, token, Forest, nil, cons, kind_of, text, is_token, forest_of_children, forest_size}
-use Rattle.lossless_tree.specs.Trees.{Siblings, is_done, first_of, rest_of, behind_first, inside_first}
+use Rattle.syntax_kind.specs.declared.syntax_kind.TheConstants.SyntaxKind.{PAREN_EXPR, L_PAREN}
+use Rattle.tree_model.specs.Tree.{node, token, Forest, nil, cons, kind_of, text, is_token, forest_of_children, forest_size}
+use Rattle.lossless_tree.specs.Trees.{Siblings, first_of, rest_of, behind_first}
 use Rattle.tree_match.specs.declared.bare.Comments.{Comments}
-use Rattle.tree_match.specs.Bare.{is_passed, past_trees, past_start, past, is_token_of, is_node_there, is_node_of, opening, held, closing, opens, closes, is_pair, inner, bare}
+use Rattle.tree_match.specs.Bare.{is_passed, past_trees, past_start, past, is_token_of, is_node_there, is_node_of, opening, held, opens, closes, is_pair, inner, bare}
 
 pub and_left : (a b : Bool) → (a && b) ≡ true → a ≡ true
 and_left true b h = refl

@@ -5,3 +5,4 @@ pub mod ConditionLemmas
 pub mod StepLemmas
 pub mod ReadLemmas
 pub mod PlaceLemmas
+pub mod RootLemmas

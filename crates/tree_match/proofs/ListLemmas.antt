@@ -1,5 +1,5 @@
 -- How many siblings a list takes.
-use Rattle.std.proofs.Common.{◌≡◌, ℕ, suc, ◌+◌, Bool, true, false, refl, sym, ap, ◌∙◌, arith}
+use Rattle.std.proofs.Common.{◌≡◌, ℕ, suc, ◌+◌, false, refl, sym, ap, ◌∙◌, arith}
 use Rattle.std.specs.Prelude.{if◌then◌else◌, Option, Some, None, option_map}
 use Rattle.tree_model.specs.Tree.{Forest, nil, cons}
 use Rattle.tree_match.specs.declared.bare.Comments.{Comments}

@@ -1,6 +1,6 @@
 -- Runs of siblings, and the siblings that they are made of.
 use Rattle.std.proofs.Common.{◌≡◌, ℕ, zero, suc, ◌+◌, ◌-◌, ◌<◌, ◌≤◌, List, [], ◌∷◌, ◌++◌, length, refl, sym, ◌∙◌, ap, arith}
-use Rattle.std.specs.Prelude.{Option, Some, None}
+use Rattle.std.specs.Prelude.{Option, Some}
 use Rattle.tree_model.specs.Tree.{node, token, Forest, nil, cons, text, forest_text}
 use Rattle.lossless_tree.specs.Trees.{Siblings, first_of, rest_of, behind_first}
 use Rattle.tree_match.specs.Runs.{first_trees, run_of}

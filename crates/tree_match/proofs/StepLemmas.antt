@@ -1,15 +1,14 @@
 -- The steps of a walk are those of the trees that are left.
 use Rattle.std.proofs.Common.{◌≡◌, ℕ, suc, ◌+◌, ◌<◌, Bool, true, false, ◌&&◌, ◌||◌, List, [], ◌∷◌, ◌++◌, length, refl, sym, subst, ◌∙◌, ap, inl, inr, arith}
-use Rattle.std.specs.Prelude.{if◌then◌else◌, ◌⊎◌, Option, Some, None}
+use Rattle.std.specs.Prelude.{if◌then◌else◌, ◌⊎◌, Some, None}
 use Rattle.std.specs.Cmp.Lexicographic.{pointwise}
 use Rattle.syntax_kind.specs.declared.syntax_kind.SyntaxKind.{SyntaxKind}
-use Rattle.syntax_kind.specs.declared.syntax_kind.TheConstants.SyntaxKind.{PAREN_EXPR, L_PAREN, R_PAREN, COMMA}
-use Rattle.syntax_kind.specs.Kinds.{is_same_kind}
-use Rattle.tree_model.specs.Tree.{Tree, node, token, Forest, nil, cons, kind_of, text, is_token, forest_of_children}
-use Rattle.lossless_tree.specs.Trees.{Siblings, is_done, first_of, rest_of, behind_first, inside_first}
+use Rattle.syntax_kind.specs.declared.syntax_kind.TheConstants.SyntaxKind.{PAREN_EXPR, L_PAREN}
+use Rattle.tree_model.specs.Tree.{node, token, Forest, nil, cons, kind_of, forest_of_children}
+use Rattle.lossless_tree.specs.Trees.{Siblings, first_of, rest_of, behind_first}
 use Rattle.tree_match.specs.declared.bare.Comments.{Comments}
 use Rattle.tree_match.specs.declared.bare.Comments.TheVariants.{Passed}
-use Rattle.tree_match.specs.Bare.{Step, enter, leave, leaf, end, is_passed, is_passed_tree, past_trees, past_start, past, is_token_of, is_node_there, is_node_of, opening, held, closing, opens, closes, is_pair, inner, bare, ends_list, is_last_comma, without_comma, is_element, behind_one, is_same_step, is_end}
+use Rattle.tree_match.specs.Bare.{Step, enter, leave, leaf, end, is_passed, is_passed_tree, past_trees, past_start, is_token_of, is_node_there, is_node_of, opening, held, opens, closes, is_pair, inner, is_last_comma, without_comma, is_element, behind_one, is_same_step, is_end}
 use Rattle.tree_match.specs.Walks.{step_at, advance}
 use Rattle.tree_match.specs.Same.{steps, steps_left, IsDecided}
 use Rattle.tree_match.proofs.BareLemmas.{at, and_left, and_right}

@@ -1,5 +1,5 @@
 -- Conditions on what stands for a placeholder.
-use Rattle.std.specs.Prelude.{ℕ, Bool, true, false, not, ◌&&◌, if◌then◌else◌, List, [], ◌∷◌, Option, Some, None, length, nat_le, is_some}
+use Rattle.std.specs.Prelude.{ℕ, Bool, true, not, ◌&&◌, if◌then◌else◌, List, [], ◌∷◌, Option, Some, None, length, nat_le, is_some}
 use Rattle.regex.specs.Patterns.{Re, find_str}
 use Rattle.regex.specs.Strings.{regex_pattern}
 use Rattle.syntax_kind.specs.Kinds.{is_same_kind}

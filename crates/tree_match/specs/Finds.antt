@@ -1,5 +1,5 @@
 -- The places of a tree where rules match: the outermost, and those inside what stands for placeholders.
-use Rattle.std.specs.Prelude.{ℕ, Bool, true, false, ◌&&◌, if◌then◌else◌, List, [], ◌∷◌, ◌++◌, Option, Some, None, option_map, map, nat_le}
+use Rattle.std.specs.Prelude.{ℕ, Bool, false, ◌&&◌, if◌then◌else◌, List, [], ◌∷◌, Option, Some, None, option_map, map, nat_le}
 use Rattle.std.specs.Option.{option_and_then}
 use Rattle.tree_model.specs.Tree.{forest_of_children, is_token}
 use Rattle.tree_model.specs.Cursor.{Cursor, focus, range_of, range_start, at_node, descendants_of}

@@ -5,5 +5,6 @@ pub mod Lists
 pub mod Walks
 pub mod Same
 pub mod Matching
+pub mod Roots
 pub mod Finds
 pub mod Reads

@@ -10,6 +10,7 @@ mod matching;
 mod part;
 mod places;
 mod reads;
+mod roots;
 mod rule;
 mod run;
 mod same;

@@ -1,11 +1,13 @@
 //! The places of a tree where rules match.
 ghost use Rattle.std.specs.Prelude.{◌≡◌, ◌∷◌, [], IfOk, OnOk, map, option_map};
+ghost use Rattle.tree_match.specs.Roots.{AreRoots};
 ghost use Rattle.tree_match.specs.Finds.{occurrence_of, ranges_of, node_range, nodes_of, match_at, drop_behind, is_free, with_some, behind, take_out, found_at, free_behind, found_in};
 
 use crate::matching::first_rule;
+use crate::roots::{has_kind, roots_of};
 use crate::rule::Rule;
 use crate::run::Run;
-use lossless_tree::{SyntaxNode, TextRange, TextSize};
+use lossless_tree::{SyntaxKind, SyntaxNode, TextRange, TextSize};
 use std::alloc::{AllocError, Global};
 use std::collections::VecDeque;
 
@@ -65,10 +67,20 @@ fn nodes_of(alloc: Global, values: &[Option<Run<'_>>]) -> Result<Vec<Option<Text
     Ok(ranges)
 }
 
-// The match of the first rule that matches a node.
-fn match_at(alloc: Global, rules: &[Rule], node: &SyntaxNode) -> Result<Option<Match>, AllocError>
+// The match of the first rule that matches a node. The kinds are those for which rules have forms.
+#[tactic(auto, using(crate::proofs::RootLemmas::none_match))]
+fn match_at(
+    alloc: Global,
+    rules: &[Rule],
+    roots: &[SyntaxKind],
+    node: &SyntaxNode,
+) -> Result<Option<Match>, AllocError>
+    requires roots { AreRoots rules.now roots.now }
     ensures { IfOk result (λ o. option_map occurrence_of o ≡ match_at rules.now node.now) }
 {
+    if !has_kind(node.kind(), roots) {
+        return Ok(None);
+    }
     let Some(found) = first_rule(alloc, rules, node.kind(), &Run::of(node.trees()))? else {
         return Ok(None);
     };
@@ -159,9 +171,11 @@ fn take_out(free: &mut VecDeque<TextRange>, found: &Option<Match>) -> Result<(),
 fn found_at(
     alloc: Global,
     rules: &[Rule],
+    roots: &[SyntaxKind],
     free: &mut VecDeque<TextRange>,
     node: &SyntaxNode,
 ) -> Result<Option<Match>, AllocError>
+    requires roots { AreRoots rules.now roots.now }
     ensures found { IfOk result (λ o. option_map occurrence_of o ≡ found_at rules.now free.old.items node.now) }
     ensures behind { OnOk result (free.new.items ≡ free_behind rules.now free.old.items node.now) }
 {
@@ -170,7 +184,7 @@ fn found_at(
     if !is_free(free, range) {
         return Ok(None);
     }
-    let found = match_at(alloc, rules, node)?;
+    let found = match_at(alloc, rules, roots, node)?;
     take_out(free, &found)?;
     Ok(found)
 }
@@ -180,11 +194,12 @@ fn found_at(
 pub fn find(alloc: Global, rules: &[Rule], root: &SyntaxNode) -> Result<Vec<Match>, AllocError>
     ensures { IfOk result (λ found. map occurrence_of found.items ≡ found_in rules.now root.now) }
 {
+    let roots = roots_of(alloc, rules)?;
     let mut free = VecDeque::new(alloc);
     free.push_front(root.text_range())?;
     let mut matches = Vec::new(alloc);
     for node in root.descendants() {
-        if let Some(found) = found_at(alloc, rules, &mut free, &node)? {
+        if let Some(found) = found_at(alloc, rules, &roots, &mut free, &node)? {
             matches.push(found)?;
         }
     }

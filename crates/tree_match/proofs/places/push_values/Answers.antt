@@ -1,4 +1,4 @@
-use Rattle.std.proofs.Common.{◌≡◌, ◌-◌, ◌+◌, suc, ap, ◌∙◌, take, arith, rules}
+use Rattle.std.proofs.Common.{◌≡◌, ◌-◌, suc, ap, ◌∙◌, take, arith}
 use Rattle.tree_match.specs.Finds.{with_some}
 use Rattle.tree_match.proofs.PlaceLemmas.{some_last}
 use Rattle.tree_match.proofs.places.push_values.Goals as goal
