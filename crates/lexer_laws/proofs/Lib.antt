@@ -18,3 +18,5 @@ mod Sighting
 mod Faults
 mod Cleaning
 mod Exchanging
+mod Telling
+mod Messages
