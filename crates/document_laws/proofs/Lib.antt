@@ -1,0 +1,3 @@
+mod Holes
+mod Knowing
+mod Taking

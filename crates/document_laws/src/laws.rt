@@ -1,0 +1,24 @@
+//! Laws of trees in which one piece is replaced. The functions do nothing: the contract is the law.
+ghost use Rattle.document_laws.specs.Blocks.{BlocksAreAtPlaces, PlacesAreKnown};
+ghost use Rattle.document_laws.specs.Steps.{BlocksOfStepsAreAtPlaces};
+
+/// Where some of the events that build a tree build one node by themselves, this node is in the
+/// tree, and starts where the events before have taken their texts. With the events of any other
+/// node in their place, the events build the tree with that node there.
+pub fn blocks_are_at_places()
+    ensures { BlocksAreAtPlaces }
+{}
+
+/// The same of a front end's steps, whose tokens are cut from a text: if the text is in three parts,
+/// and the steps before take the first, the others the second, then the node starts where the first
+/// part ends. With another text in the second part's place, and its steps, the steps build the tree
+/// with the other node in the place of the first.
+pub fn blocks_of_steps_are_at_places()
+    ensures { BlocksOfStepsAreAtPlaces }
+{}
+
+/// Two nodes of a tree that start at the same byte, and each of which begins with a token that has a
+/// text, are one node.
+pub fn places_are_known()
+    ensures { PlacesAreKnown }
+{}
