@@ -1,3 +1,4 @@
 mod Holes
 mod Knowing
 mod Taking
+mod Calling

@@ -1,6 +1,7 @@
 //! Laws of trees in which one piece is replaced. The functions do nothing: the contract is the law.
 ghost use Rattle.document_laws.specs.Blocks.{BlocksAreAtPlaces, PlacesAreKnown};
 ghost use Rattle.document_laws.specs.Steps.{BlocksOfStepsAreAtPlaces};
+ghost use Rattle.document_laws.specs.Calls.{SealedNodesAreCalls};
 
 /// Where some of the events that build a tree build one node by themselves, this node is in the
 /// tree, and starts where the events before have taken their texts. With the events of any other
@@ -21,4 +22,10 @@ pub fn blocks_of_steps_are_at_places()
 /// text, are one node.
 pub fn places_are_known()
     ensures { PlacesAreKnown }
+{}
+
+/// If no other operation of the tables makes nodes of the kinds that they list for sealed calls,
+/// then each node of such a kind that a run made is that of a sealed call, to which the run came.
+pub fn sealed_nodes_are_calls()
+    ensures { SealedNodesAreCalls }
 {}
