@@ -2,3 +2,4 @@ mod Holes
 mod Knowing
 mod Taking
 mod Calling
+mod Tabling

@@ -2,6 +2,7 @@
 ghost use Rattle.document_laws.specs.Blocks.{BlocksAreAtPlaces, PlacesAreKnown};
 ghost use Rattle.document_laws.specs.Steps.{BlocksOfStepsAreAtPlaces};
 ghost use Rattle.document_laws.specs.Calls.{SealedNodesAreCalls};
+ghost use Rattle.document_laws.specs.Tables.{RustSealsByCalls, RustLooksAreShort, ExactRulesAreSealed};
 
 /// Where some of the events that build a tree build one node by themselves, this node is in the
 /// tree, and starts where the events before have taken their texts. With the events of any other
@@ -28,4 +29,14 @@ pub fn places_are_known()
 /// then each node of such a kind that a run made is that of a sealed call, to which the run came.
 pub fn sealed_nodes_are_calls()
     ensures { SealedNodesAreCalls }
+{}
+
+/// In Rust's tables only sealed calls make nodes of the kinds that are listed for them, and no look
+/// ahead is over more than 255 tokens. The rule of each reparser for exact pieces is one sealed
+/// call, and all sealed calls that make nodes of its kind call the same rule. Comments before such
+/// a node do not go into it.
+pub fn rust_seals_by_calls()
+    ensures seals { RustSealsByCalls }
+    ensures looks { RustLooksAreShort }
+    ensures rules { ExactRulesAreSealed }
 {}
