@@ -3,3 +3,4 @@ mod Knowing
 mod Taking
 mod Calling
 mod Tabling
+mod Storing

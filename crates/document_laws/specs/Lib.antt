@@ -2,3 +2,4 @@ pub mod Blocks
 pub mod Steps
 pub mod Calls
 pub mod Tables
+pub mod Stored

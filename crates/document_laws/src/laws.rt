@@ -2,6 +2,7 @@
 ghost use Rattle.document_laws.specs.Blocks.{BlocksAreAtPlaces, PlacesAreKnown};
 ghost use Rattle.document_laws.specs.Steps.{BlocksOfStepsAreAtPlaces};
 ghost use Rattle.document_laws.specs.Calls.{SealedNodesAreCalls};
+ghost use Rattle.document_laws.specs.Stored.{StoredErrorsAreReplaced};
 ghost use Rattle.document_laws.specs.Tables.{RustSealsByCalls, RustLooksAreShort, ExactRulesAreSealed};
 
 /// Where some of the events that build a tree build one node by themselves, this node is in the
@@ -39,4 +40,11 @@ pub fn rust_seals_by_calls()
     ensures seals { RustSealsByCalls }
     ensures looks { RustLooksAreShort }
     ensures rules { ExactRulesAreSealed }
+{}
+
+/// The lexer's errors that a parse of Rust stores, where a piece from `{` to `}` was replaced: on the
+/// conditions that `Document::edit` tests, those that it puts in order are those of the new text,
+/// with their messages.
+pub fn stored_errors_are_replaced()
+    ensures { StoredErrorsAreReplaced }
 {}
