@@ -4,3 +4,4 @@ mod Taking
 mod Calling
 mod Tabling
 mod Storing
+mod Noding

@@ -3,3 +3,4 @@ pub mod Steps
 pub mod Calls
 pub mod Tables
 pub mod Stored
+pub mod Nodes

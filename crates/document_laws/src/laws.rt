@@ -2,6 +2,7 @@
 ghost use Rattle.document_laws.specs.Blocks.{BlocksAreAtPlaces, PlacesAreKnown};
 ghost use Rattle.document_laws.specs.Steps.{BlocksOfStepsAreAtPlaces};
 ghost use Rattle.document_laws.specs.Calls.{SealedNodesAreCalls};
+ghost use Rattle.document_laws.specs.Nodes.{NodesAreOfEvents};
 ghost use Rattle.document_laws.specs.Stored.{StoredErrorsAreReplaced};
 ghost use Rattle.document_laws.specs.Tables.{RustSealsByCalls, RustLooksAreShort, ExactRulesAreSealed};
 
@@ -47,4 +48,11 @@ pub fn rust_seals_by_calls()
 /// with their messages.
 pub fn stored_errors_are_replaced()
     ensures { StoredErrorsAreReplaced }
+{}
+
+/// Each node of a tree that is laid of events, but for the root, is that of an event, and before it
+/// are, white space and comments aside, the tokens of the events before its first one. So the
+/// events say where in the text it starts.
+pub fn nodes_are_of_events()
+    ensures { NodesAreOfEvents }
 {}
