@@ -5,3 +5,4 @@ mod Calling
 mod Tabling
 mod Storing
 mod Noding
+mod Piecing

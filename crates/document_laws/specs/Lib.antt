@@ -4,3 +4,4 @@ pub mod Calls
 pub mod Tables
 pub mod Stored
 pub mod Nodes
+pub mod Pieces

@@ -3,6 +3,7 @@ ghost use Rattle.document_laws.specs.Blocks.{BlocksAreAtPlaces, PlacesAreKnown};
 ghost use Rattle.document_laws.specs.Steps.{BlocksOfStepsAreAtPlaces};
 ghost use Rattle.document_laws.specs.Calls.{SealedNodesAreCalls};
 ghost use Rattle.document_laws.specs.Nodes.{NodesAreOfEvents};
+ghost use Rattle.document_laws.specs.Pieces.{PiecesOfTreesAreCalls};
 ghost use Rattle.document_laws.specs.Stored.{StoredErrorsAreReplaced};
 ghost use Rattle.document_laws.specs.Tables.{RustSealsByCalls, RustLooksAreShort, ExactRulesAreSealed};
 
@@ -55,4 +56,11 @@ pub fn stored_errors_are_replaced()
 /// events say where in the text it starts.
 pub fn nodes_are_of_events()
     ensures { NodesAreOfEvents }
+{}
+
+/// Each node of the tree of a file of Rust, but for the root, that is of a kind with a reparser for
+/// exact pieces is that of a sealed call of the reparser's rule, to which the run over the whole
+/// file came.
+pub fn pieces_of_trees_are_calls()
+    ensures { PiecesOfTreesAreCalls }
 {}

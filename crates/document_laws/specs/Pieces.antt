@@ -1,0 +1,46 @@
+-- Which nodes of a tree of Rust are pieces: those of sealed calls.
+use Rattle.std.specs.Prelude.{◌≡◌, ℕ, ◌<◌, ◌^◌, Some, IsUtf8, List, ◌∷◌, length, reverse, take}
+use Rattle.syntax_kind.specs.declared.syntax_kind.SyntaxKind.{SyntaxKind}
+use Rattle.syntax_kind.specs.declared.syntax_kind.SyntaxKind.TheVariants.{Node}
+use Rattle.syntax_kind.specs.declared.syntax_kind.node_kind.NodeKind.TheVariants as node
+use Rattle.tree_model.specs.Tree.{Tree, Forest, Place, IsPlace, subtree}
+use Rattle.tree_model.specs.Tree as tree
+use Rattle.tree_model.specs.Events.{BuildsNode}
+use Rattle.ras_front_end.specs.declared.edition.Edition.{Edition}
+use Rattle.ras_front_end.specs.declared.edition.Entry.TheVariants.{SourceFile}
+use Rattle.ras_front_end.specs.declared.edition.Reparser.{Reparser}
+use Rattle.ras_front_end.specs.Reading.{events_from}
+use Rattle.grammar_machine.specs.declared.event.Event.{Event}
+use Rattle.rust_grammar.specs.declared.tables.rules.Rule.TheVariants as rule
+use Rattle.rust_grammar.specs.Rules.{first_op}
+use Rattle.rust_grammar.specs.Seeing.{sights_of}
+use Rattle.rust_grammar.specs.Tables.{rust_tables}
+use Rattle.rust_lexer.specs.Lexing.{tokens_of}
+use Rattle.rust_front.specs.Front.{made_of, parsed_of}
+use Rattle.rust_front.specs.Pieces.{exact_chosen_of}
+use Rattle.rust_front.specs.Roots.{attaching_kinds}
+use Rattle.document_laws.specs.Calls.{IsOfCall}
+use Rattle.document_laws.specs.Nodes.{IsOfEvent}
+use Rattle.document_laws.specs.Tables.{IsExactRule}
+
+-- the events of a file
+abbrev pub events_in : Edition → List ℕ → List Event
+events_in e text = made_of rule.SourceFile e text
+
+-- the node at a place of a file's tree is that of an event, which is the last one of a sealed call; that calls the rule of the reparser
+pub record IsCalledPiece (e : Edition) (text : List ℕ) (t : Tree) (p : Place) (k : SyntaxKind) (r : Reparser) : Type 0 where
+  pub exact : IsExactRule k r
+  pub event : IsOfEvent (Node node.SOURCE_FILE) attaching_kinds text (tokens_of e text) (events_in e text) t p k
+  pub called :
+      IsOfCall rust_tables (sights_of e text (tokens_of e text)) (first_op rule.SourceFile) k event.from
+      (reverse (take event.number (events_in e text)))
+  pub target : called.call.target ≡ exact.target
+
+-- so is each node of a kind with a reparser for exact pieces
+abbrev pub PiecesOfTreesAreCalls : Type 0
+PiecesOfTreesAreCalls =
+    (e : Edition) (text : List ℕ) (t : Tree) (i : ℕ) (p : Place) (k : SyntaxKind) (f : Forest) (r : Reparser)
+    → IsUtf8 text → length text < 2 ^ 32 → length (events_in e text) < 2 ^ 32
+    → BuildsNode (events_from (parsed_of SourceFile e text).steps text) t
+    → IsPlace t (i ∷ p) → subtree t (i ∷ p) ≡ tree.node k f → exact_chosen_of k ≡ Some r
+    → IsCalledPiece e text t (i ∷ p) k r
