@@ -5,4 +5,5 @@ mod Calling
 mod Tabling
 mod Storing
 mod Noding
+mod Starting
 mod Piecing

@@ -1,18 +1,19 @@
 -- The node at a place of a laid tree is that of an event.
-use Rattle.std.proofs.Common.{◌≡◌, ◌⊎◌, inl, inr, ℕ, zero, suc, ◌+◌, ◌<◌, min, Bool, true, false, not, nat_eq, if◌then◌else◌, List, [], ◌∷◌, ◌++◌, length, take, drop, refl, sym, ap, ap₂, subst, ◌∙◌, arith, append_assoc, append-nil}
+use Rattle.std.proofs.Common.{◌≡◌, ◌⊎◌, inl, inr, ℕ, zero, suc, ◌+◌, ◌<◌, ◌^◌, min, Bool, true, false, not, nat_eq, if◌then◌else◌, List, [], ◌∷◌, ◌++◌, length, take, drop, refl, sym, ap, ap₂, subst, ◌∙◌, arith, append_assoc, append-nil}
 use Rattle.std.specs.Prelude.{Option, Some, None, slice_get}
 use Rattle.std.proofs.lemmas.Bool.Decides.{nat_tests}
 use Rattle.std.proofs.lemmas.List.{length-take-le}
 use Rattle.syntax_kind.specs.declared.syntax_kind.SyntaxKind.{SyntaxKind}
 use Rattle.syntax_kind.specs.Kinds.{is_trivia}
-use Rattle.tree_model.specs.Tree.{Tree, node, token, Forest, nil, cons, text, child_at, child_count, bytes_before, Place, subtree, start}
+use Rattle.tree_model.specs.Tree.{Tree, node, token, Forest, nil, cons, text, child_at, child_count, bytes_before, Place, IsPlace, subtree, start}
 use Rattle.tree_model.specs.Edit.{Within}
-use Rattle.tree_model.specs.Events.{Event as TreeEvent, enter, leaf, exit, events_of, text_len}
+use Rattle.tree_model.specs.Events.{Event as TreeEvent, enter, leaf, exit, events_of, text_len, BuildsNode}
 use Rattle.tree_model.proofs.Balance.{events_of-builds}
 use Rattle.tree_model.proofs.EventTexts.{texts-events_of, text_len-texts, forest_text-one}
 use Rattle.tree_model.proofs.PlaceLemmas.{places_are_reached}
 use Rattle.ras_front_end.specs.Reading.{FrontStep, begins, takes, ends, reports, events_from, Cuts}
 use Rattle.token_layout.specs.declared.span.Token.{Token as RawToken}
+use Rattle.token_layout.specs.Laid.{IsCut}
 use Rattle.grammar_machine.specs.declared.event.Event.{Event}
 use Rattle.grammar_machine.specs.declared.event.Event.TheVariants.{Token, Piece, Node, Error}
 use Rattle.grammar_machine.specs.declared.event.Part.{Part}
@@ -21,10 +22,10 @@ use Rattle.event_layout.specs.Made.{without_trivia, only_tokens, Span, node_of, 
 use Rattle.event_layout.proofs.Laying.{laid}
 use Rattle.event_layout.proofs.Making.{made}
 use Rattle.event_layout.proofs.Seeing.{seen_more, told_more, told_begins, told_nothing, seen_begins, seen_end, seen_nothing}
-use Rattle.document_laws.specs.Nodes.{seen_of, made_steps, NodesAreOfEvents}
+use Rattle.document_laws.specs.Nodes.{seen_of, made_steps, IsOfEvent, NodesAreOfEvents}
 use Rattle.document_laws.specs.Steps.{bytes_taken}
 
-abbrev Steps : Type 0
+abbrev pub Steps : Type 0
 Steps = List FrontStep
 
 -- ---- the events of a place
@@ -92,14 +93,16 @@ mutual
       }
 
 -- a place beneath the root: the root is entered before
-record Beneath (t : Tree) (p : Place) (k : SyntaxKind) : Type 0 where
+record Beneath (t : Tree) (p : Place) (k : SyntaxKind) (f : Forest) : Type 0 where
   root : SyntaxKind
   before : List TreeEvent
   behind : List TreeEvent
   is : one t ≡ enter root ∷ (before ++ enter k ∷ behind)
   starts : text_len before ≡ start t p
+  more : List TreeEvent
+  own : behind ≡ events_of f ++ more
 
-beneath : (t : Tree) (i : ℕ) (p : Place) (k : SyntaxKind) (f : Forest) → Within t (i ∷ p) → subtree t (i ∷ p) ≡ node k f → Beneath t (i ∷ p) k
+beneath : (t : Tree) (i : ℕ) (p : Place) (k : SyntaxKind) (f : Forest) → Within t (i ∷ p) → subtree t (i ∷ p) ≡ node k f → Beneath t (i ∷ p) k f
 beneath (token l s) i p k f w e = absurd (omega (arith, w.0))
 beneath (node l c) i p k f w e =
     let a = in_forest c i p w.0 w.1 in
@@ -113,11 +116,13 @@ beneath (node l c) i p k f w e =
           ∙ ap (λ (es : List TreeEvent). enter l ∷ es) (append_assoc a.before (enter k ∷ ((events_of f ++ exit ∷ []) ++ a.behind)) (exit ∷ []))
           ∙ ap (λ (es : List TreeEvent). enter l ∷ (a.before ++ enter k ∷ es)) (append_assoc (events_of f ++ exit ∷ []) a.behind (exit ∷ []));
       starts = a.starts;
+      more = exit ∷ (a.behind ++ exit ∷ []);
+      own = append_assoc (events_of f) (exit ∷ []) (a.behind ++ exit ∷ []);
     }
 
 -- ---- the steps of a place
 
-first_same : (a b : TreeEvent) (es fs : List TreeEvent) → a ∷ es ≡ b ∷ fs → a ≡ b
+pub first_same : (a b : TreeEvent) (es fs : List TreeEvent) → a ∷ es ≡ b ∷ fs → a ≡ b
 first_same a b es fs h = cc
 
 rest_same : (a b : TreeEvent) (es fs : List TreeEvent) → a ∷ es ≡ b ∷ fs → es ≡ fs
@@ -126,14 +131,16 @@ rest_same a b es fs h = cc
 kind_same : (k l : SyntaxKind) → enter k ≡ enter l → k ≡ l
 kind_same k l h = cc
 
-record SplitAt (steps : Steps) (s : List ℕ) (before : List TreeEvent) (k : SyntaxKind) : Type 0 where
+record SplitAt (steps : Steps) (s : List ℕ) (before : List TreeEvent) (k : SyntaxKind) (behind : List TreeEvent) : Type 0 where
   front : Steps
   back : Steps
   is : steps ≡ front ++ begins k ∷ back
   events : events_from front s ≡ before
   taken : bytes_taken front ≡ text_len before
+  left : List ℕ
+  later : events_from back left ≡ behind
 
-split_at : (steps : Steps) (s : List ℕ) (before : List TreeEvent) (k : SyntaxKind) (behind : List TreeEvent) → Cuts steps s → events_from steps s ≡ before ++ enter k ∷ behind → SplitAt steps s before k
+split_at : (steps : Steps) (s : List ℕ) (before : List TreeEvent) (k : SyntaxKind) (behind : List TreeEvent) → Cuts steps s → events_from steps s ≡ before ++ enter k ∷ behind → SplitAt steps s before k behind
 split_at [] s [] k behind c h = (let bad : [] ≡ enter k ∷ behind = h in absurd (cc))
 split_at [] s (b ∷ before) k behind c h = (let bad : [] ≡ b ∷ (before ++ enter k ∷ behind) = h in absurd (cc))
 split_at (begins j ∷ steps) s [] k behind c h = record {
@@ -142,6 +149,8 @@ split_at (begins j ∷ steps) s [] k behind c h = record {
   is = ap (λ (i : SyntaxKind). begins i ∷ steps) (kind_same j k (first_same (enter j) (enter k) (events_from steps s) behind h));
   events = refl;
   taken = refl;
+  left = s;
+  later = rest_same (enter j) (enter k) (events_from steps s) behind h;
 }
 split_at (begins j ∷ steps) s (b ∷ before) k behind c h =
     let w = split_at steps s before k behind c (rest_same (enter j) b (events_from steps s) (before ++ enter k ∷ behind) h) in
@@ -152,6 +161,8 @@ split_at (begins j ∷ steps) s (b ∷ before) k behind c h =
       is = ap (λ (xs : Steps). begins j ∷ xs) w.is;
       events = ap₂ (λ (x : TreeEvent) (xs : List TreeEvent). x ∷ xs) first w.events;
       taken = w.taken ∙ ap (λ (x : TreeEvent). text_len (x ∷ before)) first;
+      left = w.left;
+      later = w.later;
     }
 split_at (takes j n ∷ steps) s [] k behind c h = (let bad : leaf j (take n s) ≡ enter k = first_same (leaf j (take n s)) (enter k) (events_from steps (drop n s)) behind h in absurd (cc))
 split_at (takes j n ∷ steps) s (b ∷ before) k behind c h =
@@ -166,6 +177,8 @@ split_at (takes j n ∷ steps) s (b ∷ before) k behind c h =
           (let long : length (take n s) ≡ n = length-take-le n s c.0 in
           let sum : n + bytes_taken w.front ≡ length (take n s) + text_len before = omega (arith, long, w.taken) in sum)
           ∙ ap (λ (x : TreeEvent). text_len (x ∷ before)) first;
+      left = w.left;
+      later = w.later;
     }
 split_at (ends ∷ steps) s [] k behind c h = (let bad : exit ≡ enter k = first_same exit (enter k) (events_from steps s) behind h in absurd (cc))
 split_at (ends ∷ steps) s (b ∷ before) k behind c h =
@@ -177,15 +190,17 @@ split_at (ends ∷ steps) s (b ∷ before) k behind c h =
       is = ap (λ (xs : Steps). ends ∷ xs) w.is;
       events = ap₂ (λ (x : TreeEvent) (xs : List TreeEvent). x ∷ xs) first w.events;
       taken = w.taken ∙ ap (λ (x : TreeEvent). text_len (x ∷ before)) first;
+      left = w.left;
+      later = w.later;
     }
 split_at (reports m q ∷ steps) s before k behind c h =
     let w = split_at steps s before k behind c h in
-    record { front = reports m q ∷ w.front; back = w.back; is = ap (λ (xs : Steps). reports m q ∷ xs) w.is; events = w.events; taken = w.taken }
+    record { front = reports m q ∷ w.front; back = w.back; is = ap (λ (xs : Steps). reports m q ∷ xs) w.is; events = w.events; taken = w.taken; left = w.left; later = w.later }
 
 -- ---- lists of steps
 
 -- only nodes begin
-abbrev OnlyBegins : Steps → Type 0
+abbrev pub OnlyBegins : Steps → Type 0
 OnlyBegins [] = Unit {0}
 OnlyBegins (begins k ∷ xs) = OnlyBegins xs
 OnlyBegins (takes k n ∷ xs) = ⊥
@@ -208,10 +223,10 @@ HasBegin k (takes j n ∷ xs) = HasBegin k xs
 HasBegin k (ends ∷ xs) = HasBegin k xs
 HasBegin k (reports m p ∷ xs) = HasBegin k xs
 
-seen_cons : (x : FrontStep) (xs : Steps) → without_trivia (x ∷ xs) ≡ without_trivia (x ∷ []) ++ without_trivia xs
+pub seen_cons : (x : FrontStep) (xs : Steps) → without_trivia (x ∷ xs) ≡ without_trivia (x ∷ []) ++ without_trivia xs
 seen_cons x xs = seen_more (x ∷ []) xs
 
-told_cons : (x : FrontStep) (xs : Steps) → only_tokens (x ∷ xs) ≡ only_tokens (x ∷ []) ++ only_tokens xs
+pub told_cons : (x : FrontStep) (xs : Steps) → only_tokens (x ∷ xs) ≡ only_tokens (x ∷ []) ++ only_tokens xs
 told_cons x xs = told_more (x ∷ []) xs
 
 begins_seen : (xs : Steps) → OnlyBegins xs → without_trivia xs ≡ xs
@@ -221,7 +236,7 @@ begins_seen (takes k n ∷ xs) h = absurd h
 begins_seen (ends ∷ xs) h = absurd h
 begins_seen (reports m p ∷ xs) h = absurd h
 
-begins_told : (xs : Steps) → OnlyBegins xs → only_tokens xs ≡ []
+pub begins_told : (xs : Steps) → OnlyBegins xs → only_tokens xs ≡ []
 begins_told [] h = told_nothing
 begins_told (begins k ∷ xs) h = told_cons (begins k) xs ∙ ap₂ (λ (ys zs : Steps). ys ++ zs) (told_begins k) (begins_told xs h)
 begins_told (takes k n ∷ xs) h = absurd h
@@ -254,11 +269,11 @@ takes_seen : (b : Bool) (k : SyntaxKind) (n : ℕ) → NoBegins (if b then takes
 takes_seen true k n = tt
 takes_seen false k n = tt
 
-seen_one : (k : SyntaxKind) (n : ℕ) → without_trivia (takes k n ∷ []) ≡ (if not (is_trivia k) then takes k n ∷ [] else [])
+pub seen_one : (k : SyntaxKind) (n : ℕ) → without_trivia (takes k n ∷ []) ≡ (if not (is_trivia k) then takes k n ∷ [] else [])
 unfolding without_trivia
 seen_one k n = refl
 
-seen_report : (m : List ℕ) (p : ℕ) → without_trivia (reports m p ∷ []) ≡ reports m p ∷ []
+pub seen_report : (m : List ℕ) (p : ℕ) → without_trivia (reports m p ∷ []) ≡ reports m p ∷ []
 unfolding without_trivia
 seen_report m p = refl
 
@@ -273,10 +288,10 @@ none_seen (reports m p ∷ xs) h = subst NoBegins (sym (seen_cons (reports m p) 
 
 -- ---- splits
 
-head_same : (x y : FrontStep) (xs ys : Steps) → x ∷ xs ≡ y ∷ ys → x ≡ y
+pub head_same : (x y : FrontStep) (xs ys : Steps) → x ∷ xs ≡ y ∷ ys → x ≡ y
 head_same x y xs ys h = cc
 
-tail_same : (x y : FrontStep) (xs ys : Steps) → x ∷ xs ≡ y ∷ ys → xs ≡ ys
+pub tail_same : (x y : FrontStep) (xs ys : Steps) → x ∷ xs ≡ y ∷ ys → xs ≡ ys
 tail_same x y xs ys h = cc
 
 step_kind : (j k : SyntaxKind) → begins j ≡ begins k → j ≡ k
@@ -340,7 +355,7 @@ begins_more : (root : ℕ) (es : List Event) (i n : ℕ) → begins_at root es i
 unfolding begins_at
 begins_more root es i n = refl
 
-begins_only : (root : ℕ) (es : List Event) (i n : ℕ) → OnlyBegins (begins_at root es i n)
+pub begins_only : (root : ℕ) (es : List Event) (i n : ℕ) → OnlyBegins (begins_at root es i n)
 begins_only root es i zero = subst OnlyBegins (sym (begins_none root es i)) tt
 begins_only root es i (suc n) =
     subst OnlyBegins (sym (begins_more root es i n))
@@ -427,11 +442,11 @@ rest_none : (ts : List RawToken) → NoBegins (tokens_as_they_are ts)
 rest_none [] = tt
 rest_none (t ∷ ts) = rest_none ts
 
-made_nothing : (root : ℕ) (all : List Event) (n : ℕ) (l : Left) → made_from root all n [] l ≡ tokens_as_they_are l.tokens
+pub made_nothing : (root : ℕ) (all : List Event) (n : ℕ) (l : Left) → made_from root all n [] l ≡ tokens_as_they_are l.tokens
 unfolding made_from
 made_nothing root all n l = refl
 
-made_more : (root : ℕ) (all : List Event) (n : ℕ) (e : Event) (es : List Event) (l : Left)
+pub made_more : (root : ℕ) (all : List Event) (n : ℕ) (e : Event) (es : List Event) (l : Left)
     → made_from root all n (e ∷ es) l ≡ begins_at root all n (length all) ++ ((made_by root n e l).steps ++ made_from root all (n + 1) es (made_by root n e l).left)
 unfolding made_from
 made_more root all n e es l = refl
@@ -510,13 +525,22 @@ made_is root ts s es =
     let m : Steps = made_from (root_of es) es 0 es (record { tokens = ts; text = s }) in
     seen_cons (begins root) (m ++ ends ∷ []) ∙ ap₂ (λ (ys zs : Steps). ys ++ zs) (seen_begins root) (seen_more m (ends ∷ []) ∙ ap (λ (zs : Steps). without_trivia m ++ zs) seen_end)
 
-pub nodes_of_events : NodesAreOfEvents
-nodes_of_events root attaching s ts es t i p k f small cut few built at sub =
+-- the node's event, and what the steps behind its beginning build
+pub record Placed (root : SyntaxKind) (attaching : List SyntaxKind) (s : List ℕ) (ts : List RawToken) (es : List Event) (t : Tree) (p : Place) (k : SyntaxKind) (f : Forest) : Type 0 where
+  pub is_of : IsOfEvent root attaching s ts es t p k
+  pub left : List ℕ
+  pub more : List TreeEvent
+  pub later : events_from is_of.behind left ≡ events_of f ++ more
+
+pub placed : (root : SyntaxKind) (attaching : List SyntaxKind) (s : List ℕ) (ts : List RawToken) (es : List Event) (t : Tree) (i : ℕ) (p : Place) (k : SyntaxKind) (f : Forest)
+    → length s < 2 ^ 32 → IsCut ts s → length es < 2 ^ 32 → BuildsNode (events_from (laid_of root attaching s ts es).steps s) t
+    → IsPlace t (i ∷ p) → subtree t (i ∷ p) ≡ node k f → Placed root attaching s ts es t (i ∷ p) k f
+placed root attaching s ts es t i p k f small cut few built at sub =
     let steps : Steps = (laid_of root attaching s ts es).steps in
     let start_left : Left = record { tokens = ts; text = s } in
-    let w : Beneath t (i ∷ p) k = beneath t i p k f ((places_are_reached t (i ∷ p)).0 at) sub in
+    let w : Beneath t (i ∷ p) k f = beneath t i p k f ((places_are_reached t (i ∷ p)).0 at) sub in
     let events : events_from steps s ≡ (enter w.root ∷ w.before) ++ enter k ∷ w.behind = sym (events_of-builds built.0) ∙ w.is in
-    let x : SplitAt steps s (enter w.root ∷ w.before) k = split_at steps s (enter w.root ∷ w.before) k w.behind (laid root attaching s ts es small cut).cuts events in
+    let x : SplitAt steps s (enter w.root ∷ w.before) k w.behind = split_at steps s (enter w.root ∷ w.before) k w.behind (laid root attaching s ts es small cut).cuts events in
     let y : Starts x.front = starts_with x.front s w.root w.before x.events in
     let seen : y.first ∷ (y.later ++ begins k ∷ without_trivia x.back) ≡ begins root ∷ (without_trivia (made_from (root_of es) es 0 es start_left) ++ ends ∷ []) =
     sym (ap (λ (xs : Steps). xs ++ begins k ∷ without_trivia x.back) y.is)
@@ -527,7 +551,7 @@ nodes_of_events root attaching s ts es t i p k f small cut few built at sub =
     let b : EventsBefore (root_of es) es es 0 start_left y.later k = events_before (root_of es) es es 0 start_left y.later (without_trivia x.back) k rest in
     let e : EventOf (root_of es) es (0 + b.count) k = begun_by (root_of es) es (0 + b.count) (length es) k b.has in
     let count : b.count ≡ min e.from e.number = omega (arith, e.first) in
-    record {
+    let is_of : IsOfEvent root attaching s ts es t (i ∷ p) k = record {
       number = e.number;
       from = e.from;
       event = e.event;
@@ -540,4 +564,8 @@ nodes_of_events root attaching s ts es t i p k f small cut few built at sub =
           ap only_tokens y.is ∙ ap (λ (z : FrontStep). only_tokens (z ∷ y.later)) first ∙ told_cons (begins root) y.later
           ∙ ap (λ (xs : Steps). xs ++ only_tokens y.later) (told_begins root) ∙ b.told
           ∙ ap (λ (n : ℕ). seen_of (made_steps (root_of es) 0 (take n es) start_left)) count;
-    }
+    } in
+    record { is_of = is_of; left = x.left; more = w.more; later = x.later ∙ w.own }
+
+pub nodes_of_events : NodesAreOfEvents
+nodes_of_events root attaching s ts es t i p k f small cut few built at sub = (placed root attaching s ts es t i p k f small cut few built at sub).is_of

@@ -1,15 +1,16 @@
 -- Which event a node of a laid tree is of.
 use Rattle.std.specs.Prelude.{◌≡◌, ℕ, ◌+◌, ◌<◌, ◌^◌, min, false, nat_eq, Some, List, [], ◌∷◌, ◌++◌, length, take, slice_get}
 use Rattle.syntax_kind.specs.declared.syntax_kind.SyntaxKind.{SyntaxKind}
-use Rattle.tree_model.specs.Tree.{Tree, node, Forest, Place, IsPlace, subtree, start}
+use Rattle.syntax_kind.specs.Kinds.{is_trivia}
+use Rattle.tree_model.specs.Tree.{Tree, node, token, Forest, cons, Place, IsPlace, subtree, start}
 use Rattle.tree_model.specs.Events.{BuildsNode}
 use Rattle.ras_front_end.specs.Reading.{FrontStep, begins, events_from}
 use Rattle.token_layout.specs.declared.span.Token.{Token as RawToken}
 use Rattle.token_layout.specs.Laid.{IsCut}
 use Rattle.grammar_machine.specs.declared.event.Event.{Event}
-use Rattle.grammar_machine.specs.declared.event.Event.TheVariants.{Node}
+use Rattle.grammar_machine.specs.declared.event.Event.TheVariants.{Token, Node}
 use Rattle.event_layout.specs.Layout.{laid_of, root_of}
-use Rattle.event_layout.specs.Made.{without_trivia, only_tokens, Left, made_by}
+use Rattle.event_layout.specs.Made.{without_trivia, only_tokens, Left, trivia_of, made_by}
 use Rattle.document_laws.specs.Steps.{bytes_taken}
 
 -- the tokens of steps that are neither white space nor comments
@@ -43,3 +44,32 @@ NodesAreOfEvents =
     → BuildsNode (events_from (laid_of root attaching text ts es).steps text) t
     → IsPlace t (i ∷ p) → subtree t (i ∷ p) ≡ node k f
     → IsOfEvent root attaching text ts es t (i ∷ p) k
+
+-- what they leave
+abbrev pub made_left : ℕ → ℕ → List Event → Left → Left
+made_left root n [] l = l
+made_left root n (e ∷ es) l = made_left root (n + 1) es (made_by root n e l).left
+
+-- no event makes a token of the kinds of white space and comments
+abbrev pub MakesPlainTokens : List Event → Type 0
+MakesPlainTokens es = (i : ℕ) (k : SyntaxKind) (signs : ℕ) → slice_get es i ≡ Some (Token k signs) → is_trivia k ≡ false
+
+-- a node whose first child is a token starts behind the tokens of the events before its first one, and what is white space or comment
+-- behind these
+pub record StartsBehind
+    (root : SyntaxKind) (attaching : List SyntaxKind) (text : List ℕ) (ts : List RawToken) (es : List Event)
+    (t : Tree) (p : Place) (k : SyntaxKind) : Type 0 where
+  pub is_of : IsOfEvent root attaching text ts es t p k
+  pub start_is :
+      start t p
+      ≡ bytes_taken (made_steps (root_of es) 0 (take (min is_of.from is_of.number) es) (record { tokens = ts; text = text }))
+      + bytes_taken (trivia_of (made_left (root_of es) 0 (take (min is_of.from is_of.number) es) (record { tokens = ts; text = text })).tokens)
+
+abbrev pub NodesStartBehindTokens : Type 0
+NodesStartBehindTokens =
+    (root : SyntaxKind) (attaching : List SyntaxKind) (text : List ℕ) (ts : List RawToken) (es : List Event)
+    (t : Tree) (i : ℕ) (p : Place) (k l : SyntaxKind) (w : List ℕ) (f : Forest)
+    → length text < 2 ^ 32 → IsCut ts text → length es < 2 ^ 32 → MakesPlainTokens es
+    → BuildsNode (events_from (laid_of root attaching text ts es).steps text) t
+    → IsPlace t (i ∷ p) → subtree t (i ∷ p) ≡ node k (cons (token l w) f) → is_trivia l ≡ false
+    → StartsBehind root attaching text ts es t (i ∷ p) k

@@ -2,7 +2,7 @@
 ghost use Rattle.document_laws.specs.Blocks.{BlocksAreAtPlaces, PlacesAreKnown};
 ghost use Rattle.document_laws.specs.Steps.{BlocksOfStepsAreAtPlaces};
 ghost use Rattle.document_laws.specs.Calls.{SealedNodesAreCalls};
-ghost use Rattle.document_laws.specs.Nodes.{NodesAreOfEvents};
+ghost use Rattle.document_laws.specs.Nodes.{NodesAreOfEvents, NodesStartBehindTokens};
 ghost use Rattle.document_laws.specs.Pieces.{PiecesOfTreesAreCalls};
 ghost use Rattle.document_laws.specs.Stored.{StoredErrorsAreReplaced};
 ghost use Rattle.document_laws.specs.Tables.{RustSealsByCalls, RustLooksAreShort, ExactRulesAreSealed};
@@ -56,6 +56,13 @@ pub fn stored_errors_are_replaced()
 /// events say where in the text it starts.
 pub fn nodes_are_of_events()
     ensures { NodesAreOfEvents }
+{}
+
+/// A node of such a tree whose first child is a token that is neither white space nor a comment
+/// starts behind the tokens that the events before its first one make, and behind the white space
+/// and the comments that follow these, if no event makes a token of the kinds of those.
+pub fn nodes_start_behind_tokens()
+    ensures { NodesStartBehindTokens }
 {}
 
 /// Each node of the tree of a file of Rust, but for the root, that is of a kind with a reparser for
