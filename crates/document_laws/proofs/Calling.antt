@@ -25,13 +25,13 @@ TypeOf {A} x = A
 abbrev ItemOf : {A : Type 0} → List A → Type 0
 ItemOf {A} xs = A
 
-abbrev Place : Type 0
+abbrev pub Place : Type 0
 Place = TypeOf (begin_of 0).place
 
-abbrev Frame : Type 0
+abbrev pub Frame : Type 0
 Frame = ItemOf nothing_of.frames
 
-abbrev Seal : Type 0
+abbrev pub Seal : Type 0
 Seal = ItemOf nothing_of.seals
 
 -- the machine after n operations

@@ -5,5 +5,7 @@ mod Calling
 mod Tabling
 mod Storing
 mod Noding
+mod Leaving
 mod Starting
 mod Piecing
+mod Plain

@@ -3,7 +3,7 @@ use Rattle.std.proofs.Common.{◌≡◌, ℕ, zero, suc, ◌+◌, min, Bool, tru
 use Rattle.std.specs.Prelude.{Option, Some, None}
 use Rattle.syntax_kind.specs.declared.syntax_kind.SyntaxKind.{SyntaxKind}
 use Rattle.syntax_kind.specs.Kinds.{is_trivia}
-use Rattle.tree_model.specs.Tree.{token, cons}
+use Rattle.tree_model.specs.Tree.{token, cons, start}
 use Rattle.tree_model.specs.Events.{Event as TreeEvent, enter, leaf, exit}
 use Rattle.ras_front_end.specs.Reading.{FrontStep, begins, takes, ends, reports, events_from}
 use Rattle.token_layout.specs.declared.span.Token.{Token as RawToken}
@@ -13,10 +13,13 @@ use Rattle.grammar_machine.specs.declared.event.Part.{Part}
 use Rattle.grammar_machine.specs.declared.event.Part.TheVariants.{Whole, Dot, Fraction}
 use Rattle.event_layout.specs.Layout.{root_of, kind_of_part}
 use Rattle.event_layout.specs.Made.{without_trivia, only_tokens, begins_at, Left, Made, trivia_of, past, joined_on, joined, parted_at, parted_on, parted, made_by, tokens_as_they_are, made_from, made_of}
+use Rattle.event_layout.specs.Amid.{sum_len}
+use Rattle.event_layout.proofs.Filled.{cut_sum}
 use Rattle.event_layout.proofs.Making.{tokens_made}
 use Rattle.event_layout.proofs.Seeing.{seen_more, told_more, told_begins, told_end, told_nothing, seen_begins, seen_end, seen_nothing, past_none}
 use Rattle.document_laws.specs.Nodes.{made_steps, made_left, MakesPlainTokens, IsOfEvent, NodesStartBehindTokens}
 use Rattle.document_laws.specs.Steps.{bytes_taken}
+use Rattle.document_laws.proofs.Leaving.{bytes_both, trivia_sum, all_kept}
 use Rattle.document_laws.proofs.Noding.{Steps, begins_told, begins_only, made_nothing, made_more, seen_cons, told_cons, seen_one, seen_report, first_same, head_same, tail_same, Placed, placed}
 
 -- ---- tokens
@@ -69,13 +72,6 @@ told_bytes (begins k ∷ xs) = ap bytes_taken (told_cons (begins k) xs ∙ ap (�
 told_bytes (takes k n ∷ xs) = ap bytes_taken (told_take k n xs) ∙ ap (λ (j : ℕ). n + j) (told_bytes xs)
 told_bytes (ends ∷ xs) = ap bytes_taken (told_cons ends xs ∙ ap (λ (ys : Steps). ys ++ only_tokens xs) told_end) ∙ told_bytes xs
 told_bytes (reports m p ∷ xs) = ap bytes_taken (told_cons (reports m p) xs ∙ ap (λ (ys : Steps). ys ++ only_tokens xs) (told_report m p)) ∙ told_bytes xs
-
-bytes_both : (xs ys : Steps) → bytes_taken (xs ++ ys) ≡ bytes_taken xs + bytes_taken ys
-bytes_both [] ys = omega arith
-bytes_both (begins k ∷ xs) ys = bytes_both xs ys
-bytes_both (takes k n ∷ xs) ys = omega (arith, bytes_both xs ys)
-bytes_both (ends ∷ xs) ys = bytes_both xs ys
-bytes_both (reports m p ∷ xs) ys = bytes_both xs ys
 
 -- the tokens that are seen, by one more
 seen_take : (k : SyntaxKind) (n : ℕ) (xs : Steps) → without_trivia (takes k n ∷ xs) ≡ (if not (is_trivia k) then takes k n ∷ [] else []) ++ without_trivia xs
@@ -380,7 +376,7 @@ nodes_start root attaching s ts es t i p k l w f small cut few plain built at su
     sym (seen_told v.before) ∙ v.seen ∙ seen_told own ∙ sym (seen_more (only_tokens own) trivia ∙ ap (λ (xs : Steps). without_trivia (only_tokens own) ++ xs) (trivia_unseen left.tokens) ∙ append-nil (without_trivia (only_tokens own))) in
     let front : only_tokens v.before ≡ only_tokens own ++ trivia =
     same_front (only_tokens v.before) (only_tokens own ++ trivia) r.more y.more l y.len (told_only v.before) (only_both (only_tokens own) trivia (told_only own) (trivia_takes left.tokens)) clear r.seen all seen in
-    record {
-      is_of = v;
-      start_is = v.starts ∙ sym (told_bytes v.before) ∙ ap bytes_taken front ∙ bytes_both (only_tokens own) trivia ∙ ap (λ (n : ℕ). n + bytes_taken trivia) (told_bytes own);
-    }
+    let starts : start t (i ∷ p) ≡ bytes_taken own + bytes_taken trivia =
+    v.starts ∙ sym (told_bytes v.before) ∙ ap bytes_taken front ∙ bytes_both (only_tokens own) trivia ∙ ap (λ (n : ℕ). n + bytes_taken trivia) (told_bytes own) in
+    let kept : bytes_taken own + sum_len left.tokens ≡ sum_len ts = all_kept (root_of es) 0 (take m es) start_left in
+    record { is_of = v; start_is = starts; rest = omega (arith, starts, kept, trivia_sum left.tokens left.text, cut_sum ts s cut) }

@@ -5,3 +5,4 @@ pub mod Tables
 pub mod Stored
 pub mod Nodes
 pub mod Pieces
+pub mod Plain

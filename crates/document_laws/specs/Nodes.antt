@@ -9,8 +9,9 @@ use Rattle.token_layout.specs.declared.span.Token.{Token as RawToken}
 use Rattle.token_layout.specs.Laid.{IsCut}
 use Rattle.grammar_machine.specs.declared.event.Event.{Event}
 use Rattle.grammar_machine.specs.declared.event.Event.TheVariants.{Token, Node}
+use Rattle.event_layout.specs.Amid.{sum_len}
 use Rattle.event_layout.specs.Layout.{laid_of, root_of}
-use Rattle.event_layout.specs.Made.{without_trivia, only_tokens, Left, trivia_of, made_by}
+use Rattle.event_layout.specs.Made.{without_trivia, only_tokens, Left, trivia_of, past, made_by}
 use Rattle.document_laws.specs.Steps.{bytes_taken}
 
 -- the tokens of steps that are neither white space nor comments
@@ -64,6 +65,10 @@ pub record StartsBehind
       start t p
       ≡ bytes_taken (made_steps (root_of es) 0 (take (min is_of.from is_of.number) es) (record { tokens = ts; text = text }))
       + bytes_taken (trivia_of (made_left (root_of es) 0 (take (min is_of.from is_of.number) es) (record { tokens = ts; text = text })).tokens)
+  -- what is left of the tokens behind these is the rest of the text
+  pub rest :
+      start t p + sum_len (past (made_left (root_of es) 0 (take (min is_of.from is_of.number) es) (record { tokens = ts; text = text }))).tokens
+      ≡ length text
 
 abbrev pub NodesStartBehindTokens : Type 0
 NodesStartBehindTokens =

@@ -3,7 +3,8 @@ ghost use Rattle.document_laws.specs.Blocks.{BlocksAreAtPlaces, PlacesAreKnown};
 ghost use Rattle.document_laws.specs.Steps.{BlocksOfStepsAreAtPlaces};
 ghost use Rattle.document_laws.specs.Calls.{SealedNodesAreCalls};
 ghost use Rattle.document_laws.specs.Nodes.{NodesAreOfEvents, NodesStartBehindTokens};
-ghost use Rattle.document_laws.specs.Pieces.{PiecesOfTreesAreCalls};
+ghost use Rattle.document_laws.specs.Pieces.{PiecesOfTreesAreCalls, PiecesStartAtTheirTokens};
+ghost use Rattle.document_laws.specs.Plain.{RunsMakePlainTokens, RustHasPlainKinds};
 ghost use Rattle.document_laws.specs.Stored.{StoredErrorsAreReplaced};
 ghost use Rattle.document_laws.specs.Tables.{RustSealsByCalls, RustLooksAreShort, ExactRulesAreSealed};
 
@@ -44,6 +45,12 @@ pub fn rust_seals_by_calls()
     ensures rules { ExactRulesAreSealed }
 {}
 
+/// Such a node whose first child is a token that is neither white space nor a comment starts where
+/// the lexer's tokens begin that the events before its first one leave.
+pub fn pieces_start_at_their_tokens()
+    ensures { PiecesStartAtTheirTokens }
+{}
+
 /// The lexer's errors that a parse of Rust stores, where a piece from `{` to `}` was replaced: on the
 /// conditions that `Document::edit` tests, those that it puts in order are those of the new text,
 /// with their messages.
@@ -63,6 +70,13 @@ pub fn nodes_are_of_events()
 /// and the comments that follow these, if no event makes a token of the kinds of those.
 pub fn nodes_start_behind_tokens()
     ensures { NodesStartBehindTokens }
+{}
+
+/// A run makes no token of the kinds of white space and comments if the tables have none of these
+/// kinds, as those of Rust.
+pub fn runs_make_plain_tokens()
+    ensures runs { RunsMakePlainTokens }
+    ensures rust { RustHasPlainKinds }
 {}
 
 /// Each node of the tree of a file of Rust, but for the root, that is of a kind with a reparser for
