@@ -9,3 +9,4 @@ mod Leaving
 mod Starting
 mod Piecing
 mod Plain
+mod Replacing

@@ -6,3 +6,4 @@ pub mod Stored
 pub mod Nodes
 pub mod Pieces
 pub mod Plain
+pub mod Replacing

@@ -1,6 +1,7 @@
 //! Laws of trees in which one piece is replaced. The functions do nothing: the contract is the law.
 ghost use Rattle.document_laws.specs.Blocks.{BlocksAreAtPlaces, PlacesAreKnown};
 ghost use Rattle.document_laws.specs.Steps.{BlocksOfStepsAreAtPlaces};
+ghost use Rattle.document_laws.specs.Replacing.{ReplacedPiecesAreTrees};
 ghost use Rattle.document_laws.specs.Calls.{SealedNodesAreCalls};
 ghost use Rattle.document_laws.specs.Nodes.{NodesAreOfEvents, NodesStartBehindTokens};
 ghost use Rattle.document_laws.specs.Pieces.{PiecesOfTreesAreCalls, PiecesStartAtTheirTokens};
@@ -27,6 +28,13 @@ pub fn blocks_of_steps_are_at_places()
 /// text, are one node.
 pub fn places_are_known()
     ensures { PlacesAreKnown }
+{}
+
+/// Where a text with a replaced piece is laid as the law of replaced pieces of `event_layout` says,
+/// and what is laid before the piece takes the text before it, the old piece's tree is in the old
+/// text's tree, and with the new piece's tree there that is the new text's tree.
+pub fn replaced_pieces_are_trees()
+    ensures { ReplacedPiecesAreTrees }
 {}
 
 /// If no other operation of the tables makes nodes of the kinds that they list for sealed calls,
