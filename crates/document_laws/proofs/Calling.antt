@@ -49,6 +49,7 @@ record Called (g : Tables) (ts : List Sight) (rule n : ℕ) (fs : List Frame) (x
   left : 0 < (at g ts rule m).place.credit
   token : (at g ts rule m).place.at < length ts
   frames : length (at g ts rule m).made.frames ≡ length fs
+  begins : x.from ≡ start_of (at g ts rule m).made
   within : (j : ℕ) → m < j → j < n → ReturnsInside g (at g ts rule m) (at g ts rule j)
 
 abbrev OpenOn : Tables → List Sight → ℕ → ℕ → Bool → List Frame → List Seal → (List Seal → Type 0) → Type 0
@@ -98,6 +99,7 @@ called_on g ts rule n fs x p c = record {
   left = c.left;
   token = c.token;
   frames = c.frames;
+  begins = c.begins;
   within = λ j h k. before_or_at j n k (λ i. ReturnsInside g (at g ts rule c.m) (at g ts rule i)) (c.within j h) (λ o e r. omega (arith, p o e r, c.frames));
 }
 
@@ -171,10 +173,10 @@ extended g ts rule o (e ∷ es) h = (longer g ts rule o e es h.0, h.1)
 
 -- a sealed call begins
 begun : (g : Tables) (ts : List Sight) (rule n target : ℕ) (k : SyntaxKind) (o : Option Sight) (s : State) → slice_get ts (at g ts rule n).place.at ≡ o
-    → slice_get g.ops (at g ts rule n).place.next ≡ Some (op.Sealed target k) → 0 < (at g ts rule n).place.credit → length (at g ts rule n).made.frames ≡ length s.made.frames
+    → slice_get g.ops (at g ts rule n).place.next ≡ Some (op.Sealed target k) → 0 < (at g ts rule n).place.credit → length (at g ts rule n).made.frames ≡ length s.made.frames → start_of s.made ≡ start_of (at g ts rule n).made
     → Good g ts rule (suc n) s.made → Good g ts rule (suc n) (sealed_on g target k o s).made
-begun g ts rule n target k None s e found some same h = h
-begun g ts rule n target k (Some t) s e found some same h =
+begun g ts rule n target k None s e found some same starts h = h
+begun g ts rule n target k (Some t) s e found some same starts h =
     let x : Seal = record { kind = k; from = start_of s.made; floor = s.made.floor; credit = s.place.credit } in
     let c : Called g ts rule (suc n) s.made.frames x = record {
       m = n;
@@ -184,6 +186,7 @@ begun g ts rule n target k (Some t) s e found some same h =
       left = some;
       token = slice_get_within ts (at g ts rule n).place.at t e;
       frames = same;
+      begins = starts;
       within = λ j a b. absurd (omega (arith, a, b));
     } in
     ((c, h.0), (tt, h.1))
@@ -218,6 +221,7 @@ returns_to g ts rule n fs x o es c found ret some own is =
         spends = subst (λ (t : State). 0 < t.place.credit) (sym last) some;
       };
       events = ap (λ (t : State). (step_of g ts t).made.events) last ∙ ap (λ (t : State). t.made.events) (sym (runs-suc n g ts (begin_of rule))) ∙ is;
+      begins = c.begins;
     }
 
 -- frames and seals, and all else
@@ -294,7 +298,7 @@ obeyed g ts rule n o found some only is h = by_op o found only is
     by_op (op.Call target) e f is = same (op.Call target) e refl
     by_op (op.Enter target) e f is = same (op.Enter target) e refl
     by_op (op.CallWith target l keep add) e f is = same (op.CallWith target l keep add) e refl
-    by_op (op.Sealed target l) e f is = begun g ts rule n target l (slice_get ts s.place.at) s refl e some refl (same (op.Sealed target l) e refl)
+    by_op (op.Sealed target l) e f is = begun g ts rule n target l (slice_get ts s.place.at) s refl e some refl refl (same (op.Sealed target l) e refl)
     by_op (op.Become target l keep add) e f is = same (op.Become target l keep add) e refl
     by_op op.Return e f is = returns g ts rule n op.Return s e refl some refl (ap (λ (t : State). t.made.events) is) h
     by_op op.Leave e f is = returns g ts rule n op.Leave (with_made forget_of s) e refl some (forgot_frames s.made) (ap (λ (t : State). t.made.events) is) (forgets g ts rule n s.made h)
