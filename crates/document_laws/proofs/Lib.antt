@@ -10,3 +10,4 @@ mod Starting
 mod Piecing
 mod Plain
 mod Replacing
+mod Sights

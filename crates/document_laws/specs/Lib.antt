@@ -7,3 +7,4 @@ pub mod Nodes
 pub mod Pieces
 pub mod Plain
 pub mod Replacing
+pub mod Sights

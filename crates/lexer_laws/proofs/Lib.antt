@@ -14,7 +14,7 @@ mod Heading
 pub mod Pieces
 mod BraceKinds
 pub mod Finding
-mod Sighting
+pub mod Sighting
 mod Faults
 mod Cleaning
 mod Exchanging
