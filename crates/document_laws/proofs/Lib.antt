@@ -11,3 +11,4 @@ mod Piecing
 mod Plain
 mod Replacing
 mod Sights
+mod Knowns

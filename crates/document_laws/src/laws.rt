@@ -6,7 +6,7 @@ ghost use Rattle.document_laws.specs.Calls.{SealedNodesAreCalls};
 ghost use Rattle.document_laws.specs.Nodes.{NodesAreOfEvents, NodesStartBehindTokens};
 ghost use Rattle.document_laws.specs.Pieces.{PiecesOfTreesAreCalls, PiecesStartAtTheirTokens};
 ghost use Rattle.document_laws.specs.Plain.{RunsMakePlainTokens, RustHasPlainKinds};
-ghost use Rattle.document_laws.specs.Sights.{SightsAreOfTokens};
+ghost use Rattle.document_laws.specs.Sights.{SightsAreOfTokens, LexersTokensAreKnown};
 ghost use Rattle.document_laws.specs.Stored.{StoredErrorsAreReplaced};
 ghost use Rattle.document_laws.specs.Tables.{RustSealsByCalls, RustLooksAreShort, ExactRulesAreSealed};
 
@@ -97,7 +97,8 @@ pub fn pieces_of_trees_are_calls()
 
 /// What the machine sees of Rust's tokens is what the laws of `event_layout` ask for: one sight for
 /// each token that is neither white space nor a comment, joined only with tokens that follow
-/// directly, if the machine knows the kinds of these tokens.
+/// directly, if the machine knows the kinds of these tokens, as it does for those of the lexer.
 pub fn sights_are_of_tokens()
-    ensures { SightsAreOfTokens }
+    ensures sights { SightsAreOfTokens }
+    ensures known { LexersTokensAreKnown }
 {}
