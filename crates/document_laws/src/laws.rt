@@ -17,16 +17,16 @@ pub fn blocks_are_at_places()
     ensures { BlocksAreAtPlaces }
 {}
 
-/// The same of a front end's steps, whose tokens are cut from a text: if the text is in three parts,
-/// and the steps before take the first, the others the second, then the node starts where the first
-/// part ends. With another text in the second part's place, and its steps, the steps build the tree
-/// with the other node in the place of the first.
+/// The same of a front end's steps, whose tokens are cut from a text: if the text is in three
+/// parts, and the steps before take the first, the others the second, then the node starts where
+/// the first part ends. With another text in the second part's place, and its steps, the steps
+/// build the tree with the other node in the place of the first.
 pub fn blocks_of_steps_are_at_places()
     ensures { BlocksOfStepsAreAtPlaces }
 {}
 
-/// Two nodes of a tree that start at the same byte, and each of which begins with a token that has a
-/// text, are one node.
+/// Two nodes of a tree that start at the same byte, and each of which begins with a token that
+/// has a text, are one node.
 pub fn places_are_known()
     ensures { PlacesAreKnown }
 {}
@@ -60,9 +60,9 @@ pub fn pieces_start_at_their_tokens()
     ensures { PiecesStartAtTheirTokens }
 {}
 
-/// The lexer's errors that a parse of Rust stores, where a piece from `{` to `}` was replaced: on the
-/// conditions that `Document::edit` tests, those that it puts in order are those of the new text,
-/// with their messages.
+/// The lexer's errors that a parse of Rust stores, where a piece from `{` to `}` was replaced: on
+/// the conditions that `Document::edit` tests, those that it puts in order are those of the new
+/// text, with their messages.
 pub fn stored_errors_are_replaced()
     ensures { StoredErrorsAreReplaced }
 {}
