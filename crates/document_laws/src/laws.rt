@@ -54,19 +54,6 @@ pub fn rust_seals_by_calls()
     ensures rules { ExactRulesAreSealed }
 {}
 
-/// Such a node whose first child is a token that is neither white space nor a comment starts where
-/// the lexer's tokens begin that the events before its first one leave.
-pub fn pieces_start_at_their_tokens()
-    ensures { PiecesStartAtTheirTokens }
-{}
-
-/// The lexer's errors that a parse of Rust stores, where a piece from `{` to `}` was replaced: on
-/// the conditions that `Document::edit` tests, those that it puts in order are those of the new
-/// text, with their messages.
-pub fn stored_errors_are_replaced()
-    ensures { StoredErrorsAreReplaced }
-{}
-
 /// Each node of a tree that is laid of events, but for the root, is that of an event, and before it
 /// are, white space and comments aside, the tokens of the events before its first one. So the
 /// events say where in the text it starts.
@@ -95,10 +82,23 @@ pub fn pieces_of_trees_are_calls()
     ensures { PiecesOfTreesAreCalls }
 {}
 
+/// Such a node whose first child is a token that is neither white space nor a comment starts where
+/// the lexer's tokens begin that the events before its first one leave.
+pub fn pieces_start_at_their_tokens()
+    ensures { PiecesStartAtTheirTokens }
+{}
+
 /// What the machine sees of Rust's tokens is what the laws of `event_layout` ask for: one sight for
 /// each token that is neither white space nor a comment, joined only with tokens that follow
 /// directly, if the machine knows the kinds of these tokens, as it does for those of the lexer.
 pub fn sights_are_of_tokens()
     ensures sights { SightsAreOfTokens }
     ensures known { LexersTokensAreKnown }
+{}
+
+/// The lexer's errors that a parse of Rust stores, where a piece from `{` to `}` was replaced: on
+/// the conditions that `Document::edit` tests, those that it puts in order are those of the new
+/// text, with their messages.
+pub fn stored_errors_are_replaced()
+    ensures { StoredErrorsAreReplaced }
 {}
