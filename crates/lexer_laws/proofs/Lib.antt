@@ -6,15 +6,17 @@ mod Ending
 mod Digits
 mod Literals
 mod RawTexts
-mod Words
+pub mod Words
 mod Firsts
 mod Stepping
 mod Bracing
 mod Heading
-mod Pieces
+pub mod Pieces
 mod BraceKinds
-mod Finding
-mod Sighting
+pub mod Finding
+pub mod Sighting
 mod Faults
 mod Cleaning
 mod Exchanging
+mod Telling
+pub mod Messages

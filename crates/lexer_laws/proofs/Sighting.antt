@@ -79,7 +79,7 @@ row_on left sign h (inl k) = empty_at left 43 sign h (is_below sign 43 k)
 row_on left sign h (inr k) = second_holds (nat_lt sign 24) (nat_le 19 (sign - 24)) _ (beyond_signs sign k)
 
 -- nothing is joined with no token, and nothing with a `}`
-no_left : (sign : ℕ) → joined_of 0 sign ≡ 0
+pub no_left : (sign : ℕ) → joined_of 0 sign ≡ 0
 no_left sign = row_on 0 sign none_before (either_true (nat_lt sign 43))
 
 no_right : (sign : ℕ) → joined_of 21 sign ≡ 0

@@ -4,4 +4,5 @@ pub mod Cuts
 pub mod Heads
 pub mod Pieces
 pub mod Errors
+pub mod Quiet
 pub mod Sights

@@ -3,6 +3,7 @@ ghost use Rattle.lexer_laws.specs.Firsts.{FirstTokensEnd};
 ghost use Rattle.lexer_laws.specs.Cuts.{BracesCut, BracesAreTokens};
 ghost use Rattle.lexer_laws.specs.Pieces.{PiecesAreCut, PiecesAreReplaced};
 ghost use Rattle.lexer_laws.specs.Errors.{ErrorsStayNone, ErrorsAreReplaced};
+ghost use Rattle.lexer_laws.specs.Quiet.{QuietErrorsAreReplaced};
 ghost use Rattle.lexer_laws.specs.Heads.{PlainTextsHaveNoHead, HeadsEndBeforeBraces};
 ghost use Rattle.lexer_laws.specs.Sights.{SightsAreCut};
 
@@ -42,6 +43,13 @@ pub fn pieces_are_replaced()
 /// the error of a reserved prefix has.
 pub fn errors_are_replaced()
     ensures { ErrorsAreReplaced }
+{}
+
+/// If, moreover, the new part by itself has no error of the lexer in its first five tokens, and the
+/// old text has none behind the part, then the errors in the new text are those that end before the
+/// part, as they were, and those of the new part by itself, moved. So they are with their messages.
+pub fn quiet_errors_are_replaced()
+    ensures { QuietErrorsAreReplaced }
 {}
 
 /// If neither the text before such an exchange nor the new part by itself has errors of the

@@ -1,0 +1,14 @@
+mod Holes
+mod Knowing
+mod Taking
+mod Calling
+mod Tabling
+mod Storing
+mod Noding
+mod Leaving
+mod Starting
+mod Piecing
+mod Plain
+mod Replacing
+mod Sights
+mod Knowns

@@ -1,0 +1,104 @@
+//! Laws of trees in which one piece is replaced. The functions do nothing: the contract is the law.
+ghost use Rattle.document_laws.specs.Blocks.{BlocksAreAtPlaces, PlacesAreKnown};
+ghost use Rattle.document_laws.specs.Steps.{BlocksOfStepsAreAtPlaces};
+ghost use Rattle.document_laws.specs.Replacing.{ReplacedPiecesAreTrees};
+ghost use Rattle.document_laws.specs.Calls.{SealedNodesAreCalls};
+ghost use Rattle.document_laws.specs.Nodes.{NodesAreOfEvents, NodesStartBehindTokens};
+ghost use Rattle.document_laws.specs.Pieces.{PiecesOfTreesAreCalls, PiecesStartAtTheirTokens};
+ghost use Rattle.document_laws.specs.Plain.{RunsMakePlainTokens, RustHasPlainKinds};
+ghost use Rattle.document_laws.specs.Sights.{SightsAreOfTokens, LexersTokensAreKnown};
+ghost use Rattle.document_laws.specs.Stored.{StoredErrorsAreReplaced};
+ghost use Rattle.document_laws.specs.Tables.{RustSealsByCalls, RustLooksAreShort, ExactRulesAreSealed};
+
+/// Where some of the events that build a tree build one node by themselves, this node is in the
+/// tree, and starts where the events before have taken their texts. With the events of any other
+/// node in their place, the events build the tree with that node there.
+pub fn blocks_are_at_places()
+    ensures { BlocksAreAtPlaces }
+{}
+
+/// The same of a front end's steps, whose tokens are cut from a text: if the text is in three
+/// parts, and the steps before take the first, the others the second, then the node starts where
+/// the first part ends. With another text in the second part's place, and its steps, the steps
+/// build the tree with the other node in the place of the first.
+pub fn blocks_of_steps_are_at_places()
+    ensures { BlocksOfStepsAreAtPlaces }
+{}
+
+/// Two nodes of a tree that start at the same byte, and each of which begins with a token that
+/// has a text, are one node.
+pub fn places_are_known()
+    ensures { PlacesAreKnown }
+{}
+
+/// Where a text with a replaced piece is laid as the law of replaced pieces of `event_layout` says,
+/// and what is laid before the piece takes the text before it, the old piece's tree is in the old
+/// text's tree, and with the new piece's tree there that is the new text's tree.
+pub fn replaced_pieces_are_trees()
+    ensures { ReplacedPiecesAreTrees }
+{}
+
+/// If no other operation of the tables makes nodes of the kinds that they list for sealed calls,
+/// then each node of such a kind that a run made is that of a sealed call, to which the run came.
+pub fn sealed_nodes_are_calls()
+    ensures { SealedNodesAreCalls }
+{}
+
+/// In Rust's tables only sealed calls make nodes of the kinds that are listed for them, and no look
+/// ahead is over more than 255 tokens. The rule of each reparser for exact pieces is one sealed
+/// call, and all sealed calls that make nodes of its kind call the same rule. Comments before such
+/// a node do not go into it.
+pub fn rust_seals_by_calls()
+    ensures seals { RustSealsByCalls }
+    ensures looks { RustLooksAreShort }
+    ensures rules { ExactRulesAreSealed }
+{}
+
+/// Each node of a tree that is laid of events, but for the root, is that of an event, and before it
+/// are, white space and comments aside, the tokens of the events before its first one. So the
+/// events say where in the text it starts.
+pub fn nodes_are_of_events()
+    ensures { NodesAreOfEvents }
+{}
+
+/// A node of such a tree whose first child is a token that is neither white space nor a comment
+/// starts behind the tokens that the events before its first one make, and behind the white space
+/// and the comments that follow these, if no event makes a token of the kinds of those.
+pub fn nodes_start_behind_tokens()
+    ensures { NodesStartBehindTokens }
+{}
+
+/// A run makes no token of the kinds of white space and comments if the tables have none of these
+/// kinds, as those of Rust.
+pub fn runs_make_plain_tokens()
+    ensures runs { RunsMakePlainTokens }
+    ensures rust { RustHasPlainKinds }
+{}
+
+/// Each node of the tree of a file of Rust, but for the root, that is of a kind with a reparser for
+/// exact pieces is that of a sealed call of the reparser's rule, to which the run over the whole
+/// file came.
+pub fn pieces_of_trees_are_calls()
+    ensures { PiecesOfTreesAreCalls }
+{}
+
+/// Such a node whose first child is a token that is neither white space nor a comment starts where
+/// the lexer's tokens begin that the events before its first one leave.
+pub fn pieces_start_at_their_tokens()
+    ensures { PiecesStartAtTheirTokens }
+{}
+
+/// What the machine sees of Rust's tokens is what the laws of `event_layout` ask for: one sight for
+/// each token that is neither white space nor a comment, joined only with tokens that follow
+/// directly, if the machine knows the kinds of these tokens, as it does for those of the lexer.
+pub fn sights_are_of_tokens()
+    ensures sights { SightsAreOfTokens }
+    ensures known { LexersTokensAreKnown }
+{}
+
+/// The lexer's errors that a parse of Rust stores, where a piece from `{` to `}` was replaced: on
+/// the conditions that `Document::edit` tests, those that it puts in order are those of the new
+/// text, with their messages.
+pub fn stored_errors_are_replaced()
+    ensures { StoredErrorsAreReplaced }
+{}
