@@ -31,6 +31,24 @@ ras_block rattle_realloc(void *at, size_t used, size_t size, size_t align);
 /* Frees a block. */
 void rattle_dealloc(void *at);
 
+/* The entry of a file: the root is a SOURCE_FILE. */
+#define RAS_ENTRY_FILE 0u
+
+/* The entry of an expression: the root is a node of an expression, or ERROR if the text is not one expression; there are errors then. */
+#define RAS_ENTRY_EXPR 1u
+
+/* No errors are told. */
+#define RAS_NO_ERRORS 0u
+
+/* The errors of the parser, and then those of the lexer, are told. The tree is not walked for violations of rules beyond the grammar. */
+#define RAS_PARSE_ERRORS 1u
+
+/* The violations of rules beyond the grammar are told, without the errors of the parse. */
+#define RAS_VIOLATIONS 2u
+
+/* All errors are told: those of the parse, and then the violations. */
+#define RAS_ALL_ERRORS 3u
+
 /* A number that no kind has. */
 #define RAS_NO_KIND 4294967295u
 
@@ -58,6 +76,12 @@ void rattle_dealloc(void *at);
 /* The handle holds no parse. Nothing was written. */
 #define RAS_NO_PARSE 7u
 
+/* No entry has the number. Nothing was written. */
+#define RAS_NO_ENTRY 11u
+
+/* No choice of errors has the number. Nothing was written. */
+#define RAS_NO_CHOICE 12u
+
 /* An integer without a digit. Nothing was written. */
 #define RAS_NO_DIGIT 8u
 
@@ -74,7 +98,7 @@ void rattle_dealloc(void *at);
 #define RAS_FAULT 64u
 
 /* A number made of the kinds, constants, structs and calls of the library. Bindings that know another number were made for others. */
-#define RAS_VERSION 1261704605u
+#define RAS_VERSION 3639989305u
 
 /* The statuses of a wrong escape or character. */
 enum ras_fault {
@@ -467,8 +491,8 @@ typedef struct {
 /*
  * A parse that is kept between calls, or no parse. A handle of all zeros holds none.
  *
- * The fields are private to the library. Do not use a copy of a handle after a call that changed the original. Use a handle only on
- * the thread that created it.
+ * The fields are private to the library. Do not use a copy of a handle after a call that changed the original. A handle may go from
+ * thread to thread; one call at a time may use it.
  */
 typedef struct {
     /* Whether there is a parse. */
@@ -515,6 +539,21 @@ typedef struct {
     uint32_t bytes;
 } ras_token_row;
 
+/* What a word is in an edition. */
+typedef struct {
+    /*
+     * The number of its kind if it is a keyword everywhere in the edition, such as fn, also if it is reserved, as abstract;
+     * RAS_NO_KIND if it is none.
+     */
+    uint32_t keyword;
+    /* The number of its kind if it is a keyword in some places alone, such as union; RAS_NO_KIND if it is none. */
+    uint32_t contextual;
+    /* Whether it is an identifier: it begins with a letter or _, goes on with such and digits, by Unicode, and is no keyword everywhere. */
+    bool is_identifier;
+    /* Whether it is one only behind r#: it is a keyword everywhere, but for self, crate, super and Self. */
+    bool is_raw_identifier;
+} ras_word;
+
 /*
  * Writes the name of the kind with this number, for example FN, to the front of name, and returns the name's length in bytes: 0 if
  * no kind has the number, or if the kind has no name. If name is shorter than that, it is not changed. 64 bytes are enough for all.
@@ -547,6 +586,23 @@ uint32_t ras_c_parse(
  */
 uint32_t ras_c_rows(
     ras_handle *handle,
+    ras_flat_row *rows,
+    size_t rows_len,
+    ras_error_row *errors,
+    size_t errors_len,
+    uint8_t *messages,
+    size_t messages_len,
+    ras_counts *counts);
+
+/*
+ * Writes the rows of a handle's parse with a choice of errors, such as RAS_PARSE_ERRORS, as ras_c_read_as does for a text. The handle
+ * keeps its parse.
+ *
+ * Returns RAS_OK, RAS_TOO_LONG, RAS_NO_MEMORY, RAS_NO_ROOM, RAS_NO_CHOICE, or RAS_NO_PARSE if the handle holds no parse.
+ */
+uint32_t ras_c_rows_as(
+    ras_handle *handle,
+    uint32_t told,
     ras_flat_row *rows,
     size_t rows_len,
     ras_error_row *errors,
@@ -631,6 +687,27 @@ uint32_t ras_c_read(
  * Returns RAS_OK, RAS_NOT_UTF8, RAS_TOO_LONG, RAS_NO_MEMORY, RAS_NO_ROOM or RAS_NO_EDITION.
  */
 uint32_t ras_c_read_expr(
+    const uint8_t *text,
+    size_t text_len,
+    uint32_t edition,
+    ras_flat_row *rows,
+    size_t rows_len,
+    ras_error_row *errors,
+    size_t errors_len,
+    uint8_t *messages,
+    size_t messages_len,
+    ras_counts *counts);
+
+/*
+ * Parses a text by an entry, such as RAS_ENTRY_EXPR, and writes what ras_c_read writes for a file, with a choice of errors, such as
+ * RAS_PARSE_ERRORS. The counts are those of the chosen errors.
+ *
+ * Returns RAS_OK, RAS_NOT_UTF8, RAS_TOO_LONG, RAS_NO_MEMORY, RAS_NO_ROOM, RAS_NO_EDITION, RAS_NO_ENTRY or RAS_NO_CHOICE. The violations of
+ * rules beyond the grammar are looked for only if they are chosen: they take a further walk through the tree.
+ */
+uint32_t ras_c_read_as(
+    uint32_t entry,
+    uint32_t told,
     const uint8_t *text,
     size_t text_len,
     uint32_t edition,
@@ -729,6 +806,18 @@ uint32_t ras_c_int_value(
     size_t text_len,
     uint64_t *high,
     uint64_t *low);
+
+/*
+ * What a text is as one word of an edition, such as 2024. A text that is no word, as a b, is neither a keyword nor an identifier; r#fn
+ * is none either: ask for fn.
+ *
+ * Returns RAS_OK, RAS_NOT_UTF8 or RAS_NO_EDITION. Unless it is RAS_OK, word is not changed. It takes no memory.
+ */
+uint32_t ras_c_word(
+    const uint8_t *text,
+    size_t text_len,
+    uint32_t edition,
+    ras_word *word);
 
 /* The number RAS_VERSION of the library. Compare it with that of the header. */
 uint32_t ras_c_version(void);

@@ -5,3 +5,4 @@ pub mod Read
 pub mod Tokens
 pub mod Parens
 pub mod Values
+pub mod Words

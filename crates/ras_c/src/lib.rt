@@ -4,6 +4,7 @@
 //! Only the parse in a handle, which the caller owns, is kept between calls.
 #![tactic(auto)]
 
+mod choice;
 mod fill;
 mod handle;
 mod held;
@@ -18,3 +19,4 @@ mod status;
 mod tokens;
 mod values;
 mod version;
+mod words;
