@@ -52,6 +52,18 @@ void rattle_dealloc(void *at);
 /* A number that no kind has. */
 #define RAS_NO_KIND 4294967295u
 
+/* The rules are refused. message and fault say why and where; nothing else was written. */
+#define RAS_BAD_RULE 13u
+
+/* A rule to replace by has no template. Nothing was written. */
+#define RAS_NO_TEMPLATE 14u
+
+/* A comment would be lost: it is in what stands for a placeholder that the template has not. Nothing was written. */
+#define RAS_LOSES_COMMENT 15u
+
+/* The new text would be read otherwise than it is meant. Nothing was written. */
+#define RAS_READS_OTHERWISE 16u
+
 /* Success. The buffers and the counts were written. */
 #define RAS_OK 0u
 
@@ -98,7 +110,7 @@ void rattle_dealloc(void *at);
 #define RAS_FAULT 64u
 
 /* A number made of the kinds, constants, structs and calls of the library. Bindings that know another number were made for others. */
-#define RAS_VERSION 3639989305u
+#define RAS_VERSION 3844634474u
 
 /* The statuses of a wrong escape or character. */
 enum ras_fault {
@@ -531,6 +543,24 @@ typedef struct {
     uint32_t messages;
 } ras_counts;
 
+/* A place where a rule matches. */
+typedef struct {
+    /* The number of the rule, from 0. */
+    size_t rule;
+    /* The byte where the match starts. */
+    uint32_t start;
+    /* The byte where it ends. */
+    uint32_t end;
+} ras_match_row;
+
+/* What is wrong with rules. */
+typedef struct {
+    /* The byte of the rules' text where it is. */
+    size_t offset;
+    /* The length of its message in bytes. */
+    size_t message;
+} ras_rule_fault;
+
 /* One token. */
 typedef struct {
     /* The number of its kind. */
@@ -718,6 +748,53 @@ uint32_t ras_c_read_as(
     uint8_t *messages,
     size_t messages_len,
     ras_counts *counts);
+
+/*
+ * Searches a text of an edition, such as 2024, by a pattern: $a == None. With lines there are several, one a line, each a pattern or a
+ * rule with its template; lines that are empty or begin with # are passed over. Writes a row for each match, in preorder: the outermost
+ * ones, and those inside what stands for placeholders. At one place the first rule that matches counts.
+ *
+ * Returns RAS_OK, RAS_NOT_UTF8 of either text, RAS_TOO_LONG, RAS_NO_MEMORY, RAS_NO_ROOM, RAS_NO_EDITION, or RAS_BAD_RULE with what is
+ * wrong: the message is at the front of message if it has room for it; 256 bytes are enough for most. The arguments of macros are not
+ * searched. Takes a parse of the text, and time linear in the text for each rule.
+ */
+uint32_t ras_c_search(
+    const uint8_t *patterns,
+    size_t patterns_len,
+    bool lines,
+    const uint8_t *text,
+    size_t text_len,
+    uint32_t edition,
+    ras_match_row *matches,
+    size_t matches_len,
+    uint32_t *count,
+    uint8_t *message,
+    size_t message_len,
+    ras_rule_fault *fault);
+
+/*
+ * Replaces the matches of a rule in a text of an edition, such as 2024: by $a == None ==>> $a.is_none(). With lines there are several,
+ * one a line; lines that are empty or begin with # are passed over. Writes the new text to the front of out, its length to count,
+ * and the number of matches to matches. Parentheses stand exactly where they are needed, and what is outside of the matches is as it was.
+ *
+ * Returns RAS_OK, RAS_NOT_UTF8 of either text, RAS_TOO_LONG, RAS_NO_MEMORY, RAS_NO_ROOM, RAS_NO_EDITION, RAS_NO_TEMPLATE,
+ * RAS_LOSES_COMMENT, RAS_READS_OTHERWISE, or RAS_BAD_RULE with what is wrong: the message is at the front of message if it has room for
+ * it; 256 bytes are enough for most. It takes a few parses of the text.
+ */
+uint32_t ras_c_rewrite(
+    const uint8_t *rules,
+    size_t rules_len,
+    bool lines,
+    const uint8_t *text,
+    size_t text_len,
+    uint32_t edition,
+    uint8_t *out,
+    size_t out_len,
+    uint32_t *count,
+    size_t *matches,
+    uint8_t *message,
+    size_t message_len,
+    ras_rule_fault *fault);
 
 /*
  * Cuts a text of an edition, such as 2024, into tokens. White space and comments are tokens too, and punctuation is cut into single

@@ -142,6 +142,50 @@ static void words(void) {
         "a refused text leaves the word");
 }
 
+/* What a text becomes by rules: a status, and the text if it is RAS_OK. */
+static uint32_t becomes(const char *rules, bool lines, const char *text, const char *new, size_t number) {
+    uint8_t out[256] = {7}, said[256] = {7};
+    uint32_t count = 9;
+    size_t matches = 9;
+    ras_rule_fault fault = {9, 9};
+    uint32_t status = ras_c_rewrite(BYTES(rules), lines, BYTES(text), 2024, out, sizeof out, &count, &matches, said, sizeof said, &fault);
+    if (status == RAS_OK) owes(count == strlen(new) && memcmp(out, new, count) == 0 && matches == number, new);
+    else owes(count == 9 && matches == 9 && out[0] == 7, "a refused text leaves the buffer");
+    if (status == RAS_BAD_RULE) owes(fault.offset == number && fault.message == strlen(new) && memcmp(said, new, fault.message) == 0, rules);
+    else owes(fault.offset == 9 && fault.message == 9 && said[0] == 7, "nothing is said of a rule that is one");
+    return status;
+}
+
+static void rewrites(void) {
+    static const char text[] = "fn f() { g(1, 2) * 3; g(g(a, b), [/* c */ d]); }";
+    ras_match_row matches[4];
+    uint8_t said[8] = {7};
+    uint32_t count = 9;
+    ras_rule_fault fault = {9, 9};
+    owes(ras_c_search(BYTES("g($a, $b)"), false, BYTES(text), 2024, matches, 4, &count, said, sizeof said, &fault) == RAS_OK && count == 3
+        && matches[0].start == 9 && matches[0].end == 16 && matches[1].start == 22 && matches[2].start == 24 && matches[2].rule == 0, "matches are in order");
+    owes(ras_c_search(BYTES("g($a, $b)"), false, BYTES(text), 2024, matches, 2, &count, said, sizeof said, &fault) == RAS_NO_ROOM && count == 3,
+        "two rows are too little room");
+    owes(ras_c_search(BYTES("# all\n$a * $b\ng($a, $b)\n"), true, BYTES(text), 2024, matches, 4, &count, said, sizeof said, &fault) == RAS_OK
+        && count == 4 && matches[0].rule == 0 && matches[1].rule == 1, "patterns stand one a line");
+    count = 9;
+    owes(ras_c_search(BYTES("g($a"), false, BYTES(text), 2024, matches, 4, &count, said, sizeof said, &fault) == RAS_BAD_RULE && count == 9
+        && fault.offset <= 4 && fault.message > sizeof said && said[0] == 7, "half a pattern is none, and its message needs room");
+    owes(ras_c_search(BYTES("a"), false, BYTES("\xff"), 2024, matches, 4, &count, said, sizeof said, &fault) == RAS_NOT_UTF8
+        && ras_c_search(BYTES("\xff"), false, BYTES("a"), 2024, matches, 4, &count, said, sizeof said, &fault) == RAS_NOT_UTF8
+        && ras_c_search(BYTES("a"), false, BYTES("a"), 2016, matches, 4, &count, said, sizeof said, &fault) == RAS_NO_EDITION, "refused texts are not searched");
+    owes(becomes("g($a, $b) ==>> $a + $b", false, text, "fn f() { (1 + 2) * 3; a + b + [/* c */ d]; }", 3) == RAS_OK, "matches are replaced");
+    owes(becomes("# sums\ng($a, $b) ==>> $a + $b\n", true, "fn f() { h() }", "fn f() { h() }", 0) == RAS_OK, "no match changes nothing");
+    owes(becomes("g($a, $b) ==>> $a", false, text, "", 0) == RAS_LOSES_COMMENT, "no comment is lost");
+    owes(becomes("g($a, $b)\n", true, text, "", 0) == RAS_NO_TEMPLATE, "a pattern replaces nothing");
+    owes(becomes("g($a, $b)", false, text, "expected `==>>` between a pattern and a template", 9) == RAS_BAD_RULE, "a rule has a template");
+    owes(becomes("g($a) ==>> $b", false, text, "expected a placeholder of the pattern", 11) == RAS_BAD_RULE, "a template has no other placeholder");
+    owes(becomes("\xff", false, text, "", 0) == RAS_NOT_UTF8 && becomes("a ==>> b", false, "\xff", "", 0) == RAS_NOT_UTF8, "bad UTF-8 is not replaced");
+    size_t number = 9;
+    owes(ras_c_rewrite(BYTES("a ==>> bc"), false, BYTES("fn f() { a }"), 2024, NULL, 0, &count, &number, NULL, 0, &fault) == RAS_NO_ROOM
+        && count == 13 && number == 1, "a new text needs room");
+}
+
 static void names(void) {
     uint8_t name[64];
     size_t length = ras_c_kind_name(ras_c_kind_of_name(BYTES("FN")), name, sizeof name);
@@ -341,6 +385,15 @@ static void refuses(void) {
     count = 9;
     status = ras_c_read_as(RAS_ENTRY_FILE, RAS_PARSE_ERRORS, BYTES(TEXT), 2024, rows, ROWS, errors, ERRORS, messages, MESSAGES, &counts);
     owes(status == RAS_OK || status == RAS_NO_MEMORY, "read_as is done or refused");
+    ras_match_row matches[4];
+    uint8_t said[64], out[64] = {7};
+    ras_rule_fault fault = {9, 9};
+    size_t number = 9;
+    status = ras_c_search(BYTES("$a + $b"), false, BYTES("fn f() { a + b }"), 2024, matches, 4, &count, said, sizeof said, &fault);
+    owes(status == RAS_OK || (status == RAS_NO_MEMORY && count == 9 && fault.offset == 9), "search is done or refused");
+    count = 9;
+    status = ras_c_rewrite(BYTES("$a + $b ==>> $b"), false, BYTES("fn f() { a + b }"), 2024, out, sizeof out, &count, &number, said, sizeof said, &fault);
+    owes(status == RAS_OK || (status == RAS_NO_MEMORY && count == 9 && number == 9 && out[0] == 7 && fault.offset == 9), "rewrite is done or refused");
     refuses_edits();
 }
 
@@ -349,6 +402,7 @@ int main(void) {
     reads_as();
     names();
     words();
+    rewrites();
     tokens_and_parens();
     values();
     edits();

@@ -22,6 +22,18 @@ ALL_ERRORS = 3
 # A number that no kind has.
 NO_KIND = 4294967295
 
+# The rules are refused. `message` and `fault` say why and where; nothing else was written.
+BAD_RULE = 13
+
+# A rule to replace by has no template. Nothing was written.
+NO_TEMPLATE = 14
+
+# A comment would be lost: it is in what stands for a placeholder that the template has not. Nothing was written.
+LOSES_COMMENT = 15
+
+# The new text would be read otherwise than it is meant. Nothing was written.
+READS_OTHERWISE = 16
+
 # Success. The buffers and the counts were written.
 OK = 0
 
@@ -66,7 +78,7 @@ TOO_LARGE = 10
 FAULT = 64
 
 # A number made of the kinds, constants, structs and calls of the library. Bindings that know another number were made for others.
-VERSION = 3639989305
+VERSION = 3844634474
 
 # What can be wrong with an escape or a character: the names and the messages, from the status FAULT on.
 FAULTS = [
@@ -146,6 +158,25 @@ class Counts(ctypes.Structure):
     ]
 
 
+class MatchRow(ctypes.Structure):
+    """A place where a rule matches."""
+
+    _fields_ = [
+        ("rule", ctypes.c_size_t),
+        ("start", ctypes.c_uint32),
+        ("end", ctypes.c_uint32),
+    ]
+
+
+class RuleFault(ctypes.Structure):
+    """What is wrong with rules."""
+
+    _fields_ = [
+        ("offset", ctypes.c_size_t),
+        ("message", ctypes.c_size_t),
+    ]
+
+
 class TokenRow(ctypes.Structure):
     """One token."""
 
@@ -192,6 +223,10 @@ def declare(library):
     library.ras_c_read_expr.restype = ctypes.c_uint32
     library.ras_c_read_as.argtypes = [ctypes.c_uint32, ctypes.c_uint32, ctypes.c_void_p, ctypes.c_size_t, ctypes.c_uint32, ctypes.c_void_p, ctypes.c_size_t, ctypes.c_void_p, ctypes.c_size_t, ctypes.c_void_p, ctypes.c_size_t, ctypes.c_void_p]
     library.ras_c_read_as.restype = ctypes.c_uint32
+    library.ras_c_search.argtypes = [ctypes.c_void_p, ctypes.c_size_t, ctypes.c_bool, ctypes.c_void_p, ctypes.c_size_t, ctypes.c_uint32, ctypes.c_void_p, ctypes.c_size_t, ctypes.c_void_p, ctypes.c_void_p, ctypes.c_size_t, ctypes.c_void_p]
+    library.ras_c_search.restype = ctypes.c_uint32
+    library.ras_c_rewrite.argtypes = [ctypes.c_void_p, ctypes.c_size_t, ctypes.c_bool, ctypes.c_void_p, ctypes.c_size_t, ctypes.c_uint32, ctypes.c_void_p, ctypes.c_size_t, ctypes.c_void_p, ctypes.c_void_p, ctypes.c_void_p, ctypes.c_size_t, ctypes.c_void_p]
+    library.ras_c_rewrite.restype = ctypes.c_uint32
     library.ras_c_tokens.argtypes = [ctypes.c_void_p, ctypes.c_size_t, ctypes.c_uint32, ctypes.c_void_p, ctypes.c_size_t, ctypes.c_void_p]
     library.ras_c_tokens.restype = ctypes.c_uint32
     library.ras_c_string_value.argtypes = [ctypes.c_void_p, ctypes.c_size_t, ctypes.c_void_p, ctypes.c_size_t, ctypes.c_void_p]

@@ -21,6 +21,18 @@ pub const ALL_ERRORS: u32 = 3;
 /// A number that no kind has.
 pub const NO_KIND: u32 = 4294967295;
 
+/// The rules are refused. `message` and `fault` say why and where; nothing else was written.
+pub const BAD_RULE: u32 = 13;
+
+/// A rule to replace by has no template. Nothing was written.
+pub const NO_TEMPLATE: u32 = 14;
+
+/// A comment would be lost: it is in what stands for a placeholder that the template has not. Nothing was written.
+pub const LOSES_COMMENT: u32 = 15;
+
+/// The new text would be read otherwise than it is meant. Nothing was written.
+pub const READS_OTHERWISE: u32 = 16;
+
 /// Success. The buffers and the counts were written.
 pub const OK: u32 = 0;
 
@@ -65,7 +77,7 @@ pub const TOO_LARGE: u32 = 10;
 pub const FAULT: u32 = 64;
 
 /// A number made of the kinds, constants, structs and calls of the library. Bindings that know another number were made for others.
-pub const VERSION: u32 = 3639989305;
+pub const VERSION: u32 = 3844634474;
 
 /// One node or token, in 16 bytes. Rows are numbered from 0 in preorder.
 #[repr(C)]
@@ -128,6 +140,28 @@ pub struct Counts {
     pub violations: u32,
     /// The bytes of all messages.
     pub messages: u32,
+}
+
+/// A place where a rule matches.
+#[repr(C)]
+#[derive(Clone, Copy, Debug, PartialEq, Eq)]
+pub struct MatchRow {
+    /// The number of the rule, from 0.
+    pub rule: usize,
+    /// The byte where the match starts.
+    pub start: u32,
+    /// The byte where it ends.
+    pub end: u32,
+}
+
+/// What is wrong with rules.
+#[repr(C)]
+#[derive(Clone, Copy, Debug, PartialEq, Eq)]
+pub struct RuleFault {
+    /// The byte of the rules' text where it is.
+    pub offset: usize,
+    /// The length of its message in bytes.
+    pub message: usize,
 }
 
 /// One token.
@@ -311,6 +345,51 @@ unsafe extern "C" {
         messages: *mut u8,
         messages_len: usize,
         counts: *mut Counts,
+    ) -> u32;
+
+    /// Searches a text of an edition, such as 2024, by a pattern: `$a == None`. With `lines` there are several, one a line, each a pattern or a
+    /// rule with its template; lines that are empty or begin with `#` are passed over. Writes a row for each match, in preorder: the outermost
+    /// ones, and those inside what stands for placeholders. At one place the first rule that matches counts.
+    ///
+    /// Returns [`OK`], [`NOT_UTF8`] of either text, [`TOO_LONG`], [`NO_MEMORY`], [`NO_ROOM`], [`NO_EDITION`], or [`BAD_RULE`] with what is
+    /// wrong: the message is at the front of `message` if it has room for it; 256 bytes are enough for most. The arguments of macros are not
+    /// searched. Takes a parse of the text, and time linear in the text for each rule.
+    pub fn ras_c_search(
+        patterns: *const u8,
+        patterns_len: usize,
+        lines: bool,
+        text: *const u8,
+        text_len: usize,
+        edition: u32,
+        matches: *mut MatchRow,
+        matches_len: usize,
+        count: *mut u32,
+        message: *mut u8,
+        message_len: usize,
+        fault: *mut RuleFault,
+    ) -> u32;
+
+    /// Replaces the matches of a rule in a text of an edition, such as 2024: by `$a == None ==>> $a.is_none()`. With `lines` there are several,
+    /// one a line; lines that are empty or begin with `#` are passed over. Writes the new text to the front of `out`, its length to `count`,
+    /// and the number of matches to `matches`. Parentheses stand exactly where they are needed, and what is outside of the matches is as it was.
+    ///
+    /// Returns [`OK`], [`NOT_UTF8`] of either text, [`TOO_LONG`], [`NO_MEMORY`], [`NO_ROOM`], [`NO_EDITION`], [`NO_TEMPLATE`],
+    /// [`LOSES_COMMENT`], [`READS_OTHERWISE`], or [`BAD_RULE`] with what is wrong: the message is at the front of `message` if it has room for
+    /// it; 256 bytes are enough for most. It takes a few parses of the text.
+    pub fn ras_c_rewrite(
+        rules: *const u8,
+        rules_len: usize,
+        lines: bool,
+        text: *const u8,
+        text_len: usize,
+        edition: u32,
+        out: *mut u8,
+        out_len: usize,
+        count: *mut u32,
+        matches: *mut usize,
+        message: *mut u8,
+        message_len: usize,
+        fault: *mut RuleFault,
     ) -> u32;
 
     /// Cuts a text of an edition, such as 2024, into tokens. White space and comments are tokens too, and punctuation is cut into single

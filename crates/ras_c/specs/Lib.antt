@@ -6,3 +6,4 @@ pub mod Tokens
 pub mod Parens
 pub mod Values
 pub mod Words
+pub mod Rewriting

@@ -14,6 +14,7 @@ mod loose;
 mod parens;
 mod parsed;
 mod read;
+mod rewriting;
 mod root;
 mod status;
 mod tokens;
