@@ -27,7 +27,7 @@ lib/libras_c.a     the static library; a C program that links it also compiles s
 lib/libras.so      the shared object, which has them
 lib/pkgconfig/     for `pkg-config --with-path=lib/pkgconfig`, or with PKG_CONFIG_PATH
 include/ras.h      the calls
-src/               heap.c, and the example outline.c
+src/               heap.c, and the examples outline.c and rewrite.c
 cargo/             the crate `ras = { path = "cargo/ras" }`, and ras-sys, which it links the library by
 python/            the wheel: `pip install python/ras-*.whl`
 """
@@ -66,7 +66,7 @@ def distribute(archive, folder):
     share(os.path.join(lib, "libras_c.a"), os.path.join(lib, SONAME))
     os.symlink(SONAME, os.path.join(lib, "libras.so"))
     shutil.copyfile(os.path.join(C, "ras.h"), os.path.join(include, "ras.h"))
-    for name in ("heap.c", "outline.c"):
+    for name in ("heap.c", "outline.c", "rewrite.c"):
         shutil.copyfile(os.path.join(C, name), os.path.join(src, name))
     for crate, source in (("ras", RUST), ("ras-sys", SYS)):
         shutil.copytree(source, os.path.join(folder, "cargo", crate), ignore=shutil.ignore_patterns("target", "tests"))

@@ -31,8 +31,38 @@ ras_block rattle_realloc(void *at, size_t used, size_t size, size_t align);
 /* Frees a block. */
 void rattle_dealloc(void *at);
 
+/* The entry of a file: the root is a SOURCE_FILE. */
+#define RAS_ENTRY_FILE 0u
+
+/* The entry of an expression: the root is a node of an expression, or ERROR if the text is not one expression; there are errors then. */
+#define RAS_ENTRY_EXPR 1u
+
+/* No errors are told. */
+#define RAS_NO_ERRORS 0u
+
+/* The errors of the parser, and then those of the lexer, are told. The tree is not walked for violations of rules beyond the grammar. */
+#define RAS_PARSE_ERRORS 1u
+
+/* The violations of rules beyond the grammar are told, without the errors of the parse. */
+#define RAS_VIOLATIONS 2u
+
+/* All errors are told: those of the parse, and then the violations. */
+#define RAS_ALL_ERRORS 3u
+
 /* A number that no kind has. */
 #define RAS_NO_KIND 4294967295u
+
+/* The rules are refused. message and fault say why and where; nothing else was written. */
+#define RAS_BAD_RULE 13u
+
+/* A rule to replace by has no template. Nothing was written. */
+#define RAS_NO_TEMPLATE 14u
+
+/* A comment would be lost: it is in what stands for a placeholder that the template has not. Nothing was written. */
+#define RAS_LOSES_COMMENT 15u
+
+/* The new text would be read otherwise than it is meant. Nothing was written. */
+#define RAS_READS_OTHERWISE 16u
 
 /* Success. The buffers and the counts were written. */
 #define RAS_OK 0u
@@ -58,6 +88,12 @@ void rattle_dealloc(void *at);
 /* The handle holds no parse. Nothing was written. */
 #define RAS_NO_PARSE 7u
 
+/* No entry has the number. Nothing was written. */
+#define RAS_NO_ENTRY 11u
+
+/* No choice of errors has the number. Nothing was written. */
+#define RAS_NO_CHOICE 12u
+
 /* An integer without a digit. Nothing was written. */
 #define RAS_NO_DIGIT 8u
 
@@ -74,7 +110,7 @@ void rattle_dealloc(void *at);
 #define RAS_FAULT 64u
 
 /* A number made of the kinds, constants, structs and calls of the library. Bindings that know another number were made for others. */
-#define RAS_VERSION 1261704605u
+#define RAS_VERSION 3844634474u
 
 /* The statuses of a wrong escape or character. */
 enum ras_fault {
@@ -467,8 +503,8 @@ typedef struct {
 /*
  * A parse that is kept between calls, or no parse. A handle of all zeros holds none.
  *
- * The fields are private to the library. Do not use a copy of a handle after a call that changed the original. Use a handle only on
- * the thread that created it.
+ * The fields are private to the library. Do not use a copy of a handle after a call that changed the original. A handle may go from
+ * thread to thread; one call at a time may use it.
  */
 typedef struct {
     /* Whether there is a parse. */
@@ -507,6 +543,24 @@ typedef struct {
     uint32_t messages;
 } ras_counts;
 
+/* A place where a rule matches. */
+typedef struct {
+    /* The number of the rule, from 0. */
+    size_t rule;
+    /* The byte where the match starts. */
+    uint32_t start;
+    /* The byte where it ends. */
+    uint32_t end;
+} ras_match_row;
+
+/* What is wrong with rules. */
+typedef struct {
+    /* The byte of the rules' text where it is. */
+    size_t offset;
+    /* The length of its message in bytes. */
+    size_t message;
+} ras_rule_fault;
+
 /* One token. */
 typedef struct {
     /* The number of its kind. */
@@ -514,6 +568,21 @@ typedef struct {
     /* The length of its text in bytes. */
     uint32_t bytes;
 } ras_token_row;
+
+/* What a word is in an edition. */
+typedef struct {
+    /*
+     * The number of its kind if it is a keyword everywhere in the edition, such as fn, also if it is reserved, as abstract;
+     * RAS_NO_KIND if it is none.
+     */
+    uint32_t keyword;
+    /* The number of its kind if it is a keyword in some places alone, such as union; RAS_NO_KIND if it is none. */
+    uint32_t contextual;
+    /* Whether it is an identifier: it begins with a letter or _, goes on with such and digits, by Unicode, and is no keyword everywhere. */
+    bool is_identifier;
+    /* Whether it is one only behind r#: it is a keyword everywhere, but for self, crate, super and Self. */
+    bool is_raw_identifier;
+} ras_word;
 
 /*
  * Writes the name of the kind with this number, for example FN, to the front of name, and returns the name's length in bytes: 0 if
@@ -547,6 +616,23 @@ uint32_t ras_c_parse(
  */
 uint32_t ras_c_rows(
     ras_handle *handle,
+    ras_flat_row *rows,
+    size_t rows_len,
+    ras_error_row *errors,
+    size_t errors_len,
+    uint8_t *messages,
+    size_t messages_len,
+    ras_counts *counts);
+
+/*
+ * Writes the rows of a handle's parse with a choice of errors, such as RAS_PARSE_ERRORS, as ras_c_read_as does for a text. The handle
+ * keeps its parse.
+ *
+ * Returns RAS_OK, RAS_TOO_LONG, RAS_NO_MEMORY, RAS_NO_ROOM, RAS_NO_CHOICE, or RAS_NO_PARSE if the handle holds no parse.
+ */
+uint32_t ras_c_rows_as(
+    ras_handle *handle,
+    uint32_t told,
     ras_flat_row *rows,
     size_t rows_len,
     ras_error_row *errors,
@@ -643,6 +729,74 @@ uint32_t ras_c_read_expr(
     ras_counts *counts);
 
 /*
+ * Parses a text by an entry, such as RAS_ENTRY_EXPR, and writes what ras_c_read writes for a file, with a choice of errors, such as
+ * RAS_PARSE_ERRORS. The counts are those of the chosen errors.
+ *
+ * Returns RAS_OK, RAS_NOT_UTF8, RAS_TOO_LONG, RAS_NO_MEMORY, RAS_NO_ROOM, RAS_NO_EDITION, RAS_NO_ENTRY or RAS_NO_CHOICE. The violations of
+ * rules beyond the grammar are looked for only if they are chosen: they take a further walk through the tree.
+ */
+uint32_t ras_c_read_as(
+    uint32_t entry,
+    uint32_t told,
+    const uint8_t *text,
+    size_t text_len,
+    uint32_t edition,
+    ras_flat_row *rows,
+    size_t rows_len,
+    ras_error_row *errors,
+    size_t errors_len,
+    uint8_t *messages,
+    size_t messages_len,
+    ras_counts *counts);
+
+/*
+ * Searches a text of an edition, such as 2024, by a pattern: $a == None. With lines there are several, one a line, each a pattern or a
+ * rule with its template; lines that are empty or begin with # are passed over. Writes a row for each match, in preorder: the outermost
+ * ones, and those inside what stands for placeholders. At one place the first rule that matches counts.
+ *
+ * Returns RAS_OK, RAS_NOT_UTF8 of either text, RAS_TOO_LONG, RAS_NO_MEMORY, RAS_NO_ROOM, RAS_NO_EDITION, or RAS_BAD_RULE with what is
+ * wrong: the message is at the front of message if it has room for it; 256 bytes are enough for most. The arguments of macros are not
+ * searched. Takes a parse of the text, and time linear in the text for each rule.
+ */
+uint32_t ras_c_search(
+    const uint8_t *patterns,
+    size_t patterns_len,
+    bool lines,
+    const uint8_t *text,
+    size_t text_len,
+    uint32_t edition,
+    ras_match_row *matches,
+    size_t matches_len,
+    uint32_t *count,
+    uint8_t *message,
+    size_t message_len,
+    ras_rule_fault *fault);
+
+/*
+ * Replaces the matches of a rule in a text of an edition, such as 2024: by $a == None ==>> $a.is_none(). With lines there are several,
+ * one a line; lines that are empty or begin with # are passed over. Writes the new text to the front of out, its length to count,
+ * and the number of matches to matches. Parentheses stand exactly where they are needed, and what is outside of the matches is as it was.
+ *
+ * Returns RAS_OK, RAS_NOT_UTF8 of either text, RAS_TOO_LONG, RAS_NO_MEMORY, RAS_NO_ROOM, RAS_NO_EDITION, RAS_NO_TEMPLATE,
+ * RAS_LOSES_COMMENT, RAS_READS_OTHERWISE, or RAS_BAD_RULE with what is wrong: the message is at the front of message if it has room for
+ * it; 256 bytes are enough for most. It takes a few parses of the text.
+ */
+uint32_t ras_c_rewrite(
+    const uint8_t *rules,
+    size_t rules_len,
+    bool lines,
+    const uint8_t *text,
+    size_t text_len,
+    uint32_t edition,
+    uint8_t *out,
+    size_t out_len,
+    uint32_t *count,
+    size_t *matches,
+    uint8_t *message,
+    size_t message_len,
+    ras_rule_fault *fault);
+
+/*
  * Cuts a text of an edition, such as 2024, into tokens. White space and comments are tokens too, and punctuation is cut into single
  * characters.
  *
@@ -729,6 +883,18 @@ uint32_t ras_c_int_value(
     size_t text_len,
     uint64_t *high,
     uint64_t *low);
+
+/*
+ * What a text is as one word of an edition, such as 2024. A text that is no word, as a b, is neither a keyword nor an identifier; r#fn
+ * is none either: ask for fn.
+ *
+ * Returns RAS_OK, RAS_NOT_UTF8 or RAS_NO_EDITION. Unless it is RAS_OK, word is not changed. It takes no memory.
+ */
+uint32_t ras_c_word(
+    const uint8_t *text,
+    size_t text_len,
+    uint32_t edition,
+    ras_word *word);
 
 /* The number RAS_VERSION of the library. Compare it with that of the header. */
 uint32_t ras_c_version(void);

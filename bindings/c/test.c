@@ -88,6 +88,104 @@ static void reads(void) {
     owes(memcmp(&kept, &counts, sizeof kept) == 0, "a refused text leaves the counts");
 }
 
+/* A text whose string breaks a rule beyond the grammar, beside the errors of the parse. */
+static uint32_t read_as(uint32_t entry, uint32_t told, ras_counts *counts) {
+    return ras_c_read_as(entry, told, BYTES(TEXT), 2024, rows, ROWS, errors, ERRORS, messages, MESSAGES, counts);
+}
+
+static void reads_as(void) {
+    static const uint32_t choices[] = {RAS_NO_ERRORS, RAS_PARSE_ERRORS, RAS_VIOLATIONS, RAS_ALL_ERRORS};
+    ras_counts all = {0, 0, 0, 0}, parts[4], kept = {9, 9, 9, 9};
+    owes(read_with(ROWS, ERRORS, MESSAGES, &all) == RAS_OK && all.violations > 0 && all.errors > all.violations, "a text has errors of both sorts");
+    memcpy(filled, rows, sizeof rows);
+    for (int n = 0; n < 4; n++) {
+        memset(rows, 0xAB, sizeof rows);
+        owes(read_as(RAS_ENTRY_FILE, choices[n], &parts[n]) == RAS_OK && parts[n].rows == all.rows, "a text is read with a choice of errors");
+        owes(memcmp(rows, filled, all.rows * sizeof *rows) == 0, "the tree is the same by each choice");
+    }
+    owes(parts[0].errors == 0 && parts[0].violations == 0 && parts[0].messages == 0, "no errors are told");
+    owes(parts[1].errors == all.errors - all.violations && parts[1].violations == 0, "the errors of the parse are told");
+    owes(parts[2].errors == all.violations && parts[2].violations == all.violations, "the violations are told");
+    owes(memcmp(&parts[3], &all, sizeof all) == 0 && parts[1].messages + parts[2].messages == all.messages, "all errors are told");
+    owes(ras_c_read_as(RAS_ENTRY_EXPR, RAS_ALL_ERRORS, BYTES("a + b"), 2024, rows, ROWS, NULL, 0, NULL, 0, &all) == RAS_OK
+        && rows[0].kind == RAS_KIND_BIN_EXPR && all.errors == 0, "an expression is an entry");
+    owes(read_as(2, RAS_ALL_ERRORS, &kept) == RAS_NO_ENTRY && read_as(UINT32_MAX, 9, &kept) == RAS_NO_ENTRY, "no entry has the number");
+    owes(read_as(RAS_ENTRY_FILE, 4, &kept) == RAS_NO_CHOICE && kept.rows == 9, "no choice of errors has the number");
+    ras_handle live = {0};
+    owes(ras_c_parse(BYTES(TEXT), 2024, &live) == RAS_OK, "a handle holds the text");
+    for (int n = 0; n < 4; n++)
+        owes(ras_c_rows_as(&live, choices[n], rows, ROWS, errors, ERRORS, messages, MESSAGES, &all) == RAS_OK
+            && memcmp(&all, &parts[n], sizeof all) == 0, "a handle tells the same");
+    owes(ras_c_rows_as(&live, 4, rows, ROWS, errors, ERRORS, messages, MESSAGES, &all) == RAS_NO_CHOICE, "nor by a handle");
+    ras_c_free(&live);
+    owes(ras_c_rows_as(&live, 0, rows, ROWS, errors, ERRORS, messages, MESSAGES, &all) == RAS_NO_PARSE, "an empty handle tells nothing");
+}
+
+static bool is_word(const char *text, uint32_t edition, uint32_t keyword, uint32_t contextual, bool identifier, bool raw) {
+    ras_word word = {9, 9, !identifier, !raw};
+    return ras_c_word(BYTES(text), edition, &word) == RAS_OK && word.keyword == keyword && word.contextual == contextual
+        && word.is_identifier == identifier && word.is_raw_identifier == raw;
+}
+
+static void words(void) {
+    const uint32_t none = RAS_NO_KIND;
+    owes(is_word("fn", 2024, RAS_KIND_FN_KW, none, false, true), "fn is a keyword");
+    owes(is_word("self", 2024, RAS_KIND_SELF_KW, none, false, false), "self is no raw identifier");
+    owes(is_word("gen", 2024, RAS_KIND_GEN_KW, none, false, true) && is_word("gen", 2021, none, none, true, false), "gen is one since 2024");
+    owes(is_word("dyn", 2015, none, RAS_KIND_DYN_KW, true, false) && is_word("dyn", 2018, RAS_KIND_DYN_KW, none, false, true), "dyn is one since 2018");
+    owes(is_word("union", 2024, none, RAS_KIND_UNION_KW, true, false), "union is one in some places");
+    owes(is_word("\xc3\xbc_1", 2024, none, none, true, false) && is_word("_", 2024, none, none, true, false), "other words are identifiers");
+    owes(is_word("1a", 2024, none, none, false, false) && is_word("a b", 2024, none, none, false, false) && is_word("", 2024, none, none, false, false)
+        && is_word("r#fn", 2024, none, none, false, false), "these are no words");
+    ras_word word = {9, 9, true, true};
+    owes(ras_c_word(BYTES("\xff"), 2024, &word) == RAS_NOT_UTF8 && ras_c_word(BYTES("a"), 2016, &word) == RAS_NO_EDITION && word.keyword == 9,
+        "a refused text leaves the word");
+}
+
+/* What a text becomes by rules: a status, and the text if it is RAS_OK. */
+static uint32_t becomes(const char *rules, bool lines, const char *text, const char *new, size_t number) {
+    uint8_t out[256] = {7}, said[256] = {7};
+    uint32_t count = 9;
+    size_t matches = 9;
+    ras_rule_fault fault = {9, 9};
+    uint32_t status = ras_c_rewrite(BYTES(rules), lines, BYTES(text), 2024, out, sizeof out, &count, &matches, said, sizeof said, &fault);
+    if (status == RAS_OK) owes(count == strlen(new) && memcmp(out, new, count) == 0 && matches == number, new);
+    else owes(count == 9 && matches == 9 && out[0] == 7, "a refused text leaves the buffer");
+    if (status == RAS_BAD_RULE) owes(fault.offset == number && fault.message == strlen(new) && memcmp(said, new, fault.message) == 0, rules);
+    else owes(fault.offset == 9 && fault.message == 9 && said[0] == 7, "nothing is said of a rule that is one");
+    return status;
+}
+
+static void rewrites(void) {
+    static const char text[] = "fn f() { g(1, 2) * 3; g(g(a, b), [/* c */ d]); }";
+    ras_match_row matches[4];
+    uint8_t said[8] = {7};
+    uint32_t count = 9;
+    ras_rule_fault fault = {9, 9};
+    owes(ras_c_search(BYTES("g($a, $b)"), false, BYTES(text), 2024, matches, 4, &count, said, sizeof said, &fault) == RAS_OK && count == 3
+        && matches[0].start == 9 && matches[0].end == 16 && matches[1].start == 22 && matches[2].start == 24 && matches[2].rule == 0, "matches are in order");
+    owes(ras_c_search(BYTES("g($a, $b)"), false, BYTES(text), 2024, matches, 2, &count, said, sizeof said, &fault) == RAS_NO_ROOM && count == 3,
+        "two rows are too little room");
+    owes(ras_c_search(BYTES("# all\n$a * $b\ng($a, $b)\n"), true, BYTES(text), 2024, matches, 4, &count, said, sizeof said, &fault) == RAS_OK
+        && count == 4 && matches[0].rule == 0 && matches[1].rule == 1, "patterns stand one a line");
+    count = 9;
+    owes(ras_c_search(BYTES("g($a"), false, BYTES(text), 2024, matches, 4, &count, said, sizeof said, &fault) == RAS_BAD_RULE && count == 9
+        && fault.offset <= 4 && fault.message > sizeof said && said[0] == 7, "half a pattern is none, and its message needs room");
+    owes(ras_c_search(BYTES("a"), false, BYTES("\xff"), 2024, matches, 4, &count, said, sizeof said, &fault) == RAS_NOT_UTF8
+        && ras_c_search(BYTES("\xff"), false, BYTES("a"), 2024, matches, 4, &count, said, sizeof said, &fault) == RAS_NOT_UTF8
+        && ras_c_search(BYTES("a"), false, BYTES("a"), 2016, matches, 4, &count, said, sizeof said, &fault) == RAS_NO_EDITION, "refused texts are not searched");
+    owes(becomes("g($a, $b) ==>> $a + $b", false, text, "fn f() { (1 + 2) * 3; a + b + [/* c */ d]; }", 3) == RAS_OK, "matches are replaced");
+    owes(becomes("# sums\ng($a, $b) ==>> $a + $b\n", true, "fn f() { h() }", "fn f() { h() }", 0) == RAS_OK, "no match changes nothing");
+    owes(becomes("g($a, $b) ==>> $a", false, text, "", 0) == RAS_LOSES_COMMENT, "no comment is lost");
+    owes(becomes("g($a, $b)\n", true, text, "", 0) == RAS_NO_TEMPLATE, "a pattern replaces nothing");
+    owes(becomes("g($a, $b)", false, text, "expected `==>>` between a pattern and a template", 9) == RAS_BAD_RULE, "a rule has a template");
+    owes(becomes("g($a) ==>> $b", false, text, "expected a placeholder of the pattern", 11) == RAS_BAD_RULE, "a template has no other placeholder");
+    owes(becomes("\xff", false, text, "", 0) == RAS_NOT_UTF8 && becomes("a ==>> b", false, "\xff", "", 0) == RAS_NOT_UTF8, "bad UTF-8 is not replaced");
+    size_t number = 9;
+    owes(ras_c_rewrite(BYTES("a ==>> bc"), false, BYTES("fn f() { a }"), 2024, NULL, 0, &count, &number, NULL, 0, &fault) == RAS_NO_ROOM
+        && count == 13 && number == 1, "a new text needs room");
+}
+
 static void names(void) {
     uint8_t name[64];
     size_t length = ras_c_kind_name(ras_c_kind_of_name(BYTES("FN")), name, sizeof name);
@@ -284,12 +382,27 @@ static void refuses(void) {
     count = 9;
     status = ras_c_string_value(BYTES("\"\\n\""), value, sizeof value, &count);
     owes(status == RAS_OK || (status == RAS_NO_MEMORY && count == 9 && value[0] == 7), "string_value is done or refused");
+    count = 9;
+    status = ras_c_read_as(RAS_ENTRY_FILE, RAS_PARSE_ERRORS, BYTES(TEXT), 2024, rows, ROWS, errors, ERRORS, messages, MESSAGES, &counts);
+    owes(status == RAS_OK || status == RAS_NO_MEMORY, "read_as is done or refused");
+    ras_match_row matches[4];
+    uint8_t said[64], out[64] = {7};
+    ras_rule_fault fault = {9, 9};
+    size_t number = 9;
+    status = ras_c_search(BYTES("$a + $b"), false, BYTES("fn f() { a + b }"), 2024, matches, 4, &count, said, sizeof said, &fault);
+    owes(status == RAS_OK || (status == RAS_NO_MEMORY && count == 9 && fault.offset == 9), "search is done or refused");
+    count = 9;
+    status = ras_c_rewrite(BYTES("$a + $b ==>> $b"), false, BYTES("fn f() { a + b }"), 2024, out, sizeof out, &count, &number, said, sizeof said, &fault);
+    owes(status == RAS_OK || (status == RAS_NO_MEMORY && count == 9 && number == 9 && out[0] == 7 && fault.offset == 9), "rewrite is done or refused");
     refuses_edits();
 }
 
 int main(void) {
     reads();
+    reads_as();
     names();
+    words();
+    rewrites();
     tokens_and_parens();
     values();
     edits();

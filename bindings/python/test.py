@@ -110,6 +110,42 @@ class Trees(unittest.TestCase):
         self.assertGreaterEqual(len(many.errors), 3000)
         self.assertTrue(all(it.message for it in many.errors))
 
+    def test_errors_are_chosen(self):
+        text = "fn foo() { 1 + } impl T for S { pub fn g() {} }"
+        told = {it: [error.is_violation for error in ras.parse(text, errors=it).errors] for it in ("none", "parse", "violations", "all")}
+        self.assertEqual(told, {"none": [], "parse": [False], "violations": [True], "all": [False, True]})
+        live = ras.Live(text)
+        self.assertEqual({it: [error.is_violation for error in live.tree(it).errors] for it in told}, told)
+        self.assertEqual(ras.parse_expr("{ impl T for S { pub fn g() {} } }", errors="parse").errors, [])
+        self.assertRaises(ValueError, ras.parse, text, errors="some")
+
+    def test_words_are_known(self):
+        self.assertEqual([ras.keyword(it) for it in ("fn", "abstract", "union", "f", "r#fn", "")], ["FN_KW", "ABSTRACT_KW", None, None, None, None])
+        self.assertEqual((ras.keyword("dyn", 2015), ras.contextual_keyword("dyn", 2015), ras.contextual_keyword("dyn")), (None, "DYN_KW", None))
+        self.assertEqual([ras.is_identifier(it) for it in ("union", "_", "\u00fc1", "fn", "1a", "a b", "")], [True, True, True, False, False, False, False])
+        self.assertEqual([ras.is_raw_identifier(it) for it in ("fn", "self", "f")], [True, False, False])
+        self.assertRaises(ValueError, ras.keyword, b"\xff")
+        self.assertRaises(ValueError, ras.keyword, "fn", 2016)
+
+    def test_a_text_is_searched_and_rewritten(self):
+        tree = ras.parse("fn f() { g(1, 2) * 3; g(g(a, b), [/* c */ d]); }")
+        self.assertEqual([(it.rule, tree.data[it.start : it.end]) for it in tree.search("g($a, $b)")], [(0, b"g(1, 2)"), (0, b"g(g(a, b), [/* c */ d])"), (0, b"g(a, b)")])
+        self.assertEqual([it.rule for it in tree.search("$a * $b\n# calls\ng($a, $b)", lines=True)], [0, 1, 1, 1])
+        self.assertEqual(len(ras.parse("fn f() { " + "g(1); " * 300 + "}").search("g($a)")), 300)
+        self.assertEqual(tree.rewrite("g($a, $b) ==>> $a + $b").text, "fn f() { (1 + 2) * 3; a + b + [/* c */ d]; }")
+        self.assertEqual(ras.rewrite("a ==>> b\nb ==>> a\n", "fn f() { a(b) }", lines=True), "fn f() { b(a) }")
+        long = ras.rewrite("a ==>> aaaaaaaaaaaaaaaa", "fn f() { " + "a; " * 300 + "}")
+        self.assertEqual(long.count("aaaaaaaaaaaaaaaa;"), 300)
+        for rule, offset in (("g($a, $b)", 9), ("g($a) ==>> $b", 11)):
+            with self.assertRaises(ras.RuleError) as found:
+                tree.rewrite(rule)
+            self.assertEqual(found.exception.offset, offset)
+            self.assertTrue(found.exception.message)
+        self.assertRaises(ras.RuleError, tree.search, "a ==>> b")
+        self.assertRaisesRegex(ras.RewriteError, "comment", tree.rewrite, "g($a, $b) ==>> $a")
+        self.assertRaisesRegex(ras.RewriteError, "template", tree.rewrite, "g($a, $b)", lines=True)
+        self.assertRaises(TypeError, tree.search, 5)
+
     def test_needless_pairs_are_found(self):
         tree = ras.parse("fn f() { (a * b) + c; (a + b) * c; g((x)) }")
         self.assertEqual([it.text for it in tree.needless_parens()], ["(a * b)", "(x)"])
@@ -268,12 +304,13 @@ class Types(unittest.TestCase):
         self.assertEqual({*functions, *classes}, set(ras.__all__))
         for name, of in classes.items():
             members = {it.name: [arg.arg for arg in it.args.args] for it in of.body if isinstance(it, ast.FunctionDef)}
+            annotated = {it.target.id for it in of.body if isinstance(it, ast.AnnAssign)}
             known = vars(getattr(ras, name))
             for member, parameters in members.items():
                 if not isinstance(known[member], property):
                     self.assertEqual(list(inspect.signature(known[member]).parameters), parameters, f"{name}.{member}")
             public = {it for it in known if not it.startswith("_")} - {"tree", "row"} if name == "Element" else {it for it in known if not it.startswith("_")}
-            self.assertLessEqual(public, {*members}, name)
+            self.assertLessEqual(public, {*members, *annotated}, name)
 
 
 if __name__ == "__main__":

@@ -10,16 +10,20 @@
 There is a tree whatever the text is, and each byte of the text is in one token of it. One call reads a text; nodes and tokens
 are made on demand. Offsets and ranges are in bytes of the text's UTF-8.
 """
-import array
 import ctypes
 import functools
+import mmap
 import os
 import threading
+import typing
 import weakref
 
 from . import _raw
 
-__all__ = ["Element", "EscapeError", "Live", "ParseError", "SyntaxError", "Tree", "kind_name", "kind_of_name", "parse", "parse_expr"]
+__all__ = [
+    "Element", "EscapeError", "Live", "Match", "ParseError", "RewriteError", "RuleError", "SyntaxError", "Tree", "contextual_keyword", "is_identifier",
+    "is_raw_identifier", "keyword", "kind_name", "kind_of_name", "parse", "parse_expr", "rewrite",
+]
 
 _TOKEN = 1 << 31
 
@@ -89,6 +93,98 @@ class EscapeError(ValueError):
         self.name, self.message = name, message
 
 
+class RuleError(ValueError):
+    """Why a text is no rule of search and replace: a message, and the byte `offset` of the text where it is wrong."""
+
+    def __init__(self, message, offset):
+        super().__init__(message)
+        self.message, self.offset = message, offset
+
+
+class RewriteError(Exception):
+    """Why the matches of a text are not replaced: a rule has no template, a comment would be lost, or the new text would be read otherwise
+    than it is meant."""
+
+
+class Match(typing.NamedTuple):
+    """A place where a rule matches: the number of the rule, from 0, and the bytes where the match starts and ends."""
+
+    rule: int
+    start: int
+    end: int
+
+
+_NOT_REPLACED = {
+    _raw.NO_TEMPLATE: "a rule has no template",
+    _raw.LOSES_COMMENT: "a comment would be lost: it is in what stands for a placeholder that the template has not",
+    _raw.READS_OTHERWISE: "the new text would be read otherwise than it is meant",
+}
+
+
+def _by_rules(call, rules, lines, data, edition, *out):
+    """Calls a function that takes rules and a text; False if a buffer was too small."""
+    rules, message, fault = _bytes_of(rules), ctypes.create_string_buffer(4096), _raw.RuleFault()
+    status = call(rules, len(rules), bool(lines), data, len(data), edition, *out, message, len(message), ctypes.byref(fault))
+    if status == _raw.BAD_RULE:
+        told = message.raw[: fault.message].decode() if fault.message <= len(message) else "this is no rule"
+        raise RuleError(told, fault.offset)
+    if status in _NOT_REPLACED:
+        raise RewriteError(_NOT_REPLACED[status])
+    return _had_room(status)
+
+
+def rewrite(rule, text, edition=2024, lines=False):
+    """A text in which each match of a rule `PATTERN ==>> TEMPLATE` is replaced, with parentheses exactly where they are needed; what is
+    outside of the matches stays as it is. With `lines`, `rule` has several, one a line. RuleError if it is no rule, RewriteError if the
+    matches are not replaced; ParseError as for `parse`.
+
+    >>> rewrite("add($a, $b) ==>> $a + $b", "fn f() { add(1, 2) * 3 }")
+    'fn f() { (1 + 2) * 3 }'
+    """
+    return _rewritten(rule, _bytes_of(text), _edition_of(edition), lines).decode()
+
+
+def _rewritten(rule, data, edition, lines):
+    out, count, matches = ctypes.create_string_buffer(len(data) * 5 // 4 + 64), ctypes.c_uint32(), ctypes.c_size_t()
+    while not _by_rules(_library.ras_c_rewrite, rule, lines, data, edition, out, len(out), ctypes.byref(count), ctypes.byref(matches)):
+        out = ctypes.create_string_buffer(count.value)
+    return ctypes.string_at(out, count.value)
+
+
+def _word(text, edition):
+    data, word = _bytes_of(text), _raw.Word()
+    _had_room(_library.ras_c_word(data, len(data), _edition_of(edition), ctypes.byref(word)))
+    return word
+
+
+def _kind_in(number):
+    return None if number == _raw.NO_KIND else kind_name(number)
+
+
+def is_identifier(text, edition=2024):
+    """Whether a text is an identifier that is no keyword everywhere in the edition; it may be one in some places, as "union"."""
+    return _word(text, edition).is_identifier
+
+
+def is_raw_identifier(text, edition=2024):
+    """Whether a text is an identifier only behind `r#`: a keyword everywhere, but for "self", "super", "crate" and "Self"."""
+    return _word(text, edition).is_raw_identifier
+
+
+def keyword(text, edition=2024):
+    """The kind of a word that is a keyword everywhere in the edition, as "FN_KW"; None for other texts.
+
+    >>> keyword("gen", 2024), keyword("gen", 2021), keyword("union")
+    ('GEN_KW', None, None)
+    """
+    return _kind_in(_word(text, edition).keyword)
+
+
+def contextual_keyword(text, edition=2024):
+    """The kind of a word that is a keyword in some places alone, as "UNION_KW"; None for other texts."""
+    return _kind_in(_word(text, edition).contextual)
+
+
 _WRONG_NUMBERS = {
     _raw.NO_DIGIT: "the integer has no digit",
     _raw.BAD_DIGIT: "the integer has a character that is no digit of its radix",
@@ -149,14 +245,28 @@ def kind_of_name(name):
     return None if number == _raw.NO_KIND else number
 
 
-def parse(text, edition=2024):
-    """The tree of a text, a `str` or its UTF-8 as `bytes`, read as a file."""
-    return Tree(text, edition)
+_ERRORS = {"none": _raw.NO_ERRORS, "parse": _raw.PARSE_ERRORS, "violations": _raw.VIOLATIONS, "all": _raw.ALL_ERRORS}
 
 
-def parse_expr(text, edition=2024):
+def _choice(errors):
+    if errors not in _ERRORS:
+        raise ValueError(f"a choice of errors is one of {', '.join(map(repr, _ERRORS))}, not {errors!r}")
+    return _ERRORS[errors]
+
+
+def parse(text, edition=2024, errors="all"):
+    """The tree of a text, a `str` or its UTF-8 as `bytes`, read as a file. `errors` says which errors it has: those of the parser and the
+    lexer ("parse"), what breaks rules beyond the grammar ("violations"), which takes a further walk through the tree, "all" or "none".
+
+    >>> [len(parse("fn f() { 1 + } impl T for S { pub fn g() {} }", errors=it).errors) for it in ("none", "parse", "violations", "all")]
+    [0, 1, 1, 2]
+    """
+    return Tree(text, edition, errors)
+
+
+def parse_expr(text, edition=2024, errors="all"):
     """The tree of a text, read as an expression. Its root is an ERROR, and there are errors, if the text is not one expression."""
-    return Tree.__new__(Tree)._read(_library.ras_c_read_expr, text, edition)
+    return Tree.__new__(Tree)._read(_raw.ENTRY_EXPR, text, edition, errors)
 
 
 def _bytes_of(text):
@@ -177,13 +287,13 @@ def _edition_of(edition):
 class Tree:
     """A text, its lossless tree, and what is wrong with it."""
 
-    def __init__(self, text, edition=2024):
-        self._read(_library.ras_c_read, text, edition)
+    def __init__(self, text, edition=2024, errors="all"):
+        self._read(_raw.ENTRY_FILE, text, edition, errors)
 
-    def _read(self, call, text, edition):
-        """Takes what a call that reads a text writes."""
+    def _read(self, entry, text, edition, errors):
+        """Takes what the library writes for a text."""
         data, edition = _bytes_of(text), _edition_of(edition)
-        self._tell(data, edition, functools.partial(call, data, len(data), edition))
+        self._tell(data, edition, functools.partial(_library.ras_c_read_as, entry, _choice(errors), data, len(data), edition))
         return self
 
     def _tell(self, data, edition, call):
@@ -192,15 +302,16 @@ class Tree:
         counts = _raw.Counts()
         row_room, error_room, message_room = len(data) * 3 // 2 + 64, 16, 1024
         while True:
-            rows = array.array("I", bytes(16 * row_room))
+            # A page of it is made when the library writes to it.
+            rows = mmap.mmap(-1, 16 * row_room, flags=mmap.MAP_PRIVATE | mmap.MAP_ANONYMOUS)
             errors = (_raw.ErrorRow * error_room)()
             messages = ctypes.create_string_buffer(message_room)
-            at = rows.buffer_info()[0]
+            at = ctypes.addressof(ctypes.c_char.from_buffer(rows))
             if _had_room(call(at, row_room, errors, error_room, messages, message_room, ctypes.byref(counts))):
                 break
             row_room, error_room, message_room = counts.rows, counts.errors, max(counts.messages, 1)
         # Four numbers a row: the kind, where it starts, the first row after its subtree, its parent's row.
-        self.rows = memoryview(rows)[: 4 * counts.rows]
+        self.rows = memoryview(rows).cast("I")[: 4 * counts.rows]
         self.errors, at = [], 0
         for n in range(counts.errors):
             row = errors[n]
@@ -245,6 +356,27 @@ class Tree:
             pieces += [self.data[at:start], _bytes_of(text)]
             at = end
         return Tree(b"".join([*pieces, self.data[at:]]), self.edition)
+
+    def search(self, pattern, lines=False):
+        """Where a pattern matches, in preorder: the outermost matches, and those inside what stands for placeholders. With `lines`,
+        `pattern` has several, one a line; at one place the first that matches counts. RuleError if it is no pattern. The text is parsed
+        again.
+
+        >>> parse("fn f() { a == None; (b + 1) == None }").search("$a == None")
+        [Match(rule=0, start=9, end=18), Match(rule=0, start=20, end=35)]
+        """
+        matches, count = (_raw.MatchRow * 64)(), ctypes.c_uint32()
+        while not _by_rules(_library.ras_c_search, pattern, lines, self.data, self.edition, matches, len(matches), ctypes.byref(count)):
+            matches = (_raw.MatchRow * count.value)()
+        return [Match(it.rule, it.start, it.end) for it in matches[: count.value]]
+
+    def rewrite(self, rule, lines=False):
+        """The tree of the text in which each match of a rule is replaced, as `rewrite` does it. The tree itself stays.
+
+        >>> parse("fn f() { add(1, 2) * 3 }").rewrite("add($a, $b) ==>> $a + $b").text
+        'fn f() { (1 + 2) * 3 }'
+        """
+        return Tree(_rewritten(rule, self.data, self.edition, lines), self.edition)
 
     def needless_parens(self):
         """The needless pairs of parentheses, each a PAREN_EXPR or a PAREN_PAT, in preorder: those that `rust_tree parens --all --mixed`
@@ -313,11 +445,11 @@ class Live:
         """The text as it is now."""
         return self.data.decode()
 
-    def tree(self):
-        """The tree of the text as it is now."""
+    def tree(self, errors="all"):
+        """The tree of the text as it is now, with the errors that `errors` chooses, as for `parse`."""
         self._on_its_thread()
         tree = Tree.__new__(Tree)
-        tree._tell(self.data, self.edition, functools.partial(_library.ras_c_rows, ctypes.byref(self._handle)))
+        tree._tell(self.data, self.edition, functools.partial(_library.ras_c_rows_as, ctypes.byref(self._handle), _choice(errors)))
         return tree
 
 

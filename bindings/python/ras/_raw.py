@@ -1,8 +1,38 @@
 """The calls of the library, as `crates/ras_c` declares them. Written by bindings/make."""
 import ctypes
 
+# The entry of a file: the root is a `SOURCE_FILE`.
+ENTRY_FILE = 0
+
+# The entry of an expression: the root is a node of an expression, or `ERROR` if the text is not one expression; there are errors then.
+ENTRY_EXPR = 1
+
+# No errors are told.
+NO_ERRORS = 0
+
+# The errors of the parser, and then those of the lexer, are told. The tree is not walked for violations of rules beyond the grammar.
+PARSE_ERRORS = 1
+
+# The violations of rules beyond the grammar are told, without the errors of the parse.
+VIOLATIONS = 2
+
+# All errors are told: those of the parse, and then the violations.
+ALL_ERRORS = 3
+
 # A number that no kind has.
 NO_KIND = 4294967295
+
+# The rules are refused. `message` and `fault` say why and where; nothing else was written.
+BAD_RULE = 13
+
+# A rule to replace by has no template. Nothing was written.
+NO_TEMPLATE = 14
+
+# A comment would be lost: it is in what stands for a placeholder that the template has not. Nothing was written.
+LOSES_COMMENT = 15
+
+# The new text would be read otherwise than it is meant. Nothing was written.
+READS_OTHERWISE = 16
 
 # Success. The buffers and the counts were written.
 OK = 0
@@ -28,6 +58,12 @@ NO_PLACE = 6
 # The handle holds no parse. Nothing was written.
 NO_PARSE = 7
 
+# No entry has the number. Nothing was written.
+NO_ENTRY = 11
+
+# No choice of errors has the number. Nothing was written.
+NO_CHOICE = 12
+
 # An integer without a digit. Nothing was written.
 NO_DIGIT = 8
 
@@ -42,7 +78,7 @@ TOO_LARGE = 10
 FAULT = 64
 
 # A number made of the kinds, constants, structs and calls of the library. Bindings that know another number were made for others.
-VERSION = 1261704605
+VERSION = 3844634474
 
 # What can be wrong with an escape or a character: the names and the messages, from the status FAULT on.
 FAULTS = [
@@ -122,12 +158,42 @@ class Counts(ctypes.Structure):
     ]
 
 
+class MatchRow(ctypes.Structure):
+    """A place where a rule matches."""
+
+    _fields_ = [
+        ("rule", ctypes.c_size_t),
+        ("start", ctypes.c_uint32),
+        ("end", ctypes.c_uint32),
+    ]
+
+
+class RuleFault(ctypes.Structure):
+    """What is wrong with rules."""
+
+    _fields_ = [
+        ("offset", ctypes.c_size_t),
+        ("message", ctypes.c_size_t),
+    ]
+
+
 class TokenRow(ctypes.Structure):
     """One token."""
 
     _fields_ = [
         ("kind", ctypes.c_uint32),
         ("bytes", ctypes.c_uint32),
+    ]
+
+
+class Word(ctypes.Structure):
+    """What a word is in an edition."""
+
+    _fields_ = [
+        ("keyword", ctypes.c_uint32),
+        ("contextual", ctypes.c_uint32),
+        ("is_identifier", ctypes.c_bool),
+        ("is_raw_identifier", ctypes.c_bool),
     ]
 
 
@@ -141,6 +207,8 @@ def declare(library):
     library.ras_c_parse.restype = ctypes.c_uint32
     library.ras_c_rows.argtypes = [ctypes.c_void_p, ctypes.c_void_p, ctypes.c_size_t, ctypes.c_void_p, ctypes.c_size_t, ctypes.c_void_p, ctypes.c_size_t, ctypes.c_void_p]
     library.ras_c_rows.restype = ctypes.c_uint32
+    library.ras_c_rows_as.argtypes = [ctypes.c_void_p, ctypes.c_uint32, ctypes.c_void_p, ctypes.c_size_t, ctypes.c_void_p, ctypes.c_size_t, ctypes.c_void_p, ctypes.c_size_t, ctypes.c_void_p]
+    library.ras_c_rows_as.restype = ctypes.c_uint32
     library.ras_c_edit.argtypes = [ctypes.c_void_p, ctypes.c_uint32, ctypes.c_uint32, ctypes.c_uint32, ctypes.c_void_p, ctypes.c_size_t]
     library.ras_c_edit.restype = ctypes.c_uint32
     library.ras_c_free.argtypes = [ctypes.c_void_p]
@@ -153,6 +221,12 @@ def declare(library):
     library.ras_c_read.restype = ctypes.c_uint32
     library.ras_c_read_expr.argtypes = [ctypes.c_void_p, ctypes.c_size_t, ctypes.c_uint32, ctypes.c_void_p, ctypes.c_size_t, ctypes.c_void_p, ctypes.c_size_t, ctypes.c_void_p, ctypes.c_size_t, ctypes.c_void_p]
     library.ras_c_read_expr.restype = ctypes.c_uint32
+    library.ras_c_read_as.argtypes = [ctypes.c_uint32, ctypes.c_uint32, ctypes.c_void_p, ctypes.c_size_t, ctypes.c_uint32, ctypes.c_void_p, ctypes.c_size_t, ctypes.c_void_p, ctypes.c_size_t, ctypes.c_void_p, ctypes.c_size_t, ctypes.c_void_p]
+    library.ras_c_read_as.restype = ctypes.c_uint32
+    library.ras_c_search.argtypes = [ctypes.c_void_p, ctypes.c_size_t, ctypes.c_bool, ctypes.c_void_p, ctypes.c_size_t, ctypes.c_uint32, ctypes.c_void_p, ctypes.c_size_t, ctypes.c_void_p, ctypes.c_void_p, ctypes.c_size_t, ctypes.c_void_p]
+    library.ras_c_search.restype = ctypes.c_uint32
+    library.ras_c_rewrite.argtypes = [ctypes.c_void_p, ctypes.c_size_t, ctypes.c_bool, ctypes.c_void_p, ctypes.c_size_t, ctypes.c_uint32, ctypes.c_void_p, ctypes.c_size_t, ctypes.c_void_p, ctypes.c_void_p, ctypes.c_void_p, ctypes.c_size_t, ctypes.c_void_p]
+    library.ras_c_rewrite.restype = ctypes.c_uint32
     library.ras_c_tokens.argtypes = [ctypes.c_void_p, ctypes.c_size_t, ctypes.c_uint32, ctypes.c_void_p, ctypes.c_size_t, ctypes.c_void_p]
     library.ras_c_tokens.restype = ctypes.c_uint32
     library.ras_c_string_value.argtypes = [ctypes.c_void_p, ctypes.c_size_t, ctypes.c_void_p, ctypes.c_size_t, ctypes.c_void_p]
@@ -167,6 +241,8 @@ def declare(library):
     library.ras_c_byte_value.restype = ctypes.c_uint32
     library.ras_c_int_value.argtypes = [ctypes.c_void_p, ctypes.c_size_t, ctypes.c_void_p, ctypes.c_void_p]
     library.ras_c_int_value.restype = ctypes.c_uint32
+    library.ras_c_word.argtypes = [ctypes.c_void_p, ctypes.c_size_t, ctypes.c_uint32, ctypes.c_void_p]
+    library.ras_c_word.restype = ctypes.c_uint32
     library.ras_c_version.argtypes = []
     library.ras_c_version.restype = ctypes.c_uint32
     return library

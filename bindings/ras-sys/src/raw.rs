@@ -1,7 +1,37 @@
 //! The calls of the library, as `crates/ras_c` declares them. Written by bindings/make.
 
+/// The entry of a file: the root is a `SOURCE_FILE`.
+pub const ENTRY_FILE: u32 = 0;
+
+/// The entry of an expression: the root is a node of an expression, or `ERROR` if the text is not one expression; there are errors then.
+pub const ENTRY_EXPR: u32 = 1;
+
+/// No errors are told.
+pub const NO_ERRORS: u32 = 0;
+
+/// The errors of the parser, and then those of the lexer, are told. The tree is not walked for violations of rules beyond the grammar.
+pub const PARSE_ERRORS: u32 = 1;
+
+/// The violations of rules beyond the grammar are told, without the errors of the parse.
+pub const VIOLATIONS: u32 = 2;
+
+/// All errors are told: those of the parse, and then the violations.
+pub const ALL_ERRORS: u32 = 3;
+
 /// A number that no kind has.
 pub const NO_KIND: u32 = 4294967295;
+
+/// The rules are refused. `message` and `fault` say why and where; nothing else was written.
+pub const BAD_RULE: u32 = 13;
+
+/// A rule to replace by has no template. Nothing was written.
+pub const NO_TEMPLATE: u32 = 14;
+
+/// A comment would be lost: it is in what stands for a placeholder that the template has not. Nothing was written.
+pub const LOSES_COMMENT: u32 = 15;
+
+/// The new text would be read otherwise than it is meant. Nothing was written.
+pub const READS_OTHERWISE: u32 = 16;
 
 /// Success. The buffers and the counts were written.
 pub const OK: u32 = 0;
@@ -27,6 +57,12 @@ pub const NO_PLACE: u32 = 6;
 /// The handle holds no parse. Nothing was written.
 pub const NO_PARSE: u32 = 7;
 
+/// No entry has the number. Nothing was written.
+pub const NO_ENTRY: u32 = 11;
+
+/// No choice of errors has the number. Nothing was written.
+pub const NO_CHOICE: u32 = 12;
+
 /// An integer without a digit. Nothing was written.
 pub const NO_DIGIT: u32 = 8;
 
@@ -41,7 +77,7 @@ pub const TOO_LARGE: u32 = 10;
 pub const FAULT: u32 = 64;
 
 /// A number made of the kinds, constants, structs and calls of the library. Bindings that know another number were made for others.
-pub const VERSION: u32 = 1261704605;
+pub const VERSION: u32 = 3844634474;
 
 /// One node or token, in 16 bytes. Rows are numbered from 0 in preorder.
 #[repr(C)]
@@ -59,8 +95,8 @@ pub struct FlatRow {
 
 /// A parse that is kept between calls, or no parse. A handle of all zeros holds none.
 ///
-/// The fields are private to the library. Do not use a copy of a handle after a call that changed the original. Use a handle only on
-/// the thread that created it.
+/// The fields are private to the library. Do not use a copy of a handle after a call that changed the original. A handle may go from
+/// thread to thread; one call at a time may use it.
 #[repr(C)]
 #[derive(Debug)]
 pub struct Handle {
@@ -106,6 +142,28 @@ pub struct Counts {
     pub messages: u32,
 }
 
+/// A place where a rule matches.
+#[repr(C)]
+#[derive(Clone, Copy, Debug, PartialEq, Eq)]
+pub struct MatchRow {
+    /// The number of the rule, from 0.
+    pub rule: usize,
+    /// The byte where the match starts.
+    pub start: u32,
+    /// The byte where it ends.
+    pub end: u32,
+}
+
+/// What is wrong with rules.
+#[repr(C)]
+#[derive(Clone, Copy, Debug, PartialEq, Eq)]
+pub struct RuleFault {
+    /// The byte of the rules' text where it is.
+    pub offset: usize,
+    /// The length of its message in bytes.
+    pub message: usize,
+}
+
 /// One token.
 #[repr(C)]
 #[derive(Clone, Copy, Debug, PartialEq, Eq)]
@@ -114,6 +172,21 @@ pub struct TokenRow {
     pub kind: u32,
     /// The length of its text in bytes.
     pub bytes: u32,
+}
+
+/// What a word is in an edition.
+#[repr(C)]
+#[derive(Clone, Copy, Debug, PartialEq, Eq)]
+pub struct Word {
+    /// The number of its kind if it is a keyword everywhere in the edition, such as `fn`, also if it is reserved, as `abstract`;
+    /// [`NO_KIND`] if it is none.
+    pub keyword: u32,
+    /// The number of its kind if it is a keyword in some places alone, such as `union`; [`NO_KIND`] if it is none.
+    pub contextual: u32,
+    /// Whether it is an identifier: it begins with a letter or `_`, goes on with such and digits, by Unicode, and is no keyword everywhere.
+    pub is_identifier: bool,
+    /// Whether it is one only behind `r#`: it is a keyword everywhere, but for `self`, `crate`, `super` and `Self`.
+    pub is_raw_identifier: bool,
 }
 
 unsafe extern "C" {
@@ -146,6 +219,22 @@ unsafe extern "C" {
     /// Returns [`OK`], [`TOO_LONG`], [`NO_MEMORY`], [`NO_ROOM`], or [`NO_PARSE`] if the handle holds no parse.
     pub fn ras_c_rows(
         handle: *mut Handle,
+        rows: *mut FlatRow,
+        rows_len: usize,
+        errors: *mut ErrorRow,
+        errors_len: usize,
+        messages: *mut u8,
+        messages_len: usize,
+        counts: *mut Counts,
+    ) -> u32;
+
+    /// Writes the rows of a handle's parse with a choice of errors, such as [`PARSE_ERRORS`], as `ras_c_read_as` does for a text. The handle
+    /// keeps its parse.
+    ///
+    /// Returns [`OK`], [`TOO_LONG`], [`NO_MEMORY`], [`NO_ROOM`], [`NO_CHOICE`], or [`NO_PARSE`] if the handle holds no parse.
+    pub fn ras_c_rows_as(
+        handle: *mut Handle,
+        told: u32,
         rows: *mut FlatRow,
         rows_len: usize,
         errors: *mut ErrorRow,
@@ -238,6 +327,71 @@ unsafe extern "C" {
         counts: *mut Counts,
     ) -> u32;
 
+    /// Parses a text by an entry, such as [`ENTRY_EXPR`], and writes what `ras_c_read` writes for a file, with a choice of errors, such as
+    /// [`PARSE_ERRORS`]. The counts are those of the chosen errors.
+    ///
+    /// Returns [`OK`], [`NOT_UTF8`], [`TOO_LONG`], [`NO_MEMORY`], [`NO_ROOM`], [`NO_EDITION`], [`NO_ENTRY`] or [`NO_CHOICE`]. The violations of
+    /// rules beyond the grammar are looked for only if they are chosen: they take a further walk through the tree.
+    pub fn ras_c_read_as(
+        entry: u32,
+        told: u32,
+        text: *const u8,
+        text_len: usize,
+        edition: u32,
+        rows: *mut FlatRow,
+        rows_len: usize,
+        errors: *mut ErrorRow,
+        errors_len: usize,
+        messages: *mut u8,
+        messages_len: usize,
+        counts: *mut Counts,
+    ) -> u32;
+
+    /// Searches a text of an edition, such as 2024, by a pattern: `$a == None`. With `lines` there are several, one a line, each a pattern or a
+    /// rule with its template; lines that are empty or begin with `#` are passed over. Writes a row for each match, in preorder: the outermost
+    /// ones, and those inside what stands for placeholders. At one place the first rule that matches counts.
+    ///
+    /// Returns [`OK`], [`NOT_UTF8`] of either text, [`TOO_LONG`], [`NO_MEMORY`], [`NO_ROOM`], [`NO_EDITION`], or [`BAD_RULE`] with what is
+    /// wrong: the message is at the front of `message` if it has room for it; 256 bytes are enough for most. The arguments of macros are not
+    /// searched. Takes a parse of the text, and time linear in the text for each rule.
+    pub fn ras_c_search(
+        patterns: *const u8,
+        patterns_len: usize,
+        lines: bool,
+        text: *const u8,
+        text_len: usize,
+        edition: u32,
+        matches: *mut MatchRow,
+        matches_len: usize,
+        count: *mut u32,
+        message: *mut u8,
+        message_len: usize,
+        fault: *mut RuleFault,
+    ) -> u32;
+
+    /// Replaces the matches of a rule in a text of an edition, such as 2024: by `$a == None ==>> $a.is_none()`. With `lines` there are several,
+    /// one a line; lines that are empty or begin with `#` are passed over. Writes the new text to the front of `out`, its length to `count`,
+    /// and the number of matches to `matches`. Parentheses stand exactly where they are needed, and what is outside of the matches is as it was.
+    ///
+    /// Returns [`OK`], [`NOT_UTF8`] of either text, [`TOO_LONG`], [`NO_MEMORY`], [`NO_ROOM`], [`NO_EDITION`], [`NO_TEMPLATE`],
+    /// [`LOSES_COMMENT`], [`READS_OTHERWISE`], or [`BAD_RULE`] with what is wrong: the message is at the front of `message` if it has room for
+    /// it; 256 bytes are enough for most. It takes a few parses of the text.
+    pub fn ras_c_rewrite(
+        rules: *const u8,
+        rules_len: usize,
+        lines: bool,
+        text: *const u8,
+        text_len: usize,
+        edition: u32,
+        out: *mut u8,
+        out_len: usize,
+        count: *mut u32,
+        matches: *mut usize,
+        message: *mut u8,
+        message_len: usize,
+        fault: *mut RuleFault,
+    ) -> u32;
+
     /// Cuts a text of an edition, such as 2024, into tokens. White space and comments are tokens too, and punctuation is cut into single
     /// characters.
     ///
@@ -317,6 +471,17 @@ unsafe extern "C" {
         text_len: usize,
         high: *mut u64,
         low: *mut u64,
+    ) -> u32;
+
+    /// What a text is as one word of an edition, such as 2024. A text that is no word, as `a b`, is neither a keyword nor an identifier; `r#fn`
+    /// is none either: ask for `fn`.
+    ///
+    /// Returns [`OK`], [`NOT_UTF8`] or [`NO_EDITION`]. Unless it is [`OK`], `word` is not changed. It takes no memory.
+    pub fn ras_c_word(
+        text: *const u8,
+        text_len: usize,
+        edition: u32,
+        word: *mut Word,
     ) -> u32;
 
     /// The number [`VERSION`] of the library. Compare it with that of the header.

@@ -37,6 +37,7 @@ mod node;
 mod parse;
 mod ptr;
 mod range;
+mod rules;
 mod smol_str;
 pub mod syntax_editor;
 mod syntax_text;
@@ -61,11 +62,12 @@ pub use parse::Parse;
 pub use ptr::{AstPtr, SyntaxNodePtr};
 pub use range::{TextLen, TextRange, TextSize};
 pub use ras_sys::FlatRow;
+pub use rules::{Match, RewriteError, RuleError, Rules, SearchError, rewrite};
 pub use smol_str::{SmolStr, ToSmolStr};
 pub use syntax_text::SyntaxText;
 pub use text_edit::{ApplyError, Indel, OverlapError, TextEdit};
 pub use tree_builder::SyntaxTreeBuilder;
-pub use tree::{Edition, ParseEditionError, ParseError, SyntaxError, Tree};
+pub use tree::{Edition, Entry, Errors, ParseEditionError, ParseError, SyntaxError, Tree};
 
 /// The children of a node, by the name that rust-analyzer's crate has for them.
 pub type SyntaxNodeChildren = Children<SyntaxNode>;

@@ -1,7 +1,7 @@
 //! A text that is edited, and its parse.
 use crate::range::TextRange;
 use ras_sys::{self as raw, Handle};
-use crate::tree::{Edition, ParseError, Tree, answered};
+use crate::tree::{Edition, Errors, ParseError, Tree, answered};
 use std::cell::RefCell;
 use std::fmt;
 use std::ptr;
@@ -9,8 +9,7 @@ use std::ptr;
 /// A text that is edited, whose parse stays with the library.
 ///
 /// After an edit one token or one block is parsed again if that is enough, as rust-analyzer does it; else all of the text is.
-/// The library counts the owners of its parse without a lock, so a `Live` stays on its thread: it is neither `Send` nor `Sync`.
-/// The trees that it gives are both.
+/// It may be sent to another thread, but not be shared: it is `Send` and not `Sync`. The trees that it gives are both.
 ///
 /// ```
 /// use ras::{Edition, Live, TextRange};
@@ -22,9 +21,16 @@ use std::ptr;
 /// # Ok::<(), Box<dyn std::error::Error>>(())
 /// ```
 ///
+/// ```
+/// let mut live = ras::Live::parse("fn f() {}", ras::Edition::CURRENT)?;
+/// let thread = std::thread::spawn(move || live.edit(ras::TextRange::new(3.into(), 4.into()), "g").map(|()| live));
+/// assert_eq!(thread.join().unwrap()?.tree()?.text(), "fn g() {}");
+/// # Ok::<(), Box<dyn std::error::Error>>(())
+/// ```
+///
 /// ```compile_fail,E0277
 /// let live = ras::Live::parse("", ras::Edition::CURRENT).unwrap();
-/// std::thread::spawn(move || live.tree());
+/// std::thread::scope(|it| it.spawn(|| live.tree()).join().unwrap()).unwrap();
 /// ```
 pub struct Live {
     // The library takes the parse out of the handle for each call, and puts it back.
@@ -32,6 +38,10 @@ pub struct Live {
     text: String,
     edition: Edition,
 }
+
+// SAFETY: the parse is reached by this handle alone. The library counts its owners without a lock, but each call has dropped its own shares
+// of the parse when it returns, and hands out none; and the allocator's functions may be called from any thread.
+unsafe impl Send for Live {}
 
 /// Why a text is not edited.
 #[derive(Clone, Copy, Debug, PartialEq, Eq)]
@@ -108,13 +118,19 @@ impl Live {
     /// It takes time linear in the text: one copy of the text, and one of the rows. After an edit, the errors that [`Tree::errors`]
     /// lists are those before it that lie outside of what was parsed again, and then the new ones.
     pub fn tree(&self) -> Result<Tree, ParseError> {
+        self.tree_with(Errors::All)
+    }
+
+    /// The same with the errors that are asked for, as by [`Tree::parse_as`].
+    pub fn tree_with(&self, errors: Errors) -> Result<Tree, ParseError> {
         let mut handle = self.handle.borrow_mut();
         Tree::told(self.text.as_str().into(), self.edition, |_, room, counts| {
             // SAFETY: the three buffers are borrowed for the call, with their lengths, and none overlaps another; the handle is this
             // value's own.
             unsafe {
-                raw::ras_c_rows(
+                raw::ras_c_rows_as(
                     &mut *handle,
+                    errors.number(),
                     room.rows.as_mut_ptr(),
                     room.rows.capacity(),
                     room.errors.as_mut_ptr(),

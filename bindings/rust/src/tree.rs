@@ -214,8 +214,38 @@ struct Inner {
     errors: Box<[SyntaxError]>,
 }
 
-// A call of the library that reads a text, and writes its rows, errors and messages.
-type ReadCall = unsafe extern "C" fn(*const u8, usize, u32, *mut FlatRow, usize, *mut ErrorRow, usize, *mut u8, usize, *mut Counts) -> u32;
+/// What a text is read as.
+#[derive(Clone, Copy, Debug, PartialEq, Eq, Hash)]
+pub enum Entry {
+    /// A file: the root is a `SOURCE_FILE`.
+    SourceFile,
+    /// An expression: the root is a node of an expression, or `ERROR` if the text is not one expression.
+    Expr,
+}
+
+/// Which errors a tree has.
+#[derive(Clone, Copy, Debug, PartialEq, Eq, Hash)]
+pub enum Errors {
+    /// None.
+    Nothing,
+    /// Those of the parser, and then those of the lexer.
+    Parse,
+    /// What breaks rules beyond the grammar. They are looked for in a further walk through the tree.
+    Violations,
+    /// Those of the parse, and then what breaks rules beyond the grammar.
+    All,
+}
+
+impl Errors {
+    pub(crate) fn number(self) -> u32 {
+        match self {
+            Errors::Nothing => raw::NO_ERRORS,
+            Errors::Parse => raw::PARSE_ERRORS,
+            Errors::Violations => raw::VIOLATIONS,
+            Errors::All => raw::ALL_ERRORS,
+        }
+    }
+}
 
 // What the number of a token's kind has more than that of a node's.
 pub(crate) const TOKEN: u32 = 1 << 31;
@@ -273,7 +303,7 @@ impl Tree {
     ///
     /// It panics if the library that is linked is not the one that this crate was made for.
     pub fn parse(text: impl Into<Box<str>>, edition: Edition) -> Result<Tree, ParseError> {
-        Tree::read(text.into(), edition, raw::ras_c_read)
+        Tree::parse_as(text, edition, Entry::SourceFile, Errors::All)
     }
 
     /// The tree of a text, read as an expression. Its root is a node of an expression, or `ERROR` if the text is not one expression; there
@@ -292,16 +322,35 @@ impl Tree {
     ///
     /// It panics if the library that is linked is not the one that this crate was made for.
     pub fn parse_expr(text: impl Into<Box<str>>, edition: Edition) -> Result<Tree, ParseError> {
-        Tree::read(text.into(), edition, raw::ras_c_read_expr)
+        Tree::parse_as(text, edition, Entry::Expr, Errors::All)
     }
 
-    // The tree of a text, by one of the calls that read a text.
-    fn read(text: Box<str>, edition: Edition, by: ReadCall) -> Result<Tree, ParseError> {
-        Tree::told(text, edition, |text, room, counts| {
+    /// The tree of a text by an entry, with the errors that are asked for: those of the parse alone take one walk through the tree less.
+    ///
+    /// ```
+    /// use ras::{Edition, Entry, Errors, Tree};
+    ///
+    /// let text = "fn f() { 1 + } impl T for S { pub fn g() {} }";
+    /// let count = |errors| Tree::parse_as(text, Edition::CURRENT, Entry::SourceFile, errors).map(|it| it.errors().len());
+    /// assert_eq!((count(Errors::Nothing)?, count(Errors::Parse)?, count(Errors::Violations)?, count(Errors::All)?), (0, 1, 1, 2));
+    /// # Ok::<(), ras::ParseError>(())
+    /// ```
+    ///
+    /// # Panics
+    ///
+    /// It panics if the library that is linked is not the one that this crate was made for.
+    pub fn parse_as(text: impl Into<Box<str>>, edition: Edition, entry: Entry, errors: Errors) -> Result<Tree, ParseError> {
+        let entry = match entry {
+            Entry::SourceFile => raw::ENTRY_FILE,
+            Entry::Expr => raw::ENTRY_EXPR,
+        };
+        Tree::told(text.into(), edition, |text, room, counts| {
             // SAFETY: the text and the three buffers are borrowed for the call, with their lengths, none overlaps another, and the
             // declaration is made from that of `crates/ras_c`.
             unsafe {
-                by(
+                raw::ras_c_read_as(
+                    entry,
+                    errors.number(),
                     text.as_ptr(),
                     text.len(),
                     edition.year(),

@@ -155,3 +155,36 @@ fn many_errors_have_room() {
     assert!(tree.errors().len() >= 3000);
     assert!(tree.errors().iter().all(|it| !it.message().is_empty()));
 }
+
+// Each text goes round some threads, which edit it by turns while the others edit theirs; at last all of it is as one thread would leave it.
+#[test]
+fn texts_go_from_thread_to_thread() {
+    const THREADS: usize = 4;
+    let (ends, mut starts): (Vec<_>, Vec<_>) = (0..THREADS).map(|_| std::sync::mpsc::channel::<(usize, Live)>()).unzip();
+    let (done, finished) = std::sync::mpsc::channel();
+    for text in 0..3 * THREADS {
+        ends[text % THREADS].send((0, live(TEXT))).unwrap();
+    }
+    std::thread::scope(|scope| {
+        for (n, start) in starts.drain(..).enumerate() {
+            let (next, done) = (ends[(n + 1) % THREADS].clone(), done.clone());
+            scope.spawn(move || {
+                for _ in 0..3 * 10 {
+                    let (turn, mut edited) = start.recv().unwrap();
+                    edited.edit(range(16, 17), if turn % 2 == 0 { "größe" } else { "x" }).unwrap();
+                    let tree = edited.tree().unwrap();
+                    assert_eq!(tree.text(), edited.text());
+                    if turn + 1 == 10 { done.send(edited).unwrap() } else { next.send((turn + 1, edited)).unwrap() }
+                }
+            });
+        }
+    });
+    drop(done);
+    let mut alone = live(TEXT);
+    for turn in 0..10 {
+        alone.edit(range(16, 17), if turn % 2 == 0 { "größe" } else { "x" }).unwrap();
+    }
+    let all: Vec<Live> = finished.iter().collect();
+    assert_eq!(all.len(), 3 * THREADS);
+    assert!(all.iter().all(|it| it.tree().unwrap() == alone.tree().unwrap()));
+}

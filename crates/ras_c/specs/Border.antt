@@ -1,7 +1,11 @@
--- What crosses to C: the numbers of editions and statuses, and buffers that are filled from the front.
+-- What crosses to C: the numbers of editions, entries and choices, and buffers that are filled from the front.
 use Rattle.std.specs.Prelude.{◌≡◌, ℕ, ◌<◌, ◌≤◌, ◌==◌, if◌then◌else◌, List, ◌++◌, drop, length, Option, None, Some}
 use Rattle.ras_front_end.specs.declared.edition.Edition.{Edition}
 use Rattle.ras_front_end.specs.declared.edition.Edition.TheVariants.{Edition2015, Edition2018, Edition2021, Edition2024}
+use Rattle.ras_front_end.specs.declared.edition.Entry.{Entry}
+use Rattle.ras_front_end.specs.declared.edition.Entry.TheVariants.{SourceFile, Expr}
+use Rattle.ras_c.specs.declared.choice.Errors.{Errors}
+use Rattle.ras_c.specs.declared.choice.Errors.TheVariants as errors
 
 -- the edition of a year
 abbrev pub edition_of : ℕ → Option Edition
@@ -10,6 +14,21 @@ edition_of year =
     if year == 2018 then Some Edition2018 else (
     if year == 2021 then Some Edition2021 else (
     if year == 2024 then Some Edition2024 else
+    None)))
+
+-- the entry with a number, and the choice of errors
+abbrev pub entry_of : ℕ → Option Entry
+entry_of n =
+    if n == 0 then Some SourceFile else (
+    if n == 1 then Some Expr else
+    None)
+
+abbrev pub errors_of : ℕ → Option Errors
+errors_of n =
+    if n == 0 then Some errors.Nothing else (
+    if n == 1 then Some errors.Parse else (
+    if n == 2 then Some errors.Violations else (
+    if n == 3 then Some errors.All else
     None)))
 
 -- a buffer whose front has these values; what follows them stays

@@ -5,3 +5,5 @@ pub mod Read
 pub mod Tokens
 pub mod Parens
 pub mod Values
+pub mod Words
+pub mod Rewriting

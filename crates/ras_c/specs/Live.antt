@@ -6,7 +6,9 @@ use Rattle.ras_front_end.specs.Parsed.{Parsed}
 use Rattle.ras_parsing.specs.Edit.{Edit, IsEditOf, edited}
 use Rattle.ras_parsing.specs.Reparse.{IsReparse}
 use Rattle.rust_front.specs.Front.{rust_front}
-use Rattle.ras_c.specs.Border.{edition_of}
+use Rattle.ras_c.specs.declared.choice.Errors.{Errors}
+use Rattle.ras_c.specs.Read.{Report, report_on}
+use Rattle.ras_c.specs.Border.{edition_of, errors_of}
 
 -- the bytes from one place to another go, and others come in their place
 abbrev pub edit_from : ℕ → ℕ → List ℕ → Edit
@@ -32,3 +34,9 @@ pub record HoldsEdited (year : ℕ) (edit : Edit) (before after : Option Parsed)
 -- a handle has a parse with a property
 abbrev pub Holds : Option Parsed → (Parsed → Type 0) → Type 0
 Holds held P = (p : Parsed) × (held ≡ Some p) × P p
+
+-- the same of the report with the choice of errors that has a number
+pub record HoldsReport (errors : ℕ) (held : Option Parsed) (P : Report → Type 0) : Type 0 where
+  pub as_errors : Errors
+  pub errors_is : errors_of errors ≡ Some as_errors
+  pub holds : Holds held (λ p. P (report_on as_errors p))

@@ -1,5 +1,5 @@
 -- The report on a text: rows, errors and messages in the buffers of the caller, and their numbers.
-use Rattle.std.specs.Prelude.{◌≡◌, ℕ, ◌<◌, ◌≤◌, ◌^◌, List, length, map, Some}
+use Rattle.std.specs.Prelude.{◌≡◌, ℕ, ◌<◌, ◌≤◌, ◌^◌, Bool, if◌then◌else◌, List, [], length, map, Some}
 use Rattle.std.specs.List.{flat_map}
 use Rattle.tree_model.specs.Tree.{size}
 use Rattle.tree_model.specs.Edit.{root_of}
@@ -11,11 +11,13 @@ use Rattle.ras_front_end.specs.declared.edition.Entry.TheVariants.{SourceFile}
 use Rattle.ras_front_end.specs.Fault.{Fault}
 use Rattle.ras_front_end.specs.Parsed.{Parsed, IsParseOf}
 use Rattle.ras_validation.specs.Violations.{violations_of}
-use Rattle.ras_parsing.specs.AllErrors.{all_errors}
+use Rattle.ras_parsing.specs.AllErrors.{all_errors, violation_fault}
 use Rattle.rust_front.specs.Front.{rust_front}
 use Rattle.ras_c.specs.declared.read.ErrorRow.{ErrorRow}
 use Rattle.ras_c.specs.declared.read.Counts.{Counts}
-use Rattle.ras_c.specs.Border.{edition_of, over}
+use Rattle.ras_c.specs.declared.choice.Errors.{Errors}
+use Rattle.ras_c.specs.declared.choice.Errors.TheVariants.{Nothing, Parse, Violations, All}
+use Rattle.ras_c.specs.Border.{edition_of, entry_of, errors_of, over}
 
 -- an error as a row, and the bytes of all messages, one after the other
 abbrev pub error_row : Fault → ErrorRow
@@ -27,20 +29,43 @@ message_of f = f.message
 abbrev pub messages_of : List Fault → List ℕ
 messages_of faults = flat_map message_of faults
 
--- the size of the report on a parse
-abbrev pub needed : Parsed → Counts
-needed p = record {
-  rows = size p.tree;
-  errors = length (all_errors p);
-  violations = length (violations_of (root_of p.tree));
-  messages = length (messages_of (all_errors p));
+-- what is told of a parse: its tree, some errors, and how many of them are violations, which come last
+pub record Report : Type 0 where
+  pub parse : Parsed
+  pub faults : List Fault
+  pub violations : ℕ
+
+abbrev pub report : Parsed → List Fault → ℕ → Report
+report p faults violations = record { parse = p; faults = faults; violations = violations }
+
+abbrev pub violations_in : Parsed → List Fault
+violations_in p = map violation_fault (violations_of (root_of p.tree))
+
+-- the report with a choice of errors
+abbrev pub report_on : Errors → Parsed → Report
+report_on Nothing p = report p [] 0
+report_on Parse p = report p p.errors 0
+report_on Violations p = report p (violations_in p) (length (violations_in p))
+report_on All p = report p (all_errors p) (length (violations_in p))
+
+-- the violations, and also the errors of the parse if `all`
+abbrev pub violations_by : Bool → Errors
+violations_by all = if all then All else Violations
+
+-- its size
+abbrev pub needed : Report → Counts
+needed r = record {
+  rows = size r.parse.tree;
+  errors = length r.faults;
+  violations = r.violations;
+  messages = length (messages_of r.faults);
 }
 
 -- numbers of 32 bits count it
-pub record IsSmall (p : Parsed) : Type 0 where
-  pub rows_fit : size p.tree < 2 ^ 32
-  pub errors_fit : length (all_errors p) < 2 ^ 32
-  pub messages_fit : length (messages_of (all_errors p)) < 2 ^ 32
+pub record IsSmall (r : Report) : Type 0 where
+  pub rows_fit : size r.parse.tree < 2 ^ 32
+  pub errors_fit : length r.faults < 2 ^ 32
+  pub messages_fit : length (messages_of r.faults) < 2 ^ 32
 
 -- the buffers of the caller
 pub record Buffers : Type 0 where
@@ -53,18 +78,29 @@ abbrev pub buffers : List FlatRow → List ErrorRow → List ℕ → Counts → 
 buffers rows errors messages counts = record { rows = rows; errors = errors; messages = messages; counts = counts }
 
 -- each has room
-pub record HasRoom (p : Parsed) (b : Buffers) : Type 0 where
-  pub rows_fit : size p.tree ≤ length b.rows
-  pub errors_fit : length (all_errors p) ≤ length b.errors
-  pub messages_fit : length (messages_of (all_errors p)) ≤ length b.messages
+pub record HasRoom (r : Report) (b : Buffers) : Type 0 where
+  pub rows_fit : size r.parse.tree ≤ length b.rows
+  pub errors_fit : length r.faults ≤ length b.errors
+  pub messages_fit : length (messages_of r.faults) ≤ length b.messages
 
 -- all of it at the fronts of the buffers
-abbrev pub told : Parsed → Buffers → Buffers
-told p b = buffers (over (flat_rows p.tree) b.rows) (over (map error_row (all_errors p)) b.errors) (over (messages_of (all_errors p)) b.messages) (needed p)
+abbrev pub told : Report → Buffers → Buffers
+told r b = buffers (over (flat_rows r.parse.tree) b.rows) (over (map error_row r.faults) b.errors) (over (messages_of r.faults) b.messages) (needed r)
 
 -- the counts alone
-abbrev pub counted : Parsed → Buffers → Buffers
-counted p b = buffers b.rows b.errors b.messages (needed p)
+abbrev pub counted : Report → Buffers → Buffers
+counted r b = buffers b.rows b.errors b.messages (needed r)
+
+-- the report is in the buffers; or one lacks room for it, and they have its counts alone
+pub record IsTold (r : Report) (before after : Buffers) : Type 0 where
+  pub small : IsSmall r
+  pub room : HasRoom r before
+  pub written : after ≡ told r before
+
+pub record IsCut (r : Report) (before after : Buffers) : Type 0 where
+  pub small : IsSmall r
+  pub short : HasRoom r before → ⊥
+  pub written : after ≡ counted r before
 
 -- the parse is one of the text by an entry of the front end for Rust, in the edition of the year
 pub record IsReadingAs (entry : Entry) (year : ℕ) (text : List ℕ) (p : Parsed) : Type 0 where
@@ -75,3 +111,15 @@ pub record IsReadingAs (entry : Entry) (year : ℕ) (text : List ℕ) (p : Parse
 -- the same of a whole file
 abbrev pub IsReading : ℕ → List ℕ → Parsed → Type 0
 IsReading year text p = IsReadingAs SourceFile year text p
+
+-- a parse of the text by an entry has a report with a property
+abbrev pub Reports : Entry → Errors → ℕ → List ℕ → (Report → Type 0) → Type 0
+Reports entry errors year text P = (p : Parsed) × IsReadingAs entry year text p × P (report_on errors p)
+
+-- the same by the numbers of the entry and of the choice
+pub record ReportsBy (entry errors year : ℕ) (text : List ℕ) (P : Report → Type 0) : Type 0 where
+  pub as_entry : Entry
+  pub as_errors : Errors
+  pub entry_is : entry_of entry ≡ Some as_entry
+  pub errors_is : errors_of errors ≡ Some as_errors
+  pub reports : Reports as_entry as_errors year text P

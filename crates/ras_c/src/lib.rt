@@ -4,6 +4,7 @@
 //! Only the parse in a handle, which the caller owns, is kept between calls.
 #![tactic(auto)]
 
+mod choice;
 mod fill;
 mod handle;
 mod held;
@@ -13,8 +14,10 @@ mod loose;
 mod parens;
 mod parsed;
 mod read;
+mod rewriting;
 mod root;
 mod status;
 mod tokens;
 mod values;
 mod version;
+mod words;

@@ -3,17 +3,19 @@ ghost use Rattle.std.specs.Prelude.{◌≡◌, ◌<◌, ◌≤◌, ◌^◌, ◌�
 ghost use Rattle.tree_model.specs.Tree.{text};
 ghost use Rattle.ras_front_end.specs.Parsed.{Parsed};
 ghost use Rattle.ras_parsing.specs.Edit.{IsEditOf, edited};
-ghost use Rattle.ras_c.specs.Border.{edition_of};
-ghost use Rattle.ras_c.specs.Read.{told, counted, HasRoom, IsSmall, IsReading, buffers};
-ghost use Rattle.ras_c.specs.Live.{edit_from, IsEdited, HoldsEdited, Holds};
+ghost use Rattle.ras_c.specs.Border.{edition_of, errors_of};
+ghost use Rattle.ras_c.specs.declared.choice.Errors.TheVariants.{All};
+ghost use Rattle.ras_c.specs.Read.{report_on, IsTold, IsCut, IsSmall, IsReading, buffers};
+ghost use Rattle.ras_c.specs.Live.{edit_from, IsEdited, HoldsEdited, Holds, HoldsReport};
 
+use crate::choice::{Errors, errors_of};
 use crate::handle::Handle;
 use crate::held::{put, take};
 use crate::parsed::parsed;
 use crate::read::{Counts, ErrorRow, tell};
 use crate::root::Root;
 use crate::status::{
-    NO_EDITION, NO_MEMORY, NO_PARSE, NO_PLACE, NOT_UTF8, OK, TOO_LONG, edition_of,
+    NO_CHOICE, NO_EDITION, NO_MEMORY, NO_PARSE, NO_PLACE, NOT_UTF8, OK, TOO_LONG, edition_of,
 };
 use lossless_tree::{FlatRow, TextRange, TextSize};
 use ras_front_end::{Edition, ParseError};
@@ -46,6 +48,38 @@ pub extern "C" fn ras_c_parse(alloc: Global, text: &[u8], edition: u32, handle: 
     }
 }
 
+// Writes a report on a handle's parse.
+fn rows_told(
+    alloc: Global,
+    handle: &mut Handle,
+    told: Errors,
+    rows: &mut [FlatRow],
+    errors: &mut [ErrorRow],
+    messages: &mut [u8],
+    counts: &mut Counts,
+) -> u32
+    ensures done { result ≡ 0 → Holds handle.old.parse (λ p. IsTold (report_on told p)
+        (buffers rows.old errors.old messages.old counts.old)
+        (buffers rows.new errors.new messages.new counts.new)) }
+    ensures room { result ≡ 4 → Holds handle.old.parse (λ p. IsCut (report_on told p)
+        (buffers rows.old errors.old messages.old counts.old)
+        (buffers rows.new errors.new messages.new counts.new)) }
+    ensures long { result ≡ 2 → Holds handle.old.parse (λ p. IsSmall (report_on told p) → ⊥) }
+    ensures kept { (result ≡ 0 → ⊥) → (result ≡ 4 → ⊥)
+        → buffers rows.new errors.new messages.new counts.new
+        ≡ buffers rows.old errors.old messages.old counts.old }
+    ensures empty { (result ≡ 7) ↔ (handle.old.parse ≡ None) }
+    ensures same { handle.new.parse ≡ handle.old.parse }
+    ensures which { (result ≡ 0) ⊎ (2 ≤ result) × (result ≤ 4) ⊎ (result ≡ 7) }
+{
+    let Some(parse) = take(alloc, handle) else {
+        return NO_PARSE;
+    };
+    let status = tell(alloc, &parse, told, rows, errors, messages, counts);
+    put(alloc, handle, parse);
+    status
+}
+
 /// Writes the rows, errors and messages of a handle's parse, as `ras_c_read` does for a text. The handle keeps its parse.
 ///
 /// Returns [`OK`], [`TOO_LONG`], [`NO_MEMORY`], [`NO_ROOM`], or [`NO_PARSE`] if the handle holds no parse.
@@ -58,22 +92,56 @@ pub extern "C" fn ras_c_rows(
     messages: &mut [u8],
     counts: &mut Counts,
 ) -> u32
-    ensures done { result ≡ 0 → Holds handle.old.parse (λ p. IsSmall p × HasRoom p (buffers rows.old errors.old messages.old counts.old)
-        × (buffers rows.new errors.new messages.new counts.new ≡ told p (buffers rows.old errors.old messages.old counts.old))) }
-    ensures room { result ≡ 4 → Holds handle.old.parse (λ p. IsSmall p × (HasRoom p (buffers rows.old errors.old messages.old counts.old) → ⊥)
-        × (buffers rows.new errors.new messages.new counts.new ≡ counted p (buffers rows.old errors.old messages.old counts.old))) }
-    ensures kept { (result ≡ 0 → ⊥) → (result ≡ 4 → ⊥) → buffers rows.new errors.new messages.new counts.new ≡ buffers rows.old errors.old messages.old counts.old }
-    ensures long { result ≡ 2 → Holds handle.old.parse (λ p. IsSmall p → ⊥) }
+    ensures done { result ≡ 0 → Holds handle.old.parse (λ p. IsTold (report_on All p)
+        (buffers rows.old errors.old messages.old counts.old)
+        (buffers rows.new errors.new messages.new counts.new)) }
+    ensures room { result ≡ 4 → Holds handle.old.parse (λ p. IsCut (report_on All p)
+        (buffers rows.old errors.old messages.old counts.old)
+        (buffers rows.new errors.new messages.new counts.new)) }
+    ensures long { result ≡ 2 → Holds handle.old.parse (λ p. IsSmall (report_on All p) → ⊥) }
+    ensures kept { (result ≡ 0 → ⊥) → (result ≡ 4 → ⊥)
+        → buffers rows.new errors.new messages.new counts.new
+        ≡ buffers rows.old errors.old messages.old counts.old }
     ensures empty { (result ≡ 7) ↔ (handle.old.parse ≡ None) }
     ensures same { handle.new.parse ≡ handle.old.parse }
     ensures which { (result ≡ 0) ⊎ (2 ≤ result) × (result ≤ 4) ⊎ (result ≡ 7) }
 {
-    let Some(parse) = take(alloc, handle) else {
-        return NO_PARSE;
+    rows_told(alloc, handle, Errors::All, rows, errors, messages, counts)
+}
+
+/// Writes the rows of a handle's parse with a choice of errors, such as [`PARSE_ERRORS`], as `ras_c_read_as` does for a text. The handle
+/// keeps its parse.
+///
+/// Returns [`OK`], [`TOO_LONG`], [`NO_MEMORY`], [`NO_ROOM`], [`NO_CHOICE`], or [`NO_PARSE`] if the handle holds no parse.
+#[unsafe(no_mangle)]
+pub extern "C" fn ras_c_rows_as(
+    alloc: Global,
+    handle: &mut Handle,
+    told: u32,
+    rows: &mut [FlatRow],
+    errors: &mut [ErrorRow],
+    messages: &mut [u8],
+    counts: &mut Counts,
+) -> u32
+    ensures done { result ≡ 0 → HoldsReport told handle.old.parse (λ r. IsTold r
+        (buffers rows.old errors.old messages.old counts.old)
+        (buffers rows.new errors.new messages.new counts.new)) }
+    ensures room { result ≡ 4 → HoldsReport told handle.old.parse (λ r. IsCut r
+        (buffers rows.old errors.old messages.old counts.old)
+        (buffers rows.new errors.new messages.new counts.new)) }
+    ensures long { result ≡ 2 → HoldsReport told handle.old.parse (λ r. IsSmall r → ⊥) }
+    ensures kept { (result ≡ 0 → ⊥) → (result ≡ 4 → ⊥)
+        → buffers rows.new errors.new messages.new counts.new
+        ≡ buffers rows.old errors.old messages.old counts.old }
+    ensures choice { (result ≡ 12) ↔ (errors_of told ≡ None) }
+    ensures empty { (result ≡ 7) ↔ (errors_of told ≡ None → ⊥) × (handle.old.parse ≡ None) }
+    ensures same { handle.new.parse ≡ handle.old.parse }
+    ensures which { (result ≡ 0) ⊎ (2 ≤ result) × (result ≤ 4) ⊎ (result ≡ 7) ⊎ (result ≡ 12) }
+{
+    let Some(told) = errors_of(told) else {
+        return NO_CHOICE;
     };
-    let status = tell(alloc, &parse, rows, errors, messages, counts);
-    put(alloc, handle, parse);
-    status
+    rows_told(alloc, handle, told, rows, errors, messages, counts)
 }
 
 // The parse after an edit, or the status that says why there is none.

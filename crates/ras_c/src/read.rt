@@ -1,16 +1,17 @@
 //! Rows and errors of a text.
 ghost use Rattle.std.specs.Prelude.{◌≡◌, ◌↔◌, ◌≤◌, ◌<◌, ◌^◌, ◌⊎◌, length, map, IfOk, IfSome, IsUtf8, None, string_bytes};
-ghost use Rattle.ras_front_end.specs.Parsed.{Parsed};
-ghost use Rattle.ras_front_end.specs.declared.edition.Entry.TheVariants.{Expr};
+ghost use Rattle.ras_front_end.specs.declared.edition.Entry.TheVariants.{SourceFile, Expr};
 ghost use Rattle.tree_model.specs.Tree.{size};
 ghost use Rattle.tree_rows.specs.Flat.{flat_rows};
-ghost use Rattle.ras_c.specs.Border.{edition_of, over};
-ghost use Rattle.ras_c.specs.Read.{error_row, messages_of, told, counted, HasRoom, IsSmall, IsReading, IsReadingAs, buffers};
+ghost use Rattle.ras_c.specs.declared.choice.Errors.TheVariants.{All};
+ghost use Rattle.ras_c.specs.Border.{edition_of, entry_of, errors_of, over};
+ghost use Rattle.ras_c.specs.Read.{error_row, messages_of, report, report_on, violations_by, IsTold, IsCut, IsSmall, Reports, ReportsBy, buffers};
 
+use crate::choice::{Errors, entry_of, errors_of};
 use crate::fill::{fill, small};
-use crate::parsed::{parsed, parsed_as};
+use crate::parsed::parsed_as;
 use crate::root::Root;
-use crate::status::{NO_MEMORY, NO_ROOM, OK, TOO_LONG};
+use crate::status::{NO_CHOICE, NO_ENTRY, NO_MEMORY, NO_ROOM, OK, TOO_LONG};
 use lossless_tree::FlatRow;
 use ras_front_end::{Entry, SyntaxError};
 use ras_parsing::Parse;
@@ -105,36 +106,38 @@ fn stored_count(parse: &Parse<Root>) -> usize
     parse.stored().len()
 }
 
-/// Writes a parse's rows, errors and messages, and their counts.
-pub(crate) fn tell(
+// Writes a report on a parse with some errors. The last `violations` of them are violations.
+fn write_report(
     alloc: Global,
     parse: &Parse<Root>,
+    found: &[SyntaxError],
+    violations: usize,
     rows: &mut [FlatRow],
     errors: &mut [ErrorRow],
     messages: &mut [u8],
     counts: &mut Counts,
 ) -> u32
-    ensures done { result ≡ 0 → HasRoom parse.now (buffers rows.old errors.old messages.old counts.old)
-        × (buffers rows.new errors.new messages.new counts.new ≡ told parse.now (buffers rows.old errors.old messages.old counts.old)) }
-    ensures room { result ≡ 4 → (HasRoom parse.now (buffers rows.old errors.old messages.old counts.old) → ⊥)
-        × (buffers rows.new errors.new messages.new counts.new ≡ counted parse.now (buffers rows.old errors.old messages.old counts.old)) }
-    ensures small { (result ≡ 0) ⊎ (result ≡ 4) → IsSmall parse.now }
-    ensures long { result ≡ 2 → IsSmall parse.now → ⊥ }
-    ensures kept { (result ≡ 0 → ⊥) → (result ≡ 4 → ⊥) → buffers rows.new errors.new messages.new counts.new ≡ buffers rows.old errors.old messages.old counts.old }
+    requires { violations ≤ length found.now }
+    ensures done { result ≡ 0 → IsTold (report parse.now found.now violations)
+        (buffers rows.old errors.old messages.old counts.old)
+        (buffers rows.new errors.new messages.new counts.new) }
+    ensures room { result ≡ 4 → IsCut (report parse.now found.now violations)
+        (buffers rows.old errors.old messages.old counts.old)
+        (buffers rows.new errors.new messages.new counts.new) }
+    ensures long { result ≡ 2 → IsSmall (report parse.now found.now violations) → ⊥ }
+    ensures kept { (result ≡ 0 → ⊥) → (result ≡ 4 → ⊥)
+        → buffers rows.new errors.new messages.new counts.new
+        ≡ buffers rows.old errors.old messages.old counts.old }
     ensures which { (result ≡ 0) ⊎ (2 ≤ result) × (result ≤ 4) }
 {
     let row_count = write_rows(parse, &mut []);
-    let Ok(found) = parse.errors(alloc) else {
+    let Ok(texts) = joined(alloc, found) else {
         return NO_MEMORY;
     };
-    let Ok(texts) = joined(alloc, &found) else {
-        return NO_MEMORY;
-    };
-    let violations = found.len() - stored_count(parse);
     let Some(needed) = counts_of(row_count, found.len(), violations, texts.len()) else {
         return TOO_LONG;
     };
-    let Ok(lines) = error_rows(alloc, &found) else {
+    let Ok(lines) = error_rows(alloc, found) else {
         return NO_MEMORY;
     };
     *counts = needed;
@@ -145,6 +148,112 @@ pub(crate) fn tell(
     fill(&lines, errors);
     fill(texts.as_bytes(), messages);
     OK
+}
+
+// The report with the violations, and also with the errors of the parse if `all`.
+#[tactic(auto, using(crate::proofs::ReadLemmas::all_counted, crate::proofs::ReadLemmas::stored_within, crate::proofs::ReadLemmas::behind_stored))]
+fn tell_violations(
+    alloc: Global,
+    parse: &Parse<Root>,
+    all: bool,
+    rows: &mut [FlatRow],
+    errors: &mut [ErrorRow],
+    messages: &mut [u8],
+    counts: &mut Counts,
+) -> u32
+    ensures done { result ≡ 0 → IsTold (report_on (violations_by all) parse.now)
+        (buffers rows.old errors.old messages.old counts.old)
+        (buffers rows.new errors.new messages.new counts.new) }
+    ensures room { result ≡ 4 → IsCut (report_on (violations_by all) parse.now)
+        (buffers rows.old errors.old messages.old counts.old)
+        (buffers rows.new errors.new messages.new counts.new) }
+    ensures long { result ≡ 2 → IsSmall (report_on (violations_by all) parse.now) → ⊥ }
+    ensures kept { (result ≡ 0 → ⊥) → (result ≡ 4 → ⊥)
+        → buffers rows.new errors.new messages.new counts.new
+        ≡ buffers rows.old errors.old messages.old counts.old }
+    ensures which { (result ≡ 0) ⊎ (2 ≤ result) × (result ≤ 4) }
+{
+    let Ok(found) = parse.errors(alloc) else {
+        return NO_MEMORY;
+    };
+    let stored = stored_count(parse);
+    let violations = found.len() - stored;
+    let told = if all {
+        found.as_slice()
+    } else {
+        &found[stored..]
+    };
+    write_report(
+        alloc, parse, told, violations, rows, errors, messages, counts,
+    )
+}
+
+/// Writes a report on a parse: its rows, the chosen errors and their messages, and the counts of these.
+pub(crate) fn tell(
+    alloc: Global,
+    parse: &Parse<Root>,
+    told: Errors,
+    rows: &mut [FlatRow],
+    errors: &mut [ErrorRow],
+    messages: &mut [u8],
+    counts: &mut Counts,
+) -> u32
+    ensures done { result ≡ 0 → IsTold (report_on told parse.now)
+        (buffers rows.old errors.old messages.old counts.old)
+        (buffers rows.new errors.new messages.new counts.new) }
+    ensures room { result ≡ 4 → IsCut (report_on told parse.now)
+        (buffers rows.old errors.old messages.old counts.old)
+        (buffers rows.new errors.new messages.new counts.new) }
+    ensures long { result ≡ 2 → IsSmall (report_on told parse.now) → ⊥ }
+    ensures kept { (result ≡ 0 → ⊥) → (result ≡ 4 → ⊥)
+        → buffers rows.new errors.new messages.new counts.new
+        ≡ buffers rows.old errors.old messages.old counts.old }
+    ensures which { (result ≡ 0) ⊎ (2 ≤ result) × (result ≤ 4) }
+{
+    match told {
+        Errors::Nothing => write_report(alloc, parse, &[], 0, rows, errors, messages, counts),
+        Errors::Parse => {
+            let found = parse.stored();
+            write_report(alloc, parse, found, 0, rows, errors, messages, counts)
+        }
+        Errors::Violations => {
+            tell_violations(alloc, parse, false, rows, errors, messages, counts)
+        }
+        Errors::All => tell_violations(alloc, parse, true, rows, errors, messages, counts),
+    }
+}
+
+// The report on the parse of a text by an entry.
+fn read_told(
+    alloc: Global,
+    entry: Entry,
+    told: Errors,
+    text: &[u8],
+    edition: u32,
+    rows: &mut [FlatRow],
+    errors: &mut [ErrorRow],
+    messages: &mut [u8],
+    counts: &mut Counts,
+) -> u32
+    ensures done { result ≡ 0 → Reports entry told edition text.now (λ r. IsTold r
+        (buffers rows.old errors.old messages.old counts.old)
+        (buffers rows.new errors.new messages.new counts.new)) }
+    ensures room { result ≡ 4 → Reports entry told edition text.now (λ r. IsCut r
+        (buffers rows.old errors.old messages.old counts.old)
+        (buffers rows.new errors.new messages.new counts.new)) }
+    ensures kept { (result ≡ 0 → ⊥) → (result ≡ 4 → ⊥)
+        → buffers rows.new errors.new messages.new counts.new
+        ≡ buffers rows.old errors.old messages.old counts.old }
+    ensures utf8 { (result ≡ 1) ↔ (edition_of edition ≡ None → ⊥) × (IsUtf8 text.now → ⊥) }
+    ensures long { result ≡ 2 → (2 ^ 32 ≤ length text.now)
+        ⊎ Reports entry told edition text.now (λ r. IsSmall r → ⊥) }
+    ensures edition { (result ≡ 5) ↔ (edition_of edition ≡ None) }
+    ensures which { result ≤ 5 }
+{
+    match parsed_as(alloc, entry, text, edition) {
+        Ok(parse) => tell(alloc, &parse, told, rows, errors, messages, counts),
+        Err(status) => status,
+    }
 }
 
 /// Parses a text as a Rust file of an edition, such as 2024. Writes the tree as rows in preorder, the errors, and their messages one after
@@ -162,20 +271,32 @@ pub extern "C" fn ras_c_read(
     messages: &mut [u8],
     counts: &mut Counts,
 ) -> u32
-    ensures done { result ≡ 0 → (p : Parsed) × IsReading edition text.now p × IsSmall p × HasRoom p (buffers rows.old errors.old messages.old counts.old)
-        × (buffers rows.new errors.new messages.new counts.new ≡ told p (buffers rows.old errors.old messages.old counts.old)) }
-    ensures room { result ≡ 4 → (p : Parsed) × IsReading edition text.now p × IsSmall p × (HasRoom p (buffers rows.old errors.old messages.old counts.old) → ⊥)
-        × (buffers rows.new errors.new messages.new counts.new ≡ counted p (buffers rows.old errors.old messages.old counts.old)) }
-    ensures kept { (result ≡ 0 → ⊥) → (result ≡ 4 → ⊥) → buffers rows.new errors.new messages.new counts.new ≡ buffers rows.old errors.old messages.old counts.old }
+    ensures done { result ≡ 0 → Reports SourceFile All edition text.now (λ r. IsTold r
+        (buffers rows.old errors.old messages.old counts.old)
+        (buffers rows.new errors.new messages.new counts.new)) }
+    ensures room { result ≡ 4 → Reports SourceFile All edition text.now (λ r. IsCut r
+        (buffers rows.old errors.old messages.old counts.old)
+        (buffers rows.new errors.new messages.new counts.new)) }
+    ensures kept { (result ≡ 0 → ⊥) → (result ≡ 4 → ⊥)
+        → buffers rows.new errors.new messages.new counts.new
+        ≡ buffers rows.old errors.old messages.old counts.old }
     ensures utf8 { (result ≡ 1) ↔ (edition_of edition ≡ None → ⊥) × (IsUtf8 text.now → ⊥) }
-    ensures long { result ≡ 2 → (2 ^ 32 ≤ length text.now) ⊎ ((p : Parsed) × IsReading edition text.now p × (IsSmall p → ⊥)) }
+    ensures long { result ≡ 2 → (2 ^ 32 ≤ length text.now)
+        ⊎ Reports SourceFile All edition text.now (λ r. IsSmall r → ⊥) }
     ensures edition { (result ≡ 5) ↔ (edition_of edition ≡ None) }
     ensures which { result ≤ 5 }
 {
-    match parsed(alloc, text, edition) {
-        Ok(parse) => tell(alloc, &parse, rows, errors, messages, counts),
-        Err(status) => status,
-    }
+    read_told(
+        alloc,
+        Entry::SourceFile,
+        Errors::All,
+        text,
+        edition,
+        rows,
+        errors,
+        messages,
+        counts,
+    )
 }
 
 /// Parses a text as an expression of an edition, and writes what `ras_c_read` writes for a file. The root is a node of an expression, or
@@ -192,24 +313,77 @@ pub extern "C" fn ras_c_read_expr(
     messages: &mut [u8],
     counts: &mut Counts,
 ) -> u32
-    ensures done { result ≡ 0 → (p : Parsed) × IsReadingAs Expr edition text.now p × IsSmall p
-        × HasRoom p (buffers rows.old errors.old messages.old counts.old)
-        × (buffers rows.new errors.new messages.new counts.new
-        ≡ told p (buffers rows.old errors.old messages.old counts.old)) }
-    ensures room { result ≡ 4 → (p : Parsed) × IsReadingAs Expr edition text.now p × IsSmall p
-        × (HasRoom p (buffers rows.old errors.old messages.old counts.old) → ⊥)
-        × (buffers rows.new errors.new messages.new counts.new
-        ≡ counted p (buffers rows.old errors.old messages.old counts.old)) }
-    ensures kept { (result ≡ 0 → ⊥) → (result ≡ 4 → ⊥) → buffers rows.new errors.new messages.new counts.new
+    ensures done { result ≡ 0 → Reports Expr All edition text.now (λ r. IsTold r
+        (buffers rows.old errors.old messages.old counts.old)
+        (buffers rows.new errors.new messages.new counts.new)) }
+    ensures room { result ≡ 4 → Reports Expr All edition text.now (λ r. IsCut r
+        (buffers rows.old errors.old messages.old counts.old)
+        (buffers rows.new errors.new messages.new counts.new)) }
+    ensures kept { (result ≡ 0 → ⊥) → (result ≡ 4 → ⊥)
+        → buffers rows.new errors.new messages.new counts.new
         ≡ buffers rows.old errors.old messages.old counts.old }
     ensures utf8 { (result ≡ 1) ↔ (edition_of edition ≡ None → ⊥) × (IsUtf8 text.now → ⊥) }
     ensures long { result ≡ 2 → (2 ^ 32 ≤ length text.now)
-        ⊎ ((p : Parsed) × IsReadingAs Expr edition text.now p × (IsSmall p → ⊥)) }
+        ⊎ Reports Expr All edition text.now (λ r. IsSmall r → ⊥) }
     ensures edition { (result ≡ 5) ↔ (edition_of edition ≡ None) }
     ensures which { result ≤ 5 }
 {
-    match parsed_as(alloc, Entry::Expr, text, edition) {
-        Ok(parse) => tell(alloc, &parse, rows, errors, messages, counts),
-        Err(status) => status,
-    }
+    read_told(
+        alloc,
+        Entry::Expr,
+        Errors::All,
+        text,
+        edition,
+        rows,
+        errors,
+        messages,
+        counts,
+    )
+}
+
+/// Parses a text by an entry, such as [`ENTRY_EXPR`], and writes what `ras_c_read` writes for a file, with a choice of errors, such as
+/// [`PARSE_ERRORS`]. The counts are those of the chosen errors.
+///
+/// Returns [`OK`], [`NOT_UTF8`], [`TOO_LONG`], [`NO_MEMORY`], [`NO_ROOM`], [`NO_EDITION`], [`NO_ENTRY`] or [`NO_CHOICE`]. The violations of
+/// rules beyond the grammar are looked for only if they are chosen: they take a further walk through the tree.
+#[unsafe(no_mangle)]
+pub extern "C" fn ras_c_read_as(
+    alloc: Global,
+    entry: u32,
+    told: u32,
+    text: &[u8],
+    edition: u32,
+    rows: &mut [FlatRow],
+    errors: &mut [ErrorRow],
+    messages: &mut [u8],
+    counts: &mut Counts,
+) -> u32
+    ensures done { result ≡ 0 → ReportsBy entry told edition text.now (λ r. IsTold r
+        (buffers rows.old errors.old messages.old counts.old)
+        (buffers rows.new errors.new messages.new counts.new)) }
+    ensures room { result ≡ 4 → ReportsBy entry told edition text.now (λ r. IsCut r
+        (buffers rows.old errors.old messages.old counts.old)
+        (buffers rows.new errors.new messages.new counts.new)) }
+    ensures kept { (result ≡ 0 → ⊥) → (result ≡ 4 → ⊥)
+        → buffers rows.new errors.new messages.new counts.new
+        ≡ buffers rows.old errors.old messages.old counts.old }
+    ensures entry { (result ≡ 11) ↔ (entry_of entry ≡ None) }
+    ensures choice { (result ≡ 12) ↔ (entry_of entry ≡ None → ⊥) × (errors_of told ≡ None) }
+    ensures edition { (result ≡ 5) ↔ (entry_of entry ≡ None → ⊥) × (errors_of told ≡ None → ⊥)
+        × (edition_of edition ≡ None) }
+    ensures utf8 { (result ≡ 1) ↔ (entry_of entry ≡ None → ⊥) × (errors_of told ≡ None → ⊥)
+        × (edition_of edition ≡ None → ⊥) × (IsUtf8 text.now → ⊥) }
+    ensures long { result ≡ 2 → (2 ^ 32 ≤ length text.now)
+        ⊎ ReportsBy entry told edition text.now (λ r. IsSmall r → ⊥) }
+    ensures which { (result ≤ 5) ⊎ (11 ≤ result) × (result ≤ 12) }
+{
+    let Some(entry) = entry_of(entry) else {
+        return NO_ENTRY;
+    };
+    let Some(told) = errors_of(told) else {
+        return NO_CHOICE;
+    };
+    read_told(
+        alloc, entry, told, text, edition, rows, errors, messages, counts,
+    )
 }

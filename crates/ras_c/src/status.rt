@@ -20,6 +20,10 @@ pub const NO_EDITION: u32 = 5;
 pub const NO_PLACE: u32 = 6;
 /// The handle holds no parse. Nothing was written.
 pub const NO_PARSE: u32 = 7;
+/// No entry has the number. Nothing was written.
+pub const NO_ENTRY: u32 = 11;
+/// No choice of errors has the number. Nothing was written.
+pub const NO_CHOICE: u32 = 12;
 
 /// The edition of a year, or `None` if there is none.
 pub fn edition_of(year: u32) -> Option<Edition>
