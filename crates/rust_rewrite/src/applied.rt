@@ -293,23 +293,36 @@ fn checked<F: FrontEnd>(
     })
 }
 
-// The edit of an old text by which its matches are replaced, and the new text that comes out.
+// The ranges of the statements without a `;` in a tree.
+fn open_statements(alloc: Global, root: &SyntaxNode) -> Result<Vec<TextRange>, AllocError> {
+    let mut ranges = Vec::new(alloc);
+    for node in root.descendants() {
+        if node.kind() == SyntaxKind::EXPR_STMT && !node.as_str().ends_with(';') {
+            ranges.push(node.text_range())?;
+        }
+    }
+    Ok(ranges)
+}
+
+// The edit of an old tree by which its matches are replaced, and the new text that comes out.
 fn planned<F: FrontEnd>(
     alloc: Global,
     front: &F,
     edition: Edition,
     rules: &[Rule],
-    text: &str,
+    root: &SyntaxNode,
     matches: &[Match],
 ) -> Result<(TextEdit, String), Failure>
     ensures { IfOk result (λ p. WithoutNeedless (F.answers front.now) edition (string_bytes p.1)) }
 {
+    let open = open_statements(alloc, root)?;
     let full = render(
         alloc,
         &Source {
-            old: text,
+            old: root.as_str(),
             rules,
             matches,
+            open: &open,
             gone: &[],
             guide: "",
         },
@@ -328,9 +341,10 @@ fn planned<F: FrontEnd>(
     let last = render(
         alloc,
         &Source {
-            old: text,
+            old: root.as_str(),
             rules,
             matches,
+            open: &open,
             gone: &gone,
             guide: meant.as_str(),
         },
@@ -367,7 +381,7 @@ fn replaced<F: FrontEnd>(
     ensures rewritten { IfOk result (λ r. IsRewrite (F.answers front.now) edition rules.now old.now (map occurrence_of r.matches.items) r.edit (string_bytes r.text)) }
     ensures needless { IfOk result (λ r. WithoutNeedless (F.answers front.now) edition (string_bytes r.text)) }
 {
-    let (edit, meant) = planned(alloc, front, edition, rules, old.root().as_str(), &matches)?;
+    let (edit, meant) = planned(alloc, front, edition, rules, old.root(), &matches)?;
     let done = checked(alloc, front, edition, rules, old, matches, edit)?;
     if done.text.as_str() == meant.as_str() {
         Ok(done)

@@ -41,6 +41,8 @@ pub(crate) struct Source<'a> {
     pub(crate) old: &'a str,
     pub(crate) rules: &'a [Rule],
     pub(crate) matches: &'a [Match],
+    /// The ranges of statements without a `;`, in the order of their starts.
+    pub(crate) open: &'a [TextRange],
     /// Which pairs are left out.
     pub(crate) gone: &'a [bool],
     /// The text that is to come out, if it is known: a blank is put where it has one in place of a parenthesis.
@@ -191,6 +193,13 @@ impl<'a> Writer<'a> {
         }
     }
 
+    // Whether a match is a statement without a `;`: what replaces it can be one without a pair alone, and `({}) ({})` is a call.
+    fn is_open(&self, found: &Match) -> bool {
+        let start = found.range.start();
+        let at = self.source.open.partition_point(|it| it.start() < start);
+        matches!(self.source.open.get(at), Some(range) if *range == found.range)
+    }
+
     // The old text of a range up to the next match in it. Adds what follows to the tasks.
     fn copy(
         &mut self,
@@ -228,7 +237,7 @@ impl<'a> Writer<'a> {
                 .map_err(AllocError::from)?;
             tasks.push(Task::End).map_err(AllocError::from)?;
         }
-        if self.is_expr(found) {
+        if self.is_expr(found) && !self.is_open(found) {
             let pair = self.open()?;
             tasks.push(Task::Close { pair }).map_err(AllocError::from)?;
         }
