@@ -17,10 +17,11 @@ use Rattle.event_layout.specs.Layout.{Laying, added, pass_all_of, enter_of, exit
 use Rattle.event_layout.specs.Made.{node_of}
 use Rattle.event_layout.specs.Orders.{Order, begin_node, end_node, nothing, ordered, walked, Turn, turn, turns, kinds_at, orders_of, begun_at, ordered_of}
 use Rattle.event_layout.specs.Amid.{Around, faults_amid, amid, IsIn, sum_len, first_len, Fits}
-use Rattle.event_layout.specs.Filled.{Stretch, Setting, events_in, set_in, alone, laid, past_lead, left_after, is_error_of, IsSetting, IsPiece, IsShort, LaidAround}
+use Rattle.event_layout.specs.Filled.{Stretch, Setting, events_in, set_in, alone, laid, past_lead, left_after, is_error_of, bytes_taken, IsSetting, IsPiece, IsShort, LaidAround}
 use Rattle.event_layout.proofs.Moves.{pass_all_none, exit_all_none}
 use Rattle.event_layout.proofs.Walking.{one_node}
 use Rattle.event_layout.proofs.Ordering.{bare, walked_bare, pass_all_bare, walked_both, layouts_ordered}
+use Rattle.event_layout.proofs.Bytes.{Took, pass_all_took, walked_took}
 use Rattle.event_layout.proofs.Amid.{lead_none, lead_le, lead_both, passed_rest, passed_depth, pass_all_fits, walked_fits, pass_all_in, finish_amid, walked_amid}
 use Rattle.event_layout.proofs.Turning.{NodeIn, Within, turns_both, turns_within, turns_length, none_at, turns_before, turns_inside, turns_behind, orders_before, orders_at, orders_inside, orders_behind, filled_orders, alone_orders}
 use Rattle.event_layout.proofs.Staying.{begun, ended, begun_all, begun_both, begun_few, begun_zero, ended_both, kinds_few, Leaves, leaves_past, some_left, enter_is, exit_is, begins_rest, begins_le, orders_le, easy_stay, begins_stay, Ready, Stayed, stays, ready_easy}
@@ -455,6 +456,14 @@ module _ (root : SyntaxKind) (attaching : List SyntaxKind) (s : Setting) (h : Is
         ∙ append_assoc before_state.steps (piece_state.steps ++ ends ∷ []) last_state.steps
         ∙ ap (λ steps. before_state.steps ++ (steps ++ last_state.steps)) (sym laid_by_itself.steps)
 
+    pub bytes_filled : length s.before.text < 2 ^ 32 - 1 → bytes_taken before_state.steps ≡ length s.before.text
+    bytes_filled few =
+        let took : Took before_state =
+        pass_all_took (lead at_state.rest) at_state
+        (walked_took s.before.text attaching (orders_at s.before.events s.behind.events) first_state
+        (walked_took s.before.text attaching (orders_before s.before.events s.behind.events) (begun_at root s.before.tokens) (omega arith))) in
+        omega (arith, took, before_over.position, few)
+
     pub faults_filled : (laid root attaching (set_in s p)).faults
         ≡ faults_amid 0 (length (p.tokens ++ s.behind.tokens)) before_state.faults
         ++ (faults_amid (length s.before.text) (length s.behind.tokens) (laid s.kind attaching (alone s.kind p)).faults
@@ -473,6 +482,7 @@ module _ (root : SyntaxKind) (attaching : List SyntaxKind) (s : Setting) (h : Is
     behind = last_state.steps;
     faults_before = before_state.faults;
     faults_behind = last_state.faults;
+    bytes = bytes_filled;
     steps = steps_filled;
     faults = faults_filled;
   }

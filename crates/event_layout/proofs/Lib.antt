@@ -11,6 +11,7 @@ pub mod Ordering
 pub mod Amid
 pub mod Turning
 pub mod Staying
+pub mod Bytes
 pub mod Filled
 pub mod Inserting
 pub mod Taking

@@ -123,6 +123,7 @@ laid_in root k attaching g rule a p c made es before behind small piece l is =
     let short : IsShort (set_in (setting_of k (stretch_of a []) (stretch_of c []) before behind) (stretch_of p es)) = record { text = small.text; events = omega (arith, count, fits) } in
     record {
       steps = ap (λ (xs : List Event). (laid root attaching (record { text = a.text ++ (p.text ++ c.text); tokens = a.tokens ++ (p.tokens ++ c.tokens); events = xs })).steps) is ∙ l.steps (stretch_of p es) piece short;
+      bytes = l.bytes (stretch_of p es) piece short;
       faults = ap (λ (xs : List Event). (laid root attaching (record { text = a.text ++ (p.text ++ c.text); tokens = a.tokens ++ (p.tokens ++ c.tokens); events = xs })).faults) is ∙ l.faults (stretch_of p es) piece short;
     }
 

@@ -2,7 +2,7 @@
 -- other piece were there: laws of the definitions.
 use Rattle.std.specs.Prelude.{◌≡◌, ℕ, ◌+◌, ◌-◌, ◌<◌, ◌^◌, nat_le, Bool, true, false, if◌then◌else◌, Option, Some, None, option_map, option_and_then, List, [], ◌∷◌, ◌++◌, map, length, drop, reverse, All}
 use Rattle.syntax_kind.specs.declared.syntax_kind.SyntaxKind.{SyntaxKind}
-use Rattle.ras_front_end.specs.Reading.{FrontStep}
+use Rattle.ras_front_end.specs.Reading.{FrontStep, begins, takes, ends, reports}
 use Rattle.token_layout.specs.declared.span.Token.{Token as RawToken}
 use Rattle.token_layout.specs.Laid.{IsCut}
 use Rattle.grammar_machine.specs.declared.event.Event.{Event}
@@ -107,12 +107,22 @@ pub record IsShort (p : Stretch) : Type 0 where
   pub text : length p.text < 2 ^ 32
   pub events : length p.events < 2 ^ 32
 
+-- how many bytes steps take
+abbrev pub bytes_taken : List FrontStep → ℕ
+bytes_taken [] = 0
+bytes_taken (begins k ∷ es) = bytes_taken es
+bytes_taken (takes k n ∷ es) = n + bytes_taken es
+bytes_taken (ends ∷ es) = bytes_taken es
+bytes_taken (reports m p ∷ es) = bytes_taken es
+
 -- what is laid before and behind the piece is the same for all pieces
 pub record LaidAround (root : SyntaxKind) (attaching : List SyntaxKind) (s : Setting) : Type 0 where
   pub before : List FrontStep
   pub behind : List FrontStep
   pub faults_before : List Fault
   pub faults_behind : List Fault
+  -- what is laid before it takes the text before it
+  pub bytes : (p : Stretch) → IsPiece p → IsShort (set_in s p) → length s.before.text < 2 ^ 32 - 1 → bytes_taken before ≡ length s.before.text
   pub steps : (p : Stretch) → IsPiece p → IsShort (set_in s p)
       → (laid root attaching (set_in s p)).steps
       ≡ before ++ ((laid s.kind attaching (alone s.kind p)).steps ++ behind)

@@ -15,7 +15,7 @@ use Rattle.grammar_machine.specs.Exchanging.{ComesToCall, EndAlike, ReadsAlone}
 use Rattle.event_layout.specs.declared.layout.Fault.{Fault}
 use Rattle.event_layout.specs.Trivia.{lead, attaches_of}
 use Rattle.event_layout.specs.Amid.{faults_amid}
-use Rattle.event_layout.specs.Filled.{Stretch, laid}
+use Rattle.event_layout.specs.Filled.{Stretch, laid, bytes_taken}
 use Rattle.event_layout.specs.Finding.{AreSightsOf}
 use Rattle.event_layout.specs.Placed.{NextIsPlain, EndsSeen}
 use Rattle.event_layout.specs.Ending.{closes_last}
@@ -86,6 +86,8 @@ pub record LaidIn
     : Type 0 where
   pub steps : (laid root attaching (whole_of g rule a p c)).steps
       ≡ before ++ ((laid k attaching (piece_of k p es)).steps ++ behind)
+  -- what is laid before the piece takes the text before it
+  pub bytes : length a.text < 2 ^ 32 - 1 → bytes_taken before ≡ length a.text
   pub faults : (laid root attaching (whole_of g rule a p c)).faults
       ≡ faults_amid 0 (length (p.tokens ++ c.tokens)) faults_before
       ++ (faults_amid (length a.text) (length c.tokens) (laid k attaching (piece_of k p es)).faults

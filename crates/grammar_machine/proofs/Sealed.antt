@@ -1,7 +1,7 @@
 -- What a sealed call leaves behind.
 use Rattle.std.proofs.Common.{◌≡◌, ℕ, zero, suc, ◌<◌, ◌≤◌, ◌+◌, ◌-◌, ◌^◌, List, [], ◌∷◌, ◌++◌, drop, length, ap, ap₂, ◌∙◌, sym, subst, refl, arith, Bool, true, false, nat_lt, if◌then◌else◌, mod-eq_of_lt}
-use Rattle.std.specs.Prelude.{Option, Some, None, slice_get}
-use Rattle.std.proofs.lemmas.List.{length-map, length-append, drop_at}
+use Rattle.std.specs.Prelude.{Option, Some, None, reverse, slice_get}
+use Rattle.std.proofs.lemmas.List.{length-map, length-append, drop_at, reverse-reverse}
 use Rattle.std.proofs.lemmas.Option.{slice_get_past}
 use Rattle.syntax_kind.specs.declared.syntax_kind.SyntaxKind.{SyntaxKind}
 use Rattle.grammar_machine.specs.declared.event.Event.{Event}
@@ -13,6 +13,7 @@ use Rattle.grammar_machine.specs.declared.machine.Place.{Place}
 use Rattle.grammar_machine.specs.Running.{Tables, Stacks, State, kind_of, start_of, frame_of, sealed_on, with_place, with_made, rest_of, answer_of, past_of, return_of, obey_of, step_of, runs}
 use Rattle.grammar_machine.specs.Framing.{Around, sealed_count, IsNested, ground_of, moved_event, moved_events, moved_marks, in_place, made_in, NextStays, returns_of}
 use Rattle.grammar_machine.specs.Filling.{LooksAreShort}
+use Rattle.grammar_machine.specs.Exchanging.{MakesItsOwn, CallsMakeTheirOwn}
 use Rattle.grammar_machine.specs.Sealing.{inside, SealedCall, returned, behind_call, LeavesNothing, SealedCallsLeaveNothing}
 use Rattle.grammar_machine.proofs.Running.{step-obeys, runs-none, runs-suc, runs-add}
 use Rattle.grammar_machine.proofs.Growing.{Grows, runs-grow, step-grows}
@@ -234,6 +235,28 @@ leaves-nothing g ts k s c t looks short top few token =
       events = moved_events (length s.made.events) y.made.events;
       is = ends ∙ ap (λ i. behind_call k s i (moved_events (length s.made.events) y.made.events)) (sym (ap (λ (x : State). x.place.at) ends));
     }
+
+makes-own : (g : Tables) (ts : List Sight) (k : SyntaxKind) (s : State) (c : SealedCall g ts k s) (t : Sight) → LooksAreShort g → length ts + 3 < 2 ^ 64
+    → (returned c).place.at < 2 ^ 62 → length (returned c).made.events < 2 ^ 32 - 1 → slice_get ts s.place.at ≡ Some t → MakesItsOwn c
+makes-own g ts k s c t looks short top few token =
+    let us = drop s.place.at ts in
+    let y = runs c.steps g us (first g c.target t) in
+    let is : inside c.steps g ts s ≡ in_place (around k s) y = inside-in c.steps g ts k s c t looks short top few token (omega arith) in
+    let fewer = length-from s.place.at ts in
+    let ends = ends-as g ts us k s c t (omega (arith, short, fewer)) is in
+    record {
+      own = reverse y.made.events;
+      makes =
+          ends ∙ ap₂ (λ i es. behind_call k s i (moved_events (length s.made.events) es)) (sym (ap (λ (x : State). x.place.at) ends))
+          (sym (reverse-reverse y.made.events));
+    }
+
+pub calls-make : CallsMakeTheirOwn
+calls-make g ts k s c looks short fits = by_token (slice_get ts s.place.at) refl
+  where
+    by_token : (o : Option Sight) → slice_get ts s.place.at ≡ o → MakesItsOwn c
+    by_token (Some t) e = makes-own g ts k s c t looks short fits.at fits.events e
+    by_token None e = absurd (slice_get_some ts s.place.at c.token e)
 
 pub sealed-leave-nothing : SealedCallsLeaveNothing
 sealed-leave-nothing g ts k s c looks short fits = by_token (slice_get ts s.place.at) refl

@@ -8,6 +8,7 @@ use Rattle.grammar_machine.specs.declared.grammar.Sight.{Sight}
 use Rattle.grammar_machine.specs.declared.grammar.Op.TheVariants as op
 use Rattle.grammar_machine.specs.Running.{Tables, State, runs, begin_of}
 use Rattle.grammar_machine.specs.Alone.{alone_of}
+use Rattle.grammar_machine.specs.Filling.{LooksAreShort, Fits}
 use Rattle.grammar_machine.specs.Framing.{moved_events}
 use Rattle.grammar_machine.specs.Locality.{IsBraceAt}
 use Rattle.grammar_machine.specs.Reading.{IsSealedRule}
@@ -20,6 +21,16 @@ abbrev pub Makes : {g : Tables} {ts : List Sight} {k : SyntaxKind} {s : State}
 Makes {g} {ts} {k} {s} c es =
     returned c
     ≡ behind_call k s (returned c).place.at (moved_events (length s.made.events) (reverse es))
+
+-- the events that a call made by itself, as if it began a text
+pub record MakesItsOwn {g : Tables} {ts : List Sight} {k : SyntaxKind} {s : State} (c : SealedCall g ts k s) : Type 0 where
+  pub own : List Event
+  pub makes : Makes c own
+
+abbrev pub CallsMakeTheirOwn : Type 0
+CallsMakeTheirOwn =
+    (g : Tables) (ts : List Sight) (k : SyntaxKind) (s : State) (c : SealedCall g ts k s)
+    → LooksAreShort g → length ts + 3 < 2 ^ 64 → Fits (returned c) → MakesItsOwn c
 
 -- after so many operations and tokens, and with so many events, a sealed call comes next
 pub record ComesToCall

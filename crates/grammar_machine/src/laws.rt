@@ -9,7 +9,7 @@ ghost use Rattle.grammar_machine.specs.Filling.{RunsGoOn};
 ghost use Rattle.grammar_machine.specs.Sealing.{SealedCallsLeaveNothing};
 ghost use Rattle.grammar_machine.specs.Standing.{SealedCallsAreMoved};
 ghost use Rattle.grammar_machine.specs.Reading.{PiecesAreSealedCalls};
-ghost use Rattle.grammar_machine.specs.Exchanging.{PiecesAreExchanged};
+ghost use Rattle.grammar_machine.specs.Exchanging.{PiecesAreExchanged, CallsMakeTheirOwn};
 ghost use Rattle.grammar_machine.specs.Replacing.{SealedPiecesAreReplaced};
 
 /// A run of more operations than its fuel is the run: it has ended by then.
@@ -79,4 +79,10 @@ pub fn sealed_pieces_are_replaced()
 /// call there too, and each call makes what its piece makes alone.
 pub fn pieces_are_exchanged()
     ensures { PiecesAreExchanged }
+{}
+
+/// A sealed call makes, numbered from its own first event on, the events that it would make if the
+/// text began with its first token.
+pub fn calls_make_their_own()
+    ensures { CallsMakeTheirOwn }
 {}
