@@ -196,9 +196,7 @@ fn edit_of(alloc: Global, rendered: &Rendered) -> Result<TextEdit, Failure> {
             .get(place.start..place.end)
             .unwrap_or("");
         let new = String::from_str(alloc, new)?;
-        if edit.add(Indel::replace(place.old, new)).is_err() {
-            return Err(Failure::ReadsOtherwise);
-        }
+        edit.add(Indel::replace(place.old, new))?;
     }
     Ok(edit)
 }
@@ -280,9 +278,7 @@ fn checked<F: FrontEnd>(
     if !are_ranges(&edit, &ranges) {
         return Err(Failure::ReadsOtherwise);
     }
-    let Ok(text) = edit.apply(alloc, old.root().as_str()) else {
-        return Err(Failure::ReadsOtherwise);
-    };
+    let text = edit.apply(alloc, old.root().as_str())?;
     if !reads(alloc, front, edition, rules, old, text.as_str())? {
         return Err(Failure::ReadsOtherwise);
     }

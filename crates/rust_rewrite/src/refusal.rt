@@ -2,6 +2,7 @@
 
 use ras_front_end::ParseError;
 use std::alloc::AllocError;
+use text_edit::{ApplyError, OverlapError};
 
 /// Why the matches of a text are not replaced.
 #[derive(Clone, Copy, Debug, PartialEq, Eq, Drop, thiserror::Error)]
@@ -50,6 +51,25 @@ impl From<ParseError> for Failure {
         match error {
             ParseError::TooLong => Failure::TooLong,
             ParseError::Memory => Failure::Memory,
+        }
+    }
+}
+
+impl From<OverlapError> for Failure {
+    fn from(error: OverlapError) -> Failure {
+        match error {
+            OverlapError::Overlap => Failure::ReadsOtherwise,
+            OverlapError::Memory => Failure::Memory,
+        }
+    }
+}
+
+impl From<ApplyError> for Failure {
+    fn from(error: ApplyError) -> Failure {
+        match error {
+            ApplyError::PastEnd | ApplyError::InsideCharacter => Failure::ReadsOtherwise,
+            ApplyError::TooLong => Failure::TooLong,
+            ApplyError::Memory => Failure::Memory,
         }
     }
 }
