@@ -202,28 +202,33 @@ fn list_of(piece: Option<&Piece>, names: &Names) -> Option<usize> {
     }
 }
 
-// A text in three: the comma at its front, what follows, and the comma at its end, each with the blanks
-// round it. A `;` at the front goes, since statements have their own.
-fn cut<'a>(text: &'a str, is_behind: bool, is_before: bool) -> (&'a str, &'a str, &'a str) {
-    let mut front = "";
-    let mut rest = text;
-    if is_behind {
-        let shown = text.trim_start();
-        if let Some(inner) = shown.strip_prefix(';') {
-            rest = inner;
-        } else if let Some(inner) = shown.strip_prefix(',') {
-            let blank = inner.len().saturating_sub(inner.trim_start().len());
-            let at = text.len().saturating_sub(inner.len()).saturating_add(blank);
-            (front, rest) = text.split_at(at);
-        }
+// The comma at the front of what follows a list, with the blanks round it, and the rest. A `;` goes, since statements have their own.
+fn cut_front(text: &str) -> (&str, &str) {
+    let shown = text.trim_start();
+    if let Some(rest) = shown.strip_prefix(';') {
+        return ("", rest);
     }
-    let mut end = "";
-    if is_before {
-        if let Some(inner) = rest.trim_end().strip_suffix(',') {
-            (rest, end) = rest.split_at(inner.len());
-        }
+    let Some(inner) = shown.strip_prefix(',') else {
+        return ("", text);
+    };
+    let rest = inner.trim_start();
+    let at = text.len().saturating_sub(rest.len());
+    (text.get(..at).unwrap_or(""), rest)
+}
+
+// What is before a list, and the comma at its end with the blanks round it.
+fn cut_end(text: &str) -> (&str, &str) {
+    match text.trim_end().strip_suffix(',') {
+        None => (text, ""),
+        Some(rest) => (rest, text.get(rest.len()..).unwrap_or("")),
     }
-    (front, rest, end)
+}
+
+fn push_text(alloc: Global, pieces: &mut Vec<Piece>, text: &str) -> Result<(), AllocError> {
+    if !text.is_empty() {
+        pieces.push(Piece::Text(String::from_str(alloc, text)?))?;
+    }
+    Ok(())
 }
 
 fn push_comma(
@@ -249,15 +254,20 @@ fn with_commas(alloc: Global, pieces: Vec<Piece>, names: &Names) -> Result<Vec<P
             Piece::Text(text) => {
                 let before = list_of(index.checked_sub(1).and_then(|at| pieces.get(at)), names);
                 let next = list_of(pieces.get(index.saturating_add(1)), names);
-                let behind = if has_comma { None } else { before };
-                let (front, rest, end) = cut(text.as_str(), before.is_some(), next.is_some());
-                push_comma(alloc, &mut out, front, behind)?;
-                if behind.is_none() && !front.is_empty() {
-                    out.push(Piece::Text(String::from_str(alloc, front)?))?;
+                let (front, rest) = match before {
+                    Some(_) => cut_front(text.as_str()),
+                    None => ("", text.as_str()),
+                };
+                let (rest, end) = match next {
+                    Some(_) => cut_end(rest),
+                    None => (rest, ""),
+                };
+                if has_comma {
+                    push_text(alloc, &mut out, front)?;
+                } else {
+                    push_comma(alloc, &mut out, front, before)?;
                 }
-                if !rest.is_empty() {
-                    out.push(Piece::Text(String::from_str(alloc, rest)?))?;
-                }
+                push_text(alloc, &mut out, rest)?;
                 push_comma(alloc, &mut out, end, next)?;
                 has_comma = !end.is_empty();
             }
