@@ -39,6 +39,17 @@ fn arguments(rt: HostRuntime) -> Result<(), Fail> {
                 "f(1, 2); f(); f(/* why */);",
                 "g(); g(); f(/* why */);",
             ),
+            // Comments between elements stay with the list.
+            (
+                "f($$a) ==>> g($$a)",
+                "f(1, /* a */ 2); f(1, // x\n2);",
+                "g(1, /* a */ 2); g(1, // x\n2);",
+            ),
+            (
+                "f($$_) ==>> g()",
+                "f(1, /* a */ 2);",
+                "a comment would be lost",
+            ),
             ("[$$_] ==>> v", "[]; [1, 2]; [0; 8];", "v; v; [0; 8];"),
             (
                 "($$a,) ==>> [$$a]",
@@ -150,6 +161,26 @@ fn items(rt: HostRuntime) -> Result<(), Fail> {
             "impl T for S { fn f() {} const C: u8 = 1; }",
         ),
         (
+            "impl $t { $$i } ==>> impl $t { $$i fn z() {} }",
+            "impl S { fn f() {} } impl T {}",
+            "impl S { fn f() {} fn z() {} } impl T {  fn z() {} }",
+        ),
+        (
+            "impl $t { $$i fn z() {} } ==>> impl $t { $$i }",
+            "impl S { fn f() {} fn z() {} } impl T { fn y() {} }",
+            "impl S { fn f() {}  } impl T { fn y() {} }",
+        ),
+        (
+            "struct $s { $$f } ==>> struct $s {}",
+            "struct S { /// doc\n a: u8 }",
+            "a comment would be lost",
+        ),
+        (
+            "f($a, $$r) ==>> h(\n    $$r,\n    $a,\n)",
+            "fn m() {\n    f(1, 2);\n}",
+            "fn m() {\n    h(\n        2,\n        1,\n    );\n}",
+        ),
+        (
             "use a::{$$t}; ==>> use b::{$$t};",
             "use a::{c, d::e};",
             "use b::{c, d::e};",
@@ -209,6 +240,11 @@ fn refused(rt: HostRuntime) -> Result<(), Fail> {
             "2: expected the name of a placeholder behind `$`",
         ),
         ("f($$a b) ==>> 1", "5: this is no expression: expected `,`"),
+        ("f($$a ==>> 1", "5: this is no expression: expected `)`"),
+        (
+            "f($$a) b ==>> 1",
+            "0: this is no expression: it is not the whole text",
+        ),
     ];
     for (rule, expected) in rows {
         let told = refusal(alloc, rule)?;

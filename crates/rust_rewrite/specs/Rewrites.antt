@@ -1,7 +1,8 @@
 -- The text of a parse with the matches of rules replaced.
 use Rattle.std.specs.Prelude.{◌≡◌, ℕ, suc, ◌≤◌, ⊤, Bool, true, false, ◌&&◌, ◌||◌, List, [], ◌∷◌, length, map, nat_le, nat_lt, if◌then◌else◌, Option, Some, None, is_none, slice_get}
 use Rattle.std.specs.List.{list_any}
-use Rattle.syntax_kind.specs.declared.syntax_kind.TheConstants.SyntaxKind.{COMMENT}
+use Rattle.syntax_kind.specs.declared.syntax_kind.SyntaxKind.{SyntaxKind}
+use Rattle.syntax_kind.specs.declared.syntax_kind.TheConstants.SyntaxKind.{COMMENT, INNER_DOC_COMMENT, OUTER_DOC_COMMENT}
 use Rattle.text_size.specs.TextRange.{Bounds}
 use Rattle.text_edit.specs.Replacements.{Replacement, edited}
 use Rattle.syntax_kind.specs.Kinds.{is_same_kind}
@@ -74,8 +75,13 @@ pub record WithoutNeedless (front : Front) (edition : Edition) (s : List ℕ) : 
 abbrev pub Element : Type 0
 Element = NodeOrToken Cursor Cursor
 
+-- a comment, also one of documentation
+abbrev pub is_comment_kind : SyntaxKind → Bool
+is_comment_kind k =
+    (is_same_kind k COMMENT || is_same_kind k INNER_DOC_COMMENT) || is_same_kind k OUTER_DOC_COMMENT
+
 abbrev pub is_comment : Element → Bool
-is_comment x = is_same_kind (kind_of (focus (cursor_of x))) COMMENT
+is_comment x = is_comment_kind (kind_of (focus (cursor_of x)))
 
 -- where those of some nodes and tokens start that are comments
 abbrev pub starts_of : List Element → List ℕ

@@ -31,7 +31,10 @@ pub struct Rewritten {
 fn is_comment(element: &SyntaxElement) -> bool
     ensures { result ≡ is_comment element.now }
 {
-    element.kind() == SyntaxKind::COMMENT
+    let kind = element.kind();
+    kind == SyntaxKind::COMMENT
+        || kind == SyntaxKind::INNER_DOC_COMMENT
+        || kind == SyntaxKind::OUTER_DOC_COMMENT
 }
 
 // Where the comments of a tree start.

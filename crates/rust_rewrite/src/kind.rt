@@ -70,6 +70,11 @@ impl RuleKind {
         }
     }
 
+    // Whether a node of this kind is one, or a pair round one.
+    fn has_outside(self, kind: SyntaxKind) -> bool {
+        kind == SyntaxKind::PAREN_EXPR && self == RuleKind::Expr || self.has(kind)
+    }
+
     // Whether a node of this kind is one.
     fn has(self, kind: SyntaxKind) -> bool {
         match self {
@@ -89,22 +94,30 @@ fn is_from_to(node: &SyntaxNode, start: usize, end: usize) -> bool {
     range.start().raw() as usize == start && range.end().raw() as usize == end
 }
 
-// The outermost node of a kind: for an expression without pairs round it, and else the one that is the whole text between two offsets.
+// The outermost node of a kind that is the whole text between two offsets; for an expression what is in the pairs round it.
 fn node_in(kind: RuleKind, root: &SyntaxNode, start: usize, end: usize) -> Option<SyntaxNode> {
+    let mut is_whole = false;
     for node in root.descendants() {
-        if kind.has(node.kind()) && (kind == RuleKind::Expr || is_from_to(&node, start, end)) {
+        is_whole = is_whole || is_from_to(&node, start, end) && kind.has_outside(node.kind());
+        if is_whole && kind.has(node.kind()) {
             return Some(node);
         }
     }
     None
 }
 
-// Whether the sign behind a place of a text ends an element of a list: an error behind a word for a
-// list is passed over there, as that behind `p_0` in `match x { p_0 }`, where the parser expects `=>`.
-fn ends_element(text: &str, at: usize) -> bool {
-    let rest = text.get(at..).unwrap_or("").trim_start();
-    rest.is_empty() || rest.starts_with([',', ';', '}', ')', ']', '>', '|'])
-}
+// What the parser says behind a word that is an element of a list by itself: an arm, a field or a parameter without what follows its name,
+// or an item. In `match x { p_0 }` it expects `=>`.
+const ARROW: &str = "expected FAT_ARROW";
+
+const OF_ELEMENTS: [&str; 6] = [
+    ARROW,
+    "expected expression",
+    "expected COLON",
+    "expected type",
+    "missing type for function parameter",
+    "expected an item",
+];
 
 // What was read of a side as one of a kind.
 #[derive(Drop)]
@@ -112,16 +125,16 @@ struct Reading {
     node: Option<SyntaxNode>,
     // The first error that counts: its message, and where it is in the text.
     error: Option<(String, usize)>,
-    // Where the errors are that do not.
-    passed: Vec<usize>,
+    // Where arms are that have nothing but a word for a list.
+    arms: Vec<usize>,
 }
 
-// Reads a text as one of a kind. Errors at some places of it do not count.
+// Reads a text as one of a kind. At some places of it, where words for lists end, errors of elements do not count.
 fn reading_of<F: FrontEnd>(
     alloc: Global,
     words: &Words<'_, F>,
     text: &str,
-    passed: &[usize],
+    lists: &[usize],
     kind: RuleKind,
 ) -> Result<Reading, RuleError>
     ensures { IfErr result (λ e. is_other e.fault ≡ true) }
@@ -134,12 +147,14 @@ fn reading_of<F: FrontEnd>(
     let mut reading = Reading {
         node: node_in(kind, parse.root(), start, end),
         error: None,
-        passed: Vec::new(alloc),
+        arms: Vec::new(alloc),
     };
     for error in parse.errors(alloc)? {
         let at = (error.range().start().raw() as usize).saturating_sub(start);
-        if passed.contains(&at) && ends_element(text, at) {
-            reading.passed.push(at).map_err(AllocError::from)?;
+        if lists.contains(&at) && OF_ELEMENTS.contains(&error.message()) {
+            if error.message() == ARROW {
+                reading.arms.push(at).map_err(AllocError::from)?;
+            }
         } else if reading.error.is_none() {
             let message = format!(in alloc; "{}", plain_message(error.message()))?;
             reading.error = Some((message, at.min(text.len())));
@@ -164,6 +179,16 @@ fn with_arms(alloc: Global, text: &str, ends: &[usize]) -> Result<String, AllocE
     Ok(out)
 }
 
+// Where words end in such a text that end at these places.
+fn moved(alloc: Global, lists: &[usize], ends: &[usize]) -> Result<Vec<usize>, AllocError> {
+    let mut places = Vec::with_capacity(alloc, lists.len())?;
+    for list in lists {
+        let before = ends.iter().filter(|end| **end < *list).count();
+        places.push(list.saturating_add(before.saturating_mul(ARM.len())))?;
+    }
+    Ok(places)
+}
+
 /// The node of a side as one of a kind; or why it is none.
 pub(crate) fn node_of<F: FrontEnd>(
     alloc: Global,
@@ -175,9 +200,10 @@ pub(crate) fn node_of<F: FrontEnd>(
 {
     let text = side.text.as_str();
     let mut reading = reading_of(alloc, words, text, &side.lists, kind)?;
-    if reading.error.is_some() && !reading.passed.is_empty() {
-        let arms = with_arms(alloc, text, &reading.passed)?;
-        let other = reading_of(alloc, words, arms.as_str(), &[], kind)?;
+    if reading.error.is_some() && !reading.arms.is_empty() {
+        let arms = with_arms(alloc, text, &reading.arms)?;
+        let lists = moved(alloc, &side.lists, &reading.arms)?;
+        let other = reading_of(alloc, words, arms.as_str(), &lists, kind)?;
         if other.error.is_none() {
             reading = other;
         }

@@ -178,6 +178,14 @@ impl<'a> Writer<'a> {
         Ok(())
     }
 
+    // The white space that the line of a match begins with, if that counts.
+    fn indent(&self, number: usize, found: &Match) -> &'a str {
+        match self.lines.get(number) {
+            None => "",
+            Some(line) => indent_of(self.source.old, *line, found.range.start().raw() as usize),
+        }
+    }
+
     // The number of the first match from `next` on that starts at an offset or behind it.
     fn next_match(&self, next: usize, from: usize) -> usize {
         let rest = self.source.matches.get(next..).unwrap_or(&[]);
@@ -270,11 +278,7 @@ impl<'a> Writer<'a> {
             .map_err(AllocError::from)?;
         match here {
             Piece::Text(text) => {
-                let start = found.range.start().raw() as usize;
-                let indent = match self.lines.get(number) {
-                    None => "",
-                    Some(line) => indent_of(source.old, *line, start),
-                };
+                let indent = self.indent(number, found);
                 self.push_lines(text.as_str(), indent)
             }
             Piece::Comma(text, list) => {
@@ -284,12 +288,14 @@ impl<'a> Writer<'a> {
                 let from = value.start().raw() as usize;
                 let to = value.end().raw() as usize;
                 let old = source.old.get(from..to).unwrap_or("");
-                let text = text.as_str();
-                match text.strip_prefix(',') {
-                    _ if old.is_empty() => Ok(()),
+                if old.is_empty() {
+                    return Ok(());
+                }
+                let indent = self.indent(number, found);
+                match text.as_str().strip_prefix(',') {
                     // An arm of a `match` has its comma itself.
-                    Some(rest) if old.ends_with(',') => self.push(rest),
-                    _ => self.push(text),
+                    Some(rest) if old.ends_with(',') => self.push_lines(rest, indent),
+                    _ => self.push_lines(text.as_str(), indent),
                 }
             }
             Piece::Hole(hole) => {

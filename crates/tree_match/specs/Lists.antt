@@ -2,13 +2,13 @@
 use Rattle.std.specs.Prelude.{ℕ, zero, suc, Bool, true, false, not, ◌||◌, if◌then◌else◌, List, [], ◌∷◌, Option, Some, None, option_map}
 use Rattle.std.specs.Option.{option_and_then}
 use Rattle.syntax_kind.specs.declared.syntax_kind.TheConstants.SyntaxKind.{COMMA}
-use Rattle.syntax_kind.specs.Kinds.{is_same_kind}
+use Rattle.syntax_kind.specs.Kinds.{is_trivia, is_same_kind}
 use Rattle.tree_model.specs.Tree.{Tree, node, token, Forest, nil, cons, kind_of, is_token}
 use Rattle.lossless_tree.specs.Trees.{Siblings, behind_first}
 use Rattle.tree_match.specs.declared.bare.Comments.{Comments}
 use Rattle.tree_match.specs.declared.part.Comma.{Comma}
 use Rattle.tree_match.specs.declared.part.Comma.TheVariants as comma
-use Rattle.tree_match.specs.Bare.{is_passed, past, is_token_of, without_comma}
+use Rattle.tree_match.specs.Bare.{past, is_token_of, without_comma}
 use Rattle.tree_match.specs.Runs.{run_of, behind_run}
 
 -- more than so many of some trees are nodes
@@ -18,17 +18,17 @@ has_more n (cons (token k t) r) = has_more n r
 has_more zero (cons (node k c) r) = true
 has_more (suc n) (cons (node k c) r) = has_more n r
 
--- a node is an element of a list; between elements are commas and what does not count
-abbrev pub is_listed : Comments → Tree → Bool
-is_listed cs t = not (is_token t) || (is_passed cs (kind_of t) || is_same_kind (kind_of t) COMMA)
+-- a node is an element of a list; between elements are commas, white space and comments, which are part of the run
+abbrev pub is_listed : Tree → Bool
+is_listed t = not (is_token t) || (is_trivia (kind_of t) || is_same_kind (kind_of t) COMMA)
 
 -- How many trees there are up to the last node but so many; none where something else is between
 -- the elements.
-abbrev pub extent : Comments → ℕ → Forest → Option ℕ
-extent cs behind nil = Some 0
-extent cs behind (cons t r) =
+abbrev pub extent : ℕ → Forest → Option ℕ
+extent behind nil = Some 0
+extent behind (cons t r) =
     if has_more behind (cons t r)
-    then (if is_listed cs t then option_map suc (extent cs behind r) else None)
+    then (if is_listed t then option_map suc (extent behind r) else None)
     else Some 0
 
 -- the siblings behind a comma, which has to be there
@@ -54,7 +54,7 @@ cut cs c s n =
     option_map (λ rest. (run_of (Some n) s, rest)) (closed cs c (without_comma cs (behind_run n s)))
 
 abbrev pub listed : Comments → Comma → ℕ → Siblings → Option (Siblings × Siblings)
-listed cs c behind s = option_and_then (cut cs c s) (extent cs behind s.trees)
+listed cs c behind s = option_and_then (cut cs c s) (extent behind s.trees)
 
 -- the elements of a list that leave so many nodes, and what is behind them; none, if there are no
 -- more nodes

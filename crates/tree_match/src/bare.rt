@@ -12,7 +12,7 @@ pub enum Comments {
     Kept,
 }
 
-pub(crate) fn is_passed(comments: Comments, kind: SyntaxKind) -> bool
+fn is_passed(comments: Comments, kind: SyntaxKind) -> bool
     ensures { result ≡ is_passed comments kind }
 {
     match comments {

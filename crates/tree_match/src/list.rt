@@ -4,7 +4,7 @@ ghost use Rattle.lossless_tree.specs.Trees.{first_of};
 ghost use Rattle.tree_match.specs.Runs.{behind_run};
 ghost use Rattle.tree_match.specs.Lists.{has_more, is_listed, extent, behind_comma, opened, closed, list_at};
 
-use crate::bare::{Comments, is_passed, is_token_of, past, without_comma};
+use crate::bare::{Comments, is_token_of, past, without_comma};
 use crate::part::Comma;
 use crate::run::Run;
 use lossless_tree::SyntaxKind;
@@ -29,22 +29,22 @@ fn has_more(behind: usize, left: &Run<'_>) -> bool
 }
 
 // Whether the first of some siblings is an element, or what may stand between two.
-fn is_listed(comments: Comments, left: &Run<'_>) -> bool
-    ensures { result ≡ is_listed comments (first_of left.now.trees) }
+fn is_listed(left: &Run<'_>) -> bool
+    ensures { result ≡ is_listed (first_of left.now.trees) }
 {
     let kind = left.kind();
-    !left.is_token() || is_passed(comments, kind) || kind == SyntaxKind::COMMA
+    !left.is_token() || kind.is_trivia() || kind == SyntaxKind::COMMA
 }
 
 // How many siblings there are up to the last node but so many; `None` if something else is between
 // the elements.
-fn extent(comments: Comments, behind: usize, left: &Run<'_>) -> Result<Option<usize>, AllocError>
-    ensures { IfOk result (λ o. o ≡ extent comments behind left.now.trees) }
+fn extent(behind: usize, left: &Run<'_>) -> Result<Option<usize>, AllocError>
+    ensures { IfOk result (λ o. o ≡ extent behind left.now.trees) }
 {
     let mut count = 0usize;
     let mut rest = left.all();
     while has_more(behind, &rest) {
-        if !is_listed(comments, &rest) {
+        if !is_listed(&rest) {
             return Ok(None);
         }
         rest = rest.rest();
@@ -114,7 +114,7 @@ pub(crate) fn list_at<'t>(
     let Some(from) = opened(comments, comma, here) else {
         return Ok(None);
     };
-    let Some(count) = extent(comments, behind, &from)? else {
+    let Some(count) = extent(behind, &from)? else {
         return Ok(None);
     };
     let end = without_comma(comments, &behind_run(count, &from));

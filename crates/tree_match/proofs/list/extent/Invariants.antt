@@ -6,7 +6,7 @@ use Rattle.tree_match.proofs.list.extent.Given as goal
 
 abbrev pub invariant-loop-rest : goal.invariant-loop-rest
 invariant-loop-rest l =
-    option_map (λ n. l.count + n) (extent l.comments l.behind l.rest.trees) ≡ extent l.comments l.behind l.left.trees
+    option_map (λ n. l.count + n) (extent l.behind l.rest.trees) ≡ extent l.behind l.left.trees
 
 abbrev pub decreases-loop-rest : goal.decreases-loop-rest
 decreases-loop-rest l = child_count l.rest.trees
