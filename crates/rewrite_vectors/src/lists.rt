@@ -168,7 +168,7 @@ fn items(rt: HostRuntime) -> Result<(), Fail> {
         (
             "impl $t { $$i fn z() {} } ==>> impl $t { $$i }",
             "impl S { fn f() {} fn z() {} } impl T { fn y() {} }",
-            "impl S { fn f() {}  } impl T { fn y() {} }",
+            "impl S { fn f() {} } impl T { fn y() {} }",
         ),
         (
             "struct $s { $$f } ==>> struct $s {}",
@@ -243,7 +243,7 @@ fn refused(rt: HostRuntime) -> Result<(), Fail> {
         ("f($$a ==>> 1", "5: this is no expression: expected `)`"),
         (
             "f($$a) b ==>> 1",
-            "0: this is no expression: it is not the whole text",
+            "6: this is no type: expected `;`",
         ),
     ];
     for (rule, expected) in rows {
