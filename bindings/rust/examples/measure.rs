@@ -1,6 +1,9 @@
-//! Times the library: the least processor time of some rounds of reading a file, of walks over all nodes and tokens of its tree, which borrow
-//! it or own a share of it, of an edit of the name in its middle, and of copying the tree after it.
-use ras::{Edition, Live, SyntaxKind, Tree};
+//! Times the library: the least processor time of some rounds of reading a file, of walks over all nodes and tokens of its tree, which
+//! borrow it or own a share of it, of an edit of the name in its middle, and of copying the tree after it. What a round makes is dropped
+//! behind the clock.
+//!
+//! With the name of a line, only that is done, and nothing that it makes is dropped: for counting instructions.
+use ras::{Edition, Entry, Errors, Live, SyntaxKind, Tree};
 use std::hint::black_box;
 use std::time::Duration;
 
@@ -24,38 +27,60 @@ fn processor_time() -> Duration {
     Duration::new(at.seconds as u64, at.nanoseconds as u32)
 }
 
-fn least<T>(rounds: u32, mut work: impl FnMut() -> T) -> Duration {
-    let timed = (0..rounds).map(|_| {
-        let begun = processor_time();
-        black_box(work());
-        processor_time() - begun
-    });
-    timed.min().unwrap_or_default()
+struct Rounds {
+    number: u32,
+    only: Option<String>,
+}
+
+impl Rounds {
+    // Prints the least time of the rounds, in nanoseconds for each of some things, as bytes.
+    fn tell<T>(&self, name: &str, things: usize, unit: &str, mut work: impl FnMut() -> T) {
+        if let Some(only) = &self.only {
+            if only == name {
+                (0..self.number).for_each(|_| std::mem::forget(black_box(work())));
+            }
+            return;
+        }
+        let timed = (0..self.number).map(|_| {
+            let begun = processor_time();
+            let made = black_box(work());
+            let taken = processor_time() - begun;
+            drop(made);
+            taken
+        });
+        println!("{name}: {:.2} {unit}", timed.min().unwrap_or_default().as_nanos() as f64 / things.max(1) as f64);
+    }
 }
 
 fn main() -> Result<(), Box<dyn std::error::Error>> {
     let mut words = std::env::args().skip(1);
-    let (Some(name), Some(rounds)) = (words.next(), words.next()) else {
-        return Err("usage: measure FILE ROUNDS".into());
+    let (Some(name), Some(number)) = (words.next(), words.next()) else {
+        return Err("usage: measure FILE ROUNDS [LINE]".into());
     };
-    let (text, rounds) = (std::fs::read_to_string(name)?, rounds.parse()?);
-    let tree = Tree::parse(&*text, Edition::CURRENT)?;
-    let read = least(rounds, || Tree::parse(&*text, Edition::CURRENT).map(|it| it.rows().len()));
-    let walk = least(rounds, || tree.root().descendants_with_tokens().fold(0, |sum, it| sum ^ it.kind().number() as usize ^ it.text().len()));
-    let owned = least(rounds, || {
-        tree.syntax_node().descendants_with_tokens().fold(0, |sum, it| sum ^ it.kind().number() as usize ^ it.text().len())
-    });
+    let (text, rounds) = (std::fs::read_to_string(name)?, Rounds { number: number.parse()?, only: words.next() });
+    let text = text.as_str();
+    let tree = Tree::parse(text, Edition::CURRENT)?;
     let (bytes, rows) = (text.len(), tree.rows().len());
     println!("bytes {bytes} rows {rows} errors {}", tree.errors().len());
-    println!("read: {:.2} ns/byte", read.as_nanos() as f64 / bytes.max(1) as f64);
-    println!("walk: {:.2} ns/row, {:.2} ns/byte", walk.as_nanos() as f64 / rows as f64, walk.as_nanos() as f64 / bytes.max(1) as f64);
-    println!("walk of owned nodes: {:.2} ns/row", owned.as_nanos() as f64 / rows as f64);
+    rounds.tell("Tree::parse", bytes, "ns/byte", || Tree::parse(text, Edition::CURRENT));
+    rounds.tell("Tree::parse_as, parse errors", bytes, "ns/byte", || {
+        Tree::parse_as(text, Edition::CURRENT, Entry::SourceFile, Errors::Parse)
+    });
+    // It copies the text, and parses it.
+    rounds.tell("the proved parse", bytes, "ns/byte", || Live::parse(text, Edition::CURRENT));
+    for (name, things, unit) in [("walk", bytes, "ns/byte"), ("walk of borrowed nodes", rows, "ns/row")] {
+        rounds.tell(name, things, unit, || {
+            tree.root().descendants_with_tokens().fold(0, |sum, it| sum ^ it.kind().number() as usize ^ it.text().len())
+        });
+    }
+    rounds.tell("walk of owned nodes", rows, "ns/row", || {
+        tree.syntax_node().descendants_with_tokens().fold(0, |sum, it| sum ^ it.kind().number() as usize ^ it.text().len())
+    });
     let mut names = tree.root().tokens().filter(|it| it.kind() == SyntaxKind::IDENT);
     if let Some(name) = names.find(|it| usize::from(it.text_range().start()) >= bytes / 2) {
-        let mut live = Live::parse(&*text, Edition::CURRENT)?;
-        let edit = least(rounds, || live.edit(name.text_range(), name.text()));
-        let copy = least(rounds, || live.tree().map(|it| it.rows().len()));
-        println!("edit of a name: {:.1} us, the tree after it: {:.2} ns/byte", edit.as_nanos() as f64 / 1e3, copy.as_nanos() as f64 / bytes as f64);
+        let mut live = Live::parse(text, Edition::CURRENT)?;
+        rounds.tell("edit of a name", 1000, "us", || live.edit(name.text_range(), name.text()));
+        rounds.tell("Live::tree after it", bytes, "ns/byte", || live.tree());
     }
     Ok(())
 }

@@ -27,6 +27,7 @@ mod either;
 mod element;
 mod escape;
 pub mod hacks;
+mod held;
 mod iter;
 mod kind;
 mod kinds;

@@ -1,10 +1,10 @@
 //! A text that is edited, and its parse.
+use crate::held::Held;
 use crate::range::TextRange;
-use ras_sys::{self as raw, Handle};
-use crate::tree::{Edition, Errors, ParseError, Tree, answered};
+use crate::tree::{Edition, Errors, ParseError, Tree};
+use ras_sys as raw;
 use std::cell::RefCell;
 use std::fmt;
-use std::ptr;
 
 /// A text that is edited, whose parse stays with the library.
 ///
@@ -33,15 +33,11 @@ use std::ptr;
 /// std::thread::scope(|it| it.spawn(|| live.tree()).join().unwrap()).unwrap();
 /// ```
 pub struct Live {
-    // The library takes the parse out of the handle for each call, and puts it back.
-    handle: RefCell<Handle>,
+    // The library takes the parse out of its handle for each call, and puts it back.
+    held: RefCell<Held>,
     text: String,
     edition: Edition,
 }
-
-// SAFETY: the parse is reached by this handle alone. The library counts its owners without a lock, but each call has dropped its own shares
-// of the parse when it returns, and hands out none; and the allocator's functions may be called from any thread.
-unsafe impl Send for Live {}
 
 /// Why a text is not edited.
 #[derive(Clone, Copy, Debug, PartialEq, Eq)]
@@ -75,12 +71,8 @@ impl Live {
     ///
     /// It panics if the library that is linked is not the one that this crate was made for.
     pub fn parse(text: impl Into<String>, edition: Edition) -> Result<Live, ParseError> {
-        crate::version::check();
         let text = text.into();
-        let mut live = Live { handle: RefCell::new(Handle { full: false, at: ptr::null_mut() }), text, edition };
-        // SAFETY: the text is borrowed for the call, with its length; the handle is one without a parse.
-        answered(unsafe { raw::ras_c_parse(live.text.as_ptr(), live.text.len(), edition.year(), live.handle.get_mut()) })?;
-        Ok(live)
+        Ok(Live { held: RefCell::new(Held::parse(&text, edition)?), text, edition })
     }
 
     /// Replaces the bytes of a range. Where this is refused, the text and its parse stay as they were.
@@ -98,11 +90,7 @@ impl Live {
     ///
     /// It copies the text, even if only one token is parsed again, and so takes time linear in it.
     pub fn edit(&mut self, delete: TextRange, insert: &str) -> Result<(), EditError> {
-        let (start, end) = (u32::from(delete.start()), u32::from(delete.end()));
-        // SAFETY: the inserted text is borrowed for the call, with its length; the handle is this value's own.
-        match unsafe {
-            raw::ras_c_edit(self.handle.get_mut(), self.edition.year(), start, end, insert.as_ptr(), insert.len())
-        } {
+        match self.held.get_mut().edit(self.edition, delete, insert) {
             raw::OK => {
                 self.text.replace_range(std::ops::Range::<usize>::from(delete), insert);
                 Ok(())
@@ -123,24 +111,7 @@ impl Live {
 
     /// The same with the errors that are asked for, as by [`Tree::parse_as`].
     pub fn tree_with(&self, errors: Errors) -> Result<Tree, ParseError> {
-        let mut handle = self.handle.borrow_mut();
-        Tree::told(self.text.as_str().into(), self.edition, |_, room, counts| {
-            // SAFETY: the three buffers are borrowed for the call, with their lengths, and none overlaps another; the handle is this
-            // value's own.
-            unsafe {
-                raw::ras_c_rows_as(
-                    &mut *handle,
-                    errors.number(),
-                    room.rows.as_mut_ptr(),
-                    room.rows.capacity(),
-                    room.errors.as_mut_ptr(),
-                    room.errors.capacity(),
-                    room.messages.as_mut_ptr(),
-                    room.messages.capacity(),
-                    counts,
-                )
-            }
-        })
+        self.held.borrow_mut().tree(self.text.as_str().into(), self.edition, errors)
     }
 
     /// The text as it is now.
@@ -151,13 +122,6 @@ impl Live {
     /// The edition that the text is read as.
     pub fn edition(&self) -> Edition {
         self.edition
-    }
-}
-
-impl Drop for Live {
-    fn drop(&mut self) {
-        // SAFETY: the handle is this value's own.
-        unsafe { raw::ras_c_free(self.handle.get_mut()) }
     }
 }
 

@@ -1,4 +1,5 @@
 //! A text and its tree.
+use crate::held::Held;
 use crate::iter::TokenAtOffset;
 use crate::node::{NodeRef, SyntaxNode, TokenRef};
 use crate::range::{TextRange, TextSize};
@@ -259,13 +260,18 @@ pub(crate) struct Room {
 }
 
 impl Room {
-    // Enough for most texts of this length.
-    fn for_text(len: usize) -> Room {
-        Room::of(len + len / 2 + 64, 16, 1024)
+    // For so many rows, and the errors of most texts.
+    pub(crate) fn of(rows: usize) -> Room {
+        Room { rows: Vec::with_capacity(rows), errors: Vec::with_capacity(16), messages: Vec::with_capacity(1024) }
     }
 
-    fn of(rows: usize, errors: usize, messages: usize) -> Room {
-        Room { rows: Vec::with_capacity(rows), errors: Vec::with_capacity(errors), messages: Vec::with_capacity(messages) }
+    // For so many rows, errors and bytes of messages.
+    pub(crate) fn counted(counts: &Counts) -> Room {
+        Room {
+            rows: Vec::with_capacity(counts.rows as usize),
+            errors: Vec::with_capacity(counts.errors as usize),
+            messages: Vec::with_capacity(counts.messages as usize),
+        }
     }
 
     // SAFETY: the library has written so many rows, errors and bytes to the front of each buffer.
@@ -340,16 +346,24 @@ impl Tree {
     ///
     /// It panics if the library that is linked is not the one that this crate was made for.
     pub fn parse_as(text: impl Into<Box<str>>, edition: Edition, entry: Entry, errors: Errors) -> Result<Tree, ParseError> {
-        let entry = match entry {
-            Entry::SourceFile => raw::ENTRY_FILE,
-            Entry::Expr => raw::ENTRY_EXPR,
-        };
-        Tree::told(text.into(), edition, |text, room, counts| {
+        let text = text.into();
+        match entry {
+            // The parse is asked for the number of its rows first, so that they get memory once.
+            Entry::SourceFile => Held::parse(&text, edition)?.tree(text, edition, errors),
+            Entry::Expr => Tree::expr(text, edition, errors),
+        }
+    }
+
+    // The tree of an expression.
+    fn expr(text: Box<str>, edition: Edition, errors: Errors) -> Result<Tree, ParseError> {
+        crate::version::check();
+        let room = Room::of(text.len() + text.len() / 2 + 64);
+        Tree::told(text, edition, room, |text, room, counts| {
             // SAFETY: the text and the three buffers are borrowed for the call, with their lengths, none overlaps another, and the
             // declaration is made from that of `crates/ras_c`.
             unsafe {
                 raw::ras_c_read_as(
-                    entry,
+                    raw::ENTRY_EXPR,
                     errors.number(),
                     text.as_ptr(),
                     text.len(),
@@ -370,13 +384,12 @@ impl Tree {
     pub(crate) fn told(
         text: Box<str>,
         edition: Edition,
+        mut room: Room,
         mut call: impl FnMut(&str, &mut Room, &mut Counts) -> u32,
     ) -> Result<Tree, ParseError> {
-        crate::version::check();
-        let mut room = Room::for_text(text.len());
         let mut counts = Counts { rows: 0, errors: 0, violations: 0, messages: 0 };
         while !answered(call(&text, &mut room, &mut counts))? {
-            room = Room::of(counts.rows as usize, counts.errors as usize, counts.messages as usize);
+            room = Room::counted(&counts);
         }
         // SAFETY: the call returned `OK`, and then the counts are those of what it wrote.
         unsafe { room.written(&counts) };

@@ -3,7 +3,7 @@ use ras::ast::{self, AnyComment, AnyString, AstNode, AstToken, HasArgList, HasAt
 use ras::{
     AstPtr, Direction, Edition, NodeOrToken, Parse, Preorder, SourceFile, SyntaxElement, SyntaxError,
     SyntaxKind::{self, *},
-    SyntaxNode, SyntaxNodePtr, SyntaxToken, SyntaxTreeBuilder, T, TextRange, TextSize, WalkEvent, algo, hacks, match_ast, utils,
+    SyntaxNode, SyntaxNodePtr, SyntaxText, SyntaxToken, SyntaxTreeBuilder, T, TextRange, TextSize, WalkEvent, algo, hacks, match_ast, utils,
 };
 
 const TEXT: &str = "\
@@ -255,6 +255,36 @@ fn kinds_are_numbers() {
     assert!(places > 300 && size_of::<SyntaxKind>() == 2);
     assert_eq!((T![=>].text(), T![crate].text(), IDENT.text()), ("=>", "crate", ""));
     assert_eq!([T![$], T!['$'], T![asm], T![abstract], T![safe], T![shebang]], [DOLLAR, DOLLAR, ASM_KW, ABSTRACT_KW, SAFE_KW, SHEBANG]);
+}
+
+#[test]
+fn texts_are_read_in_pieces() {
+    fn collapsed(node: &SyntaxNode) -> String {
+        let mut line = String::new();
+        node.text().for_each_chunk(|chunk| line.extend(chunk.lines().map(str::trim)));
+        line
+    }
+    let file = file(TEXT);
+    for node in file.syntax().descendants() {
+        let (mut joined, mut pieces) = (String::new(), Vec::new());
+        node.text().for_each_chunk(|it| {
+            joined.push_str(it);
+            pieces.push(it.to_owned());
+        });
+        assert_eq!(joined, node.text());
+        // The tree joins `->`, `=>` and `::`.
+        let tokens = node.tokens().flat_map(|it| if it.kind().is_punct() { it.text().chars().map(String::from).collect() } else { vec![it.text().to_owned()] });
+        assert_eq!(pieces, tokens.collect::<Vec<_>>());
+    }
+    assert_eq!(collapsed(find::<ast::RecordFieldList>(&file).syntax()), "{radius:T}");
+    let mut left = 3;
+    let ended = file.syntax().text().try_for_each_chunk(|it| {
+        left -= 1;
+        if left > 0 { Ok(()) } else { Err(it.to_owned()) }
+    });
+    assert_eq!(ended, Err("use".to_owned()));
+    assert_eq!("a b\n".try_fold_chunks(0, |sum, it| Ok::<_, ()>(sum * 10 + it.len())), Ok(1111));
+    "".for_each_chunk(|it| panic!("an empty text has no piece: {it}"));
 }
 
 #[test]

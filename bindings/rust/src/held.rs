@@ -1,0 +1,68 @@
+//! A parse that stays with the library.
+use crate::range::TextRange;
+use crate::tree::{Edition, Errors, ParseError, Room, Tree, answered};
+use ras_sys::{self as raw, Counts, Handle};
+use std::ptr;
+
+/// A parse of a file, in the library's memory.
+pub(crate) struct Held(Handle);
+
+// SAFETY: the parse is reached by this handle alone. The library counts its owners without a lock, but each call has dropped its own shares
+// of the parse when it returns, and hands out none; and the allocator's functions may be called from any thread.
+unsafe impl Send for Held {}
+
+impl Held {
+    /// The parse of a text.
+    ///
+    /// # Panics
+    ///
+    /// It panics if the library that is linked is not the one that this crate was made for.
+    pub(crate) fn parse(text: &str, edition: Edition) -> Result<Held, ParseError> {
+        crate::version::check();
+        let mut held = Held(Handle { full: false, at: ptr::null_mut() });
+        // SAFETY: the text is borrowed for the call, with its length; the handle is one without a parse.
+        answered(unsafe { raw::ras_c_parse(text.as_ptr(), text.len(), edition.year(), &mut held.0) })?;
+        Ok(held)
+    }
+
+    /// Replaces the bytes of a range, and returns the status.
+    pub(crate) fn edit(&mut self, edition: Edition, delete: TextRange, insert: &str) -> u32 {
+        let (start, end) = (delete.start().into(), delete.end().into());
+        // SAFETY: the inserted text is borrowed for the call, with its length; the handle is this value's own.
+        unsafe { raw::ras_c_edit(&mut self.0, edition.year(), start, end, insert.as_ptr(), insert.len()) }
+    }
+
+    // Writes the rows and errors to the buffers, or counts them if there is too little room.
+    fn rows(&mut self, errors: Errors, room: &mut Room, counts: &mut Counts) -> u32 {
+        // SAFETY: the three buffers are borrowed for the call, with their lengths, and none overlaps another; the handle is this value's
+        // own.
+        unsafe {
+            raw::ras_c_rows_as(
+                &mut self.0,
+                errors.number(),
+                room.rows.as_mut_ptr(),
+                room.rows.capacity(),
+                room.errors.as_mut_ptr(),
+                room.errors.capacity(),
+                room.messages.as_mut_ptr(),
+                room.messages.capacity(),
+                counts,
+            )
+        }
+    }
+
+    /// The tree of the parse, which is one of this text.
+    pub(crate) fn tree(&mut self, text: Box<str>, edition: Edition, errors: Errors) -> Result<Tree, ParseError> {
+        let mut counts = Counts { rows: 0, errors: 0, violations: 0, messages: 0 };
+        // Without errors this only counts the rows.
+        answered(self.rows(Errors::Nothing, &mut Room::counted(&counts), &mut counts))?;
+        Tree::told(text, edition, Room::of(counts.rows as usize), |_, room, counts| self.rows(errors, room, counts))
+    }
+}
+
+impl Drop for Held {
+    fn drop(&mut self) {
+        // SAFETY: the handle is this value's own.
+        unsafe { raw::ras_c_free(&mut self.0) }
+    }
+}
