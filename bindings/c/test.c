@@ -393,8 +393,7 @@ static void refuses(void) {
     owes(status == RAS_OK || (status == RAS_NO_MEMORY && count == 9 && fault.offset == 9), "search is done or refused");
     count = 9;
     status = ras_c_rewrite(BYTES("$a + $b ==>> $b"), false, BYTES("fn f() { a + b }"), 2024, out, sizeof out, &count, &number, said, sizeof said, &fault);
-    /* A new text that can't be put together for want of memory is told as one that reads otherwise. */
-    owes(status == RAS_OK || ((status == RAS_NO_MEMORY || status == RAS_READS_OTHERWISE) && count == 9 && number == 9 && out[0] == 7 && fault.offset == 9),
+    owes(status == RAS_OK || (status == RAS_NO_MEMORY && count == 9 && number == 9 && out[0] == 7 && fault.offset == 9),
         "rewrite is done or refused");
     refuses_edits();
 }
