@@ -23,7 +23,7 @@ use Rattle.event_layout.proofs.Laying.{laid}
 use Rattle.event_layout.proofs.Making.{made}
 use Rattle.event_layout.proofs.Seeing.{seen_more, told_more, told_begins, told_nothing, seen_begins, seen_end, seen_nothing}
 use Rattle.document_laws.specs.Nodes.{seen_of, made_steps, IsOfEvent, NodesAreOfEvents}
-use Rattle.document_laws.specs.Steps.{bytes_taken}
+use Rattle.event_layout.specs.Filled.{bytes_taken}
 
 abbrev pub Steps : Type 0
 Steps = List FrontStep

@@ -18,7 +18,7 @@ use Rattle.event_layout.proofs.Filled.{cut_sum}
 use Rattle.event_layout.proofs.Making.{tokens_made}
 use Rattle.event_layout.proofs.Seeing.{seen_more, told_more, told_begins, told_end, told_nothing, seen_begins, seen_end, seen_nothing, past_none}
 use Rattle.document_laws.specs.Nodes.{made_steps, made_left, MakesPlainTokens, IsOfEvent, NodesStartBehindTokens}
-use Rattle.document_laws.specs.Steps.{bytes_taken}
+use Rattle.event_layout.specs.Filled.{bytes_taken}
 use Rattle.document_laws.proofs.Leaving.{bytes_both, trivia_sum, all_kept}
 use Rattle.document_laws.proofs.Noding.{Steps, begins_told, begins_only, made_nothing, made_more, seen_cons, told_cons, seen_one, seen_report, first_same, head_same, tail_same, Placed, placed}
 

@@ -32,8 +32,8 @@ pub fn places_are_known()
 {}
 
 /// Where a text with a replaced piece is laid as the law of replaced pieces of `event_layout` says,
-/// and what is laid before the piece takes the text before it, the old piece's tree is in the old
-/// text's tree, and with the new piece's tree there that is the new text's tree.
+/// the old piece's tree is in the old text's tree, behind the text before the piece, and with the
+/// new piece's tree there that is the new text's tree.
 pub fn replaced_pieces_are_trees()
     ensures { ReplacedPiecesAreTrees }
 {}
