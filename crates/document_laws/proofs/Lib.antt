@@ -12,3 +12,4 @@ mod Plain
 mod Replacing
 mod Sights
 mod Knowns
+mod Owning

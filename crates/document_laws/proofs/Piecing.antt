@@ -69,7 +69,7 @@ parsed_events e text h =
 some_same : (a b : Event) → Some a ≡ Some b → a ≡ b
 some_same a b e = cc
 
-parts_at : (es : List Event) (n : ℕ) (x : Event) → slice_get es n ≡ Some x → es ≡ take n es ++ x ∷ drop (suc n) es
+pub parts_at : (es : List Event) (n : ℕ) (x : Event) → slice_get es n ≡ Some x → es ≡ take n es ++ x ∷ drop (suc n) es
 parts_at [] n x h = (let bad : None ≡ Some x = h in absurd (cc))
 parts_at (e ∷ es) zero x h = ap (λ (y : Event). y ∷ es) (some_same e x h)
 parts_at (e ∷ es) (suc n) x h = ap (λ (xs : List Event). e ∷ xs) (parts_at es n x h)

@@ -8,3 +8,4 @@ pub mod Pieces
 pub mod Plain
 pub mod Replacing
 pub mod Sights
+pub mod Own

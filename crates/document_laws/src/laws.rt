@@ -1,4 +1,5 @@
 //! Laws of trees in which one piece is replaced. The functions do nothing: the contract is the law.
+use grammar_machine::laws::calls_make_their_own;
 ghost use Rattle.document_laws.specs.Blocks.{BlocksAreAtPlaces, PlacesAreKnown};
 ghost use Rattle.document_laws.specs.Steps.{BlocksOfStepsAreAtPlaces};
 ghost use Rattle.document_laws.specs.Replacing.{ReplacedPiecesAreTrees};
@@ -8,6 +9,7 @@ ghost use Rattle.document_laws.specs.Pieces.{PiecesOfTreesAreCalls, PiecesStartA
 ghost use Rattle.document_laws.specs.Plain.{RunsMakePlainTokens, RustHasPlainKinds};
 ghost use Rattle.document_laws.specs.Sights.{SightsAreOfTokens, LexersTokensAreKnown};
 ghost use Rattle.document_laws.specs.Stored.{StoredErrorsAreReplaced};
+ghost use Rattle.document_laws.specs.Own.{NodesHaveTheirOwn, PiecesHaveTheirOwn};
 ghost use Rattle.document_laws.specs.Tables.{RustSealsByCalls, RustLooksAreShort, ExactRulesAreSealed};
 
 /// Where some of the events that build a tree build one node by themselves, this node is in the
@@ -102,3 +104,13 @@ pub fn sights_are_of_tokens()
 pub fn stored_errors_are_replaced()
     ensures { StoredErrorsAreReplaced }
 {}
+
+/// The events up to the node of a sealed call, to which a run came, are those before the call and
+/// then those that the call made by itself, numbered from its own first one on. So the events of a
+/// file of Rust have those of each of its pieces among them.
+pub fn nodes_have_their_own()
+    ensures calls { NodesHaveTheirOwn }
+    ensures pieces { PiecesHaveTheirOwn }
+{
+    calls_make_their_own();
+}
