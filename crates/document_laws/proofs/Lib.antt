@@ -13,3 +13,4 @@ mod Replacing
 mod Sights
 mod Knowns
 mod Owning
+mod Alone

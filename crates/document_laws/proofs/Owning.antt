@@ -1,24 +1,21 @@
 -- The events that the sealed call of a node made by itself.
-use Rattle.std.proofs.Common.{◌≡◌, ℕ, zero, suc, min, ◌+◌, ◌-◌, ◌<◌, ◌≤◌, ◌^◌, Bool, true, false, nat_lt, if◌then◌else◌, List, [], ◌∷◌, ◌++◌, length, map, take, drop, ap, ap₂, ◌∙◌, refl, subst, sym, arith, append_assoc}
-use Rattle.std.specs.Prelude.{Option, Some, None, slice_get, reverse, All, IsUtf8, ◌==◌}
-use Rattle.std.proofs.lemmas.List.{reverse-append, reverse-reverse, map-append, length-append, length-reverse, length-take}
+use Rattle.std.proofs.Common.{◌≡◌, ℕ, suc, ◌+◌, ◌-◌, ◌<◌, ◌≤◌, ◌^◌, Bool, true, false, if◌then◌else◌, List, [], ◌∷◌, ◌++◌, length, take, drop, ap, ◌∙◌, refl, subst, sym, arith, append_assoc}
+use Rattle.std.specs.Prelude.{slice_get, reverse, All, IsUtf8, ◌==◌}
+use Rattle.std.proofs.lemmas.List.{reverse-append, reverse-reverse, map-append, length-append, length-reverse}
 use Rattle.std.proofs.lemmas.Option.{slice_get_within}
 use Rattle.std.proofs.lemmas.List.Elements.{All-head, All-tail}
 use Rattle.syntax_kind.specs.declared.syntax_kind.SyntaxKind.{SyntaxKind}
-use Rattle.tree_model.specs.Tree.{Tree, Place}
 use Rattle.ras_front_end.specs.declared.edition.Edition.{Edition}
-use Rattle.ras_front_end.specs.declared.edition.Reparser.{Reparser}
 use Rattle.token_layout.specs.declared.span.Token.{Token as RawToken}
 use Rattle.grammar_machine.specs.declared.event.Event.{Event}
 use Rattle.grammar_machine.specs.declared.event.Event.TheVariants as event
 use Rattle.grammar_machine.specs.declared.grammar.Sight.{Sight}
 use Rattle.grammar_machine.specs.Running.{Tables, State, start_of, step_of, runs, begin_of}
 use Rattle.grammar_machine.specs.Counting.{taken_by}
-use Rattle.grammar_machine.specs.Exchanging.{CallsMakeTheirOwn, MakesItsOwn, Makes, ComesToCall}
-use Rattle.grammar_machine.specs.Filling.{LooksAreShort, Fits}
+use Rattle.grammar_machine.specs.Exchanging.{CallsMakeTheirOwn, MakesItsOwn}
 use Rattle.grammar_machine.specs.Framing.{moved_event, moved_events}
-use Rattle.grammar_machine.specs.Sealing.{SealedCall, inside, returned, behind_call}
-use Rattle.grammar_machine.specs.Seen.{EventIsSeen, AllSeen, IsSeen, HasParts}
+use Rattle.grammar_machine.specs.Sealing.{SealedCall, returned}
+use Rattle.grammar_machine.specs.Seen.{AllSeen, IsSeen, HasParts}
 use Rattle.grammar_machine.proofs.Running.{runs-suc}
 use Rattle.grammar_machine.proofs.Counted.{runs-counted}
 use Rattle.grammar_machine.proofs.Seen.{runs-seen}
@@ -31,9 +28,8 @@ use Rattle.rust_grammar.specs.Tables.{rust_tables}
 use Rattle.rust_lexer.specs.Laws.{HasBytes, IsLexed}
 use Rattle.rust_lexer.specs.Lexing.{tokens_of}
 use Rattle.rust_lexer.proofs.Kept.{lexed}
-use Rattle.document_laws.specs.Calls.{IsOfCall}
-use Rattle.document_laws.specs.Pieces.{events_in, IsCalledPiece}
-use Rattle.document_laws.specs.Own.{before_call, IsOwnCall, NodesHaveTheirOwn, HasOwn, PiecesHaveTheirOwn}
+use Rattle.document_laws.specs.Pieces.{events_in}
+use Rattle.document_laws.specs.Own.{before_call, IsOwnCall, NodesHaveTheirOwn, PiecesHaveTheirOwn}
 use Rattle.document_laws.proofs.Calling.{inside_at}
 use Rattle.document_laws.proofs.Piecing.{parts_at}
 use Rattle.document_laws.proofs.Tabling.{looks_short}

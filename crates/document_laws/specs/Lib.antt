@@ -9,3 +9,4 @@ pub mod Plain
 pub mod Replacing
 pub mod Sights
 pub mod Own
+pub mod Alone

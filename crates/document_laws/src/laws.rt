@@ -1,5 +1,5 @@
 //! Laws of trees in which one piece is replaced. The functions do nothing: the contract is the law.
-use grammar_machine::laws::calls_make_their_own;
+use grammar_machine::laws::{calls_make_their_own, sealed_calls_leave_nothing};
 ghost use Rattle.document_laws.specs.Blocks.{BlocksAreAtPlaces, PlacesAreKnown};
 ghost use Rattle.document_laws.specs.Steps.{BlocksOfStepsAreAtPlaces};
 ghost use Rattle.document_laws.specs.Replacing.{ReplacedPiecesAreTrees};
@@ -10,6 +10,7 @@ ghost use Rattle.document_laws.specs.Plain.{RunsMakePlainTokens, RustHasPlainKin
 ghost use Rattle.document_laws.specs.Sights.{SightsAreOfTokens, LexersTokensAreKnown};
 ghost use Rattle.document_laws.specs.Stored.{StoredErrorsAreReplaced};
 ghost use Rattle.document_laws.specs.Own.{NodesHaveTheirOwn, PiecesHaveTheirOwn};
+ghost use Rattle.document_laws.specs.Alone.{ExactPiecesAreReadAlone, HeadsAreTested};
 ghost use Rattle.document_laws.specs.Tables.{RustSealsByCalls, RustLooksAreShort, ExactRulesAreSealed};
 
 /// Where some of the events that build a tree build one node by themselves, this node is in the
@@ -113,4 +114,14 @@ pub fn nodes_have_their_own()
     ensures pieces { PiecesHaveTheirOwn }
 {
     calls_make_their_own();
+}
+
+/// A text that the front end reads as an exact piece of Rust is from `{` to `}`, its rule reads it
+/// alone, and makes of it events that end with the piece's node; and the reading is what is laid of
+/// these. What the front end finds at the head of a text is what the laws of the lexer ask for.
+pub fn exact_pieces_are_read_alone()
+    ensures pieces { ExactPiecesAreReadAlone }
+    ensures heads { HeadsAreTested }
+{
+    sealed_calls_leave_nothing();
 }
