@@ -14,3 +14,4 @@ mod Sights
 mod Knowns
 mod Owning
 mod Alone
+mod Near

@@ -10,3 +10,4 @@ pub mod Replacing
 pub mod Sights
 pub mod Own
 pub mod Alone
+pub mod Leaving

@@ -11,6 +11,7 @@ ghost use Rattle.document_laws.specs.Sights.{SightsAreOfTokens, LexersTokensAreK
 ghost use Rattle.document_laws.specs.Stored.{StoredErrorsAreReplaced};
 ghost use Rattle.document_laws.specs.Own.{NodesHaveTheirOwn, PiecesHaveTheirOwn};
 ghost use Rattle.document_laws.specs.Alone.{ExactPiecesAreReadAlone, HeadsAreTested};
+ghost use Rattle.document_laws.specs.Leaving.{RunsLeaveTheirTokens};
 ghost use Rattle.document_laws.specs.Tables.{RustSealsByCalls, RustLooksAreShort, ExactRulesAreSealed};
 
 /// Where some of the events that build a tree build one node by themselves, this node is in the
@@ -125,3 +126,9 @@ pub fn exact_pieces_are_read_alone()
 {
     sealed_calls_leave_nothing();
 }
+
+/// Where a run has come to a token that has no parts, the lexer's tokens are cut there: what its
+/// events leave of them, white space and comments aside, begins with that token, and is whole.
+pub fn runs_leave_their_tokens()
+    ensures { RunsLeaveTheirTokens }
+{}
