@@ -15,3 +15,5 @@ mod Knowns
 mod Owning
 mod Alone
 mod Near
+mod Staying
+mod Begun

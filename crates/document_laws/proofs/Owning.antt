@@ -59,7 +59,7 @@ pub returned_at : (g : Tables) (ts : List Sight) (rule before : ℕ) (k : Syntax
     → returned c ≡ runs (suc (c.steps + suc before)) g ts (begin_of rule)
 returned_at g ts rule before k c = ap (λ (s : State). step_of g ts s) (inside_at g ts rule c.steps before) ∙ sym (runs-suc (c.steps + suc before) g ts (begin_of rule))
 
-tail_of : (x y : Event) (xs ys : List Event) → x ∷ xs ≡ y ∷ ys → xs ≡ ys
+pub tail_of : (x y : Event) (xs ys : List Event) → x ∷ xs ≡ y ∷ ys → xs ≡ ys
 tail_of x y xs ys e = cc
 
 pub own_call : CallsMakeTheirOwn → NodesHaveTheirOwn
@@ -103,7 +103,7 @@ short_text e text u small =
     let l : IsLexed e text = lexed e text u small in
     omega (arith, small, few_sights e text (tokens_of e text), few_tokens (tokens_of e text) l.none_empty, cut_sum (tokens_of e text) text l.cut)
 
-map_turned : (n : ℕ) (es : List Event) → reverse (moved_events n es) ≡ moved_events n (reverse es)
+pub map_turned : (n : ℕ) (es : List Event) → reverse (moved_events n es) ≡ moved_events n (reverse es)
 map_turned n [] = refl
 map_turned n (x ∷ es) =
     reverse-append (moved_event n x ∷ []) (moved_events n es) ∙ ap (λ (ys : List Event). ys ++ moved_event n x ∷ []) (map_turned n es)

@@ -11,3 +11,4 @@ pub mod Sights
 pub mod Own
 pub mod Alone
 pub mod Leaving
+pub mod Begun

@@ -12,6 +12,7 @@ ghost use Rattle.document_laws.specs.Stored.{StoredErrorsAreReplaced};
 ghost use Rattle.document_laws.specs.Own.{NodesHaveTheirOwn, PiecesHaveTheirOwn};
 ghost use Rattle.document_laws.specs.Alone.{ExactPiecesAreReadAlone, HeadsAreTested};
 ghost use Rattle.document_laws.specs.Leaving.{RunsLeaveTheirTokens};
+ghost use Rattle.document_laws.specs.Begun.{CallsBeginWithTheirToken};
 ghost use Rattle.document_laws.specs.Tables.{RustSealsByCalls, RustLooksAreShort, ExactRulesAreSealed};
 
 /// Where some of the events that build a tree build one node by themselves, this node is in the
@@ -131,4 +132,9 @@ pub fn exact_pieces_are_read_alone()
 /// events leave of them, white space and comments aside, begins with that token, and is whole.
 pub fn runs_leave_their_tokens()
     ensures { RunsLeaveTheirTokens }
+{}
+
+/// The first event that a sealed call makes is of the token where it began, and stays so.
+pub fn calls_begin_with_their_token()
+    ensures { CallsBeginWithTheirToken }
 {}
