@@ -51,7 +51,7 @@ never x h = (let bad : None ≡ Some x = h in cc)
 some_is : {X : Type 0} (x y : X) → Some x ≡ Some y → x ≡ y
 some_is x y e = cc
 
-open_only : (k : SyntaxKind) → is_open k ≡ true → k ≡ Token token.L_CURLY
+pub open_only : (k : SyntaxKind) → is_open k ≡ true → k ≡ Token token.L_CURLY
 open_only (Token token.L_CURLY) h = refl
 open_only _ h = absurd (no h)
 

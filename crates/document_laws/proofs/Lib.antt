@@ -17,3 +17,4 @@ mod Alone
 mod Near
 mod Staying
 mod Begun
+mod Opening

@@ -1,6 +1,6 @@
 -- What events leave of the tokens, as they are made and as they are counted: the same, but for the first token where a part of it was
 -- taken.
-use Rattle.std.proofs.Common.{◌≡◌, ◌⊎◌, inl, inr, ℕ, suc, ◌+◌, ◌-◌, ◌<◌, Bool, true, false, not, nat_eq, nat_le, if◌then◌else◌, List, [], ◌∷◌, ◌++◌, length, take, drop, ap, ◌∙◌, refl, subst, sym, arith, append_assoc}
+use Rattle.std.proofs.Common.{◌≡◌, ◌⊎◌, inl, inr, ℕ, suc, ◌+◌, ◌-◌, ◌<◌, ◌^◌, Bool, true, false, not, nat_eq, nat_le, if◌then◌else◌, List, [], ◌∷◌, ◌++◌, length, take, drop, ap, ◌∙◌, refl, subst, sym, arith, append_assoc}
 use Rattle.std.specs.Prelude.{Option, Some, None, slice_get, reverse, option_map, option_and_then, position}
 use Rattle.std.proofs.lemmas.List.{reverse-append, take-append-drop, length-append, length-drop}
 use Rattle.std.proofs.lemmas.Option.{slice_get_within}
@@ -11,12 +11,13 @@ use Rattle.grammar_machine.specs.declared.event.Event.{Event}
 use Rattle.grammar_machine.specs.declared.event.Event.TheVariants.{Token, Piece, Node, Error}
 use Rattle.grammar_machine.specs.declared.event.Part.{Part}
 use Rattle.grammar_machine.specs.declared.grammar.Sight.{Sight}
-use Rattle.grammar_machine.specs.Running.{State, runs, begin_of}
+use Rattle.grammar_machine.specs.Running.{Tables, State, runs, begin_of}
 use Rattle.grammar_machine.specs.Counting.{taken_by}
 use Rattle.grammar_machine.specs.Seen.{AllSeen, HasParts}
 use Rattle.grammar_machine.proofs.Counted.{runs-counted}
 use Rattle.grammar_machine.proofs.Seen.{runs-seen}
 use Rattle.event_layout.specs.Filled.{past_lead, taken, left_by, left_after}
+use Rattle.event_layout.specs.Finding.{AreSightsOf}
 use Rattle.event_layout.specs.Layout.{kind_of_part}
 use Rattle.event_layout.specs.Made.{Left, past_trivia, past, joined_on, part_len, shorter, parted_at, parted_on, made_by}
 use Rattle.event_layout.specs.Taking.{seen_tokens, FindsTokens, AllFind, LeavesSeen}
@@ -272,3 +273,30 @@ runs_leave n root g rule ss ts text s short sights there word =
         let same : p.sight ≡ s = sight_same ss (taken_by (runs n g ss (begin_of rule)).made.events) (runs n g ss (begin_of rule)).place.at p.sight s c p.there there in
         let none : p.sight.word ≡ 0 = ap (λ (x : Sight). x.word) same ∙ word in
         absurd (omega (arith, none, p.finer))
+
+near_long : (b : Bool) (us vs : List RawToken) → Near b us vs → length us ≡ length vs
+near_long false us vs h = ap length h
+near_long true us vs (inl e) = ap length e
+near_long true us vs (inr a) = ap length a.is_left ∙ sym (ap length a.is_right)
+
+some_seen : (ts : List RawToken) → 0 < length (seen_tokens ts) → 0 < length ts
+some_seen [] h = h
+some_seen (t ∷ ts) h = omega arith
+
+-- where a run has come to a token, some are left
+pub some_left : (n root : ℕ) (g : Tables) (rule : ℕ) (ss : List Sight) (ts : List RawToken) (text : List ℕ) → length ss + 3 < 2 ^ 64 → AreSightsOf ss ts
+    → (runs n g ss (begin_of rule)).place.at < length ss
+    → 0 < length (past (made_left root 0 (reverse (runs n g ss (begin_of rule)).made.events) (record { tokens = ts; text = text }))).tokens
+some_left n root g rule ss ts text short sights within =
+    let st : State = runs n g ss (begin_of rule) in
+    let es : List Event = st.made.events in
+    let counted : taken_by es ≡ st.place.at = runs-counted n g ss rule short in
+    let found : AllFind (reverse es) ts = events_find ss ts es sights (runs-seen n g ss rule short) in
+    let l : LeavesSeen (reverse es) ts = events_leave (reverse es) ts found in
+    let us : List RawToken = (past (made_left root 0 (reverse es) (record { tokens = ts; text = text }))).tokens in
+    let near : Near (parted_after (reverse es) false) us (past_lead l.left) =
+    near_all root 0 (reverse es) (record { tokens = ts; text = text }) ts l.left false (past_is ts text) found l.is in
+    let seen : length (seen_tokens (past_lead l.left)) ≡ length (seen_tokens ts) - taken_by (reverse es) =
+    ap length (seen_past l.left ∙ l.seen) ∙ length-drop (taken_by (reverse es)) (seen_tokens ts) in
+    omega (arith, near_long (parted_after (reverse es) false) us (past_lead l.left) near,
+    some_seen (past_lead l.left) (omega (arith, seen, taken_turned es, counted, within, sights.count)))

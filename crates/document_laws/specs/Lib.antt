@@ -12,3 +12,4 @@ pub mod Own
 pub mod Alone
 pub mod Leaving
 pub mod Begun
+pub mod Opening

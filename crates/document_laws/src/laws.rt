@@ -13,6 +13,7 @@ ghost use Rattle.document_laws.specs.Own.{NodesHaveTheirOwn, PiecesHaveTheirOwn}
 ghost use Rattle.document_laws.specs.Alone.{ExactPiecesAreReadAlone, HeadsAreTested};
 ghost use Rattle.document_laws.specs.Leaving.{RunsLeaveTheirTokens};
 ghost use Rattle.document_laws.specs.Begun.{CallsBeginWithTheirToken};
+ghost use Rattle.document_laws.specs.Opening.{PiecesOpenAtTheirBraces};
 ghost use Rattle.document_laws.specs.Tables.{RustSealsByCalls, RustLooksAreShort, ExactRulesAreSealed};
 
 /// Where some of the events that build a tree build one node by themselves, this node is in the
@@ -138,3 +139,12 @@ pub fn runs_leave_their_tokens()
 pub fn calls_begin_with_their_token()
     ensures { CallsBeginWithTheirToken }
 {}
+
+/// A node of a file's tree that is of a kind with a reparser for exact pieces, and whose first
+/// child is `{`, starts where the lexer's tokens are cut before a `{`, and the run had taken the
+/// tokens before it when it came to the node's call.
+pub fn pieces_open_at_their_braces()
+    ensures { PiecesOpenAtTheirBraces }
+{
+    calls_make_their_own();
+}
