@@ -18,3 +18,4 @@ mod Near
 mod Staying
 mod Begun
 mod Opening
+mod Around

@@ -146,7 +146,7 @@ some_at [] i h = absurd (omega (arith, h))
 some_at (s ∷ ss) zero h = record { sight = s; there = refl }
 some_at (s ∷ ss) (suc i) h = (let w : SomeAt ss i = some_at ss i (omega (arith, h)) in record { sight = w.sight; there = w.there })
 
-bytes_are : (ts : List RawToken) → bytes_of ts ≡ sum_len ts
+pub bytes_are : (ts : List RawToken) → bytes_of ts ≡ sum_len ts
 bytes_are [] = refl
 bytes_are (t ∷ ts) = ap (λ (n : ℕ). t.len + n) (bytes_are ts)
 

@@ -13,3 +13,4 @@ pub mod Alone
 pub mod Leaving
 pub mod Begun
 pub mod Opening
+pub mod Around

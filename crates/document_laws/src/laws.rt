@@ -14,6 +14,7 @@ ghost use Rattle.document_laws.specs.Alone.{ExactPiecesAreReadAlone, HeadsAreTes
 ghost use Rattle.document_laws.specs.Leaving.{RunsLeaveTheirTokens};
 ghost use Rattle.document_laws.specs.Begun.{CallsBeginWithTheirToken};
 ghost use Rattle.document_laws.specs.Opening.{PiecesOpenAtTheirBraces};
+ghost use Rattle.document_laws.specs.Around.{TokensAreReplaced};
 ghost use Rattle.document_laws.specs.Tables.{RustSealsByCalls, RustLooksAreShort, ExactRulesAreSealed};
 
 /// Where some of the events that build a tree build one node by themselves, this node is in the
@@ -148,3 +149,10 @@ pub fn pieces_open_at_their_braces()
 {
     calls_make_their_own();
 }
+
+/// Where the lexer's tokens of a text without a head are in three parts, and the second one begins
+/// with `{`, any text that is from `{` to `}` by itself may come in the place of that part, as the
+/// laws of `lexer_laws` on replaced pieces say.
+pub fn tokens_are_replaced()
+    ensures { TokensAreReplaced }
+{}
