@@ -19,3 +19,4 @@ mod Staying
 mod Begun
 mod Opening
 mod Around
+mod Ending

@@ -34,7 +34,7 @@ use Rattle.document_laws.specs.Leaving.{RunsLeaveTheirTokens}
 past_empty : past_lead [] ≡ []
 past_empty = ap (λ (n : ℕ). drop n []) lead_none
 
-past_is : (ts : List RawToken) (text : List ℕ) → (past_trivia ts text).tokens ≡ past_lead ts
+pub past_is : (ts : List RawToken) (text : List ℕ) → (past_trivia ts text).tokens ≡ past_lead ts
 past_is [] text = sym past_empty
 past_is (t ∷ ts) text = by (is_trivia t.kind) refl (past_is ts (drop t.len text))
   where
@@ -51,15 +51,15 @@ first_plain ts t rest e = plain_on t rest (is_trivia t.kind) refl (ap lead (sym 
 
 -- ---- the same but for the first token
 
-record Alike (us vs : List RawToken) : Type 0 where
-  u : RawToken
-  t : RawToken
-  rest : List RawToken
-  is_left : us ≡ u ∷ rest
-  is_right : vs ≡ t ∷ rest
-  kind : u.kind ≡ t.kind
+pub record Alike (us vs : List RawToken) : Type 0 where
+  pub u : RawToken
+  pub t : RawToken
+  pub rest : List RawToken
+  pub is_left : us ≡ u ∷ rest
+  pub is_right : vs ≡ t ∷ rest
+  pub kind : u.kind ≡ t.kind
 
-abbrev Near : Bool → List RawToken → List RawToken → Type 0
+abbrev pub Near : Bool → List RawToken → List RawToken → Type 0
 Near false us vs = us ≡ vs
 Near true us vs = (us ≡ vs) ⊎ Alike us vs
 
@@ -73,7 +73,7 @@ alike true us vs (inl e) l = same_alike us vs e l
 alike true us vs (inr a) l = a
 
 -- whether a part of the first token may be taken
-abbrev next_parted : Event → Bool → Bool
+abbrev pub next_parted : Event → Bool → Bool
 next_parted (Token k signs) b = false
 next_parted (Piece p last) b = not last
 next_parted (Node k from) b = b
@@ -83,10 +83,10 @@ abbrev parted_after : List Event → Bool → Bool
 parted_after [] b = b
 parted_after (e ∷ es) b = parted_after es (next_parted e b)
 
-record NearBy (root n : ℕ) (e : Event) (l : Left) (ts : List RawToken) (b : Bool) : Type 0 where
-  left : List RawToken
-  is : left_by e ts ≡ Some left
-  near : Near (next_parted e b) (past (made_by root n e l).left).tokens (past_lead left)
+pub record NearBy (root n : ℕ) (e : Event) (l : Left) (ts : List RawToken) (b : Bool) : Type 0 where
+  pub left : List RawToken
+  pub is : left_by e ts ≡ Some left
+  pub near : Near (next_parted e b) (past (made_by root n e l).left).tokens (past_lead left)
 
 -- a token is taken, with so many more
 taken_near : (k : SyntaxKind) (more : ℕ) (text : List ℕ) (us vs : List RawToken) → Alike us vs → (past (joined_on k more us text).left).tokens ≡ past_lead (drop (suc more) vs)
@@ -118,7 +118,7 @@ part_near p u rest text plain = by _ refl
           ∙ past_stops (shorter (part_len p dot) u) rest plain;
     }
 
-near_one : (root n : ℕ) (e : Event) (l : Left) (ts : List RawToken) (b : Bool) → Near b (past l).tokens (past_lead ts) → FindsTokens e ts → NearBy root n e l ts b
+pub near_one : (root n : ℕ) (e : Event) (l : Left) (ts : List RawToken) (b : Bool) → Near b (past l).tokens (past_lead ts) → FindsTokens e ts → NearBy root n e l ts b
 near_one root n (Token k signs) l ts b h f =
     let m : signs - 1 + 1 ≡ signs = omega (arith, f.0) in
     let c : suc (signs - 1) ≡ signs = omega (arith, f.0) in
@@ -153,7 +153,7 @@ near_one root n (Piece p false) l ts b h f =
 near_one root n (Node k from) l ts b h f = record { left = ts; is = refl; near = h }
 near_one root n (Error m) l ts b h f = record { left = ts; is = refl; near = h }
 
-some_same : {X : Type 0} (x y : X) → Some x ≡ Some y → x ≡ y
+pub some_same : {X : Type 0} (x y : X) → Some x ≡ Some y → x ≡ y
 some_same x y e = cc
 
 near_all : (root n : ℕ) (es : List Event) (l : Left) (ts us : List RawToken) (b : Bool) → Near b (past l).tokens (past_lead ts) → AllFind es ts → left_after es ts ≡ Some us
@@ -226,7 +226,7 @@ after_end (e ∷ es) ts us h = by (left_by e ts) refl h (λ vs. after_end es vs 
     by (Some vs) f m k = end_twice ts vs us (by_end e ts vs f) (k vs m)
     by None f m k = absurd (let bad : None ≡ Some us = m in cc)
 
-seen_past : (ts : List RawToken) → seen_tokens (past_lead ts) ≡ seen_tokens ts
+pub seen_past : (ts : List RawToken) → seen_tokens (past_lead ts) ≡ seen_tokens ts
 seen_past [] = ap seen_tokens past_empty
 seen_past (t ∷ ts) = by (is_trivia t.kind) refl (seen_past ts)
   where

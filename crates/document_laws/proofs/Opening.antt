@@ -137,11 +137,11 @@ number_found k h = number_in token_numbers other_numbers k (sym (numbers_are k) 
 
 -- ---- the piece
 
-record SomeAt (ss : List Sight) (i : ℕ) : Type 0 where
-  sight : Sight
-  there : slice_get ss i ≡ Some sight
+pub record SomeAt (ss : List Sight) (i : ℕ) : Type 0 where
+  pub sight : Sight
+  pub there : slice_get ss i ≡ Some sight
 
-some_at : (ss : List Sight) (i : ℕ) → i < length ss → SomeAt ss i
+pub some_at : (ss : List Sight) (i : ℕ) → i < length ss → SomeAt ss i
 some_at [] i h = absurd (omega (arith, h))
 some_at (s ∷ ss) zero h = record { sight = s; there = refl }
 some_at (s ∷ ss) (suc i) h = (let w : SomeAt ss i = some_at ss i (omega (arith, h)) in record { sight = w.sight; there = w.there })

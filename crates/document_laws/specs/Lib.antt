@@ -14,3 +14,4 @@ pub mod Leaving
 pub mod Begun
 pub mod Opening
 pub mod Around
+pub mod Ending

@@ -15,6 +15,7 @@ ghost use Rattle.document_laws.specs.Leaving.{RunsLeaveTheirTokens};
 ghost use Rattle.document_laws.specs.Begun.{CallsBeginWithTheirToken};
 ghost use Rattle.document_laws.specs.Opening.{PiecesOpenAtTheirBraces};
 ghost use Rattle.document_laws.specs.Around.{TokensAreReplaced};
+ghost use Rattle.document_laws.specs.Ending.{RunsTakeNoMore, PiecesEndAtTheirTokens};
 ghost use Rattle.document_laws.specs.Tables.{RustSealsByCalls, RustLooksAreShort, ExactRulesAreSealed};
 
 /// Where some of the events that build a tree build one node by themselves, this node is in the
@@ -155,4 +156,11 @@ pub fn pieces_open_at_their_braces()
 /// laws of `lexer_laws` on replaced pieces say.
 pub fn tokens_are_replaced()
     ensures { TokensAreReplaced }
+{}
+
+/// A run takes no more tokens than there are. So the lexer's tokens of a piece of a file are cut
+/// behind those that its call took, the last of which is neither white space nor a comment.
+pub fn pieces_end_at_their_tokens()
+    ensures runs { RunsTakeNoMore }
+    ensures pieces { PiecesEndAtTheirTokens }
 {}
