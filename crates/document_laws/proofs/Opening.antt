@@ -1,8 +1,9 @@
 -- Where the pieces of a text of Rust begin.
-use Rattle.std.proofs.Common.{◌≡◌, ℕ, zero, suc, min, ◌+◌, ◌-◌, ◌<◌, ◌^◌, Bool, true, false, not, ◌&&◌, nat_lt, nat_eq, if◌then◌else◌, List, [], ◌∷◌, ◌++◌, length, take, drop, ap, ◌∙◌, refl, sym, arith}
-use Rattle.std.specs.Prelude.{Option, Some, None, slice_get, reverse}
+use Rattle.std.proofs.Common.{◌≡◌, ℕ, zero, suc, min, ◌+◌, ◌-◌, ◌<◌, ◌≤◌, ◌^◌, Bool, true, false, not, ◌&&◌, nat_lt, nat_eq, if◌then◌else◌, List, [], ◌∷◌, ◌++◌, length, take, drop, ap, ◌∙◌, refl, subst, sym, arith}
+use Rattle.std.specs.Prelude.{Option, Some, None, slice_get, reverse, All, IsUtf8}
 use Rattle.std.specs.List.{list_all}
 use Rattle.std.proofs.Math.Seq.{take-append_seam, drop-append_seam}
+use Rattle.std.proofs.lemmas.List.Elements.{All-head, All-tail}
 use Rattle.std.proofs.lemmas.List.{length-append, length-reverse, length-take}
 use Rattle.syntax_kind.specs.declared.syntax_kind.SyntaxKind.{SyntaxKind}
 use Rattle.syntax_kind.specs.declared.syntax_kind.SyntaxKind.TheVariants as kinds
@@ -10,7 +11,9 @@ use Rattle.syntax_kind.specs.declared.syntax_kind.token_kind.TokenKind.TheVarian
 use Rattle.syntax_kind.specs.declared.syntax_kind.node_kind.NodeKind.TheVariants as node
 use Rattle.syntax_kind.specs.Kinds.{kind_raw}
 use Rattle.syntax_kind.specs.KindLaws.{kind_raw-injective}
-use Rattle.tree_model.specs.Tree.{start}
+use Rattle.tree_model.specs.Tree.{Tree, Place, start}
+use Rattle.ras_front_end.specs.declared.edition.Edition.{Edition}
+use Rattle.ras_front_end.specs.declared.edition.Reparser.{Reparser}
 use Rattle.ras_front_end.specs.Reading.{takes}
 use Rattle.token_layout.specs.declared.span.Token.{Token as RawToken}
 use Rattle.grammar_machine.specs.declared.event.Event.{Event}
@@ -19,7 +22,7 @@ use Rattle.grammar_machine.specs.declared.grammar.Sight.{Sight}
 use Rattle.grammar_machine.specs.Exchanging.{CallsMakeTheirOwn}
 use Rattle.grammar_machine.specs.Framing.{moved_events}
 use Rattle.grammar_machine.specs.Running.{State, kind_or, kind_of}
-use Rattle.event_layout.specs.Amid.{sum_len}
+use Rattle.event_layout.specs.Amid.{first_len, sum_len}
 use Rattle.event_layout.specs.Finding.{AreSightsOf}
 use Rattle.event_layout.specs.Layout.{root_of}
 use Rattle.event_layout.specs.Made.{Left, past, trivia_of, only_tokens, made_from}
@@ -31,14 +34,14 @@ use Rattle.rust_grammar.specs.declared.tables.rules.Rule.TheVariants as rule
 use Rattle.rust_grammar.specs.Rules.{first_op}
 use Rattle.rust_grammar.specs.Seeing.{byte_or_0, in_tables, number_of, finer_of, sights_of}
 use Rattle.rust_grammar.specs.Tables.{rust_tables}
-use Rattle.rust_lexer.specs.Laws.{IsLexed}
+use Rattle.rust_lexer.specs.Laws.{HasBytes, IsLexed}
 use Rattle.rust_lexer.specs.Lexing.{tokens_of}
 use Rattle.rust_lexer.proofs.Kept.{lexed}
 use Rattle.document_laws.specs.Begun.{BeginsWithSight}
 use Rattle.document_laws.specs.Calls.{IsOfCall}
 use Rattle.document_laws.specs.Leaving.{LeavesTokens}
 use Rattle.document_laws.specs.Nodes.{made_left}
-use Rattle.document_laws.specs.Opening.{PiecesOpenAtTheirBraces}
+use Rattle.document_laws.specs.Opening.{OpensThere, PiecesOpenAtTheirBraces}
 use Rattle.document_laws.specs.Own.{before_call, HasOwn}
 use Rattle.document_laws.specs.Pieces.{events_in, IsCalledPiece}
 use Rattle.document_laws.specs.Tables.{IsExactRule}
@@ -154,23 +157,36 @@ sum_both : (xs ys : List RawToken) → sum_len (xs ++ ys) ≡ sum_len xs + sum_l
 sum_both [] ys = omega arith
 sum_both (x ∷ xs) ys = omega (arith, sum_both xs ys)
 
-pub pieces_open : CallsMakeTheirOwn → PiecesOpenAtTheirBraces
-pieces_open law e text t i p k w f r u small few built at sub chosen =
-    let root : SyntaxKind = kinds.Node node.SOURCE_FILE in
+all_behind : (xs ys : List RawToken) → All HasBytes (xs ++ ys) → All HasBytes ys
+all_behind [] ys h = h
+all_behind (x ∷ xs) ys h = all_behind xs ys (All-tail HasBytes x (xs ++ ys) h)
+
+some_text : (a b c d : ℕ) → 0 < a → b ≡ a → b ≤ c → d ≡ c → 0 < d
+some_text a b c d h e l f = omega (arith, h, e, l, f)
+
+cut_at : (x f s b a n : ℕ) → x ≡ f → s + b ≡ n → a ≡ f + b → a ≡ n → x ≡ s
+cut_at x f s b a n h i j k = omega (arith, h, i, j, k)
+
+abbrev sights_in : Edition → List ℕ → List Sight
+sights_in e text = sights_of e text (tokens_of e text)
+
+abbrev StartsIn : Edition → List ℕ → Tree → Place → SyntaxKind → List ℕ → Type 0
+StartsIn e text t p k w = Starts (kinds.Node node.SOURCE_FILE) attaching_kinds text (tokens_of e text) (events_in e text) t p k (kinds.Token token.L_CURLY) w
+
+abbrev CalledIn : Edition → List ℕ → SyntaxKind → ℕ → ℕ → Type 0
+CalledIn e text k from n = IsOfCall rust_tables (sights_in e text) (first_op rule.SourceFile) k from (reverse (take n (events_in e text)))
+
+open_with : (e : Edition) (text : List ℕ) (t : Tree) (p : Place) (k : SyntaxKind) (w : List ℕ) (r : Reparser) → IsUtf8 text → length text < 2 ^ 32
+    → (v : StartsIn e text t p k w) (x : IsExactRule k r) (d : CalledIn e text k v.starts.is_of.from v.starts.is_of.number)
+    → HasOwn e text t p k r (record { exact = x; event = v.starts.is_of; called = d; target = x.calls _ d.call.target d.call.found }) → OpensThere e text t p k r × (0 < length w)
+open_with e text t p k w r u small v x d h =
     let ts : List RawToken = tokens_of e text in
     let ss : List Sight = sights_of e text ts in
     let es : List Event = events_in e text in
     let l : IsLexed e text = lexed e text u small in
-    let v : Starts root attaching_kinds text ts es t (i ∷ p) k (kinds.Token token.L_CURLY) =
-    node_starts root attaching_kinds text ts es t i p k (kinds.Token token.L_CURLY) w f small l.cut (omega (arith, few)) (plain_events e text)
-    (laid_tree e text t small built) at sub refl in
     let n : ℕ = v.starts.is_of.number in
     let from : ℕ = v.starts.is_of.from in
-    let x : IsExactRule k r = exact_rules k r chosen in
-    let d : IsOfCall rust_tables ss (first_op rule.SourceFile) k from (reverse (take n es)) =
-    called_there rust_tables ss (first_op rule.SourceFile) k n from only_calls x.listed v.starts.is_of.event in
-    let c : IsCalledPiece e text t (i ∷ p) k r = record { exact = x; event = v.starts.is_of; called = d; target = x.calls _ d.call.target d.call.found } in
-    let h : HasOwn e text t (i ∷ p) k r c = pieces_own law e text t (i ∷ p) k r c u small few in
+    let c : IsCalledPiece e text t p k r = record { exact = x; event = v.starts.is_of; called = d; target = x.calls _ d.call.target d.call.found } in
     let state : State = before_call d in
     let before : List Event = reverse state.made.events in
     let rest : List Event = moved_events from h.is_own.own ++ event.Node k from ∷ h.later in
@@ -194,24 +210,40 @@ pieces_open law e text t i p k w f r u small few built at sub chosen =
     ∙ sym (ap (λ (xs : List Event). only_tokens (made_from (root_of es) es (0 + min from n) (drop (min from n) es) (made_left (root_of es) 0 xs whole))) front_is)
     ∙ v.next
     ∙ ap (λ (xs : List Event). trivia_of (made_left (root_of es) 0 xs whole).tokens ++ takes (kinds.Token token.L_CURLY) v.len ∷ v.more) front_is in
-    let brace : kind ≡ kinds.Token token.L_CURLY =
+    let made : (kind ≡ kinds.Token token.L_CURLY) × (first_len (past left).tokens ≤ v.len) =
     first_made (root_of es) es (0 + min from n) kind (kinds.Token token.L_CURLY) later left v.len v.more
     (some_left d.before (root_of es) rust_tables (first_op rule.SourceFile) ss ts text short sights d.call.token) next in
-    let one : there.sight.one ≡ 20 = kind_found there.sight.one (slice_get rust_tables.kinds there.sight.one) refl brace in
+    let one : there.sight.one ≡ 20 = kind_found there.sight.one (slice_get rust_tables.kinds there.sight.one) refl made.0 in
     let fine : IsFine e there.sight = sights_fine e text ts state.place.at there.sight there.there in
     let word : there.sight.word ≡ 0 = fine.is ∙ ap (λ (m : ℕ). finer_of e m fine.its_text) one in
     let cut : LeavesTokens (root_of es) state ts text = runs_leave d.before (root_of es) rust_tables (first_op rule.SourceFile) ss ts text there.sight short sights there.there word in
     let has : FirstHas cut.back there.sight.one =
     first_has e text ts cut.front cut.back there.sight (lexer_known e text) cut.is cut.first (ap (slice_get ss) cut.count ∙ there.there) in
-    let sum : start t (i ∷ p) + sum_len cut.back ≡ length text =
-    sym (ap (λ (xs : List RawToken). start t (i ∷ p) + sum_len xs) cut.left)
-    ∙ sym (ap (λ (xs : List Event). start t (i ∷ p) + sum_len (past (made_left (root_of es) 0 xs whole)).tokens) front_is) ∙ v.starts.rest in
-    record {
+    let sum : start t p + sum_len cut.back ≡ length text =
+    sym (ap (λ (xs : List RawToken). start t p + sum_len xs) cut.left)
+    ∙ sym (ap (λ (xs : List Event). start t p + sum_len (past (made_left (root_of es) 0 xs whole)).tokens) front_is) ∙ v.starts.rest in
+    let bytes : 0 < has.first.len = All-head HasBytes has.first has.later (all_behind cut.front (has.first ∷ has.later) (subst (All HasBytes) (cut.is ∙ ap (λ (xs : List RawToken). cut.front ++ xs) has.is) l.none_empty)) in
+    let first_long : first_len (past left).tokens ≡ has.first.len = ap first_len (cut.left ∙ has.is) in
+    let some : 0 < length w = some_text has.first.len (first_len (past left).tokens) v.len (length w) bytes first_long made.1 v.long in
+    (record {
       piece = c;
       front = cut.front;
       back = cut.back;
       tokens = cut.is;
-      cut = omega (arith, bytes_are cut.front, sum, sum_both cut.front cut.back, ap sum_len cut.is, cut_sum ts text l.cut);
+      cut =
+          cut_at (bytes_of cut.front) (sum_len cut.front) (start t p) (sum_len cut.back) (sum_len ts) (length text)
+          (bytes_are cut.front) sum (ap sum_len cut.is ∙ sum_both cut.front cut.back) (cut_sum ts text l.cut);
       opens = record { first = has.first; rest = has.later; begins = has.is; is_open = number_found has.first.kind (sym has.number_is ∙ one) };
       count = cut.count;
-    }
+    }, some)
+
+pub pieces_open : CallsMakeTheirOwn → PiecesOpenAtTheirBraces
+pieces_open law e text t i p k w f r u small few built at sub chosen =
+    let v : StartsIn e text t (i ∷ p) k w =
+    node_starts (kinds.Node node.SOURCE_FILE) attaching_kinds text (tokens_of e text) (events_in e text) t i p k (kinds.Token token.L_CURLY) w f small
+    (lexed e text u small).cut (omega (arith, few)) (plain_events e text) (laid_tree e text t small built) at sub refl in
+    let x : IsExactRule k r = exact_rules k r chosen in
+    let d : CalledIn e text k v.starts.is_of.from v.starts.is_of.number =
+    called_there rust_tables (sights_in e text) (first_op rule.SourceFile) k v.starts.is_of.number v.starts.is_of.from only_calls x.listed v.starts.is_of.event in
+    open_with e text t (i ∷ p) k w r u small v x d
+    (pieces_own law e text t (i ∷ p) k r (record { exact = x; event = v.starts.is_of; called = d; target = x.calls _ d.call.target d.call.found }) u small few)

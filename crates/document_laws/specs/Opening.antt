@@ -31,11 +31,11 @@ pub record OpensThere (e : Edition) (text : List ℕ) (t : Tree) (p : Place) (k 
   pub opens : Opens back
   pub count : length (seen_tokens front) ≡ (before_call piece.called).place.at
 
--- so it is for each node of a kind with a reparser for exact pieces whose first child is `{`
+-- so it is for each node of a kind with a reparser for exact pieces whose first child is `{`, which has a text
 abbrev pub PiecesOpenAtTheirBraces : Type 0
 PiecesOpenAtTheirBraces =
     (e : Edition) (text : List ℕ) (t : Tree) (i : ℕ) (p : Place) (k : SyntaxKind) (w : List ℕ) (f : Forest) (r : Reparser)
     → IsUtf8 text → length text < 2 ^ 32 → length (events_in e text) < 2 ^ 32 - 1
     → BuildsNode (events_from (parsed_of SourceFile e text).steps text) t
     → IsPlace t (i ∷ p) → subtree t (i ∷ p) ≡ tree.node k (cons (tree.token (kinds.Token token.L_CURLY) w) f)
-    → exact_chosen_of k ≡ Some r → OpensThere e text t (i ∷ p) k r
+    → exact_chosen_of k ≡ Some r → OpensThere e text t (i ∷ p) k r × (0 < length w)
