@@ -1,4 +1,5 @@
 //! Laws of trees in which one piece is replaced. The functions do nothing: the contract is the law.
+//! Those that call a law of the machine stand on it.
 use grammar_machine::laws::{calls_make_their_own, sealed_calls_leave_nothing};
 ghost use Rattle.document_laws.specs.Blocks.{BlocksAreAtPlaces, PlacesAreKnown};
 ghost use Rattle.document_laws.specs.Steps.{BlocksOfStepsAreAtPlaces};
