@@ -193,7 +193,7 @@ begun g ts rule n target k (Some t) s e found some same starts h =
 
 -- ---- a return
 
-inside_at : (g : Tables) (ts : List Sight) (rule j m : ℕ) → inside j g ts (at g ts rule m) ≡ at g ts rule (j + suc m)
+pub inside_at : (g : Tables) (ts : List Sight) (rule j m : ℕ) → inside j g ts (at g ts rule m) ≡ at g ts rule (j + suc m)
 inside_at g ts rule j m = ap (runs j g ts) (sym (runs-suc m g ts (begin_of rule))) ∙ sym (runs-add j (suc m) g ts (begin_of rule))
 
 -- a call that is open returns

@@ -16,7 +16,7 @@ use Rattle.event_layout.specs.Amid.{sum_len}
 use Rattle.event_layout.specs.Layout.{kind_of_part}
 use Rattle.event_layout.specs.Made.{Left, Made, trivia_of, past_trivia, past, joined_on, joined, part_len, parted_at, parted_on, parted, after, made_by}
 use Rattle.document_laws.specs.Nodes.{made_steps, made_left}
-use Rattle.document_laws.specs.Steps.{bytes_taken}
+use Rattle.event_layout.specs.Filled.{bytes_taken}
 
 pub bytes_both : (xs ys : List FrontStep) → bytes_taken (xs ++ ys) ≡ bytes_taken xs + bytes_taken ys
 bytes_both [] ys = omega arith

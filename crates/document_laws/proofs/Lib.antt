@@ -12,3 +12,11 @@ mod Plain
 mod Replacing
 mod Sights
 mod Knowns
+mod Owning
+mod Alone
+mod Near
+mod Staying
+mod Begun
+mod Opening
+mod Around
+mod Ending

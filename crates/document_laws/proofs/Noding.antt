@@ -23,7 +23,7 @@ use Rattle.event_layout.proofs.Laying.{laid}
 use Rattle.event_layout.proofs.Making.{made}
 use Rattle.event_layout.proofs.Seeing.{seen_more, told_more, told_begins, told_nothing, seen_begins, seen_end, seen_nothing}
 use Rattle.document_laws.specs.Nodes.{seen_of, made_steps, IsOfEvent, NodesAreOfEvents}
-use Rattle.document_laws.specs.Steps.{bytes_taken}
+use Rattle.event_layout.specs.Filled.{bytes_taken}
 
 abbrev pub Steps : Type 0
 Steps = List FrontStep
@@ -139,6 +139,7 @@ record SplitAt (steps : Steps) (s : List ℕ) (before : List TreeEvent) (k : Syn
   taken : bytes_taken front ≡ text_len before
   left : List ℕ
   later : events_from back left ≡ behind
+  cuts : Cuts back left
 
 split_at : (steps : Steps) (s : List ℕ) (before : List TreeEvent) (k : SyntaxKind) (behind : List TreeEvent) → Cuts steps s → events_from steps s ≡ before ++ enter k ∷ behind → SplitAt steps s before k behind
 split_at [] s [] k behind c h = (let bad : [] ≡ enter k ∷ behind = h in absurd (cc))
@@ -151,6 +152,7 @@ split_at (begins j ∷ steps) s [] k behind c h = record {
   taken = refl;
   left = s;
   later = rest_same (enter j) (enter k) (events_from steps s) behind h;
+  cuts = c;
 }
 split_at (begins j ∷ steps) s (b ∷ before) k behind c h =
     let w = split_at steps s before k behind c (rest_same (enter j) b (events_from steps s) (before ++ enter k ∷ behind) h) in
@@ -163,6 +165,7 @@ split_at (begins j ∷ steps) s (b ∷ before) k behind c h =
       taken = w.taken ∙ ap (λ (x : TreeEvent). text_len (x ∷ before)) first;
       left = w.left;
       later = w.later;
+      cuts = w.cuts;
     }
 split_at (takes j n ∷ steps) s [] k behind c h = (let bad : leaf j (take n s) ≡ enter k = first_same (leaf j (take n s)) (enter k) (events_from steps (drop n s)) behind h in absurd (cc))
 split_at (takes j n ∷ steps) s (b ∷ before) k behind c h =
@@ -179,6 +182,7 @@ split_at (takes j n ∷ steps) s (b ∷ before) k behind c h =
           ∙ ap (λ (x : TreeEvent). text_len (x ∷ before)) first;
       left = w.left;
       later = w.later;
+      cuts = w.cuts;
     }
 split_at (ends ∷ steps) s [] k behind c h = (let bad : exit ≡ enter k = first_same exit (enter k) (events_from steps s) behind h in absurd (cc))
 split_at (ends ∷ steps) s (b ∷ before) k behind c h =
@@ -192,10 +196,11 @@ split_at (ends ∷ steps) s (b ∷ before) k behind c h =
       taken = w.taken ∙ ap (λ (x : TreeEvent). text_len (x ∷ before)) first;
       left = w.left;
       later = w.later;
+      cuts = w.cuts;
     }
 split_at (reports m q ∷ steps) s before k behind c h =
     let w = split_at steps s before k behind c h in
-    record { front = reports m q ∷ w.front; back = w.back; is = ap (λ (xs : Steps). reports m q ∷ xs) w.is; events = w.events; taken = w.taken; left = w.left; later = w.later }
+    record { front = reports m q ∷ w.front; back = w.back; is = ap (λ (xs : Steps). reports m q ∷ xs) w.is; events = w.events; taken = w.taken; left = w.left; later = w.later; cuts = w.cuts }
 
 -- ---- lists of steps
 
@@ -531,6 +536,7 @@ pub record Placed (root : SyntaxKind) (attaching : List SyntaxKind) (s : List �
   pub left : List ℕ
   pub more : List TreeEvent
   pub later : events_from is_of.behind left ≡ events_of f ++ more
+  pub cuts : Cuts is_of.behind left
 
 pub placed : (root : SyntaxKind) (attaching : List SyntaxKind) (s : List ℕ) (ts : List RawToken) (es : List Event) (t : Tree) (i : ℕ) (p : Place) (k : SyntaxKind) (f : Forest)
     → length s < 2 ^ 32 → IsCut ts s → length es < 2 ^ 32 → BuildsNode (events_from (laid_of root attaching s ts es).steps s) t
@@ -565,7 +571,7 @@ placed root attaching s ts es t i p k f small cut few built at sub =
           ∙ ap (λ (xs : Steps). xs ++ only_tokens y.later) (told_begins root) ∙ b.told
           ∙ ap (λ (n : ℕ). seen_of (made_steps (root_of es) 0 (take n es) start_left)) count;
     } in
-    record { is_of = is_of; left = x.left; more = w.more; later = x.later ∙ w.own }
+    record { is_of = is_of; left = x.left; more = w.more; later = x.later ∙ w.own; cuts = x.cuts }
 
 pub nodes_of_events : NodesAreOfEvents
 nodes_of_events root attaching s ts es t i p k f small cut few built at sub = (placed root attaching s ts es t i p k f small cut few built at sub).is_of

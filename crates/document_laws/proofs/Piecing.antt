@@ -69,7 +69,7 @@ parsed_events e text h =
 some_same : (a b : Event) → Some a ≡ Some b → a ≡ b
 some_same a b e = cc
 
-parts_at : (es : List Event) (n : ℕ) (x : Event) → slice_get es n ≡ Some x → es ≡ take n es ++ x ∷ drop (suc n) es
+pub parts_at : (es : List Event) (n : ℕ) (x : Event) → slice_get es n ≡ Some x → es ≡ take n es ++ x ∷ drop (suc n) es
 parts_at [] n x h = (let bad : None ≡ Some x = h in absurd (cc))
 parts_at (e ∷ es) zero x h = ap (λ (y : Event). y ∷ es) (some_same e x h)
 parts_at (e ∷ es) (suc n) x h = ap (λ (xs : List Event). e ∷ xs) (parts_at es n x h)
@@ -80,7 +80,7 @@ turned_at es n x h =
     ∙ ap (λ (xs : List Event). xs ++ reverse (take n es)) (reverse-append (x ∷ []) (drop (suc n) es))
     ∙ append_assoc (reverse (drop (suc n) es)) (x ∷ []) (reverse (take n es))
 
-called_there : (g : Tables) (ss : List Sight) (start : ℕ) (k : SyntaxKind) (n from : ℕ) → OnlyCallsSeal g → is_among g.sealed k ≡ true
+pub called_there : (g : Tables) (ss : List Sight) (start : ℕ) (k : SyntaxKind) (n from : ℕ) → OnlyCallsSeal g → is_among g.sealed k ≡ true
     → slice_get (events_of g start ss) n ≡ Some (event.Node k from) → IsOfCall g ss start k from (reverse (take n (events_of g start ss)))
 called_there g ss start k n from only listed h =
     let es : List Event = events_of g start ss in
@@ -95,7 +95,7 @@ called_piece e text t p k r chosen v =
     let c = called_there rust_tables (sights_of e text (tokens_of e text)) (first_op rule.SourceFile) k v.number v.from only_calls x.listed v.event in
     record { exact = x; event = v; called = c; target = x.calls _ c.call.target c.call.found }
 
-laid_tree : (e : Edition) (text : List ℕ) (t : Tree) → length text < 2 ^ 32 → BuildsNode (events_from (parsed_of SourceFile e text).steps text) t → BuildsNode (events_from (laid_in e text).steps text) t
+pub laid_tree : (e : Edition) (text : List ℕ) (t : Tree) → length text < 2 ^ 32 → BuildsNode (events_from (parsed_of SourceFile e text).steps text) t → BuildsNode (events_from (laid_in e text).steps text) t
 laid_tree e text t small built = subst (λ (es : List TreeEvent). BuildsNode es t) (parsed_events e text small) built
 
 pub pieces_called : PiecesOfTreesAreCalls
@@ -103,7 +103,7 @@ pieces_called e text t i p k f r u small few built at sub chosen =
     called_piece e text t (i ∷ p) k r chosen
     (nodes_of_events (Node node.SOURCE_FILE) attaching_kinds text (tokens_of e text) (events_in e text) t i p k f small (lexed e text u small).cut few (laid_tree e text t small built) at sub)
 
-plain_events : (e : Edition) (text : List ℕ) → MakesPlainTokens (events_in e text)
+pub plain_events : (e : Edition) (text : List ℕ) → MakesPlainTokens (events_in e text)
 plain_events e text = runs_plain rust_tables (first_op rule.SourceFile) (sights_of e text (tokens_of e text)) rust_plain
 
 pub pieces_start : PiecesStartAtTheirTokens

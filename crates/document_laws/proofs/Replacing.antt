@@ -11,11 +11,11 @@ use Rattle.document_laws.specs.Steps.{IsBehind}
 use Rattle.document_laws.proofs.Taking.{steps_at}
 
 pub replaced_trees : ReplacedPiecesAreTrees
-replaced_trees root k attaching g rule a p q c es fs t old new l bytes cut_old cut_new few_old few_new whole own other =
+replaced_trees root k attaching g rule a p q c es fs t old new l small cut_old cut_new few_old few_new whole own other =
     let old_steps : List FrontStep = (laid k attaching (piece_of k p es)).steps in
     let new_steps : List FrontStep = (laid k attaching (piece_of k q fs)).steps in
     let w : IsBehind a.text c.text l.before l.behind t old =
-    steps_at a.text p.text c.text l.before old_steps l.behind t old bytes (laid_tree k attaching p.text p.tokens (piece_of k p es).events few_old cut_old).cuts
+    steps_at a.text p.text c.text l.before old_steps l.behind t old (l.was.bytes small) (laid_tree k attaching p.text p.tokens (piece_of k p es).events few_old cut_old).cuts
     (subst (λ (xs : List FrontStep). BuildsNode (events_from xs (a.text ++ (p.text ++ c.text))) t) l.was.steps whole) own in
     record {
       place = w.place;

@@ -1,5 +1,5 @@
 -- What the grammar's machine sees of tokens of Rust are sights of these tokens.
-use Rattle.std.proofs.Common.{◌≡◌, ◌⊎◌, inl, inr, ℕ, suc, ◌+◌, ◌<◌, Bool, true, false, ◌==◌, ◌||◌, nat_lt, if◌then◌else◌, List, [], ◌∷◌, ◌++◌, length, drop, take, ap, sym, ◌∙◌, refl, arith, subst}
+use Rattle.std.proofs.Common.{◌≡◌, ◌⊎◌, inl, inr, ℕ, zero, suc, ◌+◌, ◌<◌, Bool, true, false, ◌==◌, ◌||◌, nat_lt, if◌then◌else◌, List, [], ◌∷◌, ◌++◌, length, drop, take, ap, sym, ◌∙◌, refl, arith, subst}
 use Rattle.std.specs.Prelude.{Some, None, slice_get}
 use Rattle.std.proofs.lemmas.Bool.Decides.{nat_tests}
 use Rattle.syntax_kind.specs.declared.syntax_kind.SyntaxKind.{SyntaxKind}
@@ -14,7 +14,7 @@ use Rattle.event_layout.specs.Taking.{seen_tokens}
 use Rattle.event_layout.specs.Trivia.{lead}
 use Rattle.event_layout.proofs.Amid.{lead_more}
 use Rattle.lexer_laws.proofs.Sighting.{no_left}
-use Rattle.rust_grammar.specs.Seeing.{number_of, number_on, joined_of, sight_of, sights_of}
+use Rattle.rust_grammar.specs.Seeing.{number_of, number_on, joined_of, finer_of, sight_of, sights_of}
 use Rattle.document_laws.specs.Sights.{AreKnown, SightsAreOfTokens}
 
 -- ---- kinds
@@ -151,3 +151,59 @@ sights_are e text ts known =
       count = counted e text ts h;
       joins = λ before behind s is l g. joins_at e text before behind s (subst KnownAll is h) l (ap (λ (us : List Token). slice_get (sights_of e text us) (length (seen_tokens before))) (sym is) ∙ g);
     }
+
+-- ---- the sight of a token
+
+-- what else a token is depends on its number and its text
+pub record IsFine (e : Edition) (s : Sight) : Type 0 where
+  pub its_text : List ℕ
+  pub is : s.word ≡ finer_of e s.one its_text
+
+pub sights_fine : (e : Edition) (text : List ℕ) (ts : List Token) (i : ℕ) (s : Sight) → slice_get (sights_of e text ts) i ≡ Some s → IsFine e s
+sights_fine e text [] i s h = absurd (let bad : None ≡ Some s = h in cc)
+sights_fine e text (t ∷ ts) i s h = by (number_of t.kind == 0) i h (λ j. sights_fine e (drop t.len text) ts j s)
+  where
+    by : (b : Bool) (j : ℕ)
+        → slice_get ((if b then [] else sight_of e (take t.len text) (number_of t.kind) (number_on (slice_get ts 0)) (number_on (slice_get ts 1)) ∷ []) ++ sights_of e (drop t.len text) ts) j ≡ Some s
+        → ((m : ℕ) → slice_get (sights_of e (drop t.len text) ts) m ≡ Some s → IsFine e s) → IsFine e s
+    by true j q k = k j q
+    by false zero q k =
+        subst (IsFine e) (first_sight (sight_of e (take t.len text) (number_of t.kind) (number_on (slice_get ts 0)) (number_on (slice_get ts 1))) s q)
+        (record { its_text = take t.len text; is = refl })
+    by false (suc j) q k = k j q
+
+-- the sight behind a part of the tokens is that of the next token
+pub record FirstHas (back : List Token) (number : ℕ) : Type 0 where
+  pub first : Token
+  pub later : List Token
+  pub is : back ≡ first ∷ later
+  pub number_is : number ≡ number_of first.kind
+
+first_here : (e : Edition) (text : List ℕ) (back : List Token) (s : Sight) → KnownAll back → lead back ≡ 0 → slice_get (sights_of e text back) 0 ≡ Some s → FirstHas back s.one
+first_here e text [] s h l g = absurd (let bad : None ≡ Some s = g in cc)
+first_here e text (t ∷ ts) s h l g =
+    elim (either_true (is_trivia t.kind)) [
+      | inl k ↦ absurd (let more : lead (t ∷ ts) ≡ lead ts + 1 = lead_more t ts ∙ ap (λ (b : Bool). if b then lead ts + 1 else 0) k in omega (arith, more, l))
+      | inr k ↦
+          let x : Sight = sight_of e (take t.len text) (number_of t.kind) (number_on (slice_get ts 0)) (number_on (slice_get ts 1)) in
+          let same : x ≡ s = first_sight x s (sym (ap (λ (ss : List Sight). slice_get ss 0) (sight_here e text t ts (h.0 k))) ∙ g) in
+          record { first = t; later = ts; is = refl; number_is = sym (ap (λ (y : Sight). y.one) same) }
+    ]
+
+first_at : (e : Edition) (text : List ℕ) (front back : List Token) (s : Sight) → KnownAll (front ++ back) → lead back ≡ 0
+    → slice_get (sights_of e text (front ++ back)) (length (seen_tokens front)) ≡ Some s → FirstHas back s.one
+first_at e text [] back s h l g = first_here e text back s h l g
+first_at e text (t ∷ front) back s h l g =
+    elim (either_true (is_trivia t.kind)) [
+      | inl k ↦ first_at e (drop t.len text) front back s h.1 l
+          (sym (ap (λ (ss : List Sight). slice_get ss (length (seen_tokens front))) (sight_skip e text t (front ++ back) k))
+          ∙ sym (ap (λ (us : List Token). slice_get (sights_of e text (t ∷ (front ++ back))) (length us)) (seen_skip t front k)) ∙ g)
+      | inr k ↦ first_at e (drop t.len text) front back s h.1 l
+          (sym (ap (λ (ss : List Sight). slice_get ss (suc (length (seen_tokens front)))) (sight_here e text t (front ++ back) (h.0 k)))
+          ∙ sym (ap (λ (us : List Token). slice_get (sights_of e text (t ∷ (front ++ back))) (length us)) (seen_keep t front k)) ∙ g)
+    ]
+
+pub first_has : (e : Edition) (text : List ℕ) (ts front back : List Token) (s : Sight) → AreKnown ts → ts ≡ front ++ back → lead back ≡ 0
+    → slice_get (sights_of e text ts) (length (seen_tokens front)) ≡ Some s → FirstHas back s.one
+first_has e text ts front back s known is l g =
+    first_at e text front back s (subst KnownAll is (known_all ts known)) l (ap (λ (us : List Token). slice_get (sights_of e text us) (length (seen_tokens front))) (sym is) ∙ g)

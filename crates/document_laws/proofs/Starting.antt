@@ -1,24 +1,26 @@
 -- Where a node that begins with a token starts.
-use Rattle.std.proofs.Common.{◌≡◌, ℕ, zero, suc, ◌+◌, min, Bool, true, false, not, nat_eq, if◌then◌else◌, List, [], ◌∷◌, ◌++◌, length, take, drop, refl, sym, ap, ap₂, subst, ◌∙◌, arith, append_assoc, append-nil}
+use Rattle.std.proofs.Common.{◌≡◌, ℕ, zero, suc, ◌+◌, ◌<◌, ◌≤◌, ◌^◌, ◌-◌, min, Bool, true, false, not, nat_eq, if◌then◌else◌, List, [], ◌∷◌, ◌++◌, length, take, drop, sum_by, refl, sym, ap, ap₂, subst, ◌∙◌, arith, append_assoc, append-nil}
 use Rattle.std.specs.Prelude.{Option, Some, None}
+use Rattle.std.proofs.lemmas.List.{length-take-le}
 use Rattle.syntax_kind.specs.declared.syntax_kind.SyntaxKind.{SyntaxKind}
 use Rattle.syntax_kind.specs.Kinds.{is_trivia}
-use Rattle.tree_model.specs.Tree.{token, cons, start}
-use Rattle.tree_model.specs.Events.{Event as TreeEvent, enter, leaf, exit}
-use Rattle.ras_front_end.specs.Reading.{FrontStep, begins, takes, ends, reports, events_from}
+use Rattle.tree_model.specs.Tree.{Tree, node, token, Forest, cons, Place, IsPlace, subtree, start}
+use Rattle.tree_model.specs.Events.{Event as TreeEvent, enter, leaf, exit, BuildsNode}
+use Rattle.ras_front_end.specs.Reading.{FrontStep, begins, takes, ends, reports, events_from, Cuts}
 use Rattle.token_layout.specs.declared.span.Token.{Token as RawToken}
 use Rattle.grammar_machine.specs.declared.event.Event.{Event}
 use Rattle.grammar_machine.specs.declared.event.Event.TheVariants.{Token, Piece, Node, Error}
 use Rattle.grammar_machine.specs.declared.event.Part.{Part}
 use Rattle.grammar_machine.specs.declared.event.Part.TheVariants.{Whole, Dot, Fraction}
-use Rattle.event_layout.specs.Layout.{root_of, kind_of_part}
+use Rattle.token_layout.specs.Laid.{IsCut}
+use Rattle.event_layout.specs.Layout.{laid_of, root_of, kind_of_part}
 use Rattle.event_layout.specs.Made.{without_trivia, only_tokens, begins_at, Left, Made, trivia_of, past, joined_on, joined, parted_at, parted_on, parted, made_by, tokens_as_they_are, made_from, made_of}
-use Rattle.event_layout.specs.Amid.{sum_len}
+use Rattle.event_layout.specs.Amid.{first_len, sum_len}
 use Rattle.event_layout.proofs.Filled.{cut_sum}
 use Rattle.event_layout.proofs.Making.{tokens_made}
 use Rattle.event_layout.proofs.Seeing.{seen_more, told_more, told_begins, told_end, told_nothing, seen_begins, seen_end, seen_nothing, past_none}
-use Rattle.document_laws.specs.Nodes.{made_steps, made_left, MakesPlainTokens, IsOfEvent, NodesStartBehindTokens}
-use Rattle.document_laws.specs.Steps.{bytes_taken}
+use Rattle.document_laws.specs.Nodes.{made_steps, made_left, MakesPlainTokens, IsOfEvent, StartsBehind, NodesStartBehindTokens}
+use Rattle.event_layout.specs.Filled.{bytes_taken}
 use Rattle.document_laws.proofs.Leaving.{bytes_both, trivia_sum, all_kept}
 use Rattle.document_laws.proofs.Noding.{Steps, begins_told, begins_only, made_nothing, made_more, seen_cons, told_cons, seen_one, seen_report, first_same, head_same, tail_same, Placed, placed}
 
@@ -58,7 +60,7 @@ told_only (takes k n ∷ xs) = subst OnlyTakes (sym (told_take k n xs)) (told_on
 told_only (ends ∷ xs) = subst OnlyTakes (sym (told_cons ends xs ∙ ap (λ (ys : Steps). ys ++ only_tokens xs) told_end)) (told_only xs)
 told_only (reports m p ∷ xs) = subst OnlyTakes (sym (told_cons (reports m p) xs ∙ ap (λ (ys : Steps). ys ++ only_tokens xs) (told_report m p))) (told_only xs)
 
-takes_told : (xs : Steps) → OnlyTakes xs → only_tokens xs ≡ xs
+pub takes_told : (xs : Steps) → OnlyTakes xs → only_tokens xs ≡ xs
 takes_told [] h = told_nothing
 takes_told (takes k n ∷ xs) h = told_take k n xs ∙ ap (λ (ys : Steps). takes k n ∷ ys) (takes_told xs h)
 takes_told (begins k ∷ xs) h = absurd h
@@ -171,7 +173,7 @@ plain_rest (suc m) (Piece p last ∷ es) h = plain_rest m es h
 plain_rest (suc m) (Node k from ∷ es) h = plain_rest m es h
 plain_rest (suc m) (Error i ∷ es) h = plain_rest m es h
 
-told_from : (root : ℕ) (all : List Event) (n : ℕ) (e : Event) (es : List Event) (l : Left)
+pub told_from : (root : ℕ) (all : List Event) (n : ℕ) (e : Event) (es : List Event) (l : Left)
     → only_tokens (made_from root all n (e ∷ es) l) ≡ only_tokens (made_by root n e l).steps ++ only_tokens (made_from root all (n + 1) es (made_by root n e l).left)
 told_from root all n e es l =
     ap only_tokens (made_more root all n e es l) ∙ told_more (begins_at root all n (length all)) ((made_by root n e l).steps ++ made_from root all (n + 1) es (made_by root n e l).left)
@@ -223,7 +225,7 @@ rest_as_is (t ∷ ts) = by (is_trivia t.kind) refl (rest_as_is ts)
       seen = e;
     }
 
-trivia_takes : (ts : List RawToken) → OnlyTakes (trivia_of ts)
+pub trivia_takes : (ts : List RawToken) → OnlyTakes (trivia_of ts)
 trivia_takes [] = tt
 trivia_takes (t ∷ ts) = by (is_trivia t.kind) (trivia_takes ts)
   where
@@ -314,24 +316,34 @@ rest_told root all n (Error m ∷ es) l h =
 
 -- ---- the token behind a node's beginning
 
-record NextTaken (xs : Steps) (l : SyntaxKind) : Type 0 where
+record NextTaken (xs : Steps) (l : SyntaxKind) (w : List ℕ) : Type 0 where
   len : ℕ
   more : Steps
   is : only_tokens xs ≡ takes l len ∷ more
+  long : length w ≡ len
 
-next_taken : (xs : Steps) (s : List ℕ) (l : SyntaxKind) (w : List ℕ) (es : List TreeEvent) → events_from xs s ≡ leaf l w ∷ es → NextTaken xs l
-next_taken [] s l w es h = absurd (let bad : [] ≡ leaf l w ∷ es = h in cc)
-next_taken (begins k ∷ xs) s l w es h = absurd (let bad : enter k ≡ leaf l w = first_same (enter k) (leaf l w) (events_from xs s) es h in cc)
-next_taken (takes k n ∷ xs) s l w es h =
+next_taken : (xs : Steps) (s : List ℕ) (l : SyntaxKind) (w : List ℕ) (es : List TreeEvent) → Cuts xs s → events_from xs s ≡ leaf l w ∷ es → NextTaken xs l w
+next_taken [] s l w es c h = absurd (let bad : [] ≡ leaf l w ∷ es = h in cc)
+next_taken (begins k ∷ xs) s l w es c h = absurd (let bad : enter k ≡ leaf l w = first_same (enter k) (leaf l w) (events_from xs s) es h in cc)
+next_taken (takes k n ∷ xs) s l w es c h =
     let same : k ≡ l = kind_of_leaf k l (take n s) w (first_same (leaf k (take n s)) (leaf l w) (events_from xs (drop n s)) es h) in
-    record { len = n; more = only_tokens xs; is = told_take k n xs ∙ ap (λ (j : SyntaxKind). takes j n ∷ only_tokens xs) same }
+    let text : take n s ≡ w = text_of_leaf k l (take n s) w (first_same (leaf k (take n s)) (leaf l w) (events_from xs (drop n s)) es h) in
+    record {
+      len = n;
+      more = only_tokens xs;
+      is = told_take k n xs ∙ ap (λ (j : SyntaxKind). takes j n ∷ only_tokens xs) same;
+      long = sym (ap length text) ∙ length-take-le n s c.0;
+    }
   where
+    text_of_leaf : (i j : SyntaxKind) (u v : List ℕ) → leaf i u ≡ leaf j v → u ≡ v
+    text_of_leaf i j u v q = cc
+
     kind_of_leaf : (i j : SyntaxKind) (u v : List ℕ) → leaf i u ≡ leaf j v → i ≡ j
     kind_of_leaf i j u v q = cc
-next_taken (ends ∷ xs) s l w es h = absurd (let bad : exit ≡ leaf l w = first_same exit (leaf l w) (events_from xs s) es h in cc)
-next_taken (reports m p ∷ xs) s l w es h =
-    let r = next_taken xs s l w es h in
-    record { len = r.len; more = r.more; is = told_cons (reports m p) xs ∙ ap (λ (ys : Steps). ys ++ only_tokens xs) (told_report m p) ∙ r.is }
+next_taken (ends ∷ xs) s l w es c h = absurd (let bad : exit ≡ leaf l w = first_same exit (leaf l w) (events_from xs s) es h in cc)
+next_taken (reports m p ∷ xs) s l w es c h =
+    let r = next_taken xs s l w es c h in
+    record { len = r.len; more = r.more; is = told_cons (reports m p) xs ∙ ap (λ (ys : Steps). ys ++ only_tokens xs) (told_report m p) ∙ r.is; long = r.long }
 
 made_tokens : (root : SyntaxKind) (ts : List RawToken) (s : List ℕ) (es : List Event)
     → only_tokens (made_of root ts s es) ≡ only_tokens (made_from (root_of es) es 0 es (record { tokens = ts; text = s }))
@@ -356,15 +368,36 @@ trivia_unseen (t ∷ ts) = by (is_trivia t.kind) refl (trivia_unseen ts)
     by true e h = seen_take t.kind t.len (trivia_of ts) ∙ ap₂ (λ (c : Bool) (xs : Steps). (if not c then takes t.kind t.len ∷ [] else []) ++ xs) e h
     by false e h = seen_nothing
 
-pub nodes_start : NodesStartBehindTokens
-nodes_start root attaching s ts es t i p k l w f small cut few plain built at sub clear =
+-- where the node starts, and that its first child is the next token that the events make
+pub record Starts
+    (root : SyntaxKind) (attaching : List SyntaxKind) (s : List ℕ) (ts : List RawToken) (es : List Event) (t : Tree) (p : Place) (k l : SyntaxKind) (w : List ℕ) : Type 0 where
+  pub starts : StartsBehind root attaching s ts es t p k
+  pub len : ℕ
+  pub long : length w ≡ len
+  pub more : Steps
+  pub next :
+      only_tokens (made_from (root_of es) es (0 + min starts.is_of.from starts.is_of.number) (drop (min starts.is_of.from starts.is_of.number) es)
+      (made_left (root_of es) 0 (take (min starts.is_of.from starts.is_of.number) es) (record { tokens = ts; text = s })))
+      ≡ trivia_of (made_left (root_of es) 0 (take (min starts.is_of.from starts.is_of.number) es) (record { tokens = ts; text = s })).tokens ++ takes l len ∷ more
+
+pub behind_front : (xs ys us vs : Steps) → xs ++ us ≡ ys ++ vs → xs ≡ ys → us ≡ vs
+behind_front xs ys us vs e f = cancel ys (sym (ap (λ (zs : Steps). zs ++ us) f) ∙ e)
+  where
+    cancel : (zs : Steps) → zs ++ us ≡ zs ++ vs → us ≡ vs
+    cancel [] q = q
+    cancel (z ∷ zs) q = cancel zs (tail_same z z (zs ++ us) (zs ++ vs) q)
+
+pub node_starts : (root : SyntaxKind) (attaching : List SyntaxKind) (s : List ℕ) (ts : List RawToken) (es : List Event) (t : Tree) (i : ℕ) (p : Place) (k l : SyntaxKind) (w : List ℕ) (f : Forest)
+    → length s < 2 ^ 32 → IsCut ts s → length es < 2 ^ 32 → MakesPlainTokens es → BuildsNode (events_from (laid_of root attaching s ts es).steps s) t
+    → IsPlace t (i ∷ p) → subtree t (i ∷ p) ≡ node k (cons (token l w) f) → is_trivia l ≡ false → Starts root attaching s ts es t (i ∷ p) k l w
+node_starts root attaching s ts es t i p k l w f small cut few plain built at sub clear =
     let x : Placed root attaching s ts es t (i ∷ p) k (cons (token l w) f) = placed root attaching s ts es t i p k (cons (token l w) f) small cut few built at sub in
     let v : IsOfEvent root attaching s ts es t (i ∷ p) k = x.is_of in
     let m : ℕ = min v.from v.number in
     let start_left : Left = record { tokens = ts; text = s } in
     let own : Steps = made_steps (root_of es) 0 (take m es) start_left in
     let left : Left = made_left (root_of es) 0 (take m es) start_left in
-    let y : NextTaken v.behind l = next_taken v.behind x.left l w _ x.later in
+    let y : NextTaken v.behind l w = next_taken v.behind x.left l w _ x.cuts x.later in
     let r : Rest (only_tokens (made_from (root_of es) es (0 + m) (drop m es) left)) left.tokens =
     rest_told (root_of es) es (0 + m) (drop m es) left (plain_rest m es (plain_all es plain)) in
     let trivia : Steps = trivia_of left.tokens in
@@ -379,4 +412,42 @@ nodes_start root attaching s ts es t i p k l w f small cut few plain built at su
     let starts : start t (i ∷ p) ≡ bytes_taken own + bytes_taken trivia =
     v.starts ∙ sym (told_bytes v.before) ∙ ap bytes_taken front ∙ bytes_both (only_tokens own) trivia ∙ ap (λ (n : ℕ). n + bytes_taken trivia) (told_bytes own) in
     let kept : bytes_taken own + sum_len left.tokens ≡ sum_len ts = all_kept (root_of es) 0 (take m es) start_left in
-    record { is_of = v; start_is = starts; rest = omega (arith, starts, kept, trivia_sum left.tokens left.text, cut_sum ts s cut) }
+    let behind : takes l y.len ∷ y.more ≡ r.more = behind_front (only_tokens v.before) (only_tokens own ++ trivia) (takes l y.len ∷ y.more) r.more all front in
+    record {
+      starts = record { is_of = v; start_is = starts; rest = omega (arith, starts, kept, trivia_sum left.tokens left.text, cut_sum ts s cut) };
+      len = y.len;
+      long = y.long;
+      more = y.more;
+      next = r.is ∙ ap (λ (xs : Steps). trivia ++ xs) (sym behind);
+    }
+
+pub nodes_start : NodesStartBehindTokens
+nodes_start root attaching s ts es t i p k l w f small cut few plain built at sub clear =
+    (node_starts root attaching s ts es t i p k l w f small cut few plain built at sub clear).starts
+
+-- where a token is the next event, and a token is left, that is made first
+pub first_made : (root : ℕ) (all : List Event) (i : ℕ) (k j : SyntaxKind) (es : List Event) (l : Left) (len : ℕ) (more : Steps) → 0 < length (past l).tokens
+    → only_tokens (made_from root all i (Token k 1 ∷ es) l) ≡ trivia_of l.tokens ++ takes j len ∷ more → (k ≡ j) × (first_len (past l).tokens ≤ len)
+first_made root all i k j es l len more some e = by (past l).tokens refl some
+  where
+    kind_of_take : (c d : SyntaxKind) (u v : ℕ) → takes c u ≡ takes d v → c ≡ d
+    kind_of_take c d u v q = cc
+
+    len_of_take : (c d : SyntaxKind) (u v : ℕ) → takes c u ≡ takes d v → u ≡ v
+    len_of_take c d u v q = cc
+
+    by : (ts : List RawToken) → (past l).tokens ≡ ts → 0 < length ts → (k ≡ j) × (first_len (past l).tokens ≤ len)
+    by [] q h = absurd (omega (arith, h))
+    by (t ∷ ts) q h =
+        let trivia : Steps = trivia_of l.tokens in
+        let later : Steps = only_tokens (made_from root all (i + 1) es (made_by root i (Token k 1) l).left) in
+        let own : Steps = (joined_on k (1 - 1) (t ∷ ts) (past l).text).steps in
+        let made : only_tokens (made_by root i (Token k 1) l).steps ≡ trivia ++ own =
+        told_more trivia (joined k (1 - 1) (past l)).steps
+        ∙ ap₂ (λ (xs ys : Steps). xs ++ ys) (takes_told trivia (trivia_takes l.tokens))
+        (ap (λ (us : List RawToken). only_tokens (joined_on k (1 - 1) us (past l).text).steps) q ∙ told_takes k _) in
+        let whole : trivia ++ (own ++ later) ≡ trivia ++ takes j len ∷ more =
+        sym (append_assoc trivia own later) ∙ ap (λ (xs : Steps). xs ++ later) (sym made) ∙ sym (told_from root all i (Token k 1) es l) ∙ e in
+        let both : own ++ later ≡ takes j len ∷ more = behind_front trivia trivia (own ++ later) (takes j len ∷ more) whole refl in
+        let first : takes k (t.len + sum_by (λ (u : RawToken). u.len) (take (1 - 1) ts)) ≡ takes j len = head_same _ (takes j len) later more both in
+        (kind_of_take k j _ len first, omega (arith, len_of_take k j _ len first, ap first_len q))

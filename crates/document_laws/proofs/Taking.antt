@@ -4,8 +4,9 @@ use Rattle.std.proofs.lemmas.List.{take-append-le, drop-append-le, length-drop, 
 use Rattle.tree_model.specs.Edit.{replace}
 use Rattle.tree_model.specs.Events.{Event, enter, leaf, exit, BuildsNode, text_len}
 use Rattle.ras_front_end.specs.Reading.{FrontStep, begins, takes, ends, reports, events_from, Cuts}
+use Rattle.event_layout.specs.Filled.{bytes_taken}
 use Rattle.document_laws.specs.Blocks.{IsAt}
-use Rattle.document_laws.specs.Steps.{bytes_taken, BlocksOfStepsAreAtPlaces}
+use Rattle.document_laws.specs.Steps.{BlocksOfStepsAreAtPlaces}
 use Rattle.document_laws.proofs.Holes.{blocks_at}
 
 both : (xs ys : List FrontStep) (s r : List ℕ) → bytes_taken xs ≡ length s → events_from (xs ++ ys) (s ++ r) ≡ events_from xs s ++ events_from ys r

@@ -8,3 +8,10 @@ pub mod Pieces
 pub mod Plain
 pub mod Replacing
 pub mod Sights
+pub mod Own
+pub mod Alone
+pub mod Leaving
+pub mod Begun
+pub mod Opening
+pub mod Around
+pub mod Ending

@@ -12,7 +12,7 @@ use Rattle.grammar_machine.specs.declared.event.Event.TheVariants.{Token, Node}
 use Rattle.event_layout.specs.Amid.{sum_len}
 use Rattle.event_layout.specs.Layout.{laid_of, root_of}
 use Rattle.event_layout.specs.Made.{without_trivia, only_tokens, Left, trivia_of, past, made_by}
-use Rattle.document_laws.specs.Steps.{bytes_taken}
+use Rattle.event_layout.specs.Filled.{bytes_taken}
 
 -- the tokens of steps that are neither white space nor comments
 abbrev pub seen_of : List FrontStep → List FrontStep

@@ -1,17 +1,10 @@
 -- Trees of a front end's steps, of which some build one node by themselves.
-use Rattle.std.specs.Prelude.{◌≡◌, ℕ, ◌+◌, List, [], ◌∷◌, ◌++◌, length}
+use Rattle.std.specs.Prelude.{◌≡◌, ℕ, List, ◌++◌, length}
 use Rattle.tree_model.specs.Tree.{Tree, Place, IsPlace, subtree, start}
 use Rattle.tree_model.specs.Edit.{replace}
 use Rattle.tree_model.specs.Events.{BuildsNode}
-use Rattle.ras_front_end.specs.Reading.{FrontStep, begins, takes, ends, reports, events_from, Cuts}
-
--- how many bytes the steps take
-abbrev pub bytes_taken : List FrontStep → ℕ
-bytes_taken [] = 0
-bytes_taken (begins k ∷ es) = bytes_taken es
-bytes_taken (takes k n ∷ es) = n + bytes_taken es
-bytes_taken (ends ∷ es) = bytes_taken es
-bytes_taken (reports m p ∷ es) = bytes_taken es
+use Rattle.ras_front_end.specs.Reading.{FrontStep, events_from, Cuts}
+use Rattle.event_layout.specs.Filled.{bytes_taken}
 
 -- a node is at a place of a tree, behind the text a; with another text and its steps in the place of the node's, the tree has
 -- their node there

@@ -1,4 +1,6 @@
 //! Laws of trees in which one piece is replaced. The functions do nothing: the contract is the law.
+//! Those that call a law of the machine stand on it.
+use grammar_machine::laws::{calls_make_their_own, sealed_calls_leave_nothing};
 ghost use Rattle.document_laws.specs.Blocks.{BlocksAreAtPlaces, PlacesAreKnown};
 ghost use Rattle.document_laws.specs.Steps.{BlocksOfStepsAreAtPlaces};
 ghost use Rattle.document_laws.specs.Replacing.{ReplacedPiecesAreTrees};
@@ -8,6 +10,13 @@ ghost use Rattle.document_laws.specs.Pieces.{PiecesOfTreesAreCalls, PiecesStartA
 ghost use Rattle.document_laws.specs.Plain.{RunsMakePlainTokens, RustHasPlainKinds};
 ghost use Rattle.document_laws.specs.Sights.{SightsAreOfTokens, LexersTokensAreKnown};
 ghost use Rattle.document_laws.specs.Stored.{StoredErrorsAreReplaced};
+ghost use Rattle.document_laws.specs.Own.{NodesHaveTheirOwn, PiecesHaveTheirOwn};
+ghost use Rattle.document_laws.specs.Alone.{ExactPiecesAreReadAlone, HeadsAreTested};
+ghost use Rattle.document_laws.specs.Leaving.{RunsLeaveTheirTokens};
+ghost use Rattle.document_laws.specs.Begun.{CallsBeginWithTheirToken};
+ghost use Rattle.document_laws.specs.Opening.{PiecesOpenAtTheirBraces};
+ghost use Rattle.document_laws.specs.Around.{TokensAreReplaced};
+ghost use Rattle.document_laws.specs.Ending.{RunsTakeNoMore, PiecesEndAtTheirTokens};
 ghost use Rattle.document_laws.specs.Tables.{RustSealsByCalls, RustLooksAreShort, ExactRulesAreSealed};
 
 /// Where some of the events that build a tree build one node by themselves, this node is in the
@@ -32,8 +41,8 @@ pub fn places_are_known()
 {}
 
 /// Where a text with a replaced piece is laid as the law of replaced pieces of `event_layout` says,
-/// and what is laid before the piece takes the text before it, the old piece's tree is in the old
-/// text's tree, and with the new piece's tree there that is the new text's tree.
+/// the old piece's tree is in the old text's tree, behind the text before the piece, and with the
+/// new piece's tree there that is the new text's tree.
 pub fn replaced_pieces_are_trees()
     ensures { ReplacedPiecesAreTrees }
 {}
@@ -101,4 +110,58 @@ pub fn sights_are_of_tokens()
 /// text, with their messages.
 pub fn stored_errors_are_replaced()
     ensures { StoredErrorsAreReplaced }
+{}
+
+/// The events up to the node of a sealed call, to which a run came, are those before the call and
+/// then those that the call made by itself, numbered from its own first one on. So the events of a
+/// file of Rust have those of each of its pieces among them.
+pub fn nodes_have_their_own()
+    ensures calls { NodesHaveTheirOwn }
+    ensures pieces { PiecesHaveTheirOwn }
+{
+    calls_make_their_own();
+}
+
+/// A text that the front end reads as an exact piece of Rust is from `{` to `}`, its rule reads it
+/// alone, and makes of it events that end with the piece's node; and the reading is what is laid of
+/// these. What the front end finds at the head of a text is what the laws of the lexer ask for.
+pub fn exact_pieces_are_read_alone()
+    ensures pieces { ExactPiecesAreReadAlone }
+    ensures heads { HeadsAreTested }
+{
+    sealed_calls_leave_nothing();
+}
+
+/// Where a run has come to a token that has no parts, the lexer's tokens are cut there: what its
+/// events leave of them, white space and comments aside, begins with that token, and is whole.
+pub fn runs_leave_their_tokens()
+    ensures { RunsLeaveTheirTokens }
+{}
+
+/// The first event that a sealed call makes is of the token where it began, and stays so.
+pub fn calls_begin_with_their_token()
+    ensures { CallsBeginWithTheirToken }
+{}
+
+/// A node of a file's tree that is of a kind with a reparser for exact pieces, and whose first
+/// child is `{`, starts where the lexer's tokens are cut before a `{`, and the run had taken the
+/// tokens before it when it came to the node's call.
+pub fn pieces_open_at_their_braces()
+    ensures { PiecesOpenAtTheirBraces }
+{
+    calls_make_their_own();
+}
+
+/// Where the lexer's tokens of a text without a head are in three parts, and the second one begins
+/// with `{`, any text that is from `{` to `}` by itself may come in the place of that part, as the
+/// laws of `lexer_laws` on replaced pieces say.
+pub fn tokens_are_replaced()
+    ensures { TokensAreReplaced }
+{}
+
+/// A run takes no more tokens than there are. So the lexer's tokens of a piece of a file are cut
+/// behind those that its call took, the last of which is neither white space nor a comment.
+pub fn pieces_end_at_their_tokens()
+    ensures runs { RunsTakeNoMore }
+    ensures pieces { PiecesEndAtTheirTokens }
 {}
