@@ -59,17 +59,17 @@ tokens_replaced e text ts ps us u small head tokens opens =
       cut_part = y.cut_front;
       cut_behind = y.cut_back;
       replaced = λ piece is_piece short braced. record {
-          is_text = subst IsUtf8 is u;
-          is_new_text = IsUtf8-append x.front (piece ++ y.back) (cut_text ts x.front x.cut_front) (IsUtf8-append piece y.back is_piece (cut_text us y.back y.cut_back));
-          is_piece_text = is_piece;
-          is_rest_text = cut_text us y.back y.cut_back;
-          short = subst (λ (s : List ℕ). length s < 2 ^ 32) is small;
-          new_short = short;
-          no_head = ap may_have_head (sym is) ∙ head;
-          are_tokens = ap (tokens_of e) (sym is) ∙ tokens;
-          cut_before = bytes_are ts ∙ sym before;
-          cut_behind = bytes_are ps ∙ cut_sum ps y.front y.cut_front;
-          opens = opens;
-          braced = braced;
-        };
+        is_text = subst IsUtf8 is u;
+        is_new_text = IsUtf8-append x.front (piece ++ y.back) (cut_text ts x.front x.cut_front) (IsUtf8-append piece y.back is_piece (cut_text us y.back y.cut_back));
+        is_piece_text = is_piece;
+        is_rest_text = cut_text us y.back y.cut_back;
+        short = subst (λ (s : List ℕ). length s < 2 ^ 32) is small;
+        new_short = short;
+        no_head = ap may_have_head (sym is) ∙ head;
+        are_tokens = ap (tokens_of e) (sym is) ∙ tokens;
+        cut_before = bytes_are ts ∙ sym before;
+        cut_behind = bytes_are ps ∙ cut_sum ps y.front y.cut_front;
+        opens = opens;
+        braced = braced;
+      };
     }

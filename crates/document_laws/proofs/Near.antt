@@ -142,13 +142,13 @@ near_one root n (Piece p false) l ts b h f =
       left = ts;
       is = ap (option_map (λ (us : List RawToken). ts)) (taken_is 1 (past_lead ts) (omega (arith, f)));
       near = inr (record {
-          u = w.v;
-          t = a.t;
-          rest = a.rest;
-          is_left = ap (λ (xs : List RawToken). (past (parted_on p xs (past l).text).left).tokens) a.is_left ∙ w.is;
-          is_right = a.is_right;
-          kind = w.kind ∙ a.kind;
-        });
+        u = w.v;
+        t = a.t;
+        rest = a.rest;
+        is_left = ap (λ (xs : List RawToken). (past (parted_on p xs (past l).text).left).tokens) a.is_left ∙ w.is;
+        is_right = a.is_right;
+        kind = w.kind ∙ a.kind;
+      });
     }
 near_one root n (Node k from) l ts b h f = record { left = ts; is = refl; near = h }
 near_one root n (Error m) l ts b h f = record { left = ts; is = refl; near = h }
@@ -298,5 +298,8 @@ some_left n root g rule ss ts text short sights within =
     near_all root 0 (reverse es) (record { tokens = ts; text = text }) ts l.left false (past_is ts text) found l.is in
     let seen : length (seen_tokens (past_lead l.left)) ≡ length (seen_tokens ts) - taken_by (reverse es) =
     ap length (seen_past l.left ∙ l.seen) ∙ length-drop (taken_by (reverse es)) (seen_tokens ts) in
-    omega (arith, near_long (parted_after (reverse es) false) us (past_lead l.left) near,
-    some_seen (past_lead l.left) (omega (arith, seen, taken_turned es, counted, within, sights.count)))
+    omega (
+      arith,
+      near_long (parted_after (reverse es) false) us (past_lead l.left) near,
+      some_seen (past_lead l.left) (omega (arith, seen, taken_turned es, counted, within, sights.count)),
+    )

@@ -224,18 +224,20 @@ open_with e text t p k w r u small v x d h =
     ∙ sym (ap (λ (xs : List Event). start t p + sum_len (past (made_left (root_of es) 0 xs whole)).tokens) front_is) ∙ v.starts.rest in
     let bytes : 0 < has.first.len = All-head HasBytes has.first has.later (all_behind cut.front (has.first ∷ has.later) (subst (All HasBytes) (cut.is ∙ ap (λ (xs : List RawToken). cut.front ++ xs) has.is) l.none_empty)) in
     let first_long : first_len (past left).tokens ≡ has.first.len = ap first_len (cut.left ∙ has.is) in
-    let some : 0 < length w = some_text has.first.len (first_len (past left).tokens) v.len (length w) bytes first_long made.1 v.long in
-    (record {
-      piece = c;
-      front = cut.front;
-      back = cut.back;
-      tokens = cut.is;
-      cut =
-          cut_at (bytes_of cut.front) (sum_len cut.front) (start t p) (sum_len cut.back) (sum_len ts) (length text)
-          (bytes_are cut.front) sum (ap sum_len cut.is ∙ sum_both cut.front cut.back) (cut_sum ts text l.cut);
-      opens = record { first = has.first; rest = has.later; begins = has.is; is_open = number_found has.first.kind (sym has.number_is ∙ one) };
-      count = cut.count;
-    }, some)
+    let some : 0 < length w = some_text has.first.len (first_len (past left).tokens) v.len (length w) bytes first_long made.1 v.long in (
+      record {
+        piece = c;
+        front = cut.front;
+        back = cut.back;
+        tokens = cut.is;
+        cut =
+            cut_at (bytes_of cut.front) (sum_len cut.front) (start t p) (sum_len cut.back) (sum_len ts) (length text)
+            (bytes_are cut.front) sum (ap sum_len cut.is ∙ sum_both cut.front cut.back) (cut_sum ts text l.cut);
+        opens = record { first = has.first; rest = has.later; begins = has.is; is_open = number_found has.first.kind (sym has.number_is ∙ one) };
+        count = cut.count;
+      },
+      some,
+    )
 
 pub pieces_open : CallsMakeTheirOwn → PiecesOpenAtTheirBraces
 pieces_open law e text t i p k w f r u small few built at sub chosen =

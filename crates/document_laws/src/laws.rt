@@ -1,6 +1,5 @@
 //! Laws of trees in which one piece is replaced. The functions do nothing: the contract is the law.
 //! Those that call a law of the machine stand on it.
-use grammar_machine::laws::{calls_make_their_own, sealed_calls_leave_nothing};
 ghost use Rattle.document_laws.specs.Blocks.{BlocksAreAtPlaces, PlacesAreKnown};
 ghost use Rattle.document_laws.specs.Steps.{BlocksOfStepsAreAtPlaces};
 ghost use Rattle.document_laws.specs.Replacing.{ReplacedPiecesAreTrees};
@@ -18,6 +17,8 @@ ghost use Rattle.document_laws.specs.Opening.{PiecesOpenAtTheirBraces};
 ghost use Rattle.document_laws.specs.Around.{TokensAreReplaced};
 ghost use Rattle.document_laws.specs.Ending.{RunsTakeNoMore, PiecesEndAtTheirTokens};
 ghost use Rattle.document_laws.specs.Tables.{RustSealsByCalls, RustLooksAreShort, ExactRulesAreSealed};
+
+use grammar_machine::laws::{calls_make_their_own, sealed_calls_leave_nothing};
 
 /// Where some of the events that build a tree build one node by themselves, this node is in the
 /// tree, and starts where the events before have taken their texts. With the events of any other
