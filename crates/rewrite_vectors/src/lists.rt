@@ -241,10 +241,7 @@ fn refused(rt: HostRuntime) -> Result<(), Fail> {
         ),
         ("f($$a b) ==>> 1", "5: this is no expression: expected `,`"),
         ("f($$a ==>> 1", "5: this is no expression: expected `)`"),
-        (
-            "f($$a) b ==>> 1",
-            "6: this is no type: expected `;`",
-        ),
+        ("f($$a) b ==>> 1", "6: this is no type: expected `;`"),
     ];
     for (rule, expected) in rows {
         let told = refusal(alloc, rule)?;
