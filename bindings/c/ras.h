@@ -34,13 +34,19 @@ void rattle_dealloc(void *at);
 /* The entry of a file: the root is a SOURCE_FILE. */
 #define RAS_ENTRY_FILE 0u
 
-/* The entry of an expression: the root is a node of an expression, or ERROR if the text is not one expression; there are errors then. */
+/*
+ * The entry of an expression: the root is a node of an expression, or ERROR if the text is not
+ * one expression; there are errors then.
+ */
 #define RAS_ENTRY_EXPR 1u
 
 /* No errors are told. */
 #define RAS_NO_ERRORS 0u
 
-/* The errors of the parser, and then those of the lexer, are told. The tree is not walked for violations of rules beyond the grammar. */
+/*
+ * The errors of the parser, and then those of the lexer, are told. The tree is not walked for
+ * violations of rules beyond the grammar.
+ */
 #define RAS_PARSE_ERRORS 1u
 
 /* The violations of rules beyond the grammar are told, without the errors of the parse. */
@@ -58,7 +64,10 @@ void rattle_dealloc(void *at);
 /* A rule to replace by has no template. Nothing was written. */
 #define RAS_NO_TEMPLATE 14u
 
-/* A comment would be lost: it is in what stands for a placeholder that the template has not. Nothing was written. */
+/*
+ * A comment would be lost: it is in what stands for a placeholder that the template has not.
+ * Nothing was written.
+ */
 #define RAS_LOSES_COMMENT 15u
 
 /* The new text would be read otherwise than it is meant. Nothing was written. */
@@ -503,8 +512,8 @@ typedef struct {
 /*
  * A parse that is kept between calls, or no parse. A handle of all zeros holds none.
  *
- * The fields are private to the library. Do not use a copy of a handle after a call that changed the original. A handle may go from
- * thread to thread; one call at a time may use it.
+ * The fields are private to the library. Do not use a copy of a handle after a call that changed
+ * the original. A handle may go from thread to thread; one call at a time may use it.
  */
 typedef struct {
     /* Whether there is a parse. */
@@ -572,15 +581,24 @@ typedef struct {
 /* What a word is in an edition. */
 typedef struct {
     /*
-     * The number of its kind if it is a keyword everywhere in the edition, such as fn, also if it is reserved, as abstract;
-     * RAS_NO_KIND if it is none.
+     * The number of its kind if it is a keyword everywhere in the edition, such as fn, also if
+     * it is reserved, as abstract; RAS_NO_KIND if it is none.
      */
     uint32_t keyword;
-    /* The number of its kind if it is a keyword in some places alone, such as union; RAS_NO_KIND if it is none. */
+    /*
+     * The number of its kind if it is a keyword in some places alone, such as union; RAS_NO_KIND
+     * if it is none.
+     */
     uint32_t contextual;
-    /* Whether it is an identifier: it begins with a letter or _, goes on with such and digits, by Unicode, and is no keyword everywhere. */
+    /*
+     * Whether it is an identifier: it begins with a letter or _, goes on with such and digits,
+     * by Unicode, and is no keyword everywhere.
+     */
     bool is_identifier;
-    /* Whether it is one only behind r#: it is a keyword everywhere, but for self, crate, super and Self. */
+    /*
+     * Whether it is one only behind r#: it is a keyword everywhere, but for self, crate,
+     * super and Self.
+     */
     bool is_raw_identifier;
 } ras_word;
 
@@ -625,10 +643,11 @@ uint32_t ras_c_rows(
     ras_counts *counts);
 
 /*
- * Writes the rows of a handle's parse with a choice of errors, such as RAS_PARSE_ERRORS, as ras_c_read_as does for a text. The handle
- * keeps its parse.
+ * Writes the rows of a handle's parse with a choice of errors, such as RAS_PARSE_ERRORS, as
+ * ras_c_read_as does for a text. The handle keeps its parse.
  *
- * Returns RAS_OK, RAS_TOO_LONG, RAS_NO_MEMORY, RAS_NO_ROOM, RAS_NO_CHOICE, or RAS_NO_PARSE if the handle holds no parse.
+ * Returns RAS_OK, RAS_TOO_LONG, RAS_NO_MEMORY, RAS_NO_ROOM, RAS_NO_CHOICE, or RAS_NO_PARSE if the
+ * handle holds no parse.
  */
 uint32_t ras_c_rows_as(
     ras_handle *handle,
@@ -729,11 +748,13 @@ uint32_t ras_c_read_expr(
     ras_counts *counts);
 
 /*
- * Parses a text by an entry, such as RAS_ENTRY_EXPR, and writes what ras_c_read writes for a file, with a choice of errors, such as
- * RAS_PARSE_ERRORS. The counts are those of the chosen errors.
+ * Parses a text by an entry, such as RAS_ENTRY_EXPR, and writes what ras_c_read writes for a
+ * file, with a choice of errors, such as RAS_PARSE_ERRORS. The counts are those of the chosen
+ * errors.
  *
- * Returns RAS_OK, RAS_NOT_UTF8, RAS_TOO_LONG, RAS_NO_MEMORY, RAS_NO_ROOM, RAS_NO_EDITION, RAS_NO_ENTRY or RAS_NO_CHOICE. The violations of
- * rules beyond the grammar are looked for only if they are chosen: they take a further walk through the tree.
+ * Returns RAS_OK, RAS_NOT_UTF8, RAS_TOO_LONG, RAS_NO_MEMORY, RAS_NO_ROOM, RAS_NO_EDITION,
+ * RAS_NO_ENTRY or RAS_NO_CHOICE. The violations of rules beyond the grammar are looked for only if
+ * they are chosen: they take a further walk through the tree.
  */
 uint32_t ras_c_read_as(
     uint32_t entry,
@@ -750,13 +771,15 @@ uint32_t ras_c_read_as(
     ras_counts *counts);
 
 /*
- * Searches a text of an edition, such as 2024, by a pattern: $a == None. With lines there are several, one a line, each a pattern or a
- * rule with its template; lines that are empty or begin with # are passed over. Writes a row for each match, in preorder: the outermost
- * ones, and those inside what stands for placeholders. At one place the first rule that matches counts.
+ * Searches a text of an edition, such as 2024, by a pattern: $a == None. With lines there are
+ * several, one a line, each a pattern or a rule with its template; lines that are empty or begin
+ * with # are passed over. Writes a row for each match, in preorder: the outermost ones, and
+ * those inside what stands for placeholders. At one place the first rule that matches counts.
  *
- * Returns RAS_OK, RAS_NOT_UTF8 of either text, RAS_TOO_LONG, RAS_NO_MEMORY, RAS_NO_ROOM, RAS_NO_EDITION, or RAS_BAD_RULE with what is
- * wrong: the message is at the front of message if it has room for it; 256 bytes are enough for most. The arguments of macros are not
- * searched. Takes a parse of the text, and time linear in the text for each rule.
+ * Returns RAS_OK, RAS_NOT_UTF8 of either text, RAS_TOO_LONG, RAS_NO_MEMORY, RAS_NO_ROOM,
+ * RAS_NO_EDITION, or RAS_BAD_RULE with what is wrong: the message is at the front of message if
+ * it has room for it; 256 bytes are enough for most. The arguments of macros are not searched.
+ * Takes a parse of the text, and time linear in the text for each rule.
  */
 uint32_t ras_c_search(
     const uint8_t *patterns,
@@ -773,13 +796,16 @@ uint32_t ras_c_search(
     ras_rule_fault *fault);
 
 /*
- * Replaces the matches of a rule in a text of an edition, such as 2024: by $a == None ==>> $a.is_none(). With lines there are several,
- * one a line; lines that are empty or begin with # are passed over. Writes the new text to the front of out, its length to count,
- * and the number of matches to matches. Parentheses stand exactly where they are needed, and what is outside of the matches is as it was.
+ * Replaces the matches of a rule in a text of an edition, such as 2024: by $a == None ==>>
+ * $a.is_none(). With lines there are several, one a line; lines that are empty or begin with
+ * # are passed over. Writes the new text to the front of out, its length to count, and the
+ * number of matches to matches. Parentheses stand exactly where they are needed, and what is
+ * outside of the matches is as it was.
  *
- * Returns RAS_OK, RAS_NOT_UTF8 of either text, RAS_TOO_LONG, RAS_NO_MEMORY, RAS_NO_ROOM, RAS_NO_EDITION, RAS_NO_TEMPLATE,
- * RAS_LOSES_COMMENT, RAS_READS_OTHERWISE, or RAS_BAD_RULE with what is wrong: the message is at the front of message if it has room for
- * it; 256 bytes are enough for most. It takes a few parses of the text.
+ * Returns RAS_OK, RAS_NOT_UTF8 of either text, RAS_TOO_LONG, RAS_NO_MEMORY, RAS_NO_ROOM,
+ * RAS_NO_EDITION, RAS_NO_TEMPLATE, RAS_LOSES_COMMENT, RAS_READS_OTHERWISE, or RAS_BAD_RULE with
+ * what is wrong: the message is at the front of message if it has room for it; 256 bytes are
+ * enough for most. It takes a few parses of the text.
  */
 uint32_t ras_c_rewrite(
     const uint8_t *rules,
@@ -885,10 +911,11 @@ uint32_t ras_c_int_value(
     uint64_t *low);
 
 /*
- * What a text is as one word of an edition, such as 2024. A text that is no word, as a b, is neither a keyword nor an identifier; r#fn
- * is none either: ask for fn.
+ * What a text is as one word of an edition, such as 2024. A text that is no word, as a b, is
+ * neither a keyword nor an identifier; r#fn is none either: ask for fn.
  *
- * Returns RAS_OK, RAS_NOT_UTF8 or RAS_NO_EDITION. Unless it is RAS_OK, word is not changed. It takes no memory.
+ * Returns RAS_OK, RAS_NOT_UTF8 or RAS_NO_EDITION. Unless it is RAS_OK, word is not changed. It
+ * takes no memory.
  */
 uint32_t ras_c_word(
     const uint8_t *text,

@@ -4,13 +4,15 @@ import ctypes
 # The entry of a file: the root is a `SOURCE_FILE`.
 ENTRY_FILE = 0
 
-# The entry of an expression: the root is a node of an expression, or `ERROR` if the text is not one expression; there are errors then.
+# The entry of an expression: the root is a node of an expression, or `ERROR` if the text is not
+# one expression; there are errors then.
 ENTRY_EXPR = 1
 
 # No errors are told.
 NO_ERRORS = 0
 
-# The errors of the parser, and then those of the lexer, are told. The tree is not walked for violations of rules beyond the grammar.
+# The errors of the parser, and then those of the lexer, are told. The tree is not walked for
+# violations of rules beyond the grammar.
 PARSE_ERRORS = 1
 
 # The violations of rules beyond the grammar are told, without the errors of the parse.
@@ -28,7 +30,8 @@ BAD_RULE = 13
 # A rule to replace by has no template. Nothing was written.
 NO_TEMPLATE = 14
 
-# A comment would be lost: it is in what stands for a placeholder that the template has not. Nothing was written.
+# A comment would be lost: it is in what stands for a placeholder that the template has not.
+# Nothing was written.
 LOSES_COMMENT = 15
 
 # The new text would be read otherwise than it is meant. Nothing was written.

@@ -3,13 +3,15 @@
 /// The entry of a file: the root is a `SOURCE_FILE`.
 pub const ENTRY_FILE: u32 = 0;
 
-/// The entry of an expression: the root is a node of an expression, or `ERROR` if the text is not one expression; there are errors then.
+/// The entry of an expression: the root is a node of an expression, or `ERROR` if the text is not
+/// one expression; there are errors then.
 pub const ENTRY_EXPR: u32 = 1;
 
 /// No errors are told.
 pub const NO_ERRORS: u32 = 0;
 
-/// The errors of the parser, and then those of the lexer, are told. The tree is not walked for violations of rules beyond the grammar.
+/// The errors of the parser, and then those of the lexer, are told. The tree is not walked for
+/// violations of rules beyond the grammar.
 pub const PARSE_ERRORS: u32 = 1;
 
 /// The violations of rules beyond the grammar are told, without the errors of the parse.
@@ -27,7 +29,8 @@ pub const BAD_RULE: u32 = 13;
 /// A rule to replace by has no template. Nothing was written.
 pub const NO_TEMPLATE: u32 = 14;
 
-/// A comment would be lost: it is in what stands for a placeholder that the template has not. Nothing was written.
+/// A comment would be lost: it is in what stands for a placeholder that the template has not.
+/// Nothing was written.
 pub const LOSES_COMMENT: u32 = 15;
 
 /// The new text would be read otherwise than it is meant. Nothing was written.
@@ -95,8 +98,8 @@ pub struct FlatRow {
 
 /// A parse that is kept between calls, or no parse. A handle of all zeros holds none.
 ///
-/// The fields are private to the library. Do not use a copy of a handle after a call that changed the original. A handle may go from
-/// thread to thread; one call at a time may use it.
+/// The fields are private to the library. Do not use a copy of a handle after a call that changed
+/// the original. A handle may go from thread to thread; one call at a time may use it.
 #[repr(C)]
 #[derive(Debug)]
 pub struct Handle {
@@ -178,14 +181,17 @@ pub struct TokenRow {
 #[repr(C)]
 #[derive(Clone, Copy, Debug, PartialEq, Eq)]
 pub struct Word {
-    /// The number of its kind if it is a keyword everywhere in the edition, such as `fn`, also if it is reserved, as `abstract`;
-    /// [`NO_KIND`] if it is none.
+    /// The number of its kind if it is a keyword everywhere in the edition, such as `fn`, also if
+    /// it is reserved, as `abstract`; [`NO_KIND`] if it is none.
     pub keyword: u32,
-    /// The number of its kind if it is a keyword in some places alone, such as `union`; [`NO_KIND`] if it is none.
+    /// The number of its kind if it is a keyword in some places alone, such as `union`; [`NO_KIND`]
+    /// if it is none.
     pub contextual: u32,
-    /// Whether it is an identifier: it begins with a letter or `_`, goes on with such and digits, by Unicode, and is no keyword everywhere.
+    /// Whether it is an identifier: it begins with a letter or `_`, goes on with such and digits,
+    /// by Unicode, and is no keyword everywhere.
     pub is_identifier: bool,
-    /// Whether it is one only behind `r#`: it is a keyword everywhere, but for `self`, `crate`, `super` and `Self`.
+    /// Whether it is one only behind `r#`: it is a keyword everywhere, but for `self`, `crate`,
+    /// `super` and `Self`.
     pub is_raw_identifier: bool,
 }
 
@@ -228,10 +234,11 @@ unsafe extern "C" {
         counts: *mut Counts,
     ) -> u32;
 
-    /// Writes the rows of a handle's parse with a choice of errors, such as [`PARSE_ERRORS`], as `ras_c_read_as` does for a text. The handle
-    /// keeps its parse.
+    /// Writes the rows of a handle's parse with a choice of errors, such as [`PARSE_ERRORS`], as
+    /// `ras_c_read_as` does for a text. The handle keeps its parse.
     ///
-    /// Returns [`OK`], [`TOO_LONG`], [`NO_MEMORY`], [`NO_ROOM`], [`NO_CHOICE`], or [`NO_PARSE`] if the handle holds no parse.
+    /// Returns [`OK`], [`TOO_LONG`], [`NO_MEMORY`], [`NO_ROOM`], [`NO_CHOICE`], or [`NO_PARSE`] if the
+    /// handle holds no parse.
     pub fn ras_c_rows_as(
         handle: *mut Handle,
         told: u32,
@@ -327,11 +334,13 @@ unsafe extern "C" {
         counts: *mut Counts,
     ) -> u32;
 
-    /// Parses a text by an entry, such as [`ENTRY_EXPR`], and writes what `ras_c_read` writes for a file, with a choice of errors, such as
-    /// [`PARSE_ERRORS`]. The counts are those of the chosen errors.
+    /// Parses a text by an entry, such as [`ENTRY_EXPR`], and writes what `ras_c_read` writes for a
+    /// file, with a choice of errors, such as [`PARSE_ERRORS`]. The counts are those of the chosen
+    /// errors.
     ///
-    /// Returns [`OK`], [`NOT_UTF8`], [`TOO_LONG`], [`NO_MEMORY`], [`NO_ROOM`], [`NO_EDITION`], [`NO_ENTRY`] or [`NO_CHOICE`]. The violations of
-    /// rules beyond the grammar are looked for only if they are chosen: they take a further walk through the tree.
+    /// Returns [`OK`], [`NOT_UTF8`], [`TOO_LONG`], [`NO_MEMORY`], [`NO_ROOM`], [`NO_EDITION`],
+    /// [`NO_ENTRY`] or [`NO_CHOICE`]. The violations of rules beyond the grammar are looked for only if
+    /// they are chosen: they take a further walk through the tree.
     pub fn ras_c_read_as(
         entry: u32,
         told: u32,
@@ -347,13 +356,15 @@ unsafe extern "C" {
         counts: *mut Counts,
     ) -> u32;
 
-    /// Searches a text of an edition, such as 2024, by a pattern: `$a == None`. With `lines` there are several, one a line, each a pattern or a
-    /// rule with its template; lines that are empty or begin with `#` are passed over. Writes a row for each match, in preorder: the outermost
-    /// ones, and those inside what stands for placeholders. At one place the first rule that matches counts.
+    /// Searches a text of an edition, such as 2024, by a pattern: `$a == None`. With `lines` there are
+    /// several, one a line, each a pattern or a rule with its template; lines that are empty or begin
+    /// with `#` are passed over. Writes a row for each match, in preorder: the outermost ones, and
+    /// those inside what stands for placeholders. At one place the first rule that matches counts.
     ///
-    /// Returns [`OK`], [`NOT_UTF8`] of either text, [`TOO_LONG`], [`NO_MEMORY`], [`NO_ROOM`], [`NO_EDITION`], or [`BAD_RULE`] with what is
-    /// wrong: the message is at the front of `message` if it has room for it; 256 bytes are enough for most. The arguments of macros are not
-    /// searched. Takes a parse of the text, and time linear in the text for each rule.
+    /// Returns [`OK`], [`NOT_UTF8`] of either text, [`TOO_LONG`], [`NO_MEMORY`], [`NO_ROOM`],
+    /// [`NO_EDITION`], or [`BAD_RULE`] with what is wrong: the message is at the front of `message` if
+    /// it has room for it; 256 bytes are enough for most. The arguments of macros are not searched.
+    /// Takes a parse of the text, and time linear in the text for each rule.
     pub fn ras_c_search(
         patterns: *const u8,
         patterns_len: usize,
@@ -369,13 +380,16 @@ unsafe extern "C" {
         fault: *mut RuleFault,
     ) -> u32;
 
-    /// Replaces the matches of a rule in a text of an edition, such as 2024: by `$a == None ==>> $a.is_none()`. With `lines` there are several,
-    /// one a line; lines that are empty or begin with `#` are passed over. Writes the new text to the front of `out`, its length to `count`,
-    /// and the number of matches to `matches`. Parentheses stand exactly where they are needed, and what is outside of the matches is as it was.
+    /// Replaces the matches of a rule in a text of an edition, such as 2024: by `$a == None ==>>
+    /// $a.is_none()`. With `lines` there are several, one a line; lines that are empty or begin with
+    /// `#` are passed over. Writes the new text to the front of `out`, its length to `count`, and the
+    /// number of matches to `matches`. Parentheses stand exactly where they are needed, and what is
+    /// outside of the matches is as it was.
     ///
-    /// Returns [`OK`], [`NOT_UTF8`] of either text, [`TOO_LONG`], [`NO_MEMORY`], [`NO_ROOM`], [`NO_EDITION`], [`NO_TEMPLATE`],
-    /// [`LOSES_COMMENT`], [`READS_OTHERWISE`], or [`BAD_RULE`] with what is wrong: the message is at the front of `message` if it has room for
-    /// it; 256 bytes are enough for most. It takes a few parses of the text.
+    /// Returns [`OK`], [`NOT_UTF8`] of either text, [`TOO_LONG`], [`NO_MEMORY`], [`NO_ROOM`],
+    /// [`NO_EDITION`], [`NO_TEMPLATE`], [`LOSES_COMMENT`], [`READS_OTHERWISE`], or [`BAD_RULE`] with
+    /// what is wrong: the message is at the front of `message` if it has room for it; 256 bytes are
+    /// enough for most. It takes a few parses of the text.
     pub fn ras_c_rewrite(
         rules: *const u8,
         rules_len: usize,
@@ -473,10 +487,11 @@ unsafe extern "C" {
         low: *mut u64,
     ) -> u32;
 
-    /// What a text is as one word of an edition, such as 2024. A text that is no word, as `a b`, is neither a keyword nor an identifier; `r#fn`
-    /// is none either: ask for `fn`.
+    /// What a text is as one word of an edition, such as 2024. A text that is no word, as `a b`, is
+    /// neither a keyword nor an identifier; `r#fn` is none either: ask for `fn`.
     ///
-    /// Returns [`OK`], [`NOT_UTF8`] or [`NO_EDITION`]. Unless it is [`OK`], `word` is not changed. It takes no memory.
+    /// Returns [`OK`], [`NOT_UTF8`] or [`NO_EDITION`]. Unless it is [`OK`], `word` is not changed. It
+    /// takes no memory.
     pub fn ras_c_word(
         text: *const u8,
         text_len: usize,

@@ -1,4 +1,5 @@
--- The grammar's machine has a number for the kind of each token of the lexer that is neither white space nor a comment.
+-- The grammar's machine has a number for the kind of each token of the lexer that is neither white
+-- space nor a comment.
 use Rattle.std.proofs.Common.{◌≡◌, ℕ, zero, suc, ◌++◌, subst, None, ◌-◌, ◌<◌, Bool, true, false, not, ◌==◌, ◌&&◌, ◌||◌, nat_lt, nat_le, if◌then◌else◌, Option, Some, List, [], ◌∷◌, length, drop, ap, sym, ◌∙◌, refl, arith}
 use Rattle.std.specs.Prelude.{bytes_eq, codes, cond}
 use Rattle.std.specs.Map.{lookup}
@@ -38,7 +39,8 @@ use Rattle.rust_lexer.specs.Lexing.{Lexing, taken, taken_some, taken_head, taken
 use Rattle.rust_lexer.proofs.Steps.{steps-one, steps-stop, steps-end}
 use Rattle.document_laws.specs.Sights.{AreKnown, LexersTokensAreKnown}
 
--- 1 if the machine has no number for the kind, though it is neither white space nor a comment; otherwise 0
+-- 1 if the machine has no number for the kind, though it is neither white space nor a comment;
+-- otherwise 0
 abbrev lost_of : SyntaxKind → ℕ
 lost_of k = if is_trivia k || nat_lt 0 (small_number k) then 0 else 1
 

@@ -108,7 +108,8 @@ seen_told (takes k n ∷ xs) =
 
 -- ---- where a list of tokens is cut
 
--- two fronts of one list with the same tokens that are seen are the same, if what follows them is seen
+-- two fronts of one list with the same tokens that are seen are the same, if what follows them is
+-- seen
 same_front : (xs ys zs qs : Steps) (k : SyntaxKind) (n : ℕ) → OnlyTakes xs → OnlyTakes ys → is_trivia k ≡ false → FirstSeen zs
     → xs ++ takes k n ∷ qs ≡ ys ++ zs → without_trivia xs ≡ without_trivia ys → xs ≡ ys
 same_front [] [] zs qs k n a b h z e s = refl

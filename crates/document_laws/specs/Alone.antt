@@ -1,4 +1,5 @@
--- A piece that the front end reads by itself is one that the laws of the machine and of the layout are about.
+-- A piece that the front end reads by itself is one that the laws of the machine and of the layout
+-- are about.
 use Rattle.std.specs.Prelude.{◌≡◌, ℕ, ◌-◌, ◌<◌, ◌^◌, false, IsUtf8, Some, List, [], ◌∷◌, ◌++◌, length}
 use Rattle.syntax_kind.specs.declared.syntax_kind.SyntaxKind.{SyntaxKind}
 use Rattle.ras_front_end.specs.declared.edition.Edition.{Edition}
@@ -21,7 +22,8 @@ use Rattle.rust_front.specs.Pieces.{exact_chosen_of, rule_by_number}
 abbrev pub part_of : Edition → List ℕ → Part
 part_of e text = record { text = text; tokens = tokens_of e text; sights = sights_of e text (tokens_of e text) }
 
--- the text of an exact piece is from `{` to `}`, the rule reads its tokens alone, and the reading is what is laid of that
+-- the text of an exact piece is from `{` to `}`, the rule reads its tokens alone, and the reading
+-- is what is laid of that
 pub record IsExactPiece (e : Edition) (text : List ℕ) (k : SyntaxKind) (r : Reparser) (reading : Reading) : Type 0 where
   pub own : List Event
   pub alone : IsReadAlone rust_tables (first_op (rule_by_number r.number)) k (part_of e text) own

@@ -8,7 +8,8 @@ use Rattle.lexer_laws.specs.Heads.{may_have_head}
 use Rattle.lexer_laws.specs.Pieces.{Opens, IsBraced, IsReplaced}
 use Rattle.rust_lexer.specs.Lexing.{tokens_of}
 
--- the text is in three parts, which the tokens cut; what is from `{` to `}` may come in the place of the second one
+-- the text is in three parts, which the tokens cut; what is from `{` to `}` may come in the place
+-- of the second one
 pub record IsCutAround (e : Edition) (text : List ℕ) (ts ps us : List Token) : Type 0 where
   pub a : List ℕ
   pub part : List ℕ

@@ -5,8 +5,8 @@ use Rattle.tree_model.specs.Tree.{Tree, node, token, Forest, cons, Place, IsPlac
 use Rattle.tree_model.specs.Edit.{replace}
 use Rattle.tree_model.specs.Events.{Event, BuildsNode, text_len}
 
--- a node is at a place of a tree, where the events before it end; with those of another node between the events before and behind,
--- the tree has that node there
+-- a node is at a place of a tree, where the events before it end; with those of another node
+-- between the events before and behind, the tree has that node there
 pub record IsAt (before behind : List Event) (t old : Tree) : Type 0 where
   pub place : Place
   pub is_place : IsPlace t place

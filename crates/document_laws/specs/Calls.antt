@@ -20,8 +20,8 @@ makes_one_of ks _ = false
 abbrev pub OnlyCallsSeal : Tables → Type 0
 OnlyCallsSeal g = (i : ℕ) (o : Op) → slice_get g.ops i ≡ Some o → makes_one_of g.sealed o ≡ false
 
--- the run of a rule comes to a sealed call, which leaves these events, last first, with its node; that is over all events from the
--- call on
+-- the run of a rule comes to a sealed call, which leaves these events, last first, with its node;
+-- that is over all events from the call on
 pub record IsOfCall (g : Tables) (ts : List Sight) (rule : ℕ) (k : SyntaxKind) (from : ℕ) (es : List Event) : Type 0 where
   pub before : ℕ
   pub call : SealedCall g ts k (runs before g ts (begin_of rule))

@@ -20,7 +20,8 @@ RunsTakeNoMore =
     (n : ℕ) (g : Tables) (rule : ℕ) (ss : List Sight) (ts : List Token)
     → length ss + 3 < 2 ^ 64 → AreSightsOf ss ts → (runs n g ss (begin_of rule)).place.at ≤ length ss
 
--- the tokens of a piece are cut behind those that its call took: the last one of these is neither white space nor a comment
+-- the tokens of a piece are cut behind those that its call took: the last one of these is neither
+-- white space nor a comment
 pub record EndsThere (e : Edition) (text : List ℕ) (t : Tree) (p : Place) (k : SyntaxKind) (r : Reparser) (o : OpensThere e text t p k r)
     : Type 0 where
   pub own : List Token

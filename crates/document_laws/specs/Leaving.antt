@@ -9,8 +9,9 @@ use Rattle.event_layout.specs.Taking.{seen_tokens}
 use Rattle.event_layout.specs.Trivia.{lead}
 use Rattle.document_laws.specs.Nodes.{made_left}
 
--- the tokens are cut where the state has come to: what its events leave of them, white space and comments aside, is the second part,
--- and the first part has as many other tokens as the state has taken
+-- the tokens are cut where the state has come to: what its events leave of them, white space and
+-- comments aside, is the second part, and the first part has as many other tokens as the state has
+-- taken
 pub record LeavesTokens (root : ℕ) (s : State) (ts : List RawToken) (text : List ℕ) : Type 0 where
   pub front : List RawToken
   pub back : List RawToken

@@ -23,7 +23,8 @@ abbrev pub made_steps : ℕ → ℕ → List Event → Left → List FrontStep
 made_steps root n [] l = []
 made_steps root n (e ∷ es) l = (made_by root n e l).steps ++ made_steps root (n + 1) es (made_by root n e l).left
 
--- the node at a place of what is laid of events is that of an event, and before it are the tokens of the events before its first one
+-- the node at a place of what is laid of events is that of an event, and before it are the tokens
+-- of the events before its first one
 pub record IsOfEvent
     (root : SyntaxKind) (attaching : List SyntaxKind) (text : List ℕ) (ts : List RawToken) (es : List Event)
     (t : Tree) (p : Place) (k : SyntaxKind) : Type 0 where
@@ -55,8 +56,8 @@ made_left root n (e ∷ es) l = made_left root (n + 1) es (made_by root n e l).l
 abbrev pub MakesPlainTokens : List Event → Type 0
 MakesPlainTokens es = (i : ℕ) (k : SyntaxKind) (signs : ℕ) → slice_get es i ≡ Some (Token k signs) → is_trivia k ≡ false
 
--- a node whose first child is a token starts behind the tokens of the events before its first one, and what is white space or comment
--- behind these
+-- a node whose first child is a token starts behind the tokens of the events before its first one,
+-- and what is white space or comment behind these
 pub record StartsBehind
     (root : SyntaxKind) (attaching : List SyntaxKind) (text : List ℕ) (ts : List RawToken) (es : List Event)
     (t : Tree) (p : Place) (k : SyntaxKind) : Type 0 where

@@ -20,8 +20,8 @@ use Rattle.rust_lexer.specs.Lexing.{tokens_of}
 use Rattle.document_laws.specs.Own.{before_call}
 use Rattle.document_laws.specs.Pieces.{events_in, IsCalledPiece}
 
--- the lexer's tokens are cut where the node starts, before a `{`, and the run had taken the tokens before it when it came to the node's
--- call
+-- the lexer's tokens are cut where the node starts, before a `{`, and the run had taken the tokens
+-- before it when it came to the node's call
 pub record OpensThere (e : Edition) (text : List ℕ) (t : Tree) (p : Place) (k : SyntaxKind) (r : Reparser) : Type 0 where
   pub piece : IsCalledPiece e text t p k r
   pub front : List Token
@@ -31,7 +31,8 @@ pub record OpensThere (e : Edition) (text : List ℕ) (t : Tree) (p : Place) (k 
   pub opens : Opens back
   pub count : length (seen_tokens front) ≡ (before_call piece.called).place.at
 
--- so it is for each node of a kind with a reparser for exact pieces whose first child is `{`, which has a text
+-- so it is for each node of a kind with a reparser for exact pieces whose first child is `{`, which
+-- has a text
 abbrev pub PiecesOpenAtTheirBraces : Type 0
 PiecesOpenAtTheirBraces =
     (e : Edition) (text : List ℕ) (t : Tree) (i : ℕ) (p : Place) (k : SyntaxKind) (w : List ℕ) (f : Forest) (r : Reparser)

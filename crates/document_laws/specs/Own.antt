@@ -20,8 +20,8 @@ abbrev pub before_call : {g : Tables} {ts : List Sight} {rule : ℕ} {k : Syntax
     → IsOfCall g ts rule k from es → State
 before_call {g} {ts} {rule} c = runs c.before g ts (begin_of rule)
 
--- the events up to the call's node, last first, are those that it made, numbered from its own first one on, and those before it; and
--- the run comes there to a call of its rule
+-- the events up to the call's node, last first, are those that it made, numbered from its own first
+-- one on, and those before it; and the run comes there to a call of its rule
 pub record IsOwnCall (g : Tables) (ts : List Sight) (rule : ℕ) (k : SyntaxKind) (from : ℕ) (es : List Event)
     (c : IsOfCall g ts rule k from es) : Type 0 where
   pub own : List Event

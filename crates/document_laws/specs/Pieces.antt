@@ -31,7 +31,8 @@ use Rattle.document_laws.specs.Tables.{IsExactRule}
 abbrev pub events_in : Edition → List ℕ → List Event
 events_in e text = made_of rule.SourceFile e text
 
--- the node at a place of a file's tree is that of an event, which is the last one of a sealed call; that calls the rule of the reparser
+-- the node at a place of a file's tree is that of an event, which is the last one of a sealed call;
+-- that calls the rule of the reparser
 pub record IsCalledPiece (e : Edition) (text : List ℕ) (t : Tree) (p : Place) (k : SyntaxKind) (r : Reparser) : Type 0 where
   pub exact : IsExactRule k r
   pub event : IsOfEvent (Node node.SOURCE_FILE) attaching_kinds text (tokens_of e text) (events_in e text) t p k
@@ -49,12 +50,14 @@ PiecesOfTreesAreCalls =
     → IsPlace t (i ∷ p) → subtree t (i ∷ p) ≡ tree.node k f → exact_chosen_of k ≡ Some r
     → IsCalledPiece e text t (i ∷ p) k r
 
--- what the first n events of a file leave of its tokens, from the next one on that is neither white space nor a comment
+-- what the first n events of a file leave of its tokens, from the next one on that is neither white
+-- space nor a comment
 abbrev pub left_behind : Edition → List ℕ → ℕ → Left
 left_behind e text n =
     past (made_left (root_of (events_in e text)) 0 (take n (events_in e text)) (record { tokens = tokens_of e text; text = text }))
 
--- such a node, if its first child is a token, starts where the tokens begin that the events before its first one leave
+-- such a node, if its first child is a token, starts where the tokens begin that the events before
+-- its first one leave
 pub record StartsThere (e : Edition) (text : List ℕ) (t : Tree) (p : Place) (k : SyntaxKind) (r : Reparser) : Type 0 where
   pub piece : IsCalledPiece e text t p k r
   pub rest : start t p + sum_len (left_behind e text (min piece.event.from piece.event.number)).tokens ≡ length text

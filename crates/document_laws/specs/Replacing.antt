@@ -15,7 +15,8 @@ use Rattle.event_layout.specs.Replaced.{Part, whole_of, piece_of, LaidAround}
 abbrev pub BuildsLaid : SyntaxKind → List SyntaxKind → Stretch → Tree → Type 0
 BuildsLaid root attaching p t = BuildsNode (events_from (laid root attaching p).steps p.text) t
 
--- the old piece's tree is at a place of the old text's, behind the text before it; with the new piece's tree there it is the new text's
+-- the old piece's tree is at a place of the old text's, behind the text before it; with the new
+-- piece's tree there it is the new text's
 pub record IsReplacedTree
     (root k : SyntaxKind) (attaching : List SyntaxKind) (g : Tables) (rule : ℕ) (a q c : Part) (t old new : Tree) : Type 0 where
   pub place : Place

@@ -6,8 +6,8 @@ use Rattle.tree_model.specs.Events.{BuildsNode}
 use Rattle.ras_front_end.specs.Reading.{FrontStep, events_from, Cuts}
 use Rattle.event_layout.specs.Filled.{bytes_taken}
 
--- a node is at a place of a tree, behind the text a; with another text and its steps in the place of the node's, the tree has
--- their node there
+-- a node is at a place of a tree, behind the text a; with another text and its steps in the place
+-- of the node's, the tree has their node there
 pub record IsBehind (a c : List ℕ) (before behind : List FrontStep) (t old : Tree) : Type 0 where
   pub place : Place
   pub is_place : IsPlace t place

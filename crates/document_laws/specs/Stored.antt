@@ -14,8 +14,9 @@ use Rattle.ras_parsing.specs.Document.{in_order, is_quiet_from}
 abbrev pub stored : Edition → List ℕ → List Fault
 stored e text = map (lexer_error_of text) (errors_of e text)
 
--- on the conditions that `Document::edit` tests, the errors that it puts in order are those of the new text: of the old ones those that
--- end before the part, with their messages, and those of the piece by itself, moved; none is behind the part
+-- on the conditions that `Document::edit` tests, the errors that it puts in order are those of the
+-- new text: of the old ones those that end before the part, with their messages, and those of the
+-- piece by itself, moved; none is behind the part
 abbrev pub StoredErrorsAreReplaced : Type 0
 StoredErrorsAreReplaced =
     (e : Edition) (a part piece c : List ℕ) (ts ps us : List Token) (edit : Edit)

@@ -20,7 +20,8 @@ RustSealsByCalls = OnlyCallsSeal rust_tables
 abbrev pub RustLooksAreShort : Type 0
 RustLooksAreShort = LooksAreShort rust_tables
 
--- a reparser's rule is one sealed call, and so are all operations that make nodes of its kind: calls of the same rule
+-- a reparser's rule is one sealed call, and so are all operations that make nodes of its kind:
+-- calls of the same rule
 pub record IsExactRule (k : SyntaxKind) (r : Reparser) : Type 0 where
   pub kind : r.kind ≡ k
   pub target : ℕ

@@ -185,7 +185,8 @@ late_all : (us : Tokens) (es : Errors) → errs_early us es ≡ false → Late 5
 late_all us [] h = tt
 late_all us (f ∷ fs) h = let at : f.range.start - 0 ≡ f.range.start = omega arith in ap (λ (j : ℕ). is_in j (take 5 us)) at ∙ h
 
--- a text has behind others the errors that it has by itself, if none of them is in its first five tokens
+-- a text has behind others the errors that it has by itself, if none of them is in its first five
+-- tokens
 all_moved : (e : Edition) (ts : Tokens) (d s : List ℕ) → length s < 2 ^ 32 → errs_early (tokens_within e s) (all e [] [] s) ≡ false → all e ts d s ≡ map (moved_by (length d)) (all e [] [] s)
 all_moved e ts d s l h =
     ap₂ (λ (rs : Tokens) (q : List ℕ). all e rs q s) (sym (append-nil ts)) (sym (append-nil d))

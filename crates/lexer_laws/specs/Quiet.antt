@@ -13,7 +13,8 @@ abbrev pub is_in : ℕ → List Token → Bool
 is_in byte [] = false
 is_in byte (t ∷ ts) = if nat_lt byte t.len then true else is_in (byte - t.len) ts
 
--- the first error is in one of the first five tokens, whose messages may depend on what stands before the text
+-- the first error is in one of the first five tokens, whose messages may depend on what stands
+-- before the text
 abbrev pub errs_early : List Token → List LexError → Bool
 errs_early ts [] = false
 errs_early ts (f ∷ fs) = is_in f.range.start (take 5 ts)
@@ -27,8 +28,9 @@ is_quiet_from at (f ∷ fs) = nat_lt f.range.start at && is_quiet_from at fs
 abbrev pub ended_by : ℕ → LexError → List LexError
 ended_by at f = if nat_le f.range.end at then f ∷ [] else []
 
--- if the new part has no error in its first five tokens, and the old text none behind the part, then the errors of the new text are those
--- of the old text before the part, and those of the new part by itself
+-- if the new part has no error in its first five tokens, and the old text none behind the part,
+-- then the errors of the new text are those of the old text before the part, and those of the new
+-- part by itself
 abbrev pub QuietErrorsAreReplaced : Type 0
 QuietErrorsAreReplaced =
     (e : Edition) (a part piece c : List ℕ) (ts ps us : List Token)

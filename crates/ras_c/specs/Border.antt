@@ -1,4 +1,5 @@
--- What crosses to C: the numbers of editions, entries and choices, and buffers that are filled from the front.
+-- What crosses to C: the numbers of editions, entries and choices, and buffers that are filled from
+-- the front.
 use Rattle.std.specs.Prelude.{◌≡◌, ℕ, ◌<◌, ◌≤◌, ◌==◌, if◌then◌else◌, List, ◌++◌, drop, length, Option, None, Some}
 use Rattle.ras_front_end.specs.declared.edition.Edition.{Edition}
 use Rattle.ras_front_end.specs.declared.edition.Edition.TheVariants.{Edition2015, Edition2018, Edition2021, Edition2024}

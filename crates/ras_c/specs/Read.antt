@@ -29,7 +29,8 @@ message_of f = f.message
 abbrev pub messages_of : List Fault → List ℕ
 messages_of faults = flat_map message_of faults
 
--- what is told of a parse: its tree, some errors, and how many of them are violations, which come last
+-- what is told of a parse: its tree, some errors, and how many of them are violations, which come
+-- last
 pub record Report : Type 0 where
   pub parse : Parsed
   pub faults : List Fault

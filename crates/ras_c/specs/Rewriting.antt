@@ -93,7 +93,8 @@ pub record IsRefusedAs (rules : List Rule) (root : Cursor) (status : ℕ) : Type
   pub lost : status ≡ 15 → loses_comment rules root ≡ true
   pub otherwise : status ≡ 16 → loses_comment rules root ≡ false
 
--- what is wrong with rules: where in their text, and a message, which is at the front of a buffer if it has room
+-- what is wrong with rules: where in their text, and a message, which is at the front of a buffer
+-- if it has room
 pub record IsSaid (rules : List ℕ) (before after : List ℕ) (fault : RuleFault) : Type 0 where
   pub within : fault.offset ≤ length rules
   pub message : List ℕ

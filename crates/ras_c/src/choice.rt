@@ -6,12 +6,14 @@ use ras_front_end::Entry;
 
 /// The entry of a file: the root is a `SOURCE_FILE`.
 pub const ENTRY_FILE: u32 = 0;
-/// The entry of an expression: the root is a node of an expression, or `ERROR` if the text is not one expression; there are errors then.
+/// The entry of an expression: the root is a node of an expression, or `ERROR` if the text is not
+/// one expression; there are errors then.
 pub const ENTRY_EXPR: u32 = 1;
 
 /// No errors are told.
 pub const NO_ERRORS: u32 = 0;
-/// The errors of the parser, and then those of the lexer, are told. The tree is not walked for violations of rules beyond the grammar.
+/// The errors of the parser, and then those of the lexer, are told. The tree is not walked for
+/// violations of rules beyond the grammar.
 pub const PARSE_ERRORS: u32 = 1;
 /// The violations of rules beyond the grammar are told, without the errors of the parse.
 pub const VIOLATIONS: u32 = 2;

@@ -12,8 +12,8 @@ use std::marker::Model;
 
 /// A parse that is kept between calls, or no parse. A handle of all zeros holds none.
 ///
-/// The fields are private to the library. Do not use a copy of a handle after a call that changed the original. A handle may go from
-/// thread to thread; one call at a time may use it.
+/// The fields are private to the library. Do not use a copy of a handle after a call that changed
+/// the original. A handle may go from thread to thread; one call at a time may use it.
 #[repr(C)]
 pub struct Handle {
     /// Whether there is a parse.

@@ -109,10 +109,11 @@ pub extern "C" fn ras_c_rows(
     rows_told(alloc, handle, Errors::All, rows, errors, messages, counts)
 }
 
-/// Writes the rows of a handle's parse with a choice of errors, such as [`PARSE_ERRORS`], as `ras_c_read_as` does for a text. The handle
-/// keeps its parse.
+/// Writes the rows of a handle's parse with a choice of errors, such as [`PARSE_ERRORS`], as
+/// `ras_c_read_as` does for a text. The handle keeps its parse.
 ///
-/// Returns [`OK`], [`TOO_LONG`], [`NO_MEMORY`], [`NO_ROOM`], [`NO_CHOICE`], or [`NO_PARSE`] if the handle holds no parse.
+/// Returns [`OK`], [`TOO_LONG`], [`NO_MEMORY`], [`NO_ROOM`], [`NO_CHOICE`], or [`NO_PARSE`] if the
+/// handle holds no parse.
 #[unsafe(no_mangle)]
 pub extern "C" fn ras_c_rows_as(
     alloc: Global,

@@ -188,7 +188,8 @@ fn tell_violations(
     )
 }
 
-/// Writes a report on a parse: its rows, the chosen errors and their messages, and the counts of these.
+/// Writes a report on a parse: its rows, the chosen errors and their messages, and the counts of
+/// these.
 pub(crate) fn tell(
     alloc: Global,
     parse: &Parse<Root>,
@@ -341,11 +342,13 @@ pub extern "C" fn ras_c_read_expr(
     )
 }
 
-/// Parses a text by an entry, such as [`ENTRY_EXPR`], and writes what `ras_c_read` writes for a file, with a choice of errors, such as
-/// [`PARSE_ERRORS`]. The counts are those of the chosen errors.
+/// Parses a text by an entry, such as [`ENTRY_EXPR`], and writes what `ras_c_read` writes for a
+/// file, with a choice of errors, such as [`PARSE_ERRORS`]. The counts are those of the chosen
+/// errors.
 ///
-/// Returns [`OK`], [`NOT_UTF8`], [`TOO_LONG`], [`NO_MEMORY`], [`NO_ROOM`], [`NO_EDITION`], [`NO_ENTRY`] or [`NO_CHOICE`]. The violations of
-/// rules beyond the grammar are looked for only if they are chosen: they take a further walk through the tree.
+/// Returns [`OK`], [`NOT_UTF8`], [`TOO_LONG`], [`NO_MEMORY`], [`NO_ROOM`], [`NO_EDITION`],
+/// [`NO_ENTRY`] or [`NO_CHOICE`]. The violations of rules beyond the grammar are looked for only if
+/// they are chosen: they take a further walk through the tree.
 #[unsafe(no_mangle)]
 pub extern "C" fn ras_c_read_as(
     alloc: Global,

@@ -23,7 +23,8 @@ use std::alloc::{AllocError, Global};
 pub const BAD_RULE: u32 = 13;
 /// A rule to replace by has no template. Nothing was written.
 pub const NO_TEMPLATE: u32 = 14;
-/// A comment would be lost: it is in what stands for a placeholder that the template has not. Nothing was written.
+/// A comment would be lost: it is in what stands for a placeholder that the template has not.
+/// Nothing was written.
 pub const LOSES_COMMENT: u32 = 15;
 /// The new text would be read otherwise than it is meant. Nothing was written.
 pub const READS_OTHERWISE: u32 = 16;
@@ -176,13 +177,15 @@ fn searched(alloc: Global, rules: &[Rule], text: &[u8], edition: u32) -> Result<
     }
 }
 
-/// Searches a text of an edition, such as 2024, by a pattern: `$a == None`. With `lines` there are several, one a line, each a pattern or a
-/// rule with its template; lines that are empty or begin with `#` are passed over. Writes a row for each match, in preorder: the outermost
-/// ones, and those inside what stands for placeholders. At one place the first rule that matches counts.
+/// Searches a text of an edition, such as 2024, by a pattern: `$a == None`. With `lines` there are
+/// several, one a line, each a pattern or a rule with its template; lines that are empty or begin
+/// with `#` are passed over. Writes a row for each match, in preorder: the outermost ones, and
+/// those inside what stands for placeholders. At one place the first rule that matches counts.
 ///
-/// Returns [`OK`], [`NOT_UTF8`] of either text, [`TOO_LONG`], [`NO_MEMORY`], [`NO_ROOM`], [`NO_EDITION`], or [`BAD_RULE`] with what is
-/// wrong: the message is at the front of `message` if it has room for it; 256 bytes are enough for most. The arguments of macros are not
-/// searched. Takes a parse of the text, and time linear in the text for each rule.
+/// Returns [`OK`], [`NOT_UTF8`] of either text, [`TOO_LONG`], [`NO_MEMORY`], [`NO_ROOM`],
+/// [`NO_EDITION`], or [`BAD_RULE`] with what is wrong: the message is at the front of `message` if
+/// it has room for it; 256 bytes are enough for most. The arguments of macros are not searched.
+/// Takes a parse of the text, and time linear in the text for each rule.
 #[unsafe(no_mangle)]
 pub extern "C" fn ras_c_search(
     alloc: Global,
@@ -288,7 +291,8 @@ fn rewritten(alloc: Global, rules: &[Rule], text: &[u8], year: u32) -> Result<(u
     replaced(alloc, rules, &parse, edition)
 }
 
-// Writes a new text to the front of the buffer if it has room, its length, and the number of matches.
+// Writes a new text to the front of the buffer if it has room, its length, and the number of
+// matches.
 fn hand_new(number: usize, new: &str, out: &mut [u8], count: &mut u32, matches: &mut usize) -> u32
     ensures done { result ≡ 0 → IsHanded new.now out.old out.new count.new
         × (matches.new ≡ number) }
@@ -305,13 +309,16 @@ fn hand_new(number: usize, new: &str, out: &mut [u8], count: &mut u32, matches: 
     status
 }
 
-/// Replaces the matches of a rule in a text of an edition, such as 2024: by `$a == None ==>> $a.is_none()`. With `lines` there are several,
-/// one a line; lines that are empty or begin with `#` are passed over. Writes the new text to the front of `out`, its length to `count`,
-/// and the number of matches to `matches`. Parentheses stand exactly where they are needed, and what is outside of the matches is as it was.
+/// Replaces the matches of a rule in a text of an edition, such as 2024: by `$a == None ==>>
+/// $a.is_none()`. With `lines` there are several, one a line; lines that are empty or begin with
+/// `#` are passed over. Writes the new text to the front of `out`, its length to `count`, and the
+/// number of matches to `matches`. Parentheses stand exactly where they are needed, and what is
+/// outside of the matches is as it was.
 ///
-/// Returns [`OK`], [`NOT_UTF8`] of either text, [`TOO_LONG`], [`NO_MEMORY`], [`NO_ROOM`], [`NO_EDITION`], [`NO_TEMPLATE`],
-/// [`LOSES_COMMENT`], [`READS_OTHERWISE`], or [`BAD_RULE`] with what is wrong: the message is at the front of `message` if it has room for
-/// it; 256 bytes are enough for most. It takes a few parses of the text.
+/// Returns [`OK`], [`NOT_UTF8`] of either text, [`TOO_LONG`], [`NO_MEMORY`], [`NO_ROOM`],
+/// [`NO_EDITION`], [`NO_TEMPLATE`], [`LOSES_COMMENT`], [`READS_OTHERWISE`], or [`BAD_RULE`] with
+/// what is wrong: the message is at the front of `message` if it has room for it; 256 bytes are
+/// enough for most. It takes a few parses of the text.
 #[tactic(auto, using(crate::proofs::RewritingLemmas::becomes))]
 #[unsafe(no_mangle)]
 pub extern "C" fn ras_c_rewrite(

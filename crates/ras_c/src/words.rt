@@ -16,14 +16,17 @@ use syntax_kind::SyntaxKind;
 #[repr(C)]
 #[derive(Clone, Copy)]
 pub struct Word {
-    /// The number of its kind if it is a keyword everywhere in the edition, such as `fn`, also if it is reserved, as `abstract`;
-    /// [`NO_KIND`] if it is none.
+    /// The number of its kind if it is a keyword everywhere in the edition, such as `fn`, also if
+    /// it is reserved, as `abstract`; [`NO_KIND`] if it is none.
     pub keyword: u32,
-    /// The number of its kind if it is a keyword in some places alone, such as `union`; [`NO_KIND`] if it is none.
+    /// The number of its kind if it is a keyword in some places alone, such as `union`; [`NO_KIND`]
+    /// if it is none.
     pub contextual: u32,
-    /// Whether it is an identifier: it begins with a letter or `_`, goes on with such and digits, by Unicode, and is no keyword everywhere.
+    /// Whether it is an identifier: it begins with a letter or `_`, goes on with such and digits,
+    /// by Unicode, and is no keyword everywhere.
     pub is_identifier: bool,
-    /// Whether it is one only behind `r#`: it is a keyword everywhere, but for `self`, `crate`, `super` and `Self`.
+    /// Whether it is one only behind `r#`: it is a keyword everywhere, but for `self`, `crate`,
+    /// `super` and `Self`.
     pub is_raw_identifier: bool,
 }
 
@@ -47,10 +50,11 @@ fn word_of(text: &str, edition: Edition) -> Word
     }
 }
 
-/// What a text is as one word of an edition, such as 2024. A text that is no word, as `a b`, is neither a keyword nor an identifier; `r#fn`
-/// is none either: ask for `fn`.
+/// What a text is as one word of an edition, such as 2024. A text that is no word, as `a b`, is
+/// neither a keyword nor an identifier; `r#fn` is none either: ask for `fn`.
 ///
-/// Returns [`OK`], [`NOT_UTF8`] or [`NO_EDITION`]. Unless it is [`OK`], `word` is not changed. It takes no memory.
+/// Returns [`OK`], [`NOT_UTF8`] or [`NO_EDITION`]. Unless it is [`OK`], `word` is not changed. It
+/// takes no memory.
 #[unsafe(no_mangle)]
 pub extern "C" fn ras_c_word(text: &[u8], edition: u32, word: &mut Word) -> u32
     ensures done { result ≡ 0 → (e : Edition) × (edition_of edition ≡ Some e)

@@ -94,7 +94,8 @@ fn is_from_to(node: &SyntaxNode, start: usize, end: usize) -> bool {
     range.start().raw() as usize == start && range.end().raw() as usize == end
 }
 
-// The outermost node of a kind that is the whole text between two offsets; for an expression what is in the pairs round it.
+// The outermost node of a kind that is the whole text between two offsets; for an expression what
+// is in the pairs round it.
 fn node_in(kind: RuleKind, root: &SyntaxNode, start: usize, end: usize) -> Option<SyntaxNode> {
     let mut is_whole = false;
     for node in root.descendants() {
@@ -106,8 +107,8 @@ fn node_in(kind: RuleKind, root: &SyntaxNode, start: usize, end: usize) -> Optio
     None
 }
 
-// What the parser says behind a word that is an element of a list by itself: an arm, a field or a parameter without what follows its name,
-// or an item. In `match x { p_0 }` it expects `=>`.
+// What the parser says behind a word that is an element of a list by itself: an arm, a field or a
+// parameter without what follows its name, or an item. In `match x { p_0 }` it expects `=>`.
 const ARROW: &str = "expected FAT_ARROW";
 
 const OF_ELEMENTS: [&str; 6] = [
@@ -129,7 +130,8 @@ struct Reading {
     arms: Vec<usize>,
 }
 
-// Reads a text as one of a kind. At some places of it, where words for lists end, errors of elements do not count.
+// Reads a text as one of a kind. At some places of it, where words for lists end, errors of
+// elements do not count.
 fn reading_of<F: FrontEnd>(
     alloc: Global,
     words: &Words<'_, F>,

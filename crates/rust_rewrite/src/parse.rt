@@ -30,11 +30,15 @@ fn within(error: RuleError, text: &str) -> RuleError
     }
 }
 
-/// The rule of a text `PATTERN ==>> TEMPLATE`: for each kind of syntax that both sides are, of expressions, types, patterns, paths, statements
-/// and items. In them `$name` is a placeholder: any expression, type, pattern or path where one stands there, and a word where it is a name
-/// or of two of these sorts. A placeholder that comes again stands for the same tree; `$_` is a new one each time. `${name:kind(literal)}` stands only
-/// for a literal, `${name:text(/^_/)}` only for what has a text in which the regular expression is found, and `${name:not(kind(literal))}` only
-/// for what is no literal; more conditions may follow, each behind a `:`.
+/// The rule of a text `PATTERN ==>> TEMPLATE`: for each kind of syntax that both sides are, of
+/// expressions, types, patterns, paths, statements and items. In them `$name` is a placeholder: any
+/// expression, type, pattern or path where one stands there, and a word where it is a name or of
+/// two of these sorts. A placeholder that comes again stands for the same tree; `$_` is a new one
+/// each time. `$$name` stands for the elements of a list, as arguments or statements, but for as
+/// many as the pattern has behind it. `${name:kind(literal)}` stands only for a literal,
+/// `${name:text(/^_/)}` only for what has a text in which the regular expression is found, and
+/// `${name:not(kind(literal))}` only for what is no literal; more conditions may follow, each
+/// behind a `:`.
 ///
 /// # Errors
 ///

@@ -201,7 +201,8 @@ impl<'a> Writer<'a> {
         }
     }
 
-    // Whether a match is a statement without a `;`: what replaces it can be one without a pair alone, and `({}) ({})` is a call.
+    // Whether a match is a statement without a `;`: what replaces it can be one without a pair
+    // alone, and `({}) ({})` is a call.
     fn is_open(&self, found: &Match) -> bool {
         let start = found.range.start();
         let at = self.source.open.partition_point(|it| it.start() < start);

@@ -202,7 +202,8 @@ fn list_of(piece: Option<&Piece>, names: &Names) -> Option<usize> {
     }
 }
 
-// The comma at the front of what follows a list, with the blanks round it, and the rest. A `;` goes, since statements have their own.
+// The comma at the front of what follows a list, with the blanks round it, and the rest. A `;`
+// goes, since statements have their own.
 fn cut_front(text: &str) -> (&str, &str) {
     let shown = text.trim_start();
     if let Some(rest) = shown.strip_prefix(';') {

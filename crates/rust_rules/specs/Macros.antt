@@ -80,7 +80,8 @@ abbrev pub IsListRead : Reading → List ℕ → Option Parsed → Type 0
 IsListRead r file None = IsNoList r file
 IsListRead r file (Some p) = IsList r file p
 
--- where a range of a file of arguments is in the text that they are arguments in; none if it is not in the arguments
+-- where a range of a file of arguments is in the text that they are arguments in; none if it is not
+-- in the arguments
 abbrev pub outward : Bounds → Bounds → Option Bounds
 outward list r =
     if nat_le 15 r.start && nat_le (list.start + (r.end - 15)) list.end
@@ -88,7 +89,8 @@ outward list r =
 
 -- ---- what is in each of them
 
--- what is in the file of a list of arguments, at its places in the text; nothing if it is not read as a list
+-- what is in the file of a list of arguments, at its places in the text; nothing if it is not read
+-- as a list
 abbrev pub IsInFile : {A : Type 0} → (List ℕ → Parsed → List A → Type 0) → (A → Option A) → List ℕ → Option Parsed → List A → Type 0
 IsInFile In move file None out = out ≡ []
 IsInFile {A} In move file (Some p) out = (inner : List A) × In file p inner × (out ≡ filter_map move inner)
@@ -108,7 +110,8 @@ AreInEach r In move s [] out = out ≡ []
 AreInEach {A} r In move s (list ∷ lists) out =
     (one : List A) × (rest : List A) × IsInOne r In move s list one × AreInEach r In move s lists rest × (out ≡ one ++ rest)
 
--- what is in the lists of a parse, so many deep; `Of` says what is in a file, if one knows what is in the lists of it
+-- what is in the lists of a parse, so many deep; `Of` says what is in a file, if one knows what is
+-- in the lists of it
 abbrev pub AreInLists : {A : Type 0} → Reading → ((List ℕ → Parsed → List A → Type 0) → List ℕ → Parsed → List A → Type 0)
     → (Bounds → A → Option A) → ℕ → List ℕ → Parsed → List A → Type 0
 AreInLists r Of move zero s p out = out ≡ []
@@ -131,7 +134,8 @@ pub record AreFoundOf (rules : List Rule) (InLists : List ℕ → Parsed → Lis
 abbrev pub AreFoundInLists : Reading → List Rule → ℕ → List ℕ → Parsed → List Found → Type 0
 AreFoundInLists r rules n = AreInLists r (AreFoundOf rules) found_outward n
 
--- by where they start; of those that start together the longest comes first, and then by the numbers of the rules
+-- by where they start; of those that start together the longest comes first, and then by the
+-- numbers of the rules
 abbrev pub place_key : Found → ℕ × ℕ × ℕ
 place_key f = (f.range.start, (2 ^ 32 - 1) - f.range.end, f.rule)
 
@@ -168,8 +172,9 @@ changed s cs = edited s (together cs)
 abbrev pub change_outward : Bounds → Change → Option Change
 change_outward list c = option_map (λ r. record { found = record { rule = c.found.rule; range = r }; text = c.text }) (outward list c.found.range)
 
--- A parse becomes a text by the rules, and something in it matches. These changes of a text make the same of it; if nothing is replaced
--- in its lists, they are the edit by which the parse becomes it.
+-- A parse becomes a text by the rules, and something in it matches. These changes of a text make
+-- the same of it; if nothing is replaced in its lists, they are the edit by which the parse becomes
+-- it.
 pub record IsRewriting (r : Reading) (rules : List Rule) (s : List ℕ) (inner : List Change) (p : Parsed) (changes : List Change) : Type 0 where
   pub some : found_in rules (root_of p.tree) ≡ [] → ⊥
   pub found : List Occurrence
@@ -195,7 +200,8 @@ abbrev pub IsOutside : Reading → List Rule → List ℕ → List Change → Pa
 IsOutside r rules s inner p None = found_in rules (root_of p.tree) ≡ []
 IsOutside r rules s inner p (Some changes) = IsRewriting r rules s inner p changes
 
--- what is replaced in a text in whose lists this is replaced before: the text with the latter made is the text in between
+-- what is replaced in a text in whose lists this is replaced before: the text with the latter made
+-- is the text in between
 pub record AreOutside (r : Reading) (rules : List Rule) (s : List ℕ) (inner : List Change) (outer : Option (List Change)) : Type 0 where
   pub between : Parsed
   pub is_read : IsReadAs r (changed s inner) between

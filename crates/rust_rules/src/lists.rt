@@ -98,7 +98,8 @@ pub(crate) fn file_of(alloc: Global, text: &str, range: TextRange) -> Result<Str
     Ok(file)
 }
 
-/// The parse of a file of arguments; `None` if it has an error, so that they are no list of expressions.
+/// The parse of a file of arguments; `None` if it has an error, so that they are no list of
+/// expressions.
 pub(crate) fn read_list(
     alloc: Global,
     file: &str,

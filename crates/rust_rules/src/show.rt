@@ -84,11 +84,12 @@ pub fn search<'a, W: Write>(
     Ok(matches.len() as u64)
 }
 
-/// Writes the matches of rules in a text and in the arguments of its macro calls, up to eight deep, in the order of the text. Returns their
-/// number.
+/// Writes the matches of rules in a text and in the arguments of its macro calls, up to eight deep,
+/// in the order of the text. Returns their number.
 ///
-/// The arguments are searched if they read as a list of expressions, as in `vec![a; 3]` and `println!("{}", a.clone())`. A match that reaches
-/// out of them is none. Takes a parse of each list.
+/// The arguments are searched if they read as a list of expressions, as in `vec![a; 3]` and
+/// `println!("{}", a.clone())`. A match that reaches out of them is none. Takes a parse of each
+/// list.
 pub fn search_within<'a, W: Write>(
     alloc: Global,
     out: &mut W,

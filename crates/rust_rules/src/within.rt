@@ -92,7 +92,8 @@ fn sort(found: &mut Vec<Found>)
     });
 }
 
-// Where a match in a file of arguments is in the text around it. `None` if it is not in the arguments.
+// Where a match in a file of arguments is in the text around it. `None` if it is not in the
+// arguments.
 fn found_outward(found: Found, list: TextRange) -> Option<Found>
     ensures { result ≡ found_outward list found }
 {
@@ -359,7 +360,8 @@ fn changes_of(alloc: Global, done: &Rewritten) -> Result<Vec<Change>, AllocError
     Ok(changes)
 }
 
-/// What a parse becomes by rules; `None` if nothing matches. In most files nothing does, and their texts are not parsed again.
+/// What a parse becomes by rules; `None` if nothing matches. In most files nothing does, and their
+/// texts are not parsed again.
 pub(crate) fn rewriting(
     alloc: Global,
     rules: &[Rule],
@@ -377,7 +379,8 @@ pub(crate) fn rewriting(
     }
 }
 
-// The changes of arguments, and after them those of the text that they made, as changes of the old text.
+// The changes of arguments, and after them those of the text that they made, as changes of the old
+// text.
 fn all_joined(
     alloc: Global,
     inner: &[Change],
@@ -413,7 +416,8 @@ fn joined_to(
     }
 }
 
-// The changes of a text by which its parse, after the changes of its arguments, becomes what it should; `None` if nothing matches there.
+// The changes of a text by which its parse, after the changes of its arguments, becomes what it
+// should; `None` if nothing matches there.
 #[tactic(auto, using(crate::proofs::MoveLemmas::made_alike))]
 fn outside(
     alloc: Global,
@@ -431,7 +435,8 @@ fn outside(
     }
 }
 
-// The changes of a text, whose parse this is, after those of its arguments; `None` if there are no others.
+// The changes of a text, whose parse this is, after those of its arguments; `None` if there are no
+// others.
 #[tactic(auto, using(crate::proofs::MoveLemmas::none_between, crate::proofs::MoveLemmas::some_between))]
 fn changes_after(
     alloc: Global,
@@ -462,7 +467,8 @@ fn all_or(inner: Vec<Change>, outer: Option<Vec<Change>>) -> Vec<Change>
     }
 }
 
-// Adds a change of a file of arguments, as one of the text around it. One that is not in the arguments is left out.
+// Adds a change of a file of arguments, as one of the text around it. One that is not in the
+// arguments is left out.
 fn push_change(all: &mut Vec<Change>, change: Change, list: TextRange) -> Result<(), AllocError>
     ensures { OnOk result (all.new.items ≡ all.old.items ++ filter_map (change_outward list) (change ∷ [])) }
 {
@@ -473,7 +479,8 @@ fn push_change(all: &mut Vec<Change>, change: Change, list: TextRange) -> Result
     Ok(())
 }
 
-// Adds changes of a file of arguments, as changes of the text around it. One that is not in the arguments is left out.
+// Adds changes of a file of arguments, as changes of the text around it. One that is not in the
+// arguments is left out.
 #[tactic(auto, using(crate::proofs::MoveLemmas::moved_on))]
 fn push_moved(
     all: &mut Vec<Change>,
@@ -488,7 +495,8 @@ fn push_moved(
     Ok(())
 }
 
-// What replaces the matches in the arguments of the macros of a parse, which are looked into so deep.
+// What replaces the matches in the arguments of the macros of a parse, which are looked into so
+// deep.
 #[tactic(auto, using(crate::proofs::EachLemmas::none_done, crate::proofs::EachLemmas::not_deep))]
 fn changes_in_lists(
     alloc: Global,
@@ -542,19 +550,22 @@ fn replaced_by(alloc: Global, text: &str, changes: &[Change]) -> Result<Replaced
     })
 }
 
-/// A text with the matches of rules replaced, in the arguments of its macro calls first, and then in the text that this makes; `None` if
-/// nothing matches in either.
+/// A text with the matches of rules replaced, in the arguments of its macro calls first, and then
+/// in the text that this makes; `None` if nothing matches in either.
 ///
-/// By `f($a) ==>> $a`, `f(g!(f(1)))` becomes `(g!(1))`. The arguments of a macro count if they read as a list of expressions, and those of
-/// macros in them too, up to eight deep; others, as those of `matches!(a, B if c)`, are left alone. Each list is rewritten as a file of its
-/// own, so that pairs of parentheses are where they are needed there, and nothing outside of the arguments is replaced by it.
+/// By `f($a) ==>> $a`, `f(g!(f(1)))` becomes `(g!(1))`. The arguments of a macro count if they read
+/// as a list of expressions, and those of macros in them too, up to eight deep; others, as those of
+/// `matches!(a, B if c)`, are left alone. Each list is rewritten as a file of its own, so that
+/// pairs of parentheses are where they are needed there, and nothing outside of the arguments is
+/// replaced by it.
 ///
-/// Takes a parse of each list, and one more of each text in whose lists something is replaced: time linear in the text for each rule.
+/// Takes a parse of each list, and one more of each text in whose lists something is replaced: time
+/// linear in the text for each rule.
 ///
 /// # Errors
 ///
-/// `Kept` if a list or the text cannot be rewritten, for the reasons of [`RewriteError`], or if the edits of both cannot be joined; `Text` if
-/// memory runs out or a text is too long.
+/// `Kept` if a list or the text cannot be rewritten, for the reasons of [`RewriteError`], or if the
+/// edits of both cannot be joined; `Text` if memory runs out or a text is too long.
 pub fn replaced_within(
     alloc: Global,
     text: &str,

@@ -18,7 +18,8 @@ has_more n (cons (token k t) r) = has_more n r
 has_more zero (cons (node k c) r) = true
 has_more (suc n) (cons (node k c) r) = has_more n r
 
--- a node is an element of a list; between elements are commas, white space and comments, which are part of the run
+-- a node is an element of a list; between elements are commas, white space and comments, which are
+-- part of the run
 abbrev pub is_listed : Tree → Bool
 is_listed t = not (is_token t) || (is_trivia (kind_of t) || is_same_kind (kind_of t) COMMA)
 

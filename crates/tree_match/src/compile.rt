@@ -75,7 +75,8 @@ fn has_list(kind: SyntaxKind) -> bool {
 /// What makes an arm of a `match` of a word: `p_0=>()`.
 pub const ARM: &str = "=>()";
 
-// The word of an element of a list that is a word alone, or an arm of it, also with the sign that ends it.
+// The word of an element of a list that is a word alone, or an arm of it, also with the sign that
+// ends it.
 fn word_of(element: &str) -> &str {
     let word = match element.strip_suffix(';') {
         Some(word) => word,
@@ -105,7 +106,8 @@ impl<'a> Words<'a> {
         Some(Part::Hole(number, sort))
     }
 
-    // The placeholder for a list that is next in a walk of the children of a node of a kind; passes over it.
+    // The placeholder for a list that is next in a walk of the children of a node of a kind; passes
+    // over it.
     fn next_list(
         &self,
         walk: &mut Walk<'_>,
@@ -248,8 +250,9 @@ fn mark_words(parts: &[Part], sorts: &mut Vec<Option<Sort>>, only_words: &mut Ve
     is_any
 }
 
-/// The parts of a pattern and of its template, in which words of the prefix and the number of a placeholder stand for it. One that is of one
-/// sort here and of another one there is a word everywhere: the `$f` of `fn $f() { $f() }`.
+/// The parts of a pattern and of its template, in which words of the prefix and the number of a
+/// placeholder stand for it. One that is of one sort here and of another one there is a word
+/// everywhere: the `$f` of `fn $f() { $f() }`.
 pub(crate) fn compile(
     alloc: Global,
     prefix: &str,

@@ -42,8 +42,8 @@ fn nodes_behind(parts: &[Part], index: usize) -> Result<usize, usize> {
     Ok(count)
 }
 
-/// The parts, in which each list has its comma, and knows how many nodes are behind it. Takes time for
-/// each list that is linear in the parts.
+/// The parts, in which each list has its comma, and knows how many nodes are behind it. Takes time
+/// for each list that is linear in the parts.
 ///
 /// # Errors
 ///

@@ -98,8 +98,8 @@ fn closed<'t>(comments: Comments, comma: Comma, left: &Run<'t>) -> Option<Run<'t
     }
 }
 
-/// The elements of a list that leave so many nodes, and the siblings behind it. The list is empty if
-/// there are no more nodes.
+/// The elements of a list that leave so many nodes, and the siblings behind it. The list is empty
+/// if there are no more nodes.
 pub(crate) fn list_at<'t>(
     comments: Comments,
     comma: Comma,

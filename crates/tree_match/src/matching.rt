@@ -13,8 +13,8 @@ use crate::walk::{Walk, is_part};
 use lossless_tree::SyntaxKind;
 use std::alloc::{AllocError, Global};
 
-/// What stands for each placeholder: a run of siblings, of one or of the elements of a list; `None` if
-/// it has none.
+/// What stands for each placeholder: a run of siblings, of one or of the elements of a list; `None`
+/// if it has none.
 pub(crate) type Values<'t> = Vec<Option<Run<'t>>>;
 
 /// A rule that matches, which of its forms, and what stands for its placeholders.

@@ -69,6 +69,7 @@ pub enum Part {
     Token(SyntaxKind, String),
     /// The placeholder with this number.
     Hole(usize, Sort),
-    /// The placeholder with this number for a list: all nodes that are left on its level, but for as many as this at the end.
+    /// The placeholder with this number for a list: all nodes that are left on its level, but for
+    /// as many as this at the end.
     List(usize, Comma, usize),
 }

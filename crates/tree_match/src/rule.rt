@@ -18,7 +18,8 @@ pub enum Piece {
     Text(String),
     /// The placeholder with this number.
     Hole(usize),
-    /// The comma before or behind a placeholder for a list, which goes where the one with this number has no elements.
+    /// The comma before or behind a placeholder for a list, which goes where the one with this
+    /// number has no elements.
     Comma(String, usize),
 }
 
@@ -144,8 +145,9 @@ impl Rule {
     ///
     /// # Errors
     ///
-    /// `Everything` if the pattern is such a word; `Misplaced` if one stands elsewhere, as in the arguments of a macro; `Memory`. The rule is
-    /// then as before.
+    /// `Everything` if the pattern is such a word; `Misplaced` if one stands elsewhere, as in the
+    /// arguments of a macro; `Twice` if one for a list comes twice, or beside another one in one
+    /// list; `Memory`. The rule is then as before.
     #[tactic(auto, using(crate::proofs::ConditionLemmas::one_form_more))]
     pub fn add(
         &mut self,

@@ -7,8 +7,8 @@ ghost use Rattle.tree_match.specs.Runs.{run_of, run_range};
 use lossless_tree::{SiblingsLeft, SyntaxKind, TextRange, TextSize};
 use std::marker::Model;
 
-/// Siblings from one on: all later ones, or so many. Its calls are those of [`SiblingsLeft`], and take
-/// constant time, but for `range`.
+/// Siblings from one on: all later ones, or so many. Its calls are those of [`SiblingsLeft`], and
+/// take constant time, but for `range`.
 #[derive(Drop)]
 pub(crate) struct Run<'t> {
     left: SiblingsLeft<'t>,

@@ -103,8 +103,8 @@ impl<'t> Walk<'t> {
         Ok(Some(here.first(1)))
     }
 
-    /// Passes over the elements of a list on the innermost level, but for so many at its end; returns
-    /// them.
+    /// Passes over the elements of a list on the innermost level, but for so many at its end;
+    /// returns them.
     pub(crate) fn take_list(
         &mut self,
         comma: Comma,
