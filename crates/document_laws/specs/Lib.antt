@@ -15,3 +15,4 @@ pub mod Begun
 pub mod Opening
 pub mod Around
 pub mod Ending
+pub mod Parts

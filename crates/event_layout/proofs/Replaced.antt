@@ -1,6 +1,7 @@
 -- A text in which one piece is replaced is laid as the old one, but for the piece.
 use Rattle.std.proofs.Common.{◌≡◌, ℕ, ◌+◌, ◌<◌, true, List, [], ◌∷◌, ◌++◌, map, length, ap, sym, subst, ◌∙◌, refl, arith, Some, if◌then◌else◌, append_assoc}
 use Rattle.std.specs.Prelude.{reverse}
+use Rattle.std.proofs.lemmas.List.Elements.{All-nil}
 use Rattle.std.proofs.lemmas.List.{length-append, length-map, length-reverse, map-append, reverse-append, reverse-reverse}
 use Rattle.syntax_kind.specs.declared.syntax_kind.SyntaxKind.{SyntaxKind}
 use Rattle.token_layout.specs.declared.span.Token.{Token as RawToken}
@@ -13,7 +14,7 @@ use Rattle.grammar_machine.specs.Reading.{IsSealedRule}
 use Rattle.grammar_machine.specs.Exchanging.{ExchangedAt}
 use Rattle.grammar_machine.proofs.Exchanging.{exchanged as exchanged_at}
 use Rattle.event_layout.specs.Layout.{root_from, root_of, is_node_at}
-use Rattle.event_layout.specs.Filled.{Stretch, Setting, LaidAround as FilledAround, IsSetting, IsPiece, IsShort, set_in, events_in, laid}
+use Rattle.event_layout.specs.Filled.{Stretch, Setting, LaidAround as FilledAround, IsSetting, IsPiece, IsShort, is_error_of, set_in, events_in, laid}
 use Rattle.event_layout.specs.Ending.{EndsInToken}
 use Rattle.event_layout.specs.Exchanged.{OneSetting, setting_of, made_before}
 use Rattle.event_layout.specs.Replaced.{Part, sights_in, IsReadAlone, EndsInNode, IsSmall, LaidIn, ReplacedPiecesAreLaid}
@@ -105,9 +106,9 @@ piece_is k g rule part target a p c made es sealed small r =
       body = end.body;
       kind = end.kind;
       signs = end.signs;
-      errors = end.errors;
+      errors = [];
       events = end.is;
-      last = end.last;
+      last = All-nil (λ e. is_error_of e ≡ true);
     }
 
 -- one text, whose events are those of the setting

@@ -1,19 +1,18 @@
--- How the events of a piece end: in a token, errors, and the piece's own node.
-use Rattle.std.specs.Prelude.{◌≡◌, ℕ, Bool, true, false, List, [], ◌∷◌, ◌++◌, reverse, All}
+-- How the events of a piece end: in a token, and the piece's own node.
+use Rattle.std.specs.Prelude.{◌≡◌, ℕ, Bool, true, false, List, [], ◌∷◌, ◌++◌, reverse}
 use Rattle.syntax_kind.specs.declared.syntax_kind.SyntaxKind.{SyntaxKind}
 use Rattle.grammar_machine.specs.declared.event.Event.{Event}
 use Rattle.grammar_machine.specs.declared.event.Event.TheVariants.{Token, Piece, Node, Error}
-use Rattle.event_layout.specs.Filled.{is_error_of}
 
--- of events, last first, the first that is no error is a token
+-- of events, last first, the first is a token
 abbrev pub says_last : List Event → Bool
 says_last [] = false
 says_last (Token k signs ∷ es) = true
 says_last (Piece p last ∷ es) = false
 says_last (Node k from ∷ es) = false
-says_last (Error m ∷ es) = says_last es
+says_last (Error m ∷ es) = false
 
--- the first is a node, and behind it comes such a token
+-- the first is a node, and behind it comes a token
 abbrev pub closes_last : List Event → Bool
 closes_last [] = false
 closes_last (Token k signs ∷ es) = false
@@ -21,14 +20,12 @@ closes_last (Piece p last ∷ es) = false
 closes_last (Node k from ∷ es) = says_last es
 closes_last (Error m ∷ es) = false
 
--- events that end in a token, errors and a node
+-- events that end in a token
 pub record EndsInToken (es : List Event) : Type 0 where
   pub body : List Event
   pub kind : SyntaxKind
   pub signs : ℕ
-  pub errors : List Event
-  pub is : es ≡ body ++ Token kind signs ∷ errors
-  pub last : All (λ e. is_error_of e ≡ true) errors
+  pub is : es ≡ body ++ Token kind signs ∷ []
 
 -- a law of the definitions
 abbrev pub EndsAreFound : Type 0

@@ -74,7 +74,7 @@ abbrev pub errs_early : List span.Token → List LexError → Bool
 errs_early ts [] = false
 errs_early ts (e ∷ es) = is_in e.range.start (take 5 ts)
 
--- only errors, and the node of the piece, come after the last token
+-- the node of the piece comes directly after the last token
 abbrev pub if_closed : List Event → Option (List Event)
 if_closed es = if closes_last (reverse es) then Some es else None
 

@@ -119,7 +119,7 @@ fn errs_early(tokens: &[Token], errors: &[LexError]) -> bool
     }
 }
 
-// Events after whose last token only errors come, and the node of the piece.
+// Events that end in a token and the node of the piece.
 fn if_closed(events: Vec<Event>) -> Option<Vec<Event>>
     ensures { option_map (λ v. v.items) result ≡ if_closed events.items }
 {
@@ -174,7 +174,8 @@ fn whole_exact(
 /// The output for a piece, or `None` if it depends on what stands around the piece.
 ///
 /// The piece is from `{` to `}`; the rule that parses it stops right behind the `}`, looks neither at what follows nor at what stands
-/// before, and begins no node behind the `}`; and none of its first five tokens has an error of the lexer, whose message might depend on tokens before the piece.
+/// before, and makes nothing but the piece's node behind the `}`; and none of its first five tokens has an error of the lexer, whose
+/// message might depend on tokens before the piece.
 #[tactic(auto, unfolding(crate::specs::Exact::exact_piece_of))]
 pub fn exact_piece(
     alloc: Global,
