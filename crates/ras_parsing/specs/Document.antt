@@ -1,5 +1,5 @@
 -- A text that is edited, and its parse: which piece is parsed again, and what its parse is then.
-use Rattle.std.specs.Prelude.{◌≡◌, ◌⊎◌, ℕ, ◌+◌, ◌-◌, List, [], ◌∷◌, ◌++◌, map, length, take, drop, Option, Some, None, option_map, Bool, true, false, not, ◌&&◌, nat_le, nat_lt, ◌≤◌, if◌then◌else◌}
+use Rattle.std.specs.Prelude.{◌≡◌, ◌⊎◌, ℕ, ◌+◌, ◌-◌, ◌<◌, ◌^◌, IsUtf8, List, [], ◌∷◌, ◌++◌, map, length, take, drop, Option, Some, None, option_map, Bool, true, false, not, ◌&&◌, nat_le, nat_lt, ◌≤◌, if◌then◌else◌}
 use Rattle.std.specs.List.{flat_map}
 use Rattle.text_size.specs.TextRange.{Bounds}
 use Rattle.syntax_kind.specs.declared.syntax_kind.SyntaxKind.{SyntaxKind}
@@ -17,7 +17,7 @@ use Rattle.ras_front_end.specs.Front.{Front}
 use Rattle.ras_front_end.specs.Reading.{Reading, step_faults}
 use Rattle.ras_front_end.specs.Parsed.{Parsed, IsParseOf}
 use Rattle.exact_front.specs.Exact.{Exact, is_piece}
-use Rattle.ras_parsing.specs.Edit.{Edit, edited, edited_at}
+use Rattle.ras_parsing.specs.Edit.{Edit, IsEditOf, edited, edited_at}
 use Rattle.ras_parsing.specs.Reparse.{kind_at, nodes_around, shifted, moved}
 
 -- ---- errors
@@ -125,3 +125,14 @@ pub record ByAll (front : Front) (exact : Exact) (edition : Edition) (old : Pars
 abbrev pub IsEdited : Front → Exact → Edition → Parsed → ℕ → Edit → Parsed → ℕ → Bounds → Type 0
 IsEdited front exact edition old before edit new count range =
     ByPiece exact edition old before edit new count range ⊎ ByAll front exact edition old before edit new count range
+
+-- a front end reads the pieces of every text as in the text: where a document has the parse of its
+-- text, an edit makes the parse of the new text
+abbrev pub ReadsExactly : Front → Exact → Type 0
+ReadsExactly front exact =
+    (edition : Edition) (old new : Parsed) (before count : ℕ) (edit : Edit) (range : Bounds)
+    → IsUtf8 (text old.tree) → IsUtf8 edit.insert → IsEditOf (text old.tree) edit
+    → length (edited (text old.tree) edit) < 2 ^ 32
+    → IsReadOf front edition (text old.tree) old before
+    → IsEdited front exact edition old before edit new count range
+    → IsReadOf front edition (edited (text old.tree) edit) new count
