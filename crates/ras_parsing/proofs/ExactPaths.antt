@@ -1,9 +1,9 @@
 -- The exact piece around an edit.
-use Rattle.std.proofs.Common.{◌≡◌, ℕ, ◌<◌, ◌≤◌, ◌^◌, ◌+◌, ◌-◌, List, [], ◌∷◌, length, refl, sym, ap, ◌∙◌, subst, arith, Bool, true, false, Option, Some, None}
-use Rattle.std.specs.Prelude.{Contains, IsUtf8, ⊤, ◌&&◌, if◌then◌else◌, option_map, drop}
+use Rattle.std.proofs.Common.{◌≡◌, ℕ, ◌<◌, ◌^◌, List, [], ◌∷◌, length, refl, sym, ap, ◌∙◌, arith, Bool, true, false, Option, Some, None}
+use Rattle.std.specs.Prelude.{Contains, IsUtf8, option_map, drop}
 use Rattle.text_size.specs.TextRange.{Bounds}
 use Rattle.tree_model.specs.Tree.{Tree, text, IsPlace}
-use Rattle.tree_model.specs.Cursor.{Cursor, focus, range_end, range_start}
+use Rattle.tree_model.specs.Cursor.{Cursor, focus, range_end}
 use Rattle.tree_model.specs.Covering.{covering_of}
 use Rattle.tree_model.specs.Edit.{root_of}
 use Rattle.lossless_tree.specs.declared.cursor.element.NodeOrToken.{NodeOrToken}
@@ -13,7 +13,6 @@ use Rattle.ras_front_end.specs.declared.edition.Edition.{Edition}
 use Rattle.ras_front_end.specs.declared.edition.Reparser.{Reparser}
 use Rattle.ras_front_end.specs.Balanced.{opens_brace, closes_brace}
 use Rattle.ras_front_end.specs.Fault.{Fault}
-use Rattle.ras_front_end.specs.Keeps.{Keeps}
 use Rattle.ras_front_end.specs.Parsed.{Parsed}
 use Rattle.ras_front_end.specs.Reading.{Reading}
 use Rattle.exact_front.specs.Exact.{Exact, is_piece, ExactKeeps}

@@ -1,11 +1,8 @@
 -- A text that is edited, and its parse: which piece is parsed again, and what its parse is then.
-use Rattle.std.specs.Prelude.{◌≡◌, ◌⊎◌, ℕ, ◌+◌, ◌-◌, ◌<◌, ◌^◌, IsUtf8, List, [], ◌∷◌, ◌++◌, map, length, take, drop, Option, Some, None, option_map, Bool, true, false, not, ◌&&◌, nat_le, nat_lt, ◌≤◌, if◌then◌else◌}
+use Rattle.std.specs.Prelude.{◌≡◌, ◌⊎◌, ℕ, ◌+◌, ◌<◌, ◌^◌, IsUtf8, List, [], ◌∷◌, ◌++◌, map, length, take, drop, Option, Some, None, Bool, true, false, ◌&&◌, nat_le, nat_lt, ◌≤◌, if◌then◌else◌}
 use Rattle.std.specs.List.{flat_map}
 use Rattle.text_size.specs.TextRange.{Bounds}
-use Rattle.syntax_kind.specs.declared.syntax_kind.SyntaxKind.{SyntaxKind}
-use Rattle.syntax_kind.specs.declared.syntax_kind.SyntaxKind.TheVariants.{Token}
-use Rattle.syntax_kind.specs.declared.syntax_kind.token_kind.TokenKind.TheVariants as kind
-use Rattle.tree_model.specs.Tree.{Tree, text}
+use Rattle.tree_model.specs.Tree.{text}
 use Rattle.tree_model.specs.Cursor.{Cursor, focus, range_start, range_end, range_of, first_child_of, last_child_of}
 use Rattle.tree_model.specs.Edit.{replace}
 use Rattle.ras_front_end.specs.declared.edition.Entry.TheVariants.{SourceFile}
