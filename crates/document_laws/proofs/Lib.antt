@@ -21,3 +21,6 @@ mod Opening
 mod Around
 mod Ending
 mod Pathing
+mod Beside
+mod Inner
+mod Editing

@@ -17,3 +17,4 @@ pub mod Around
 pub mod Ending
 pub mod Parts
 pub mod Paths
+pub mod Edited

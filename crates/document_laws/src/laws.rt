@@ -16,6 +16,7 @@ ghost use Rattle.document_laws.specs.Begun.{CallsBeginWithTheirToken};
 ghost use Rattle.document_laws.specs.Opening.{PiecesOpenAtTheirBraces};
 ghost use Rattle.document_laws.specs.Around.{TokensAreReplaced};
 ghost use Rattle.document_laws.specs.Ending.{RunsTakeNoMore, PiecesEndAtTheirTokens};
+ghost use Rattle.document_laws.specs.Edited.{EditedTreesAreParsed};
 ghost use Rattle.document_laws.specs.Paths.{CursorsOfEdits};
 ghost use Rattle.document_laws.specs.Tables.{RustSealsByCalls, RustLooksAreShort, ExactRulesAreSealed};
 
@@ -174,4 +175,11 @@ pub fn pieces_end_at_their_tokens()
 /// place of the old.
 pub fn cursors_of_edits()
     ensures { CursorsOfEdits }
+{}
+
+/// Where a text of Rust with an exact piece is laid as before around another exact piece, the node of
+/// the tree that starts where the piece starts, if its first child is a token with a text, is the
+/// piece's, and with the tree of the other piece in its place the tree is that of the new text.
+pub fn edited_trees_are_parsed()
+    ensures { EditedTreesAreParsed }
 {}
