@@ -20,3 +20,7 @@ mod Begun
 mod Opening
 mod Around
 mod Ending
+mod Pathing
+mod Beside
+mod Inner
+mod Editing

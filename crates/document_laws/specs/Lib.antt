@@ -16,3 +16,5 @@ pub mod Opening
 pub mod Around
 pub mod Ending
 pub mod Parts
+pub mod Paths
+pub mod Edited

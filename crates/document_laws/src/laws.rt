@@ -16,6 +16,8 @@ ghost use Rattle.document_laws.specs.Begun.{CallsBeginWithTheirToken};
 ghost use Rattle.document_laws.specs.Opening.{PiecesOpenAtTheirBraces};
 ghost use Rattle.document_laws.specs.Around.{TokensAreReplaced};
 ghost use Rattle.document_laws.specs.Ending.{RunsTakeNoMore, PiecesEndAtTheirTokens};
+ghost use Rattle.document_laws.specs.Edited.{EditedTreesAreParsed};
+ghost use Rattle.document_laws.specs.Paths.{CursorsOfEdits};
 ghost use Rattle.document_laws.specs.Tables.{RustSealsByCalls, RustLooksAreShort, ExactRulesAreSealed};
 
 use grammar_machine::laws::{calls_make_their_own, sealed_calls_leave_nothing};
@@ -165,4 +167,19 @@ pub fn tokens_are_replaced()
 pub fn pieces_end_at_their_tokens()
     ensures runs { RunsTakeNoMore }
     ensures pieces { PiecesEndAtTheirTokens }
+{}
+
+/// The node that `Document::edit` finds for an exact piece around an edit is a node of the tree, not
+/// its root, that begins with a token `{` and ends with a token `}`, if no node is of such a kind.
+/// The edit is between the braces, and the new text is the old one with the node's new text in the
+/// place of the old.
+pub fn cursors_of_edits()
+    ensures { CursorsOfEdits }
+{}
+
+/// Where a text of Rust with an exact piece is laid as before around another exact piece, the node of
+/// the tree that starts where the piece starts, if its first child is a token with a text, is the
+/// piece's, and with the tree of the other piece in its place the tree is that of the new text.
+pub fn edited_trees_are_parsed()
+    ensures { EditedTreesAreParsed }
 {}
