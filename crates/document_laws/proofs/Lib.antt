@@ -20,3 +20,4 @@ mod Begun
 mod Opening
 mod Around
 mod Ending
+mod Few

@@ -16,6 +16,7 @@ ghost use Rattle.document_laws.specs.Begun.{CallsBeginWithTheirToken};
 ghost use Rattle.document_laws.specs.Opening.{PiecesOpenAtTheirBraces};
 ghost use Rattle.document_laws.specs.Around.{TokensAreReplaced};
 ghost use Rattle.document_laws.specs.Ending.{RunsTakeNoMore, PiecesEndAtTheirTokens};
+ghost use Rattle.document_laws.specs.Few.{EventsAreFew, RustMakesFewEvents, ShortTextsMakeFewEvents};
 ghost use Rattle.document_laws.specs.Tables.{RustSealsByCalls, RustLooksAreShort, ExactRulesAreSealed};
 
 use grammar_machine::laws::{calls_make_their_own, sealed_calls_leave_nothing};
@@ -165,4 +166,12 @@ pub fn tokens_are_replaced()
 pub fn pieces_end_at_their_tokens()
     ensures runs { RunsTakeNoMore }
     ensures pieces { PiecesEndAtTheirTokens }
+{}
+
+/// A run makes no more than 2,403 events for each of its tokens, and some at their end. So those of
+/// a text of Rust of up to 1,787,335 bytes, and one more, have numbers of 32 bits.
+pub fn rust_makes_few_events()
+    ensures runs { EventsAreFew }
+    ensures rust { RustMakesFewEvents }
+    ensures short { ShortTextsMakeFewEvents }
 {}
