@@ -21,3 +21,6 @@ mod Opening
 mod Around
 mod Ending
 mod Few
+mod Inside
+mod Erring
+mod Faults

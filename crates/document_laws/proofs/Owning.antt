@@ -1,5 +1,5 @@
 -- The events that the sealed call of a node made by itself.
-use Rattle.std.proofs.Common.{◌≡◌, ℕ, suc, ◌+◌, ◌-◌, ◌<◌, ◌≤◌, ◌^◌, Bool, true, false, if◌then◌else◌, List, [], ◌∷◌, ◌++◌, length, take, drop, ap, ◌∙◌, refl, subst, sym, arith, append_assoc}
+use Rattle.std.proofs.Common.{◌≡◌, ℕ, suc, ◌+◌, ◌<◌, ◌≤◌, ◌^◌, Bool, true, false, if◌then◌else◌, List, [], ◌∷◌, ◌++◌, length, take, drop, ap, ◌∙◌, refl, subst, sym, arith, append_assoc}
 use Rattle.std.specs.Prelude.{slice_get, reverse, All, IsUtf8, ◌==◌}
 use Rattle.std.proofs.lemmas.List.{reverse-append, reverse-reverse, map-append, length-append, length-reverse}
 use Rattle.std.proofs.lemmas.Option.{slice_get_within}

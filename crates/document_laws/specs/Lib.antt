@@ -17,3 +17,5 @@ pub mod Around
 pub mod Ending
 pub mod Parts
 pub mod Few
+pub mod Inside
+pub mod Faults

@@ -16,6 +16,8 @@ ghost use Rattle.document_laws.specs.Begun.{CallsBeginWithTheirToken};
 ghost use Rattle.document_laws.specs.Opening.{PiecesOpenAtTheirBraces};
 ghost use Rattle.document_laws.specs.Around.{TokensAreReplaced};
 ghost use Rattle.document_laws.specs.Ending.{RunsTakeNoMore, PiecesEndAtTheirTokens};
+ghost use Rattle.document_laws.specs.Inside.{PiecesErrInside};
+ghost use Rattle.document_laws.specs.Faults.{ParserErrorsAreReplaced, PiecesShiftTheRest};
 ghost use Rattle.document_laws.specs.Few.{EventsAreFew, RustMakesFewEvents, ShortTextsMakeFewEvents};
 ghost use Rattle.document_laws.specs.Tables.{RustSealsByCalls, RustLooksAreShort, ExactRulesAreSealed};
 
@@ -174,4 +176,18 @@ pub fn rust_makes_few_events()
     ensures runs { EventsAreFew }
     ensures rust { RustMakesFewEvents }
     ensures short { ShortTextsMakeFewEvents }
+{}
+
+/// The errors that the parser finds in an exact piece of Rust by itself are behind its first byte
+/// and before its last one, and a token of the piece comes behind each.
+pub fn pieces_err_inside()
+    ensures { PiecesErrInside }
+{}
+
+/// The parser's errors of a text of Rust in which an exact piece was replaced, and around which the
+/// text is laid as before: those that `Document::edit` puts in order are those of the new text, with
+/// their messages. What is behind the piece moves by as much as the piece grows.
+pub fn parser_errors_are_replaced()
+    ensures errors { ParserErrorsAreReplaced }
+    ensures rest { PiecesShiftTheRest }
 {}
