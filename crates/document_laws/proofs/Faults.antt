@@ -43,7 +43,7 @@ use Rattle.rust_front.specs.Roots.{attaching_kinds}
 use Rattle.ras_parsing.specs.Edit.{Edit}
 use Rattle.ras_parsing.specs.Reparse.{moved, shifted}
 use Rattle.ras_parsing.specs.Document.{earlier_fault, later_fault}
-use Rattle.document_laws.specs.Faults.{ParserErrorsAreReplaced, PiecesShiftTheRest}
+use Rattle.document_laws.specs.Faults.{ParserErrorsAreReplaced}
 use Rattle.document_laws.specs.Inside.{IsInside}
 use Rattle.document_laws.specs.Parts.{with_tokens, IsInParts}
 use Rattle.document_laws.proofs.Erring.{part_len, closed_part, errs_inside}
@@ -75,7 +75,7 @@ reading_faults root text ts errors es small cut =
     ∙ ap (λ (l : List Fault). l ++ step_faults (map (report_by (say_of ts)) s.faults)) (laid_tree root attaching_kinds text ts es small cut).no_faults
     ∙ reported ts s.faults
 
-parsed_is : (e : Edition) (text : List ℕ) → length text < 2 ^ 32
+pub parsed_is : (e : Edition) (text : List ℕ) → length text < 2 ^ 32
     → parsed_of SourceFile e text ≡ reading_with (kinds.Node node.SOURCE_FILE) text (tokens_of e text) (errors_of e text) (made_of rule.SourceFile e text)
 unfolding parsed_of
 parsed_is e text small =
@@ -345,6 +345,3 @@ errors_replaced e a w q c ts us k r was now edit i x y d chosen few few_new shif
   where
     swap : (m n : ℕ) → m + n ≡ n + m
     swap m n = omega arith
-
-pub rest_shifted : PiecesShiftTheRest
-rest_shifted a w q edit e less n = omega (arith, e, less, length-append a w, length-append a q)

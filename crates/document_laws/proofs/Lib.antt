@@ -24,3 +24,4 @@ mod Few
 mod Inside
 mod Erring
 mod Faults
+mod Errors

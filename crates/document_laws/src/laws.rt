@@ -17,7 +17,7 @@ ghost use Rattle.document_laws.specs.Opening.{PiecesOpenAtTheirBraces};
 ghost use Rattle.document_laws.specs.Around.{TokensAreReplaced};
 ghost use Rattle.document_laws.specs.Ending.{RunsTakeNoMore, PiecesEndAtTheirTokens};
 ghost use Rattle.document_laws.specs.Inside.{PiecesErrInside};
-ghost use Rattle.document_laws.specs.Faults.{ParserErrorsAreReplaced, PiecesShiftTheRest};
+ghost use Rattle.document_laws.specs.Faults.{ParserErrorsAreReplaced, PiecesShiftTheRest, ErrorsAreReplaced};
 ghost use Rattle.document_laws.specs.Few.{EventsAreFew, RustMakesFewEvents, ShortTextsMakeFewEvents};
 ghost use Rattle.document_laws.specs.Tables.{RustSealsByCalls, RustLooksAreShort, ExactRulesAreSealed};
 
@@ -186,8 +186,10 @@ pub fn pieces_err_inside()
 
 /// The parser's errors of a text of Rust in which an exact piece was replaced, and around which the
 /// text is laid as before: those that `Document::edit` puts in order are those of the new text, with
-/// their messages. What is behind the piece moves by as much as the piece grows.
+/// their messages. What is behind the piece moves by as much as the piece grows. With the lexer's
+/// errors these are all that a parse stores, if none of the lexer's is behind the piece.
 pub fn parser_errors_are_replaced()
-    ensures errors { ParserErrorsAreReplaced }
+    ensures parser { ParserErrorsAreReplaced }
     ensures rest { PiecesShiftTheRest }
+    ensures all { ErrorsAreReplaced }
 {}
