@@ -24,3 +24,8 @@ mod Pathing
 mod Beside
 mod Inner
 mod Editing
+mod Few
+mod Inside
+mod Erring
+mod Faults
+mod Errors

@@ -18,3 +18,6 @@ pub mod Ending
 pub mod Parts
 pub mod Paths
 pub mod Edited
+pub mod Few
+pub mod Inside
+pub mod Faults
