@@ -20,3 +20,7 @@ mod Begun
 mod Opening
 mod Around
 mod Ending
+mod Fitting
+mod Once
+mod Braces
+mod Setting

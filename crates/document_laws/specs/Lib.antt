@@ -16,3 +16,4 @@ pub mod Opening
 pub mod Around
 pub mod Ending
 pub mod Parts
+pub mod Setting
