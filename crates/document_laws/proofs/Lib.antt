@@ -29,3 +29,7 @@ mod Inside
 mod Erring
 mod Faults
 mod Errors
+mod Fitting
+mod Once
+mod Braces
+mod Setting

@@ -21,3 +21,4 @@ pub mod Edited
 pub mod Few
 pub mod Inside
 pub mod Faults
+pub mod Setting

@@ -21,9 +21,11 @@ ghost use Rattle.document_laws.specs.Paths.{CursorsOfEdits};
 ghost use Rattle.document_laws.specs.Inside.{PiecesErrInside};
 ghost use Rattle.document_laws.specs.Faults.{ParserErrorsAreReplaced, PiecesShiftTheRest, ErrorsAreReplaced};
 ghost use Rattle.document_laws.specs.Few.{EventsAreFew, RustMakesFewEvents, ShortTextsMakeFewEvents};
+ghost use Rattle.document_laws.specs.Setting.{PiecesAreLaidAround};
 ghost use Rattle.document_laws.specs.Tables.{RustSealsByCalls, RustLooksAreShort, ExactRulesAreSealed};
 
 use grammar_machine::laws::{calls_make_their_own, sealed_calls_leave_nothing};
+use lexer_laws::laws::plain_texts_have_no_head;
 
 /// Where some of the events that build a tree build one node by themselves, this node is in the
 /// tree, and starts where the events before have taken their texts. With the events of any other
@@ -210,3 +212,11 @@ pub fn parser_errors_are_replaced()
     ensures rest { PiecesShiftTheRest }
     ensures all { ErrorsAreReplaced }
 {}
+/// A text of Rust in which an exact piece is replaced by another one is laid around it as before,
+/// and each of the two pieces as by itself; and the new text's tokens are those of its parts.
+pub fn pieces_are_laid_around()
+    ensures { PiecesAreLaidAround }
+{
+    calls_make_their_own();
+    plain_texts_have_no_head();
+}
