@@ -24,3 +24,5 @@ mod Pathing
 mod Beside
 mod Inner
 mod Editing
+mod Kinds
+mod Filing

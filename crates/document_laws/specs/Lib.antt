@@ -18,3 +18,4 @@ pub mod Ending
 pub mod Parts
 pub mod Paths
 pub mod Edited
+pub mod Kinds
