@@ -26,3 +26,8 @@ mod Inner
 mod Editing
 mod Kinds
 mod Filing
+mod Few
+mod Inside
+mod Erring
+mod Faults
+mod Errors

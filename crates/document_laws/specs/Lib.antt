@@ -19,3 +19,6 @@ pub mod Parts
 pub mod Paths
 pub mod Edited
 pub mod Kinds
+pub mod Few
+pub mod Inside
+pub mod Faults

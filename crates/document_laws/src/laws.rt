@@ -19,6 +19,9 @@ ghost use Rattle.document_laws.specs.Ending.{RunsTakeNoMore, PiecesEndAtTheirTok
 ghost use Rattle.document_laws.specs.Edited.{EditedTreesAreParsed};
 ghost use Rattle.document_laws.specs.Kinds.{NodesHaveTheirKinds, FilesHaveTheirKinds, CursorsOfFiles};
 ghost use Rattle.document_laws.specs.Paths.{CursorsOfEdits};
+ghost use Rattle.document_laws.specs.Inside.{PiecesErrInside};
+ghost use Rattle.document_laws.specs.Faults.{ParserErrorsAreReplaced, PiecesShiftTheRest, ErrorsAreReplaced};
+ghost use Rattle.document_laws.specs.Few.{EventsAreFew, RustMakesFewEvents, ShortTextsMakeFewEvents};
 ghost use Rattle.document_laws.specs.Tables.{RustSealsByCalls, RustLooksAreShort, ExactRulesAreSealed};
 
 use grammar_machine::laws::{calls_make_their_own, sealed_calls_leave_nothing};
@@ -191,4 +194,28 @@ pub fn files_have_their_kinds()
     ensures runs { NodesHaveTheirKinds }
     ensures files { FilesHaveTheirKinds }
     ensures cursors { CursorsOfFiles }
+{}
+
+/// A run makes no more than 2,403 events for each of its tokens, and some at their end. So those of
+/// a text of Rust of up to 1,787,335 bytes, and one more, have numbers of 32 bits.
+pub fn rust_makes_few_events()
+    ensures runs { EventsAreFew }
+    ensures rust { RustMakesFewEvents }
+    ensures short { ShortTextsMakeFewEvents }
+{}
+
+/// The errors that the parser finds in an exact piece of Rust by itself are behind its first byte
+/// and before its last one, and a token of the piece comes behind each.
+pub fn pieces_err_inside()
+    ensures { PiecesErrInside }
+{}
+
+/// The parser's errors of a text of Rust in which an exact piece was replaced, and around which the
+/// text is laid as before: those that `Document::edit` puts in order are those of the new text, with
+/// their messages. What is behind the piece moves by as much as the piece grows. With the lexer's
+/// errors these are all that a parse stores, if none of the lexer's is behind the piece.
+pub fn parser_errors_are_replaced()
+    ensures parser { ParserErrorsAreReplaced }
+    ensures rest { PiecesShiftTheRest }
+    ensures all { ErrorsAreReplaced }
 {}
