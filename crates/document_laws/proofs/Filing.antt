@@ -19,10 +19,10 @@ use Rattle.rust_grammar.specs.Tables.{rust_tables}
 use Rattle.rust_lexer.specs.Lexing.{tokens_of}
 use Rattle.rust_lexer.proofs.Kept.{lexed}
 use Rattle.rust_front.specs.Roots.{attaching_kinds}
-use Rattle.document_laws.specs.Kinds.{is_brace, IsFile, FilesHaveTheirKinds, CursorsOfFiles}
+use Rattle.document_laws.specs.FileKinds.{is_brace, IsFile, FilesHaveTheirKinds, CursorsOfFiles}
 use Rattle.document_laws.specs.Nodes.{IsOfEvent}
 use Rattle.document_laws.specs.Pieces.{events_in}
-use Rattle.document_laws.proofs.Kinds.{nodes_other, rust_makes_none}
+use Rattle.document_laws.proofs.Kinding.{nodes_other, rust_makes_none}
 use Rattle.document_laws.proofs.Noding.{nodes_of_events}
 use Rattle.document_laws.proofs.Pathing.{cursors_found}
 use Rattle.document_laws.proofs.Piecing.{laid_in, laid_tree}

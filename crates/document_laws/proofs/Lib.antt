@@ -24,7 +24,7 @@ mod Pathing
 mod Beside
 mod Inner
 mod Editing
-mod Kinds
+mod Kinding
 mod Filing
 mod Few
 mod Inside

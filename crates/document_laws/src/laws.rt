@@ -17,7 +17,7 @@ ghost use Rattle.document_laws.specs.Opening.{PiecesOpenAtTheirBraces};
 ghost use Rattle.document_laws.specs.Around.{TokensAreReplaced};
 ghost use Rattle.document_laws.specs.Ending.{RunsTakeNoMore, PiecesEndAtTheirTokens};
 ghost use Rattle.document_laws.specs.Edited.{EditedTreesAreParsed};
-ghost use Rattle.document_laws.specs.Kinds.{NodesHaveTheirKinds, FilesHaveTheirKinds, CursorsOfFiles};
+ghost use Rattle.document_laws.specs.FileKinds.{NodesHaveTheirKinds, FilesHaveTheirKinds, CursorsOfFiles};
 ghost use Rattle.document_laws.specs.Paths.{CursorsOfEdits};
 ghost use Rattle.document_laws.specs.Inside.{PiecesErrInside};
 ghost use Rattle.document_laws.specs.Faults.{ParserErrorsAreReplaced, PiecesShiftTheRest, ErrorsAreReplaced};

@@ -1,4 +1,4 @@
-use Rattle.document_laws.proofs.Kinds.{nodes_other}
+use Rattle.document_laws.proofs.Kinding.{nodes_other}
 use Rattle.document_laws.proofs.Filing.{files_kinds, files_cursors}
 use Rattle.document_laws.proofs.laws.files_have_their_kinds.Goals as goal
 

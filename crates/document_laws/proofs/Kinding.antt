@@ -15,7 +15,7 @@ use Rattle.grammar_machine.specs.declared.grammar.Op.TheVariants as op
 use Rattle.grammar_machine.specs.Running.{Tables, Stacks, State, operator_view_of, here_of, mark_of, rest_of, node_of, longer_of, make_of, forget_of, extended_on, with_place, with_made, resume_of, left_of, return_of, answer_of, take_on, part_of, piece_on, sealed_on, past_of, obey_of, step_on, runs, run_of, fuel_of, begin_of, events_of}
 use Rattle.grammar_machine.proofs.Running.{runs-none, runs-suc, step-at}
 use Rattle.rust_grammar.specs.Tables.{rust_tables}
-use Rattle.document_laws.specs.Kinds.{makes_kind, NodesHaveTheirKinds, is_brace}
+use Rattle.document_laws.specs.FileKinds.{makes_kind, NodesHaveTheirKinds, is_brace}
 use Rattle.document_laws.proofs.Calling.{Place, Frame, Seal}
 use Rattle.document_laws.proofs.Tabling.{passes}
 
