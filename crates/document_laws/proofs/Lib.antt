@@ -24,6 +24,8 @@ mod Pathing
 mod Beside
 mod Inner
 mod Editing
+mod Kinding
+mod Filing
 mod Few
 mod Inside
 mod Erring

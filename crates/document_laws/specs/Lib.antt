@@ -18,6 +18,7 @@ pub mod Ending
 pub mod Parts
 pub mod Paths
 pub mod Edited
+pub mod FileKinds
 pub mod Few
 pub mod Inside
 pub mod Faults

@@ -17,6 +17,7 @@ ghost use Rattle.document_laws.specs.Opening.{PiecesOpenAtTheirBraces};
 ghost use Rattle.document_laws.specs.Around.{TokensAreReplaced};
 ghost use Rattle.document_laws.specs.Ending.{RunsTakeNoMore, PiecesEndAtTheirTokens};
 ghost use Rattle.document_laws.specs.Edited.{EditedTreesAreParsed};
+ghost use Rattle.document_laws.specs.FileKinds.{NodesHaveTheirKinds, FilesHaveTheirKinds, CursorsOfFiles};
 ghost use Rattle.document_laws.specs.Paths.{CursorsOfEdits};
 ghost use Rattle.document_laws.specs.Inside.{PiecesErrInside};
 ghost use Rattle.document_laws.specs.Faults.{ParserErrorsAreReplaced, PiecesShiftTheRest, ErrorsAreReplaced};
@@ -187,6 +188,14 @@ pub fn cursors_of_edits()
 /// piece's, and with the tree of the other piece in its place the tree is that of the new text.
 pub fn edited_trees_are_parsed()
     ensures { EditedTreesAreParsed }
+{}
+
+/// A run makes no node of a kind of which no operation of the tables makes one. So no node of the tree
+/// of a file of Rust is of the kind of a brace; the root is a source file, and the tree has the text.
+pub fn files_have_their_kinds()
+    ensures runs { NodesHaveTheirKinds }
+    ensures files { FilesHaveTheirKinds }
+    ensures cursors { CursorsOfFiles }
 {}
 
 /// A run makes no more than 2,403 events for each of its tokens, and some at their end. So those of
