@@ -24,3 +24,5 @@ mod Fitting
 mod Once
 mod Braces
 mod Setting
+mod Textual
+mod Parting
