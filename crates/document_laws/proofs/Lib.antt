@@ -35,3 +35,5 @@ mod Fitting
 mod Once
 mod Braces
 mod Setting
+mod Textual
+mod Parting

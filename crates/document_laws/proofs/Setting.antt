@@ -64,7 +64,7 @@ head_moved : HeadsEndBeforeBraces → (a w q c r s : List ℕ) → w ≡ 123 ∷
 head_moved law a w q c r s h k =
     ap (λ (t : List ℕ). may_have_head (a ++ (t ++ c))) h ∙ law a (r ++ c) (s ++ c) 123 (inl refl) ∙ sym (ap (λ (t : List ℕ). may_have_head (a ++ (t ++ c))) k)
 
-bytes_in : {e : Edition} {w : List ℕ} {k : SyntaxKind} {r : Reparser} {reading : _} → IsExactPiece e w k r reading → bytes_of (tokens_of e w) ≡ length w
+pub bytes_in : {e : Edition} {w : List ℕ} {k : SyntaxKind} {r : Reparser} {reading : _} → IsExactPiece e w k r reading → bytes_of (tokens_of e w) ≡ length w
 bytes_in {e} {w} x = bytes_are (tokens_of e w) ∙ cut_sum (tokens_of e w) w x.alone.cut
 
 -- the text with the new piece is in parts, too

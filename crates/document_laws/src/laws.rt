@@ -23,6 +23,7 @@ ghost use Rattle.document_laws.specs.Inside.{PiecesErrInside};
 ghost use Rattle.document_laws.specs.Faults.{ParserErrorsAreReplaced, PiecesShiftTheRest, ErrorsAreReplaced};
 ghost use Rattle.document_laws.specs.Few.{EventsAreFew, RustMakesFewEvents, ShortTextsMakeFewEvents};
 ghost use Rattle.document_laws.specs.Setting.{PiecesAreLaidAround};
+ghost use Rattle.document_laws.specs.Setting.{PiecesAreInParts, PiecesAreLaidAround};
 ghost use Rattle.document_laws.specs.Tables.{RustSealsByCalls, RustLooksAreShort, ExactRulesAreSealed};
 
 use grammar_machine::laws::{calls_make_their_own, sealed_calls_leave_nothing};
@@ -221,6 +222,17 @@ pub fn parser_errors_are_replaced()
     ensures rest { PiecesShiftTheRest }
     ensures all { ErrorsAreReplaced }
 {}
+/// Where the front end reads the text of a node of a file's tree, which begins with `{`, as an exact
+/// piece, the file's text is in parts around it: the tokens of the file are those before it, those
+/// that the piece has by itself, and those behind it.
+pub fn pieces_are_in_parts()
+    ensures { PiecesAreInParts }
+{
+    calls_make_their_own();
+    sealed_calls_leave_nothing();
+    plain_texts_have_no_head();
+}
+
 /// A text of Rust in which an exact piece is replaced by another one is laid around it as before,
 /// and each of the two pieces as by itself; and the new text's tokens are those of its parts.
 pub fn pieces_are_laid_around()
