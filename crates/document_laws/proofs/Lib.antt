@@ -37,3 +37,4 @@ mod Braces
 mod Setting
 mod Textual
 mod Parting
+mod Exactly

@@ -23,3 +23,4 @@ pub mod Few
 pub mod Inside
 pub mod Faults
 pub mod Setting
+pub mod Exactly

@@ -21,6 +21,7 @@ ghost use Rattle.document_laws.specs.FileKinds.{NodesHaveTheirKinds, FilesHaveTh
 ghost use Rattle.document_laws.specs.Paths.{CursorsOfEdits};
 ghost use Rattle.document_laws.specs.Inside.{PiecesErrInside};
 ghost use Rattle.document_laws.specs.Faults.{ParserErrorsAreReplaced, PiecesShiftTheRest, ErrorsAreReplaced};
+ghost use Rattle.document_laws.specs.Exactly.{RustReadsExactly};
 ghost use Rattle.document_laws.specs.Few.{EventsAreFew, RustMakesFewEvents, ShortTextsMakeFewEvents};
 ghost use Rattle.document_laws.specs.Setting.{PiecesAreLaidAround};
 ghost use Rattle.document_laws.specs.Setting.{PiecesAreInParts, PiecesAreLaidAround};
@@ -222,6 +223,7 @@ pub fn parser_errors_are_replaced()
     ensures rest { PiecesShiftTheRest }
     ensures all { ErrorsAreReplaced }
 {}
+
 /// Where the front end reads the text of a node of a file's tree, which begins with `{`, as an exact
 /// piece, the file's text is in parts around it: the tokens of the file are those before it, those
 /// that the piece has by itself, and those behind it.
@@ -239,5 +241,16 @@ pub fn pieces_are_laid_around()
     ensures { PiecesAreLaidAround }
 {
     calls_make_their_own();
+    plain_texts_have_no_head();
+}
+
+/// The front end for Rust reads the pieces of every text as in the text. So where a `Document` was
+/// read anew once, its parse after any number of edits is the parse of its text: the same tree, and
+/// the same errors in the same order (`exact` of `Document::edit`).
+pub fn rust_reads_exactly()
+    ensures { RustReadsExactly }
+{
+    calls_make_their_own();
+    sealed_calls_leave_nothing();
     plain_texts_have_no_head();
 }
