@@ -20,6 +20,15 @@ mod Begun
 mod Opening
 mod Around
 mod Ending
+mod Pathing
+mod Beside
+mod Inner
+mod Editing
+mod Few
+mod Inside
+mod Erring
+mod Faults
+mod Errors
 mod Fitting
 mod Once
 mod Braces

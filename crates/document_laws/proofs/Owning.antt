@@ -1,5 +1,5 @@
 -- The events that the sealed call of a node made by itself.
-use Rattle.std.proofs.Common.{◌≡◌, ℕ, suc, ◌+◌, ◌-◌, ◌<◌, ◌≤◌, ◌^◌, Bool, true, false, if◌then◌else◌, List, [], ◌∷◌, ◌++◌, length, take, drop, ap, ◌∙◌, refl, subst, sym, arith, append_assoc}
+use Rattle.std.proofs.Common.{◌≡◌, ℕ, suc, ◌+◌, ◌<◌, ◌≤◌, ◌^◌, Bool, true, false, if◌then◌else◌, List, [], ◌∷◌, ◌++◌, length, take, drop, ap, ◌∙◌, refl, subst, sym, arith, append_assoc}
 use Rattle.std.specs.Prelude.{slice_get, reverse, All, IsUtf8, ◌==◌}
 use Rattle.std.proofs.lemmas.List.{reverse-append, reverse-reverse, map-append, length-append, length-reverse}
 use Rattle.std.proofs.lemmas.Option.{slice_get_within}
@@ -84,7 +84,7 @@ own_call law g ts rule k from es c looks short few =
 
 -- ---- a text of Rust
 
-few_sights : (e : Edition) (text : List ℕ) (ts : List RawToken) → length (sights_of e text ts) ≤ length ts
+pub few_sights : (e : Edition) (text : List ℕ) (ts : List RawToken) → length (sights_of e text ts) ≤ length ts
 few_sights e text [] = omega arith
 few_sights e text (t ∷ ts) =
     let one : List Sight = seen_of e (take t.len text) (number_of t.kind) (number_on (slice_get ts 0)) (number_on (slice_get ts 1)) in
@@ -94,7 +94,7 @@ few_sights e text (t ∷ ts) =
     by true = omega arith
     by false = omega arith
 
-few_tokens : (ts : List RawToken) → All HasBytes ts → length ts ≤ sum_len ts
+pub few_tokens : (ts : List RawToken) → All HasBytes ts → length ts ≤ sum_len ts
 few_tokens [] h = omega arith
 few_tokens (t ∷ ts) h = omega (arith, All-head HasBytes t ts h, few_tokens ts (All-tail HasBytes t ts h))
 

@@ -16,4 +16,9 @@ pub mod Opening
 pub mod Around
 pub mod Ending
 pub mod Parts
+pub mod Paths
+pub mod Edited
+pub mod Few
+pub mod Inside
+pub mod Faults
 pub mod Setting

@@ -16,6 +16,11 @@ ghost use Rattle.document_laws.specs.Begun.{CallsBeginWithTheirToken};
 ghost use Rattle.document_laws.specs.Opening.{PiecesOpenAtTheirBraces};
 ghost use Rattle.document_laws.specs.Around.{TokensAreReplaced};
 ghost use Rattle.document_laws.specs.Ending.{RunsTakeNoMore, PiecesEndAtTheirTokens};
+ghost use Rattle.document_laws.specs.Edited.{EditedTreesAreParsed};
+ghost use Rattle.document_laws.specs.Paths.{CursorsOfEdits};
+ghost use Rattle.document_laws.specs.Inside.{PiecesErrInside};
+ghost use Rattle.document_laws.specs.Faults.{ParserErrorsAreReplaced, PiecesShiftTheRest, ErrorsAreReplaced};
+ghost use Rattle.document_laws.specs.Few.{EventsAreFew, RustMakesFewEvents, ShortTextsMakeFewEvents};
 ghost use Rattle.document_laws.specs.Setting.{PiecesAreInParts, PiecesAreLaidAround};
 ghost use Rattle.document_laws.specs.Tables.{RustSealsByCalls, RustLooksAreShort, ExactRulesAreSealed};
 
@@ -167,6 +172,45 @@ pub fn tokens_are_replaced()
 pub fn pieces_end_at_their_tokens()
     ensures runs { RunsTakeNoMore }
     ensures pieces { PiecesEndAtTheirTokens }
+{}
+
+/// The node that `Document::edit` finds for an exact piece around an edit is a node of the tree, not
+/// its root, that begins with a token `{` and ends with a token `}`, if no node is of such a kind.
+/// The edit is between the braces, and the new text is the old one with the node's new text in the
+/// place of the old.
+pub fn cursors_of_edits()
+    ensures { CursorsOfEdits }
+{}
+
+/// Where a text of Rust with an exact piece is laid as before around another exact piece, the node of
+/// the tree that starts where the piece starts, if its first child is a token with a text, is the
+/// piece's, and with the tree of the other piece in its place the tree is that of the new text.
+pub fn edited_trees_are_parsed()
+    ensures { EditedTreesAreParsed }
+{}
+
+/// A run makes no more than 2,403 events for each of its tokens, and some at their end. So those of
+/// a text of Rust of up to 1,787,335 bytes, and one more, have numbers of 32 bits.
+pub fn rust_makes_few_events()
+    ensures runs { EventsAreFew }
+    ensures rust { RustMakesFewEvents }
+    ensures short { ShortTextsMakeFewEvents }
+{}
+
+/// The errors that the parser finds in an exact piece of Rust by itself are behind its first byte
+/// and before its last one, and a token of the piece comes behind each.
+pub fn pieces_err_inside()
+    ensures { PiecesErrInside }
+{}
+
+/// The parser's errors of a text of Rust in which an exact piece was replaced, and around which the
+/// text is laid as before: those that `Document::edit` puts in order are those of the new text, with
+/// their messages. What is behind the piece moves by as much as the piece grows. With the lexer's
+/// errors these are all that a parse stores, if none of the lexer's is behind the piece.
+pub fn parser_errors_are_replaced()
+    ensures parser { ParserErrorsAreReplaced }
+    ensures rest { PiecesShiftTheRest }
+    ensures all { ErrorsAreReplaced }
 {}
 
 /// Where the front end reads the text of a node of a file's tree, which begins with `{`, as an exact

@@ -1,13 +1,13 @@
 -- What is laid takes the text up to the position.
-use Rattle.std.proofs.Common.{◌≡◌, ℕ, zero, suc, ◌+◌, ◌-◌, ◌<◌, ◌^◌, min, Bool, true, false, nat_lt, nat_eq, if◌then◌else◌, List, [], ◌∷◌, ◌++◌, take, drop, ap, ◌∙◌, refl, arith, subst, sym, Option, Some, None}
+use Rattle.std.proofs.Common.{◌≡◌, ℕ, zero, suc, ◌+◌, ◌-◌, ◌^◌, min, Bool, true, false, nat_lt, nat_eq, if◌then◌else◌, List, [], ◌∷◌, ◌++◌, take, drop, arith, Option, Some, None}
 use Rattle.std.specs.Prelude.{position}
 use Rattle.syntax_kind.specs.declared.syntax_kind.SyntaxKind.{SyntaxKind}
 use Rattle.ras_front_end.specs.Reading.{FrontStep, begins, takes, ends, reports}
 use Rattle.token_layout.specs.declared.span.Token.{Token as RawToken}
 use Rattle.grammar_machine.specs.declared.event.Part.{Part}
 use Rattle.event_layout.specs.Trivia.{lead, later_of, part_of, outside_of}
-use Rattle.event_layout.specs.Layout.{Laying, leaf_of, pass_on, pass_of, pass_all_of, pass_trivia_of, joined_len, join_on, len_of_part, kind_of_part, cut_at, piece_on, enter_of, exit_of, begin_with}
-use Rattle.event_layout.specs.Orders.{Order, begin_node, take_joined, take_part, end_node, say, nothing, ordered, walked, begun_at}
+use Rattle.event_layout.specs.Layout.{Laying, leaf_of, pass_on, pass_all_of, pass_trivia_of, joined_len, join_on, len_of_part, kind_of_part, cut_at, piece_on, enter_of, exit_of}
+use Rattle.event_layout.specs.Orders.{Order, begin_node, take_joined, take_part, end_node, say, nothing, ordered, walked}
 use Rattle.event_layout.specs.Filled.{bytes_taken}
 
 bytes_both : (xs ys : List FrontStep) → bytes_taken (xs ++ ys) ≡ bytes_taken xs + bytes_taken ys

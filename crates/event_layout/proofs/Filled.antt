@@ -23,6 +23,7 @@ use Rattle.event_layout.proofs.Walking.{one_node}
 use Rattle.event_layout.proofs.Ordering.{bare, walked_bare, pass_all_bare, walked_both, layouts_ordered}
 use Rattle.event_layout.proofs.Bytes.{Took, pass_all_took, walked_took}
 use Rattle.event_layout.proofs.Amid.{lead_none, lead_le, lead_both, passed_rest, passed_depth, pass_all_fits, walked_fits, pass_all_in, finish_amid, walked_amid}
+use Rattle.event_layout.proofs.Said.{Said, said_twice, pass_all_said, walked_said, finish_said, said_before, said_behind}
 use Rattle.event_layout.proofs.Turning.{NodeIn, Within, turns_both, turns_within, turns_length, none_at, turns_before, turns_inside, turns_behind, orders_before, orders_at, orders_inside, orders_behind, filled_orders, alone_orders}
 use Rattle.event_layout.proofs.Staying.{begun, ended, begun_all, begun_both, begun_few, begun_zero, ended_both, kinds_few, Leaves, leaves_past, some_left, enter_is, exit_is, begins_rest, begins_le, orders_le, easy_stay, begins_stay, Ready, Stayed, stays, ready_easy}
 
@@ -476,6 +477,26 @@ module _ (root : SyntaxKind) (attaching : List SyntaxKind) (s : Setting) (h : Is
         ∙ append_assoc x (faults_amid (length s.before.text) (length s.behind.tokens) piece_state.faults) z
         ∙ ap (λ fs. x ++ (faults_amid (length s.before.text) (length s.behind.tokens) fs ++ z)) (sym laid_by_itself.faults)
 
+    pub lie_before_filled : All (λ f. f.position ≤ length s.before.text) before_state.faults
+    lie_before_filled =
+        let start = begun_at root s.before.tokens in
+        let one : Said start first_state =
+        walked_said s.before.text small_before attaching (orders_before s.before.events s.behind.events) start first_fits in
+        let two : Said first_state at_state =
+        walked_said s.before.text small_before attaching (orders_at s.before.events s.behind.events) first_state second_fits in
+        let three : Said at_state before_state = pass_all_said s.before.text small_before (lead at_state.rest) at_state at_fits in
+        said_before start before_state (length s.before.text) refl
+        (said_twice start at_state before_state (said_twice start first_state at_state one two) three) (omega (arith, before_over.position))
+
+    pub lie_behind_filled : All (λ f. f.left ≤ length s.behind.tokens) last_state.faults
+    lie_behind_filled =
+        let small : length s.behind.text < 2 ^ 32 = omega (arith, text_sum) in
+        let os = orders_behind s.before.events s.behind.events in
+        let fits = walked_fits s.behind.text small attaching os behind_start behind_fits in
+        said_behind behind_start last_state refl
+        (said_twice behind_start behind_state last_state (walked_said s.behind.text small attaching os behind_start behind_fits)
+        (finish_said s.behind.text small behind_state fits))
+
   pub pieces_laid : LaidAround root attaching s
   pieces_laid = record {
     before = before_state.steps;
@@ -485,4 +506,6 @@ module _ (root : SyntaxKind) (attaching : List SyntaxKind) (s : Setting) (h : Is
     bytes = bytes_filled;
     steps = steps_filled;
     faults = faults_filled;
+    lie_before = lie_before_filled;
+    lie_behind = lie_behind_filled;
   }

@@ -12,6 +12,7 @@ pub mod Amid
 pub mod Turning
 pub mod Staying
 pub mod Bytes
+pub mod Said
 pub mod Filled
 pub mod Inserting
 pub mod Taking

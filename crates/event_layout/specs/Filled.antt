@@ -1,6 +1,6 @@
 -- A piece of a text is laid in its place as it is laid by itself, and what is around it as if any
 -- other piece were there: laws of the definitions.
-use Rattle.std.specs.Prelude.{◌≡◌, ℕ, ◌+◌, ◌-◌, ◌<◌, ◌^◌, nat_le, Bool, true, false, if◌then◌else◌, Option, Some, None, option_map, option_and_then, List, [], ◌∷◌, ◌++◌, map, length, drop, reverse, All}
+use Rattle.std.specs.Prelude.{◌≡◌, ℕ, ◌+◌, ◌-◌, ◌≤◌, ◌<◌, ◌^◌, nat_le, Bool, true, false, if◌then◌else◌, Option, Some, None, option_map, option_and_then, List, [], ◌∷◌, ◌++◌, map, length, drop, reverse, All}
 use Rattle.syntax_kind.specs.declared.syntax_kind.SyntaxKind.{SyntaxKind}
 use Rattle.ras_front_end.specs.Reading.{FrontStep, begins, takes, ends, reports}
 use Rattle.token_layout.specs.declared.span.Token.{Token as RawToken}
@@ -132,6 +132,11 @@ pub record LaidAround (root : SyntaxKind) (attaching : List SyntaxKind) (s : Set
       ++ (faults_amid (length s.before.text) (length s.behind.tokens)
       (laid s.kind attaching (alone s.kind p)).faults
       ++ faults_amid (length (s.before.text ++ p.text)) 0 faults_behind)
+  -- the errors before it are in the text before it, and those behind it among the tokens behind it
+  pub lie_before : (p : Stretch) → IsPiece p → IsShort (set_in s p)
+      → All (λ f. f.position ≤ length s.before.text) faults_before
+  pub lie_behind : (p : Stretch) → IsPiece p → IsShort (set_in s p)
+      → All (λ f. f.left ≤ length s.behind.tokens) faults_behind
 
 abbrev pub PiecesAreLaidInPlace : Type 0
 PiecesAreLaidInPlace =

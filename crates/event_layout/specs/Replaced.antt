@@ -1,6 +1,6 @@
 -- A text in which one piece is replaced is laid as the old one, but for the piece: a law of the
 -- definitions.
-use Rattle.std.specs.Prelude.{◌≡◌, ℕ, ◌+◌, ◌-◌, ◌<◌, ◌^◌, true, false, List, [], ◌∷◌, ◌++◌, length, reverse}
+use Rattle.std.specs.Prelude.{◌≡◌, ℕ, ◌+◌, ◌-◌, ◌≤◌, ◌<◌, ◌^◌, true, false, List, [], ◌∷◌, ◌++◌, length, reverse, All}
 use Rattle.syntax_kind.specs.declared.syntax_kind.SyntaxKind.{SyntaxKind}
 use Rattle.ras_front_end.specs.Reading.{FrontStep}
 use Rattle.token_layout.specs.declared.span.Token.{Token as RawToken}
@@ -92,6 +92,10 @@ pub record LaidIn
       ≡ faults_amid 0 (length (p.tokens ++ c.tokens)) faults_before
       ++ (faults_amid (length a.text) (length c.tokens) (laid k attaching (piece_of k p es)).faults
       ++ faults_amid (length (a.text ++ p.text)) 0 faults_behind)
+  -- the errors before the piece are in the text before it, and those behind it among the tokens
+  -- behind it
+  pub lie_before : All (λ f. f.position ≤ length a.text) faults_before
+  pub lie_behind : All (λ f. f.left ≤ length c.tokens) faults_behind
 
 pub record LaidAround
     (root k : SyntaxKind) (attaching : List SyntaxKind) (g : Tables) (rule : ℕ) (a p q c : Part)
