@@ -146,6 +146,8 @@ laid_in root k attaching g rule a p c made es before behind small piece l is =
       steps = ap (λ (xs : List Event). (laid root attaching (record { text = a.text ++ (p.text ++ c.text); tokens = a.tokens ++ (p.tokens ++ c.tokens); events = xs })).steps) is ∙ l.steps (stretch_of p es) piece short;
       bytes = l.bytes (stretch_of p es) piece short;
       faults = ap (λ (xs : List Event). (laid root attaching (record { text = a.text ++ (p.text ++ c.text); tokens = a.tokens ++ (p.tokens ++ c.tokens); events = xs })).faults) is ∙ l.faults (stretch_of p es) piece short;
+      lie_before = l.lie_before (stretch_of p es) piece short;
+      lie_behind = l.lie_behind (stretch_of p es) piece short;
     }
 
 -- ---- the law of `event_layout`, where it is known that the piece's node is not the last one
