@@ -48,10 +48,10 @@ said_twice s t u a b =
           All-append (Between s.position u.position (length u.rest) (length s.rest)) a.added b.added
           (all_too (Between s.position t.position (length t.rest) (length s.rest)) (Between s.position u.position (length u.rest) (length s.rest))
           (λ f h. let l = h.low in let g = h.high in let x = h.few in let m = h.many in
-              record { low = l; high = omega (arith, g, q); few = omega (arith, x, z); many = m }) a.added a.between)
+          record { low = l; high = omega (arith, g, q); few = omega (arith, x, z); many = m }) a.added a.between)
           (all_too (Between t.position u.position (length u.rest) (length t.rest)) (Between s.position u.position (length u.rest) (length s.rest))
           (λ f h. let l = h.low in let g = h.high in let x = h.few in let m = h.many in
-              record { low = omega (arith, l, p); high = g; few = x; many = omega (arith, m, r) }) b.added b.between);
+          record { low = omega (arith, l, p); high = g; few = x; many = omega (arith, m, r) }) b.added b.between);
       position = omega (arith, p, q);
       rest = omega (arith, r, z);
     }

@@ -1,22 +1,31 @@
 //! Front ends that know which pieces of a text are read by themselves as they are in the text.
 ghost use Rattle.std.specs.Prelude.{◌≡◌, IfOk, option_map};
 ghost use Rattle.ras_front_end.specs.Reading.{reading_of};
-ghost use Rattle.exact_front.specs.Exact.{Exact, ExactKeeps};
+ghost use Rattle.exact_front.specs.Exact.{Exact, is_piece, ExactKeeps};
 
 use ras_front_end::{Edition, FrontEnd, Output, Reparser};
 use std::alloc::{AllocError, Global};
 use syntax_kind::SyntaxKind;
 
-/// A front end that can tell of a piece of a text, from `{` to `}`, whether it is read in the text as it is by itself.
+/// A front end that can tell of a piece of a text, from `{` to `}`, whether it is read in the text as
+/// it is by itself.
 ///
-/// Take a text that [`ExactFront::has_head`] does not refuse, with a node whose first child is `{` and whose last child is `}`, and
-/// which has a reparser here. If a new text of that node is a piece by [`ExactFront::exact_piece`], then a parse of the new whole text
-/// should make what a parse of the old one made, with the output for the piece in place of the node; but for the messages of the
-/// lexer's errors behind the piece. `Document` of `ras_parsing` relies on it. It is not a law of the trait: an implementation proves
-/// only the law `exact_kept`, that the steps of a piece build one tree over its text.
+/// Take a text that [`ExactFront::has_head`] does not refuse, with a node whose first child is `{` and
+/// whose last child is `}`, which has a reparser here, and whose text is a piece by
+/// [`ExactFront::exact_piece`]. If a new text of that node is a piece too, and neither the text nor
+/// the new one is longer than [`ExactFront::longest`], then a parse of the new text should make what
+/// a parse of the old one made, with the output for the piece in place of the node; but for the
+/// messages of the lexer's errors behind the piece. `Document` of `ras_parsing` relies on it. It is
+/// not a law of the trait: an implementation proves only the law `exact_kept`, that the steps of a
+/// piece build one tree over its text. For Rust it is proved: by `document_laws`.
 pub trait ExactFront: FrontEnd {
     // The results, as functions of the arguments.
     ghost exact: { Self → Exact };
+
+    /// How many bytes the longest text has of which pieces may be read by themselves. (A parser's
+    /// numbers may have few bits.)
+    fn longest(&self) -> usize
+        ensures { result ≡ (exact self.now).longest };
 
     /// Whether something may stand at the beginning of the text whose end depends on the rest of the text, such as a front matter.
     fn has_head(&self, text: &str) -> bool
@@ -36,6 +45,16 @@ pub trait ExactFront: FrontEnd {
         edition: Edition,
     ) -> Result<Option<Output>, AllocError>
         ensures { IfOk result (λ o. option_map reading_of o ≡ (exact self.now).piece reparser edition text.now) };
+
+    /// Whether [`ExactFront::exact_piece`] parses the text: without its output this takes less time.
+    fn is_exact_piece(
+        &self,
+        alloc: Global,
+        reparser: Reparser,
+        text: &str,
+        edition: Edition,
+    ) -> Result<bool, AllocError>
+        ensures { IfOk result (λ b. b ≡ is_piece ((exact self.now).piece reparser edition text.now)) };
 
     ghost exact_kept: { (front : Self) → ExactKeeps (exact front) };
 }

@@ -1,9 +1,9 @@
 -- The exact piece around an edit.
-use Rattle.std.proofs.Common.{◌≡◌, ℕ, ◌<◌, ◌≤◌, ◌^◌, ◌+◌, ◌-◌, List, [], ◌∷◌, length, refl, sym, ap, ◌∙◌, subst, arith, Bool, true, false, Option, Some, None}
-use Rattle.std.specs.Prelude.{Contains, IsUtf8, ⊤, ◌&&◌, if◌then◌else◌, option_map, drop}
+use Rattle.std.proofs.Common.{◌≡◌, ℕ, ◌<◌, ◌^◌, List, [], ◌∷◌, length, refl, sym, ap, ◌∙◌, arith, Bool, true, false, Option, Some, None}
+use Rattle.std.specs.Prelude.{Contains, IsUtf8, option_map, drop}
 use Rattle.text_size.specs.TextRange.{Bounds}
 use Rattle.tree_model.specs.Tree.{Tree, text, IsPlace}
-use Rattle.tree_model.specs.Cursor.{Cursor, focus, range_end, range_start}
+use Rattle.tree_model.specs.Cursor.{Cursor, focus, range_end}
 use Rattle.tree_model.specs.Covering.{covering_of}
 use Rattle.tree_model.specs.Edit.{root_of}
 use Rattle.lossless_tree.specs.declared.cursor.element.NodeOrToken.{NodeOrToken}
@@ -13,13 +13,12 @@ use Rattle.ras_front_end.specs.declared.edition.Edition.{Edition}
 use Rattle.ras_front_end.specs.declared.edition.Reparser.{Reparser}
 use Rattle.ras_front_end.specs.Balanced.{opens_brace, closes_brace}
 use Rattle.ras_front_end.specs.Fault.{Fault}
-use Rattle.ras_front_end.specs.Keeps.{Keeps}
 use Rattle.ras_front_end.specs.Parsed.{Parsed}
 use Rattle.ras_front_end.specs.Reading.{Reading}
-use Rattle.exact_front.specs.Exact.{Exact, ExactKeeps}
+use Rattle.exact_front.specs.Exact.{Exact, is_piece, ExactKeeps}
 use Rattle.ras_parsing.specs.Edit.{Edit, IsEditOf, edited, edited_at}
 use Rattle.ras_parsing.specs.Reparse.{kind_at, nodes_around}
-use Rattle.ras_parsing.specs.Document.{opens, closes, or_further, exact_reparser_of, first_exact, is_quiet_from, ExactPath, NoExactPath}
+use Rattle.ras_parsing.specs.Document.{opens, closes, or_further, exact_reparser_of, first_exact, is_quiet_from, AreShort, ExactPath, NoExactPath}
 use Rattle.ras_parsing.specs.ExactSteps.{IsExactPiece}
 use Rattle.ras_parsing.proofs.Around.{later_in, node_around}
 use Rattle.ras_parsing.proofs.BlockPaths.{IsIn, new_short}
@@ -121,14 +120,15 @@ no_reading_path exact edition old count edit l o d s new h read f g is e asked n
     ap (λ (x : Reparser). exact.piece x edition new) same.rule ∙ ap (exact.piece r edition) (e ∙ ap (λ x. edited_at x edit) same.node) in
     let bad : None ≡ Some reading = sym (not_read h read (exact.piece s edition new) asked none) ∙ here ∙ w.is_read in cc
 
-pub exact_found : {X : Type 0} (exact : Exact) (edition : Edition) (old : Parsed) (count : ℕ) (edit : Edit) (l : List Cursor) (o : Option (Cursor × Reparser)) (c : Cursor) (r : Reparser) (head : List ℕ) (b : Bool) (at : ℕ) (errors : List Fault) (q : Bool) (new asked : List ℕ) (h : X → Reading) (read : Option X) (x : X)
+pub exact_found : {X : Type 0} (exact : Exact) (edition : Edition) (old : Parsed) (count : ℕ) (edit : Edit) (l : List Cursor) (o : Option (Cursor × Reparser)) (c : Cursor) (r : Reparser) (head : List ℕ) (b : Bool) (at : ℕ) (errors : List Fault) (q : Bool) (new asked : List ℕ) (h : X → Reading) (read : Option X) (x : X) (was : List ℕ) (p : Bool)
     → ExactKeeps exact → IsEditOf (text old.tree) edit → length (edited (text old.tree) edit) < 2 ^ 32 → IsPlace c.tree c.place → IsUtf8 new
     → l ≡ nodes_around old.tree edit → o ≡ first_exact exact edit.delete l → o ≡ Some (c, r)
     → head ≡ text old.tree → b ≡ exact.has_head head → b ≡ false
     → at ≡ range_end c → errors ≡ drop count old.errors → q ≡ is_quiet_from at errors → q ≡ true
     → new ≡ edited_at c edit → asked ≡ new → option_map h read ≡ exact.piece r edition asked → read ≡ Some x
+    → AreShort exact.longest (text old.tree) edit → was ≡ text (focus c) → p ≡ is_piece (exact.piece r edition was) → p ≡ true
     → IsExactPiece exact edition old count edit c r new (h x)
-exact_found exact edition old count edit l o c r head b at errors q new asked h read x kept e short is_place utf8 f g is head_is b_is no' at_is errors_are q_is yes' new_is asked_is read_is some =
+exact_found exact edition old count edit l o c r head b at errors q new asked h read x was p kept e short is_place utf8 f g is head_is b_is no' at_is errors_are q_is yes' new_is asked_is read_is some few was_is p_is true' =
     let w = exact_in exact old.tree edit l o c r e f g is is_place in
     let found : exact.piece r edition new ≡ Some (h x) = ap (exact.piece r edition) (sym asked_is) ∙ read_as h read (exact.piece r edition asked) x read_is some in
     record {
@@ -140,6 +140,8 @@ exact_found exact edition old count edit l o c r head b at errors q new asked h 
         is_nearest = ap (first_exact exact edit.delete) (sym f) ∙ sym g ∙ is;
         is_quiet = ap (λ n. is_quiet_from n (drop count old.errors)) (sym at_is) ∙ ap (is_quiet_from at) (sym errors_are) ∙ sym q_is ∙ yes';
         is_read = ap (exact.piece r edition) (sym new_is) ∙ found;
+        are_short = few;
+        was_read = ap (λ x. is_piece (exact.piece r edition x)) (sym was_is) ∙ sym p_is ∙ true';
       };
       keeps = forget_root _ new (h x) (h x) (kept.piece_kept r edition new (h x) utf8 (new_short old.tree edit c new w e short new_is) found) refl;
     }

@@ -1,10 +1,10 @@
 -- Errors in order lie in the edited text.
-use Rattle.std.proofs.Common.{◌≡◌, ℕ, zero, suc, ◌+◌, ◌-◌, ◌<◌, ◌≤◌, List, [], ◌∷◌, ◌++◌, map, length, take, drop, refl, arith}
+use Rattle.std.proofs.Common.{◌≡◌, ℕ, suc, ◌+◌, ◌-◌, ◌≤◌, List, [], ◌∷◌, ◌++◌, map, length, take, drop, arith}
 use Rattle.std.specs.Prelude.{All, nat_le, flat_map}
 use Rattle.std.proofs.lemmas.List.Elements.{All-append, All-take, All-drop}
 use Rattle.text_size.specs.TextRange.{Bounds}
-use Rattle.tree_model.specs.Tree.{Tree, text}
-use Rattle.tree_model.specs.Cursor.{Cursor, range_start, range_end}
+use Rattle.tree_model.specs.Tree.{text}
+use Rattle.tree_model.specs.Cursor.{Cursor, range_start}
 use Rattle.ras_parsing.specs.Edit.{Edit, IsEditOf, edited, edited_at}
 use Rattle.ras_front_end.specs.Fault.{Fault, LiesIn}
 use Rattle.ras_parsing.specs.Reparse.{moved}

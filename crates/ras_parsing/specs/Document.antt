@@ -1,12 +1,9 @@
 -- A text that is edited, and its parse: which piece is parsed again, and what its parse is then.
-use Rattle.std.specs.Prelude.{◌≡◌, ◌⊎◌, ℕ, ◌+◌, ◌-◌, List, [], ◌∷◌, ◌++◌, map, length, take, drop, Option, Some, None, option_map, Bool, true, false, not, ◌&&◌, nat_le, nat_lt, if◌then◌else◌}
+use Rattle.std.specs.Prelude.{◌≡◌, ◌⊎◌, ℕ, ◌+◌, ◌<◌, ◌^◌, IsUtf8, List, [], ◌∷◌, ◌++◌, map, length, take, drop, Option, Some, None, Bool, true, false, ◌&&◌, nat_le, nat_lt, ◌≤◌, if◌then◌else◌}
 use Rattle.std.specs.List.{flat_map}
 use Rattle.text_size.specs.TextRange.{Bounds}
-use Rattle.syntax_kind.specs.declared.syntax_kind.SyntaxKind.{SyntaxKind}
-use Rattle.syntax_kind.specs.declared.syntax_kind.SyntaxKind.TheVariants.{Token}
-use Rattle.syntax_kind.specs.declared.syntax_kind.token_kind.TokenKind.TheVariants as kind
-use Rattle.tree_model.specs.Tree.{Tree, text}
-use Rattle.tree_model.specs.Cursor.{Cursor, range_start, range_end, range_of, first_child_of, last_child_of}
+use Rattle.tree_model.specs.Tree.{text}
+use Rattle.tree_model.specs.Cursor.{Cursor, focus, range_start, range_end, range_of, first_child_of, last_child_of}
 use Rattle.tree_model.specs.Edit.{replace}
 use Rattle.ras_front_end.specs.declared.edition.Entry.TheVariants.{SourceFile}
 use Rattle.ras_front_end.specs.declared.edition.Edition.{Edition}
@@ -16,8 +13,8 @@ use Rattle.ras_front_end.specs.Fault.{Fault}
 use Rattle.ras_front_end.specs.Front.{Front}
 use Rattle.ras_front_end.specs.Reading.{Reading, step_faults}
 use Rattle.ras_front_end.specs.Parsed.{Parsed, IsParseOf}
-use Rattle.exact_front.specs.Exact.{Exact}
-use Rattle.ras_parsing.specs.Edit.{Edit, edited, edited_at}
+use Rattle.exact_front.specs.Exact.{Exact, is_piece}
+use Rattle.ras_parsing.specs.Edit.{Edit, IsEditOf, edited, edited_at}
 use Rattle.ras_parsing.specs.Reparse.{kind_at, nodes_around, shifted, moved}
 
 -- ---- errors
@@ -70,13 +67,21 @@ abbrev pub is_quiet_from : ℕ → List Fault → Bool
 is_quiet_from at [] = true
 is_quiet_from at (f ∷ fs) = nat_lt f.range.start at && is_quiet_from at fs
 
--- the nearest node that may be one is an exact piece: nothing at the head of the text depends on the rest, the front end reads its new
--- text as in any text, and none of the lexer's errors is behind it; `count` errors are the parser's
+-- a text, and the text after an edit, are not longer
+pub record AreShort (longest : ℕ) (s : List ℕ) (edit : Edit) : Type 0 where
+  pub old : length s ≤ longest
+  pub new : length (edited s edit) ≤ longest
+
+-- the nearest node that may be one is an exact piece: nothing at the head of the text depends on the
+-- rest, the front end reads its old text and its new text as in any text, and none of the lexer's
+-- errors is behind it; `count` errors are the parser's
 pub record ExactPath (exact : Exact) (edition : Edition) (old : Parsed) (count : ℕ) (edit : Edit) (c : Cursor) (r : Reparser) (reading : Reading) : Type 0 where
   pub no_head : exact.has_head (text old.tree) ≡ false
+  pub are_short : AreShort exact.longest (text old.tree) edit
   pub is_nearest : first_exact exact edit.delete (nodes_around old.tree edit) ≡ Some (c, r)
   pub is_quiet : is_quiet_from (range_end c) (drop count old.errors) ≡ true
   pub is_read : exact.piece r edition (edited_at c edit) ≡ Some reading
+  pub was_read : is_piece (exact.piece r edition (text (focus c))) ≡ true
 
 abbrev pub NoExactPath : Exact → Edition → Parsed → ℕ → Edit → Type 0
 NoExactPath exact edition old count edit = (c : Cursor) (r : Reparser) (reading : Reading) → ExactPath exact edition old count edit c r reading → ⊥
@@ -117,3 +122,14 @@ pub record ByAll (front : Front) (exact : Exact) (edition : Edition) (old : Pars
 abbrev pub IsEdited : Front → Exact → Edition → Parsed → ℕ → Edit → Parsed → ℕ → Bounds → Type 0
 IsEdited front exact edition old before edit new count range =
     ByPiece exact edition old before edit new count range ⊎ ByAll front exact edition old before edit new count range
+
+-- a front end reads the pieces of every text as in the text: where a document has the parse of its
+-- text, an edit makes the parse of the new text
+abbrev pub ReadsExactly : Front → Exact → Type 0
+ReadsExactly front exact =
+    (edition : Edition) (old new : Parsed) (before count : ℕ) (edit : Edit) (range : Bounds)
+    → IsUtf8 (text old.tree) → IsUtf8 edit.insert → IsEditOf (text old.tree) edit
+    → length (edited (text old.tree) edit) < 2 ^ 32
+    → IsReadOf front edition (text old.tree) old before
+    → IsEdited front exact edition old before edit new count range
+    → IsReadOf front edition (edited (text old.tree) edit) new count

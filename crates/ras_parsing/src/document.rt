@@ -3,7 +3,7 @@ ghost use Rattle.std.specs.Prelude.{◌≡◌, ◌↔◌, ◌<◌, ◌≤◌, �
 ghost use Rattle.tree_model.specs.Tree.{text};
 ghost use Rattle.ras_front_end.specs.declared.parse_error.ParseError.TheVariants.{TooLong};
 ghost use Rattle.ras_parsing.specs.Edit.{IsEditOf, edited};
-ghost use Rattle.ras_parsing.specs.Document.{IsReadOf, IsEdited};
+ghost use Rattle.ras_parsing.specs.Document.{IsReadOf, IsEdited, ReadsExactly};
 
 use crate::build::build_output;
 use crate::exact::{Counted, exact_path, parser_errors, with_exact};
@@ -11,6 +11,7 @@ use crate::file::FileView;
 use crate::parse::Parse;
 use crate::reparse::{edited_text, is_too_long};
 use exact_front::ExactFront;
+use lossless_tree::laws::node_is_placed;
 use lossless_tree::{TextRange, TextSize};
 use ras_front_end::{Edition, Entry, FrontEnd, ParseError};
 use std::alloc::Global;
@@ -110,6 +111,50 @@ impl<T: FileView, F: ExactFront + Drop> Document<T, F> {
         self.edition
     }
 
+    // The parse after an edit, and the range that is parsed again.
+    fn after(
+        &self,
+        alloc: Global,
+        delete: TextRange,
+        insert: &str,
+    ) -> Result<Counted<T>, ParseError>
+        requires edit { IsEditOf (text self.now.parse.tree)
+            (record { delete = delete; insert = insert.now }) }
+        requires short { length (edited (text self.now.parse.tree)
+            (record { delete = delete; insert = insert.now })) < 2 ^ 32 }
+        ensures answer { IfOk result (λ n. IsEdited
+            (F.answers self.now.front) (F.exact self.now.front) self.now.edition
+            self.now.parse self.now.parser_errors
+            (record { delete = delete; insert = insert.now }) n.parse n.parser_errors n.range) }
+        ensures same_text { IfOk result (λ n. text n.parse.tree
+            ≡ edited (text self.now.parse.tree) (record { delete = delete; insert = insert.now })) }
+        ensures refused { IfErr result (λ e. e ≡ TooLong → ⊥) }
+    {
+        match exact_path(
+            alloc,
+            &self.parse,
+            self.parser_errors,
+            &self.front,
+            delete,
+            insert,
+            self.edition,
+        )? {
+            Some(piece) => Ok(with_exact(
+                alloc,
+                &self.parse,
+                self.parser_errors,
+                piece,
+                delete,
+                insert,
+            )?),
+            None => {
+                let whole = self.parse.root().as_str();
+                let text = edited_text(alloc, whole, TextSize::new(0), delete, insert)?;
+                read_counted(alloc, &self.front, text.as_str(), self.edition)
+            }
+        }
+    }
+
     /// Replaces the bytes in `delete` by `insert`. Returns the range of the new text that was parsed again: that of one block, or the
     /// whole text. Old parses that were cloned stay as they are.
     ///
@@ -128,6 +173,11 @@ impl<T: FileView, F: ExactFront + Drop> Document<T, F> {
     ) -> Result<TextRange, ParseError>
         requires { IsEditOf (text self.old.parse.tree) (record { delete = delete; insert = insert.now }) }
         ensures answer { IfOk result (IsEdited (F.answers self.old.front) (F.exact self.old.front) self.old.edition self.old.parse self.old.parser_errors (record { delete = delete; insert = insert.now }) self.new.parse self.new.parser_errors) }
+        ensures exact { ReadsExactly (F.answers self.old.front) (F.exact self.old.front)
+            → IsReadOf (F.answers self.old.front) self.old.edition (text self.old.parse.tree)
+            self.old.parse self.old.parser_errors
+            → OnOk result (IsReadOf (F.answers self.new.front) self.new.edition
+            (text self.new.parse.tree) self.new.parse self.new.parser_errors) }
         ensures same_text { OnOk result (text self.new.parse.tree ≡ edited (text self.old.parse.tree) (record { delete = delete; insert = insert.now })) }
         ensures front { self.new.front ≡ self.old.front }
         ensures edition { self.new.edition ≡ self.old.edition }
@@ -138,29 +188,8 @@ impl<T: FileView, F: ExactFront + Drop> Document<T, F> {
         if is_too_long(self.parse.root(), delete, insert) {
             return Err(ParseError::TooLong);
         }
-        let new = match exact_path(
-            alloc,
-            &self.parse,
-            self.parser_errors,
-            &self.front,
-            delete,
-            insert,
-            self.edition,
-        )? {
-            Some(piece) => with_exact(
-                alloc,
-                &self.parse,
-                self.parser_errors,
-                piece,
-                delete,
-                insert,
-            )?,
-            None => {
-                let whole = self.parse.root().as_str();
-                let text = edited_text(alloc, whole, TextSize::new(0), delete, insert)?;
-                read_counted(alloc, &self.front, text.as_str(), self.edition)?
-            }
-        };
+        node_is_placed(self.parse.root());
+        let new = self.after(alloc, delete, insert)?;
         let Counted {
             parse,
             parser_errors,

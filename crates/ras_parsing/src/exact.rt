@@ -1,5 +1,5 @@
 //! The exact piece around an edit: a node between braces that is read by itself as in the text.
-ghost use Rattle.std.specs.Prelude.{◌≡◌, ◌+◌, ◌-◌, ◌<◌, ◌≤◌, ◌^◌, length, IfOk, MatchOption, string_bytes, take, drop, ⊤, All};
+ghost use Rattle.std.specs.Prelude.{◌≡◌, ◌↔◌, IsTrue, ◌+◌, ◌-◌, ◌<◌, ◌≤◌, ◌^◌, length, IfOk, MatchOption, string_bytes, take, drop, ⊤, All};
 ghost use Rattle.tree_model.specs.Tree.{text};
 ghost use Rattle.tree_model.specs.Cursor.{IsRoot, first_child_of, last_child_of};
 ghost use Rattle.ras_front_end.specs.Fault.{LiesIn};
@@ -7,7 +7,7 @@ ghost use Rattle.ras_front_end.specs.Keeps.{Keeps};
 ghost use Rattle.ras_front_end.specs.Reading.{reading_of, front_steps, step_faults};
 ghost use Rattle.ras_parsing.specs.Edit.{IsEditOf, edited, edited_at};
 ghost use Rattle.ras_parsing.specs.Rereading.{IsAround};
-ghost use Rattle.ras_parsing.specs.Document.{opens, closes, is_between, exact_reparser_of, first_exact, is_quiet_from, NoExactPath, IsPieceOf, range_after, in_order, all_in_order};
+ghost use Rattle.ras_parsing.specs.Document.{opens, closes, is_between, exact_reparser_of, first_exact, is_quiet_from, AreShort, NoExactPath, IsPieceOf, range_after, in_order, all_in_order};
 ghost use Rattle.ras_parsing.specs.ExactSteps.{IsExactPiece};
 
 use crate::balanced::{closes_brace, opens_brace};
@@ -107,6 +107,17 @@ fn is_quiet_from(at: TextSize, errors: &[SyntaxError]) -> bool
     true
 }
 
+// Whether neither a text nor the text after an edit is longer than so many bytes.
+fn are_short(root: &SyntaxNode, delete: TextRange, insert: &str, longest: usize) -> bool
+    requires root { IsRoot root.now }
+    requires edit { IsEditOf (text root.now.tree) (record { delete = delete; insert = insert.now }) }
+    ensures { IsTrue result ↔ AreShort longest (text root.now.tree) (record { delete = delete; insert = insert.now }) }
+{
+    let len = root.as_str().len();
+    let kept = len - delete.len().raw() as usize;
+    len <= longest && kept + insert.len() <= longest
+}
+
 // The text of a node after an edit inside of it.
 fn text_after(
     alloc: Global,
@@ -140,6 +151,9 @@ pub(crate) fn exact_path<T, F: ExactFront>(
     if front.has_head(root.as_str()) {
         return Ok(None);
     }
+    if !are_short(root, delete, insert, front.longest()) {
+        return Ok(None);
+    }
     let nodes = root.covering_element(delete).ancestors();
     let (node, reparser) = match first_exact(nodes, front, delete) {
         Some(found) => found,
@@ -150,15 +164,20 @@ pub(crate) fn exact_path<T, F: ExactFront>(
     }
     node_is_placed(&node);
     let text = text_after(alloc, &node, delete, insert)?;
-    match front.exact_piece(alloc, reparser, text.as_str(), edition)? {
-        None => Ok(None),
-        Some(output) => Ok(Some(ExactPiece {
-            node,
-            reparser,
-            text,
-            output,
-        })),
+    let output = match front.exact_piece(alloc, reparser, text.as_str(), edition)? {
+        Some(output) => output,
+        None => return Ok(None),
+    };
+    // What the old parse made of the node is what its old text makes by itself.
+    if !front.is_exact_piece(alloc, reparser, node.as_str(), edition)? {
+        return Ok(None);
     }
+    Ok(Some(ExactPiece {
+        node,
+        reparser,
+        text,
+        output,
+    }))
 }
 
 /// The number of the parser's errors among steps.

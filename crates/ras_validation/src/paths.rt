@@ -13,11 +13,13 @@ use text_size::TextRange;
 pub fn self_in_path(segment: &SyntaxNode) -> Option<TextRange>
     ensures { result ≡ option_map range_of (self_in_path segment.now) }
 {
+    // Most segments are names: what is around those is not looked at.
+    let keyword = segment_keyword(segment, SyntaxKind::SELF_KW)?;
     let path = path_around(segment)?;
     if starts_path(segment, &path) || path_around(&path).is_none() {
         return None;
     }
-    Some(segment_keyword(segment, SyntaxKind::SELF_KW)?.text_range())
+    Some(keyword.text_range())
 }
 
 // The verdict of one node above a path, where `last` is the last path passed: whether it is under a use prefix, or `None`
@@ -66,8 +68,8 @@ fn crate_is_inside(segment: &SyntaxNode, path: SyntaxNode) -> bool
 pub fn crate_in_path(segment: &SyntaxNode) -> Option<TextRange>
     ensures { result ≡ option_map range_of (crate_in_path segment.now) }
 {
-    let path = path_around(segment)?;
     let keyword = segment_keyword(segment, SyntaxKind::CRATE_KW)?;
+    let path = path_around(segment)?;
     if segment_keyword(segment, SyntaxKind::SELF_KW).is_some() {
         return None;
     }

@@ -94,8 +94,13 @@ whole_exact_of r e text = exact_on r e text (tokens_of e text) (errors_of e text
 unfoldable pub exact_piece_of : Reparser → Edition → List ℕ → Option Reading
 exact_piece_of r e text = if nat_lt (length text) (2 ^ 32) then whole_exact_of r e text else None
 
+-- the machine makes fewer than 2^32 - 1 events of a text of so many bytes
+abbrev pub longest_exact : ℕ
+longest_exact = 1700000
+
 abbrev pub rust_exact : Exact
 rust_exact = record {
+  longest = longest_exact;
   has_head = λ text. has_head_of text;
   chosen = λ kind. exact_chosen_of kind;
   piece = λ reparser edition text. exact_piece_of reparser edition text;

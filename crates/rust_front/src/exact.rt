@@ -1,6 +1,7 @@
 //! The pieces of a text that are read by themselves as they are in the text.
 ghost use Rattle.std.specs.Prelude.{◌≡◌, ◌-◌, ◌<◌, ◌^◌, IfOk, option_map, length, slice_get, take};
 ghost use Rattle.ras_front_end.specs.Reading.{reading_of};
+ghost use Rattle.exact_front.specs.Exact.{is_piece};
 ghost use Rattle.token_layout.specs.Laid.{IsCut};
 ghost use Rattle.rust_grammar.specs.Seeing.{sights_of};
 ghost use Rattle.rust_front.specs.Exact.{is_byte, has_shebang_of, is_visible, has_fence_of, has_head_of, opens_with, closes_with, is_braced_by, is_in, errs_early, if_closed, alone_with, whole_exact_of, exact_piece_of};
@@ -18,6 +19,10 @@ use token_layout::Token;
 
 /// The message of the lexer's error in a token depends on no more tokens before it than these.
 const MEMORY: usize = 5;
+
+/// The longest text, in bytes, of which pieces may be read by themselves: the machine makes fewer
+/// than 2,403 events a token, and numbers them with 32 bits.
+pub const LONGEST_EXACT: usize = 1_700_000;
 
 fn is_byte_at(text: &str, index: usize, byte: u8) -> bool
     ensures { result ≡ is_byte byte (slice_get text.now index) }
@@ -189,5 +194,46 @@ pub fn exact_piece(
         whole_exact(alloc, reparser, text, edition)
     } else {
         Ok(None)
+    }
+}
+
+fn is_whole_exact(
+    alloc: Global,
+    reparser: Reparser,
+    text: &str,
+    edition: Edition,
+) -> Result<bool, AllocError>
+    ensures { length text.now < 2 ^ 32 → IfOk result (λ b. b ≡ is_piece (whole_exact_of reparser edition text.now)) }
+{
+    let lexed = lex(alloc, text, edition)?;
+    if !is_braced(&lexed.tokens) || errs_early(&lexed.tokens, &lexed.errors) {
+        return Ok(false);
+    }
+    match events_alone(
+        alloc,
+        rule_by(reparser.number),
+        text,
+        &lexed.tokens,
+        edition,
+    )? {
+        None => Ok(false),
+        Some(_) => Ok(true),
+    }
+}
+
+/// Whether [`exact_piece`] parses a text.
+#[tactic(auto, unfolding(crate::specs::Exact::exact_piece_of))]
+pub fn is_exact_piece(
+    alloc: Global,
+    reparser: Reparser,
+    text: &str,
+    edition: Edition,
+) -> Result<bool, AllocError>
+    ensures { IfOk result (λ b. b ≡ is_piece (exact_piece_of reparser edition text.now)) }
+{
+    if is_short(text) {
+        is_whole_exact(alloc, reparser, text, edition)
+    } else {
+        Ok(false)
     }
 }

@@ -6,7 +6,7 @@ ghost use Rattle.rust_lexer.specs.Lexing.{tokens_of, errors_of};
 ghost use Rattle.rust_grammar.specs.Seeing.{sights_of};
 ghost use Rattle.rust_front.specs.Front.{kinds_of, made_with, reading_with, nothing_read, whole_of, whole_piece_of, parsed_of, piece_of, single_of_text};
 
-use crate::exact::{exact_piece, has_head};
+use crate::exact::{LONGEST_EXACT, exact_piece, has_head, is_exact_piece};
 use crate::message::{lexer_errors, lexer_message};
 use crate::piece::{exact_reparser_of, reparser_of, rule_by};
 use crate::report::reported;
@@ -228,6 +228,10 @@ impl ExactFront for Rust {
 
     ghost exact_kept = { λ _. rust_exact_kept };
 
+    fn longest(&self) -> usize {
+        LONGEST_EXACT
+    }
+
     fn has_head(&self, text: &str) -> bool {
         has_head(text)
     }
@@ -244,5 +248,15 @@ impl ExactFront for Rust {
         edition: Edition,
     ) -> Result<Option<Output>, AllocError> {
         exact_piece(alloc, reparser, text, edition)
+    }
+
+    fn is_exact_piece(
+        &self,
+        alloc: Global,
+        reparser: Reparser,
+        text: &str,
+        edition: Edition,
+    ) -> Result<bool, AllocError> {
+        is_exact_piece(alloc, reparser, text, edition)
     }
 }

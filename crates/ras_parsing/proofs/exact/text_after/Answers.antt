@@ -1,9 +1,8 @@
-use Rattle.std.proofs.Common.{◌≡◌, sym, ap, ◌∙◌, arith, refl}
+use Rattle.std.proofs.Common.{◌≡◌, ap, ◌∙◌, arith, refl}
 use Rattle.text_size.specs.TextRange.{Bounds}
 use Rattle.tree_model.specs.Tree.{text}
 use Rattle.tree_model.specs.Cursor.{range_start}
-use Rattle.ras_parsing.specs.Edit.{Edit}
-use Rattle.ras_parsing.proofs.Around.{boundary_at, edited_is}
+use Rattle.ras_parsing.proofs.Around.{boundary_at}
 use Rattle.ras_parsing.proofs.exact.text_after.Goals as goal
 
 pub edited_text-requires-clause-start_boundary : goal.edited_text-requires-clause-start_boundary

@@ -1,5 +1,5 @@
-use Rattle.std.proofs.Common.{◌≡◌, ◌<◌, ◌^◌, sym, ap, ◌∙◌, subst, arith, length, refl, Err}
-use Rattle.std.specs.Prelude.{string_bytes, ⊤}
+use Rattle.std.proofs.Common.{◌≡◌, sym, ap, ◌∙◌, subst, arith, length, Err}
+use Rattle.std.specs.Prelude.{⊤}
 use Rattle.tree_model.specs.Tree.{Tree, text}
 use Rattle.text_size.specs.TextRange.{Bounds}
 use Rattle.tree_model.specs.Cursor.{Cursor, focus, range_start}
