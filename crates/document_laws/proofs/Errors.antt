@@ -1,5 +1,5 @@
 -- All errors that a parse stores, where an exact piece was replaced.
-use Rattle.std.proofs.Common.{◌≡◌, ℕ, ◌+◌, ◌-◌, ◌<◌, ◌≤◌, ◌^◌, true, List, ◌++◌, length, take, drop, map, ap, ap₂, ◌∙◌, refl, sym, arith}
+use Rattle.std.proofs.Common.{◌≡◌, ℕ, ◌+◌, ◌-◌, ◌<◌, ◌^◌, List, ◌++◌, length, take, drop, map, ap, ap₂, ◌∙◌, refl, sym, arith}
 use Rattle.std.proofs.Math.Seq.{take-append_seam, drop-append_seam}
 use Rattle.std.proofs.lemmas.List.{length-append, length-drop, length-take-le}
 use Rattle.syntax_kind.specs.declared.syntax_kind.SyntaxKind.{SyntaxKind}
@@ -17,9 +17,7 @@ use Rattle.rust_lexer.specs.Lexing.{tokens_of}
 use Rattle.rust_lexer.proofs.Kept.{lexed}
 use Rattle.rust_front.specs.Front.{reading_with, parsed_of}
 use Rattle.rust_front.specs.Messages.{lexer_error_of}
-use Rattle.ras_parsing.specs.Edit.{Edit}
 use Rattle.ras_parsing.specs.Document.{in_order, is_quiet_from}
-use Rattle.document_laws.specs.Alone.{IsExactPiece}
 use Rattle.document_laws.specs.Faults.{PiecesShiftTheRest, ErrorsAreReplaced}
 use Rattle.document_laws.specs.Parts.{IsInParts}
 use Rattle.document_laws.specs.Stored.{stored}
