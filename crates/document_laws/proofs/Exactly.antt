@@ -166,13 +166,13 @@ at_piece own leave plain heads e t edit q k r was now i p piece s is_q is_new sm
     laid_around own heads e a w q c s.ts s.us t (i ∷ p) k r was now s.opens s.exact y s.parts s.front is_q is_new (omega (arith, small_new))
     (omega (arith, few_old)) (omega (arith, few_new))
     (bounded e a w w c s.ts s.us t i p k r was s.opens s.exact s.parts) (bounded e a w q c s.ts s.us t i p k r now s.opens y s.parts) in
-    let open = pieces_open own e (a ++ (w ++ c)) t i p k here.opening here.later r old_is s.parts.short (omega (arith, few_old)) built_old here.is_place here.node_is here.chosen in
+    let opened = pieces_open own e (a ++ (w ++ c)) t i p k here.opening here.later r old_is s.parts.short (omega (arith, few_old)) built_old here.is_place here.node_is here.chosen in
     let shift = rest_shifted a w q edit here.new_part here.begun forwards here.ended in
     record {
       builds =
           edited_parsed e a w q c s.ts s.us k r was now s.exact.own y.own t i p (kinds.Token token.L_CURLY) here.opening here.later piece
           s.parts l here.chosen s.exact refl y refl (omega (arith, small_a)) (omega (arith, own_x))
-          built_old here.is_place here.node_is open.1 (sym here.starts) builds;
+          built_old here.is_place here.node_is opened.1 (sym here.starts) builds;
       errors = subst (λ (x : List ℕ). AreReplaced (parsed_of SourceFile e x) now (parsed_of SourceFile e (a ++ (q ++ c))) (record { start = length a; end = length (a ++ w) }) edit)
           (sym s.is)
           (all_replaced e a w q c s.ts s.us k r was now edit s.parts s.exact y l here.chosen (omega (arith, few_w)) (omega (arith, few_q)) shift
