@@ -189,8 +189,8 @@ pub fn edited_trees_are_parsed()
 {}
 
 /// A run makes no node of a kind of which no operation of the tables makes one. So no node of the
-/// tree of a file of Rust is of the kind of a brace; its root is a source file, and it has the text.
-/// The law of the cursors of edits holds of each file.
+/// tree of a file of Rust is of the kind of a brace; its root is a source file, and it has the
+/// text. The law of the cursors of edits holds of each file.
 pub fn files_have_their_kinds()
     ensures runs { NodesHaveTheirKinds }
     ensures files { FilesHaveTheirKinds }
