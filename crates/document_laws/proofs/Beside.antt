@@ -69,8 +69,8 @@ none_first k l s r zero [] some w n e = n
 none_first k l s r zero (j ∷ p) some w n e = absurd (omega (arith, w.1.0))
 none_first k l s r (suc i) p some w n e = absurd (omega (arith, some, e))
 
--- two nodes that start at the same byte are one, if the one begins with a token that has a text, and
--- in the other no node as the one begins where itself begins
+-- two nodes that start at the same byte are one, if the one begins with a token that has a text,
+-- and in the other no node as the one begins where itself begins
 pub same_place : (t old : Tree) (p q : Place) (k l : SyntaxKind) (s : List ℕ) (r : Forest) → Within t p → Within t q
     → subtree t p ≡ old → IsNode old → 0 < length (text old) → subtree t q ≡ node k (cons (token l s) r) → 0 < length s → start t p ≡ start t q
     → ((j : ℕ) (o : Place) → Within old (j ∷ o) → subtree old (j ∷ o) ≡ node k (cons (token l s) r) → 0 < start old (j ∷ o)) → p ≡ q

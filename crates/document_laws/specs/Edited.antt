@@ -20,8 +20,8 @@ abbrev pub BuildsFile : Edition → List ℕ → Tree → Type 0
 BuildsFile e text t = BuildsNode (events_from (parsed_of SourceFile e text).steps text) t
 
 -- where a text with an exact piece is laid as before around another exact piece, the node that
--- starts where the piece starts, if its first child is a token with a text, is the piece's; with the
--- tree of the other piece there, the tree is that of the new text
+-- starts where the piece starts, if its first child is a token with a text, is the piece's; with
+-- the tree of the other piece there, the tree is that of the new text
 abbrev pub EditedTreesAreParsed : Type 0
 EditedTreesAreParsed =
     (e : Edition) (a w q c : List ℕ) (ts us : List Token) (k : SyntaxKind) (r : Reparser) (was now : Reading) (es fs : List Event)

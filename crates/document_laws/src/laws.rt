@@ -177,23 +177,24 @@ pub fn pieces_end_at_their_tokens()
     ensures pieces { PiecesEndAtTheirTokens }
 {}
 
-/// The node that `Document::edit` finds for an exact piece around an edit is a node of the tree, not
-/// its root, that begins with a token `{` and ends with a token `}`, if no node is of such a kind.
-/// The edit is between the braces, and the new text is the old one with the node's new text in the
-/// place of the old.
+/// The node that `Document::edit` finds for an exact piece around an edit is a node of the tree,
+/// not its root, that begins with a token `{` and ends with a token `}`, if no node is of such a
+/// kind. The edit is between the braces, and the new text is the old one with the node's new text
+/// in the place of the old.
 pub fn cursors_of_edits()
     ensures { CursorsOfEdits }
 {}
 
-/// Where a text of Rust with an exact piece is laid as before around another exact piece, the node of
-/// the tree that starts where the piece starts, if its first child is a token with a text, is the
-/// piece's, and with the tree of the other piece in its place the tree is that of the new text.
+/// Where a text of Rust with an exact piece is laid as before around another exact piece, the node
+/// of the tree that starts where the piece starts, if its first child is a token with a text, is
+/// the piece's, and with the tree of the other piece there the tree is that of the new text.
 pub fn edited_trees_are_parsed()
     ensures { EditedTreesAreParsed }
 {}
 
-/// A run makes no node of a kind of which no operation of the tables makes one. So no node of the tree
-/// of a file of Rust is of the kind of a brace; the root is a source file, and the tree has the text.
+/// A run makes no node of a kind of which no operation of the tables makes one. So no node of the
+/// tree of a file of Rust is of the kind of a brace; its root is a source file, and it has the
+/// text. The law of the cursors of edits holds of each file.
 pub fn files_have_their_kinds()
     ensures runs { NodesHaveTheirKinds }
     ensures files { FilesHaveTheirKinds }
