@@ -23,6 +23,7 @@ use Rattle.exact_front.specs.Exact.{is_piece}
 use Rattle.ras_parsing.specs.Edit.{Edit, IsEditOf, edited, edited_at}
 use Rattle.ras_parsing.specs.Document.{is_quiet_from, in_order, all_in_order, IsReadOf, ExactPath, IsPieceOf, ByPiece, ByAll, IsEdited}
 use Rattle.ras_parsing.proofs.Around.{boundary_at}
+use Rattle.grammar_machine.specs.declared.event.Event.TheVariants as event
 use Rattle.grammar_machine.specs.Exchanging.{CallsMakeTheirOwn}
 use Rattle.grammar_machine.specs.Sealing.{SealedCallsLeaveNothing}
 use Rattle.lexer_laws.specs.Heads.{PlainTextsHaveNoHead, HeadsEndBeforeBraces}
@@ -36,12 +37,11 @@ use Rattle.document_laws.specs.Alone.{IsExactPiece}
 use Rattle.document_laws.specs.Edited.{BuildsFile}
 use Rattle.document_laws.specs.Exactly.{RustReadsExactly}
 use Rattle.document_laws.specs.Faults.{AreReplaced}
-use Rattle.token_layout.specs.declared.span.Token.{Token}
-use Rattle.document_laws.specs.Opening.{OpensThere}
-use Rattle.document_laws.specs.Parts.{IsInParts, IsLaidAround}
+use Rattle.document_laws.specs.Parts.{IsLaidAround}
 use Rattle.document_laws.specs.Paths.{IsExactCursor}
 use Rattle.document_laws.specs.Setting.{StandsInParts}
 use Rattle.document_laws.proofs.Alone.{exact_alone}
+use Rattle.document_laws.proofs.Early.{pieces_fit}
 use Rattle.document_laws.proofs.Editing.{edited_parsed}
 use Rattle.document_laws.proofs.Errors.{rest_shifted, all_replaced}
 use Rattle.document_laws.proofs.Few.{short_few}
@@ -124,12 +124,10 @@ same_texts t edit a w q b x y long e f new =
     record { front = one.front; rest = append_cancel_left w b y one.rest }
 
 own_few : (e : Edition) (w : List ℕ) (k : SyntaxKind) (r : Reparser) (was : Reading) (x : IsExactPiece e w k r was) → IsUtf8 w → length w ≤ 1700000 → length x.own + 1 < 2 ^ 32 - 1
-own_few e w k r was x u small = ?
-
-bounded : (e : Edition) (a w q c : List ℕ) (ts us : List Token) (t : Tree) (i : ℕ) (p : Place) (k : SyntaxKind) (r : Reparser) (now : Reading)
-    (o : OpensThere e (a ++ (w ++ c)) t (i ∷ p) k r) (y : IsExactPiece e q k r now) → IsInParts e a w c ts us
-    → (length y.own + 1) + o.piece.event.from < 2 ^ 32 - 1
-bounded e a w q c ts us t i p k r now o y parts = ?
+own_few e w k r was x u small =
+    let count = ap length x.events ∙ length-append x.own (event.Node k 0 ∷ []) in
+    let few = few_of (rule_by_number r.number) e w u small in
+    omega (arith, count, few)
 
 -- the parts of the text are those that the tokens cut
 at_piece : CallsMakeTheirOwn → SealedCallsLeaveNothing → PlainTextsHaveNoHead → HeadsEndBeforeBraces
@@ -154,6 +152,7 @@ at_piece own leave plain heads e t edit q k r was now i p piece s is_q is_new sm
     let small_old : length (a ++ (w ++ c)) ≤ 1700000 = omega (arith, small, long_old) in
     let small_w : length w ≤ 1700000 = omega (arith, small_old, one, two) in
     let small_q : length q ≤ 1700000 = omega (arith, small_new, one_new, two_new) in
+    let at = here.starts in
     let small_a : length a ≤ 1700000 = omega (arith, small_old, one, two) in
     let few_old = few_of rule.SourceFile e (a ++ (w ++ c)) old_is small_old in
     let few_new = few_of rule.SourceFile e (a ++ (q ++ c)) is_new small_new in
@@ -165,7 +164,8 @@ at_piece own leave plain heads e t edit q k r was now i p piece s is_q is_new sm
     let l : IsLaidAround e a w q c s.ts s.us k s.exact.own y.own =
     laid_around own heads e a w q c s.ts s.us t (i ∷ p) k r was now s.opens s.exact y s.parts s.front is_q is_new (omega (arith, small_new))
     (omega (arith, few_old)) (omega (arith, few_new))
-    (bounded e a w w c s.ts s.us t i p k r was s.opens s.exact s.parts) (bounded e a w q c s.ts s.us t i p k r now s.opens y s.parts) in
+    (pieces_fit e (a ++ (w ++ c)) w t (i ∷ p) k k r r was s.opens s.exact old_is s.parts.short s.parts.is_part (omega (arith, small_old, one, two, at)))
+    (pieces_fit e (a ++ (w ++ c)) q t (i ∷ p) k k r r now s.opens y old_is s.parts.short is_q (omega (arith, small_new, one_new, two_new, at))) in
     let opened = pieces_open own e (a ++ (w ++ c)) t i p k here.opening here.later r old_is s.parts.short (omega (arith, few_old)) built_old here.is_place here.node_is here.chosen in
     let shift = rest_shifted a w q edit here.new_part here.begun forwards here.ended in
     record {
