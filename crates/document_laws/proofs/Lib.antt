@@ -27,6 +27,7 @@ mod Editing
 mod Kinding
 mod Filing
 mod Few
+mod Early
 mod Inside
 mod Erring
 mod Faults
