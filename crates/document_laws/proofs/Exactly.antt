@@ -1,9 +1,9 @@
 -- The front end for Rust reads the pieces of every text as in the text.
-use Rattle.std.proofs.Common.{◌⊎◌, inl, inr, ◌≡◌, ℕ, ◌+◌, ◌-◌, ◌≤◌, ◌<◌, ◌^◌, Bool, true, false, List, [], ◌∷◌, ◌++◌, length, take, drop, ap, ap₂, ◌∙◌, refl, subst, sym, arith, append_assoc, length-append}
+use Rattle.std.proofs.Common.{inl, inr, ◌≡◌, ℕ, ◌+◌, ◌-◌, ◌≤◌, ◌<◌, ◌^◌, true, false, List, [], ◌∷◌, ◌++◌, length, take, drop, ap, ap₂, ◌∙◌, refl, subst, sym, arith, length-append}
 use Rattle.std.specs.Prelude.{Option, Some, None, IsUtf8, IsCharBoundary}
 use Rattle.std.proofs.lemmas.List.{append_cancel_left, append_cancel_right}
 use Rattle.std.proofs.lemmas.Str.{IsUtf8-append, IsUtf8-take, IsUtf8-drop}
-use Rattle.std.proofs.Math.Seq.{drop-append_seam, take-append_seam}
+use Rattle.std.proofs.Math.Seq.{drop-append_seam}
 use Rattle.text_size.specs.TextRange.{Bounds}
 use Rattle.syntax_kind.specs.declared.syntax_kind.SyntaxKind.{SyntaxKind}
 use Rattle.syntax_kind.specs.declared.syntax_kind.SyntaxKind.TheVariants as kinds
@@ -17,11 +17,11 @@ use Rattle.ras_front_end.specs.declared.edition.Edition.{Edition}
 use Rattle.ras_front_end.specs.declared.edition.Entry.TheVariants.{SourceFile}
 use Rattle.ras_front_end.specs.declared.edition.Reparser.{Reparser}
 use Rattle.ras_front_end.specs.Fault.{Fault}
-use Rattle.ras_front_end.specs.Parsed.{Parsed, IsParseOf}
+use Rattle.ras_front_end.specs.Parsed.{Parsed}
 use Rattle.ras_front_end.specs.Reading.{Reading, events_from, step_faults, stored_faults}
 use Rattle.exact_front.specs.Exact.{is_piece}
 use Rattle.ras_parsing.specs.Edit.{Edit, IsEditOf, edited, edited_at}
-use Rattle.ras_parsing.specs.Document.{is_quiet_from, in_order, all_in_order, IsReadOf, ExactPath, IsPieceOf, ByPiece, ByAll, IsEdited}
+use Rattle.ras_parsing.specs.Document.{is_quiet_from, in_order, all_in_order, IsReadOf, ExactPath, IsPieceOf}
 use Rattle.ras_parsing.proofs.Around.{boundary_at}
 use Rattle.grammar_machine.specs.declared.event.Event.TheVariants as event
 use Rattle.grammar_machine.specs.Exchanging.{CallsMakeTheirOwn}
