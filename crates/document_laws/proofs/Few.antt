@@ -31,8 +31,8 @@ use Rattle.document_laws.proofs.Owning.{few_at, few_sights, few_tokens}
 use Rattle.document_laws.proofs.Sights.{sights_are}
 
 -- from one state to a later one, at most n events more than tokens
-record Few (n : ℕ) (s t : State) : Type 0 where
-  is : length t.made.events + s.place.at ≤ (length s.made.events + t.place.at) + n
+pub record Few (n : ℕ) (s t : State) : Type 0 where
+  pub is : length t.made.events + s.place.at ≤ (length s.made.events + t.place.at) + n
 
 stays : (n : ℕ) (s : State) → Few n s s
 stays n s = record { is = omega arith }
@@ -142,7 +142,7 @@ expects g ts false n s short = makes (event.Error n) s
 
 -- ---- an operation
 
-obey-few : (g : Tables) (ts : List Sight) (o : Op) (s : State) → length ts + 3 < 2 ^ 64 → Few 1 s (obey_of g ts o s)
+pub obey-few : (g : Tables) (ts : List Sight) (o : Op) (s : State) → length ts + 3 < 2 ^ 64 → Few 1 s (obey_of g ts o s)
 obey-few g ts (op.IfKind k target) s short = goes (nat_eq (here_of ts s.place) k) target s
 obey-few g ts (op.UnlessKind k target) s short = goes (not (nat_eq (here_of ts s.place) k)) target s
 obey-few g ts (op.IfIn set target) s short = goes (has_of g set (here_of ts s.place)) target s

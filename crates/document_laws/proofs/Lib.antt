@@ -21,6 +21,7 @@ mod Opening
 mod Around
 mod Ending
 mod Few
+mod Early
 mod Inside
 mod Erring
 mod Faults

@@ -18,7 +18,8 @@ ghost use Rattle.document_laws.specs.Around.{TokensAreReplaced};
 ghost use Rattle.document_laws.specs.Ending.{RunsTakeNoMore, PiecesEndAtTheirTokens};
 ghost use Rattle.document_laws.specs.Inside.{PiecesErrInside};
 ghost use Rattle.document_laws.specs.Faults.{ParserErrorsAreReplaced, PiecesShiftTheRest, ErrorsAreReplaced};
-ghost use Rattle.document_laws.specs.Few.{EventsAreFew, RustMakesFewEvents, ShortTextsMakeFewEvents};
+ghost use Rattle.document_laws.specs.Few.{EventsAreFew, RustMakesFewEvents, ShortTextsMakeFewEvents, EventsSoFarAreFew};
+ghost use Rattle.document_laws.specs.Few.{PiecesComeEarly, PiecesFit};
 ghost use Rattle.document_laws.specs.Tables.{RustSealsByCalls, RustLooksAreShort, ExactRulesAreSealed};
 
 use grammar_machine::laws::{calls_make_their_own, sealed_calls_leave_nothing};
@@ -171,11 +172,15 @@ pub fn pieces_end_at_their_tokens()
 {}
 
 /// A run makes no more than 2,403 events for each of its tokens, and some at their end. So those of
-/// a text of Rust of up to 1,787,335 bytes, and one more, have numbers of 32 bits.
+/// a text of Rust of up to 1,787,335 bytes, and one more, have numbers of 32 bits. Before those of
+/// an exact piece there are no more than for the bytes before it.
 pub fn rust_makes_few_events()
     ensures runs { EventsAreFew }
     ensures rust { RustMakesFewEvents }
     ensures short { ShortTextsMakeFewEvents }
+    ensures so_far { EventsSoFarAreFew }
+    ensures early { PiecesComeEarly }
+    ensures fit { PiecesFit }
 {}
 
 /// The errors that the parser finds in an exact piece of Rust by itself are behind its first byte
