@@ -1,5 +1,5 @@
 -- A part of a text that is some of the lexer's tokens may be replaced.
-use Rattle.std.proofs.Common.{◌≡◌, ℕ, ◌+◌, ◌<◌, ◌^◌, List, [], ◌∷◌, ◌++◌, length, take, drop, refl, sym, ap, subst, ◌∙◌, arith, append_assoc}
+use Rattle.std.proofs.Common.{◌≡◌, ℕ, ◌<◌, ◌^◌, List, [], ◌∷◌, ◌++◌, length, take, drop, refl, sym, ap, subst, ◌∙◌, arith, append_assoc}
 use Rattle.std.specs.Prelude.{IsUtf8}
 use Rattle.std.proofs.Math.Seq.{take-append_seam, drop-append_seam}
 use Rattle.std.proofs.lemmas.List.{take-append-drop, length-append, length-take-le}
@@ -15,14 +15,14 @@ use Rattle.document_laws.specs.Around.{TokensAreReplaced}
 use Rattle.document_laws.proofs.Opening.{bytes_are}
 
 -- tokens cut a text in the parts that some of them cut
-record Parts (xs ys : List Token) (text : List ℕ) : Type 0 where
-  front : List ℕ
-  back : List ℕ
-  is : text ≡ front ++ back
-  cut_front : IsCut xs front
-  cut_back : IsCut ys back
+pub record Parts (xs ys : List Token) (text : List ℕ) : Type 0 where
+  pub front : List ℕ
+  pub back : List ℕ
+  pub is : text ≡ front ++ back
+  pub cut_front : IsCut xs front
+  pub cut_back : IsCut ys back
 
-parts : (xs ys : List Token) (text : List ℕ) → IsCut (xs ++ ys) text → Parts xs ys text
+pub parts : (xs ys : List Token) (text : List ℕ) → IsCut (xs ++ ys) text → Parts xs ys text
 parts [] ys text h = record { front = []; back = text; is = refl; cut_front = refl; cut_back = h }
 parts (t ∷ xs) ys text h =
     let w : Parts xs ys (drop t.len text) = parts xs ys (drop t.len text) h.2 in
@@ -38,7 +38,7 @@ parts (t ∷ xs) ys text h =
       cut_back = w.cut_back;
     }
 
-cut_text : (ts : List Token) (s : List ℕ) → IsCut ts s → IsUtf8 s
+pub cut_text : (ts : List Token) (s : List ℕ) → IsCut ts s → IsUtf8 s
 cut_text [] s h = subst IsUtf8 (sym h) IsUtf8-nil
 cut_text (t ∷ ts) s h =
     subst IsUtf8 (take-append-drop t.len s) (IsUtf8-append (take t.len s) (drop t.len s) h.1 (cut_text ts (drop t.len s) h.2))

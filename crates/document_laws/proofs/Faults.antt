@@ -295,8 +295,8 @@ errors_replaced e a w q c ts us k r was now edit i x y d chosen few few_new shif
     let before : flat_map (earlier_fault b) one ≡ map (said_amid new_all 0 (length (tq ++ us))) fs =
     all_one P (earlier_fault b) (said_amid old_all 0 (length (tw ++ us))) (said_amid new_all 0 (length (tq ++ us)))
     (λ f p. is_earlier b (said_amid old_all 0 (length (tw ++ us)) f) (omega (arith, p))
-        ∙ ap (λ (m : List ℕ). fault_at m (f.position + 0) ∷ [])
-        (message_same f.message (last_of old_all (f.left + length (tw ++ us))) (last_of new_all (f.left + length (tq ++ us))) (next_before ts tw tq us f.left i.braced.0 j.braced.0)))
+    ∙ ap (λ (m : List ℕ). fault_at m (f.position + 0) ∷ [])
+    (message_same f.message (last_of old_all (f.left + length (tw ++ us))) (last_of new_all (f.left + length (tq ++ us))) (next_before ts tw tq us f.left i.braced.0 j.braced.0)))
     fs was_laid.lie_before in
     let not_before : flat_map (earlier_fault b) two ≡ [] =
     all_none (IsInside (length w) (length tw)) (earlier_fault b) (said_amid old_all (length a) (length us))
@@ -315,13 +315,13 @@ errors_replaced e a w q c ts us k r was now edit i x y d chosen few few_new shif
     let behind : flat_map (later_fault b edit) three ≡ map (said_amid new_all (length (a ++ q)) 0) hs =
     all_one L (later_fault b edit) (said_amid old_all (length (a ++ w)) 0) (said_amid new_all (length (a ++ q)) 0)
     (λ f p.
-        let at : shifted edit (f.position + length (a ++ w)) ≡ f.position + length (a ++ q) =
-        ap (shifted edit) (swap f.position (length (a ++ w))) ∙ shift f.position ∙ swap (length (a ++ q)) f.position in
-        is_later b edit (said_amid old_all (length (a ++ w)) 0 f) (omega arith)
-        ∙ ap (λ (g : Fault). g ∷ [])
-        (fault_same (parser_message_of f.message (last_of old_all (f.left + 0))) (parser_message_of f.message (last_of new_all (f.left + 0)))
-        (shifted edit (f.position + length (a ++ w))) (f.position + length (a ++ q))
-        (ap (parser_message_of f.message) (left_behind ts tw us f.left p ∙ sym (left_behind ts tq us f.left p))) at))
+    let at : shifted edit (f.position + length (a ++ w)) ≡ f.position + length (a ++ q) =
+    ap (shifted edit) (swap f.position (length (a ++ w))) ∙ shift f.position ∙ swap (length (a ++ q)) f.position in
+    is_later b edit (said_amid old_all (length (a ++ w)) 0 f) (omega arith)
+    ∙ ap (λ (g : Fault). g ∷ [])
+    (fault_same (parser_message_of f.message (last_of old_all (f.left + 0))) (parser_message_of f.message (last_of new_all (f.left + 0)))
+    (shifted edit (f.position + length (a ++ w))) (f.position + length (a ++ q))
+    (ap (parser_message_of f.message) (left_behind ts tw us f.left p ∙ sym (left_behind ts tq us f.left p))) at))
     hs was_laid.lie_behind in
     -- the new piece
     let few_bytes : length q < 2 ^ 32 = omega (arith, new_short, part_len a q c) in
@@ -332,8 +332,8 @@ errors_replaced e a w q c ts us k r was now edit i x y d chosen few few_new shif
     ap (map (moved (length a))) now_faults ∙ moved_map (length a) (said_of tq) new_own
     ∙ all_same (IsInside (length q) (length tq)) (λ f. moved (length a) (said_of tq f)) (said_amid new_all (length a) (length us))
     (λ f p. let low = p.few in let high = p.many in
-        ap (λ (m : List ℕ). fault_at m (f.position + length a))
-        (sym (message_same f.message (last_of new_all (f.left + length us)) (last_of tq f.left) (next_inside ts tq us f.left j.braced.1 low high))))
+    ap (λ (m : List ℕ). fault_at m (f.position + length a))
+    (sym (message_same f.message (last_of new_all (f.left + length us)) (last_of tq f.left) (next_inside ts tq us f.left j.braced.1 low high))))
     new_own new_inside in
     let first : flat_map (earlier_fault b) old ≡ map (said_amid new_all 0 (length (tq ++ us))) fs =
     ap (flat_map (earlier_fault b)) old_is ∙ three_flat (earlier_fault b) one two three

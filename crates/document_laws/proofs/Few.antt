@@ -207,8 +207,12 @@ few_made n g ts rule short = let h = (runs-few n g ts (begin_of rule) short).is 
 
 pub events_few : EventsAreFew
 events_few g rule ts short =
-    omega (arith, length-reverse (run_of g rule ts).made.events, few_made (fuel_of (length ts)) g ts rule short,
-        few_at (fuel_of (length ts)) g ts rule short)
+    omega (
+      arith,
+      length-reverse (run_of g rule ts).made.events,
+      few_made (fuel_of (length ts)) g ts rule short,
+      few_at (fuel_of (length ts)) g ts rule short,
+    )
 
 pub rust_few : RustMakesFewEvents
 rust_few rule e text u small =
@@ -218,9 +222,13 @@ rust_few rule e text u small =
     let few : length ss ≤ length text =
     omega (arith, few_sights e text ts, few_tokens ts l.none_empty, cut_sum ts text l.cut) in
     let short : length ss + 3 < 2 ^ 64 = omega (arith, few, small) in
-    omega (arith, few, length-reverse (run_of rust_tables (first_op rule) ss).made.events,
-        few_made (fuel_of (length ss)) rust_tables ss (first_op rule) short,
-        take_no_more (fuel_of (length ss)) rust_tables (first_op rule) ss ts short (sights_are e text ts (lexer_known e text)))
+    omega (
+      arith,
+      few,
+      length-reverse (run_of rust_tables (first_op rule) ss).made.events,
+      few_made (fuel_of (length ss)) rust_tables ss (first_op rule) short,
+      take_no_more (fuel_of (length ss)) rust_tables (first_op rule) ss ts short (sights_are e text ts (lexer_known e text)),
+    )
 
 pub short_few : ShortTextsMakeFewEvents
 short_few rule e text u small = omega (arith, small, rust_few rule e text u (omega (arith, small)))

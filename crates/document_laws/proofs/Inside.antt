@@ -357,7 +357,7 @@ module _ (k : SyntaxKind) (attaching : List SyntaxKind) (text : List ℕ) (ts : 
       let inside : All (IsInside (length text) (length ts)) said.added =
       all_too (Between first.position last.position (length last.rest) (length first.rest)) (IsInside (length text) (length ts))
       (λ g b. let p = b.low in let q = b.high in let m = b.few in let n = b.many in
-          record { low = omega (arith, p, at); high = omega (arith, q, low); few = omega (arith, m, some); many = omega (arith, n, count) })
+      record { low = omega (arith, p, at); high = omega (arith, q, low); few = omega (arith, m, some); many = omega (arith, n, count) })
       said.added said.between in
       subst (All (IsInside (length text) (length ts)))
       (sym (laid_faults ∙ walked_faults body kind signs is ∙ said.faults ∙ ap (λ (fs : List Fault). fs ++ said.added) none)) inside

@@ -47,17 +47,17 @@ none_reported : {A : Type 0} (say : A → List ℕ × ℕ) (fs : List A) (s : Li
 none_reported say [] s = refl
 none_reported say (f ∷ fs) s = none_reported say fs s
 
-with_reports : {A : Type 0} (say : A → List ℕ × ℕ) (fs : List A) (xs : Steps) (s : List ℕ) → events_from (xs ++ map (report_by say) fs) s ≡ events_from xs s
+pub with_reports : {A : Type 0} (say : A → List ℕ × ℕ) (fs : List A) (xs : Steps) (s : List ℕ) → events_from (xs ++ map (report_by say) fs) s ≡ events_from xs s
 with_reports say fs [] s = none_reported say fs s
 with_reports say fs (begins k ∷ xs) s = ap (λ (es : List TreeEvent). enter k ∷ es) (with_reports say fs xs s)
 with_reports say fs (takes k n ∷ xs) s = ap (λ (es : List TreeEvent). leaf k (take n s) ∷ es) (with_reports say fs xs (drop n s))
 with_reports say fs (ends ∷ xs) s = ap (λ (es : List TreeEvent). exit ∷ es) (with_reports say fs xs s)
 with_reports say fs (reports m p ∷ xs) s = with_reports say fs xs s
 
-abbrev laid_in : Edition → List ℕ → Laying
+abbrev pub laid_in : Edition → List ℕ → Laying
 laid_in e text = laid_of (Node node.SOURCE_FILE) attaching_kinds text (tokens_of e text) (events_in e text)
 
-parsed_events : (e : Edition) (text : List ℕ) → length text < 2 ^ 32 → events_from (parsed_of SourceFile e text).steps text ≡ events_from (laid_in e text).steps text
+pub parsed_events : (e : Edition) (text : List ℕ) → length text < 2 ^ 32 → events_from (parsed_of SourceFile e text).steps text ≡ events_from (laid_in e text).steps text
 unfolding parsed_of reading_with
 parsed_events e text h =
     let short : nat_lt (length text) (2 ^ 32) ≡ true = grind (arith, nat_tests, h) in

@@ -33,7 +33,7 @@ right_true false b h = (let bad : false ≡ true = h in cc)
 some_same : (a b : Op) → Some a ≡ Some b → a ≡ b
 some_same a b e = cc
 
-passes : (test : Op → Bool) (xs : List Op) (i : ℕ) (x : Op) → list_all test xs ≡ true → slice_get xs i ≡ Some x → test x ≡ true
+pub passes : (test : Op → Bool) (xs : List Op) (i : ℕ) (x : Op) → list_all test xs ≡ true → slice_get xs i ≡ Some x → test x ≡ true
 passes test [] i x h e = (let bad : None ≡ Some x = e in cc)
 passes test (y ∷ xs) zero x h e = ap test (sym (some_same y x e)) ∙ left_true (test y) (list_all test xs) h
 passes test (y ∷ xs) (suc i) x h e = passes test xs i x (right_true (test y) (list_all test xs) h) e

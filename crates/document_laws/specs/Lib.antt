@@ -16,6 +16,11 @@ pub mod Opening
 pub mod Around
 pub mod Ending
 pub mod Parts
+pub mod Paths
+pub mod Edited
+pub mod FileKinds
 pub mod Few
 pub mod Inside
 pub mod Faults
+pub mod Setting
+pub mod Exactly

@@ -16,13 +16,21 @@ ghost use Rattle.document_laws.specs.Begun.{CallsBeginWithTheirToken};
 ghost use Rattle.document_laws.specs.Opening.{PiecesOpenAtTheirBraces};
 ghost use Rattle.document_laws.specs.Around.{TokensAreReplaced};
 ghost use Rattle.document_laws.specs.Ending.{RunsTakeNoMore, PiecesEndAtTheirTokens};
+ghost use Rattle.document_laws.specs.Edited.{EditedTreesAreParsed};
+ghost use Rattle.document_laws.specs.FileKinds.{NodesHaveTheirKinds, FilesHaveTheirKinds, CursorsOfFiles};
+ghost use Rattle.document_laws.specs.Paths.{CursorsOfEdits};
 ghost use Rattle.document_laws.specs.Inside.{PiecesErrInside};
 ghost use Rattle.document_laws.specs.Faults.{ParserErrorsAreReplaced, PiecesShiftTheRest, ErrorsAreReplaced};
+ghost use Rattle.document_laws.specs.Exactly.{RustReadsExactly};
+ghost use Rattle.document_laws.specs.Few.{EventsAreFew, RustMakesFewEvents, ShortTextsMakeFewEvents};
+ghost use Rattle.document_laws.specs.Setting.{PiecesAreLaidAround};
+ghost use Rattle.document_laws.specs.Setting.{PiecesAreInParts, PiecesAreLaidAround};
 ghost use Rattle.document_laws.specs.Few.{EventsAreFew, RustMakesFewEvents, ShortTextsMakeFewEvents, EventsSoFarAreFew};
 ghost use Rattle.document_laws.specs.Few.{PiecesComeEarly, PiecesFit};
 ghost use Rattle.document_laws.specs.Tables.{RustSealsByCalls, RustLooksAreShort, ExactRulesAreSealed};
 
 use grammar_machine::laws::{calls_make_their_own, sealed_calls_leave_nothing};
+use lexer_laws::laws::plain_texts_have_no_head;
 
 /// Where some of the events that build a tree build one node by themselves, this node is in the
 /// tree, and starts where the events before have taken their texts. With the events of any other
@@ -171,6 +179,30 @@ pub fn pieces_end_at_their_tokens()
     ensures pieces { PiecesEndAtTheirTokens }
 {}
 
+/// The node that `Document::edit` finds for an exact piece around an edit is a node of the tree,
+/// not its root, that begins with a token `{` and ends with a token `}`, if no node is of such a
+/// kind. The edit is between the braces, and the new text is the old one with the node's new text
+/// in the place of the old.
+pub fn cursors_of_edits()
+    ensures { CursorsOfEdits }
+{}
+
+/// Where a text of Rust with an exact piece is laid as before around another exact piece, the node
+/// of the tree that starts where the piece starts, if its first child is a token with a text, is
+/// the piece's, and with the tree of the other piece there the tree is that of the new text.
+pub fn edited_trees_are_parsed()
+    ensures { EditedTreesAreParsed }
+{}
+
+/// A run makes no node of a kind of which no operation of the tables makes one. So no node of the
+/// tree of a file of Rust is of the kind of a brace; its root is a source file, and it has the
+/// text. The law of the cursors of edits holds of each file.
+pub fn files_have_their_kinds()
+    ensures runs { NodesHaveTheirKinds }
+    ensures files { FilesHaveTheirKinds }
+    ensures cursors { CursorsOfFiles }
+{}
+
 /// A run makes no more than 2,403 events for each of its tokens, and some at their end. So those of
 /// a text of Rust of up to 1,787,335 bytes, and one more, have numbers of 32 bits. Before those of
 /// an exact piece there are no more than for the bytes before it.
@@ -198,3 +230,34 @@ pub fn parser_errors_are_replaced()
     ensures rest { PiecesShiftTheRest }
     ensures all { ErrorsAreReplaced }
 {}
+
+/// Where the front end reads the text of a node of a file's tree, which begins with `{`, as an exact
+/// piece, the file's text is in parts around it: the tokens of the file are those before it, those
+/// that the piece has by itself, and those behind it.
+pub fn pieces_are_in_parts()
+    ensures { PiecesAreInParts }
+{
+    calls_make_their_own();
+    sealed_calls_leave_nothing();
+    plain_texts_have_no_head();
+}
+
+/// A text of Rust in which an exact piece is replaced by another one is laid around it as before,
+/// and each of the two pieces as by itself; and the new text's tokens are those of its parts.
+pub fn pieces_are_laid_around()
+    ensures { PiecesAreLaidAround }
+{
+    calls_make_their_own();
+    plain_texts_have_no_head();
+}
+
+/// The front end for Rust reads the pieces of every text as in the text. So where a `Document` was
+/// read anew once, its parse after any number of edits is the parse of its text: the same tree, and
+/// the same errors in the same order (`exact` of `Document::edit`).
+pub fn rust_reads_exactly()
+    ensures { RustReadsExactly }
+{
+    calls_make_their_own();
+    sealed_calls_leave_nothing();
+    plain_texts_have_no_head();
+}

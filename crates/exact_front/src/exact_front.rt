@@ -7,17 +7,17 @@ use ras_front_end::{Edition, FrontEnd, Output, Reparser};
 use std::alloc::{AllocError, Global};
 use syntax_kind::SyntaxKind;
 
-/// A front end that can tell of a piece of a text, from `{` to `}`, whether it is read in the text as
-/// it is by itself.
+/// A front end that can tell of a piece of a text, from `{` to `}`, whether it is read in the text
+/// as it is by itself.
 ///
-/// Take a text that [`ExactFront::has_head`] does not refuse, with a node whose first child is `{` and
-/// whose last child is `}`, which has a reparser here, and whose text is a piece by
+/// Take a text that [`ExactFront::has_head`] does not refuse, with a node whose first child is `{`
+/// and whose last child is `}`, which has a reparser here, and whose text is a piece by
 /// [`ExactFront::exact_piece`]. If a new text of that node is a piece too, and neither the text nor
-/// the new one is longer than [`ExactFront::longest`], then a parse of the new text should make what
-/// a parse of the old one made, with the output for the piece in place of the node; but for the
-/// messages of the lexer's errors behind the piece. `Document` of `ras_parsing` relies on it. It is
-/// not a law of the trait: an implementation proves only the law `exact_kept`, that the steps of a
-/// piece build one tree over its text. For Rust it is proved: by `document_laws`.
+/// the new one is longer than [`ExactFront::longest`], then a parse of the new text should make
+/// what a parse of the old one made, with the output for the piece in place of the node; but for
+/// the messages of the lexer's errors behind the piece. `Document` of `ras_parsing` relies on it.
+/// It is not a law of the trait: an implementation proves only the law `exact_kept`, that the steps
+/// of a piece build one tree over its text. For Rust it is proved: by `document_laws`.
 pub trait ExactFront: FrontEnd {
     // The results, as functions of the arguments.
     ghost exact: { Self → Exact };
@@ -27,16 +27,18 @@ pub trait ExactFront: FrontEnd {
     fn longest(&self) -> usize
         ensures { result ≡ (exact self.now).longest };
 
-    /// Whether something may stand at the beginning of the text whose end depends on the rest of the text, such as a front matter.
+    /// Whether something may stand at the beginning of the text whose end depends on the rest of
+    /// the text, such as a front matter.
     fn has_head(&self, text: &str) -> bool
         ensures { result ≡ (exact self.now).has_head text.now };
 
-    /// The reparser of the nodes of a kind that stand between braces, or `None` if they are not read by themselves.
+    /// The reparser of the nodes of a kind that stand between braces, or `None` if they are not
+    /// read by themselves.
     fn exact_reparser(&self, kind: SyntaxKind) -> Option<Reparser>
         ensures { result ≡ (exact self.now).chosen kind };
 
-    /// Parses a piece by a reparser that [`ExactFront::exact_reparser`] returned, or returns `None` if it is not known to be read in
-    /// any text as by itself.
+    /// Parses a piece by a reparser that [`ExactFront::exact_reparser`] returned, or returns `None`
+    /// if it is not known to be read in any text as by itself.
     fn exact_piece(
         &self,
         alloc: Global,
@@ -46,7 +48,8 @@ pub trait ExactFront: FrontEnd {
     ) -> Result<Option<Output>, AllocError>
         ensures { IfOk result (λ o. option_map reading_of o ≡ (exact self.now).piece reparser edition text.now) };
 
-    /// Whether [`ExactFront::exact_piece`] parses the text: without its output this takes less time.
+    /// Whether [`ExactFront::exact_piece`] parses the text: without its output this takes less
+    /// time.
     fn is_exact_piece(
         &self,
         alloc: Global,

@@ -18,17 +18,20 @@ use std::alloc::Global;
 
 /// A text that is edited again and again, and its parse by a front end in an edition.
 ///
-/// After each edit the parse is meant to be that of the new text: the tree, and the errors in their order, that a parse of the new text
-/// from the beginning would give. [`Document::edit`] parses one block again where the front end can tell that this is enough
-/// (see [`ExactFront`]), and otherwise the whole text.
+/// With the front end for Rust the parse is, after any number of edits, that of the text: the same
+/// tree, and the same errors in the same order, as a parse of the text from the beginning gives.
+/// [`Document::edit`] parses one block again where the front end can tell that this is enough (see
+/// [`ExactFront`]), and otherwise the whole text.
 ///
-/// What is proved: the text of the parse is always the text after all edits; where the whole text was parsed, the parse is that of the
-/// text; where a block was parsed, the tree is the old one with the tree of the block's new text in its place, and the errors are the
-/// old ones around it and the new ones in it, in this order. That this is the parse of the whole text is not proved: it rests on
-/// [`ExactFront`], whose promise is tested for Rust, but is no law. [`Parse::reparse`] is for parses that no document keeps, and
-/// makes less sure.
+/// This is proved. [`Document::new`] gives the parse of its text. By the clause `exact` of
+/// [`Document::edit`], an edit makes the parse of the new text of that of the old one, if the front
+/// end reads the pieces of every text as in the text (`ReadsExactly`): for `Rust` that is the law
+/// `rust_reads_exactly` of `document_laws`, for every text, in every edition. Another front end's
+/// documents rest on the promise of [`ExactFront`], which is no law of the trait. What is true for
+/// each front end is `answer`: which piece is parsed again, and what its tree and errors replace.
 ///
-/// A failed edit leaves the document unchanged.
+/// A failed edit leaves the document unchanged. [`Parse::reparse`] is for parses that no document
+/// keeps, and makes less sure.
 #[derive(Drop)]
 pub struct Document<T, F: Drop> {
     front: F,
@@ -64,8 +67,8 @@ fn read_counted<T, F: FrontEnd>(
 impl<T: FileView, F: ExactFront + Drop> Document<T, F> {
     /// The parse of a text as a file.
     ///
-    /// Returns `TooLong` if the text is longer than 4,294,967,295 bytes; this is checked first. Takes the time of the front end, and
-    /// time linear in the text.
+    /// Returns `TooLong` if the text is longer than 4,294,967,295 bytes; this is checked first.
+    /// Takes the time of the front end, and time linear in the text.
     pub fn new(
         alloc: Global,
         front: F,
@@ -155,16 +158,21 @@ impl<T: FileView, F: ExactFront + Drop> Document<T, F> {
         }
     }
 
-    /// Replaces the bytes in `delete` by `insert`. Returns the range of the new text that was parsed again: that of one block, or the
-    /// whole text. Old parses that were cloned stay as they are.
+    /// Replaces the bytes in `delete` by `insert`. Returns the range of the new text that was
+    /// parsed again: that of one block, or the whole text. Old parses that were cloned stay as they
+    /// are.
     ///
-    /// With Rust's front end, `b` for 9..10 of `fn f() { a }` parses `{ b }` and returns 7..12; `g` for 3..4 parses the whole text.
+    /// With Rust's front end, `b` for 9..10 of `fn f() { a }` parses `{ b }` and returns 7..12; `g`
+    /// for 3..4 parses the whole text.
     ///
-    /// The range must be in the text, on character boundaries. Returns `TooLong` if the new text is longer than 4,294,967,295 bytes;
-    /// this is checked first. If an error is returned, the document is unchanged.
+    /// The range must be in the text, on character boundaries. Returns `TooLong` if the new text is
+    /// longer than 4,294,967,295 bytes; this is checked first. If an error is returned, the
+    /// document is unchanged.
     ///
-    /// The text and the tree are copied once, as by `SyntaxNode::replace_with`; beside that it takes the time of the front end for what
-    /// is parsed again. A block that turns out to be no exact piece is read once, in vain.
+    /// The text and the tree are copied once, as by `SyntaxNode::replace_with`; beside that it
+    /// takes the time of the front end for what is parsed again. A block is read with its old text
+    /// too, without a tree; and in vain if it turns out to be no exact piece. In a text of more
+    /// than [`ExactFront::longest`] bytes, 1,700,000 for Rust, no block is parsed by itself.
     pub fn edit(
         &mut self,
         alloc: Global,

@@ -133,7 +133,8 @@ fn text_after(
     edited_text(alloc, node.as_str(), start, delete, insert)
 }
 
-/// The exact piece around an edit, if there is one. The first `count` errors of the parse are the parser's.
+/// The exact piece around an edit, if there is one. The first `count` errors of the parse are the
+/// parser's.
 pub(crate) fn exact_path<T, F: ExactFront>(
     alloc: Global,
     old: &Parse<T>,
@@ -193,7 +194,8 @@ pub(crate) fn parser_errors(steps: &[Step]) -> usize
     count
 }
 
-/// The parse with an exact piece in the place of its node. The first `count` errors of the old parse are the parser's.
+/// The parse with an exact piece in the place of its node. The first `count` errors of the old
+/// parse are the parser's.
 pub(crate) fn with_exact<T>(
     alloc: Global,
     old: &Parse<T>,
@@ -251,8 +253,8 @@ fn range_from(start: TextSize, text: &str) -> TextRange
     TextRange::new(start, TextSize::new(start.raw() + text.len() as u32))
 }
 
-// The parse of a new tree, in which a piece with these errors replaces a range. The first errors, `count` of the old ones and `more` of
-// the new ones, are the parser's.
+// The parse of a new tree, in which a piece with these errors replaces a range. The first errors,
+// `count` of the old ones and `more` of the new ones, are the parser's.
 fn spliced<T>(
     alloc: Global,
     old: &Parse<T>,

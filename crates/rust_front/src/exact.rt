@@ -20,8 +20,8 @@ use token_layout::Token;
 /// The message of the lexer's error in a token depends on no more tokens before it than these.
 const MEMORY: usize = 5;
 
-/// The longest text, in bytes, of which pieces may be read by themselves: the machine makes fewer
-/// than 2,403 events a token, and numbers them with 32 bits.
+/// The longest text, in bytes, of which pieces may be read by themselves: the machine makes at most
+/// 2,403 events a token, and numbers them with 32 bits.
 pub const LONGEST_EXACT: usize = 1_700_000;
 
 fn is_byte_at(text: &str, index: usize, byte: u8) -> bool
@@ -33,8 +33,8 @@ fn is_byte_at(text: &str, index: usize, byte: u8) -> bool
     }
 }
 
-// Whether a text begins as a shebang does, and not as an attribute. (For the lexer it is none either if white space stands before
-// the bracket.)
+// Whether a text begins as a shebang does, and not as an attribute. (For the lexer it is none
+// either if white space stands before the bracket.)
 fn has_shebang(text: &str) -> bool
     ensures { result ≡ has_shebang_of text.now }
 {
@@ -47,8 +47,8 @@ fn is_visible(byte: u8) -> bool
     b' ' < byte && byte < 127
 }
 
-// Whether the first visible character of a text is a dash, as in the fence of a front matter. Each character that is not a visible
-// one of ASCII is passed over.
+// Whether the first visible character of a text is a dash, as in the fence of a front matter. Each
+// character that is not a visible one of ASCII is passed over.
 fn has_fence(text: &str) -> bool
     ensures { result ≡ has_fence_of text.now }
 {
@@ -135,7 +135,8 @@ fn if_closed(events: Vec<Event>) -> Option<Vec<Event>>
     }
 }
 
-// The events that the grammar makes of the tokens, if they are made of these alone and end with the last of them.
+// The events that the grammar makes of the tokens, if they are made of these alone and end with the
+// last of them.
 fn events_alone(
     alloc: Global,
     rule: Rule,
@@ -178,9 +179,10 @@ fn whole_exact(
 
 /// The output for a piece, or `None` if it depends on what stands around the piece.
 ///
-/// The piece is from `{` to `}`; the rule that parses it stops right behind the `}`, looks neither at what follows nor at what stands
-/// before, and makes nothing but the piece's node behind the `}`; and none of its first five tokens has an error of the lexer, whose
-/// message might depend on tokens before the piece.
+/// The piece is from `{` to `}`; the rule that parses it stops right behind the `}`, looks neither
+/// at what follows nor at what stands before, and makes nothing but the piece's node behind the
+/// `}`; and none of its first five tokens has an error of the lexer, whose message might depend on
+/// tokens before the piece.
 #[tactic(auto, unfolding(crate::specs::Exact::exact_piece_of))]
 pub fn exact_piece(
     alloc: Global,
