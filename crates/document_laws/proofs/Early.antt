@@ -1,5 +1,5 @@
 -- A run makes few events of the tokens that it has taken.
-use Rattle.std.proofs.Common.{◌≡◌, ℕ, zero, suc, ◌+◌, ◌*◌, ◌-◌, ◌<◌, ◌≤◌, ◌^◌, Bool, true, false, nat_lt, if◌then◌else◌, List, [], ◌∷◌, ◌++◌, length, ap, ◌∙◌, sym, subst, refl, arith}
+use Rattle.std.proofs.Common.{◌≡◌, ℕ, zero, suc, ◌+◌, ◌*◌, ◌<◌, ◌≤◌, ◌^◌, Bool, true, false, nat_lt, if◌then◌else◌, List, [], ◌∷◌, ◌++◌, length, ap, sym, subst, refl, arith}
 use Rattle.std.specs.Prelude.{All, Option, Some, None, slice_get}
 use Rattle.std.proofs.lemmas.Bool.Decides.{nat_tests}
 use Rattle.std.proofs.lemmas.List.{length-append}
@@ -9,7 +9,7 @@ use Rattle.token_layout.specs.declared.span.Token.{Token as RawToken}
 use Rattle.grammar_machine.specs.declared.event.Event.TheVariants as event
 use Rattle.grammar_machine.specs.declared.grammar.Sight.{Sight}
 use Rattle.grammar_machine.specs.declared.grammar.Op.{Op}
-use Rattle.grammar_machine.specs.Running.{Tables, State, with_place, past_of, obey_of, step_on, step_of, runs, begin_of}
+use Rattle.grammar_machine.specs.Running.{Tables, State, with_place, past_of, obey_of, step_on, runs, begin_of}
 use Rattle.grammar_machine.proofs.Growing.{obey-grows}
 use Rattle.grammar_machine.proofs.Potential.{kept_of, potential, obey-spends}
 use Rattle.grammar_machine.proofs.Running.{step-at, runs-none, runs-suc}
@@ -23,7 +23,6 @@ use Rattle.rust_lexer.specs.Lexing.{tokens_of}
 use Rattle.rust_lexer.proofs.Kept.{lexed}
 use Rattle.rust_front.specs.Pieces.{rule_by_number}
 use Rattle.document_laws.specs.Few.{EventsSoFarAreFew, PiecesComeEarly, PiecesFit}
-use Rattle.document_laws.specs.Own.{before_call}
 use Rattle.document_laws.proofs.Few.{obey-few, rust_few}
 use Rattle.document_laws.proofs.Opening.{bytes_are}
 use Rattle.document_laws.proofs.Owning.{few_tokens, short_text}
