@@ -222,18 +222,18 @@ pub fn pieces_err_inside()
 {}
 
 /// The parser's errors of a text of Rust in which an exact piece was replaced, and around which the
-/// text is laid as before: those that `Document::edit` puts in order are those of the new text, with
-/// their messages. What is behind the piece moves by as much as the piece grows. With the lexer's
-/// errors these are all that a parse stores, if none of the lexer's is behind the piece.
+/// text is laid as before: those that `Document::edit` puts in order are those of the new text, and
+/// have their messages. What is behind the piece moves by as much as the piece grows. With the
+/// lexer's errors these are all that a parse stores, if none of the lexer's is behind the piece.
 pub fn parser_errors_are_replaced()
     ensures parser { ParserErrorsAreReplaced }
     ensures rest { PiecesShiftTheRest }
     ensures all { ErrorsAreReplaced }
 {}
 
-/// Where the front end reads the text of a node of a file's tree, which begins with `{`, as an exact
-/// piece, the file's text is in parts around it: the tokens of the file are those before it, those
-/// that the piece has by itself, and those behind it.
+/// Where the front end reads the text of a node of a file's tree, which begins with `{`, as an
+/// exact piece, the file's text is in parts around it: the tokens of the file are those before it,
+/// those that the piece has by itself, and those behind it.
 pub fn pieces_are_in_parts()
     ensures { PiecesAreInParts }
 {
