@@ -1,7 +1,7 @@
 //! A pattern at one place of a tree.
-ghost use Rattle.std.specs.Prelude.{◌≡◌, IfOk, OnOk, if◌then◌else◌, Some, None, option_map, replicate, get_or, length};
+ghost use Rattle.std.specs.Prelude.{◌≡◌, IfOk, OnOk, if◌then◌else◌, Some, None, option_map, replicate, get_or, length, slice_get};
 ghost use Rattle.tree_match.specs.Walks.{levels_of};
-ghost use Rattle.tree_match.specs.Matching.{put, put_held, put_new, match_part, match_parts, match_form, first_form, is_for, match_rule, match_template, first_rule, found_of};
+ghost use Rattle.tree_match.specs.Matching.{put, put_held, put_new, match_part, match_parts, match_form, first_form, is_for, match_rule, match_template, match_numbered, first_rule, first_among, found_of};
 
 use crate::bare::Comments;
 use crate::condition::{Hole, admits};
@@ -187,7 +187,7 @@ fn first_form<'t>(
 }
 
 // Whether a rule has a form for nodes of a kind. Most rules have none for most nodes.
-fn is_for(kind: SyntaxKind, rule: &Rule) -> bool
+pub(crate) fn is_for(kind: SyntaxKind, rule: &Rule) -> bool
     ensures { result ≡ is_for kind rule.now }
 {
     rule.forms
@@ -196,6 +196,21 @@ fn is_for(kind: SyntaxKind, rule: &Rule) -> bool
 }
 
 // The first form of a rule whose pattern a node is. Notes what stands for the placeholders.
+fn match_forms<'t>(
+    alloc: Global,
+    walk: &mut Walk<'t>,
+    values: &mut Values<'t>,
+    rule: &Rule,
+    kind: SyntaxKind,
+    inside: &Run<'t>,
+) -> Result<Option<usize>, AllocError>
+    ensures { IfOk result (λ o. option_map (λ f. (f, values.new.items)) o
+        ≡ match_rule rule.now kind inside.now) }
+{
+    first_form(alloc, walk, values, &rule.holes, &rule.forms, kind, inside)
+}
+
+// The same, where most rules have no form for most nodes.
 #[tactic(auto, using(crate::proofs::ConditionLemmas::not_for))]
 fn match_rule<'t>(
     alloc: Global,
@@ -211,7 +226,34 @@ fn match_rule<'t>(
     if !is_for(kind, rule) {
         return Ok(None);
     }
-    first_form(alloc, walk, values, &rule.holes, &rule.forms, kind, inside)
+    match_forms(alloc, walk, values, rule, kind, inside)
+}
+
+/// The rule with a number.
+pub(crate) fn numbered(rules: &[Rule], number: usize) -> Option<&Rule>
+    ensures { option_map (λ r. r.now) result ≡ slice_get rules.now number }
+{
+    rules.get(number)
+}
+
+// The first form of the rule with a number whose pattern a node is.
+#[tactic(auto, using(crate::proofs::ConditionLemmas::no_numbered, crate::proofs::ConditionLemmas::some_numbered))]
+fn match_numbered<'t>(
+    alloc: Global,
+    walk: &mut Walk<'t>,
+    values: &mut Values<'t>,
+    rules: &[Rule],
+    number: usize,
+    kind: SyntaxKind,
+    inside: &Run<'t>,
+) -> Result<Option<usize>, AllocError>
+    ensures { IfOk result (λ o. option_map (λ f. (f, values.new.items)) o
+        ≡ match_numbered rules.now number kind inside.now) }
+{
+    match numbered(rules, number) {
+        None => Ok(None),
+        Some(rule) => match_forms(alloc, walk, values, rule, kind, inside),
+    }
 }
 
 /// What stands for the placeholders of a form, if the first of some siblings is its template. There are as many as stand for them in the match.
@@ -260,6 +302,32 @@ pub(crate) fn first_rule<'t>(
             }));
         }
         number += 1;
+    }
+    Ok(None)
+}
+
+/// The first rule of some numbers whose pattern a node is.
+pub(crate) fn first_among<'t>(
+    alloc: Global,
+    rules: &[Rule],
+    numbers: &[usize],
+    kind: SyntaxKind,
+    inside: &Run<'t>,
+) -> Result<Option<Found<'t>>, AllocError>
+    ensures { IfOk result (λ o. option_map found_of o
+        ≡ first_among rules.now numbers.now kind inside.now) }
+{
+    let mut walk = Walk::new(alloc, Comments::Passed, inside);
+    let mut values = Vec::new(alloc);
+    for number in numbers {
+        let tried = match_numbered(alloc, &mut walk, &mut values, rules, *number, kind, inside)?;
+        if let Some(form) = tried {
+            return Ok(Some(Found {
+                rule: *number,
+                form,
+                values,
+            }));
+        }
     }
     Ok(None)
 }
