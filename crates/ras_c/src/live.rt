@@ -148,7 +148,8 @@ pub extern "C" fn ras_c_rows_as(
     ensures choice { (result ≡ 12) ↔ (errors_of told ≡ None) }
     ensures empty { (result ≡ 7) ↔ (errors_of told ≡ None → ⊥) × (handle.old.kept ≡ None) }
     ensures same { handle.new.kept ≡ handle.old.kept }
-    ensures read { IfSome handle.old.kept (λ k. IsRead (text k.parse.tree) k) }
+    ensures read { (result ≡ 12 → ⊥)
+        → IfSome handle.old.kept (λ k. IsRead (text k.parse.tree) k) }
     ensures which { (result ≡ 0) ⊎ (2 ≤ result) × (result ≤ 4) ⊎ (result ≡ 7) ⊎ (result ≡ 12) }
 {
     let Some(told) = errors_of(told) else {
@@ -244,7 +245,8 @@ pub extern "C" fn ras_c_rows_at(
     ensures place { (result ≡ 6) ↔ (errors_of told ≡ None → ⊥)
         × Holds handle.old.kept (λ p. IsIn (text p.tree) start end → ⊥) }
     ensures same { handle.new.kept ≡ handle.old.kept }
-    ensures read { IfSome handle.old.kept (λ k. IsRead (text k.parse.tree) k) }
+    ensures read { (result ≡ 12 → ⊥)
+        → IfSome handle.old.kept (λ k. IsRead (text k.parse.tree) k) }
     ensures which { (result ≡ 0) ⊎ (2 ≤ result) × (result ≤ 4) ⊎ (6 ≤ result) × (result ≤ 7)
         ⊎ (result ≡ 12) }
 {
