@@ -1,5 +1,5 @@
 -- What a handle holds, and what it holds after an edit.
-use Rattle.std.specs.Prelude.{◌≡◌, ℕ, ◌≤◌, List, length, Option, Some, None}
+use Rattle.std.specs.Prelude.{◌≡◌, ◌↔◌, ◌⊎◌, ℕ, ◌≤◌, List, length, Option, Some, None, IfSome}
 use Rattle.text_size.specs.TextRange.{Bounds}
 use Rattle.tree_model.specs.Tree.{Tree, text}
 use Rattle.tree_model.specs.Cursor.{Cursor, focus, parent_of}
@@ -13,7 +13,7 @@ use Rattle.ras_c.specs.declared.parens.Range.{Range}
 use Rattle.ras_c.specs.Border.{edition_of, errors_of}
 use Rattle.ras_c.specs.Kept.{Kept, IsRead, IsAgain, IsEdited}
 use Rattle.ras_c.specs.Parens.{range_from}
-use Rattle.ras_c.specs.Read.{Report, report_at, report_on}
+use Rattle.ras_c.specs.Read.{Report, report_at, report_on, IsTold, IsCut, IsSmall, Buffers}
 
 -- the bytes from one place to another go, and others come in their place
 abbrev pub edit_from : ℕ → ℕ → List ℕ → Edit
@@ -52,6 +52,18 @@ pub record HoldsReport (errors : ℕ) (held : Option Kept) (P : Report → Type 
   pub as_errors : Errors
   pub errors_is : errors_of errors ≡ Some as_errors
   pub holds : Holds held (λ p. P (report_on as_errors p))
+
+-- what a call that tells rows of a handle's parse returns, and what it leaves in the buffers: by the
+-- number of a choice of errors, as each clause of `ras_c_rows_as` says
+pub record AreRowsBy (errors : ℕ) (held : Option Kept) (status : ℕ) (before after : Buffers) : Type 0 where
+  pub done : status ≡ 0 → HoldsReport errors held (λ r. IsTold r before after)
+  pub room : status ≡ 4 → HoldsReport errors held (λ r. IsCut r before after)
+  pub long : status ≡ 2 → HoldsReport errors held (λ r. IsSmall r → ⊥)
+  pub kept : (status ≡ 0 → ⊥) → (status ≡ 4 → ⊥) → after ≡ before
+  pub choice_known : (status ≡ 12) ↔ (errors_of errors ≡ None)
+  pub empty : (status ≡ 7) ↔ (errors_of errors ≡ None → ⊥) × (held ≡ None)
+  pub read : (status ≡ 12 → ⊥) → IfSome held (λ k. IsRead (text k.parse.tree) k)
+  pub which : (status ≡ 0) ⊎ (2 ≤ status) × (status ≤ 4) ⊎ (status ≡ 7) ⊎ (status ≡ 12)
 
 -- a range of a text
 abbrev pub IsIn : List ℕ → ℕ → ℕ → Type 0

@@ -1,5 +1,5 @@
 -- The report on a text: rows, errors and messages in the buffers of the caller, and their numbers.
-use Rattle.std.specs.Prelude.{◌≡◌, ℕ, ◌<◌, ◌≤◌, ◌^◌, Bool, if◌then◌else◌, List, [], length, map, Some}
+use Rattle.std.specs.Prelude.{◌≡◌, ◌↔◌, ◌⊎◌, ℕ, ◌<◌, ◌≤◌, ◌^◌, Bool, if◌then◌else◌, List, [], length, map, Some, None, IsUtf8}
 use Rattle.std.specs.List.{flat_map}
 use Rattle.tree_model.specs.Tree.{Tree, size}
 use Rattle.tree_model.specs.Edit.{root_of}
@@ -128,3 +128,18 @@ pub record ReportsBy (entry errors year : ℕ) (text : List ℕ) (P : Report →
   pub entry_is : entry_of entry ≡ Some as_entry
   pub errors_is : errors_of errors ≡ Some as_errors
   pub reports : Reports as_entry as_errors year text P
+
+-- what a call that reads a text returns, and what it leaves in the buffers: by the numbers of an
+-- entry and of a choice of errors, as each clause of `ras_c_read_as` says
+pub record IsReadBy (entry errors year : ℕ) (text : List ℕ) (status : ℕ) (before after : Buffers) : Type 0 where
+  pub done : status ≡ 0 → ReportsBy entry errors year text (λ r. IsTold r before after)
+  pub room : status ≡ 4 → ReportsBy entry errors year text (λ r. IsCut r before after)
+  pub kept : (status ≡ 0 → ⊥) → (status ≡ 4 → ⊥) → after ≡ before
+  pub entry_known : (status ≡ 11) ↔ (entry_of entry ≡ None)
+  pub choice_known : (status ≡ 12) ↔ (entry_of entry ≡ None → ⊥) × (errors_of errors ≡ None)
+  pub edition_known : (status ≡ 5) ↔ (entry_of entry ≡ None → ⊥) × (errors_of errors ≡ None → ⊥)
+      × (edition_of year ≡ None)
+  pub utf8 : (status ≡ 1) ↔ (entry_of entry ≡ None → ⊥) × (errors_of errors ≡ None → ⊥)
+      × (edition_of year ≡ None → ⊥) × (IsUtf8 text → ⊥)
+  pub long : status ≡ 2 → (2 ^ 32 ≤ length text) ⊎ ReportsBy entry errors year text (λ r. IsSmall r → ⊥)
+  pub which : (status ≤ 5) ⊎ (11 ≤ status) × (status ≤ 12)

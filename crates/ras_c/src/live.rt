@@ -4,12 +4,11 @@ ghost use Rattle.tree_model.specs.Tree.{text};
 ghost use Rattle.tree_model.specs.Edit.{root_of};
 ghost use Rattle.ras_parsing.specs.Edit.{IsEditOf, edited};
 ghost use Rattle.ras_c.specs.Border.{edition_of, errors_of};
-ghost use Rattle.ras_c.specs.declared.choice.Errors.TheVariants.{All};
 ghost use Rattle.ras_c.specs.Read.{report_at, report_on, IsTold, IsCut, IsSmall, buffers};
 ghost use Rattle.ras_c.specs.Kept.{IsRead};
-ghost use Rattle.ras_c.specs.Live.{edit_from, node_around, tree_around, Holds, HoldsRead, HoldsEdited, HoldsAgain, HoldsReport, HoldsReportAt, IsIn};
+ghost use Rattle.ras_c.specs.Live.{edit_from, node_around, tree_around, AreRowsBy, Holds, HoldsRead, HoldsEdited, HoldsAgain, HoldsReport, HoldsReportAt, IsIn};
 
-use crate::choice::{Errors, errors_of};
+use crate::choice::{ALL_ERRORS, Errors, errors_of};
 use crate::handle::Handle;
 use crate::held::{put, take};
 use crate::kept::KeptParse;
@@ -102,22 +101,14 @@ pub extern "C" fn ras_c_rows(
     messages: &mut [u8],
     counts: &mut Counts,
 ) -> u32
-    ensures done { result ≡ 0 → Holds handle.old.kept (λ p. IsTold (report_on All p)
+    ensures told { AreRowsBy 3 handle.old.kept result
         (buffers rows.old errors.old messages.old counts.old)
-        (buffers rows.new errors.new messages.new counts.new)) }
-    ensures room { result ≡ 4 → Holds handle.old.kept (λ p. IsCut (report_on All p)
-        (buffers rows.old errors.old messages.old counts.old)
-        (buffers rows.new errors.new messages.new counts.new)) }
-    ensures long { result ≡ 2 → Holds handle.old.kept (λ p. IsSmall (report_on All p) → ⊥) }
-    ensures kept { (result ≡ 0 → ⊥) → (result ≡ 4 → ⊥)
-        → buffers rows.new errors.new messages.new counts.new
-        ≡ buffers rows.old errors.old messages.old counts.old }
-    ensures empty { (result ≡ 7) ↔ (handle.old.kept ≡ None) }
+        (buffers rows.new errors.new messages.new counts.new) }
     ensures same { handle.new.kept ≡ handle.old.kept }
-    ensures read { IfSome handle.old.kept (λ k. IsRead (text k.parse.tree) k) }
-    ensures which { (result ≡ 0) ⊎ (2 ≤ result) × (result ≤ 4) ⊎ (result ≡ 7) }
 {
-    rows_told(alloc, handle, Errors::All, rows, errors, messages, counts)
+    ras_c_rows_as(
+        alloc, handle, ALL_ERRORS, rows, errors, messages, counts,
+    )
 }
 
 /// Writes the rows of a handle's parse with a choice of errors, such as [`PARSE_ERRORS`], as

@@ -1,14 +1,12 @@
 //! Rows and errors of a text.
 ghost use Rattle.std.specs.Prelude.{◌≡◌, ◌↔◌, ◌≤◌, ◌<◌, ◌^◌, ◌⊎◌, length, map, IfOk, IfSome, IsUtf8, None, string_bytes};
-ghost use Rattle.ras_front_end.specs.declared.edition.Entry.TheVariants.{SourceFile, Expr};
 ghost use Rattle.tree_model.specs.Tree.{size};
 ghost use Rattle.tree_model.specs.Cursor.{focus};
 ghost use Rattle.tree_rows.specs.Flat.{flat_rows};
-ghost use Rattle.ras_c.specs.declared.choice.Errors.TheVariants.{All};
 ghost use Rattle.ras_c.specs.Border.{edition_of, entry_of, errors_of, over};
-ghost use Rattle.ras_c.specs.Read.{error_row, messages_of, report, report_at, report_on, violations_by, IsTold, IsCut, IsSmall, Reports, ReportsBy, buffers};
+ghost use Rattle.ras_c.specs.Read.{error_row, messages_of, report, report_at, report_on, violations_by, IsTold, IsCut, IsSmall, IsReadBy, Reports, ReportsBy, buffers};
 
-use crate::choice::{Errors, entry_of, errors_of};
+use crate::choice::{ALL_ERRORS, ENTRY_EXPR, ENTRY_FILE, Errors, entry_of, errors_of};
 use crate::fill::{fill, small};
 use crate::parsed::parsed_as;
 use crate::root::Root;
@@ -306,31 +304,12 @@ pub extern "C" fn ras_c_read(
     messages: &mut [u8],
     counts: &mut Counts,
 ) -> u32
-    ensures done { result ≡ 0 → Reports SourceFile All edition text.now (λ r. IsTold r
+    ensures { IsReadBy 0 3 edition text.now result
         (buffers rows.old errors.old messages.old counts.old)
-        (buffers rows.new errors.new messages.new counts.new)) }
-    ensures room { result ≡ 4 → Reports SourceFile All edition text.now (λ r. IsCut r
-        (buffers rows.old errors.old messages.old counts.old)
-        (buffers rows.new errors.new messages.new counts.new)) }
-    ensures kept { (result ≡ 0 → ⊥) → (result ≡ 4 → ⊥)
-        → buffers rows.new errors.new messages.new counts.new
-        ≡ buffers rows.old errors.old messages.old counts.old }
-    ensures utf8 { (result ≡ 1) ↔ (edition_of edition ≡ None → ⊥) × (IsUtf8 text.now → ⊥) }
-    ensures long { result ≡ 2 → (2 ^ 32 ≤ length text.now)
-        ⊎ Reports SourceFile All edition text.now (λ r. IsSmall r → ⊥) }
-    ensures edition { (result ≡ 5) ↔ (edition_of edition ≡ None) }
-    ensures which { result ≤ 5 }
+        (buffers rows.new errors.new messages.new counts.new) }
 {
-    read_told(
-        alloc,
-        Entry::SourceFile,
-        Errors::All,
-        text,
-        edition,
-        rows,
-        errors,
-        messages,
-        counts,
+    ras_c_read_as(
+        alloc, ENTRY_FILE, ALL_ERRORS, text, edition, rows, errors, messages, counts,
     )
 }
 
@@ -348,31 +327,12 @@ pub extern "C" fn ras_c_read_expr(
     messages: &mut [u8],
     counts: &mut Counts,
 ) -> u32
-    ensures done { result ≡ 0 → Reports Expr All edition text.now (λ r. IsTold r
+    ensures { IsReadBy 1 3 edition text.now result
         (buffers rows.old errors.old messages.old counts.old)
-        (buffers rows.new errors.new messages.new counts.new)) }
-    ensures room { result ≡ 4 → Reports Expr All edition text.now (λ r. IsCut r
-        (buffers rows.old errors.old messages.old counts.old)
-        (buffers rows.new errors.new messages.new counts.new)) }
-    ensures kept { (result ≡ 0 → ⊥) → (result ≡ 4 → ⊥)
-        → buffers rows.new errors.new messages.new counts.new
-        ≡ buffers rows.old errors.old messages.old counts.old }
-    ensures utf8 { (result ≡ 1) ↔ (edition_of edition ≡ None → ⊥) × (IsUtf8 text.now → ⊥) }
-    ensures long { result ≡ 2 → (2 ^ 32 ≤ length text.now)
-        ⊎ Reports Expr All edition text.now (λ r. IsSmall r → ⊥) }
-    ensures edition { (result ≡ 5) ↔ (edition_of edition ≡ None) }
-    ensures which { result ≤ 5 }
+        (buffers rows.new errors.new messages.new counts.new) }
 {
-    read_told(
-        alloc,
-        Entry::Expr,
-        Errors::All,
-        text,
-        edition,
-        rows,
-        errors,
-        messages,
-        counts,
+    ras_c_read_as(
+        alloc, ENTRY_EXPR, ALL_ERRORS, text, edition, rows, errors, messages, counts,
     )
 }
 
