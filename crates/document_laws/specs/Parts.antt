@@ -1,5 +1,5 @@
--- A text of Rust in three parts, the middle one of which is an exact piece: what holds of the parts,
--- and of what is laid of the text.
+-- A text of Rust in three parts, the middle one of which is an exact piece: what holds of the
+-- parts, and of what is laid of the text.
 use Rattle.std.specs.Prelude.{◌≡◌, ℕ, ◌<◌, ◌^◌, false, IsUtf8, List, ◌++◌, length}
 use Rattle.syntax_kind.specs.declared.syntax_kind.SyntaxKind.{SyntaxKind}
 use Rattle.syntax_kind.specs.declared.syntax_kind.SyntaxKind.TheVariants.{Node}

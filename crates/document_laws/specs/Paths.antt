@@ -24,8 +24,9 @@ BracesAreTokens t =
 abbrev pub last_child : Tree → Tree
 last_child t = child_at (forest_of_children t) (child_count (forest_of_children t) - 1)
 
--- the cursor is at a node of the tree, not the root, from `{` to `}`, and the edit is between the
--- braces: the new text is the old one with the node's new text in the place of the old
+-- the cursor is at a node of the tree, not the root, from `{` to `}`, and the edit is behind its
+-- first byte and before its last one: the new text is the old one with the node's new text in the
+-- place of the old
 pub record IsExactCursor (t : Tree) (edit : Edit) (c : Cursor) (r : Reparser) : Type 0 where
   pub same_tree : c.tree ≡ t
   pub is_place : IsPlace t c.place

@@ -1,5 +1,5 @@
 //! Laws of trees in which one piece is replaced. The functions do nothing: the contract is the law.
-//! Those that call a law of the machine stand on it.
+//! Those that call a law of the machine or of the lexer stand on it.
 ghost use Rattle.document_laws.specs.Blocks.{BlocksAreAtPlaces, PlacesAreKnown};
 ghost use Rattle.document_laws.specs.Steps.{BlocksOfStepsAreAtPlaces};
 ghost use Rattle.document_laws.specs.Replacing.{ReplacedPiecesAreTrees};
@@ -22,11 +22,8 @@ ghost use Rattle.document_laws.specs.Paths.{CursorsOfEdits};
 ghost use Rattle.document_laws.specs.Inside.{PiecesErrInside};
 ghost use Rattle.document_laws.specs.Faults.{ParserErrorsAreReplaced, PiecesShiftTheRest, ErrorsAreReplaced};
 ghost use Rattle.document_laws.specs.Exactly.{RustReadsExactly};
-ghost use Rattle.document_laws.specs.Few.{EventsAreFew, RustMakesFewEvents, ShortTextsMakeFewEvents};
-ghost use Rattle.document_laws.specs.Setting.{PiecesAreLaidAround};
 ghost use Rattle.document_laws.specs.Setting.{PiecesAreInParts, PiecesAreLaidAround};
-ghost use Rattle.document_laws.specs.Few.{EventsAreFew, RustMakesFewEvents, ShortTextsMakeFewEvents, EventsSoFarAreFew};
-ghost use Rattle.document_laws.specs.Few.{PiecesComeEarly, PiecesFit};
+ghost use Rattle.document_laws.specs.Few.{EventsAreFew, RustMakesFewEvents, ShortTextsMakeFewEvents, EventsSoFarAreFew, PiecesComeEarly, PiecesFit};
 ghost use Rattle.document_laws.specs.Tables.{RustSealsByCalls, RustLooksAreShort, ExactRulesAreSealed};
 
 use grammar_machine::laws::{calls_make_their_own, sealed_calls_leave_nothing};
@@ -180,9 +177,9 @@ pub fn pieces_end_at_their_tokens()
 {}
 
 /// The node that `Document::edit` finds for an exact piece around an edit is a node of the tree,
-/// not its root, that begins with a token `{` and ends with a token `}`, if no node is of such a
-/// kind. The edit is between the braces, and the new text is the old one with the node's new text
-/// in the place of the old.
+/// not its root, that begins with a token `{` and ends with a token `}`, if the root is a source
+/// file, and no node is of the kind of a brace. The edit is behind the node's first byte and before
+/// its last one, and the new text is the old one with the node's new text in the place of the old.
 pub fn cursors_of_edits()
     ensures { CursorsOfEdits }
 {}
@@ -203,9 +200,11 @@ pub fn files_have_their_kinds()
     ensures cursors { CursorsOfFiles }
 {}
 
-/// A run makes no more than 2,403 events for each of its tokens, and some at their end. So those of
-/// a text of Rust of up to 1,787,335 bytes, and one more, have numbers of 32 bits. Before those of
-/// an exact piece there are no more than for the bytes before it.
+/// A run makes no more than 2,403 events for each of its tokens, and 1,202 more, wherever it is. So
+/// those of a text of Rust of up to 1,787,335 bytes, and one more, have numbers of 32 bits. Before
+/// those of an exact piece are no more than 2,403 for each byte before it, and 1,200; these and the
+/// events of any exact piece in its place have numbers of 32 bits, if that ends within 1,786,000
+/// bytes.
 pub fn rust_makes_few_events()
     ensures runs { EventsAreFew }
     ensures rust { RustMakesFewEvents }
