@@ -103,6 +103,8 @@ fn edited_at_random(text: &str, number: usize, seed: u64) {
     let mut random = Random(seed);
     let mut edited = live(text);
     let mut near = 0;
+    // A tree that stays in use during the next edits, and what it has to stay.
+    let mut kept: Option<(Tree, Tree)> = None;
     for done in 0..number {
         if done % 16 == 0 {
             edited.edit(range(0, edited.text().len()), text).unwrap();
@@ -125,6 +127,10 @@ fn edited_at_random(text: &str, number: usize, seed: u64) {
             assert!(tree.rows() == whole.rows(), "{start}..{end} {insert:?} in\n{now}");
             assert_eq!(tree, whole);
             assert!(edited.tree_with(errors).unwrap().is_same(&tree));
+            if let Some((tree, whole)) = kept.take() {
+                assert_eq!(tree, whole);
+            }
+            kept = (random.below(2) == 0).then_some((tree, whole));
         }
     }
 }
