@@ -85,7 +85,7 @@ impl Held {
 
     /// The tree of the parse, which is one of this text, from an older one, where at most one node was parsed again since, that was at a
     /// range of the older text and now is at another. `None` if the older tree has no node there.
-    pub(crate) fn tree_after(&mut self, old: &Tree, was: TextRange, is: TextRange, text: &str, errors: Errors) -> Result<Option<Tree>, ParseError> {
+    pub(crate) fn tree_after(&mut self, old: Tree, was: TextRange, is: TextRange, text: &str, errors: Errors) -> Result<Option<Tree>, ParseError> {
         let Some(row) = old.node_with(was) else {
             return Ok(None);
         };

@@ -10,7 +10,7 @@ use std::fmt;
 /// A text that is edited, whose parse stays with the library.
 ///
 /// After an edit one block is parsed again if that is enough; else all of the text is. The tree and the errors are always those of a new
-/// parse of the text. It keeps a share of the tree that it gave last, of which it copies what has stayed.
+/// parse of the text. It keeps a share of the tree that it gave last, for what has stayed of it.
 /// It may be sent to another thread, but not be shared: it is `Send` and not `Sync`. The trees that it gives are both.
 ///
 /// ```
@@ -118,8 +118,9 @@ impl Live {
     /// The tree of the text as it is now, which later edits leave as it is.
     ///
     /// If there was no edit since the last call, it is the tree that this gave. If one block was parsed again, the library hands over the
-    /// rows of this block alone, and the rest is copied from that tree; else it hands over all rows. Both take time linear in the text, and so
-    /// does the search for what breaks rules beyond the grammar, unless [`Live::tree_with`] leaves it out.
+    /// rows of this block alone, and the rest comes from that tree: it is copied, if that tree is still in use, and moved otherwise. Else the
+    /// library hands over all rows. Each way takes time linear in the text, and so does the search for what breaks rules beyond the grammar,
+    /// unless [`Live::tree_with`] leaves it out.
     pub fn tree(&self) -> Result<Tree, ParseError> {
         self.tree_with(Errors::All)
     }
@@ -127,9 +128,13 @@ impl Live {
     /// The same with the errors that are asked for, as by [`Tree::parse_as`].
     pub fn tree_with(&self, errors: Errors) -> Result<Tree, ParseError> {
         let (mut held, mut last) = (self.held.borrow_mut(), self.last.borrow_mut());
-        let after = match &*last {
-            Some(it) if it.since == Since::Nothing && it.errors == errors => return Ok(it.tree.clone()),
-            Some(Last { tree, since: Since::Node { was, is }, .. }) => held.tree_after(tree, *was, *is, &self.text, errors)?,
+        if let Some(Last { tree, errors: asked, since: Since::Nothing }) = &*last {
+            if *asked == errors {
+                return Ok(tree.clone());
+            }
+        }
+        let after = match last.take() {
+            Some(Last { tree, since: Since::Node { was, is }, .. }) => held.tree_after(tree, was, is, &self.text, errors)?,
             _ => None,
         };
         let tree = match after {

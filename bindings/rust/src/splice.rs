@@ -38,33 +38,31 @@ impl Since {
     }
 }
 
-/// The rows of a tree in which the node at a row has other rows, which count from its start and its row, as those of a tree of its own do,
-/// and a text that is as many bytes longer, or shorter, modulo 2^32.
-pub(crate) fn spliced(rows: &[FlatRow], at: u32, new: &[FlatRow], longer: u32) -> Vec<FlatRow> {
+/// Puts other rows in the place of the subtree of a node. They count from the node's start and its row, as those of a tree of its own do; its
+/// text is as many bytes longer, or shorter, modulo 2^32.
+pub(crate) fn splice(rows: &mut Vec<FlatRow>, at: u32, new: &[FlatRow], longer: u32) {
     let FlatRow { start, subtree_end: behind, parent, .. } = rows[at as usize];
-    let (before, after) = (&rows[..at as usize], &rows[behind as usize..]);
     let more = (new.len() as u32).wrapping_sub(behind - at);
-    let mut made = Vec::with_capacity(before.len() + new.len() + after.len());
-    made.extend_from_slice(before);
-    made.extend(new.iter().map(|it| FlatRow {
+    if (longer, more) != (0, 0) {
+        for row in &mut rows[behind as usize..] {
+            row.start = row.start.wrapping_add(longer);
+            row.subtree_end = row.subtree_end.wrapping_add(more);
+            // Its parent is behind the node too, or around it.
+            row.parent = if row.parent < behind { row.parent } else { row.parent.wrapping_add(more) };
+        }
+    }
+    let mut around = at;
+    while around > 0 {
+        around = rows[around as usize].parent;
+        let row = &mut rows[around as usize];
+        row.subtree_end = row.subtree_end.wrapping_add(more);
+    }
+    let moved = new.iter().map(|it| FlatRow {
         kind: it.kind,
         start: it.start + start,
         subtree_end: it.subtree_end + at,
         parent: it.parent + at,
-    }));
-    // A row behind has its parent behind or around the node.
-    made.extend(after.iter().map(|it| FlatRow {
-        kind: it.kind,
-        start: it.start.wrapping_add(longer),
-        subtree_end: it.subtree_end.wrapping_add(more),
-        parent: if it.parent < behind { it.parent } else { it.parent.wrapping_add(more) },
-    }));
-    made[at as usize].parent = parent;
-    let mut around = at;
-    while around > 0 {
-        around = made[around as usize].parent;
-        let row = &mut made[around as usize];
-        row.subtree_end = row.subtree_end.wrapping_add(more);
-    }
-    made
+    });
+    rows.splice(at as usize..behind as usize, moved);
+    rows[at as usize].parent = parent;
 }

@@ -3,7 +3,7 @@ use crate::held::Held;
 use crate::iter::TokenAtOffset;
 use crate::node::{NodeRef, SyntaxNode, TokenRef};
 use crate::range::{TextRange, TextSize};
-use crate::splice::spliced;
+use crate::splice::splice;
 use crate::{SyntaxKind, iter};
 use ras_sys::{self as raw, Counts, ErrorRow, FlatRow, Range};
 use std::fmt;
@@ -418,18 +418,28 @@ impl Tree {
     }
 
     // The tree of a text after edits, from this one, where at most the node of a row was parsed again since: from a call that writes the
-    // rows of this node, and the errors of the text.
+    // rows of this node, and the errors of the text. The rows are copied, unless nothing else has a share of this tree.
     pub(crate) fn with_node(
-        &self,
+        self,
         text: Box<str>,
         row: u32,
         room: Room,
         call: impl FnMut(&mut Room, &mut Counts) -> u32,
     ) -> Result<Tree, ParseError> {
         let (new, errors) = Tree::told_parts(room, call)?;
-        let longer = (text.len() as u32).wrapping_sub(self.text().len() as u32);
-        let rows = spliced(self.rows(), row, &new, longer).into();
-        Ok(Tree(Arc::new(Inner { text, edition: self.edition(), rows, errors })))
+        let (edition, longer) = (self.edition(), (text.len() as u32).wrapping_sub(self.text().len() as u32));
+        let count = self.rows().len() + new.len() - (self.end_of(row) - row) as usize;
+        let mut rows = match Arc::try_unwrap(self.0) {
+            Ok(inner) => inner.rows.into_vec(),
+            Err(shared) => {
+                let mut rows = Vec::with_capacity(count.max(shared.rows.len()));
+                rows.extend_from_slice(&shared.rows);
+                rows
+            }
+        };
+        rows.reserve_exact(count.saturating_sub(rows.len()));
+        splice(&mut rows, row, &new, longer);
+        Ok(Tree(Arc::new(Inner { text, edition, rows: rows.into(), errors })))
     }
 
     // The tree of a text and its rows, which no parse made: it has no errors of its own.

@@ -92,9 +92,9 @@ fn each_edit_gives_the_tree_of_the_edited_text() {
 }
 
 // What is put in at random places: what keeps a file correct in some of them, and what breaks it, or heals it.
-const INSERTS: [&str; 26] = [
-    "", "", "", "{", "}", "{}", "(", ")", "\"", "/*", "*/", "//", "fn f", "'", "let ", "\n\n", "größe", " + 1", "a;", "r#", "b'\\q'", "if a { b }",
-    " /* c */ ", "{ 1 }", "#!", "_1: u8,",
+const INSERTS: [&str; 34] = [
+    "", "", "", "", "x", "1", " ", "\n", "y + ", "z;", "()", "é", "{", "}", "{}", "(", ")", "\"", "/*", "*/", "//", "fn f", "'", "let ", "\n\n",
+    " + 1", "a;", "r#", "b'\\q'", "if a { b }", " /* c */ ", "{ 1 }", "#!", "_1: u8,",
 ];
 
 // A text is edited at random places, more and more broken for some edits, and then anew; after each edit, or after some of them, its tree is
@@ -103,6 +103,8 @@ fn edited_at_random(text: &str, number: usize, seed: u64) {
     let mut random = Random(seed);
     let mut edited = live(text);
     let mut near = 0;
+    // A tree that stays in use during the next edits, and what it has to stay.
+    let mut kept: Option<(Tree, Tree)> = None;
     for done in 0..number {
         if done % 16 == 0 {
             edited.edit(range(0, edited.text().len()), text).unwrap();
@@ -125,6 +127,10 @@ fn edited_at_random(text: &str, number: usize, seed: u64) {
             assert!(tree.rows() == whole.rows(), "{start}..{end} {insert:?} in\n{now}");
             assert_eq!(tree, whole);
             assert!(edited.tree_with(errors).unwrap().is_same(&tree));
+            if let Some((tree, whole)) = kept.take() {
+                assert_eq!(tree, whole);
+            }
+            kept = (random.below(2) == 0).then_some((tree, whole));
         }
     }
 }
@@ -146,14 +152,14 @@ fn edits_of_small_texts_give_the_trees_of_the_new_texts() {
         TEXT,
     ];
     for (n, text) in TEXTS.iter().enumerate() {
-        edited_at_random(text, 400, n as u64 + 3);
+        edited_at_random(text, 600, n as u64 + 3);
     }
 }
 
 #[test]
 fn edits_of_a_file_give_the_trees_of_the_new_files() {
-    edited_at_random(include_str!("../src/live.rs"), 1000, 20);
-    edited_at_random(include_str!("../src/tree.rs"), 1000, 21);
+    edited_at_random(include_str!("../src/live.rs"), 1500, 20);
+    edited_at_random(include_str!("../src/tree.rs"), 1500, 21);
 }
 
 // Edits in one function after the other, and in one place, without a tree between them.

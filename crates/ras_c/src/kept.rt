@@ -70,11 +70,7 @@ fn is_too_long(text: &str, delete: TextRange, insert: &str) -> bool
 
 impl KeptParse {
     /// The parse of a text in an edition.
-    pub(crate) fn new(
-        alloc: Global,
-        text: &str,
-        edition: Edition,
-    ) -> Result<KeptParse, ParseError>
+    pub(crate) fn new(alloc: Global, text: &str, edition: Edition) -> Result<KeptParse, ParseError>
         ensures read { IfOk result (λ k. IsRead text.now k) }
         ensures edition { IfOk result (λ k. k.edition ≡ edition) }
         ensures accepted { OnOk result (length text.now < 2 ^ 32) }

@@ -106,9 +106,7 @@ pub extern "C" fn ras_c_rows(
         (buffers rows.new errors.new messages.new counts.new) }
     ensures same { handle.new.kept ≡ handle.old.kept }
 {
-    ras_c_rows_as(
-        alloc, handle, ALL_ERRORS, rows, errors, messages, counts,
-    )
+    ras_c_rows_as(alloc, handle, ALL_ERRORS, rows, errors, messages, counts)
 }
 
 /// Writes the rows of a handle's parse with a choice of errors, such as [`PARSE_ERRORS`], as
@@ -195,9 +193,7 @@ fn tell_around(
     }
     let range = TextRange::new(TextSize::new(start), TextSize::new(end));
     let node = node_around(parse, range);
-    tell_at(
-        alloc, parse, &node, told, rows, errors, messages, counts,
-    )
+    tell_at(alloc, parse, &node, told, rows, errors, messages, counts)
 }
 
 /// Writes the rows of the innermost node of a handle's parse that covers a range of the text, as a

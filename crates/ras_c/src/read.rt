@@ -251,9 +251,7 @@ pub(crate) fn tell(
     ensures which { (result ≡ 0) ⊎ (2 ≤ result) × (result ≤ 4) }
 {
     let root = parse.root();
-    tell_at(
-        alloc, parse, root, told, rows, errors, messages, counts,
-    )
+    tell_at(alloc, parse, root, told, rows, errors, messages, counts)
 }
 
 // The report on the parse of a text by an entry.
