@@ -119,7 +119,7 @@ void rattle_dealloc(void *at);
 #define RAS_FAULT 64u
 
 /* A number made of the kinds, constants, structs and calls of the library. Bindings that know another number were made for others. */
-#define RAS_VERSION 3844634474u
+#define RAS_VERSION 784081670u
 
 /* The statuses of a wrong escape or character. */
 enum ras_fault {
@@ -661,11 +661,37 @@ uint32_t ras_c_rows_as(
     ras_counts *counts);
 
 /*
- * Edits the text of a handle's parse: insert replaces the bytes from start to end, and the handle then holds the parse of the new
- * text. Only one token or one block is parsed again if that is possible, otherwise the whole text.
+ * Writes the rows of the innermost node of a handle's parse that covers a range of the text, as a
+ * tree of its own: positions count from the node's start, and rows from its row, which is row 0
+ * here. The errors are those of the whole parse, by a choice, such as RAS_PARSE_ERRORS, with
+ * positions in the whole text. The handle keeps its parse. Of a range that ras_c_edit_told wrote,
+ * if it is not the whole text, the node is the block that was parsed again.
  *
- * Returns RAS_OK, RAS_NOT_UTF8, RAS_TOO_LONG, RAS_NO_MEMORY, RAS_NO_EDITION, RAS_NO_PARSE if the handle holds no parse, or RAS_NO_PLACE
- * if the range is not in the text or not on character boundaries. Unless it is RAS_OK, the handle is not changed.
+ * Returns RAS_OK, RAS_TOO_LONG, RAS_NO_MEMORY, RAS_NO_ROOM, RAS_NO_CHOICE, RAS_NO_PARSE if the
+ * handle holds no parse, or RAS_NO_PLACE if the text has no such range.
+ */
+uint32_t ras_c_rows_at(
+    ras_handle *handle,
+    uint32_t told,
+    uint32_t start,
+    uint32_t end,
+    ras_flat_row *rows,
+    size_t rows_len,
+    ras_error_row *errors,
+    size_t errors_len,
+    uint8_t *messages,
+    size_t messages_len,
+    ras_counts *counts);
+
+/*
+ * Edits the text of a handle's parse: insert replaces the bytes from start to end, and the
+ * handle then holds the parse of the new text: the same tree and errors that ras_c_parse would
+ * make. In the edition that the parse is of, only one block is parsed again if that is enough; in
+ * another edition the whole text is parsed.
+ *
+ * Returns RAS_OK, RAS_NOT_UTF8, RAS_TOO_LONG, RAS_NO_MEMORY, RAS_NO_EDITION, RAS_NO_PARSE if the
+ * handle holds no parse, or RAS_NO_PLACE if the range is not in the text or not on character
+ * boundaries. Unless it is RAS_OK, the handle is not changed.
  */
 uint32_t ras_c_edit(
     ras_handle *handle,
@@ -674,6 +700,22 @@ uint32_t ras_c_edit(
     uint32_t end,
     const uint8_t *insert,
     size_t insert_len);
+
+/*
+ * Edits the text of a handle's parse as ras_c_edit does, and writes the range of the new text
+ * that was parsed again to again: that of one block, or the whole text. The rest of the tree is
+ * as it was; what is behind the block has moved with the text.
+ *
+ * Returns what ras_c_edit returns. Unless it is RAS_OK, nothing was changed.
+ */
+uint32_t ras_c_edit_told(
+    ras_handle *handle,
+    uint32_t edition,
+    uint32_t start,
+    uint32_t end,
+    const uint8_t *insert,
+    size_t insert_len,
+    ras_range *again);
 
 /* Frees the parse of a handle, if it holds one. The handle then holds none, and may be used again. */
 void ras_c_free(

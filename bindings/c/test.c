@@ -335,7 +335,44 @@ static void edits(void) {
     owes(held == 0, "a handle is freed once");
 }
 
-/* Edits of a token, of a block and of all, at a heap that may refuse: each is done, or leaves the handle as it was. */
+static uint32_t rows_at(ras_handle *handle, uint32_t told, uint32_t start, uint32_t end, size_t room, ras_counts *counts) {
+    return ras_c_rows_at(handle, told, start, end, rows, room, errors, ERRORS, messages, MESSAGES, counts);
+}
+
+/* What an edit parsed again is told, and its rows alone are: those of the whole tree there, counted from the block. */
+static void tells_what_is_new(void) {
+    static const char text[] = "fn f() { a }\nfn g() { b }", new[] = "fn f() { x +  }\nfn g() { b }";
+    ras_handle live = {0};
+    ras_counts counts = {9, 9, 9, 9}, all;
+    ras_range again = {9, 9};
+    owes(ras_c_edit_told(&live, 2024, 0, 0, NULL, 0, &again) == RAS_NO_PARSE && again.start == 9 && again.end == 9, "an empty handle has no text");
+    owes(rows_at(&live, RAS_ALL_ERRORS, 0, 0, ROWS, &counts) == RAS_NO_PARSE && counts.rows == 9, "nor rows at a place");
+    owes(ras_c_parse(BYTES(text), 2024, &live) == RAS_OK, "a text is parsed");
+    owes(ras_c_edit_told(&live, 2024, 3, 99, NULL, 0, &again) == RAS_NO_PLACE && again.start == 9 && again.end == 9, "a refused edit tells nothing");
+    owes(ras_c_edit_told(&live, 2024, 9, 10, BYTES("x + "), &again) == RAS_OK && again.start == 7 && again.end == 15, "a block is parsed again");
+    owes(tells(&live, new), "the handle has the parse of the new text");
+    owes(rows_of(&live, filled, ROWS, &all) == RAS_OK, "all rows are told");
+    owes(rows_at(&live, RAS_ALL_ERRORS, again.start, again.end, ROWS, &counts) == RAS_OK && counts.rows < all.rows, "the rows of the block are told");
+    owes(counts.errors == all.errors && counts.errors == 1 && errors[0].start == 12, "with the errors of the whole text");
+    uint32_t at = 0;
+    while (at < all.rows && (filled[at].kind != RAS_KIND_STMT_LIST || filled[at].start != 7)) at++;
+    owes(at + counts.rows <= all.rows && filled[at].subtree_end == at + counts.rows, "they are a subtree");
+    for (uint32_t n = 0; n < counts.rows && at + n < all.rows; n++)
+        owes(rows[n].kind == filled[at + n].kind && rows[n].start + 7 == filled[at + n].start && rows[n].subtree_end + at == filled[at + n].subtree_end
+            && (n == 0 ? rows[n].parent == 0 : rows[n].parent + at == filled[at + n].parent), "a row is that of the whole tree");
+    owes(rows_at(&live, RAS_NO_ERRORS, 7, 15, counts.rows - 1, &all) == RAS_NO_ROOM && all.rows == counts.rows && all.errors == 0, "a small buffer is refused");
+    owes(rows_at(&live, 4, 7, 15, ROWS, &all) == RAS_NO_CHOICE && rows_at(&live, 0, 8, 7, ROWS, &all) == RAS_NO_PLACE
+        && rows_at(&live, 0, 0, strlen(new) + 1, ROWS, &all) == RAS_NO_PLACE && all.rows == counts.rows, "there is no such choice, and no such range");
+    owes(rows_at(&live, RAS_NO_ERRORS, 0, strlen(new), ROWS, &all) == RAS_OK && rows[0].kind == RAS_KIND_SOURCE_FILE, "all is covered by the root");
+    owes(rows_at(&live, RAS_NO_ERRORS, 8, 9, ROWS, &all) == RAS_OK && rows[0].kind == RAS_KIND_STMT_LIST, "a token is in a node");
+    owes(ras_c_edit_told(&live, 2024, 3, 4, BYTES("g"), &again) == RAS_OK && again.start == 0 && again.end == strlen(new), "all is parsed again");
+    owes(ras_c_edit_told(&live, 2015, 9, 10, BYTES("a"), &again) == RAS_OK && again.start == 0 && again.end == strlen(new), "another edition reads all anew");
+    owes(ras_c_edit_told(&live, 2015, 9, 10, BYTES("async"), &again) == RAS_OK && again.start == 7 && again.end == 19, "and then stays");
+    ras_c_free(&live);
+    owes(held == 0, "a freed handle holds nothing");
+}
+
+/* Edits of a name, in a block and before all, at a heap that may refuse: each is done, or leaves the handle as it was. */
 static void refuses_edits(void) {
     static const struct { uint32_t start, end; const char *insert, *text; } steps[] = {
         {3, 6, "bar", "fn bar() { let x = 1; }"},
@@ -357,6 +394,19 @@ static void refuses_edits(void) {
         granted = -1;
         owes(tells(&live, text), "a handle holds what was done last");
         granted = left, asked = before;
+    }
+    ras_c_free(&live);
+    owes(held == 0, "a handle leaves no block behind");
+}
+
+/* The rows of a part, likewise. */
+static void refuses_parts(void) {
+    ras_handle live = {0};
+    ras_counts counts = {9, 9, 9, 9};
+    uint32_t status = ras_c_parse(BYTES(OLD), 2024, &live);
+    if (status == RAS_OK) {
+        status = rows_at(&live, RAS_ALL_ERRORS, 9, 23, ROWS, &counts);
+        owes(status == RAS_OK || (status == RAS_NO_MEMORY && counts.rows == 9), "the rows of a part are told or refused");
     }
     ras_c_free(&live);
     owes(held == 0, "a handle leaves no block behind");
@@ -396,6 +446,7 @@ static void refuses(void) {
     owes(status == RAS_OK || (status == RAS_NO_MEMORY && count == 9 && number == 9 && out[0] == 7 && fault.offset == 9),
         "rewrite is done or refused");
     refuses_edits();
+    refuses_parts();
 }
 
 int main(void) {
@@ -407,6 +458,7 @@ int main(void) {
     tokens_and_parens();
     values();
     edits();
+    tells_what_is_new();
     asked = 0;
     refuses();
     long all = asked;

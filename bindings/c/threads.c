@@ -46,7 +46,7 @@ static void tell(told *it, int number) {
     owes(ras_c_rewrite(BYTES("$a * $b ==>> $b - $a"), false, BYTES(it->text), 2024, it->new, TEXT, &it->new_count, &it->replaced, NULL, 0, &fault)
         == RAS_OK && it->replaced == 1, "rewrite");
     owes(ras_c_parse(BYTES(it->text), 2024, &live) == RAS_OK, "parse");
-    owes(ras_c_edit(&live, 2024, 3, 4, BYTES("name")) == RAS_OK, "a token is edited");
+    owes(ras_c_edit(&live, 2024, 3, 4, BYTES("name")) == RAS_OK, "a name is edited");
     owes(ras_c_edit(&live, 2024, 13, 13, BYTES(" { 1 } ")) == RAS_OK, "a block is edited");
     owes(ras_c_edit(&live, 2024, 0, 0, BYTES("mod m;")) == RAS_OK, "all is parsed again");
     owes(ras_c_rows(&live, it->live, ROWS, it->errors, ERRORS, it->messages, MESSAGES, &it->live_counts) == RAS_OK, "rows");

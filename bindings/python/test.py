@@ -257,6 +257,20 @@ import ras
             self.assertEqual((tree.data, tree.rows.tolist()), (data, whole.rows.tolist()))
             self.assertEqual((repr(tree.errors), tree.errors), (repr(whole.errors), []))
 
+    def test_each_edit_that_breaks_a_text_gives_its_tree(self):
+        text = "fn f() { a; { b } }\nmod m { struct S { c: u8 } /* d */ }\n"
+        inserts = ("", "{", "}", "(", '"', "/*", "*/", "'", "\n", "{ x }", " + ", "größe")
+        numbers, live = random.Random(2), ras.Live(text)
+        for n in range(600):
+            if n % 12 == 0:
+                live.edit(0, len(live.data), text)
+            places = [it for it in range(len(live.data) + 1) if it == len(live.data) or live.data[it] & 0xC0 != 0x80]
+            start = numbers.randrange(len(places))
+            end = min(start + numbers.choice((0, 0, 1, 3)), len(places) - 1)
+            live.edit(places[start], places[end], numbers.choice(inserts))
+            whole, tree = ras.parse(live.data), live.tree()
+            self.assertEqual((tree.rows.tolist(), repr(tree.errors)), (whole.rows.tolist(), repr(whole.errors)))
+
     def test_a_refused_edit_leaves_all_as_it_was(self):
         live = ras.Live("fn ü() {}")
         rows = live.tree().rows.tolist()

@@ -80,7 +80,7 @@ pub const TOO_LARGE: u32 = 10;
 pub const FAULT: u32 = 64;
 
 /// A number made of the kinds, constants, structs and calls of the library. Bindings that know another number were made for others.
-pub const VERSION: u32 = 3844634474;
+pub const VERSION: u32 = 784081670;
 
 /// One node or token, in 16 bytes. Rows are numbered from 0 in preorder.
 #[repr(C)]
@@ -251,11 +251,36 @@ unsafe extern "C" {
         counts: *mut Counts,
     ) -> u32;
 
-    /// Edits the text of a handle's parse: `insert` replaces the bytes from `start` to `end`, and the handle then holds the parse of the new
-    /// text. Only one token or one block is parsed again if that is possible, otherwise the whole text.
+    /// Writes the rows of the innermost node of a handle's parse that covers a range of the text, as a
+    /// tree of its own: positions count from the node's start, and rows from its row, which is row 0
+    /// here. The errors are those of the whole parse, by a choice, such as [`PARSE_ERRORS`], with
+    /// positions in the whole text. The handle keeps its parse. Of a range that `ras_c_edit_told` wrote,
+    /// if it is not the whole text, the node is the block that was parsed again.
     ///
-    /// Returns [`OK`], [`NOT_UTF8`], [`TOO_LONG`], [`NO_MEMORY`], [`NO_EDITION`], [`NO_PARSE`] if the handle holds no parse, or [`NO_PLACE`]
-    /// if the range is not in the text or not on character boundaries. Unless it is [`OK`], the handle is not changed.
+    /// Returns [`OK`], [`TOO_LONG`], [`NO_MEMORY`], [`NO_ROOM`], [`NO_CHOICE`], [`NO_PARSE`] if the
+    /// handle holds no parse, or [`NO_PLACE`] if the text has no such range.
+    pub fn ras_c_rows_at(
+        handle: *mut Handle,
+        told: u32,
+        start: u32,
+        end: u32,
+        rows: *mut FlatRow,
+        rows_len: usize,
+        errors: *mut ErrorRow,
+        errors_len: usize,
+        messages: *mut u8,
+        messages_len: usize,
+        counts: *mut Counts,
+    ) -> u32;
+
+    /// Edits the text of a handle's parse: `insert` replaces the bytes from `start` to `end`, and the
+    /// handle then holds the parse of the new text: the same tree and errors that `ras_c_parse` would
+    /// make. In the edition that the parse is of, only one block is parsed again if that is enough; in
+    /// another edition the whole text is parsed.
+    ///
+    /// Returns [`OK`], [`NOT_UTF8`], [`TOO_LONG`], [`NO_MEMORY`], [`NO_EDITION`], [`NO_PARSE`] if the
+    /// handle holds no parse, or [`NO_PLACE`] if the range is not in the text or not on character
+    /// boundaries. Unless it is [`OK`], the handle is not changed.
     pub fn ras_c_edit(
         handle: *mut Handle,
         edition: u32,
@@ -263,6 +288,21 @@ unsafe extern "C" {
         end: u32,
         insert: *const u8,
         insert_len: usize,
+    ) -> u32;
+
+    /// Edits the text of a handle's parse as `ras_c_edit` does, and writes the range of the new text
+    /// that was parsed again to `again`: that of one block, or the whole text. The rest of the tree is
+    /// as it was; what is behind the block has moved with the text.
+    ///
+    /// Returns what `ras_c_edit` returns. Unless it is [`OK`], nothing was changed.
+    pub fn ras_c_edit_told(
+        handle: *mut Handle,
+        edition: u32,
+        start: u32,
+        end: u32,
+        insert: *const u8,
+        insert_len: usize,
+        again: *mut Range,
     ) -> u32;
 
     /// Frees the parse of a handle, if it holds one. The handle then holds none, and may be used again.

@@ -1,6 +1,6 @@
 //! Times the library: the least processor time of some rounds of reading a file, of walks over all nodes and tokens of its tree, which
-//! borrow it or own a share of it, of an edit of the name in its middle, and of copying the tree after it. What a round makes is dropped
-//! behind the clock.
+//! borrow it or own a share of it, of an edit of the name in its middle, and of such an edit with the tree after it. What a round makes is
+//! dropped behind the clock.
 //!
 //! With the name of a line, only that is done, and nothing that it makes is dropped: for counting instructions.
 use ras::{Edition, Entry, Errors, Live, SyntaxKind, Tree};
@@ -80,7 +80,13 @@ fn main() -> Result<(), Box<dyn std::error::Error>> {
     if let Some(name) = names.find(|it| usize::from(it.text_range().start()) >= bytes / 2) {
         let mut live = Live::parse(text, Edition::CURRENT)?;
         rounds.tell("edit of a name", 1000, "us", || live.edit(name.text_range(), name.text()));
-        rounds.tell("Live::tree after it", bytes, "ns/byte", || live.tree());
+        for (line, errors) in [
+            ("edit and Live::tree", Errors::All),
+            ("edit and Live::tree, parse errors", Errors::Parse),
+            ("edit and Live::tree, no errors", Errors::Nothing),
+        ] {
+            rounds.tell(line, 1000, "us", || live.edit(name.text_range(), name.text()).map(|()| live.tree_with(errors)));
+        }
     }
     Ok(())
 }

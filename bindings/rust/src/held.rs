@@ -1,7 +1,7 @@
 //! A parse that stays with the library.
 use crate::range::TextRange;
 use crate::tree::{Edition, Errors, ParseError, Room, Tree, answered};
-use ras_sys::{self as raw, Counts, Handle};
+use ras_sys::{self as raw, Counts, Handle, Range};
 use std::ptr;
 
 /// A parse of a file, in the library's memory.
@@ -25,11 +25,13 @@ impl Held {
         Ok(held)
     }
 
-    /// Replaces the bytes of a range, and returns the status.
-    pub(crate) fn edit(&mut self, edition: Edition, delete: TextRange, insert: &str) -> u32 {
+    /// Replaces the bytes of a range. Returns the status, and the range of the new text that was parsed again if it is `OK`.
+    pub(crate) fn edit(&mut self, edition: Edition, delete: TextRange, insert: &str) -> (u32, TextRange) {
         let (start, end) = (delete.start().into(), delete.end().into());
-        // SAFETY: the inserted text is borrowed for the call, with its length; the handle is this value's own.
-        unsafe { raw::ras_c_edit(&mut self.0, edition.year(), start, end, insert.as_ptr(), insert.len()) }
+        let mut again = Range { start: 0, end: 0 };
+        // SAFETY: the inserted text is borrowed for the call, with its length, and so is the range; the handle is this value's own.
+        let status = unsafe { raw::ras_c_edit_told(&mut self.0, edition.year(), start, end, insert.as_ptr(), insert.len(), &mut again) };
+        (status, TextRange::new(again.start.into(), again.end.into()))
     }
 
     // Writes the rows and errors to the buffers, or counts them if there is too little room.
@@ -57,6 +59,41 @@ impl Held {
         // Without errors this only counts the rows.
         answered(self.rows(Errors::Nothing, &mut Room::counted(&counts), &mut counts))?;
         Tree::told(text, edition, Room::of(counts.rows as usize), |_, room, counts| self.rows(errors, room, counts))
+    }
+}
+
+impl Held {
+    // The same of the innermost node that covers a range of the text: its rows, and the errors of the whole text.
+    fn rows_at(&mut self, errors: Errors, range: TextRange, room: &mut Room, counts: &mut Counts) -> u32 {
+        // SAFETY: as in `rows`.
+        unsafe {
+            raw::ras_c_rows_at(
+                &mut self.0,
+                errors.number(),
+                range.start().into(),
+                range.end().into(),
+                room.rows.as_mut_ptr(),
+                room.rows.capacity(),
+                room.errors.as_mut_ptr(),
+                room.errors.capacity(),
+                room.messages.as_mut_ptr(),
+                room.messages.capacity(),
+                counts,
+            )
+        }
+    }
+
+    /// The tree of the parse, which is one of this text, from an older one, where at most one node was parsed again since, that was at a
+    /// range of the older text and now is at another. `None` if the older tree has no node there.
+    pub(crate) fn tree_after(&mut self, old: Tree, was: TextRange, is: TextRange, text: &str, errors: Errors) -> Result<Option<Tree>, ParseError> {
+        let Some(row) = old.node_with(was) else {
+            return Ok(None);
+        };
+        let mut counts = Counts { rows: 0, errors: 0, violations: 0, messages: 0 };
+        // Without errors this only counts the rows.
+        answered(self.rows_at(Errors::Nothing, is, &mut Room::counted(&counts), &mut counts))?;
+        let room = Room::like(counts.rows as usize, old.errors());
+        old.with_node(text.into(), row, room, |room, counts| self.rows_at(errors, is, room, counts)).map(Some)
     }
 }
 

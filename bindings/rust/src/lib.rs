@@ -40,6 +40,7 @@ mod ptr;
 mod range;
 mod rules;
 mod smol_str;
+mod splice;
 pub mod syntax_editor;
 mod syntax_text;
 mod text_edit;

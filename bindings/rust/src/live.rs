@@ -1,6 +1,7 @@
 //! A text that is edited, and its parse.
 use crate::held::Held;
 use crate::range::TextRange;
+use crate::splice::Since;
 use crate::tree::{Edition, Errors, ParseError, Tree};
 use ras_sys as raw;
 use std::cell::RefCell;
@@ -8,7 +9,8 @@ use std::fmt;
 
 /// A text that is edited, whose parse stays with the library.
 ///
-/// After an edit one token or one block is parsed again if that is enough, as rust-analyzer does it; else all of the text is.
+/// After an edit one block is parsed again if that is enough; else all of the text is. The tree and the errors are always those of a new
+/// parse of the text. It keeps a share of the tree that it gave last, for what has stayed of it.
 /// It may be sent to another thread, but not be shared: it is `Send` and not `Sync`. The trees that it gives are both.
 ///
 /// ```
@@ -37,6 +39,14 @@ pub struct Live {
     held: RefCell<Held>,
     text: String,
     edition: Edition,
+    last: RefCell<Option<Last>>,
+}
+
+// The tree that was given last, the errors that it was asked for, and what was parsed again since.
+struct Last {
+    tree: Tree,
+    errors: Errors,
+    since: Since,
 }
 
 /// Why a text is not edited.
@@ -72,7 +82,7 @@ impl Live {
     /// It panics if the library that is linked is not the one that this crate was made for.
     pub fn parse(text: impl Into<String>, edition: Edition) -> Result<Live, ParseError> {
         let text = text.into();
-        Ok(Live { held: RefCell::new(Held::parse(&text, edition)?), text, edition })
+        Ok(Live { held: RefCell::new(Held::parse(&text, edition)?), text, edition, last: RefCell::new(None) })
     }
 
     /// Replaces the bytes of a range. Where this is refused, the text and its parse stay as they were.
@@ -90,9 +100,13 @@ impl Live {
     ///
     /// It copies the text, even if only one token is parsed again, and so takes time linear in it.
     pub fn edit(&mut self, delete: TextRange, insert: &str) -> Result<(), EditError> {
-        match self.held.get_mut().edit(self.edition, delete, insert) {
+        let (status, again) = self.held.get_mut().edit(self.edition, delete, insert);
+        match status {
             raw::OK => {
                 self.text.replace_range(std::ops::Range::<usize>::from(delete), insert);
+                if let Some(last) = self.last.get_mut() {
+                    last.since = last.since.and(again, delete, insert.len() as u32, self.text.len() as u32);
+                }
                 Ok(())
             }
             raw::NO_PLACE => Err(EditError::NoPlace),
@@ -103,15 +117,32 @@ impl Live {
 
     /// The tree of the text as it is now, which later edits leave as it is.
     ///
-    /// It takes time linear in the text: one copy of the text, and one of the rows. After an edit, the errors that [`Tree::errors`]
-    /// lists are those before it that lie outside of what was parsed again, and then the new ones.
+    /// If there was no edit since the last call, it is the tree that this gave. If one block was parsed again, the library hands over the
+    /// rows of this block alone, and the rest comes from that tree: it is copied, if that tree is still in use, and moved otherwise. Else the
+    /// library hands over all rows. Each way takes time linear in the text, and so does the search for what breaks rules beyond the grammar,
+    /// unless [`Live::tree_with`] leaves it out.
     pub fn tree(&self) -> Result<Tree, ParseError> {
         self.tree_with(Errors::All)
     }
 
     /// The same with the errors that are asked for, as by [`Tree::parse_as`].
     pub fn tree_with(&self, errors: Errors) -> Result<Tree, ParseError> {
-        self.held.borrow_mut().tree(self.text.as_str().into(), self.edition, errors)
+        let (mut held, mut last) = (self.held.borrow_mut(), self.last.borrow_mut());
+        if let Some(Last { tree, errors: asked, since: Since::Nothing }) = &*last {
+            if *asked == errors {
+                return Ok(tree.clone());
+            }
+        }
+        let after = match last.take() {
+            Some(Last { tree, since: Since::Node { was, is }, .. }) => held.tree_after(tree, was, is, &self.text, errors)?,
+            _ => None,
+        };
+        let tree = match after {
+            Some(tree) => tree,
+            None => held.tree(self.text.as_str().into(), self.edition, errors)?,
+        };
+        *last = Some(Last { tree: tree.clone(), errors, since: Since::Nothing });
+        Ok(tree)
     }
 
     /// The text as it is now.

@@ -3,8 +3,9 @@ use crate::held::Held;
 use crate::iter::TokenAtOffset;
 use crate::node::{NodeRef, SyntaxNode, TokenRef};
 use crate::range::{TextRange, TextSize};
-use ras_sys::{self as raw, Counts, ErrorRow, FlatRow, Range};
+use crate::splice::splice;
 use crate::{SyntaxKind, iter};
+use ras_sys::{self as raw, Counts, ErrorRow, FlatRow, Range};
 use std::fmt;
 use std::str::FromStr;
 use std::sync::Arc;
@@ -265,6 +266,16 @@ impl Room {
         Room { rows: Vec::with_capacity(rows), errors: Vec::with_capacity(16), messages: Vec::with_capacity(1024) }
     }
 
+    // For so many rows, and somewhat more than these errors.
+    pub(crate) fn like(rows: usize, errors: &[SyntaxError]) -> Room {
+        let messages: usize = errors.iter().map(|it| it.message.len()).sum();
+        Room {
+            rows: Vec::with_capacity(rows),
+            errors: Vec::with_capacity(errors.len() + 16),
+            messages: Vec::with_capacity(messages + 1024),
+        }
+    }
+
     // For so many rows, errors and bytes of messages.
     pub(crate) fn counted(counts: &Counts) -> Room {
         Room {
@@ -384,17 +395,51 @@ impl Tree {
     pub(crate) fn told(
         text: Box<str>,
         edition: Edition,
-        mut room: Room,
+        room: Room,
         mut call: impl FnMut(&str, &mut Room, &mut Counts) -> u32,
     ) -> Result<Tree, ParseError> {
+        let (rows, errors) = Tree::told_parts(room, |room, counts| call(&text, room, counts))?;
+        Ok(Tree(Arc::new(Inner { text, edition, rows: rows.into(), errors })))
+    }
+
+    // The rows and the errors from such a call.
+    fn told_parts(
+        mut room: Room,
+        mut call: impl FnMut(&mut Room, &mut Counts) -> u32,
+    ) -> Result<(Vec<FlatRow>, Box<[SyntaxError]>), ParseError> {
         let mut counts = Counts { rows: 0, errors: 0, violations: 0, messages: 0 };
-        while !answered(call(&text, &mut room, &mut counts))? {
+        while !answered(call(&mut room, &mut counts))? {
             room = Room::counted(&counts);
         }
         // SAFETY: the call returned `OK`, and then the counts are those of what it wrote.
         unsafe { room.written(&counts) };
         let errors = errors_of(&room.errors, &room.messages, counts.violations as usize);
-        Ok(Tree(Arc::new(Inner { text, edition, rows: room.rows.into(), errors })))
+        Ok((room.rows, errors))
+    }
+
+    // The tree of a text after edits, from this one, where at most the node of a row was parsed again since: from a call that writes the
+    // rows of this node, and the errors of the text. The rows are copied, unless nothing else has a share of this tree.
+    pub(crate) fn with_node(
+        self,
+        text: Box<str>,
+        row: u32,
+        room: Room,
+        call: impl FnMut(&mut Room, &mut Counts) -> u32,
+    ) -> Result<Tree, ParseError> {
+        let (new, errors) = Tree::told_parts(room, call)?;
+        let (edition, longer) = (self.edition(), (text.len() as u32).wrapping_sub(self.text().len() as u32));
+        let count = self.rows().len() + new.len() - (self.end_of(row) - row) as usize;
+        let mut rows = match Arc::try_unwrap(self.0) {
+            Ok(inner) => inner.rows.into_vec(),
+            Err(shared) => {
+                let mut rows = Vec::with_capacity(count.max(shared.rows.len()));
+                rows.extend_from_slice(&shared.rows);
+                rows
+            }
+        };
+        rows.reserve_exact(count.saturating_sub(rows.len()));
+        splice(&mut rows, row, &new, longer);
+        Ok(Tree(Arc::new(Inner { text, edition, rows: rows.into(), errors })))
     }
 
     // The tree of a text and its rows, which no parse made: it has no errors of its own.
@@ -613,6 +658,15 @@ impl Tree {
                 Some(left) => TokenAtOffset::Between(left, right),
             },
         }
+    }
+
+    // The row of the innermost node with exactly this range.
+    pub(crate) fn node_with(&self, range: TextRange) -> Option<u32> {
+        let (start, rows) = (range.start().raw(), self.rows());
+        let first = rows.partition_point(|it| it.start < start);
+        let behind = first + rows[first..].iter().take_while(|it| it.start == start).count();
+        let mut nodes = (first as u32..behind as u32).rev().filter(|it| !self.is_token(*it));
+        nodes.find(|it| self.range_of(*it) == range)
     }
 
     // The row of the smallest node or token below a row, or the row itself, whose range contains the whole of a range.

@@ -1,5 +1,5 @@
 //! Texts that are edited: after each edit the tree is that of the edited text.
-use ras::{EditError, Edition, Live, SourceFile, SyntaxKind, T, TextRange, Tree};
+use ras::{EditError, Edition, Entry, Errors, Live, SourceFile, SyntaxKind, T, TextRange, Tree};
 
 const TEXT: &str = "\
 //! A file.
@@ -47,8 +47,7 @@ fn places(tree: &Tree, kinds: &[SyntaxKind]) -> Vec<TextRange> {
     tree.root().descendants_with_tokens().filter(|it| kinds.contains(&it.kind())).map(|it| it.text_range()).collect()
 }
 
-// Where an edit of the kind that a number names may be, and what may be put there. Such an edit leaves a correct file correct, and
-// gives no comment another neighbour; so the file has one tree, whether a part of it is parsed again or all.
+// Where an edit of the kind that a number names may be, and what may be put there. Such an edit leaves a correct file correct.
 fn edits(tree: &Tree, which: usize) -> (Vec<TextRange>, &'static [&'static str]) {
     type Kind = SyntaxKind;
     let behind = |it: TextRange| range(it.end().into(), it.end().into());
@@ -92,28 +91,97 @@ fn each_edit_gives_the_tree_of_the_edited_text() {
     }
 }
 
-// After an edit that breaks a file, upstream's rules may keep what a parse of the whole text would not: the text is what each tree owes.
-#[test]
-fn each_tree_has_the_edited_text() {
-    const INSERTS: [&str; 14] = ["", "{", "}", "(", ")", "\"", "/*", "*/", "//", "fn f", "'", "let ", "\n\n", "größe"];
-    let mut random = Random(2);
-    let mut edited = live(TEXT);
-    let mut text = TEXT.to_string();
-    for _ in 0..400 {
-        let offsets: Vec<usize> = (0..=text.len()).filter(|it| text.is_char_boundary(*it)).collect();
-        let start = random.below(offsets.len());
-        let end = (start + random.below(6)).min(offsets.len() - 1);
-        let (delete, insert) = (range(offsets[start], offsets[end]), random.of(&INSERTS));
-        edited.edit(delete, insert).unwrap();
-        text.replace_range(std::ops::Range::<usize>::from(delete), insert);
-        let tree = edited.tree().unwrap();
-        assert_eq!((edited.text(), tree.text()), (&*text, &*text));
-        assert_eq!(tree.root().kind(), SyntaxKind::SOURCE_FILE);
-        let joined: String = tree.root().tokens().map(|it| it.text()).collect();
-        assert_eq!(joined, text);
-        for error in tree.errors() {
-            assert!(usize::from(error.range().end()) <= text.len(), "{error} of {text:?}");
+// What is put in at random places: what keeps a file correct in some of them, and what breaks it, or heals it.
+const INSERTS: [&str; 34] = [
+    "", "", "", "", "x", "1", " ", "\n", "y + ", "z;", "()", "é", "{", "}", "{}", "(", ")", "\"", "/*", "*/", "//", "fn f", "'", "let ", "\n\n",
+    " + 1", "a;", "r#", "b'\\q'", "if a { b }", " /* c */ ", "{ 1 }", "#!", "_1: u8,",
+];
+
+// A text is edited at random places, more and more broken for some edits, and then anew; after each edit, or after some of them, its tree is
+// that which a new parse of the text gives, with the same errors.
+fn edited_at_random(text: &str, number: usize, seed: u64) {
+    let mut random = Random(seed);
+    let mut edited = live(text);
+    let mut near = 0;
+    // A tree that stays in use during the next edits, and what it has to stay.
+    let mut kept: Option<(Tree, Tree)> = None;
+    for done in 0..number {
+        if done % 16 == 0 {
+            edited.edit(range(0, edited.text().len()), text).unwrap();
         }
+        let now = edited.text().to_owned();
+        let boundary = |at: usize| (at.min(now.len())..).find(|it| now.is_char_boundary(*it)).expect("the end is one");
+        // Most edits are near the one before, and short.
+        let start = if random.below(3) == 0 { random.below(now.len() + 1) } else { near + random.below(12) };
+        let start = boundary(start);
+        let end = boundary(start + random.of(&[0, 0, 0, 1, 1, 2, 6, 40]));
+        let insert = random.of(&INSERTS);
+        edited.edit(range(start, end), insert).unwrap();
+        near = start.saturating_sub(4);
+        assert_eq!(edited.text(), [&now[..start], insert, &now[end..]].concat());
+        if random.below(4) > 0 {
+            let errors = random.of(&[Errors::All, Errors::All, Errors::All, Errors::Parse, Errors::Nothing, Errors::Violations]);
+            let whole = Tree::parse_as(edited.text(), Edition::CURRENT, Entry::SourceFile, errors).unwrap();
+            let tree = edited.tree_with(errors).unwrap();
+            assert_eq!(tree.errors(), whole.errors(), "{start}..{end} {insert:?} in\n{now}");
+            assert!(tree.rows() == whole.rows(), "{start}..{end} {insert:?} in\n{now}");
+            assert_eq!(tree, whole);
+            assert!(edited.tree_with(errors).unwrap().is_same(&tree));
+            if let Some((tree, whole)) = kept.take() {
+                assert_eq!(tree, whole);
+            }
+            kept = (random.below(2) == 0).then_some((tree, whole));
+        }
+    }
+}
+
+#[test]
+fn edits_of_small_texts_give_the_trees_of_the_new_texts() {
+    const TEXTS: [&str; 12] = [
+        "",
+        "fn f() { a }",
+        "{ a }",
+        "fn f() { { a } { b; { c } } }",
+        "mod m { fn f() { 1 } struct S { a: u8, b: [u8; { 2 }] } }",
+        "impl T for S { /* a */ fn f(&self) -> u8 { match self { _ => {} } } /* b */ }",
+        "use a::{b, c::{d, e}};",
+        "enum E { A { b: u8 }, C }\nm! { a { b } c }\nm!({ a });",
+        "fn f() { \"a{\"; '}'; // {\n /* } */ }",
+        "fn f() { let a = S { b: 1, ..c }; g(|d| { e }, async { f }); unsafe { h } }",
+        "#![a]\n//! b\nunion U { a: u8 }\nextern \"C\" { fn f(); }\ntrait T { const A: u8 = { 1 }; }",
+        TEXT,
+    ];
+    for (n, text) in TEXTS.iter().enumerate() {
+        edited_at_random(text, 600, n as u64 + 3);
+    }
+}
+
+#[test]
+fn edits_of_a_file_give_the_trees_of_the_new_files() {
+    edited_at_random(include_str!("../src/live.rs"), 1500, 20);
+    edited_at_random(include_str!("../src/tree.rs"), 1500, 21);
+}
+
+// Edits in one function after the other, and in one place, without a tree between them.
+#[test]
+fn some_edits_go_between_two_trees() {
+    let text = "fn f() { a }\nfn g() { b + { c } }\nfn h() { d }";
+    for edits in [
+        [(9, 10, "x"), (9, 10, "y")],
+        [(9, 10, "long"), (26, 27, "x")],
+        [(28, 29, "c + d"), (22, 23, "longer")],
+        [(22, 23, "longer"), (33, 34, "{ }")],
+        [(28, 29, "{ x }"), (30, 31, "yy")],
+        [(9, 10, ""), (0, 0, "// a\n")],
+        [(43, 44, "1"), (43, 44, "{}")],
+    ] {
+        let mut edited = live(text);
+        let before = edited.tree().unwrap();
+        for (start, end, insert) in edits {
+            edited.edit(range(start, end), insert).unwrap();
+        }
+        assert_eq!(edited.tree().unwrap(), Tree::parse(edited.text(), Edition::CURRENT).unwrap(), "{edits:?}");
+        assert_eq!(before, Tree::parse(text, Edition::CURRENT).unwrap());
     }
 }
 

@@ -15,9 +15,11 @@ use syntax_kind::SyntaxKind;
 /// [`ExactFront::exact_piece`]. If a new text of that node is a piece too, and neither the text nor
 /// the new one is longer than [`ExactFront::longest`], then a parse of the new text should make
 /// what a parse of the old one made, with the output for the piece in place of the node; but for
-/// the messages of the lexer's errors behind the piece. `Document` of `ras_parsing` relies on it.
-/// It is not a law of the trait: an implementation proves only the law `exact_kept`, that the steps
-/// of a piece build one tree over its text. For Rust it is proved: by `document_laws`.
+/// the messages of the lexer's errors behind the piece. The errors of a piece are behind its first
+/// byte and before its last one, so that those of the text are told from them by where they are.
+/// `Document` of `ras_parsing` relies on it. It is not a law of the trait: an implementation proves
+/// only the law `exact_kept`, that the steps of a piece build one tree over its text. For Rust it
+/// is proved: by `document_laws`.
 pub trait ExactFront: FrontEnd {
     // The results, as functions of the arguments.
     ghost exact: { Self → Exact };

@@ -17,7 +17,7 @@ use denote.Struct.Struct.{within}
 use denote.Struct.Owning.{shape}
 use mir.Raw.{raw as bare}
 use Rattle.std_alloc.specs.Box.Ownership.{box_owns}
-use Rattle.ras_front_end.specs.Parsed.{Parsed}
+use Rattle.ras_c.specs.Kept.{Kept}
 use Rattle.ras_c.specs.Held.{held, heap_token, parse_row}
 use Rattle.ras_c.specs.contracts.handle.Handle as handle
 use Rattle.ras_c.proofs.LooseValues.{both}
@@ -26,8 +26,8 @@ abbrev pub Hd : RattleType
 Hd = handle.the_row
 
 module _ {M : Type 1} {𝓤 : Ura M} {𝓛 : Logic 𝓤} {K : Type 0} {Γ : List (Item 𝓤)} {G : Goal 𝓤 𝓛.H} where
-  pub handle_in : K → (y : Bool) (p : Ptr) (o : Option Parsed)
-      → Step K 𝓛 (‵ (Hd.own_val (record { full = y; at = p; parse = o }) (both (vbool y) (ptr_val p) ∷ [])) ∷ Γ) G
+  pub handle_in : K → (y : Bool) (p : Ptr) (o : Option Kept)
+      → Step K 𝓛 (‵ (Hd.own_val (record { full = y; at = p; kept = o }) (both (vbool y) (ptr_val p) ∷ [])) ∷ Γ) G
       (‵ (held y p o) ∷ Γ) G
   handle_in t y p o = step (λ s. let v : Val = both (vbool y) (ptr_val p) in
       nothing t $ feq_i t (List Val) (ptr_val p ∷ []) (ptr_val p ∷ []) refl $ fjoin t $
@@ -37,8 +37,8 @@ module _ {M : Type 1} {𝓤 : Ura M} {𝓛 : Logic 𝓤} {K : Type 0} {Γ : List
   never_so : K → Seq K 𝓛 (‵ ffalse ∷ Γ) G
   never_so t = use1 𝓛 (given ⊥ (‵ ftrue)) (never_e 𝓤 _) $ learn t (λ z. absurd z)
 
-  cases : K → (y : Bool) (p : Ptr) (o : Option Parsed) (vs : List Val) → vs ≡ both (vbool y) (ptr_val p) ∷ []
-      → ((b i : ℕ) (x : Parsed) → o ≡ Some x → vs ≡ both (vbool true) (vptr b i) ∷ [] → Seq K 𝓛 (‵ (box_owns heap_token parse_row (block_ptr b i) x) ∷ Γ) G)
+  cases : K → (y : Bool) (p : Ptr) (o : Option Kept) (vs : List Val) → vs ≡ both (vbool y) (ptr_val p) ∷ []
+      → ((b i : ℕ) (x : Kept) → o ≡ Some x → vs ≡ both (vbool true) (vptr b i) ∷ [] → Seq K 𝓛 (‵ (box_owns heap_token parse_row (block_ptr b i) x) ∷ Γ) G)
       → (o ≡ None → vs ≡ both (vbool false) (ptr_val p) ∷ [] → Seq K 𝓛 Γ G)
       → Seq K 𝓛 (‵ (held y p o) ∷ Γ) G
   cases t true p (Some x) vs e full none = in_a_block t p (λ p. box_owns heap_token parse_row p x) (fst∗ 𝓤 (never 𝓤) (sem 𝓛 (heap_token (bare (lone parse_row.mir)) null_ptr)))
@@ -49,10 +49,10 @@ module _ {M : Type 1} {𝓤 : Ura M} {𝓛 : Logic 𝓤} {K : Type 0} {Γ : List
 
   -- it holds a parse, and owns that at its pointer, or holds none
   pub handle_out : K → (d : Hd.Denot) (vs : List Val)
-      → ((b i : ℕ) (x : Parsed) → d.parse ≡ Some x → vs ≡ both (vbool true) (vptr b i) ∷ [] → Seq K 𝓛 (‵ (box_owns heap_token parse_row (block_ptr b i) x) ∷ Γ) G)
-      → (d.parse ≡ None → vs ≡ both (vbool false) (ptr_val d.at) ∷ [] → Seq K 𝓛 Γ G)
+      → ((b i : ℕ) (x : Kept) → d.kept ≡ Some x → vs ≡ both (vbool true) (vptr b i) ∷ [] → Seq K 𝓛 (‵ (box_owns heap_token parse_row (block_ptr b i) x) ∷ Γ) G)
+      → (d.kept ≡ None → vs ≡ both (vbool false) (ptr_val d.at) ∷ [] → Seq K 𝓛 Γ G)
       → Seq K 𝓛 (‵ (Hd.own_val d vs) ∷ Γ) G
   handle_out t d vs full none =
       fsplit t $ fpick t (λ vss. fsplit t $ feq_l t (λ ev. fsplit t $ feq_l t (λ eb. fsplit t $ feq_l t (λ ep. drop t $
-      cases t d.full d.at d.parse vs
+      cases t d.full d.at d.kept vs
       (subst (λ (ps : List Val). vs ≡ vstruct (of_list (vbool d.full ∷ (ps ++ []))) ∷ []) ep (subst (λ (bs : List Val). vs ≡ vstruct (of_list (bs ++ (vss.1.0 ++ []))) ∷ []) eb ev)) full none))))

@@ -6,20 +6,19 @@ use base.Fml.{Fml, ftrue, ffalse}
 use denote.RattleType.{RattleType}
 use denote.RawPtr.{Ptr}
 use mir.Syntax.{Ty}
-use Rattle.ras_front_end.specs.Parsed.{Parsed}
-use Rattle.ras_parsing.specs.contracts.parse.Parse as parse
-use Rattle.ras_c.specs.contracts.root.Root as root
+use Rattle.ras_c.specs.Kept.{Kept}
+use Rattle.ras_c.specs.contracts.kept.KeptParse as kept
 
 -- a parse in memory
 abbrev pub parse_row : RattleType
-parse_row = parse.the_row root.the_row
+parse_row = kept.the_row
 
 -- the right to free a block of the heap
 abbrev pub heap_token : Ty → Ptr → Fml
 heap_token = ghosts.dealloc_token (record { memory = record { seal = tt } })
 
 -- a handle is full if it has a parse
-abbrev pub held : Bool → Ptr → Option Parsed → Fml
+abbrev pub held : Bool → Ptr → Option Kept → Fml
 held true p (Some x) = box_owns heap_token parse_row p x
 held true p None = ffalse
 held false p (Some x) = ffalse

@@ -1,5 +1,6 @@
 pub mod Border
 pub mod Held
+pub mod Kept
 pub mod Live
 pub mod Read
 pub mod Tokens

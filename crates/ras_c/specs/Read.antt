@@ -1,7 +1,7 @@
 -- The report on a text: rows, errors and messages in the buffers of the caller, and their numbers.
-use Rattle.std.specs.Prelude.{◌≡◌, ℕ, ◌<◌, ◌≤◌, ◌^◌, Bool, if◌then◌else◌, List, [], length, map, Some}
+use Rattle.std.specs.Prelude.{◌≡◌, ◌↔◌, ◌⊎◌, ℕ, ◌<◌, ◌≤◌, ◌^◌, Bool, if◌then◌else◌, List, [], length, map, Some, None, IsUtf8}
 use Rattle.std.specs.List.{flat_map}
-use Rattle.tree_model.specs.Tree.{size}
+use Rattle.tree_model.specs.Tree.{Tree, size}
 use Rattle.tree_model.specs.Edit.{root_of}
 use Rattle.tree_rows.specs.Flat.{flat_rows}
 use Rattle.tree_rows.specs.declared.table.flat.FlatRow.{FlatRow}
@@ -29,25 +29,29 @@ message_of f = f.message
 abbrev pub messages_of : List Fault → List ℕ
 messages_of faults = flat_map message_of faults
 
--- what is told of a parse: its tree, some errors, and how many of them are violations, which come
--- last
+-- what is told of a parse: its tree or a part of it, some errors, and how many of them are
+-- violations, which come last
 pub record Report : Type 0 where
-  pub parse : Parsed
+  pub tree : Tree
   pub faults : List Fault
   pub violations : ℕ
 
-abbrev pub report : Parsed → List Fault → ℕ → Report
-report p faults violations = record { parse = p; faults = faults; violations = violations }
+abbrev pub report : Tree → List Fault → ℕ → Report
+report t faults violations = record { tree = t; faults = faults; violations = violations }
 
 abbrev pub violations_in : Parsed → List Fault
 violations_in p = map violation_fault (violations_of (root_of p.tree))
 
--- the report with a choice of errors
+-- the report on a part of its tree with a choice of all its errors
+abbrev pub report_at : Tree → Errors → Parsed → Report
+report_at t Nothing p = report t [] 0
+report_at t Parse p = report t p.errors 0
+report_at t Violations p = report t (violations_in p) (length (violations_in p))
+report_at t All p = report t (all_errors p) (length (violations_in p))
+
+-- the report on all of it
 abbrev pub report_on : Errors → Parsed → Report
-report_on Nothing p = report p [] 0
-report_on Parse p = report p p.errors 0
-report_on Violations p = report p (violations_in p) (length (violations_in p))
-report_on All p = report p (all_errors p) (length (violations_in p))
+report_on errors p = report_at p.tree errors p
 
 -- the violations, and also the errors of the parse if `all`
 abbrev pub violations_by : Bool → Errors
@@ -56,7 +60,7 @@ violations_by all = if all then All else Violations
 -- its size
 abbrev pub needed : Report → Counts
 needed r = record {
-  rows = size r.parse.tree;
+  rows = size r.tree;
   errors = length r.faults;
   violations = r.violations;
   messages = length (messages_of r.faults);
@@ -64,7 +68,7 @@ needed r = record {
 
 -- numbers of 32 bits count it
 pub record IsSmall (r : Report) : Type 0 where
-  pub rows_fit : size r.parse.tree < 2 ^ 32
+  pub rows_fit : size r.tree < 2 ^ 32
   pub errors_fit : length r.faults < 2 ^ 32
   pub messages_fit : length (messages_of r.faults) < 2 ^ 32
 
@@ -80,13 +84,13 @@ buffers rows errors messages counts = record { rows = rows; errors = errors; mes
 
 -- each has room
 pub record HasRoom (r : Report) (b : Buffers) : Type 0 where
-  pub rows_fit : size r.parse.tree ≤ length b.rows
+  pub rows_fit : size r.tree ≤ length b.rows
   pub errors_fit : length r.faults ≤ length b.errors
   pub messages_fit : length (messages_of r.faults) ≤ length b.messages
 
 -- all of it at the fronts of the buffers
 abbrev pub told : Report → Buffers → Buffers
-told r b = buffers (over (flat_rows r.parse.tree) b.rows) (over (map error_row r.faults) b.errors) (over (messages_of r.faults) b.messages) (needed r)
+told r b = buffers (over (flat_rows r.tree) b.rows) (over (map error_row r.faults) b.errors) (over (messages_of r.faults) b.messages) (needed r)
 
 -- the counts alone
 abbrev pub counted : Report → Buffers → Buffers
@@ -124,3 +128,18 @@ pub record ReportsBy (entry errors year : ℕ) (text : List ℕ) (P : Report →
   pub entry_is : entry_of entry ≡ Some as_entry
   pub errors_is : errors_of errors ≡ Some as_errors
   pub reports : Reports as_entry as_errors year text P
+
+-- what a call that reads a text returns, and what it leaves in the buffers: by the numbers of an
+-- entry and of a choice of errors, as each clause of `ras_c_read_as` says
+pub record IsReadBy (entry errors year : ℕ) (text : List ℕ) (status : ℕ) (before after : Buffers) : Type 0 where
+  pub done : status ≡ 0 → ReportsBy entry errors year text (λ r. IsTold r before after)
+  pub room : status ≡ 4 → ReportsBy entry errors year text (λ r. IsCut r before after)
+  pub kept : (status ≡ 0 → ⊥) → (status ≡ 4 → ⊥) → after ≡ before
+  pub entry_known : (status ≡ 11) ↔ (entry_of entry ≡ None)
+  pub choice_known : (status ≡ 12) ↔ (entry_of entry ≡ None → ⊥) × (errors_of errors ≡ None)
+  pub edition_known : (status ≡ 5) ↔ (entry_of entry ≡ None → ⊥) × (errors_of errors ≡ None → ⊥)
+      × (edition_of year ≡ None)
+  pub utf8 : (status ≡ 1) ↔ (entry_of entry ≡ None → ⊥) × (errors_of errors ≡ None → ⊥)
+      × (edition_of year ≡ None → ⊥) × (IsUtf8 text → ⊥)
+  pub long : status ≡ 2 → (2 ^ 32 ≤ length text) ⊎ ReportsBy entry errors year text (λ r. IsSmall r → ⊥)
+  pub which : (status ≤ 5) ⊎ (11 ≤ status) × (status ≤ 12)

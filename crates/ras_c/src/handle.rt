@@ -1,12 +1,11 @@
 //! The handle of a parse, which C keeps: a box as its pointer.
 ghost use Rattle.std.specs.Prelude.{◌≡◌, Option, None, Some, MatchOption};
 ghost use Rattle.std.specs.Coded.{coded_option};
-ghost use Rattle.ras_front_end.specs.Parsed.{Parsed, parsed_code};
+ghost use Rattle.ras_c.specs.Kept.{Kept, kept_code};
 ghost use Rattle.ras_c.specs.Held.{held};
 
+use crate::kept::KeptParse;
 use crate::loose::Loose;
-use crate::root::Root;
-use ras_parsing::Parse;
 use std::alloc::Global;
 use std::marker::Model;
 
@@ -20,16 +19,16 @@ pub struct Handle {
     full: bool,
     /// Where it is.
     at: *mut u8,
-    pub ghost parse: { Option Parsed } by { coded_option parsed_code },
+    pub ghost kept: { Option Kept } by { coded_option kept_code },
 }
 
 impl Model for Handle {
-    ghost also_owns = { λ h. held h.full h.at h.parse };
+    ghost also_owns = { λ h. held h.full h.at h.kept };
 }
 
 /// A handle that holds no parse.
 pub(crate) fn empty() -> Handle
-    ensures { result.parse ≡ None }
+    ensures { result.kept ≡ None }
 {
     Handle {
         full: false,
@@ -37,8 +36,8 @@ pub(crate) fn empty() -> Handle
     }
 }
 
-pub(crate) fn seal(loose: Loose<Parse<Root>, Global>) -> Handle
-    ensures { result.parse ≡ Some loose.value }
+pub(crate) fn seal(loose: Loose<KeptParse, Global>) -> Handle
+    ensures { result.kept ≡ Some loose.value }
 {
     let Loose { at, alloc: _ } = loose;
     Handle {
@@ -47,13 +46,13 @@ pub(crate) fn seal(loose: Loose<Parse<Root>, Global>) -> Handle
     }
 }
 
-pub(crate) fn open(alloc: Global, handle: Handle) -> Option<Loose<Parse<Root>, Global>>
-    ensures { MatchOption result (handle.parse ≡ None) (λ l. handle.parse ≡ Some l.value) }
+pub(crate) fn open(alloc: Global, handle: Handle) -> Option<Loose<KeptParse, Global>>
+    ensures { MatchOption result (handle.kept ≡ None) (λ l. handle.kept ≡ Some l.value) }
 {
     let Handle { full, at } = handle;
     if full {
         return Some(Loose {
-            at: at as *mut Parse<Root>,
+            at: at as *mut KeptParse,
             alloc,
         });
     }

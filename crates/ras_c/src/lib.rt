@@ -8,6 +8,7 @@ mod choice;
 mod fill;
 mod handle;
 mod held;
+mod kept;
 mod kinds;
 mod live;
 mod loose;

@@ -1,26 +1,26 @@
 //! Parses that are kept and edited.
-ghost use Rattle.std.specs.Prelude.{◌≡◌, ◌<◌, ◌≤◌, ◌^◌, ◌⊎◌, ◌↔◌, length, IfOk, IfErr, IsUtf8, None, Some};
+ghost use Rattle.std.specs.Prelude.{◌≡◌, ◌<◌, ◌≤◌, ◌^◌, ◌⊎◌, ◌↔◌, length, IfSome, IsUtf8, None, Some};
 ghost use Rattle.tree_model.specs.Tree.{text};
-ghost use Rattle.ras_front_end.specs.Parsed.{Parsed};
+ghost use Rattle.tree_model.specs.Edit.{root_of};
 ghost use Rattle.ras_parsing.specs.Edit.{IsEditOf, edited};
 ghost use Rattle.ras_c.specs.Border.{edition_of, errors_of};
-ghost use Rattle.ras_c.specs.declared.choice.Errors.TheVariants.{All};
-ghost use Rattle.ras_c.specs.Read.{report_on, IsTold, IsCut, IsSmall, IsReading, buffers};
-ghost use Rattle.ras_c.specs.Live.{edit_from, IsEdited, HoldsEdited, Holds, HoldsReport};
+ghost use Rattle.ras_c.specs.Read.{report_at, report_on, IsTold, IsCut, IsSmall, buffers};
+ghost use Rattle.ras_c.specs.Kept.{IsRead};
+ghost use Rattle.ras_c.specs.Live.{edit_from, node_around, tree_around, AreRowsBy, Holds, HoldsRead, HoldsEdited, HoldsAgain, HoldsReport, HoldsReportAt, IsIn};
 
-use crate::choice::{Errors, errors_of};
+use crate::choice::{ALL_ERRORS, Errors, errors_of};
 use crate::handle::Handle;
 use crate::held::{put, take};
-use crate::parsed::parsed;
-use crate::read::{Counts, ErrorRow, tell};
+use crate::kept::KeptParse;
+use crate::parens::Range;
+use crate::read::{Counts, ErrorRow, tell, tell_at};
 use crate::root::Root;
 use crate::status::{
     NO_CHOICE, NO_EDITION, NO_MEMORY, NO_PARSE, NO_PLACE, NOT_UTF8, OK, TOO_LONG, edition_of,
 };
-use lossless_tree::{FlatRow, TextRange, TextSize};
-use ras_front_end::{Edition, ParseError};
+use lossless_tree::{FlatRow, NodeOrToken, SyntaxNode, TextRange, TextSize};
+use ras_front_end::ParseError;
 use ras_parsing::Parse;
-use rust_front::Rust;
 use std::alloc::Global;
 
 /// Parses a text as a Rust file of an edition, such as 2024, and puts the parse into a handle. A parse that the handle held is freed.
@@ -28,20 +28,27 @@ use std::alloc::Global;
 /// Returns [`OK`], [`NOT_UTF8`], [`TOO_LONG`], [`NO_MEMORY`] or [`NO_EDITION`]. Unless it is [`OK`], the handle is not changed.
 #[unsafe(no_mangle)]
 pub extern "C" fn ras_c_parse(alloc: Global, text: &[u8], edition: u32, handle: &mut Handle) -> u32
-    ensures done { result ≡ 0 → Holds handle.new.parse (IsReading edition text.now) }
-    ensures kept { (result ≡ 0 → ⊥) → handle.new.parse ≡ handle.old.parse }
+    ensures done { result ≡ 0 → HoldsRead edition text.now handle.new.kept }
+    ensures kept { (result ≡ 0 → ⊥) → handle.new.kept ≡ handle.old.kept }
     ensures utf8 { (result ≡ 1) ↔ (edition_of edition ≡ None → ⊥) × (IsUtf8 text.now → ⊥) }
     ensures long { (result ≡ 2) ↔ (edition_of edition ≡ None → ⊥) × IsUtf8 text.now × (2 ^ 32 ≤ length text.now) }
     ensures edition { (result ≡ 5) ↔ (edition_of edition ≡ None) }
     ensures which { (result ≤ 3) ⊎ (result ≡ 5) }
 {
-    let parse = match parsed(alloc, text, edition) {
-        Ok(parse) => parse,
-        Err(status) => return status,
+    let Some(edition) = edition_of(edition) else {
+        return NO_EDITION;
     };
-    match Box::new(alloc, parse) {
-        Ok(parse) => {
-            put(alloc, handle, parse);
+    let Ok(text) = str::from_utf8(text) else {
+        return NOT_UTF8;
+    };
+    let kept = match KeptParse::new(alloc, text, edition) {
+        Ok(kept) => kept,
+        Err(ParseError::TooLong) => return TOO_LONG,
+        Err(ParseError::Memory) => return NO_MEMORY,
+    };
+    match Box::new(alloc, kept) {
+        Ok(kept) => {
+            put(alloc, handle, kept);
             OK
         }
         Err(_) => NO_MEMORY,
@@ -58,25 +65,27 @@ fn rows_told(
     messages: &mut [u8],
     counts: &mut Counts,
 ) -> u32
-    ensures done { result ≡ 0 → Holds handle.old.parse (λ p. IsTold (report_on told p)
+    ensures done { result ≡ 0 → Holds handle.old.kept (λ p. IsTold (report_on told p)
         (buffers rows.old errors.old messages.old counts.old)
         (buffers rows.new errors.new messages.new counts.new)) }
-    ensures room { result ≡ 4 → Holds handle.old.parse (λ p. IsCut (report_on told p)
+    ensures room { result ≡ 4 → Holds handle.old.kept (λ p. IsCut (report_on told p)
         (buffers rows.old errors.old messages.old counts.old)
         (buffers rows.new errors.new messages.new counts.new)) }
-    ensures long { result ≡ 2 → Holds handle.old.parse (λ p. IsSmall (report_on told p) → ⊥) }
+    ensures long { result ≡ 2 → Holds handle.old.kept (λ p. IsSmall (report_on told p) → ⊥) }
     ensures kept { (result ≡ 0 → ⊥) → (result ≡ 4 → ⊥)
         → buffers rows.new errors.new messages.new counts.new
         ≡ buffers rows.old errors.old messages.old counts.old }
-    ensures empty { (result ≡ 7) ↔ (handle.old.parse ≡ None) }
-    ensures same { handle.new.parse ≡ handle.old.parse }
+    ensures empty { (result ≡ 7) ↔ (handle.old.kept ≡ None) }
+    ensures same { handle.new.kept ≡ handle.old.kept }
+    ensures read { IfSome handle.old.kept (λ k. IsRead (text k.parse.tree) k) }
     ensures which { (result ≡ 0) ⊎ (2 ≤ result) × (result ≤ 4) ⊎ (result ≡ 7) }
 {
-    let Some(parse) = take(alloc, handle) else {
+    let Some(kept) = take(alloc, handle) else {
         return NO_PARSE;
     };
-    let status = tell(alloc, &parse, told, rows, errors, messages, counts);
-    put(alloc, handle, parse);
+    let parse = kept.parse();
+    let status = tell(alloc, parse, told, rows, errors, messages, counts);
+    put(alloc, handle, kept);
     status
 }
 
@@ -92,21 +101,12 @@ pub extern "C" fn ras_c_rows(
     messages: &mut [u8],
     counts: &mut Counts,
 ) -> u32
-    ensures done { result ≡ 0 → Holds handle.old.parse (λ p. IsTold (report_on All p)
+    ensures told { AreRowsBy 3 handle.old.kept result
         (buffers rows.old errors.old messages.old counts.old)
-        (buffers rows.new errors.new messages.new counts.new)) }
-    ensures room { result ≡ 4 → Holds handle.old.parse (λ p. IsCut (report_on All p)
-        (buffers rows.old errors.old messages.old counts.old)
-        (buffers rows.new errors.new messages.new counts.new)) }
-    ensures long { result ≡ 2 → Holds handle.old.parse (λ p. IsSmall (report_on All p) → ⊥) }
-    ensures kept { (result ≡ 0 → ⊥) → (result ≡ 4 → ⊥)
-        → buffers rows.new errors.new messages.new counts.new
-        ≡ buffers rows.old errors.old messages.old counts.old }
-    ensures empty { (result ≡ 7) ↔ (handle.old.parse ≡ None) }
-    ensures same { handle.new.parse ≡ handle.old.parse }
-    ensures which { (result ≡ 0) ⊎ (2 ≤ result) × (result ≤ 4) ⊎ (result ≡ 7) }
+        (buffers rows.new errors.new messages.new counts.new) }
+    ensures same { handle.new.kept ≡ handle.old.kept }
 {
-    rows_told(alloc, handle, Errors::All, rows, errors, messages, counts)
+    ras_c_rows_as(alloc, handle, ALL_ERRORS, rows, errors, messages, counts)
 }
 
 /// Writes the rows of a handle's parse with a choice of errors, such as [`PARSE_ERRORS`], as
@@ -124,19 +124,21 @@ pub extern "C" fn ras_c_rows_as(
     messages: &mut [u8],
     counts: &mut Counts,
 ) -> u32
-    ensures done { result ≡ 0 → HoldsReport told handle.old.parse (λ r. IsTold r
+    ensures done { result ≡ 0 → HoldsReport told handle.old.kept (λ r. IsTold r
         (buffers rows.old errors.old messages.old counts.old)
         (buffers rows.new errors.new messages.new counts.new)) }
-    ensures room { result ≡ 4 → HoldsReport told handle.old.parse (λ r. IsCut r
+    ensures room { result ≡ 4 → HoldsReport told handle.old.kept (λ r. IsCut r
         (buffers rows.old errors.old messages.old counts.old)
         (buffers rows.new errors.new messages.new counts.new)) }
-    ensures long { result ≡ 2 → HoldsReport told handle.old.parse (λ r. IsSmall r → ⊥) }
+    ensures long { result ≡ 2 → HoldsReport told handle.old.kept (λ r. IsSmall r → ⊥) }
     ensures kept { (result ≡ 0 → ⊥) → (result ≡ 4 → ⊥)
         → buffers rows.new errors.new messages.new counts.new
         ≡ buffers rows.old errors.old messages.old counts.old }
     ensures choice { (result ≡ 12) ↔ (errors_of told ≡ None) }
-    ensures empty { (result ≡ 7) ↔ (errors_of told ≡ None → ⊥) × (handle.old.parse ≡ None) }
-    ensures same { handle.new.parse ≡ handle.old.parse }
+    ensures empty { (result ≡ 7) ↔ (errors_of told ≡ None → ⊥) × (handle.old.kept ≡ None) }
+    ensures same { handle.new.kept ≡ handle.old.kept }
+    ensures read { (result ≡ 12 → ⊥)
+        → IfSome handle.old.kept (λ k. IsRead (text k.parse.tree) k) }
     ensures which { (result ≡ 0) ⊎ (2 ≤ result) × (result ≤ 4) ⊎ (result ≡ 7) ⊎ (result ≡ 12) }
 {
     let Some(told) = errors_of(told) else {
@@ -145,61 +147,118 @@ pub extern "C" fn ras_c_rows_as(
     rows_told(alloc, handle, told, rows, errors, messages, counts)
 }
 
-// The parse after an edit, or the status that says why there is none.
-fn reparsed(
-    alloc: Global,
-    old: &Parse<Root>,
-    edition: Edition,
-    start: u32,
-    end: u32,
-    insert: &str,
-) -> Result<Parse<Root>, u32>
-    ensures done { IfOk result (IsEdited edition (edit_from start end insert.now) old.now) }
-    ensures place { IfErr result (λ s. (s ≡ 6) ↔ (IsEditOf (text old.now.tree) (edit_from start end insert.now) → ⊥)) }
-    ensures long { IfErr result (λ s. (s ≡ 2) ↔ IsEditOf (text old.now.tree) (edit_from start end insert.now) × (2 ^ 32 ≤ length (edited (text old.now.tree) (edit_from start end insert.now)))) }
-    ensures which { IfErr result (λ s. (s ≡ 2) ⊎ (s ≡ 3) ⊎ (s ≡ 6)) }
+// The innermost node around a range of the text: what covers it, or the node that this token is in.
+fn node_around(parse: &Parse<Root>, range: TextRange) -> SyntaxNode
+    ensures { result ≡ node_around (root_of parse.now.tree) range }
 {
-    let text = old.root().as_str();
-    if start > end
-        || !text.is_char_boundary(start as usize)
-        || !text.is_char_boundary(end as usize)
-    {
-        return Err(NO_PLACE);
-    }
-    let delete = TextRange::new(TextSize::new(start), TextSize::new(end));
-    match old.reparse(alloc, &Rust, delete, insert, edition) {
-        Ok(new) => Ok(new),
-        Err(ParseError::TooLong) => Err(TOO_LONG),
-        Err(ParseError::Memory) => Err(NO_MEMORY),
+    match parse.root().covering_element(range) {
+        NodeOrToken::Node(node) => node,
+        NodeOrToken::Token(token) => match token.parent() {
+            Some(node) => node,
+            None => parse.syntax_node(),
+        },
     }
 }
 
-// The same, in a block of its own.
-fn reparsed_box(
+// Writes a report on the innermost node around a range.
+fn tell_around(
     alloc: Global,
-    old: &Parse<Root>,
-    edition: Edition,
+    parse: &Parse<Root>,
+    told: Errors,
     start: u32,
     end: u32,
-    insert: &str,
-) -> Result<Box<Parse<Root>>, u32>
-    ensures done { IfOk result (λ b. IsEdited edition (edit_from start end insert.now) old.now b.value) }
-    ensures place { IfErr result (λ s. (s ≡ 6) ↔ (IsEditOf (text old.now.tree) (edit_from start end insert.now) → ⊥)) }
-    ensures long { IfErr result (λ s. (s ≡ 2) ↔ IsEditOf (text old.now.tree) (edit_from start end insert.now) × (2 ^ 32 ≤ length (edited (text old.now.tree) (edit_from start end insert.now)))) }
-    ensures which { IfErr result (λ s. (s ≡ 2) ⊎ (s ≡ 3) ⊎ (s ≡ 6)) }
+    rows: &mut [FlatRow],
+    errors: &mut [ErrorRow],
+    messages: &mut [u8],
+    counts: &mut Counts,
+) -> u32
+    ensures done { result ≡ 0
+        → IsTold (report_at (tree_around parse.now.tree start end) told parse.now)
+        (buffers rows.old errors.old messages.old counts.old)
+        (buffers rows.new errors.new messages.new counts.new) }
+    ensures room { result ≡ 4
+        → IsCut (report_at (tree_around parse.now.tree start end) told parse.now)
+        (buffers rows.old errors.old messages.old counts.old)
+        (buffers rows.new errors.new messages.new counts.new) }
+    ensures long { result ≡ 2
+        → IsSmall (report_at (tree_around parse.now.tree start end) told parse.now) → ⊥ }
+    ensures kept { (result ≡ 0 → ⊥) → (result ≡ 4 → ⊥)
+        → buffers rows.new errors.new messages.new counts.new
+        ≡ buffers rows.old errors.old messages.old counts.old }
+    ensures place { (result ≡ 6) ↔ (IsIn (text parse.now.tree) start end → ⊥) }
+    ensures which { (result ≡ 0) ⊎ (2 ≤ result) × (result ≤ 4) ⊎ (result ≡ 6) }
 {
-    let new = reparsed(alloc, old, edition, start, end, insert)?;
-    match Box::new(alloc, new) {
-        Ok(new) => Ok(new),
-        Err(_) => Err(NO_MEMORY),
+    if start > end || end as usize > parse.root().as_str().len() {
+        return NO_PLACE;
     }
+    let range = TextRange::new(TextSize::new(start), TextSize::new(end));
+    let node = node_around(parse, range);
+    tell_at(alloc, parse, &node, told, rows, errors, messages, counts)
 }
 
-/// Edits the text of a handle's parse: `insert` replaces the bytes from `start` to `end`, and the handle then holds the parse of the new
-/// text. Only one token or one block is parsed again if that is possible, otherwise the whole text.
+/// Writes the rows of the innermost node of a handle's parse that covers a range of the text, as a
+/// tree of its own: positions count from the node's start, and rows from its row, which is row 0
+/// here. The errors are those of the whole parse, by a choice, such as [`PARSE_ERRORS`], with
+/// positions in the whole text. The handle keeps its parse. Of a range that `ras_c_edit_told` wrote,
+/// if it is not the whole text, the node is the block that was parsed again.
 ///
-/// Returns [`OK`], [`NOT_UTF8`], [`TOO_LONG`], [`NO_MEMORY`], [`NO_EDITION`], [`NO_PARSE`] if the handle holds no parse, or [`NO_PLACE`]
-/// if the range is not in the text or not on character boundaries. Unless it is [`OK`], the handle is not changed.
+/// Returns [`OK`], [`TOO_LONG`], [`NO_MEMORY`], [`NO_ROOM`], [`NO_CHOICE`], [`NO_PARSE`] if the
+/// handle holds no parse, or [`NO_PLACE`] if the text has no such range.
+#[unsafe(no_mangle)]
+pub extern "C" fn ras_c_rows_at(
+    alloc: Global,
+    handle: &mut Handle,
+    told: u32,
+    start: u32,
+    end: u32,
+    rows: &mut [FlatRow],
+    errors: &mut [ErrorRow],
+    messages: &mut [u8],
+    counts: &mut Counts,
+) -> u32
+    ensures done { result ≡ 0 → HoldsReportAt told start end handle.old.kept (λ r. IsTold r
+        (buffers rows.old errors.old messages.old counts.old)
+        (buffers rows.new errors.new messages.new counts.new)) }
+    ensures room { result ≡ 4 → HoldsReportAt told start end handle.old.kept (λ r. IsCut r
+        (buffers rows.old errors.old messages.old counts.old)
+        (buffers rows.new errors.new messages.new counts.new)) }
+    ensures long { result ≡ 2
+        → HoldsReportAt told start end handle.old.kept (λ r. IsSmall r → ⊥) }
+    ensures kept { (result ≡ 0 → ⊥) → (result ≡ 4 → ⊥)
+        → buffers rows.new errors.new messages.new counts.new
+        ≡ buffers rows.old errors.old messages.old counts.old }
+    ensures choice { (result ≡ 12) ↔ (errors_of told ≡ None) }
+    ensures empty { (result ≡ 7) ↔ (errors_of told ≡ None → ⊥) × (handle.old.kept ≡ None) }
+    ensures place { (result ≡ 6) ↔ (errors_of told ≡ None → ⊥)
+        × Holds handle.old.kept (λ p. IsIn (text p.tree) start end → ⊥) }
+    ensures same { handle.new.kept ≡ handle.old.kept }
+    ensures read { (result ≡ 12 → ⊥)
+        → IfSome handle.old.kept (λ k. IsRead (text k.parse.tree) k) }
+    ensures which { (result ≡ 0) ⊎ (2 ≤ result) × (result ≤ 4) ⊎ (6 ≤ result) × (result ≤ 7)
+        ⊎ (result ≡ 12) }
+{
+    let Some(told) = errors_of(told) else {
+        return NO_CHOICE;
+    };
+    let Some(kept) = take(alloc, handle) else {
+        return NO_PARSE;
+    };
+    let parse = kept.parse();
+    let status = tell_around(
+        alloc, parse, told, start, end, rows, errors, messages, counts,
+    );
+    put(alloc, handle, kept);
+    status
+}
+
+/// Edits the text of a handle's parse: `insert` replaces the bytes from `start` to `end`, and the
+/// handle then holds the parse of the new text: the same tree and errors that `ras_c_parse` would
+/// make. In the edition that the parse is of, only one block is parsed again if that is enough; in
+/// another edition the whole text is parsed.
+///
+/// Returns [`OK`], [`NOT_UTF8`], [`TOO_LONG`], [`NO_MEMORY`], [`NO_EDITION`], [`NO_PARSE`] if the
+/// handle holds no parse, or [`NO_PLACE`] if the range is not in the text or not on character
+/// boundaries. Unless it is [`OK`], the handle is not changed.
 #[unsafe(no_mangle)]
 pub extern "C" fn ras_c_edit(
     alloc: Global,
@@ -209,15 +268,53 @@ pub extern "C" fn ras_c_edit(
     end: u32,
     insert: &[u8],
 ) -> u32
-    ensures done { result ≡ 0 → HoldsEdited edition (edit_from start end insert.now) handle.old.parse handle.new.parse }
-    ensures kept { (result ≡ 0 → ⊥) → handle.new.parse ≡ handle.old.parse }
+    ensures done { result ≡ 0 → HoldsEdited edition (edit_from start end insert.now)
+        handle.old.kept handle.new.kept }
+    ensures kept { (result ≡ 0 → ⊥) → handle.new.kept ≡ handle.old.kept }
     ensures utf8 { (result ≡ 1) ↔ (edition_of edition ≡ None → ⊥) × (IsUtf8 insert.now → ⊥) }
     ensures long { (result ≡ 2) ↔ (edition_of edition ≡ None → ⊥) × IsUtf8 insert.now
-        × Holds handle.old.parse (λ p. IsEditOf (text p.tree) (edit_from start end insert.now) × (2 ^ 32 ≤ length (edited (text p.tree) (edit_from start end insert.now)))) }
+        × Holds handle.old.kept (λ p. IsEditOf (text p.tree) (edit_from start end insert.now)
+        × (2 ^ 32 ≤ length (edited (text p.tree) (edit_from start end insert.now)))) }
     ensures edition { (result ≡ 5) ↔ (edition_of edition ≡ None) }
     ensures place { (result ≡ 6) ↔ (edition_of edition ≡ None → ⊥) × IsUtf8 insert.now
-        × Holds handle.old.parse (λ p. IsEditOf (text p.tree) (edit_from start end insert.now) → ⊥) }
-    ensures empty { (result ≡ 7) ↔ (edition_of edition ≡ None → ⊥) × IsUtf8 insert.now × (handle.old.parse ≡ None) }
+        × Holds handle.old.kept (λ p. IsEditOf (text p.tree) (edit_from start end insert.now) → ⊥) }
+    ensures empty { (result ≡ 7) ↔ (edition_of edition ≡ None → ⊥) × IsUtf8 insert.now
+        × (handle.old.kept ≡ None) }
+    ensures which { (result ≤ 3) ⊎ (5 ≤ result) × (result ≤ 7) }
+{
+    let mut again = Range { start: 0, end: 0 };
+    ras_c_edit_told(alloc, handle, edition, start, end, insert, &mut again)
+}
+
+/// Edits the text of a handle's parse as `ras_c_edit` does, and writes the range of the new text
+/// that was parsed again to `again`: that of one block, or the whole text. The rest of the tree is
+/// as it was; what is behind the block has moved with the text.
+///
+/// Returns what `ras_c_edit` returns. Unless it is [`OK`], nothing was changed.
+#[unsafe(no_mangle)]
+pub extern "C" fn ras_c_edit_told(
+    alloc: Global,
+    handle: &mut Handle,
+    edition: u32,
+    start: u32,
+    end: u32,
+    insert: &[u8],
+    again: &mut Range,
+) -> u32
+    ensures done { result ≡ 0 → HoldsEdited edition (edit_from start end insert.now)
+        handle.old.kept handle.new.kept }
+    ensures again { result ≡ 0 → HoldsAgain (edit_from start end insert.now)
+        handle.old.kept handle.new.kept again.new }
+    ensures kept { (result ≡ 0 → ⊥) → (handle.new.kept ≡ handle.old.kept) × (again.new ≡ again.old) }
+    ensures utf8 { (result ≡ 1) ↔ (edition_of edition ≡ None → ⊥) × (IsUtf8 insert.now → ⊥) }
+    ensures long { (result ≡ 2) ↔ (edition_of edition ≡ None → ⊥) × IsUtf8 insert.now
+        × Holds handle.old.kept (λ p. IsEditOf (text p.tree) (edit_from start end insert.now)
+        × (2 ^ 32 ≤ length (edited (text p.tree) (edit_from start end insert.now)))) }
+    ensures edition { (result ≡ 5) ↔ (edition_of edition ≡ None) }
+    ensures place { (result ≡ 6) ↔ (edition_of edition ≡ None → ⊥) × IsUtf8 insert.now
+        × Holds handle.old.kept (λ p. IsEditOf (text p.tree) (edit_from start end insert.now) → ⊥) }
+    ensures empty { (result ≡ 7) ↔ (edition_of edition ≡ None → ⊥) × IsUtf8 insert.now
+        × (handle.old.kept ≡ None) }
     ensures which { (result ≤ 3) ⊎ (5 ≤ result) × (result ≤ 7) }
 {
     let Some(edition) = edition_of(edition) else {
@@ -226,25 +323,27 @@ pub extern "C" fn ras_c_edit(
     let Ok(insert) = str::from_utf8(insert) else {
         return NOT_UTF8;
     };
-    let Some(old) = take(alloc, handle) else {
+    let Some(mut kept) = take(alloc, handle) else {
         return NO_PARSE;
     };
-    match reparsed_box(alloc, &old, edition, start, end, insert) {
-        Ok(new) => {
-            put(alloc, handle, new);
+    let edited = kept.edit(alloc, edition, start, end, insert);
+    put(alloc, handle, kept);
+    match edited {
+        Ok(range) => {
+            *again = Range {
+                start: range.start().raw(),
+                end: range.end().raw(),
+            };
             OK
         }
-        Err(status) => {
-            put(alloc, handle, old);
-            status
-        }
+        Err(status) => status,
     }
 }
 
 /// Frees the parse of a handle, if it holds one. The handle then holds none, and may be used again.
 #[unsafe(no_mangle)]
 pub extern "C" fn ras_c_free(alloc: Global, handle: &mut Handle)
-    ensures { handle.new.parse ≡ None }
+    ensures { handle.new.kept ≡ None }
 {
     let _parse = take(alloc, handle);
 }

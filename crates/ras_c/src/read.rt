@@ -1,18 +1,17 @@
 //! Rows and errors of a text.
 ghost use Rattle.std.specs.Prelude.{◌≡◌, ◌↔◌, ◌≤◌, ◌<◌, ◌^◌, ◌⊎◌, length, map, IfOk, IfSome, IsUtf8, None, string_bytes};
-ghost use Rattle.ras_front_end.specs.declared.edition.Entry.TheVariants.{SourceFile, Expr};
 ghost use Rattle.tree_model.specs.Tree.{size};
+ghost use Rattle.tree_model.specs.Cursor.{focus};
 ghost use Rattle.tree_rows.specs.Flat.{flat_rows};
-ghost use Rattle.ras_c.specs.declared.choice.Errors.TheVariants.{All};
 ghost use Rattle.ras_c.specs.Border.{edition_of, entry_of, errors_of, over};
-ghost use Rattle.ras_c.specs.Read.{error_row, messages_of, report, report_on, violations_by, IsTold, IsCut, IsSmall, Reports, ReportsBy, buffers};
+ghost use Rattle.ras_c.specs.Read.{error_row, messages_of, report, report_at, report_on, violations_by, IsTold, IsCut, IsSmall, IsReadBy, Reports, ReportsBy, buffers};
 
-use crate::choice::{Errors, entry_of, errors_of};
+use crate::choice::{ALL_ERRORS, ENTRY_EXPR, ENTRY_FILE, Errors, entry_of, errors_of};
 use crate::fill::{fill, small};
 use crate::parsed::parsed_as;
 use crate::root::Root;
 use crate::status::{NO_CHOICE, NO_ENTRY, NO_MEMORY, NO_ROOM, OK, TOO_LONG};
-use lossless_tree::FlatRow;
+use lossless_tree::{FlatRow, SyntaxNode};
 use ras_front_end::{Entry, SyntaxError};
 use ras_parsing::Parse;
 use std::alloc::{AllocError, Global};
@@ -91,13 +90,15 @@ fn counts_of(rows: usize, errors: usize, violations: usize, messages: usize) -> 
     })
 }
 
-// Writes the rows of a parse's tree to the front of `rows`, where there is room, and counts them.
-fn write_rows(parse: &Parse<Root>, rows: &mut [FlatRow]) -> usize
-    ensures count { result ≡ size parse.now.tree }
-    ensures written { size parse.now.tree ≤ length rows.old → size parse.now.tree < 2 ^ 32 → rows.new ≡ over (flat_rows parse.now.tree) rows.old }
-    ensures unchanged { (length rows.old < size parse.now.tree) ⊎ (2 ^ 32 ≤ size parse.now.tree) → rows.new ≡ rows.old }
+// Writes the rows of a node's tree to the front of `rows`, where there is room, and counts them.
+fn write_rows(node: &SyntaxNode, rows: &mut [FlatRow]) -> usize
+    ensures count { result ≡ size (focus node.now) }
+    ensures written { size (focus node.now) ≤ length rows.old → size (focus node.now) < 2 ^ 32
+        → rows.new ≡ over (flat_rows (focus node.now)) rows.old }
+    ensures unchanged { (length rows.old < size (focus node.now)) ⊎ (2 ^ 32 ≤ size (focus node.now))
+        → rows.new ≡ rows.old }
 {
-    parse.root().write_flat_rows(rows)
+    node.write_flat_rows(rows)
 }
 
 fn stored_count(parse: &Parse<Root>) -> usize
@@ -106,10 +107,10 @@ fn stored_count(parse: &Parse<Root>) -> usize
     parse.stored().len()
 }
 
-// Writes a report on a parse with some errors. The last `violations` of them are violations.
+// Writes a report on a node's tree with some errors. The last `violations` of them are violations.
 fn write_report(
     alloc: Global,
-    parse: &Parse<Root>,
+    node: &SyntaxNode,
     found: &[SyntaxError],
     violations: usize,
     rows: &mut [FlatRow],
@@ -118,19 +119,19 @@ fn write_report(
     counts: &mut Counts,
 ) -> u32
     requires { violations ≤ length found.now }
-    ensures done { result ≡ 0 → IsTold (report parse.now found.now violations)
+    ensures done { result ≡ 0 → IsTold (report (focus node.now) found.now violations)
         (buffers rows.old errors.old messages.old counts.old)
         (buffers rows.new errors.new messages.new counts.new) }
-    ensures room { result ≡ 4 → IsCut (report parse.now found.now violations)
+    ensures room { result ≡ 4 → IsCut (report (focus node.now) found.now violations)
         (buffers rows.old errors.old messages.old counts.old)
         (buffers rows.new errors.new messages.new counts.new) }
-    ensures long { result ≡ 2 → IsSmall (report parse.now found.now violations) → ⊥ }
+    ensures long { result ≡ 2 → IsSmall (report (focus node.now) found.now violations) → ⊥ }
     ensures kept { (result ≡ 0 → ⊥) → (result ≡ 4 → ⊥)
         → buffers rows.new errors.new messages.new counts.new
         ≡ buffers rows.old errors.old messages.old counts.old }
     ensures which { (result ≡ 0) ⊎ (2 ≤ result) × (result ≤ 4) }
 {
-    let row_count = write_rows(parse, &mut []);
+    let row_count = write_rows(node, &mut []);
     let Ok(texts) = joined(alloc, found) else {
         return NO_MEMORY;
     };
@@ -144,7 +145,7 @@ fn write_report(
     if rows.len() < row_count || errors.len() < found.len() || messages.len() < texts.len() {
         return NO_ROOM;
     }
-    write_rows(parse, rows);
+    write_rows(node, rows);
     fill(&lines, errors);
     fill(texts.as_bytes(), messages);
     OK
@@ -155,19 +156,20 @@ fn write_report(
 fn tell_violations(
     alloc: Global,
     parse: &Parse<Root>,
+    node: &SyntaxNode,
     all: bool,
     rows: &mut [FlatRow],
     errors: &mut [ErrorRow],
     messages: &mut [u8],
     counts: &mut Counts,
 ) -> u32
-    ensures done { result ≡ 0 → IsTold (report_on (violations_by all) parse.now)
+    ensures done { result ≡ 0 → IsTold (report_at (focus node.now) (violations_by all) parse.now)
         (buffers rows.old errors.old messages.old counts.old)
         (buffers rows.new errors.new messages.new counts.new) }
-    ensures room { result ≡ 4 → IsCut (report_on (violations_by all) parse.now)
+    ensures room { result ≡ 4 → IsCut (report_at (focus node.now) (violations_by all) parse.now)
         (buffers rows.old errors.old messages.old counts.old)
         (buffers rows.new errors.new messages.new counts.new) }
-    ensures long { result ≡ 2 → IsSmall (report_on (violations_by all) parse.now) → ⊥ }
+    ensures long { result ≡ 2 → IsSmall (report_at (focus node.now) (violations_by all) parse.now) → ⊥ }
     ensures kept { (result ≡ 0 → ⊥) → (result ≡ 4 → ⊥)
         → buffers rows.new errors.new messages.new counts.new
         ≡ buffers rows.old errors.old messages.old counts.old }
@@ -184,8 +186,45 @@ fn tell_violations(
         &found[stored..]
     };
     write_report(
-        alloc, parse, told, violations, rows, errors, messages, counts,
+        alloc, node, told, violations, rows, errors, messages, counts,
     )
+}
+
+/// Writes a report on a node of a parse: the rows of the node's tree, the chosen errors of the whole
+/// parse and their messages, and the counts of these.
+pub(crate) fn tell_at(
+    alloc: Global,
+    parse: &Parse<Root>,
+    node: &SyntaxNode,
+    told: Errors,
+    rows: &mut [FlatRow],
+    errors: &mut [ErrorRow],
+    messages: &mut [u8],
+    counts: &mut Counts,
+) -> u32
+    ensures done { result ≡ 0 → IsTold (report_at (focus node.now) told parse.now)
+        (buffers rows.old errors.old messages.old counts.old)
+        (buffers rows.new errors.new messages.new counts.new) }
+    ensures room { result ≡ 4 → IsCut (report_at (focus node.now) told parse.now)
+        (buffers rows.old errors.old messages.old counts.old)
+        (buffers rows.new errors.new messages.new counts.new) }
+    ensures long { result ≡ 2 → IsSmall (report_at (focus node.now) told parse.now) → ⊥ }
+    ensures kept { (result ≡ 0 → ⊥) → (result ≡ 4 → ⊥)
+        → buffers rows.new errors.new messages.new counts.new
+        ≡ buffers rows.old errors.old messages.old counts.old }
+    ensures which { (result ≡ 0) ⊎ (2 ≤ result) × (result ≤ 4) }
+{
+    match told {
+        Errors::Nothing => write_report(alloc, node, &[], 0, rows, errors, messages, counts),
+        Errors::Parse => {
+            let found = parse.stored();
+            write_report(alloc, node, found, 0, rows, errors, messages, counts)
+        }
+        Errors::Violations => {
+            tell_violations(alloc, parse, node, false, rows, errors, messages, counts)
+        }
+        Errors::All => tell_violations(alloc, parse, node, true, rows, errors, messages, counts),
+    }
 }
 
 /// Writes a report on a parse: its rows, the chosen errors and their messages, and the counts of
@@ -211,17 +250,8 @@ pub(crate) fn tell(
         ≡ buffers rows.old errors.old messages.old counts.old }
     ensures which { (result ≡ 0) ⊎ (2 ≤ result) × (result ≤ 4) }
 {
-    match told {
-        Errors::Nothing => write_report(alloc, parse, &[], 0, rows, errors, messages, counts),
-        Errors::Parse => {
-            let found = parse.stored();
-            write_report(alloc, parse, found, 0, rows, errors, messages, counts)
-        }
-        Errors::Violations => {
-            tell_violations(alloc, parse, false, rows, errors, messages, counts)
-        }
-        Errors::All => tell_violations(alloc, parse, true, rows, errors, messages, counts),
-    }
+    let root = parse.root();
+    tell_at(alloc, parse, root, told, rows, errors, messages, counts)
 }
 
 // The report on the parse of a text by an entry.
@@ -272,31 +302,12 @@ pub extern "C" fn ras_c_read(
     messages: &mut [u8],
     counts: &mut Counts,
 ) -> u32
-    ensures done { result ≡ 0 → Reports SourceFile All edition text.now (λ r. IsTold r
+    ensures { IsReadBy 0 3 edition text.now result
         (buffers rows.old errors.old messages.old counts.old)
-        (buffers rows.new errors.new messages.new counts.new)) }
-    ensures room { result ≡ 4 → Reports SourceFile All edition text.now (λ r. IsCut r
-        (buffers rows.old errors.old messages.old counts.old)
-        (buffers rows.new errors.new messages.new counts.new)) }
-    ensures kept { (result ≡ 0 → ⊥) → (result ≡ 4 → ⊥)
-        → buffers rows.new errors.new messages.new counts.new
-        ≡ buffers rows.old errors.old messages.old counts.old }
-    ensures utf8 { (result ≡ 1) ↔ (edition_of edition ≡ None → ⊥) × (IsUtf8 text.now → ⊥) }
-    ensures long { result ≡ 2 → (2 ^ 32 ≤ length text.now)
-        ⊎ Reports SourceFile All edition text.now (λ r. IsSmall r → ⊥) }
-    ensures edition { (result ≡ 5) ↔ (edition_of edition ≡ None) }
-    ensures which { result ≤ 5 }
+        (buffers rows.new errors.new messages.new counts.new) }
 {
-    read_told(
-        alloc,
-        Entry::SourceFile,
-        Errors::All,
-        text,
-        edition,
-        rows,
-        errors,
-        messages,
-        counts,
+    ras_c_read_as(
+        alloc, ENTRY_FILE, ALL_ERRORS, text, edition, rows, errors, messages, counts,
     )
 }
 
@@ -314,31 +325,12 @@ pub extern "C" fn ras_c_read_expr(
     messages: &mut [u8],
     counts: &mut Counts,
 ) -> u32
-    ensures done { result ≡ 0 → Reports Expr All edition text.now (λ r. IsTold r
+    ensures { IsReadBy 1 3 edition text.now result
         (buffers rows.old errors.old messages.old counts.old)
-        (buffers rows.new errors.new messages.new counts.new)) }
-    ensures room { result ≡ 4 → Reports Expr All edition text.now (λ r. IsCut r
-        (buffers rows.old errors.old messages.old counts.old)
-        (buffers rows.new errors.new messages.new counts.new)) }
-    ensures kept { (result ≡ 0 → ⊥) → (result ≡ 4 → ⊥)
-        → buffers rows.new errors.new messages.new counts.new
-        ≡ buffers rows.old errors.old messages.old counts.old }
-    ensures utf8 { (result ≡ 1) ↔ (edition_of edition ≡ None → ⊥) × (IsUtf8 text.now → ⊥) }
-    ensures long { result ≡ 2 → (2 ^ 32 ≤ length text.now)
-        ⊎ Reports Expr All edition text.now (λ r. IsSmall r → ⊥) }
-    ensures edition { (result ≡ 5) ↔ (edition_of edition ≡ None) }
-    ensures which { result ≤ 5 }
+        (buffers rows.new errors.new messages.new counts.new) }
 {
-    read_told(
-        alloc,
-        Entry::Expr,
-        Errors::All,
-        text,
-        edition,
-        rows,
-        errors,
-        messages,
-        counts,
+    ras_c_read_as(
+        alloc, ENTRY_EXPR, ALL_ERRORS, text, edition, rows, errors, messages, counts,
     )
 }
 

@@ -104,8 +104,9 @@ impl<T> Parse<T> {
     }
 
     /// All errors: the stored ones in their order, followed by the violations of the tree, in preorder of their nodes. After a
-    /// full parse, the stored errors are those of the parser, followed by those of the lexer; after an incremental re-parse,
-    /// the old errors that are kept come first.
+    /// full parse, and in a [`Document`](crate::Document), the stored errors are those of the parser,
+    /// followed by those of the lexer; after a re-parse by a call of this type, the old errors that
+    /// are kept come first.
     ///
     /// It copies the stored errors and walks the tree: the time is that of `violations`. The parse is unchanged, also if
     /// memory runs out.

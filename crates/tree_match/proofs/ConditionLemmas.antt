@@ -1,8 +1,8 @@
 -- The conditions of a placeholder, and the forms of a rule.
 use Rattle.std.proofs.Common.{◌≡◌, ℕ, suc, Bool, ◌||◌, length, if◌then◌else◌, true, false, refl, ap, ◌∙◌, Option, Some, None, List, [], ◌∷◌, ◌++◌, map}
 use Rattle.std.proofs.lemmas.List.{map-append}
-use Rattle.std.specs.Prelude.{option_map}
-use Rattle.std.specs.Option.{option_or}
+use Rattle.std.specs.Prelude.{option_map, slice_get}
+use Rattle.std.specs.Option.{option_and_then, option_or}
 use Rattle.std.specs.List.{list_any}
 use Rattle.syntax_kind.specs.Kinds.{is_same_kind}
 use Rattle.syntax_kind.specs.declared.syntax_kind.SyntaxKind.{SyntaxKind}
@@ -14,7 +14,7 @@ use Rattle.tree_match.specs.declared.part.Sort.{Sort}
 use Rattle.tree_match.specs.declared.rule.Form.{Form}
 use Rattle.tree_match.specs.declared.rule.Rule.{Rule}
 use Rattle.tree_match.specs.Bare.{bare}
-use Rattle.tree_match.specs.Matching.{Values, comments_by, match_parts, form_from, is_for, match_rule, sort_in, sort_by, is_expr_by}
+use Rattle.tree_match.specs.Matching.{Values, comments_by, match_parts, form_from, is_for, match_rule, match_numbered, sort_in, sort_by, is_expr_by}
 use Rattle.tree_match.specs.Conditions.{all_hold, admits}
 
 pub no_hole : (o : Option Hole) (v : Siblings) → None ≡ o → true ≡ admits o v
@@ -61,3 +61,14 @@ no_form n hs (f ∷ fs) k s e = by (is_same_kind f.kind k) e (no_form (suc n) hs
 
 pub not_for : (r : Rule) (k : SyntaxKind) (s : Siblings) → is_for k r ≡ false → None ≡ match_rule r k s
 not_for r k s e = no_form 0 r.holes.items r.forms.items k s e
+
+-- ---- the rule with a number
+
+pub no_numbered : (rules : List Rule) (n : ℕ) (k : SyntaxKind) (s : Siblings)
+    → None ≡ slice_get rules n → None ≡ match_numbered rules n k s
+no_numbered rules n k s e = ap (option_and_then (λ (r : Rule). match_rule r k s)) e
+
+pub some_numbered : (rules : List Rule) (n : ℕ) (r : Rule) (k : SyntaxKind) (s : Siblings)
+    (o : Option (ℕ × Values)) → Some r ≡ slice_get rules n → o ≡ match_rule r k s
+    → o ≡ match_numbered rules n k s
+some_numbered rules n r k s o e is = is ∙ ap (option_and_then (λ (q : Rule). match_rule q k s)) e

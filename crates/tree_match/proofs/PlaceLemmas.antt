@@ -24,6 +24,14 @@ drop_item (x ∷ xs) (suc n) v l e =
     let up : suc n + 1 ≡ suc (n + 1) = omega arith in
     drop_item xs n v (omega (arith, l)) e ∙ sym (ap (λ k. v ∷ drop k (x ∷ xs)) up)
 
+pub drop_got : {A : Type 0} (xs : List A) (n : ℕ) (d : A) → n < length xs
+    → drop n xs ≡ get_or xs n d ∷ drop (n + 1) xs
+drop_got [] n d l = absurd (omega (arith, l))
+drop_got (x ∷ xs) zero d l = refl
+drop_got (x ∷ xs) (suc n) d l =
+    let up : suc n + 1 ≡ suc (n + 1) = omega arith in
+    drop_got xs n d (omega (arith, l)) ∙ sym (ap (λ k. get_or xs n d ∷ drop k (x ∷ xs)) up)
+
 pub drop_none : {A : Type 0} (xs : List A) (n : ℕ) → length xs ≤ n → drop n xs ≡ []
 drop_none [] zero l = refl
 drop_none [] (suc n) l = refl

@@ -1,5 +1,5 @@
 -- What the tasks that are left say of the trees that are compared.
-use Rattle.std.proofs.Common.{◌≡◌, ℕ, Bool, true, false, List, [], ◌∷◌, length, refl, sym, subst, ◌∙◌, ap}
+use Rattle.std.proofs.Common.{◌≡◌, ℕ, Bool, true, false, List, [], ◌∷◌, length, sym, subst, ◌∙◌, ap}
 use Rattle.std.specs.Prelude.{Option, Some, None, option_map, slice_get, Result, Ok, Err, IfOk}
 use Rattle.std.specs.Option.{option_and_then}
 use Rattle.tree_model.specs.Tree.{is_token}

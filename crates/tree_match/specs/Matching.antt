@@ -110,6 +110,15 @@ first_from n (r ∷ rs) k s = option_or (option_map (λ f. (n, f.0, f.1)) (match
 abbrev pub first_rule : List Rule → SyntaxKind → Siblings → Option (ℕ × ℕ × Values)
 first_rule rules k s = first_from 0 rules k s
 
+-- the same of those of some numbers
+abbrev pub match_numbered : List Rule → ℕ → SyntaxKind → Siblings → Option (ℕ × Values)
+match_numbered rules n k s = option_and_then (λ r. match_rule r k s) (slice_get rules n)
+
+abbrev pub first_among : List Rule → List ℕ → SyntaxKind → Siblings → Option (ℕ × ℕ × Values)
+first_among rules [] k s = None
+first_among rules (n ∷ ns) k s =
+    option_or (option_map (λ f. (n, f.0, f.1)) (match_numbered rules n k s)) (first_among rules ns k s)
+
 abbrev pub found_of : Found → ℕ × ℕ × Values
 found_of f = (f.rule, f.form, f.values.items)
 

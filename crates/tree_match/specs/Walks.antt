@@ -42,9 +42,13 @@ is_there sort.Pat f = is_node_there f
 is_there sort.Path f = is_node_there f
 is_there sort.List f = is_node_there f
 
--- the levels of a walk, the innermost first
+-- the levels of a walk, the innermost first; none are left without an innermost one
+abbrev pub from_level : Option Siblings → List Siblings → List Siblings
+from_level None around = []
+from_level (Some s) around = s ∷ around
+
 abbrev pub levels_of : Walk → List Siblings
-levels_of w = w.levels.items
+levels_of w = from_level w.level w.around.items
 
 -- the step at the first sibling that counts, and the levels behind it
 abbrev pub step_at : Comments → Siblings → List Siblings → Step × List Siblings

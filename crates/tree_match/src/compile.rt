@@ -85,6 +85,14 @@ fn word_of(element: &str) -> &str {
     word.strip_suffix(ARM).unwrap_or(word)
 }
 
+// The innermost of some kinds of nodes.
+fn innermost(around: &[SyntaxKind]) -> SyntaxKind {
+    match around.last() {
+        Some(kind) => *kind,
+        None => SyntaxKind::OTHER(0),
+    }
+}
+
 /// Whether a node is a placeholder.
 pub(crate) fn is_hole(node: &SyntaxNode, prefix: &str) -> bool {
     sort_of(node.kind()).is_some() && number_in(node.as_str(), prefix).is_some()
@@ -108,35 +116,25 @@ impl<'a> Words<'a> {
 
     // The placeholder for a list that is next in a walk of the children of a node of a kind; passes
     // over it.
-    fn next_list(
-        &self,
-        walk: &mut Walk<'_>,
-        parent: SyntaxKind,
-    ) -> Result<Option<Part>, AllocError> {
-        let Some((_, text)) = walk.peek() else {
-            return Ok(None);
-        };
+    fn next_list(&self, walk: &mut Walk<'_>, parent: SyntaxKind) -> Option<Part> {
+        let (_, text) = walk.peek()?;
         match number_in(word_of(text), self.prefix) {
             Some(number) if self.is_list(number) && has_list(parent) => {
-                walk.pass()?;
-                Ok(Some(Part::List(number, Comma::Nowhere, 0)))
+                walk.pass();
+                Some(Part::List(number, Comma::Nowhere, 0))
             }
-            _ => Ok(None),
+            _ => None,
         }
     }
 
     // The placeholder that is next in a walk; passes over it.
-    fn next_hole(&self, walk: &mut Walk<'_>) -> Result<Option<Part>, AllocError> {
-        let Some((kind, text)) = walk.peek() else {
-            return Ok(None);
-        };
-        let Some(hole) = self.hole_at(kind, text) else {
-            return Ok(None);
-        };
+    fn next_hole(&self, walk: &mut Walk<'_>) -> Option<Part> {
+        let (kind, text) = walk.peek()?;
+        let hole = self.hole_at(kind, text)?;
         if let Part::Hole(_, sort) = &hole {
-            walk.take(*sort)?;
+            walk.take(*sort);
         }
-        Ok(Some(hole))
+        Some(hole)
     }
 
     // The part of a token behind some parts: a word if it is that of a name.
@@ -158,6 +156,58 @@ impl<'a> Words<'a> {
         Ok(Part::Token(kind, String::from_str(alloc, text)?))
     }
 
+    // The placeholder that is next in a walk of the children of a node of a kind, one for a list or
+    // another; passes over it.
+    fn next_placeholder(&self, walk: &mut Walk<'_>, parent: SyntaxKind) -> Option<Part> {
+        match self.next_list(walk, parent) {
+            Some(list) => Some(list),
+            None => self.next_hole(walk),
+        }
+    }
+
+    // Adds the part of a step, in a node in others of some kinds, the innermost last. Returns false
+    // at the end.
+    fn push_step(
+        &self,
+        alloc: Global,
+        step: Seen<'_>,
+        around: &mut Vec<SyntaxKind>,
+        parts: &mut Vec<Part>,
+    ) -> Result<bool, AllocError> {
+        match step {
+            Seen::Enter(kind) => {
+                around.push(kind)?;
+                parts.push(Part::Enter(kind))?;
+            }
+            Seen::Leave => {
+                around.pop();
+                parts.push(Part::Leave)?;
+            }
+            Seen::Token(kind, text) => {
+                let part = self.token(alloc, parts.last(), kind, text)?;
+                parts.push(part)?;
+            }
+            Seen::End => return Ok(false),
+        }
+        Ok(true)
+    }
+
+    // Adds the part that is next in a walk, and passes over it. Returns false at the end.
+    fn push_next(
+        &self,
+        alloc: Global,
+        walk: &mut Walk<'_>,
+        around: &mut Vec<SyntaxKind>,
+        parts: &mut Vec<Part>,
+    ) -> Result<bool, AllocError> {
+        if let Some(placeholder) = self.next_placeholder(walk, innermost(around)) {
+            parts.push(placeholder)?;
+            return Ok(true);
+        }
+        let step = walk.next()?;
+        self.push_step(alloc, step, around, parts)
+    }
+
     // Adds the parts of a node's children, up to its end.
     fn push_inside(
         &self,
@@ -165,34 +215,13 @@ impl<'a> Words<'a> {
         node: &SyntaxNode,
         parts: &mut Vec<Part>,
     ) -> Result<(), AllocError> {
-        let mut walk = Walk::new(alloc, Comments::Passed, &Run::of(node.trees()))?;
+        let mut walk = Walk::new(alloc, Comments::Passed, &Run::of(node.trees()));
         let mut around = Vec::new(alloc);
-        let mut parent = node.kind();
+        around.push(node.kind())?;
         // There are at most as many steps as events.
         for _event in node.preorder_with_tokens() {
-            if let Some(list) = self.next_list(&mut walk, parent)? {
-                parts.push(list)?;
-                continue;
-            }
-            if let Some(hole) = self.next_hole(&mut walk)? {
-                parts.push(hole)?;
-                continue;
-            }
-            match walk.next()? {
-                Seen::Enter(kind) => {
-                    parts.push(Part::Enter(kind))?;
-                    around.push(parent)?;
-                    parent = kind;
-                }
-                Seen::Leave => {
-                    parts.push(Part::Leave)?;
-                    parent = around.pop().unwrap_or(parent);
-                }
-                Seen::Token(kind, text) => {
-                    let part = self.token(alloc, parts.last(), kind, text)?;
-                    parts.push(part)?;
-                }
-                Seen::End => return Ok(()),
+            if !self.push_next(alloc, &mut walk, &mut around, parts)? {
+                return Ok(());
             }
         }
         Ok(())

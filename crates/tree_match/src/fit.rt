@@ -4,6 +4,7 @@ use crate::part::{Comma, Part, Sort};
 use crate::rule::RuleRefusal;
 use lossless_tree::SyntaxKind;
 use std::alloc::{AllocError, Global};
+use std::vec::IntoIter;
 
 fn is_comma(part: Option<&Part>) -> bool {
     matches!(part, Some(Part::Token(SyntaxKind::COMMA, _)))
@@ -42,14 +43,46 @@ fn nodes_behind(parts: &[Part], index: usize) -> Result<usize, usize> {
     Ok(count)
 }
 
-/// The parts, in which each list has its comma, and knows how many nodes are behind it. Takes time
-/// for each list that is linear in the parts.
-///
-/// # Errors
-///
-/// `Twice` if a list comes twice or two are on one level; `Memory`.
-pub(crate) fn fit_lists(alloc: Global, parts: Vec<Part>) -> Result<Vec<Part>, RuleRefusal> {
-    let mut is_gone = vec![in alloc; false; parts.len()]?;
+// Marks the comma that goes with the list at an index.
+fn mark_comma(is_gone: &mut [bool], comma: Comma, index: usize) {
+    let of_comma = match comma {
+        Comma::Nowhere => None,
+        Comma::Before => index.checked_sub(1),
+        Comma::Behind => index.checked_add(1),
+    };
+    let Some(at) = of_comma else {
+        return;
+    };
+    if let Some(mark) = is_gone.get_mut(at) {
+        *mark = true;
+    }
+}
+
+// The list with a number that is at an index, with its comma, which it marks, and the nodes behind
+// it.
+fn fitted_at(
+    parts: &[Part],
+    index: usize,
+    number: usize,
+    is_gone: &mut [bool],
+) -> Result<Part, RuleRefusal> {
+    let comma = comma_at(parts, index);
+    match nodes_behind(parts, index) {
+        Err(other) => Err(RuleRefusal::Twice(other)),
+        Ok(behind) => {
+            mark_comma(is_gone, comma, index);
+            Ok(Part::List(number, comma, behind))
+        }
+    }
+}
+
+// The lists among some parts in their order, each with its comma, which it marks, and the nodes
+// behind it.
+fn fitted_lists(
+    alloc: Global,
+    parts: &[Part],
+    is_gone: &mut [bool],
+) -> Result<Vec<Part>, RuleRefusal> {
     let mut fitted = Vec::new(alloc);
     let mut seen = Vec::new(alloc);
     for (index, part) in parts.iter().enumerate() {
@@ -60,34 +93,54 @@ pub(crate) fn fit_lists(alloc: Global, parts: Vec<Part>) -> Result<Vec<Part>, Ru
             return Err(RuleRefusal::Twice(*number));
         }
         seen.push(*number).map_err(AllocError::from)?;
-        let comma = comma_at(&parts, index);
-        let behind = nodes_behind(&parts, index).map_err(RuleRefusal::Twice)?;
-        let of_comma = match comma {
-            Comma::Nowhere => None,
-            Comma::Before => index.checked_sub(1),
-            Comma::Behind => index.checked_add(1),
-        };
-        if let Some(mark) = of_comma.and_then(|at| is_gone.get_mut(at)) {
-            *mark = true;
-        }
-        fitted
-            .push(Part::List(*number, comma, behind))
-            .map_err(AllocError::from)?;
+        let list = fitted_at(parts, index, *number, is_gone)?;
+        fitted.push(list).map_err(AllocError::from)?;
     }
+    Ok(fitted)
+}
+
+// Adds a part; for a list the next one of those that know their commas.
+fn push_fitted(
+    out: &mut Vec<Part>,
+    lists: &mut IntoIter<Part>,
+    part: Part,
+) -> Result<(), AllocError> {
+    match part {
+        Part::List(..) => {
+            if let Some(list) = lists.next() {
+                out.push(list)?;
+            }
+        }
+        part => out.push(part)?,
+    }
+    Ok(())
+}
+
+// The parts but for those that are marked, with these lists.
+fn with_lists(
+    alloc: Global,
+    parts: Vec<Part>,
+    is_gone: &[bool],
+    fitted: Vec<Part>,
+) -> Result<Vec<Part>, AllocError> {
     let mut lists = fitted.into_iter();
     let mut out = Vec::with_capacity(alloc, parts.len())?;
     for (index, part) in parts.into_iter().enumerate() {
-        if matches!(is_gone.get(index), Some(true)) {
-            continue;
-        }
-        match part {
-            Part::List(..) => {
-                if let Some(list) = lists.next() {
-                    out.push(list).map_err(AllocError::from)?;
-                }
-            }
-            part => out.push(part).map_err(AllocError::from)?,
+        if !matches!(is_gone.get(index), Some(true)) {
+            push_fitted(&mut out, &mut lists, part)?;
         }
     }
     Ok(out)
+}
+
+/// The parts, in which each list has its comma, and knows how many nodes are behind it. Takes time
+/// for each list that is linear in the parts.
+///
+/// # Errors
+///
+/// `Twice` if a list comes twice or two are on one level; `Memory`.
+pub(crate) fn fit_lists(alloc: Global, parts: Vec<Part>) -> Result<Vec<Part>, RuleRefusal> {
+    let mut is_gone = vec![in alloc; false; parts.len()]?;
+    let fitted = fitted_lists(alloc, &parts, &mut is_gone)?;
+    Ok(with_lists(alloc, parts, &is_gone, fitted)?)
 }

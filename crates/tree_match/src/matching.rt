@@ -1,7 +1,7 @@
 //! A pattern at one place of a tree.
-ghost use Rattle.std.specs.Prelude.{◌≡◌, IfOk, if◌then◌else◌, Some, None, option_map, replicate, get_or, length};
+ghost use Rattle.std.specs.Prelude.{◌≡◌, IfOk, OnOk, if◌then◌else◌, Some, None, option_map, replicate, get_or, length, slice_get};
 ghost use Rattle.tree_match.specs.Walks.{levels_of};
-ghost use Rattle.tree_match.specs.Matching.{put, put_held, put_new, match_part, match_parts, match_form, first_form, is_for, match_rule, match_template, first_rule, found_of};
+ghost use Rattle.tree_match.specs.Matching.{put, put_held, put_new, match_part, match_parts, match_form, first_form, is_for, match_rule, match_template, match_numbered, first_rule, first_among, found_of};
 
 use crate::bare::Comments;
 use crate::condition::{Hole, admits};
@@ -25,15 +25,15 @@ pub(crate) struct Found<'t> {
     pub(crate) values: Values<'t>,
 }
 
-// No values.
-fn no_values<'t>(alloc: Global, count: usize) -> Result<Values<'t>, AllocError>
-    ensures { IfOk result (λ vs. vs.items ≡ replicate count None) }
+// No values, in the memory that they have.
+fn clear_values(values: &mut Values<'_>, count: usize) -> Result<(), AllocError>
+    ensures { OnOk result (values.new.items ≡ replicate count None) }
 {
-    let mut values = Vec::with_capacity(alloc, count)?;
+    values.clear();
     while values.len() < count {
         values.push(None)?;
     }
-    Ok(values)
+    Ok(())
 }
 
 // Notes what stands for a placeholder. Returns false if it stands for another tree already.
@@ -95,7 +95,7 @@ fn match_part<'t>(
     ensures same { walk.new.comments ≡ walk.old.comments }
 {
     if let Part::Hole(number, sort) = part {
-        let Some(value) = walk.take(*sort)? else {
+        let Some(value) = walk.take(*sort) else {
             return Ok(false);
         };
         return put_held(alloc, holes, values, *number, value);
@@ -110,42 +110,51 @@ fn match_part<'t>(
     Ok(is_part(part, step))
 }
 
-// What stands for each placeholder, if the parts are the first steps of the walk of some siblings.
+// Notes what stands for each placeholder, if the parts are the first steps of the walk of some
+// siblings; returns whether they are. The walk and the values lend their memory.
 fn match_parts<'t>(
     alloc: Global,
+    walk: &mut Walk<'t>,
+    values: &mut Values<'t>,
     comments: Comments,
     holes: &[Hole],
     parts: &[Part],
     count: usize,
     start: &Run<'t>,
-) -> Result<Option<Values<'t>>, AllocError>
-    ensures { IfOk result (λ o. option_map (λ vs. vs.items) o ≡ match_parts comments holes.now parts.now count start.now) }
+) -> Result<bool, AllocError>
+    ensures { IfOk result (λ ok. match_parts comments holes.now parts.now count start.now
+        ≡ (if ok then Some values.new.items else None)) }
 {
-    let mut walk = Walk::new(alloc, comments, start)?;
-    let mut values = no_values(alloc, count)?;
+    walk.restart(comments, start);
+    clear_values(values, count)?;
     for part in parts {
-        if !match_part(alloc, &mut walk, holes, &mut values, part)? {
-            return Ok(None);
+        if !match_part(alloc, walk, holes, values, part)? {
+            return Ok(false);
         }
     }
-    Ok(Some(values))
+    Ok(true)
 }
 
-// What stands for the placeholders of a rule, if a node is the pattern of this form.
+// Notes what stands for the placeholders of a rule, if a node is the pattern of this form.
 fn match_form<'t>(
     alloc: Global,
+    walk: &mut Walk<'t>,
+    values: &mut Values<'t>,
     holes: &[Hole],
     form: &Form,
     kind: SyntaxKind,
     inside: &Run<'t>,
-) -> Result<Option<Values<'t>>, AllocError>
-    ensures { IfOk result (λ o. option_map (λ vs. vs.items) o ≡ match_form holes.now form.now kind inside.now) }
+) -> Result<bool, AllocError>
+    ensures { IfOk result (λ ok. match_form holes.now form.now kind inside.now
+        ≡ (if ok then Some values.new.items else None)) }
 {
     if form.kind.to_raw() != kind.to_raw() {
-        return Ok(None);
+        return Ok(false);
     }
     match_parts(
         alloc,
+        walk,
+        values,
         form.comments(),
         holes,
         &form.inside,
@@ -154,20 +163,23 @@ fn match_form<'t>(
     )
 }
 
-// The first of some forms whose pattern a node is.
+// The first of some forms whose pattern a node is. Notes what stands for the placeholders.
 fn first_form<'t>(
     alloc: Global,
+    walk: &mut Walk<'t>,
+    values: &mut Values<'t>,
     holes: &[Hole],
     forms: &[Form],
     kind: SyntaxKind,
     inside: &Run<'t>,
-) -> Result<Option<(usize, Values<'t>)>, AllocError>
-    ensures { IfOk result (λ o. option_map (λ f. (f.0, f.1.items)) o ≡ first_form holes.now forms.now kind inside.now) }
+) -> Result<Option<usize>, AllocError>
+    ensures { IfOk result (λ o. option_map (λ f. (f, values.new.items)) o
+        ≡ first_form holes.now forms.now kind inside.now) }
 {
     let mut number = 0usize;
     while number < forms.len() {
-        if let Some(values) = match_form(alloc, holes, &forms[number], kind, inside)? {
-            return Ok(Some((number, values)));
+        if match_form(alloc, walk, values, holes, &forms[number], kind, inside)? {
+            return Ok(Some(number));
         }
         number += 1;
     }
@@ -175,7 +187,7 @@ fn first_form<'t>(
 }
 
 // Whether a rule has a form for nodes of a kind. Most rules have none for most nodes.
-fn is_for(kind: SyntaxKind, rule: &Rule) -> bool
+pub(crate) fn is_for(kind: SyntaxKind, rule: &Rule) -> bool
     ensures { result ≡ is_for kind rule.now }
 {
     rule.forms
@@ -183,20 +195,65 @@ fn is_for(kind: SyntaxKind, rule: &Rule) -> bool
         .any(|form| form.kind.to_raw() == kind.to_raw())
 }
 
-// The first form of a rule whose pattern a node is.
-#[tactic(auto, using(crate::proofs::ConditionLemmas::not_for))]
-fn match_rule<'t>(
+// The first form of a rule whose pattern a node is. Notes what stands for the placeholders.
+fn match_forms<'t>(
     alloc: Global,
+    walk: &mut Walk<'t>,
+    values: &mut Values<'t>,
     rule: &Rule,
     kind: SyntaxKind,
     inside: &Run<'t>,
-) -> Result<Option<(usize, Values<'t>)>, AllocError>
-    ensures { IfOk result (λ o. option_map (λ f. (f.0, f.1.items)) o ≡ match_rule rule.now kind inside.now) }
+) -> Result<Option<usize>, AllocError>
+    ensures { IfOk result (λ o. option_map (λ f. (f, values.new.items)) o
+        ≡ match_rule rule.now kind inside.now) }
+{
+    first_form(alloc, walk, values, &rule.holes, &rule.forms, kind, inside)
+}
+
+// The same, where most rules have no form for most nodes.
+#[tactic(auto, using(crate::proofs::ConditionLemmas::not_for))]
+fn match_rule<'t>(
+    alloc: Global,
+    walk: &mut Walk<'t>,
+    values: &mut Values<'t>,
+    rule: &Rule,
+    kind: SyntaxKind,
+    inside: &Run<'t>,
+) -> Result<Option<usize>, AllocError>
+    ensures { IfOk result (λ o. option_map (λ f. (f, values.new.items)) o
+        ≡ match_rule rule.now kind inside.now) }
 {
     if !is_for(kind, rule) {
         return Ok(None);
     }
-    first_form(alloc, &rule.holes, &rule.forms, kind, inside)
+    match_forms(alloc, walk, values, rule, kind, inside)
+}
+
+/// The rule with a number.
+pub(crate) fn numbered(rules: &[Rule], number: usize) -> Option<&Rule>
+    ensures { option_map (λ r. r.now) result ≡ slice_get rules.now number }
+{
+    rules.get(number)
+}
+
+// The first form of the rule with a number whose pattern a node is.
+#[tactic(auto, using(crate::proofs::ConditionLemmas::no_numbered, crate::proofs::ConditionLemmas::some_numbered))]
+fn match_numbered<'t>(
+    alloc: Global,
+    walk: &mut Walk<'t>,
+    values: &mut Values<'t>,
+    rules: &[Rule],
+    number: usize,
+    kind: SyntaxKind,
+    inside: &Run<'t>,
+) -> Result<Option<usize>, AllocError>
+    ensures { IfOk result (λ o. option_map (λ f. (f, values.new.items)) o
+        ≡ match_numbered rules.now number kind inside.now) }
+{
+    match numbered(rules, number) {
+        None => Ok(None),
+        Some(rule) => match_forms(alloc, walk, values, rule, kind, inside),
+    }
 }
 
 /// What stands for the placeholders of a form, if the first of some siblings is its template. There are as many as stand for them in the match.
@@ -208,14 +265,19 @@ pub(crate) fn match_template<'t>(
 ) -> Result<Option<Values<'t>>, AllocError>
     ensures { IfOk result (λ o. option_map (λ vs. vs.items) o ≡ match_template form.now (length olds.now) start.now) }
 {
-    match_parts(
+    let mut walk = Walk::new(alloc, Comments::Passed, start);
+    let mut values = Vec::new(alloc);
+    let is_read = match_parts(
         alloc,
+        &mut walk,
+        &mut values,
         Comments::Passed,
         &[],
         &form.template,
         olds.len(),
         start,
-    )
+    )?;
+    if is_read { Ok(Some(values)) } else { Ok(None) }
 }
 
 /// The first rule whose pattern a node is, by its kind and its children.
@@ -227,9 +289,12 @@ pub(crate) fn first_rule<'t>(
 ) -> Result<Option<Found<'t>>, AllocError>
     ensures { IfOk result (λ o. option_map found_of o ≡ first_rule rules.now kind inside.now) }
 {
+    let mut walk = Walk::new(alloc, Comments::Passed, inside);
+    let mut values = Vec::new(alloc);
     let mut number = 0usize;
     while number < rules.len() {
-        if let Some((form, values)) = match_rule(alloc, &rules[number], kind, inside)? {
+        let rule = &rules[number];
+        if let Some(form) = match_rule(alloc, &mut walk, &mut values, rule, kind, inside)? {
             return Ok(Some(Found {
                 rule: number,
                 form,
@@ -237,6 +302,32 @@ pub(crate) fn first_rule<'t>(
             }));
         }
         number += 1;
+    }
+    Ok(None)
+}
+
+/// The first rule of some numbers whose pattern a node is.
+pub(crate) fn first_among<'t>(
+    alloc: Global,
+    rules: &[Rule],
+    numbers: &[usize],
+    kind: SyntaxKind,
+    inside: &Run<'t>,
+) -> Result<Option<Found<'t>>, AllocError>
+    ensures { IfOk result (λ o. option_map found_of o
+        ≡ first_among rules.now numbers.now kind inside.now) }
+{
+    let mut walk = Walk::new(alloc, Comments::Passed, inside);
+    let mut values = Vec::new(alloc);
+    for number in numbers {
+        let tried = match_numbered(alloc, &mut walk, &mut values, rules, *number, kind, inside)?;
+        if let Some(form) = tried {
+            return Ok(Some(Found {
+                rule: *number,
+                form,
+                values,
+            }));
+        }
     }
     Ok(None)
 }

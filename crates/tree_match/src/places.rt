@@ -3,11 +3,11 @@ ghost use Rattle.std.specs.Prelude.{◌≡◌, ◌∷◌, [], IfOk, OnOk, map, o
 ghost use Rattle.tree_match.specs.Roots.{AreRoots};
 ghost use Rattle.tree_match.specs.Finds.{occurrence_of, ranges_of, node_range, nodes_of, match_at, drop_behind, is_free, with_some, behind, take_out, found_at, free_behind, found_in};
 
-use crate::matching::first_rule;
-use crate::roots::{has_kind, roots_of};
+use crate::matching::first_among;
+use crate::roots::{Root, roots_of, rules_for};
 use crate::rule::Rule;
 use crate::run::Run;
-use lossless_tree::{SyntaxKind, SyntaxNode, TextRange, TextSize};
+use lossless_tree::{SyntaxNode, TextRange, TextSize};
 use std::alloc::{AllocError, Global};
 use std::collections::VecDeque;
 
@@ -67,21 +67,23 @@ fn nodes_of(alloc: Global, values: &[Option<Run<'_>>]) -> Result<Vec<Option<Text
     Ok(ranges)
 }
 
-// The match of the first rule that matches a node. The kinds are those for which rules have forms.
-#[tactic(auto, using(crate::proofs::RootLemmas::none_match))]
+// The match of the first rule that matches a node. Only the rules for its kind are tried.
+#[tactic(auto, using(crate::proofs::RootLemmas::some_match))]
 fn match_at(
     alloc: Global,
     rules: &[Rule],
-    roots: &[SyntaxKind],
+    roots: &[Root],
     node: &SyntaxNode,
 ) -> Result<Option<Match>, AllocError>
     requires roots { AreRoots rules.now roots.now }
     ensures { IfOk result (λ o. option_map occurrence_of o ≡ match_at rules.now node.now) }
 {
-    if !has_kind(node.kind(), roots) {
+    let numbers = rules_for(roots, node.kind());
+    if numbers.is_empty() {
         return Ok(None);
     }
-    let Some(found) = first_rule(alloc, rules, node.kind(), &Run::of(node.trees()))? else {
+    let inside = Run::of(node.trees());
+    let Some(found) = first_among(alloc, rules, numbers, node.kind(), &inside)? else {
         return Ok(None);
     };
     Ok(Some(Match {
@@ -171,7 +173,7 @@ fn take_out(free: &mut VecDeque<TextRange>, found: &Option<Match>) -> Result<(),
 fn found_at(
     alloc: Global,
     rules: &[Rule],
-    roots: &[SyntaxKind],
+    roots: &[Root],
     free: &mut VecDeque<TextRange>,
     node: &SyntaxNode,
 ) -> Result<Option<Match>, AllocError>

@@ -7,7 +7,7 @@ ghost use Rattle.tree_match.specs.Matching.{found_of};
 ghost use Rattle.tree_match.specs.Reads.{FirstReads, AllRead, ValueReads, ValuesRead, IsSameToken, IsSameNode, IsReplaced, rule_at, form_at, Leads, LeadsBy};
 
 use crate::bare::{Comments, bare, past};
-use crate::matching::{Found, first_rule, match_template};
+use crate::matching::{Found, first_rule, match_template, numbered};
 use crate::rule::{Form, Rule};
 use crate::run::Run;
 use lossless_tree::SyntaxNode;
@@ -65,13 +65,6 @@ fn push_values<'a, 'b>(
         None => Ok(true),
         Some(_) => Ok(false),
     }
-}
-
-// The rule with a number.
-fn numbered(rules: &[Rule], number: usize) -> Option<&Rule>
-    ensures { option_map (λ r. r.now) result ≡ slice_get rules.now number }
-{
-    rules.get(number)
 }
 
 // A form of the rule with a number.

@@ -54,8 +54,8 @@ fn compare_next(first: &mut Walk<'_>, second: &mut Walk<'_>) -> Result<Option<bo
 fn same_siblings(alloc: Global, a: &Run<'_>, b: &Run<'_>) -> Result<bool, AllocError>
     ensures { IfOk result (λ same. same ≡ pointwise is_same_step (steps_left Passed (a.now ∷ [])) (steps_left Passed (b.now ∷ []))) }
 {
-    let mut first = Walk::new(alloc, Comments::Passed, a)?;
-    let mut second = Walk::new(alloc, Comments::Passed, b)?;
+    let mut first = Walk::new(alloc, Comments::Passed, a);
+    let mut second = Walk::new(alloc, Comments::Passed, b);
     loop {
         if let Some(same) = compare_next(&mut first, &mut second)? {
             return Ok(same);

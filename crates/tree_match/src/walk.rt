@@ -24,25 +24,49 @@ pub(crate) enum Seen<'t> {
     End,
 }
 
-/// A walk that can pass over a node at once. A clause sees the siblings that are left on each level, the innermost first.
+/// A walk that can pass over a node at once. A clause sees the siblings that are left on each level,
+/// the innermost first. As long as it enters no node it allocates nothing.
 #[derive(Drop)]
 pub(crate) struct Walk<'t> {
     comments: Comments,
-    levels: VecDeque<Run<'t>>,
+    // The innermost level; `None` at the end.
+    level: Option<Run<'t>>,
+    // The levels around it.
+    around: VecDeque<Run<'t>>,
 }
 
 impl<'t> Walk<'t> {
     /// The walk of some siblings, and then the end of the node around them.
-    pub(crate) fn new(
-        alloc: Global,
-        comments: Comments,
-        start: &Run<'t>,
-    ) -> Result<Walk<'t>, AllocError>
-        ensures { IfOk result (λ w. (w.comments ≡ comments) × (levels_of w ≡ start.now ∷ [])) }
+    pub(crate) fn new(alloc: Global, comments: Comments, start: &Run<'t>) -> Walk<'t>
+        ensures comments { result.comments ≡ comments }
+        ensures levels { levels_of result ≡ start.now ∷ [] }
     {
-        let mut levels = VecDeque::new(alloc);
-        levels.push_front(start.all())?;
-        Ok(Walk { comments, levels })
+        Walk {
+            comments,
+            level: Some(start.all()),
+            around: VecDeque::new(alloc),
+        }
+    }
+
+    /// Begins anew, in the memory that it has.
+    pub(crate) fn restart(&mut self, comments: Comments, start: &Run<'t>)
+        ensures comments { self.new.comments ≡ comments }
+        ensures levels { levels_of self.new ≡ start.now ∷ [] }
+    {
+        self.comments = comments;
+        self.level = Some(start.all());
+        self.around.clear();
+    }
+
+    // Ends the innermost level.
+    fn leave(&mut self)
+        ensures levels { levels_of self.new ≡ self.old.around.items }
+        ensures same { self.new.comments ≡ self.old.comments }
+    {
+        match self.around.pop_front() {
+            None => self.level = None,
+            Some(outer) => self.level = Some(outer),
+        }
     }
 
     /// The next step.
@@ -50,26 +74,29 @@ impl<'t> Walk<'t> {
         ensures step { IfOk result (λ s. (step_of s, levels_of self.new) ≡ advance self.old.comments (levels_of self.old)) }
         ensures same { self.new.comments ≡ self.old.comments }
     {
-        let Some(level) = self.levels.pop_front() else {
+        let Some(level) = &self.level else {
             return Ok(Seen::End);
         };
-        let here = past(self.comments, &level);
+        let here = past(self.comments, level);
         if here.is_done() {
+            self.leave();
             return Ok(Seen::Leave);
         }
-        let kind = here.kind();
-        self.levels.push_front(behind_one(self.comments, &here))?;
         if here.is_token() {
-            return Ok(Seen::Token(kind, here.text()));
+            self.level = Some(here.rest());
+            return Ok(Seen::Token(here.kind(), here.text()));
         }
         let inner = bare(self.comments, &here);
-        self.levels.push_front(inner.inside())?;
+        self.around.push_front(behind_one(self.comments, &here))?;
+        self.level = Some(inner.inside());
         Ok(Seen::Enter(inner.kind()))
     }
 
     /// The kind and the text of the next node without the pairs round it; `None` if no node is next.
     pub(crate) fn peek(&self) -> Option<(SyntaxKind, &'t str)> {
-        let level = self.levels.front()?;
+        let Some(level) = &self.level else {
+            return None;
+        };
         let here = past(self.comments, level);
         if here.is_done() || here.is_token() {
             return None;
@@ -79,28 +106,28 @@ impl<'t> Walk<'t> {
     }
 
     /// Passes over the next node or token, if one is next.
-    pub(crate) fn pass(&mut self) -> Result<(), AllocError> {
-        if let Some(level) = self.levels.pop_front() {
-            let here = past(self.comments, &level);
-            self.levels.push_front(behind_one(self.comments, &here))?;
+    pub(crate) fn pass(&mut self) {
+        if let Some(level) = &self.level {
+            let here = past(self.comments, level);
+            self.level = Some(behind_one(self.comments, &here));
         }
-        Ok(())
     }
 
     /// Passes over the next node, or token for a word, if it is of the sort; returns it.
-    pub(crate) fn take(&mut self, sort: Sort) -> Result<Option<Run<'t>>, AllocError>
-        ensures taken { IfOk result (λ o. option_map (λ v. (v, levels_of self.new)) o ≡ taken self.old.comments sort (levels_of self.old)) }
+    pub(crate) fn take(&mut self, sort: Sort) -> Option<Run<'t>>
+        ensures taken { option_map (λ v. (v, levels_of self.new)) result
+            ≡ taken self.old.comments sort (levels_of self.old) }
         ensures same { self.new.comments ≡ self.old.comments }
     {
-        let Some(level) = self.levels.pop_front() else {
-            return Ok(None);
+        let Some(level) = &self.level else {
+            return None;
         };
-        let here = past(self.comments, &level);
+        let here = past(self.comments, level);
         if !(is_there(sort, &here) && sort.has(here.kind())) {
-            return Ok(None);
+            return None;
         }
-        self.levels.push_front(behind_one(self.comments, &here))?;
-        Ok(Some(here.first(1)))
+        self.level = Some(behind_one(self.comments, &here));
+        Some(here.first(1))
     }
 
     /// Passes over the elements of a list on the innermost level, but for so many at its end;
@@ -114,14 +141,14 @@ impl<'t> Walk<'t> {
             ≡ taken_list self.old.comments comma behind (levels_of self.old)) }
         ensures same { self.new.comments ≡ self.old.comments }
     {
-        let Some(level) = self.levels.pop_front() else {
+        let Some(level) = &self.level else {
             return Ok(None);
         };
-        let here = past(self.comments, &level);
+        let here = past(self.comments, level);
         let Some((list, rest)) = list_at(self.comments, comma, behind, &here)? else {
             return Ok(None);
         };
-        self.levels.push_front(rest)?;
+        self.level = Some(rest);
         Ok(Some(list))
     }
 }

@@ -58,7 +58,7 @@ open_spec 𝓤 𝓛 𝓜 𝓡 wired =
     (λ _. sets ! (of_opd ! (get ! refl)) refl (tt, tt) $ sets ! (agg ! (and_then ! (get ! refl) (and_then ! (get ! refl) (no_more !)))) refl typed $
     sets ! (agg ! (and_then ! (lit ! tt) (and_then ! (get ! refl) (no_more !)))) refl good $
     move ! (0 ∷ 2 ∷ []) $ loose_in R Z LZ ghosts ! b o h a x $ use1 𝓛 (‵ (Out.own_val (Some l) (v₁ ∷ []))) (Some-of 𝓛 Lr l made) $
-    use0 𝓛 (raw (fact 𝓤 (d.parse ≡ Some x))) (fact_i 𝓤 (d.parse ≡ Some x) (emp 𝓤) is) $ nothing ! $ nothing ! $ fjoin ! $ nothing ! $ fjoin ! $
+    use0 𝓛 (raw (fact 𝓤 (d.kept ≡ Some x))) (fact_i 𝓤 (d.kept ≡ Some x) (emp 𝓤) is) $ nothing ! $ nothing ! $ fjoin ! $ nothing ! $ fjoin ! $
     returns_within ! Post refl (look_at ! 0 refl) $ free_all ! refl $ keep ! (4 ∷ 0 ∷ 2 ∷ 1 ∷ []) $ by ! (leaves 𝓛 ended hs c z v₁ (Some l) (tt, (tt, tt)) (tt, (tt, tt))))
     (λ wrong. absurd wrong)))
     (λ is_empty ws. let us : List Val = h ∷ both (vbool false) (ptr_val d.at) ∷ [] in let pg = Ptr-Good d.at in
@@ -70,5 +70,5 @@ open_spec 𝓤 𝓛 𝓜 𝓡 wired =
     (λ _. skips ! $ exec ! 𝓣.C 𝓣.Λ (env fn.locals n) (after 4 fn.body) (at_ret (env fn.locals n) Post) $
     sets ! (agg ! (and_then ! (lit ! tt) (no_more !))) refl (tt, (record { fits = lit< tt }, tt)) $
     use0 𝓛 (‵ (Out.own_val None (live 0 vnil ∷ []))) (none_of 𝓛 Lr) $
-    use0 𝓛 (raw (fact 𝓤 (d.parse ≡ None))) (fact_i 𝓤 (d.parse ≡ None) (emp 𝓤) is_empty) $ nothing ! $ nothing ! $ fjoin ! $ nothing ! $ fjoin ! $
+    use0 𝓛 (raw (fact 𝓤 (d.kept ≡ None))) (fact_i 𝓤 (d.kept ≡ None) (emp 𝓤) is_empty) $ nothing ! $ nothing ! $ fjoin ! $ nothing ! $ fjoin ! $
     returns ! (look_at ! 0 refl) $ free_all ! refl $ keep ! (5 ∷ 0 ∷ 2 ∷ 1 ∷ []) $ by ! (leaves 𝓛 ended hs c z (live 0 vnil) None (tt, (tt, tt)) (tt, (tt, tt))))))))

@@ -21,7 +21,7 @@ use Rattle.std.specs.contracts.alloc.Global as heap
 use Rattle.std.proofs.alloc.Global.TheLaws as heap_laws
 use Rattle.std.specs.contracts.impls.GlobalAllocator.TheImpl.{ghosts}
 use Rattle.std.specs.Prelude.{Option, Some}
-use Rattle.ras_front_end.specs.Parsed.{Parsed}
+use Rattle.ras_c.specs.Kept.{Kept}
 use Rattle.ras_c.specs.Held.{parse_row}
 use Rattle.ras_c.proofs.LooseValues.{both, Loose, loose_good, loose_out}
 use Rattle.ras_c.proofs.HandleValues.{handle_in}
@@ -39,7 +39,7 @@ seal_spec 𝓤 𝓛 𝓜 𝓡 wired =
     let v = z.0.3.0 in let a = v.alloc in let Post : Val → SProp 𝓤 = (walk_of 𝓛 ended hs c).post z in let Run : List Val → SProp 𝓤 = λ ws. WpFn 𝓤 H 𝓣.C 𝓣.Λ fn ws Post in
     qed 𝓛 ((‵ ftrue ⊛ ‵ (fsep ((Loose R Z LZ ghosts).own_val v z.0.4.0) ftrue)) ∷ ‵ ftrue ∷ []) ∵ split ! $ move ! (1 ∷ []) $ fsplit ! $ loose_out R Z LZ ghosts ! v z.0.4.0 (λ b o h e ws fits.
     let w : Val = both (vptr b o) h in let typed = loose_good R Z LZ ghosts b o h fits in
-    let w' : Val = both (vbool true) (vptr b o) in let is : Option Parsed = Some v.value in
+    let w' : Val = both (vbool true) (vptr b o) in let is : Option Kept = Some v.value in
     suffices ! (Run (w ∷ [])) (subst (λ (us : List Val). ent 𝓤 (Run (w ∷ [])) (Run us)) (sym (λ i. ws i ++ [])) (id⊢ 𝓤 (Run (w ∷ [])))) $
     enter ! 𝓣.C 𝓣.Λ fn (w ∷ []) Post $ alloc_all ! (λ l. pass_all ! refl (typed, tt) $
     sets ! (of_opd ! (get_in ! (fld ! refl (stop !)) (sub ! 0 refl (whole !)))) refl (tt, tt) $
@@ -47,4 +47,4 @@ seal_spec 𝓤 𝓛 𝓜 𝓡 wired =
     sets ! (agg ! (and_then ! (true_lit !) (and_then ! (get ! refl) (no_more !)))) refl (tt, (tt, (tt, tt))) $
     handle_in ! true (block_ptr b o) (Some v.value) $
     use0 𝓛 (raw (fact 𝓤 (is ≡ is))) (fact_i 𝓤 (is ≡ is) (emp 𝓤) refl) $ nothing ! $ nothing ! $ fjoin ! $
-    returns ! (look_at ! 0 refl) $ free_all ! refl $ keep ! (4 ∷ 0 ∷ 2 ∷ 1 ∷ []) $ by ! (leaves 𝓛 ended hs c z w' (record { full = true; at = block_ptr b o; parse = Some v.value }) (tt, tt) (tt, tt)))))
+    returns ! (look_at ! 0 refl) $ free_all ! refl $ keep ! (4 ∷ 0 ∷ 2 ∷ 1 ∷ []) $ by ! (leaves 𝓛 ended hs c z w' (record { full = true; at = block_ptr b o; kept = Some v.value }) (tt, tt) (tt, tt)))))

@@ -1,13 +1,12 @@
-use Rattle.std.proofs.Common.{◌+◌, List, drop, subst}
-use Rattle.tree_match.specs.declared.rule.Form.{Form}
-use Rattle.tree_match.specs.Roots.{HaveForms}
-use Rattle.tree_match.proofs.PlaceLemmas.{drop_item}
-use Rattle.tree_match.proofs.RootLemmas.{one_rule}
+use Rattle.std.proofs.Common.{◌+◌, drop}
+use Rattle.tree_match.proofs.PlaceLemmas.{drop_got}
+use Rattle.tree_match.proofs.RootLemmas.{one_root}
 use Rattle.tree_match.proofs.roots.roots_of.Goals as goal
 
-pub loop-rule-preserved : goal.loop-rule-preserved
-loop-rule-preserved c =
-    one_rule (drop c.loop-rule.rule-index c.args.rules.now) (drop (c.loop-rule.rule-index + 1) c.args.rules.now) c.args.rules.now
-    c.rule-item.result c.loop-rule.kinds.items c.add_forms.new.kinds.items c.loop-rule.invariant
-    (drop_item c.args.rules.now c.loop-rule.rule-index c.rule-item.result c.loop-rule-test.true c.rule-item.is)
-    (subst (λ (fs : List Form). HaveForms fs c.loop-rule.kinds.items c.add_forms.new.kinds.items) c.deref.ensures.value c.in_ok-add_forms.ensures)
+pub loop-kind-preserved : goal.loop-kind-preserved
+loop-kind-preserved c =
+    one_root (drop c.loop-kind.kind-index c.deref-kind-items.result.now)
+    (drop (c.loop-kind.kind-index + 1) c.deref-kind-items.result.now) _ c.args.rules.now
+    c.loop-kind.roots.items c.push.new.self.items _ c.loop-kind.invariant
+    (drop_got c.deref-kind-items.result.now c.loop-kind.kind-index _ c.loop-kind-test.true)
+    c.to_raw.ensures c.in_ok-numbers_for.ensures c.in_ok-push.ensures.items
