@@ -39,3 +39,4 @@ mod Setting
 mod Textual
 mod Parting
 mod Exactly
+mod Sole

@@ -21,7 +21,7 @@ ghost use Rattle.document_laws.specs.FileKinds.{NodesHaveTheirKinds, FilesHaveTh
 ghost use Rattle.document_laws.specs.Paths.{CursorsOfEdits};
 ghost use Rattle.document_laws.specs.Inside.{PiecesErrInside};
 ghost use Rattle.document_laws.specs.Faults.{ParserErrorsAreReplaced, PiecesShiftTheRest, ErrorsAreReplaced};
-ghost use Rattle.document_laws.specs.Exactly.{RustReadsExactly};
+ghost use Rattle.document_laws.specs.Exactly.{RustReadsExactly, TextsHaveOneParse};
 ghost use Rattle.document_laws.specs.Setting.{PiecesAreInParts, PiecesAreLaidAround};
 ghost use Rattle.document_laws.specs.Few.{EventsAreFew, RustMakesFewEvents, ShortTextsMakeFewEvents, EventsSoFarAreFew, PiecesComeEarly, PiecesFit};
 ghost use Rattle.document_laws.specs.Tables.{RustSealsByCalls, RustLooksAreShort, ExactRulesAreSealed};
@@ -260,3 +260,9 @@ pub fn rust_reads_exactly()
     sealed_calls_leave_nothing();
     plain_texts_have_no_head();
 }
+
+/// A text has one parse by a front end in an edition. So the parse of a `Document` that is the parse
+/// of its text is equal to that of a new `Document` of the text.
+pub fn texts_have_one_parse()
+    ensures { TextsHaveOneParse }
+{}
