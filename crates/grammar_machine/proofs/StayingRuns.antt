@@ -1,13 +1,13 @@
 -- Runs that look at the tokens alone, operation by operation.
-use Rattle.std.proofs.Common.{◌≡◌, ℕ, zero, suc, ◌<◌, ◌≤◌, List, ap, ◌∙◌, sym, refl, add-one, ◌+◌, ◌^◌, Bool, true, false, nat_le, arith}
+use Rattle.std.proofs.Common.{◌≡◌, ℕ, zero, suc, ◌<◌, ◌≤◌, List, ap, ◌∙◌, sym, refl, add-one, ◌+◌, ◌^◌, Bool, true, false, nat_le, not, arith}
 use Rattle.std.specs.Prelude.{Option, Some, None, slice_get, length, ◌&&◌, nat_eq, reverse, if◌then◌else◌}
 use Rattle.std.proofs.lemmas.Bool.{leb-false}
 use Rattle.std.proofs.lemmas.Bool.Decides.{nat_tests}
 use Rattle.grammar_machine.specs.declared.event.Event.{Event}
 use Rattle.grammar_machine.specs.declared.grammar.Sight.{Sight}
 use Rattle.grammar_machine.specs.declared.grammar.Op.{Op}
-use Rattle.grammar_machine.specs.Running.{Tables, State, with_place, past_of, obey_of, runs, begin_of, run_of, fuel_of}
-use Rattle.grammar_machine.specs.Alone.{stays_on, stays_at, stays_until, is_none_of, is_over_of, has_returned_of, alone_of}
+use Rattle.grammar_machine.specs.Running.{Tables, State, with_place, past_of, obey_of, runs, begin_of, run_of, events_of, fuel_of}
+use Rattle.grammar_machine.specs.Alone.{stays_on, stays_at, stays_until, is_none_of, is_over_of, has_returned_of, alone_of, run_as_of}
 use Rattle.grammar_machine.proofs.Running.{runs-done, step-none, step-spent}
 use Rattle.grammar_machine.proofs.Potential.{Comes, comes-first, comes-next, comes-last}
 
@@ -130,3 +130,51 @@ alone-spent g rule ts s o c spent e =
     let all : s ≡ run_of g rule ts = comes-last g rule ts s c.comes (step-spent g ts s spent) in
     choose_second (stays_until (fuel_of (length ts)) g ts (begin_of rule)) (is_over_of g (run_of g rule ts)) (ends ts (run_of g rule ts)) (Some (reverse (run_of g rule ts).made.events))
     (ap (λ (x : State). is_over_of g x) (sym all) ∙ ap is_none_of e)
+
+-- ---- runs that are to be alone, and any others
+
+pub record ComesAs (is_alone : Bool) (g : Tables) (rule : ℕ) (ts : List Sight) (s : State) : Type 0 where
+  pub comes : Comes g rule ts s
+  pub alone : is_alone ≡ true → ComesAlone g rule ts s
+
+pub as-first : (b : Bool) (g : Tables) (rule : ℕ) (ts : List Sight) (s : State) → s ≡ begin_of rule → ComesAs b g rule ts s
+as-first b g rule ts s e = record { comes = comes-first g rule ts s e; alone = λ h. alone-first g rule ts s e }
+
+stayed : (b x : Bool) → (b && not x) ≡ false → b ≡ true → x ≡ true
+stayed true true h e = refl
+stayed true false h e = (let bad : true ≡ false = h in cc)
+stayed false x h e = (let bad : false ≡ true = e in cc)
+
+pub as-next : (b : Bool) (g : Tables) (rule : ℕ) (ts : List Sight) (s t : State) (o : Op) → length ts + 3 < 2 ^ 64 → slice_get g.ops s.place.next ≡ Some o → 0 < s.place.credit
+    → t ≡ obey_of g ts o (with_place past_of s) → (b && not (stays_at g ts s)) ≡ false → ComesAs b g rule ts s → ComesAs b g rule ts t
+as-next b g rule ts s t o short found some e q c = record {
+  comes = comes-next g rule ts s t o short found some e c.comes;
+  alone = λ h. alone-next g rule ts s t o short found some e (stayed b (stays_at g ts s) q h) (c.alone h);
+}
+
+all_events : (g : Tables) (rule : ℕ) (ts : List Sight) (s : State) (items : List Event) → s ≡ run_of g rule ts → items ≡ reverse s.made.events → Some items ≡ Some (events_of g rule ts)
+all_events g rule ts s items e q = ap Some (q ∙ ap (λ (x : State). reverse x.made.events) e)
+
+pub as-over : (b : Bool) (g : Tables) (rule : ℕ) (ts : List Sight) (s : State) (items : List Event) → ComesAs b g rule ts s → slice_get g.ops s.place.next ≡ None
+    → items ≡ reverse s.made.events
+    → (if b then (if (nat_eq s.place.at (length ts) && nat_eq (length s.made.frames) 0) then Some items else None) else Some items) ≡ run_as_of b g rule ts
+as-over true g rule ts s items c e q = alone-over g rule ts s items (c.alone refl) e q
+as-over false g rule ts s items c e q = all_events g rule ts s items (comes-last g rule ts s c.comes (step-none g ts s e)) q
+
+pub as-strays : (b : Bool) (g : Tables) (rule : ℕ) (ts : List Sight) (s : State) → ComesAs b g rule ts s → 0 < s.place.credit → (b && not (stays_at g ts s)) ≡ true → None ≡ run_as_of b g rule ts
+as-strays true g rule ts s c some e = alone-strays g rule ts s (c.alone refl) some (strayed (stays_at g ts s) e)
+  where
+    strayed : (x : Bool) → not x ≡ true → x ≡ false
+    strayed false h = refl
+    strayed true h = (let bad : false ≡ true = h in cc)
+as-strays false g rule ts s c some e = (let bad : false ≡ true = e in cc)
+
+pub as-spent : (b : Bool) (g : Tables) (rule : ℕ) (ts : List Sight) (s : State) (o : Op) → ComesAs b g rule ts s → s.place.credit ≡ 0 → slice_get g.ops s.place.next ≡ Some o → b ≡ true → None ≡ run_as_of b g rule ts
+as-spent true g rule ts s o c spent e h = alone-spent g rule ts s o (c.alone refl) spent e
+as-spent false g rule ts s o c spent e h = (let bad : false ≡ true = h in cc)
+
+-- any other run is over where nothing is left of it
+pub as-other : (b : Bool) (g : Tables) (rule : ℕ) (ts : List Sight) (s : State) (items : List Event) → ComesAs b g rule ts s → s.place.credit ≡ 0 → b ≡ false
+    → items ≡ reverse s.made.events → Some items ≡ run_as_of b g rule ts
+as-other true g rule ts s items c spent h q = (let bad : true ≡ false = h in cc)
+as-other false g rule ts s items c spent h q = all_events g rule ts s items (comes-last g rule ts s c.comes (step-spent g ts s spent)) q

@@ -6,7 +6,7 @@ use Rattle.grammar_machine.specs.declared.grammar.Test.{Test}
 use Rattle.grammar_machine.specs.declared.grammar.Test.TheVariants as test
 use Rattle.grammar_machine.specs.declared.grammar.Op.{Op}
 use Rattle.grammar_machine.specs.declared.grammar.Op.TheVariants as op
-use Rattle.grammar_machine.specs.Running.{Tables, State, begin_of, runs, run_of, fuel_of}
+use Rattle.grammar_machine.specs.Running.{Tables, State, begin_of, runs, run_of, events_of, fuel_of}
 
 -- the number of tokens, from the next one on, that a test or an operation may look at
 abbrev pub test_reach : Test → ℕ
@@ -81,3 +81,7 @@ is_alone_of g rule ts =
 -- the events of such a run
 abbrev pub alone_of : Tables → ℕ → List Sight → Option (List Event)
 alone_of g rule ts = if is_alone_of g rule ts then Some (reverse (run_of g rule ts).made.events) else None
+
+-- the events of a run, which is to be alone or may be any
+abbrev pub run_as_of : Bool → Tables → ℕ → List Sight → Option (List Event)
+run_as_of is_alone g rule ts = if is_alone then alone_of g rule ts else Some (events_of g rule ts)

@@ -1,7 +1,7 @@
 //! The machine. It has a stack of calls, one of marks, and one of what sealed calls keep; it has no recursion, and ends whatever the
 //! grammar is.
-ghost use Rattle.std.specs.Prelude.{◌≡◌, ◌<◌, ◌+◌, ◌^◌, ◌&&◌, OnOk, IfOk, length, slice_get, option_map, nat_eq, if◌then◌else◌, Some, None};
-ghost use Rattle.grammar_machine.specs.Alone.{alone_of};
+ghost use Rattle.std.specs.Prelude.{◌≡◌, ◌<◌, ◌+◌, ◌^◌, ◌&&◌, not, OnOk, IfOk, length, slice_get, option_map, nat_eq, if◌then◌else◌, Some, None};
+ghost use Rattle.grammar_machine.specs.Alone.{stays_of, alone_of, run_as_of};
 ghost use Rattle.grammar_machine.specs.Running.{tables_of, stacks_of, state_of, seen_as_of, end_as_of, signs_of_view, signs_taken_of, seen_at_of, here_of, has_of, is_brace_of, hides_of, sees_of, target_of, kind_of, power_of, is_some, operator_view_of, holds_of, goto_of, goto_if_of, level_for_of, enter_of, bind_of, frame_of, pass_of, fresh_of, resume_of, leave_of, left_of, take_of, expect_of, piece_of, leaf_of, return_of, sealed_of, obey_of, begin_of, fuel_of, events_of};
 
 use crate::alone::stays;
@@ -623,6 +623,74 @@ fn room_for(sights: &[Sight]) -> usize
     beyond.saturating_mul(3)
 }
 
+// The events of a run that stopped, if it stopped right behind the last token, with no call open.
+fn at_the_end(place: Place, made: Made, sights: &[Sight]) -> Option<Vec<Event>>
+    ensures { option_map (λ v. v.items) result ≡ (if nat_eq place.at (length sights.now) && nat_eq (length made.frames.items) 0 then Some made.events.items else None) }
+{
+    if place.at == sights.len() && made.frames.len() == 0 {
+        Some(made.events)
+    } else {
+        None
+    }
+}
+
+// The same of a run that is to be alone, and the events of any other one.
+fn ended(place: Place, made: Made, sights: &[Sight], is_alone: bool) -> Option<Vec<Event>>
+    ensures { option_map (λ v. v.items) result
+        ≡ (if is_alone then (if nat_eq place.at (length sights.now) && nat_eq (length made.frames.items) 0 then Some made.events.items else None)
+        else Some made.events.items) }
+{
+    if is_alone {
+        at_the_end(place, made, sights)
+    } else {
+        Some(made.events)
+    }
+}
+
+// Whether a run that is to be alone comes to an operation that looks at other tokens.
+fn strays(op: &Op, at: usize, sights: &[Sight], is_alone: bool) -> bool
+    ensures { result ≡ (is_alone && not (stays_of op.now at (length sights.now))) }
+{
+    is_alone && !stays(op, at, sights)
+}
+
+// The events of a run; of one that is to be alone, `None` if it is not. One loop is in both runs'
+// place, since the compiler puts the operations into a loop only if that is the only one.
+#[inline(never)]
+fn run_as(
+    alloc: Global,
+    grammar: &Grammar,
+    rule: usize,
+    sights: &[Sight],
+    is_alone: bool,
+) -> Result<Option<Vec<Event>>, AllocError>
+    ensures { IfOk result (λ events. option_map (λ v. v.items) events
+        ≡ run_as_of is_alone (tables_of grammar.now) rule sights.now) }
+{
+    let mut place = Place::new(rule);
+    let mut made = Made::new(alloc, room_for(sights))?;
+    while place.credit > 0 {
+        match grammar.ops.get(place.next as usize) {
+            None => return Ok(ended(place, made, sights, is_alone)),
+            Some(op) => {
+                if strays(op, place.at, sights, is_alone) {
+                    return Ok(None);
+                }
+                place.credit -= 1;
+                place.next = place.next.wrapping_add(1);
+                obey(&mut place, &mut made, grammar, sights, op)?;
+            }
+        }
+    }
+    if !is_alone {
+        return Ok(Some(made.events));
+    }
+    match grammar.ops.get(place.next as usize) {
+        None => Ok(ended(place, made, sights, is_alone)),
+        Some(_) => Ok(None),
+    }
+}
+
 /// Runs a rule over the tokens of a text that are not trivia. Returns the events, from which a tree can be laid out.
 ///
 /// `rule` is the number of the rule's first operation. The machine stops when the rule returns, and at a number that is not
@@ -637,29 +705,9 @@ pub fn run(
 ) -> Result<Vec<Event>, AllocError>
     ensures { IfOk result (λ events. events.items ≡ events_of (tables_of grammar.now) rule sights.now) }
 {
-    let mut place = Place::new(rule);
-    let mut made = Made::new(alloc, room_for(sights))?;
-    while place.credit > 0 {
-        match grammar.ops.get(place.next as usize) {
-            None => return Ok(made.events),
-            Some(op) => {
-                place.credit -= 1;
-                place.next = place.next.wrapping_add(1);
-                obey(&mut place, &mut made, grammar, sights, op)?;
-            }
-        }
-    }
-    Ok(made.events)
-}
-
-// The events of a run that stopped, if it stopped right behind the last token, with no call open.
-fn at_the_end(place: Place, made: Made, sights: &[Sight]) -> Option<Vec<Event>>
-    ensures { option_map (λ v. v.items) result ≡ (if nat_eq place.at (length sights.now) && nat_eq (length made.frames.items) 0 then Some made.events.items else None) }
-{
-    if place.at == sights.len() && made.frames.len() == 0 {
-        Some(made.events)
-    } else {
-        None
+    match run_as(alloc, grammar, rule, sights, false)? {
+        Some(events) => Ok(events),
+        None => unreachable!(),
     }
 }
 
@@ -675,23 +723,5 @@ pub fn run_alone(
 ) -> Result<Option<Vec<Event>>, AllocError>
     ensures { IfOk result (λ events. option_map (λ v. v.items) events ≡ alone_of (tables_of grammar.now) rule sights.now) }
 {
-    let mut place = Place::new(rule);
-    let mut made = Made::new(alloc, room_for(sights))?;
-    while place.credit > 0 {
-        match grammar.ops.get(place.next as usize) {
-            None => return Ok(at_the_end(place, made, sights)),
-            Some(op) => {
-                if !stays(op, place.at, sights) {
-                    return Ok(None);
-                }
-                place.credit -= 1;
-                place.next = place.next.wrapping_add(1);
-                obey(&mut place, &mut made, grammar, sights, op)?;
-            }
-        }
-    }
-    match grammar.ops.get(place.next as usize) {
-        None => Ok(at_the_end(place, made, sights)),
-        Some(_) => Ok(None),
-    }
+    run_as(alloc, grammar, rule, sights, true)
 }

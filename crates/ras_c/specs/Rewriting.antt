@@ -21,14 +21,18 @@ use Rattle.ras_c.specs.Read.{IsReading}
 abbrev pub match_row : Occurrence → MatchRow
 match_row m = record { rule = m.rule; start = m.range.start; end = m.range.end }
 
--- rules that a text has: one a line; or one pattern, or one rule with a template
+-- rules that a text has: one a line; or one rule with a template, or one pattern
+abbrev pub AreRulesOf : (has_template lines : Bool) → List ℕ → List Rule → Type 0
+AreRulesOf true true s rules = length rules ≡ rule_lines s
+AreRulesOf true false s rules = (length rules ≡ 1) × HasOne s
+AreRulesOf false true s rules = length rules ≡ rule_lines s
+AreRulesOf false false s rules = (length rules ≡ 1) × (HasArrow s → ⊥)
+
 abbrev pub ArePatterns : (lines : Bool) → List ℕ → List Rule → Type 0
-ArePatterns true s rules = length rules ≡ rule_lines s
-ArePatterns false s rules = (length rules ≡ 1) × (HasArrow s → ⊥)
+ArePatterns = AreRulesOf false
 
 abbrev pub AreRules : (lines : Bool) → List ℕ → List Rule → Type 0
-AreRules true s rules = length rules ≡ rule_lines s
-AreRules false s rules = (length rules ≡ 1) × HasOne s
+AreRules = AreRulesOf true
 
 -- P of the parse of a text as a file; of such rules
 abbrev pub InFile : ℕ → List ℕ → (Parsed → Type 0) → Type 0

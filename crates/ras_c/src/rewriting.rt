@@ -5,7 +5,7 @@ ghost use Rattle.tree_match.specs.Finds.{occurrence_of};
 ghost use Rattle.rust_rewrite.specs.Rules.{is_bare};
 ghost use Rattle.rust_rewrite.specs.Rewrites.{loses_comment};
 ghost use Rattle.ras_c.specs.Border.{edition_of, IsHanded, IsCounted};
-ghost use Rattle.ras_c.specs.Rewriting.{match_row, matches_of, has_bare, status_of, ArePatterns, AreRules, InFile, Finds, IsNewText, HasNew, Becomes, LacksTemplate, Loses, IsRefusedAs, IsSaid};
+ghost use Rattle.ras_c.specs.Rewriting.{match_row, matches_of, has_bare, status_of, AreRulesOf, InFile, Finds, IsNewText, HasNew, Becomes, LacksTemplate, Loses, IsRefusedAs, IsSaid};
 
 use crate::fill::{fill, hand};
 use crate::parsed::parsed;
@@ -86,39 +86,26 @@ fn listed(alloc: Global, rule: Rule) -> Result<Vec<Rule>, RuleError>
     }
 }
 
-// The rules that a text is searched by.
-fn patterns_of(
-    alloc: Global,
-    text: &str,
-    lines: bool,
-    edition: Edition,
-) -> Result<Vec<Rule>, RuleError>
-    ensures rules { IfOk result (λ rules. ArePatterns lines text.now rules.items) }
-    ensures within { IfErr result (λ e. e.offset ≤ length text.now) }
-{
-    if lines {
-        return parse_rules(alloc, &Rust, edition, text);
-    }
-    match parse_pattern(alloc, &Rust, edition, text) {
-        Ok(rule) => listed(alloc, rule),
-        Err(error) => Err(error),
-    }
-}
-
-// The rules that matches are replaced by.
+// The rules of a text: one a line; or one rule, with a template or as a pattern alone.
 fn rules_of(
     alloc: Global,
     text: &str,
     lines: bool,
     edition: Edition,
+    has_template: bool,
 ) -> Result<Vec<Rule>, RuleError>
-    ensures rules { IfOk result (λ rules. AreRules lines text.now rules.items) }
+    ensures rules { IfOk result (λ rules. AreRulesOf has_template lines text.now rules.items) }
     ensures within { IfErr result (λ e. e.offset ≤ length text.now) }
 {
     if lines {
         return parse_rules(alloc, &Rust, edition, text);
     }
-    match parse_rule(alloc, &Rust, edition, text) {
+    let one = if has_template {
+        parse_rule(alloc, &Rust, edition, text)
+    } else {
+        parse_pattern(alloc, &Rust, edition, text)
+    };
+    match one {
         Ok(rule) => listed(alloc, rule),
         Err(error) => Err(error),
     }
@@ -215,7 +202,7 @@ pub extern "C" fn ras_c_search(
     let Ok(patterns) = str::from_utf8(patterns) else {
         return NOT_UTF8;
     };
-    let rules = match patterns_of(alloc, patterns, lines, year) {
+    let rules = match rules_of(alloc, patterns, lines, year, false) {
         Ok(rules) => rules,
         Err(error) => return refused(alloc, &error, message, fault),
     };
@@ -353,7 +340,7 @@ pub extern "C" fn ras_c_rewrite(
     let Ok(rules) = str::from_utf8(rules) else {
         return NOT_UTF8;
     };
-    let rules = match rules_of(alloc, rules, lines, year) {
+    let rules = match rules_of(alloc, rules, lines, year, true) {
         Ok(rules) => rules,
         Err(error) => return refused(alloc, &error, message, fault),
     };

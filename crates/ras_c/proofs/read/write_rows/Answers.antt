@@ -1,4 +1,4 @@
-use Rattle.std.proofs.Common.{◌≡◌, ◌∙◌, ◌++◌, drop, ap, sym}
+use Rattle.std.proofs.Common.{◌∙◌, ◌++◌, drop, ap, sym}
 use Rattle.tree_model.specs.Cursor.{focus}
 use Rattle.tree_rows.specs.Flat.{flat_rows}
 use Rattle.tree_rows.proofs.FlatLemmas.{length-flat_rows}
