@@ -16,7 +16,8 @@ use syntax_kind::SyntaxKind;
 /// the new one is longer than [`ExactFront::longest`], then a parse of the new text should make
 /// what a parse of the old one made, with the output for the piece in place of the node; but for
 /// the messages of the lexer's errors behind the piece. The errors of a piece are behind its first
-/// byte and before its last one, so that those of the text are told from them by where they are.
+/// byte and before its last one, so that those of the text are told from them by where they are;
+/// the parser's errors of the text come in the order of before, in and behind the piece.
 /// `Document` of `ras_parsing` relies on it. It is not a law of the trait: an implementation proves
 /// only the law `exact_kept`, that the steps of a piece build one tree over its text. For Rust it
 /// is proved: by `document_laws`.
