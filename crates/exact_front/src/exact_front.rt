@@ -19,8 +19,8 @@ use syntax_kind::SyntaxKind;
 /// byte and before its last one, so that those of the text are told from them by where they are;
 /// the parser's errors of the text come in the order of before, in and behind the piece.
 /// `Document` of `ras_parsing` relies on it. It is not a law of the trait: an implementation proves
-/// only the law `exact_kept`, that the steps of a piece build one tree over its text. For Rust it
-/// is proved: by `document_laws`.
+/// only the law `exact_kept`, that the steps of a piece build one tree over its text. What a
+/// document needs of it (`ReadsExactly`) is proved for Rust: by `document_laws`.
 pub trait ExactFront: FrontEnd {
     // The results, as functions of the arguments.
     ghost exact: { Self → Exact };

@@ -73,8 +73,8 @@ pub record AreShort (longest : ℕ) (s : List ℕ) (edit : Edit) : Type 0 where
   pub new : length (edited s edit) ≤ longest
 
 -- the nearest node that may be one is an exact piece: nothing at the head of the text depends on
--- the rest, the front end reads its old text and its new text as in any text, and none of the
--- lexer's errors is behind it; `count` errors are the parser's
+-- the rest, the text is short before and after, the front end reads the node's old text and its new
+-- text as in any text, and none of the lexer's errors is behind it; `count` errors are the parser's
 pub record ExactPath (exact : Exact) (edition : Edition) (old : Parsed) (count : ℕ) (edit : Edit) (c : Cursor) (r : Reparser) (reading : Reading) : Type 0 where
   pub no_head : exact.has_head (text old.tree) ≡ false
   pub are_short : AreShort exact.longest (text old.tree) edit
