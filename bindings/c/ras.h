@@ -664,8 +664,8 @@ uint32_t ras_c_rows_as(
  * Writes the rows of the innermost node of a handle's parse that covers a range of the text, as a
  * tree of its own: positions count from the node's start, and rows from its row, which is row 0
  * here. The errors are those of the whole parse, by a choice, such as RAS_PARSE_ERRORS, with
- * positions in the whole text. The handle keeps its parse. Of a range that ras_c_edit_told wrote,
- * if it is not the whole text, the node is the block that was parsed again.
+ * positions in the whole text. The handle keeps its parse. Of a range that ras_c_edit_told
+ * wrote, if it is not the whole text, the node is the block that was parsed again.
  *
  * Returns RAS_OK, RAS_TOO_LONG, RAS_NO_MEMORY, RAS_NO_ROOM, RAS_NO_CHOICE, RAS_NO_PARSE if the
  * handle holds no parse, or RAS_NO_PLACE if the text has no such range.

@@ -82,8 +82,8 @@ behind_steps s errors n e count = ap₂ drop count e ∙ drop-append_seam (step_
 
 -- ---- the piece
 
--- what an edit of a tree by an exact piece is about: the node's place, the text before it and behind
--- it, its new text, and the readings of the old one and of the new one
+-- what an edit of a tree by an exact piece is about: the node's place, the text before it and
+-- behind it, its new text, and the readings of the old one and of the new one
 record Piece (e : Edition) (t : Tree) (edit : Edit) (a q b : List ℕ) (k : SyntaxKind) (r : Reparser) (was now : Reading) (place : Place) : Type 0 where
   pub is_place : IsPlace t place
   pub chosen : exact_chosen_of k ≡ Some r

@@ -1,5 +1,5 @@
--- A text in which one piece is replaced is laid as the old one, but for the piece, where the piece's
--- node is not the root's.
+-- A text in which one piece is replaced is laid as the old one, but for the piece, where the
+-- piece's node is not the root's.
 use Rattle.std.proofs.Common.{◌≡◌, ℕ, zero, suc, ◌+◌, ◌<◌, ◌≤◌, Bool, true, false, nat_eq, nat_lt, List, [], ◌∷◌, ◌++◌, map, length, ap, ap₂, sym, subst, ◌∙◌, refl, arith, Some, None, Option, if◌then◌else◌}
 use Rattle.std.specs.Prelude.{option_map, slice_get}
 use Rattle.std.proofs.lemmas.Bool.{eqb-false}

@@ -11,8 +11,8 @@ use Rattle.rust_front.specs.Front.{rust_front}
 abbrev pub RustReadsExactly : Type 0
 RustReadsExactly = ReadsExactly rust_front rust_exact
 
--- a text has one parse by a front end in an edition: that of a document after edits is equal to that
--- of one that is made anew
+-- a text has one parse by a front end in an edition: that of a document after edits is equal to
+-- that of one that is made anew
 abbrev pub TextsHaveOneParse : Type 0
 TextsHaveOneParse =
     (front : Front) (edition : Edition) (s : List ℕ) (p q : Parsed) (m n : ℕ)

@@ -261,8 +261,8 @@ pub fn rust_reads_exactly()
     plain_texts_have_no_head();
 }
 
-/// A text has one parse by a front end in an edition. So the parse of a `Document` that is the parse
-/// of its text is equal to that of a new `Document` of the text.
+/// A text has one parse by a front end in an edition. So the parse of a `Document` that is the
+/// parse of its text is equal to that of a new `Document` of the text.
 pub fn texts_have_one_parse()
     ensures { TextsHaveOneParse }
 {}

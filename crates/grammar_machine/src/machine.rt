@@ -691,12 +691,15 @@ fn run_as(
     }
 }
 
-/// Runs a rule over the tokens of a text that are not trivia. Returns the events, from which a tree can be laid out.
+/// Runs a rule over the tokens of a text that are not trivia. Returns the events, from which a tree
+/// can be laid out.
 ///
-/// `rule` is the number of the rule's first operation. The machine stops when the rule returns, and at a number that is not
-/// that of an operation. A grammar that loops is stopped: it has 1,200 operations at the beginning, 1,200 more for each token that is
-/// taken, and a sealed call has its own ones; the events are then those that were made so far. So any grammar can be run over any
-/// tokens, in time and memory linear in the tokens, with no recursion. The only error is out of memory.
+/// `rule` is the number of the rule's first operation. The machine stops when the rule returns, and
+/// at a number that is not that of an operation. A grammar that loops is stopped: it has 1,200
+/// operations at the beginning, 1,200 more for each token that is taken, and a sealed call has its
+/// own ones; the events are then those that were made so far. So any grammar can be run over any
+/// tokens, in time and memory linear in the tokens, with no recursion. The only error is out of
+/// memory.
 pub fn run(
     alloc: Global,
     grammar: &Grammar,

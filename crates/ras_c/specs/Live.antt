@@ -53,8 +53,8 @@ pub record HoldsReport (errors : ℕ) (held : Option Kept) (P : Report → Type 
   pub errors_is : errors_of errors ≡ Some as_errors
   pub holds : Holds held (λ p. P (report_on as_errors p))
 
--- what a call that tells rows of a handle's parse returns, and what it leaves in the buffers: by the
--- number of a choice of errors, as each clause of `ras_c_rows_as` says
+-- what a call that tells rows of a handle's parse returns, and what it leaves in the buffers: by
+-- the number of a choice of errors, as each clause of `ras_c_rows_as` says
 pub record AreRowsBy (errors : ℕ) (held : Option Kept) (status : ℕ) (before after : Buffers) : Type 0 where
   pub done : status ≡ 0 → HoldsReport errors held (λ r. IsTold r before after)
   pub room : status ≡ 4 → HoldsReport errors held (λ r. IsCut r before after)

@@ -199,8 +199,8 @@ fn tell_around(
 /// Writes the rows of the innermost node of a handle's parse that covers a range of the text, as a
 /// tree of its own: positions count from the node's start, and rows from its row, which is row 0
 /// here. The errors are those of the whole parse, by a choice, such as [`PARSE_ERRORS`], with
-/// positions in the whole text. The handle keeps its parse. Of a range that `ras_c_edit_told` wrote,
-/// if it is not the whole text, the node is the block that was parsed again.
+/// positions in the whole text. The handle keeps its parse. Of a range that `ras_c_edit_told`
+/// wrote, if it is not the whole text, the node is the block that was parsed again.
 ///
 /// Returns [`OK`], [`TOO_LONG`], [`NO_MEMORY`], [`NO_ROOM`], [`NO_CHOICE`], [`NO_PARSE`] if the
 /// handle holds no parse, or [`NO_PLACE`] if the text has no such range.

@@ -190,8 +190,8 @@ fn tell_violations(
     )
 }
 
-/// Writes a report on a node of a parse: the rows of the node's tree, the chosen errors of the whole
-/// parse and their messages, and the counts of these.
+/// Writes a report on a node of a parse: the rows of the node's tree, the chosen errors of the
+/// whole parse and their messages, and the counts of these.
 pub(crate) fn tell_at(
     alloc: Global,
     parse: &Parse<Root>,

@@ -24,8 +24,8 @@ pub(crate) enum Seen<'t> {
     End,
 }
 
-/// A walk that can pass over a node at once. A clause sees the siblings that are left on each level,
-/// the innermost first. As long as it enters no node it allocates nothing.
+/// A walk that can pass over a node at once. A clause sees the siblings that are left on each
+/// level, the innermost first. As long as it enters no node it allocates nothing.
 #[derive(Drop)]
 pub(crate) struct Walk<'t> {
     comments: Comments,
