@@ -30,7 +30,8 @@ use Rattle.rust_grammar.specs.Seeing.{sights_of}
 use Rattle.rust_grammar.specs.Tables.{rust_tables}
 use Rattle.rust_lexer.specs.Lexing.{tokens_of, errors_of}
 use Rattle.rust_lexer.proofs.Kept.{lexed}
-use Rattle.rust_front.specs.Exact.{is_byte, is_visible, has_fence_of, has_shebang_of, is_open, is_close, opens_with, closes_with, is_braced_by, errs_early, if_closed, whole_exact_of, exact_piece_of}
+use Rattle.rust_front.specs.Exact.{is_open, is_close, opens_with, closes_with, is_braced_by, errs_early, if_closed, whole_exact_of, exact_piece_of}
+use Rattle.rust_front.specs.Heads.{is_byte, is_visible, has_fence_of, has_shebang_of}
 use Rattle.rust_front.specs.Front.{made_of, reading_with}
 use Rattle.rust_front.specs.Pieces.{rule_by_number}
 use Rattle.document_laws.specs.Alone.{ExactPiecesAreReadAlone, HeadsAreTested}

@@ -29,7 +29,8 @@ use Rattle.grammar_machine.specs.Sealing.{SealedCallsLeaveNothing}
 use Rattle.lexer_laws.specs.Heads.{PlainTextsHaveNoHead, HeadsEndBeforeBraces}
 use Rattle.rust_grammar.specs.declared.tables.rules.Rule.{Rule}
 use Rattle.rust_grammar.specs.declared.tables.rules.Rule.TheVariants as rule
-use Rattle.rust_front.specs.Exact.{has_head_of, exact_piece_of, rust_exact}
+use Rattle.rust_front.specs.Exact.{exact_piece_of, rust_exact}
+use Rattle.rust_front.specs.Heads.{has_head_of}
 use Rattle.rust_front.specs.Front.{parsed_of, made_of, rust_front}
 use Rattle.rust_front.specs.Laws.{rust_kept}
 use Rattle.rust_front.specs.Pieces.{exact_chosen_of, rule_by_number}

@@ -20,7 +20,7 @@ use Rattle.lexer_laws.specs.Cuts.{tokens_within, bytes_of}
 use Rattle.lexer_laws.specs.Heads.{may_have_head, PlainTextsHaveNoHead}
 use Rattle.lexer_laws.proofs.Finding.{braced_cut}
 use Rattle.lexer_laws.proofs.Pieces.{headless, behind_cut}
-use Rattle.rust_front.specs.Exact.{has_head_of}
+use Rattle.rust_front.specs.Heads.{has_head_of}
 use Rattle.rust_front.specs.Front.{parsed_of}
 use Rattle.rust_front.specs.Laws.{rust_kept}
 use Rattle.rust_lexer.specs.Lexing.{tokens_of}

@@ -14,7 +14,8 @@ use Rattle.rust_grammar.specs.Rules.{first_op}
 use Rattle.rust_grammar.specs.Seeing.{sights_of}
 use Rattle.rust_grammar.specs.Tables.{rust_tables}
 use Rattle.rust_lexer.specs.Lexing.{tokens_of, errors_of}
-use Rattle.rust_front.specs.Exact.{errs_early, has_head_of, exact_piece_of}
+use Rattle.rust_front.specs.Exact.{errs_early, exact_piece_of}
+use Rattle.rust_front.specs.Heads.{has_head_of}
 use Rattle.rust_front.specs.Front.{made_of, reading_with}
 use Rattle.rust_front.specs.Pieces.{exact_chosen_of, rule_by_number}
 

@@ -11,7 +11,8 @@ use Rattle.ras_front_end.specs.declared.edition.Entry.TheVariants.{SourceFile}
 use Rattle.ras_front_end.specs.declared.edition.Reparser.{Reparser}
 use Rattle.ras_front_end.specs.Reading.{Reading, events_from}
 use Rattle.token_layout.specs.declared.span.Token.{Token}
-use Rattle.rust_front.specs.Exact.{has_head_of, exact_piece_of}
+use Rattle.rust_front.specs.Exact.{exact_piece_of}
+use Rattle.rust_front.specs.Heads.{has_head_of}
 use Rattle.rust_front.specs.Front.{made_of, parsed_of}
 use Rattle.rust_front.specs.Pieces.{exact_chosen_of, rule_by_number}
 use Rattle.document_laws.specs.Alone.{IsExactPiece}

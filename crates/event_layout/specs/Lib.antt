@@ -11,3 +11,4 @@ pub mod Exchanged
 pub mod Ending
 pub mod Placed
 pub mod Replaced
+pub mod Retold

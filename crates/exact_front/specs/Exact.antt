@@ -1,5 +1,6 @@
 -- Which pieces of a text a front end reads by themselves as in the text, as functions of their arguments.
 use Rattle.std.specs.Prelude.{◌≡◌, ℕ, ◌<◌, ◌^◌, List, length, Option, Some, None, IsUtf8, Bool, true, false}
+use Rattle.text_size.specs.TextRange.{Bounds}
 use Rattle.syntax_kind.specs.declared.syntax_kind.SyntaxKind.{SyntaxKind}
 use Rattle.ras_front_end.specs.declared.edition.Edition.{Edition}
 use Rattle.ras_front_end.specs.declared.edition.Reparser.{Reparser}
@@ -12,6 +13,9 @@ pub record Exact : Type 0 where
   pub has_head : List ℕ → Bool
   pub chosen : SyntaxKind → Option Reparser
   pub piece : Reparser → Edition → List ℕ → Option Reading
+  -- of the text before a window, the window's old and new text, the text behind it, and the range
+  -- of a token in the old text: only the text of this token is another one
+  pub is_retold : Edition → List ℕ → List ℕ → List ℕ → List ℕ → Bounds → Bool
 
 -- the text is a piece
 abbrev pub is_piece : Option Reading → Bool

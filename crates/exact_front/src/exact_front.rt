@@ -6,6 +6,7 @@ ghost use Rattle.exact_front.specs.Exact.{Exact, is_piece, ExactKeeps};
 use ras_front_end::{Edition, FrontEnd, Output, Reparser};
 use std::alloc::{AllocError, Global};
 use syntax_kind::SyntaxKind;
+use text_size::TextRange;
 
 /// A front end that can tell of a piece of a text, from `{` to `}`, whether it is read in the text
 /// as it is by itself.
@@ -61,6 +62,26 @@ pub trait ExactFront: FrontEnd {
         edition: Edition,
     ) -> Result<bool, AllocError>
         ensures { IfOk result (λ b. b ≡ is_piece ((exact self.now).piece reparser edition text.now)) };
+
+    /// Whether a window of a text has the same tokens with the text `new` as with `old`, but for the
+    /// text of one token, which is at the range `token` of `old`, and whether the parser takes this
+    /// token for what it was. Then the tree of the new text is the old one with the token's new
+    /// text, and the errors are the old ones, moved with the text.
+    ///
+    /// The window stands between the texts `before` and `behind`. It begins and ends with a brace,
+    /// but at the start and the end of the whole text. Takes the time of the lexer for `old` and
+    /// `new`.
+    fn is_retold(
+        &self,
+        alloc: Global,
+        before: &str,
+        old: &str,
+        new: &str,
+        behind: &str,
+        token: TextRange,
+        edition: Edition,
+    ) -> Result<bool, AllocError>
+        ensures { IfOk result (λ b. b ≡ (exact self.now).is_retold edition before.now old.now new.now behind.now token) };
 
     ghost exact_kept: { (front : Self) → ExactKeeps (exact front) };
 }

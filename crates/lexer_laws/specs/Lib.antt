@@ -6,3 +6,4 @@ pub mod Pieces
 pub mod Errors
 pub mod Quiet
 pub mod Sights
+pub mod Windows

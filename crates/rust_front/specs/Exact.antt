@@ -19,28 +19,9 @@ use Rattle.rust_grammar.specs.Rules.{first_op}
 use Rattle.rust_lexer.specs.declared.lexer.LexError.{LexError}
 use Rattle.rust_lexer.specs.Lexing.{tokens_of, errors_of}
 use Rattle.rust_front.specs.Front.{reading_with}
+use Rattle.rust_front.specs.Heads.{has_head_of}
 use Rattle.rust_front.specs.Pieces.{exact_chosen_of, rule_by_number}
-
--- ---- what may stand at the head of a text
-
-abbrev pub is_byte : ℕ → Option ℕ → Bool
-is_byte b None = false
-is_byte b (Some c) = nat_eq c b
-
--- `#!` and no `[`
-abbrev pub has_shebang_of : List ℕ → Bool
-has_shebang_of s = is_byte 35 (slice_get s 0) && (is_byte 33 (slice_get s 1) && not (is_byte 91 (slice_get s 2)))
-
-abbrev pub is_visible : ℕ → Bool
-is_visible b = nat_lt 32 b && nat_lt b 127
-
--- a dash is the first visible character of ASCII
-abbrev pub has_fence_of : List ℕ → Bool
-has_fence_of [] = false
-has_fence_of (b ∷ s) = if is_visible b then nat_eq b 45 else has_fence_of s
-
-abbrev pub has_head_of : List ℕ → Bool
-has_head_of s = has_shebang_of s || has_fence_of s
+use Rattle.rust_front.specs.Retold.{is_retold_of}
 
 -- ---- pieces
 
@@ -104,4 +85,5 @@ rust_exact = record {
   has_head = λ text. has_head_of text;
   chosen = λ kind. exact_chosen_of kind;
   piece = λ reparser edition text. exact_piece_of reparser edition text;
+  is_retold = λ edition before old new behind token. is_retold_of edition before old new behind token;
 }

@@ -3,5 +3,7 @@ pub mod Roots
 pub mod Messages
 pub mod Front
 pub mod Laws
+pub mod Heads
 pub mod Exact
 pub mod ExactLaws
+pub mod Retold

@@ -4,7 +4,8 @@ ghost use Rattle.ras_front_end.specs.Reading.{reading_of};
 ghost use Rattle.exact_front.specs.Exact.{is_piece};
 ghost use Rattle.token_layout.specs.Laid.{IsCut};
 ghost use Rattle.rust_grammar.specs.Seeing.{sights_of};
-ghost use Rattle.rust_front.specs.Exact.{is_byte, has_shebang_of, is_visible, has_fence_of, has_head_of, opens_with, closes_with, is_braced_by, is_in, errs_early, if_closed, alone_with, whole_exact_of, exact_piece_of};
+ghost use Rattle.rust_front.specs.Exact.{opens_with, closes_with, is_braced_by, is_in, errs_early, if_closed, alone_with, whole_exact_of, exact_piece_of};
+ghost use Rattle.rust_front.specs.Heads.{is_byte, has_shebang_of, is_visible, has_fence_of, has_head_of};
 
 use crate::front::{assemble, is_short};
 use crate::piece::rule_by;

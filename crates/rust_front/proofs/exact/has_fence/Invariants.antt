@@ -1,5 +1,5 @@
 use Rattle.std.proofs.Common.{◌≡◌, drop}
-use Rattle.rust_front.specs.Exact.{has_fence_of}
+use Rattle.rust_front.specs.Heads.{has_fence_of}
 use Rattle.rust_front.proofs.exact.has_fence.Given as goal
 
 abbrev pub invariant-loop-byte : goal.invariant-loop-byte
