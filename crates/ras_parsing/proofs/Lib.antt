@@ -12,3 +12,4 @@ pub mod Blocks
 pub mod ElementKinds
 pub mod ExactPaths
 pub mod OrderedInText
+pub mod Windows

@@ -36,7 +36,7 @@ found_by : (t : Tree) (c d : Cursor) → token_part (element_by t c) ≡ Some d 
 found_by (node k f) c d e = (let none : None ≡ Some d = e in cc)
 found_by (token k s) c d e = record { same = (let f : Some c ≡ Some d = e in cc); is_token = tt }
 
-none_by : (t : Tree) (c : Cursor) → token_part (element_by t c) ≡ None → IsToken t → ⊥
+pub none_by : (t : Tree) (c : Cursor) → token_part (element_by t c) ≡ None → IsToken t → ⊥
 none_by (node k f) c e h = h
 none_by (token k s) c e h = (let f : Some c ≡ None = e in cc)
 

@@ -10,6 +10,7 @@ use crate::exact::{Counted, exact_path, parser_errors, with_exact};
 use crate::file::FileView;
 use crate::parse::Parse;
 use crate::reparse::{edited_text, is_too_long};
+use crate::retold::{token_path, with_retold};
 use exact_front::ExactFront;
 use lossless_tree::laws::node_is_placed;
 use lossless_tree::{TextRange, TextSize};
@@ -20,15 +21,16 @@ use std::alloc::Global;
 ///
 /// With the front end for Rust the parse is, after any number of edits, that of the text: the same
 /// tree, and the same errors in the same order, as a parse of the text from the beginning gives.
-/// [`Document::edit`] parses one block again where the front end can tell that this is enough (see
-/// [`ExactFront`]), and otherwise the whole text.
+/// [`Document::edit`] gives one token another text, or parses one block again, where the front end can
+/// tell that this is enough (see [`ExactFront`]), and otherwise parses the whole text.
 ///
 /// This is proved. [`Document::new`] gives the parse of its text. By the clause `exact` of
 /// [`Document::edit`], an edit makes the parse of the new text of that of the old one, if the front
 /// end reads the pieces of every text as in the text (`ReadsExactly`): for `Rust` that is the law
 /// `rust_reads_exactly` of `document_laws`, for every text, in every edition. Another front end's
 /// documents rest on the promise of [`ExactFront`], which is no law of the trait. What is true for
-/// each front end is `answer`: which piece is parsed again, and what its tree and errors replace.
+/// each front end is `answer`: which token or piece is read again, and what its tree and errors
+/// replace.
 ///
 /// A failed edit leaves the document unchanged. [`Parse::reparse`] is for parses that no document
 /// keeps, and makes less sure.
@@ -133,6 +135,24 @@ impl<T: FileView, F: ExactFront + Drop> Document<T, F> {
             ≡ edited (text self.now.parse.tree) (record { delete = delete; insert = insert.now })) }
         ensures refused { IfErr result (λ e. e ≡ TooLong → ⊥) }
     {
+        if let Some(token) = token_path(
+            alloc,
+            &self.parse,
+            self.parser_errors,
+            &self.front,
+            delete,
+            insert,
+            self.edition,
+        )? {
+            return Ok(with_retold(
+                alloc,
+                &self.parse,
+                self.parser_errors,
+                token,
+                delete,
+                insert,
+            )?);
+        }
         match exact_path(
             alloc,
             &self.parse,
@@ -158,21 +178,25 @@ impl<T: FileView, F: ExactFront + Drop> Document<T, F> {
         }
     }
 
-    /// Replaces the bytes in `delete` by `insert`. Returns the range of the new text that was
-    /// parsed again: that of one block, or the whole text. Old parses that were cloned stay as they
-    /// are.
+    /// Replaces the bytes in `delete` by `insert`. Returns the range of the new text that was read
+    /// again: that of one token or one block, or the whole text. Old parses that were cloned stay as
+    /// they are.
     ///
-    /// With Rust's front end, `b` for 9..10 of `fn f() { a }` parses `{ b }` and returns 7..12; `g`
-    /// for 3..4 parses the whole text.
+    /// With Rust's front end, `g` for 3..4 of `fn f() { a }` gives the name another text, and
+    /// returns 3..4; `b()` for 9..10 parses `{ b() }` and returns 7..14; `enum` for 0..2 parses the
+    /// whole text.
     ///
     /// The range must be in the text, on character boundaries. Returns `TooLong` if the new text is
     /// longer than 4,294,967,295 bytes; this is checked first. If an error is returned, the
     /// document is unchanged.
     ///
-    /// The text and the tree are copied once, as by `SyntaxNode::replace_with`; beside that it
-    /// takes the time of the front end for what is parsed again. A block is read with its old text
-    /// too, without a tree; and in vain if it turns out to be no exact piece. In a text of more
-    /// than [`ExactFront::longest`] bytes, 1,700,000 for Rust, no block is parsed by itself.
+    /// Where one token gets another text, the nodes are shared with the old tree as in
+    /// `SyntaxToken::replace_with`, the text is copied, and what stands between the nearest braces
+    /// is lexed with its old and its new text, if that is not more than 32,768 bytes. Otherwise the
+    /// text and the tree are copied once, as by `SyntaxNode::replace_with`; beside that it takes the
+    /// time of the front end for what is parsed again. A block is read with its old text too,
+    /// without a tree; and in vain if it turns out to be no exact piece. In a text of more than
+    /// [`ExactFront::longest`] bytes, 1,700,000 for Rust, no block is parsed by itself.
     pub fn edit(
         &mut self,
         alloc: Global,

@@ -96,7 +96,7 @@ fn first_exact<F: ExactFront>(
 }
 
 // Whether no error begins at or after a byte.
-fn is_quiet_from(at: TextSize, errors: &[SyntaxError]) -> bool
+pub(crate) fn is_quiet_from(at: TextSize, errors: &[SyntaxError]) -> bool
     ensures { result ≡ is_quiet_from at errors.now }
 {
     for error in errors {
@@ -246,7 +246,7 @@ pub(crate) fn with_exact<T>(
 }
 
 // The range of a text that begins at a byte.
-fn range_from(start: TextSize, text: &str) -> TextRange
+pub(crate) fn range_from(start: TextSize, text: &str) -> TextRange
     requires { start + length text.now < 2 ^ 32 }
     ensures { result ≡ record { start = start; end = start + length text.now } }
 {
@@ -255,7 +255,7 @@ fn range_from(start: TextSize, text: &str) -> TextRange
 
 // The parse of a new tree, in which a piece with these errors replaces a range. The first errors,
 // `count` of the old ones and `more` of the new ones, are the parser's.
-fn spliced<T>(
+pub(crate) fn spliced<T>(
     alloc: Global,
     old: &Parse<T>,
     count: usize,

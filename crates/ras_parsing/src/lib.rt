@@ -16,6 +16,7 @@ mod ok_error;
 mod ordered;
 mod parse;
 mod reparse;
+mod retold;
 pub mod utils;
 
 pub use builder::SyntaxTreeBuilder;
