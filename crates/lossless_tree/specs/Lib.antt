@@ -19,6 +19,7 @@ pub use Rattle.tree_model.specs.Equality
 pub use Rattle.tree_model.specs.EqualityLaws
 pub use Rattle.tree_rows.specs.Builder
 pub use Rattle.tree_rows.specs.Flat
+pub use Rattle.tree_rows.specs.KindSearch
 pub mod Element
 pub mod ElementLaws
 pub mod TokenAtOffset

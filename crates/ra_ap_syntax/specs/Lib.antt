@@ -16,6 +16,7 @@ pub use Rattle.tree_model.specs.Every
 pub use Rattle.tree_model.specs.Placed
 pub use Rattle.tree_model.specs.Equality
 pub use Rattle.tree_model.specs.EqualityLaws
+pub use Rattle.lossless_tree.specs.KindSearch
 pub use Rattle.lossless_tree.specs.Element
 pub use Rattle.lossless_tree.specs.ElementLaws
 pub use Rattle.lossless_tree.specs.TokenAtOffset

@@ -1,4 +1,3 @@
 pub mod FirstCast
 pub mod Steps
-pub mod TokenLists
 pub mod ViewLists

@@ -5,49 +5,13 @@ use Rattle.std.specs.List.{filter, find}
 use Rattle.syntax_kind.specs.declared.syntax_kind.SyntaxKind.{SyntaxKind}
 use Rattle.lossless_tree.specs.declared.cursor.element.NodeOrToken.{NodeOrToken}
 use Rattle.lossless_tree.specs.declared.cursor.element.NodeOrToken.TheVariants.{Node, Token}
-use Rattle.tree_model.specs.Cursor.{Cursor, at_node, at_token}
-use Rattle.lossless_tree.specs.Element.{element_of, cursor_of, node_part, token_part}
+use Rattle.tree_model.specs.Cursor.{Cursor, at_node}
+use Rattle.lossless_tree.specs.Element.{element_of, cursor_of, node_part}
 use Rattle.lossless_tree.proofs.ChildSteps.{NodeStep, TokenStep, begins, stands, node_step, token_step}
 use Rattle.ras_node.specs.Nodes.{kind_at, has_kind_in}
-use Rattle.ras_node.specs.Searches.{first_node, first_token, behind, before, has_other_kind, is_node_among, is_token_among, is_other}
+use Rattle.ras_node.specs.Searches.{first_node, behind, before, has_other_kind, is_node_among, is_token_among, is_other}
 
 -- for each search: the child is found; it is passed over; nothing is left
-pub node_found : (S : SyntaxKind → Bool) (l m : List Cursor) (x : NodeOrToken Cursor Cursor) (b : Bool) → map element_of l ≡ x ∷ map element_of m → b ≡ is_node_among S x → b ≡ true → node_part x ≡ first_node S l
-node_found S l m (Token t) b e is passes = (let no : false ≡ true = sym is ∙ passes in cc)
-node_found S l m (Node n) b e is passes =
-    let s : NodeStep l m n = node_step l m (Node n) n e refl in
-    sym (ap (first_node S) s.begins
-    ∙ ap (λ b. find (has_kind_in S) (cond b (n ∷ filter at_node m) (filter at_node m))) s.is_node
-    ∙ ap (λ b. cond b (Some n) (first_node S m)) (sym is ∙ passes))
-
-pub node_passed : (S : SyntaxKind → Bool) (l m : List Cursor) (x : NodeOrToken Cursor Cursor) (b : Bool) → map element_of l ≡ x ∷ map element_of m → b ≡ is_node_among S x → b ≡ false → first_node S m ≡ first_node S l
-node_passed S l m (Token t) b e is fails =
-    let s : TokenStep l m t = token_step l m (Token t) t e refl in
-    sym (ap (first_node S) s.begins ∙ ap (λ b. find (has_kind_in S) (cond b (t ∷ filter at_node m) (filter at_node m))) s.is_node)
-node_passed S l m (Node n) b e is fails =
-    let s : NodeStep l m n = node_step l m (Node n) n e refl in
-    sym (ap (first_node S) s.begins
-    ∙ ap (λ b. find (has_kind_in S) (cond b (n ∷ filter at_node m) (filter at_node m))) s.is_node
-    ∙ ap (λ b. cond b (Some n) (first_node S m)) (sym is ∙ fails))
-
-pub token_found : (S : SyntaxKind → Bool) (l m : List Cursor) (x : NodeOrToken Cursor Cursor) (b : Bool) → map element_of l ≡ x ∷ map element_of m → b ≡ is_token_among S x → b ≡ true → token_part x ≡ first_token S l
-token_found S l m (Node n) b e is passes = (let no : false ≡ true = sym is ∙ passes in cc)
-token_found S l m (Token t) b e is passes =
-    let s : TokenStep l m t = token_step l m (Token t) t e refl in
-    sym (ap (first_token S) s.begins
-    ∙ ap (λ b. find (has_kind_in S) (cond b (t ∷ filter at_token m) (filter at_token m))) s.is_token
-    ∙ ap (λ b. cond b (Some t) (first_token S m)) (sym is ∙ passes))
-
-pub token_passed : (S : SyntaxKind → Bool) (l m : List Cursor) (x : NodeOrToken Cursor Cursor) (b : Bool) → map element_of l ≡ x ∷ map element_of m → b ≡ is_token_among S x → b ≡ false → first_token S m ≡ first_token S l
-token_passed S l m (Node n) b e is fails =
-    let s : NodeStep l m n = node_step l m (Node n) n e refl in
-    sym (ap (first_token S) s.begins ∙ ap (λ b. find (has_kind_in S) (cond b (n ∷ filter at_token m) (filter at_token m))) s.is_token)
-token_passed S l m (Token t) b e is fails =
-    let s : TokenStep l m t = token_step l m (Token t) t e refl in
-    sym (ap (first_token S) s.begins
-    ∙ ap (λ b. find (has_kind_in S) (cond b (t ∷ filter at_token m) (filter at_token m))) s.is_token
-    ∙ ap (λ b. cond b (Some t) (first_token S m)) (sym is ∙ fails))
-
 pub behind_found : (T : SyntaxKind → Bool) (l m : List Cursor) (x : NodeOrToken Cursor Cursor) (b : Bool) → map element_of l ≡ x ∷ map element_of m → b ≡ is_token_among T x → b ≡ true → m ≡ behind T l
 behind_found T l m (Node n) b e is passes = (let no : false ≡ true = sym is ∙ passes in cc)
 behind_found T l m (Token t) b e is passes =

@@ -1,11 +1,10 @@
 -- The first and the last of a list of cursors: what a filter keeps, what a search finds, and what comes last.
 use Rattle.std.proofs.Common.{◌≡◌, List, [], ◌∷◌, cond, Bool, true, false, refl, sym, ap, ◌∙◌}
-use Rattle.std.specs.Prelude.{Some, None, Option, option_map, map, MatchOption}
+use Rattle.std.specs.Prelude.{Some, None, Option, option_map, map}
 use Rattle.std.specs.Iterator.{Drains, YieldsFirstBy}
-use Rattle.std.specs.List.{filter, find, last_or}
+use Rattle.std.specs.List.{filter, last_or}
 use Rattle.std.proofs.lemmas.Iterator.{items_from_drains}
 use Rattle.std.proofs.lemmas.Iterator.Consumers.{YieldsList-from_first}
-use Rattle.lossless_tree.proofs.NodeLists.{first_kept}
 
 -- the first of the list passes the test: the filter keeps it
 pub kept : {A : Type 0} (test : A → Bool) (l m : List A) (x y : A) → l ≡ x ∷ m → y ≡ x → test x ≡ true → filter test l ≡ y ∷ filter test m
@@ -19,11 +18,6 @@ passed_over test l m x e fails = ap (filter test) e ∙ ap (λ b. cond b (x ∷ 
 -- nothing is left
 pub none_kept : {A : Type 0} (test : A → Bool) (l : List A) → l ≡ [] → filter test l ≡ []
 none_kept test l e = ap (filter test) e
-
--- the first item of what a filter keeps is what a search finds, where items are seen by `view`
-pub first_viewed : {A B : Type 0} (view : B → A) (test : A → Bool) (l s t : List A) (r : Option B) → s ≡ filter test l → MatchOption r ((s ≡ []) × (t ≡ [])) (λ x. s ≡ view x ∷ t) → option_map view r ≡ find test l
-first_viewed view test l s t None is w = first_kept test l s t None is w
-first_viewed view test l s t (Some x) is w = first_kept test l s t (Some (view x)) is w
 
 -- the last item that an iterator gives is the last of what is left, where items are seen by `view`
 pub last_viewed : {A B : Type 0} (view : B → A) (s l : List A) (r : Option B) → s ≡ l

@@ -1,8 +1,6 @@
 -- The children of a node that have a kind of a set, as cursors.
-use Rattle.std.specs.Prelude.{Bool, false, List, Option}
+use Rattle.std.specs.Prelude.{Bool, List, Option}
 use Rattle.std.specs.List.{filter, find}
-use Rattle.lossless_tree.specs.declared.cursor.element.NodeOrToken.{NodeOrToken}
-use Rattle.lossless_tree.specs.declared.cursor.element.NodeOrToken.TheVariants.{Node, Token}
 use Rattle.syntax_kind.specs.declared.syntax_kind.SyntaxKind.{SyntaxKind}
 use Rattle.syntax_kind.specs.Kinds.{is_same_kind}
 use Rattle.tree_model.specs.Tree.{kind_of}
@@ -19,11 +17,6 @@ has_kind_in kinds c = kinds (kind_at c)
 -- its kind is this one
 abbrev pub is_of_kind : SyntaxKind → Cursor → Bool
 is_of_kind kind c = is_same_kind (kind_at c) kind
-
--- it is a token, and its kind is this one
-abbrev pub is_token_of : SyntaxKind → NodeOrToken Cursor Cursor → Bool
-is_token_of kind (Node c) = false
-is_token_of kind (Token c) = is_of_kind kind c
 
 -- the child nodes whose kind is one of the set, in order
 abbrev pub typed_children : (SyntaxKind → Bool) → Cursor → List Cursor

@@ -49,13 +49,7 @@ pub fn behind<T: KindSet>(left: SyntaxElementChildren) -> SyntaxElementChildren
 pub fn first_node<S: KindSet>(left: SyntaxElementChildren) -> Option<SyntaxNode>
     ensures { result ≡ first_node S.kinds left }
 {
-    let mut left = left;
-    while let Some(child) = left.next() {
-        if is_node_among::<S>(&child) {
-            return child.into_node();
-        }
-    }
-    None
+    left.node_among::<S>()
 }
 
 /// The first node with a kind of `S` before the first token with a kind of `T`.
@@ -78,13 +72,7 @@ pub fn first_node_before<S: KindSet, T: KindSet>(left: SyntaxElementChildren) ->
 pub fn first_token<S: KindSet>(left: SyntaxElementChildren) -> Option<SyntaxToken>
     ensures { result ≡ first_token S.kinds left }
 {
-    let mut left = left;
-    while let Some(child) = left.next() {
-        if is_token_among::<S>(&child) {
-            return child.into_token();
-        }
-    }
-    None
+    left.token_among::<S>()
 }
 
 /// The first node or token whose kind is not in the set.

@@ -7,21 +7,12 @@ mod holders;
 mod parts;
 
 pub use holders::{AttrHolders, GenericParamHolders};
+pub use lossless_tree::KindSet;
 use lossless_tree::SyntaxKind;
 pub use parts::{
     Bangs, BeforeIndex, BeforeLiteral, BinaryOperators, CommaTokens, InnerDocs, PathSegments,
     Paths, RangeOperators,
 };
-
-/// A set of kinds.
-pub trait KindSet {
-    /// The membership test of the set.
-    ghost kinds: { SyntaxKind → Bool };
-
-    /// Whether a kind is in the set.
-    fn has(kind: SyntaxKind) -> bool
-        ensures { result ≡ kinds kind };
-}
 
 /// The kinds of `else` branches.
 pub enum ElseBranches {}

@@ -5,20 +5,17 @@ ghost use Rattle.syntax_kind.specs.declared.syntax_kind.SyntaxKind.{SyntaxKind};
 ghost use Rattle.ras_node.specs.Lookups.{second_typed_child, last_typed_child, view_in, grandparent_of};
 ghost use Rattle.ras_node.specs.Searches.{first_node, before};
 ghost use Rattle.tree_model.specs.Cursor.{ancestors_of, parent_of};
-ghost use Rattle.ras_node.specs.Nodes.{has_kind_in, typed_children, typed_child, token_child, is_token_of};
+ghost use Rattle.ras_node.specs.Nodes.{has_kind_in, typed_children, typed_child, token_child};
 
 use crate::{AstChildren, AstNode, KindSet, search};
-use lossless_tree::{
-    NodeOrToken, SyntaxElement, SyntaxElementChildren, SyntaxKind, SyntaxNode, SyntaxToken,
-};
+use lossless_tree::{SyntaxElementChildren, SyntaxKind, SyntaxNode, SyntaxToken};
 use std::marker::PhantomData;
 
 /// The first child that can be viewed as an `N`.
 pub fn child<N: AstNode>(parent: &SyntaxNode) -> Option<N>
     ensures { option_map N.node result ≡ typed_child N.casts parent.now }
 {
-    let mut children = children::<N>(parent);
-    children.next()
+    N::cast(parent.child_among::<KindsOf<N>>()?)
 }
 
 /// The children that can be viewed as an `N`, in order.
@@ -32,23 +29,7 @@ pub fn children<N: AstNode>(parent: &SyntaxNode) -> AstChildren<N>
 pub fn token(parent: &SyntaxNode, kind: SyntaxKind) -> Option<SyntaxToken>
     ensures { result ≡ token_child kind parent.now }
 {
-    let mut elements = parent.children_with_tokens();
-    while let Some(element) = elements.next() {
-        if is_token(&element, kind) {
-            return element.into_token();
-        }
-    }
-    None
-}
-
-// Whether an element is a token of a kind.
-fn is_token(element: &SyntaxElement, kind: SyntaxKind) -> bool
-    ensures { result ≡ is_token_of kind element.now }
-{
-    match element {
-        NodeOrToken::Node(_) => false,
-        NodeOrToken::Token(token) => token.kind().to_raw() == kind.to_raw(),
-    }
+    parent.token_of_kind(kind)
 }
 
 /// Another cursor at the same node. It takes no memory.

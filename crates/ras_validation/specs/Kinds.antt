@@ -32,3 +32,28 @@ delimits_type (Token token.L_PAREN) = true
 delimits_type (Token token.L_ANGLE) = true
 delimits_type (Token token.EQ) = true
 delimits_type _ = false
+
+-- the nodes that have rules
+abbrev pub has_rules : SyntaxKind → Bool
+has_rules (Node node.LITERAL) = true
+has_rules (Node node.CONST) = true
+has_rules (Node node.BLOCK_EXPR) = true
+has_rules (Node node.FIELD_EXPR) = true
+has_rules (Node node.RECORD_EXPR_FIELD) = true
+has_rules (Node node.VISIBILITY) = true
+has_rules (Node node.RANGE_EXPR) = true
+has_rules (Node node.PATH_SEGMENT) = true
+has_rules (Node node.REF_TYPE) = true
+has_rules (Node node.PTR_TYPE) = true
+has_rules (Node node.FN_PTR_TYPE) = true
+has_rules (Node node.DYN_TRAIT_TYPE) = true
+has_rules (Node node.IMPL_TRAIT_TYPE) = true
+has_rules (Node node.MACRO_RULES) = true
+has_rules (Node node.LET_EXPR) = true
+has_rules _ = false
+
+-- the keywords that the rules on paths look for
+abbrev pub is_path_keyword : SyntaxKind → Bool
+is_path_keyword (Token token.SELF_KW) = true
+is_path_keyword (Token token.CRATE_KW) = true
+is_path_keyword _ = false

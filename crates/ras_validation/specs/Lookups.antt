@@ -14,6 +14,7 @@ use Rattle.ras_node.specs.Searches.{first_node, first_token, behind, has_other_k
 use Rattle.ras_node.specs.Sets.{is_expr, is_ty}
 use Rattle.tree_model.specs.NearestToken.{tokens_beyond}
 use Rattle.ras_algo.specs.Algo.{has_no_trivia_kind}
+use Rattle.ras_validation.specs.Kinds.{is_path_keyword}
 use Rattle.ras_node.specs.PartSets.{is_range_operator, is_binary_operator, is_before_literal}
 
 -- the first child node of a kind
@@ -59,6 +60,10 @@ single_name path =
 -- the keyword of a segment's name
 abbrev pub segment_keyword : SyntaxKind → Cursor → Option Cursor
 segment_keyword kind segment = option_and_then (token_child kind) (node_child (Node node.NAME_REF) segment)
+
+-- the name of a segment is a keyword that the rules on paths look for
+abbrev pub has_path_keyword : Cursor → Bool
+has_path_keyword segment = is_some (option_and_then (λ name. first_token is_path_keyword (children_of name)) (node_child (Node node.NAME_REF) segment))
 
 -- the path that a segment or a path is in
 abbrev pub path_around : Cursor → Option Cursor

@@ -1,5 +1,5 @@
 -- The violations of a tree: those of each node by its kind, in preorder of the nodes.
-use Rattle.std.specs.Prelude.{ℕ, ◌+◌, codes, List, [], ◌∷◌, ◌++◌, flat_map, Option, Some, None, option_map, Result, Ok, Err, if◌then◌else◌}
+use Rattle.std.specs.Prelude.{◌≡◌, ℕ, ◌+◌, ◌-◌, false, codes, List, [], ◌∷◌, ◌++◌, flat_map, Option, Some, None, option_map, Result, Ok, Err, if◌then◌else◌}
 use Rattle.std.specs.List.{filter}
 use Rattle.std.specs.Option.{option_and_then, option_map_or}
 use Rattle.std.specs.Str.{chars}
@@ -16,14 +16,17 @@ use Rattle.literal_escape.specs.declared.mode.Mode.{Mode}
 use Rattle.literal_escape.specs.declared.mode.Mode.TheVariants as modes
 use Rattle.literal_escape.specs.declared.mode.MixedUnit.{MixedUnit}
 use Rattle.literal_escape.specs.declared.reader.Report.{Report}
-use Rattle.tree_model.specs.Tree.{text}
-use Rattle.tree_model.specs.Cursor.{Cursor, focus, children_of, range_of, range_start, at_node, descendants_of}
+use Rattle.tree_model.specs.Tree.{Tree, text, size}
+use Rattle.tree_model.specs.Rows.{IsRow}
+use Rattle.tree_model.specs.Neighbours.{behind_at}
+use Rattle.tree_model.specs.Cursor.{Cursor, focus, children_of, range_of, range_start, at_node, descendants_of, cursor_at, cursors_from}
 use Rattle.ras_node.specs.Nodes.{kind_at}
 use Rattle.ras_token_ext.specs.Texts.{part, last_place, is_raw}
 use Rattle.ras_validation.specs.declared.violation.Violation.{Violation}
 use Rattle.ras_validation.specs.declared.violation.ViolationMessage.{ViolationMessage}
 use Rattle.ras_validation.specs.declared.violation.ViolationMessage.TheVariants as messages
 use Rattle.ras_validation.specs.declared.literals.LiteralForm.{LiteralForm}
+use Rattle.ras_validation.specs.Kinds.{has_rules}
 use Rattle.ras_validation.specs.Lookups.{literal_token}
 use Rattle.ras_validation.specs.Rules.{mutable_const, bare_statements, inner_attribute, numeric_name, visibility_path, visibility_in_trait, range_without_end, self_in_path, crate_in_path, ambiguous_target, ambiguous_return, without_trait, macro_rules_visibility, misplaced_let}
 
@@ -121,3 +124,20 @@ violations_at c = violations_by (kind_at c) c
 -- the violations of a tree
 abbrev pub violations_of : Cursor → List Violation
 violations_of c = flat_map violations_at (filter at_node (descendants_of c))
+
+-- the violations at the nodes among some cursors
+abbrev pub violations_among : List Cursor → List Violation
+violations_among l = flat_map violations_at (filter at_node l)
+
+-- the violations of a tree are those of the nodes before a place in preorder, those of the place, and those of the nodes
+-- after its subtree
+abbrev pub ViolationsStandTogether : Type 0
+ViolationsStandTogether =
+    (tree : Tree) (n : ℕ) → IsRow tree n
+    → violations_of (cursor_at tree 0)
+    ≡ violations_among (cursors_from tree 0 n)
+    ++ (violations_of (cursor_at tree n) ++ violations_among (cursors_from tree (behind_at tree n) (size tree - behind_at tree n)))
+
+-- a node of another kind has none
+abbrev pub OnlyKindsWithRules : Type 0
+OnlyKindsWithRules = (c : Cursor) → has_rules (kind_at c) ≡ false → violations_at c ≡ []

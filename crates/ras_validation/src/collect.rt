@@ -6,9 +6,9 @@ ghost use Rattle.tree_model.specs.Cursor.{range_of};
 
 use crate::exprs::{misplaced_let, numeric_name, range_without_end};
 use crate::items::{macro_rules_visibility, mutable_const, visibility_in_trait, visibility_path};
-use crate::kinds::TakesInnerAttributes;
+use crate::kinds::{TakesInnerAttributes, WithRules};
 use crate::literals::add_literal_faults;
-use crate::lookups::{is_inner_attribute, node_child};
+use crate::lookups::{has_path_keyword, is_inner_attribute, node_child};
 use crate::paths::{crate_in_path, self_in_path};
 use crate::types::{ambiguous_return, ambiguous_target, without_trait};
 use crate::violation::{Violation, ViolationMessage};
@@ -97,6 +97,10 @@ fn add_at_visibility(found: &mut Vec<Violation>, node: &SyntaxNode) -> Result<()
 fn add_at_segment(found: &mut Vec<Violation>, node: &SyntaxNode) -> Result<(), AllocError>
     ensures { OnOk result (found.new.items ≡ found.old.items ++ at_segment node.now) }
 {
+    // Most segments are names, and break no rule.
+    if !has_path_keyword(node) {
+        return Ok(());
+    }
     add(found, ViolationMessage::SelfInPath, self_in_path(node))?;
     add(found, ViolationMessage::CrateInPath, crate_in_path(node))
 }
@@ -140,14 +144,26 @@ fn add_violations_at(found: &mut Vec<Violation>, node: &SyntaxNode) -> Result<()
 /// order of the text.
 ///
 /// Takes memory for the list only, and time linear in the tree and its literals, plus the nodes around that are looked at
-/// for each segment of a path, each `let`, and each visibility in an implementation.
+/// for each segment of a path that is `self` or `crate`, each `let`, and each visibility in an implementation.
 pub fn violations(alloc: Global, root: &SyntaxNode) -> Result<Vec<Violation>, AllocError>
     ensures { IfOk result (λ found. found.items ≡ violations_of root.now) }
 {
+    violations_in(alloc, root)
+}
+
+/// The violations at the nodes of one subtree, in the order of [`violations`].
+///
+/// The rules look at the nodes around, too, so they are those that the whole tree has there: the violations of a tree are
+/// those at the nodes before a subtree in preorder, those in it, and those at the nodes after it
+/// ([`violations_stand_together`](crate::laws::violations_stand_together)). Takes time linear in the subtree and its literals,
+/// plus what [`violations`] says of the nodes around.
+pub fn violations_in(alloc: Global, node: &SyntaxNode) -> Result<Vec<Violation>, AllocError>
+    ensures { IfOk result (λ found. found.items ≡ violations_of node.now) }
+{
     let mut found = Vec::new(alloc);
-    let mut nodes = root.descendants();
-    while let Some(node) = nodes.next() {
-        add_violations_at(&mut found, &node)?;
+    let mut left = node.descendants();
+    while let Some(next) = left.next_of::<WithRules>() {
+        add_violations_at(&mut found, &next)?;
     }
     Ok(found)
 }

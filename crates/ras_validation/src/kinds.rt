@@ -1,6 +1,6 @@
 //! Sets of kinds that the rules use.
 ghost use Rattle.std.specs.Prelude.{◌≡◌};
-ghost use Rattle.ras_validation.specs.Kinds.{takes_inner_attributes, is_member, delimits_type};
+ghost use Rattle.ras_validation.specs.Kinds.{takes_inner_attributes, is_member, delimits_type, has_rules, is_path_keyword};
 
 use lossless_tree::SyntaxKind;
 use ras_node::KindSet;
@@ -53,5 +53,44 @@ impl KindSet for DelimitsType {
             kind,
             SyntaxKind::L_PAREN | SyntaxKind::L_ANGLE | SyntaxKind::EQ
         )
+    }
+}
+
+/// The nodes that have rules.
+pub enum WithRules {}
+
+impl KindSet for WithRules {
+    ghost kinds = { has_rules };
+
+    fn has(kind: SyntaxKind) -> bool {
+        matches!(
+            kind,
+            SyntaxKind::LITERAL
+                | SyntaxKind::CONST
+                | SyntaxKind::BLOCK_EXPR
+                | SyntaxKind::FIELD_EXPR
+                | SyntaxKind::RECORD_EXPR_FIELD
+                | SyntaxKind::VISIBILITY
+                | SyntaxKind::RANGE_EXPR
+                | SyntaxKind::PATH_SEGMENT
+                | SyntaxKind::REF_TYPE
+                | SyntaxKind::PTR_TYPE
+                | SyntaxKind::FN_PTR_TYPE
+                | SyntaxKind::DYN_TRAIT_TYPE
+                | SyntaxKind::IMPL_TRAIT_TYPE
+                | SyntaxKind::MACRO_RULES
+                | SyntaxKind::LET_EXPR
+        )
+    }
+}
+
+/// `self` and `crate`, the keywords that the rules on paths look for.
+pub enum PathKeywords {}
+
+impl KindSet for PathKeywords {
+    ghost kinds = { is_path_keyword };
+
+    fn has(kind: SyntaxKind) -> bool {
+        matches!(kind, SyntaxKind::SELF_KW | SyntaxKind::CRATE_KW)
     }
 }

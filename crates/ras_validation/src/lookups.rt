@@ -2,39 +2,26 @@
 ghost use Rattle.std.specs.Prelude.{◌≡◌, false};
 ghost use Rattle.std.specs.List.{filter, list_any};
 ghost use Rattle.tree_model.specs.Cursor.{children_of, at_node};
-ghost use Rattle.ras_node.specs.Nodes.{is_of_kind};
-ghost use Rattle.ras_validation.specs.Lookups.{node_child, if_kind, type_child, token_before, token_behind, literal_token, range_operator, range_end_expr, binary_operator, single_name, segment_keyword, path_around, starts_path, has_trait, is_inner_attribute, has_two_bounds, is_typed_bound};
+ghost use Rattle.ras_validation.specs.Lookups.{node_child, if_kind, type_child, token_before, token_behind, literal_token, range_operator, range_end_expr, binary_operator, single_name, segment_keyword, has_path_keyword, path_around, starts_path, has_trait, is_inner_attribute, has_two_bounds, is_typed_bound};
 
+use crate::kinds::PathKeywords;
 use lossless_tree::{NodeOrToken, SyntaxKind, SyntaxNode, SyntaxToken};
 use ras_algo::algo;
 use ras_node::sets::{BeforeLiteral, BinaryOperators, Exprs, RangeOperators, Types};
-use ras_node::{behind, first_node, first_other, first_token, support};
-
-// Whether a node is of a kind.
-fn is_of_kind(node: &SyntaxNode, kind: SyntaxKind) -> bool
-    ensures { result ≡ is_of_kind kind node.now }
-{
-    node.kind().to_raw() == kind.to_raw()
-}
+use ras_node::{behind, first_node, first_other, support};
 
 /// The first child node of a kind.
 pub fn node_child(parent: &SyntaxNode, kind: SyntaxKind) -> Option<SyntaxNode>
     ensures { result ≡ node_child kind parent.now }
 {
-    let mut left = parent.children();
-    while let Some(child) = left.next() {
-        if is_of_kind(&child, kind) {
-            return Some(child);
-        }
-    }
-    None
+    parent.child_of_kind(kind)
 }
 
 /// The first child that is a type.
 pub fn type_child(parent: &SyntaxNode) -> Option<SyntaxNode>
     ensures { result ≡ type_child parent.now }
 {
-    first_node::<Types>(parent.children_with_tokens())
+    parent.child_among::<Types>()
 }
 
 /// The token before a token, white space and comments left out.
@@ -62,7 +49,7 @@ pub fn literal_token(literal: &SyntaxNode) -> Option<SyntaxToken>
 pub fn range_operator(range: &SyntaxNode) -> Option<SyntaxToken>
     ensures { result ≡ range_operator range.now }
 {
-    first_token::<RangeOperators>(range.children_with_tokens())
+    range.token_among::<RangeOperators>()
 }
 
 /// The end of a range.
@@ -76,7 +63,7 @@ pub fn range_end(range: &SyntaxNode) -> Option<SyntaxNode>
 pub fn binary_operator(expr: &SyntaxNode) -> Option<SyntaxToken>
     ensures { result ≡ binary_operator expr.now }
 {
-    first_token::<BinaryOperators>(expr.children_with_tokens())
+    expr.token_among::<BinaryOperators>()
 }
 
 /// The name of a path that is one segment.
@@ -96,6 +83,16 @@ pub fn segment_keyword(segment: &SyntaxNode, kind: SyntaxKind) -> Option<SyntaxT
 {
     let name = node_child(segment, SyntaxKind::NAME_REF)?;
     support::token(&name, kind)
+}
+
+/// Whether the name of a segment is `self` or `crate`.
+pub fn has_path_keyword(segment: &SyntaxNode) -> bool
+    ensures { result ≡ has_path_keyword segment.now }
+{
+    let Some(name) = node_child(segment, SyntaxKind::NAME_REF) else {
+        return false;
+    };
+    name.token_among::<PathKeywords>().is_some()
 }
 
 /// The path that a segment or a path is in.

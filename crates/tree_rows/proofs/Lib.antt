@@ -27,6 +27,7 @@ pub mod WalkLemmas
 pub mod WalkSteps
 pub mod Neighbours
 pub mod KeptLemmas
+pub mod KindLemmas
 pub mod Restarted
 mod InPlace
 pub mod FlatLemmas

@@ -10,3 +10,5 @@ pub mod RowEqualityLaws
 pub mod PackedRow
 pub mod StartsMoved
 pub mod Flat
+pub mod KindSearch
+pub mod RowKinds

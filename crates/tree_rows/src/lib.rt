@@ -6,6 +6,7 @@
 mod builder_event;
 mod finish;
 mod kept;
+mod kind_set;
 pub mod laws;
 mod rows;
 mod shift;
@@ -14,4 +15,5 @@ mod table;
 pub use builder_event::{BuilderEvent, TreeStep};
 pub use finish::{build_rows, first_refusal};
 pub use kept::Kept;
+pub use kind_set::KindSet;
 pub use table::{FlatRow, Table, WalkStep};

@@ -6,6 +6,7 @@ ghost use Rattle.tree_rows.specs.Rows.{row_at, parent_at, tree_of_rows, Represen
 
 mod edit;
 mod flat;
+mod kinds;
 mod narrow;
 mod over;
 mod search;

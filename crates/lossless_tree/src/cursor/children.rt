@@ -3,13 +3,15 @@ ghost use Rattle.std.specs.Prelude.{◌≡◌, map};
 ghost use Rattle.std.specs.Iterator.{YieldsFirst, item_count};
 ghost use Rattle.tree_model.specs.Rows.{IsRow};
 ghost use Rattle.tree_model.specs.Cursor.{children_of, at_node, cursor_at};
+ghost use Rattle.tree_rows.specs.KindSearch.{first_node_among, first_token_among};
 ghost use Rattle.lossless_tree.specs.Element.{element_of};
 
 use super::element::{NodeOrToken, SyntaxElement, element};
 use super::node::SyntaxNode;
+use super::token::SyntaxToken;
 use shared_pointer::Shared;
 use std::marker::Model;
-use tree_rows::Table;
+use tree_rows::{KindSet, Table};
 
 /// The children of a node, nodes and tokens, in order. A clause sees the cursors that are left.
 #[derive(Clone, Drop)]
@@ -41,6 +43,26 @@ impl SyntaxElementChildren {
     {
         let (next, end) = table.rows_below(row);
         SyntaxElementChildren { table, next, end }
+    }
+
+    /// The first of the children left that is a node with a kind of the set, or `None` if there is none. All stay left.
+    ///
+    /// It makes no cursor for those before it, and takes time linear in their number.
+    pub fn node_among<K: KindSet>(&self) -> Option<SyntaxNode>
+        ensures { result ≡ first_node_among K.kinds self.now }
+    {
+        let row = self.table.child_node_among::<K>(self.next, self.end)?;
+        Some(SyntaxNode::at(self.table.share(), row))
+    }
+
+    /// The first of the children left that is a token with a kind of the set, or `None` if there is none. All stay left.
+    ///
+    /// It makes no cursor for those before it, and takes time linear in their number.
+    pub fn token_among<K: KindSet>(&self) -> Option<SyntaxToken>
+        ensures { result ≡ first_token_among K.kinds self.now }
+    {
+        let row = self.table.child_token_among::<K>(self.next, self.end)?;
+        Some(SyntaxToken::at(self.table.share(), row))
     }
 }
 

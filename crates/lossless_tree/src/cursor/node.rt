@@ -14,6 +14,7 @@ ghost use Rattle.lossless_tree.specs.Element.{element_of};
 ghost use Rattle.lossless_tree.specs.Dump.{dump_of};
 
 mod flat;
+mod kinds;
 
 use super::ancestors::Ancestors;
 use super::children::{SyntaxElementChildren, SyntaxNodeChildren};

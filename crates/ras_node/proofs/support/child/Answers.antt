@@ -1,9 +1,10 @@
-use Rattle.tree_model.specs.Cursor.{children_of, at_node}
+use Rattle.std.proofs.Common.{◌∙◌, sym}
 use Rattle.std.specs.List.{filter}
-use Rattle.ras_node.specs.Nodes.{has_kind_in}
-use Rattle.ras_node.proofs.ViewLists.{first_viewed}
+use Rattle.tree_model.specs.Cursor.{children_of, at_node}
+use Rattle.ras_node.proofs.FirstCast.{cast_of_first}
 use Rattle.ras_node.proofs.support.child.Goals as goal
 
 pub returns : goal.returns
 returns g c =
-    first_viewed g.N.AstNode.node (has_kind_in g.N.AstNode.casts) (filter at_node (children_of c.args.parent.now)) _ _ c.next.result c.children-children.ensures c.next.ensures.steps
+    cast_of_first g.N.AstNode.casts g.N.AstNode.node (filter at_node (children_of c.args.parent.now)) c.in_ok-child_among.field-0 c.cast.result
+    (sym c.child_among.ensures ∙ c.in_ok-child_among.was) c.cast.ensures.exact c.cast.ensures.same

@@ -1,9 +1,0 @@
-use Rattle.std.proofs.Common.{◌≡◌, length}
-use Rattle.ras_node.specs.Searches.{first_token}
-use Rattle.ras_node.proofs.search.first_token.Given as goal
-
-abbrev pub invariant-loop-child : goal.invariant-loop-child
-invariant-loop-child g l = record { same : first_token g.S.KindSet.kinds l.left ≡ first_token g.S.KindSet.kinds l.fn.left }
-
-abbrev pub decreases-loop-child : goal.decreases-loop-child
-decreases-loop-child g l = length l.left
