@@ -665,7 +665,8 @@ uint32_t ras_c_rows_as(
  * tree of its own: positions count from the node's start, and rows from its row, which is row 0
  * here. The errors are those of the whole parse, by a choice, such as RAS_PARSE_ERRORS, with
  * positions in the whole text. The handle keeps its parse. Of a range that ras_c_edit_told
- * wrote, if it is not the whole text, the node is the block that was parsed again.
+ * wrote, if it is not the whole text, the node is the block that was parsed again, or has the
+ * token as a child that got another text.
  *
  * Returns RAS_OK, RAS_TOO_LONG, RAS_NO_MEMORY, RAS_NO_ROOM, RAS_NO_CHOICE, RAS_NO_PARSE if the
  * handle holds no parse, or RAS_NO_PLACE if the text has no such range.
@@ -686,8 +687,8 @@ uint32_t ras_c_rows_at(
 /*
  * Edits the text of a handle's parse: insert replaces the bytes from start to end, and the
  * handle then holds the parse of the new text: the same tree and errors that ras_c_parse would
- * make. In the edition that the parse is of, only one block is parsed again if that is enough; in
- * another edition the whole text is parsed.
+ * make. In the edition that the parse is of, one token gets another text or one block is parsed
+ * again, if that is enough; in another edition the whole text is parsed.
  *
  * Returns RAS_OK, RAS_NOT_UTF8, RAS_TOO_LONG, RAS_NO_MEMORY, RAS_NO_EDITION, RAS_NO_PARSE if the
  * handle holds no parse, or RAS_NO_PLACE if the range is not in the text or not on character
@@ -703,8 +704,8 @@ uint32_t ras_c_edit(
 
 /*
  * Edits the text of a handle's parse as ras_c_edit does, and writes the range of the new text
- * that was parsed again to again: that of one block, or the whole text. The rest of the tree is
- * as it was; what is behind the block has moved with the text.
+ * that was read again to again: that of one token or block, or the whole text. The rest of the
+ * tree is as it was; what is behind the token or block has moved with the text.
  *
  * Returns what ras_c_edit returns. Unless it is RAS_OK, nothing was changed.
  */

@@ -365,7 +365,9 @@ static void tells_what_is_new(void) {
         && rows_at(&live, 0, 0, strlen(new) + 1, ROWS, &all) == RAS_NO_PLACE && all.rows == counts.rows, "there is no such choice, and no such range");
     owes(rows_at(&live, RAS_NO_ERRORS, 0, strlen(new), ROWS, &all) == RAS_OK && rows[0].kind == RAS_KIND_SOURCE_FILE, "all is covered by the root");
     owes(rows_at(&live, RAS_NO_ERRORS, 8, 9, ROWS, &all) == RAS_OK && rows[0].kind == RAS_KIND_STMT_LIST, "a token is in a node");
-    owes(ras_c_edit_told(&live, 2024, 3, 4, BYTES("g"), &again) == RAS_OK && again.start == 0 && again.end == strlen(new), "all is parsed again");
+    owes(ras_c_edit_told(&live, 2024, 3, 4, BYTES("g"), &again) == RAS_OK && again.start == 3 && again.end == 4, "a name gets another text");
+    owes(ras_c_edit_told(&live, 2024, 0, 2, BYTES("enum"), &again) == RAS_OK && again.start == 0 && again.end == strlen(new) + 2, "all is parsed again");
+    owes(ras_c_edit_told(&live, 2024, 0, 4, BYTES("fn"), &again) == RAS_OK && again.start == 0 && again.end == strlen(new), "and once more");
     owes(ras_c_edit_told(&live, 2015, 9, 10, BYTES("a"), &again) == RAS_OK && again.start == 0 && again.end == strlen(new), "another edition reads all anew");
     owes(ras_c_edit_told(&live, 2015, 9, 10, BYTES("async"), &again) == RAS_OK && again.start == 7 && again.end == 19, "and then stays");
     ras_c_free(&live);

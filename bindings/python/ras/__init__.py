@@ -397,8 +397,8 @@ class Tree:
 
 
 class Live:
-    """A text that is edited, and its parse, which stays with the library: one block is parsed again if that is enough. Tree and errors
-    are always those of a new parse of the text.
+    """A text that is edited, and its parse, which stays with the library: one token gets another text or one block is
+    parsed again if that is enough. Tree and errors are always those of a new parse of the text.
 
     >>> live = Live("fn f() { a + b }")
     >>> live.edit(9, 10, "(c * d)")

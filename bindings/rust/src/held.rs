@@ -25,7 +25,7 @@ impl Held {
         Ok(held)
     }
 
-    /// Replaces the bytes of a range. Returns the status, and the range of the new text that was parsed again if it is `OK`.
+    /// Replaces the bytes of a range. Returns the status, and the range of the new text that was read again if it is `OK`.
     pub(crate) fn edit(&mut self, edition: Edition, delete: TextRange, insert: &str) -> (u32, TextRange) {
         let (start, end) = (delete.start().into(), delete.end().into());
         let mut again = Range { start: 0, end: 0 };
@@ -83,10 +83,10 @@ impl Held {
         }
     }
 
-    /// The tree of the parse, which is one of this text, from an older one, where at most one node was parsed again since, that was at a
-    /// range of the older text and now is at another. `None` if the older tree has no node there.
+    /// The tree of the parse, which is one of this text, from an older one, where at most one node or token was read again since, that was
+    /// at a range of the older text and now is at another. `None` if the older tree has none there.
     pub(crate) fn tree_after(&mut self, old: Tree, was: TextRange, is: TextRange, text: &str, errors: Errors) -> Result<Option<Tree>, ParseError> {
-        let Some(row) = old.node_with(was) else {
+        let Some(row) = old.read_again(was) else {
             return Ok(None);
         };
         let mut counts = Counts { rows: 0, errors: 0, violations: 0, messages: 0 };

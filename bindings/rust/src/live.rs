@@ -9,8 +9,8 @@ use std::fmt;
 
 /// A text that is edited, whose parse stays with the library.
 ///
-/// After an edit one block is parsed again if that is enough; else all of the text is. The tree and the errors are always those of a new
-/// parse of the text. It keeps a share of the tree that it gave last, for what has stayed of it.
+/// After an edit one token gets another text, or one block is parsed again, if that is enough; else all of the text is parsed. The tree and
+/// the errors are always those of a new parse of the text. It keeps a share of the tree that it gave last, for what has stayed of it.
 /// It may be sent to another thread, but not be shared: it is `Send` and not `Sync`. The trees that it gives are both.
 ///
 /// ```
@@ -98,7 +98,7 @@ impl Live {
     /// # Ok::<(), Box<dyn std::error::Error>>(())
     /// ```
     ///
-    /// It copies the text, even if only one token is parsed again, and so takes time linear in it.
+    /// It copies the text, even if only one token gets another text, and so takes time linear in it.
     pub fn edit(&mut self, delete: TextRange, insert: &str) -> Result<(), EditError> {
         let (status, again) = self.held.get_mut().edit(self.edition, delete, insert);
         match status {
@@ -118,8 +118,8 @@ impl Live {
     /// The tree of the text as it is now, which later edits leave as it is.
     ///
     /// If there was no edit since the last call, it is the tree that this gave. If one block was parsed again, the library hands over the
-    /// rows of this block alone, and the rest comes from that tree: it is copied, if that tree is still in use, and moved otherwise. Else the
-    /// library hands over all rows. Each way takes time linear in the text, and so does the search for what breaks rules beyond the grammar,
+    /// rows of this block alone, and if one token got another text those of the node that has it as a child; the rest comes from that tree: it
+    /// is copied, if that tree is still in use, and moved otherwise. Else the library hands over all rows. Each way takes time linear in the text, and so does the search for what breaks rules beyond the grammar,
     /// unless [`Live::tree_with`] leaves it out.
     pub fn tree(&self) -> Result<Tree, ParseError> {
         self.tree_with(Errors::All)

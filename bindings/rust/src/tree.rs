@@ -669,6 +669,14 @@ impl Tree {
         nodes.find(|it| self.range_of(*it) == range)
     }
 
+    // The row of the innermost node that covers a range which an edit read again: a node's, or a token's, which that node has as a child.
+    pub(crate) fn read_again(&self, range: TextRange) -> Option<u32> {
+        self.node_with(range).or_else(|| {
+            let row = self.covering(0, range);
+            (self.is_token(row) && self.range_of(row) == range).then(|| self.parent_of(row)).flatten()
+        })
+    }
+
     // The row of the smallest node or token below a row, or the row itself, whose range contains the whole of a range.
     pub(crate) fn covering(&self, row: u32, range: TextRange) -> u32 {
         let mut row = row;
