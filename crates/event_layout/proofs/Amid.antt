@@ -63,11 +63,11 @@ lead_past (t ∷ ts) = lead_past_on t ts (is_trivia t.kind) refl (lead_past ts)
 
 -- ---- lengths
 
-first_le : (ts : List RawToken) → first_len ts ≤ sum_len ts
+pub first_le : (ts : List RawToken) → first_len ts ≤ sum_len ts
 first_le [] = omega arith
 first_le (t ∷ ts) = omega arith
 
-sum_split : (n : ℕ) (ts : List RawToken) → sum_len (take n ts) + sum_len (drop n ts) ≡ sum_len ts
+pub sum_split : (n : ℕ) (ts : List RawToken) → sum_len (take n ts) + sum_len (drop n ts) ≡ sum_len ts
 sum_split zero ts = omega arith
 sum_split (suc n) [] = omega arith
 sum_split (suc n) (t ∷ ts) = omega (arith, sum_split n ts)
@@ -78,7 +78,7 @@ fold_len a (t ∷ ts) h =
     let e : later_of a t.len ≡ a + t.len = omega (arith, h) in
     ap (λ n. fold (λ n t. later_of n t.len) n ts) e ∙ fold_len (a + t.len) ts (omega (arith, h)) ∙ omega arith
 
-joined_is : (a : ℕ) (ts : List RawToken) → a + sum_len ts < 2 ^ 32 → joined_len a ts ≡ a + sum_len ts
+pub joined_is : (a : ℕ) (ts : List RawToken) → a + sum_len ts < 2 ^ 32 → joined_len a ts ≡ a + sum_len ts
 unfolding joined_len
 joined_is a ts h = fold_len a ts h
 
@@ -102,7 +102,7 @@ take_short (suc n) (suc m) (x ∷ s) h = ap (λ l. x ∷ l) (take_short n m s (o
 
 -- ---- what an order leaves
 
-pass_on_rest : (ts : List RawToken) (s : Laying) → s.rest ≡ ts → (pass_on ts s).rest ≡ drop 1 ts
+pub pass_on_rest : (ts : List RawToken) (s : Laying) → s.rest ≡ ts → (pass_on ts s).rest ≡ drop 1 ts
 pass_on_rest [] s e = e
 pass_on_rest (t ∷ ts) s e = refl
 
@@ -121,16 +121,16 @@ unfolding pass_all_of
 passed_depth zero s = refl
 passed_depth (suc n) s = pass_on_depth (pass_all_of n s).rest (pass_all_of n s) ∙ passed_depth n s
 
-abbrev enter_on : SyntaxKind → Bool → Laying → Laying
+abbrev pub enter_on : SyntaxKind → Bool → Laying → Laying
 enter_on k b s = if b then record s { depth = s.depth + 1; steps = s.steps ++ begins k ∷ [] } else s
 
-abbrev exit_on : Bool → Laying → Laying
+abbrev pub exit_on : Bool → Laying → Laying
 exit_on b s = if b then record s { depth = s.depth - 1; steps = s.steps ++ ends ∷ [] } else s
 
-enter_is : (k : SyntaxKind) (s : Laying) → enter_of k s ≡ enter_on k (nat_lt s.depth (2 ^ 64 - 1)) s
+pub enter_is : (k : SyntaxKind) (s : Laying) → enter_of k s ≡ enter_on k (nat_lt s.depth (2 ^ 64 - 1)) s
 enter_is k s = refl
 
-exit_is : (s : Laying) → exit_of s ≡ exit_on (nat_lt 0 s.depth) s
+pub exit_is : (s : Laying) → exit_of s ≡ exit_on (nat_lt 0 s.depth) s
 exit_is s = refl
 
 enter_on_rest : (k : SyntaxKind) (b : Bool) (s : Laying) → (enter_on k b s).rest ≡ s.rest
@@ -140,7 +140,7 @@ enter_on_rest k false s = refl
 pub entered_rest : (k : SyntaxKind) (s : Laying) → (enter_of k s).rest ≡ s.rest
 entered_rest k s = ap (λ (t : Laying). t.rest) (enter_is k s) ∙ enter_on_rest k (nat_lt s.depth (2 ^ 64 - 1)) s
 
-later_sum : (c n : ℕ) → c + n < 2 ^ 32 → later_of c n ≡ c + n
+pub later_sum : (c n : ℕ) → c + n < 2 ^ 32 → later_of c n ≡ c + n
 later_sum c n h = omega (arith, h)
 
 on_le : (b : Bool) (m n : ℕ) → (if b then m - n else m) ≤ m
@@ -150,18 +150,18 @@ on_le false m n = omega arith
 pub outside_le : (text : List ℕ) (attaching : List SyntaxKind) (k : SyntaxKind) (start : ℕ) (ts : List RawToken) (count : ℕ) → outside_of text attaching k start ts count ≤ count
 outside_le text attaching k start ts count = on_le (nat_lt 0 count && attaches_of attaching k) count (attached text start (take count ts))
 
-len_part_le : (p : Part) (dot : ℕ) → len_of_part p dot ≤ dot + 1
+pub len_part_le : (p : Part) (dot : ℕ) → len_of_part p dot ≤ dot + 1
 len_part_le Whole dot = omega arith
 len_part_le Dot dot = omega arith
 len_part_le Fraction dot = omega arith
 
-abbrev keep_amid : ℕ → Keep → Keep
+abbrev pub keep_amid : ℕ → Keep → Keep
 keep_amid bytes k = record k { start = k.start + bytes }
 
 module _ (text : List ℕ) (small : length text < 2 ^ 32) where
   -- ---- what stays true of the part by itself
 
-  pass_on_fits : (ts : List RawToken) (s : Laying) → s.rest ≡ ts → Fits text s → Fits text (pass_on ts s)
+  pub pass_on_fits : (ts : List RawToken) (s : Laying) → s.rest ≡ ts → Fits text s → Fits text (pass_on ts s)
   pass_on_fits [] s e h = h
   pass_on_fits (t ∷ ts) s e h =
       let all : sum_len s.rest ≡ t.len + sum_len ts = ap sum_len e in
@@ -178,7 +178,7 @@ module _ (text : List ℕ) (small : length text < 2 ^ 32) where
   pass_all_fits zero s h = h
   pass_all_fits (suc n) s h = pass_on_fits (pass_all_of n s).rest (pass_all_of n s) refl (pass_all_fits n s h)
 
-  join_on_fits : (k : SyntaxKind) (more : ℕ) (ts : List RawToken) (s : Laying) → s.rest ≡ ts → Fits text s → Fits text (join_on k more ts s)
+  pub join_on_fits : (k : SyntaxKind) (more : ℕ) (ts : List RawToken) (s : Laying) → s.rest ≡ ts → Fits text s → Fits text (join_on k more ts s)
   join_on_fits k more [] s e h = h
   join_on_fits k more (t ∷ ts) s e h =
       let all : sum_len s.rest ≡ t.len + sum_len ts = ap sum_len e in
@@ -192,7 +192,7 @@ module _ (text : List ℕ) (small : length text < 2 ^ 32) where
         short = omega (arith, h.short, all, both);
       }
 
-  cut_at_fits : (p : Part) (o : Option ℕ) (t : RawToken) (ts : List RawToken) (s : Laying) → s.rest ≡ t ∷ ts → lead s.rest ≡ 0
+  pub cut_at_fits : (p : Part) (o : Option ℕ) (t : RawToken) (ts : List RawToken) (s : Laying) → s.rest ≡ t ∷ ts → lead s.rest ≡ 0
       → position (λ b. nat_eq b 46) (part_of text s.position (t.len - s.cut)) ≡ o → Fits text s → Fits text (cut_at p o s)
   cut_at_fits p None t ts s e none f h = h
   cut_at_fits p (Some dot) t ts s e none f h =
@@ -210,22 +210,22 @@ module _ (text : List ℕ) (small : length text < 2 ^ 32) where
         short = h.short;
       }
 
-  piece_on_fits : (p : Part) (ts : List RawToken) (s : Laying) → s.rest ≡ ts → lead s.rest ≡ 0 → Fits text s → Fits text (piece_on text p ts s)
+  pub piece_on_fits : (p : Part) (ts : List RawToken) (s : Laying) → s.rest ≡ ts → lead s.rest ≡ 0 → Fits text s → Fits text (piece_on text p ts s)
   piece_on_fits p [] s e none h = h
   piece_on_fits p (t ∷ ts) s e none h = cut_at_fits p (position (λ b. nat_eq b 46) (part_of text s.position (t.len - s.cut))) t ts s e none refl h
 
-  enter_on_fits : (k : SyntaxKind) (b : Bool) (s : Laying) → Fits text s → Fits text (enter_on k b s)
+  pub enter_on_fits : (k : SyntaxKind) (b : Bool) (s : Laying) → Fits text s → Fits text (enter_on k b s)
   enter_on_fits k true s h = record { sum = h.sum; cut = h.cut; whole = h.whole; short = h.short }
   enter_on_fits k false s h = h
 
-  enter_fits : (k : SyntaxKind) (s : Laying) → Fits text s → Fits text (enter_of k s)
+  pub enter_fits : (k : SyntaxKind) (s : Laying) → Fits text s → Fits text (enter_of k s)
   enter_fits k s h = subst (Fits text) (sym (enter_is k s)) (enter_on_fits k (nat_lt s.depth (2 ^ 64 - 1)) s h)
 
-  exit_on_fits : (b : Bool) (s : Laying) → Fits text s → Fits text (exit_on b s)
+  pub exit_on_fits : (b : Bool) (s : Laying) → Fits text s → Fits text (exit_on b s)
   exit_on_fits true s h = record { sum = h.sum; cut = h.cut; whole = h.whole; short = h.short }
   exit_on_fits false s h = h
 
-  trivia_none : (s : Laying) → lead (pass_trivia_of s).rest ≡ 0
+  pub trivia_none : (s : Laying) → lead (pass_trivia_of s).rest ≡ 0
   trivia_none s = ap lead (passed_rest (lead s.rest) s) ∙ lead_past s.rest
 
   pub ordered_fits : (attaching : List SyntaxKind) (o : Order) (s : Laying) → Fits text s → Fits text (ordered text attaching o s)
@@ -266,7 +266,7 @@ module _ (text whole : List ℕ) (attaching : List SyntaxKind) (a : Around) (ins
       let next : List ℕ → ℕ → Keep = λ w start. record { kept = kept_of w t.kind k.kept; start = start } in
       ap₂ next (read k.start t.len h) (later k.start t.len h)
 
-  attached_fold : (ts : List RawToken) (k : Keep) → k.start + sum_len ts ≤ length text
+  pub attached_fold : (ts : List RawToken) (k : Keep) → k.start + sum_len ts ≤ length text
       → fold (λ k t. attached_after whole t k) (keep_amid a.bytes k) ts ≡ keep_amid a.bytes (fold (λ k t. attached_after text t k) k ts)
   attached_fold [] k h = refl
   attached_fold (t ∷ ts) k h =
@@ -281,7 +281,7 @@ module _ (text whole : List ℕ) (attaching : List SyntaxKind) (a : Around) (ins
   lead_room s zero e h = omega (arith, h.sum, h.cut, first_le s.rest)
   lead_room s (suc n) e h = omega (arith, h.sum, h.whole (omega (arith, e)), sum_split (suc n) s.rest)
 
-  outside_in : (k : SyntaxKind) (s : Laying) → Fits text s → (lead s.rest ≡ length s.rest → lead a.behind ≡ 0)
+  pub outside_in : (k : SyntaxKind) (s : Laying) → Fits text s → (lead s.rest ≡ length s.rest → lead a.behind ≡ 0)
       → outside_of whole attaching k (s.position + a.bytes) (s.rest ++ a.behind) (lead s.rest) ≡ outside_of text attaching k s.position s.rest (lead s.rest)
   outside_in k s h clear =
       let n = lead s.rest in
@@ -297,7 +297,7 @@ module _ (text whole : List ℕ) (attaching : List SyntaxKind) (a : Around) (ins
   leaf_in k n rest cut s h =
       ap₂ (λ p steps. record (amid a s) { rest = rest ++ a.behind; cut = cut; position = p; steps = steps }) (later s.position n h) (append_assoc a.steps s.steps (takes k n ∷ []))
 
-  pass_on_in : (ts : List RawToken) (s : Laying) → s.rest ≡ ts → 0 < length ts → Fits text s → pass_on (ts ++ a.behind) (amid a s) ≡ amid a (pass_on ts s)
+  pub pass_on_in : (ts : List RawToken) (s : Laying) → s.rest ≡ ts → 0 < length ts → Fits text s → pass_on (ts ++ a.behind) (amid a s) ≡ amid a (pass_on ts s)
   pass_on_in [] s e more h = absurd (omega (arith, more))
   pass_on_in (t ∷ ts) s e more h =
       let all : sum_len s.rest ≡ t.len + sum_len ts = ap sum_len e in
@@ -315,7 +315,7 @@ module _ (text whole : List ℕ) (attaching : List SyntaxKind) (a : Around) (ins
   trivia_in : (s : Laying) → (lead s.rest ≡ length s.rest → lead a.behind ≡ 0) → Fits text s → pass_trivia_of (amid a s) ≡ amid a (pass_trivia_of s)
   trivia_in s clear h = ap (λ n. pass_all_of n (amid a s)) (lead_both s.rest a.behind clear) ∙ pass_all_in (lead s.rest) s (lead_le s.rest) h
 
-  join_on_in : (k : SyntaxKind) (more : ℕ) (ts : List RawToken) (s : Laying) → s.rest ≡ ts → (length ts < more + 1 → a.behind ≡ []) → Fits text s
+  pub join_on_in : (k : SyntaxKind) (more : ℕ) (ts : List RawToken) (s : Laying) → s.rest ≡ ts → (length ts < more + 1 → a.behind ≡ []) → Fits text s
       → join_on k more (ts ++ a.behind) (amid a s) ≡ amid a (join_on k more ts s)
   join_on_in k more [] s e left h = ap (λ ts. join_on k more ts (amid a s)) (left (omega arith))
   join_on_in k more (t ∷ ts) s e left h =
@@ -335,7 +335,7 @@ module _ (text whole : List ℕ) (attaching : List SyntaxKind) (a : Around) (ins
       let most = length-take n (drop s.position text) in
       leaf_in (kind_of_part p) (len_of_part p dot) s.rest (later_of s.cut (len_of_part p dot)) s (omega (arith, found.0, most, len_part_le p dot, h))
 
-  piece_on_in : (p : Part) (ts : List RawToken) (s : Laying) → s.rest ≡ ts → (length ts < 1 → a.behind ≡ []) → Fits text s
+  pub piece_on_in : (p : Part) (ts : List RawToken) (s : Laying) → s.rest ≡ ts → (length ts < 1 → a.behind ≡ []) → Fits text s
       → piece_on whole p (ts ++ a.behind) (amid a s) ≡ amid a (piece_on text p ts s)
   piece_on_in p [] s e left h = ap (λ ts. piece_on whole p ts (amid a s)) (left (omega arith))
   piece_on_in p (t ∷ ts) s e left h =
@@ -358,7 +358,7 @@ module _ (text whole : List ℕ) (attaching : List SyntaxKind) (a : Around) (ins
       let low : d + suc n < 2 ^ 64 - 1 = h (omega arith) in
       lt-ltb (d + suc n) (2 ^ 64 - 1) low ∙ sym (lt-ltb d (2 ^ 64 - 1) (omega (arith, low)))
 
-  enter_in : (k : SyntaxKind) (s : Laying) → (0 < a.open_nodes → s.depth + a.open_nodes < 2 ^ 64 - 1) → enter_of k (amid a s) ≡ amid a (enter_of k s)
+  pub enter_in : (k : SyntaxKind) (s : Laying) → (0 < a.open_nodes → s.depth + a.open_nodes < 2 ^ 64 - 1) → enter_of k (amid a s) ≡ amid a (enter_of k s)
   enter_in k s h =
       enter_is k (amid a s) ∙ ap (λ b. enter_on k b (amid a s)) (same_enter s.depth a.open_nodes h)
       ∙ enter_on_in k (nat_lt s.depth (2 ^ 64 - 1)) s ∙ ap (amid a) (sym (enter_is k s))
@@ -374,7 +374,7 @@ module _ (text whole : List ℕ) (attaching : List SyntaxKind) (a : Around) (ins
   same_exit d zero h = let e : d + zero ≡ d = omega arith in ap (nat_lt 0) e
   same_exit d (suc n) h = lt-ltb 0 (d + suc n) (omega arith) ∙ sym (lt-ltb 0 d (h (omega arith)))
 
-  exit_in : (s : Laying) → (0 < a.open_nodes → 0 < s.depth) → exit_of (amid a s) ≡ amid a (exit_of s)
+  pub exit_in : (s : Laying) → (0 < a.open_nodes → 0 < s.depth) → exit_of (amid a s) ≡ amid a (exit_of s)
   exit_in s h =
       exit_is (amid a s) ∙ ap (λ b. exit_on b (amid a s)) (same_exit s.depth a.open_nodes h)
       ∙ exit_on_in (nat_lt 0 s.depth) s refl ∙ ap (amid a) (sym (exit_is s))
@@ -396,7 +396,7 @@ module _ (text whole : List ℕ) (attaching : List SyntaxKind) (a : Around) (ins
       ∙ ap (pass_all_of (n - out)) (enter_in k t (λ some. omega (arith, deep, low some)))
       ∙ pass_all_in (n - out) u (omega (arith, left, most, le)) (enter_fits text small k t (pass_all_fits text small out s h))
 
-  say_in : (m : ℕ) (s : Laying) → fault_of m (amid a s) ≡ amid a (fault_of m s)
+  pub say_in : (m : ℕ) (s : Laying) → fault_of m (amid a s) ≡ amid a (fault_of m s)
   say_in m s =
       let f : Fault = record { message = m; position = s.position; left = length s.rest } in
       let more = length a.behind in

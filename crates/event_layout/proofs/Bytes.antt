@@ -10,7 +10,7 @@ use Rattle.event_layout.specs.Layout.{Laying, leaf_of, pass_on, pass_all_of, pas
 use Rattle.event_layout.specs.Orders.{Order, begin_node, take_joined, take_part, end_node, say, nothing, ordered, walked}
 use Rattle.event_layout.specs.Filled.{bytes_taken}
 
-bytes_both : (xs ys : List FrontStep) → bytes_taken (xs ++ ys) ≡ bytes_taken xs + bytes_taken ys
+pub bytes_both : (xs ys : List FrontStep) → bytes_taken (xs ++ ys) ≡ bytes_taken xs + bytes_taken ys
 bytes_both [] ys = omega arith
 bytes_both (begins k ∷ xs) ys = bytes_both xs ys
 bytes_both (takes k n ∷ xs) ys = omega (arith, bytes_both xs ys)
@@ -24,7 +24,7 @@ Took s = min (bytes_taken s.steps) (2 ^ 32 - 1) ≡ s.position
 leaf_took : (k : SyntaxKind) (n : ℕ) (s : Laying) → Took s → Took (leaf_of k n s)
 leaf_took k n s h = omega (arith, h, bytes_both s.steps (takes k n ∷ []))
 
-pass_on_took : (ts : List RawToken) (s : Laying) → Took s → Took (pass_on ts s)
+pub pass_on_took : (ts : List RawToken) (s : Laying) → Took s → Took (pass_on ts s)
 pass_on_took [] s h = h
 pass_on_took (t ∷ ts) s h = leaf_took t.kind (t.len - s.cut) (record s { rest = ts; cut = 0 }) h
 
@@ -33,7 +33,7 @@ unfolding pass_all_of
 pass_all_took zero s h = h
 pass_all_took (suc n) s h = pass_on_took (pass_all_of n s).rest (pass_all_of n s) (pass_all_took n s h)
 
-join_took : (k : SyntaxKind) (more : ℕ) (ts : List RawToken) (s : Laying) → Took s → Took (join_on k more ts s)
+pub join_took : (k : SyntaxKind) (more : ℕ) (ts : List RawToken) (s : Laying) → Took s → Took (join_on k more ts s)
 join_took k more [] s h = h
 join_took k more (t ∷ ts) s h = leaf_took k (joined_len (t.len - s.cut) (take more ts)) (record s { rest = drop more ts; cut = 0 }) h
 
@@ -41,18 +41,18 @@ cut_took : (p : Part) (o : Option ℕ) (s : Laying) → Took s → Took (cut_at 
 cut_took p None s h = h
 cut_took p (Some dot) s h = leaf_took (kind_of_part p) (len_of_part p dot) (record s { cut = later_of s.cut (len_of_part p dot) }) h
 
-piece_took : (text : List ℕ) (p : Part) (ts : List RawToken) (s : Laying) → Took s → Took (piece_on text p ts s)
+pub piece_took : (text : List ℕ) (p : Part) (ts : List RawToken) (s : Laying) → Took s → Took (piece_on text p ts s)
 piece_took text p [] s h = h
 piece_took text p (t ∷ ts) s h = cut_took p (position (λ b. nat_eq b 46) (part_of text s.position (t.len - s.cut))) s h
 
-enter_took : (k : SyntaxKind) (s : Laying) → Took s → Took (enter_of k s)
+pub enter_took : (k : SyntaxKind) (s : Laying) → Took s → Took (enter_of k s)
 enter_took k s h = by (nat_lt s.depth (2 ^ 64 - 1))
   where
     by : (b : Bool) → Took (if b then record s { depth = s.depth + 1; steps = s.steps ++ begins k ∷ [] } else s)
     by true = omega (arith, h, bytes_both s.steps (begins k ∷ []))
     by false = h
 
-exit_took : (s : Laying) → Took s → Took (exit_of s)
+pub exit_took : (s : Laying) → Took s → Took (exit_of s)
 exit_took s h = by (nat_lt 0 s.depth)
   where
     by : (b : Bool) → Took (if b then record s { depth = s.depth - 1; steps = s.steps ++ ends ∷ [] } else s)

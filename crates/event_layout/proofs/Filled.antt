@@ -115,7 +115,7 @@ pub cut_sum : (ts : List RawToken) (s : List ℕ) → IsCut ts s → sum_len ts 
 cut_sum [] s h = sym (ap length h)
 cut_sum (t ∷ ts) s h = omega (arith, cut_sum ts (drop t.len s) h.2, length-drop t.len s, h.0)
 
-start_fits : (text : List ℕ) (ts : List RawToken) (s : Laying) → IsCut ts text → s.rest ≡ ts → s.cut ≡ 0 → s.position ≡ 0 → Fits text s
+pub start_fits : (text : List ℕ) (ts : List RawToken) (s : Laying) → IsCut ts text → s.rest ≡ ts → s.cut ≡ 0 → s.position ≡ 0 → Fits text s
 start_fits text ts s c r z p =
     let sum : sum_len s.rest ≡ length text = ap sum_len r ∙ cut_sum ts text c in
     record { sum = omega (arith, sum, z, p); cut = omega (arith, z); whole = λ more. z; short = omega (arith, sum) }
@@ -135,7 +135,7 @@ over text s h e =
     let cut : s.cut ≡ 0 = omega (arith, h.cut, ap first_len e) in
     record { cut = cut; position = omega (arith, h.sum, none, cut) }
 
-laying_is : (s t : Laying) → s.next ≡ t.next → s.entering ≡ t.entering → s.rest ≡ t.rest → s.cut ≡ t.cut → s.position ≡ t.position → s.depth ≡ t.depth → s.steps ≡ t.steps → s.faults ≡ t.faults → s ≡ t
+pub laying_is : (s t : Laying) → s.next ≡ t.next → s.entering ≡ t.entering → s.rest ≡ t.rest → s.cut ≡ t.cut → s.position ≡ t.position → s.depth ≡ t.depth → s.steps ≡ t.steps → s.faults ≡ t.faults → s ≡ t
 laying_is s t a b c d e f g h =
     let same : ◌≡◌ {A = Laying} (record { next = s.next; entering = s.entering; rest = s.rest; cut = s.cut; position = s.position; depth = s.depth; steps = s.steps; faults = s.faults }) (record { next = t.next; entering = t.entering; rest = t.rest; cut = t.cut; position = t.position; depth = t.depth; steps = t.steps; faults = t.faults }) = cc in
     same
@@ -150,7 +150,7 @@ is_in_front x y = take-append_seam x y
 is_in_mid : (x y z : List ℕ) → IsIn y (length x) (x ++ (y ++ z))
 is_in_mid x y z = ap (take (length y)) (drop-append_seam x (y ++ z)) ∙ take-append_seam y z
 
-is_in_back : (x y z : List ℕ) → IsIn z (length (x ++ y)) (x ++ (y ++ z))
+pub is_in_back : (x y z : List ℕ) → IsIn z (length (x ++ y)) (x ++ (y ++ z))
 is_in_back x y z =
     ap (λ w. take (length z) (drop (length (x ++ y)) w)) (sym (append_assoc x y z)) ∙ ap (take (length z)) (drop-append_seam (x ++ y) z) ∙ take_all (length z) z (omega arith)
 

@@ -21,3 +21,6 @@ pub mod Exchanged
 pub mod Ends
 pub mod Placed
 pub mod Replaced
+pub mod Retelling
+pub mod Retold
+pub mod Begun

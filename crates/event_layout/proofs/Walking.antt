@@ -93,10 +93,10 @@ abbrev pub enter_all : Given → List ℕ → Laying → Laying
 enter_all g [] s = s
 enter_all g (n ∷ ns) s = enter_all g ns (entering_of g n s)
 
-abbrev advance_on : Given → Bool → Laying → Laying
+abbrev pub advance_on : Given → Bool → Laying → Laying
 advance_on g b s = if b then entering_of g (s.entering - 1) s else going_of g s.next s
 
-advance_is : (g : Given) (s : Laying) → advance_of g s ≡ advance_on g (nat_lt 0 s.entering) s
+pub advance_is : (g : Given) (s : Laying) → advance_of g s ≡ advance_on g (nat_lt 0 s.entering) s
 unfolding advance_of
 advance_is g s = refl
 

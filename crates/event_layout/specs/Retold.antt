@@ -1,5 +1,5 @@
 -- A text in which one token is given another text, and what is laid of it: laws of the definitions.
-use Rattle.std.specs.Prelude.{◌≡◌, ◌⊎◌, ℕ, suc, ◌+◌, ◌-◌, ◌≤◌, ◌<◌, ◌^◌, nat_le, Bool, true, false, ◌==◌, if◌then◌else◌, Some, List, [], ◌∷◌, ◌++◌, map, length, slice_get, All}
+use Rattle.std.specs.Prelude.{◌≡◌, ℕ, suc, ◌+◌, ◌-◌, ◌≤◌, ◌<◌, ◌^◌, nat_le, Bool, true, false, ◌==◌, if◌then◌else◌, Some, List, ◌∷◌, ◌++◌, map, length, slice_get, All}
 use Rattle.std.specs.List.{list_any}
 use Rattle.syntax_kind.specs.declared.syntax_kind.SyntaxKind.{SyntaxKind}
 use Rattle.syntax_kind.specs.Kinds.{is_trivia}
@@ -31,13 +31,15 @@ pub record IsRetold (s z : List ℕ) (ts us : List RawToken) (x old new y : List
   pub some : 0 < length old
   pub new_some : 0 < length new
   -- white space says, by its blank lines, which comments go into the next node
-  pub lines : is_trivia kind ≡ true → is_comment kind ≡ false → has_blank_line old ≡ has_blank_line new
+  pub lines : is_trivia kind ≡ true → is_comment kind ≡ false
+      → has_blank_line old ≡ has_blank_line new
   -- a number may be cut at its dot
   pub no_dots : is_trivia kind ≡ false → (has_dot old ≡ false) × (has_dot new ≡ false)
 
 -- a fault behind the token moves with the text
 abbrev pub fault_retold : ℕ → ℕ → ℕ → Fault → Fault
-fault_retold at old new f = if nat_le f.position at then f else record f { position = (f.position - old) + new }
+fault_retold at old new f =
+    if nat_le f.position at then f else record f { position = (f.position - old) + new }
 
 -- of both texts the same is laid, but for the length of the leaf that has the token in it; no fault
 -- is in the token
@@ -51,8 +53,14 @@ pub record LaidAlike (laid laid_new : Laying) (x old new : List ℕ) : Type 0 wh
   pub steps : laid.steps ≡ before ++ takes leaf (ahead + (length old + after)) ∷ behind
   pub new_steps : laid_new.steps ≡ before ++ takes leaf (ahead + (length new + after)) ∷ behind
   pub starts : bytes_taken before + ahead ≡ length x
-  pub new_faults : laid_new.faults ≡ map (fault_retold (length x) (length old) (length new)) laid.faults
-  pub apart : All (λ f. (f.position ≤ length x) ⊎ (length x + length old ≤ f.position)) laid.faults
+  pub new_faults : laid_new.faults
+      ≡ map (fault_retold (length x) (length old) (length new)) laid.faults
+  -- the faults before the token come first
+  pub early : List Fault
+  pub late : List Fault
+  pub faults_are : laid.faults ≡ early ++ late
+  pub are_early : All (λ f. f.position ≤ length x) early
+  pub are_late : All (λ f. length x + length old ≤ f.position) late
 
 abbrev pub RetoldTokensAreLaid : Type 0
 RetoldTokensAreLaid =
@@ -71,7 +79,8 @@ pub record AreCutAt (ts : List RawToken) (at : ℕ) : Type 0 where
 -- a leaf begins where one of the lexer's tokens begins, or beside a dot
 abbrev pub LeavesBeginInTokens : Type 0
 LeavesBeginInTokens =
-    (root : SyntaxKind) (attaching : List SyntaxKind) (es : List Event) (s : List ℕ) (ts : List RawToken)
+    (root : SyntaxKind) (attaching : List SyntaxKind) (es : List Event)
+    (s : List ℕ) (ts : List RawToken)
     (before behind : List FrontStep)
     → IsCut ts s → length s < 2 ^ 32
     → (laid_of root attaching s ts es).steps ≡ before ++ behind

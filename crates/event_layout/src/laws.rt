@@ -8,6 +8,7 @@ ghost use Rattle.event_layout.specs.Placed.{RunsTakeTheirTokens, PiecesTakeTheir
 ghost use Rattle.event_layout.specs.Replaced.{ReplacedPiecesAreLaid};
 ghost use Rattle.event_layout.specs.Exchanged.{ExchangedEventsAreSetIn};
 ghost use Rattle.event_layout.specs.Finding.{EventsFindWhatIsSeen};
+ghost use Rattle.event_layout.specs.Retold.{RetoldTokensAreLaid, LeavesBeginInTokens};
 
 /// What is laid of events is what they order, one order after the other: which nodes begin before an
 /// event, which tokens it takes, which node it ends.
@@ -78,4 +79,16 @@ pub fn pieces_take_their_tokens()
 /// of the old one.
 pub fn replaced_pieces_are_laid()
     ensures { ReplacedPiecesAreLaid }
+{}
+
+/// Of two texts that differ in the text of one token the same events lay the same, but for the
+/// length of the leaf that has the token in it. Errors behind the token are shifted by as much as it
+/// grew; those before it come first, and none is inside of it.
+pub fn retold_tokens_are_laid()
+    ensures { RetoldTokensAreLaid }
+{}
+
+/// A leaf begins where one of the lexer's tokens begins, or beside a dot, where numbers are cut.
+pub fn leaves_begin_in_tokens()
+    ensures { LeavesBeginInTokens }
 {}
