@@ -1,7 +1,9 @@
 //! Sessions of edits of a document: after each, its tree and its errors are compared with those of a new parse of its text.
 
 use crate::chance::{Chance, Edit, edited};
-use ra_ap_syntax::{Document, Edition, Parse, SourceFile, TextRange, TextSize};
+use ra_ap_syntax::{
+    Document, Edition, NodeOrToken, Parse, SourceFile, TextRange, TextSize,
+};
 use rust_front::Rust;
 use std::alloc::Global;
 
@@ -103,8 +105,11 @@ const TYPED: [&str; 84] = [
 #[derive(Drop)]
 pub struct Sessions {
     chance: Chance,
+    tokens: u64,
     blocks: u64,
     all: u64,
+    // edits after which `incremental_reparse` reads one token or block again
+    reparsed: u64,
     trees: u64,
     errors: u64,
     texts: u64,
@@ -128,8 +133,10 @@ impl Sessions {
     pub fn new(seed: u64) -> Sessions {
         Sessions {
             chance: Chance::new(seed),
+            tokens: 0,
             blocks: 0,
             all: 0,
+            reparsed: 0,
             trees: 0,
             errors: 0,
             texts: 0,
@@ -205,13 +212,9 @@ impl Sessions {
         let before = format!(in rt.alloc(); "{old}")?;
         let new = edited(rt.alloc(), old, edit)?;
         let delete = TextRange::new(TextSize::new(start), TextSize::new(end));
+        self.count_reparse(rt.alloc(), document, delete, edit.insert.as_str())?;
         let range = document.edit(rt.alloc(), delete, edit.insert.as_str())?;
-        let is_all = range.start().raw() == 0 && range.end().raw() as usize == new.len();
-        more(if is_all {
-            &mut self.all
-        } else {
-            &mut self.blocks
-        });
+        self.count_edit(document, range, new.len());
         if !self.is_parse(rt.alloc(), document, new.as_str())? {
             println!(rt;
                 "document: {path} {:?} {start}..{end} {:?} in {before:?}",
@@ -220,6 +223,43 @@ impl Sessions {
             )?;
         }
         Ok(())
+    }
+
+    // Counts an edit if a reparse of one token or block would do.
+    fn count_reparse(
+        &mut self,
+        alloc: Global,
+        document: &Document<Rust>,
+        delete: TextRange,
+        insert: &str,
+    ) -> anyhow::Result<()> {
+        let parse = document.parse();
+        let edition = document.edition();
+        if parse
+            .incremental_reparse(alloc, &Rust, delete, insert, edition)?
+            .is_some()
+        {
+            more(&mut self.reparsed);
+        }
+        Ok(())
+    }
+
+    // Counts an edit by what was read again.
+    fn count_edit(&mut self, document: &Document<Rust>, range: TextRange, len: usize) {
+        if range.start().raw() == 0 && range.end().raw() as usize == len {
+            more(&mut self.all);
+            return;
+        }
+        let root = document.parse().syntax_node();
+        let is_token = match root.covering_element(range) {
+            NodeOrToken::Token(_) => true,
+            NodeOrToken::Node(_) => false,
+        };
+        more(if is_token {
+            &mut self.tokens
+        } else {
+            &mut self.blocks
+        });
     }
 
     // Whether the parse of a document is that of its text, which has to be this one.
@@ -254,8 +294,14 @@ impl Sessions {
     /// Prints the counts.
     pub fn tell(&self, rt: &HostRuntime) -> anyhow::Result<()> {
         println!(rt;
-            "documents: {} edits of a block, {} of all; {} trees differ from those of a new parse, {} have other errors, {} texts are wrong",
-            self.blocks, self.all, self.trees, self.errors, self.texts
+            "documents: {} edits of a token, {} of a block, {} of all, where a reparse reads {} tokens or blocks; {} trees differ from those of a new parse, {} have other errors, {} texts are wrong",
+            self.tokens,
+            self.blocks,
+            self.all,
+            self.reparsed,
+            self.trees,
+            self.errors,
+            self.texts
         )?;
         Ok(())
     }
