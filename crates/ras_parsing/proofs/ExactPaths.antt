@@ -18,7 +18,7 @@ use Rattle.ras_front_end.specs.Reading.{Reading}
 use Rattle.exact_front.specs.Exact.{Exact, is_piece, ExactKeeps}
 use Rattle.ras_parsing.specs.Edit.{Edit, IsEditOf, edited, edited_at}
 use Rattle.ras_parsing.specs.Reparse.{kind_at, nodes_around}
-use Rattle.ras_parsing.specs.Document.{opens, closes, or_further, exact_reparser_of, first_exact, is_quiet_from, AreShort, ExactPath, NoExactPath}
+use Rattle.ras_parsing.specs.Document.{opens, closes, or_further, exact_reparser_of, first_exact, is_quiet_from, AreShort, ExactPath}
 use Rattle.ras_parsing.specs.ExactSteps.{IsExactPiece}
 use Rattle.ras_parsing.proofs.Around.{later_in, node_around}
 use Rattle.ras_parsing.proofs.BlockPaths.{IsIn, new_short}
@@ -76,49 +76,10 @@ exact_in exact tree edit l o c r e f g is is_place =
     let w = node_around tree edit e c (is_among exact edit.delete (nodes_around tree edit) c r found) in
     record { same = w.same_tree; around = w.around is_place }
 
--- ---- whether there is one
-
-pub no_head_path : (exact : Exact) (edition : Edition) (old : Parsed) (count : ℕ) (edit : Edit) (s : List ℕ) (b : Bool) → s ≡ text old.tree → b ≡ exact.has_head s → b ≡ true → NoExactPath exact edition old count edit
-no_head_path exact edition old count edit s b is asked yes' c r reading w =
-    let bad : true ≡ false = sym yes' ∙ asked ∙ ap exact.has_head is ∙ w.no_head in cc
-
-pub no_node_path : (exact : Exact) (edition : Edition) (old : Parsed) (count : ℕ) (edit : Edit) (l : List Cursor) (o : Option (Cursor × Reparser)) → l ≡ nodes_around old.tree edit → o ≡ first_exact exact edit.delete l → o ≡ None → NoExactPath exact edition old count edit
-no_node_path exact edition old count edit l o f g is c r reading w =
-    let p : Cursor × Reparser = (c, r) in
-    let bad : None ≡ Some p = sym is ∙ g ∙ ap (first_exact exact edit.delete) f ∙ w.is_nearest in cc
-
-pub record IsSame (c d : Cursor) (r s : Reparser) : Type 0 where
-  pub node : d ≡ c
-  pub rule : s ≡ r
-
-same_node : (exact : Exact) (edition : Edition) (old : Parsed) (count : ℕ) (edit : Edit) (l : List Cursor) (o : Option (Cursor × Reparser)) (d : Cursor) (s : Reparser) (c : Cursor) (r : Reparser) (reading : Reading) → l ≡ nodes_around old.tree edit → o ≡ first_exact exact edit.delete l → o ≡ Some (d, s)
-    → ExactPath exact edition old count edit c r reading → IsSame c d r s
-same_node exact edition old count edit l o d s c r reading f g is w =
-    let p : Cursor × Reparser = (d, s) in
-    let q : Cursor × Reparser = (c, r) in
-    let found : Some p ≡ Some q = sym is ∙ g ∙ ap (first_exact exact edit.delete) f ∙ w.is_nearest in
-    let same : p ≡ q = cc in
-    record { node = ap (λ (x : Cursor × Reparser). x.0) same; rule = ap (λ (x : Cursor × Reparser). x.1) same }
-
-pub no_quiet_path : (exact : Exact) (edition : Edition) (old : Parsed) (count : ℕ) (edit : Edit) (l : List Cursor) (o : Option (Cursor × Reparser)) (d : Cursor) (s : Reparser) (at : ℕ) (errors : List Fault) (b : Bool) → l ≡ nodes_around old.tree edit → o ≡ first_exact exact edit.delete l → o ≡ Some (d, s)
-    → at ≡ range_end d → errors ≡ drop count old.errors → b ≡ is_quiet_from at errors → b ≡ false → NoExactPath exact edition old count edit
-no_quiet_path exact edition old count edit l o d s at errors b f g is h k asked no' c r reading w =
-    let same = same_node exact edition old count edit l o d s c r reading f g is w in
-    let bad : false ≡ true = sym no' ∙ asked ∙ ap (λ n. is_quiet_from n errors) (h ∙ ap range_end same.node) ∙ ap (is_quiet_from (range_end c)) k ∙ w.is_quiet in cc
-
-not_read : {X : Type 0} (f : X → Reading) (o : Option X) (p : Option Reading) → option_map f o ≡ p → o ≡ None → p ≡ None
-not_read f o p e is = sym e ∙ ap (option_map f) is
+-- ---- the piece
 
 read_as : {X : Type 0} (f : X → Reading) (o : Option X) (p : Option Reading) (x : X) → option_map f o ≡ p → o ≡ Some x → p ≡ Some (f x)
 read_as f o p x e is = sym e ∙ ap (option_map f) is
-
-pub no_reading_path : {X : Type 0} (exact : Exact) (edition : Edition) (old : Parsed) (count : ℕ) (edit : Edit) (l : List Cursor) (o : Option (Cursor × Reparser)) (d : Cursor) (s : Reparser) (new : List ℕ) (h : X → Reading) (read : Option X) → l ≡ nodes_around old.tree edit → o ≡ first_exact exact edit.delete l → o ≡ Some (d, s)
-    → new ≡ edited_at d edit → option_map h read ≡ exact.piece s edition new → read ≡ None → NoExactPath exact edition old count edit
-no_reading_path exact edition old count edit l o d s new h read f g is e asked none c r reading w =
-    let same = same_node exact edition old count edit l o d s c r reading f g is w in
-    let here : exact.piece s edition new ≡ exact.piece r edition (edited_at c edit) =
-    ap (λ (x : Reparser). exact.piece x edition new) same.rule ∙ ap (exact.piece r edition) (e ∙ ap (λ x. edited_at x edit) same.node) in
-    let bad : None ≡ Some reading = sym (not_read h read (exact.piece s edition new) asked none) ∙ here ∙ w.is_read in cc
 
 pub exact_found : {X : Type 0} (exact : Exact) (edition : Edition) (old : Parsed) (count : ℕ) (edit : Edit) (l : List Cursor) (o : Option (Cursor × Reparser)) (c : Cursor) (r : Reparser) (head : List ℕ) (b : Bool) (at : ℕ) (errors : List Fault) (q : Bool) (new asked : List ℕ) (h : X → Reading) (read : Option X) (x : X) (was : List ℕ) (p : Bool)
     → ExactKeeps exact → IsEditOf (text old.tree) edit → length (edited (text old.tree) edit) < 2 ^ 32 → IsPlace c.tree c.place → IsUtf8 new
