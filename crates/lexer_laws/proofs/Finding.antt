@@ -16,6 +16,7 @@ use Rattle.rust_lexer.specs.Lexing.{Lexing, size_of, taken, taken_some, taken_he
 use Rattle.rust_lexer.specs.Shapes.{plain_of}
 use Rattle.rust_lexer.specs.Tokens.{token_of}
 use Rattle.rust_lexer.proofs.Cutting.{back-utf8}
+use Rattle.lexer_laws.specs.Behind.{IsBrace}
 use Rattle.lexer_laws.specs.Cuts.{tokens_within, bytes_of}
 use Rattle.lexer_laws.specs.Heads.{HasNoHead, may_have_head}
 use Rattle.lexer_laws.specs.Pieces.{Opens, Closes, IsBraced, IsReplaced}
@@ -78,7 +79,7 @@ open_is t h = ap brace_of h
 close_is : (t : span.Token) → t.kind ≡ kinds.Token token.R_CURLY → brace_of t.kind ≡ 125
 close_is t h = ap brace_of h
 
-no_head : (e : Edition) (text : List ℕ) (first : span.Token) (rest : Tokens) → tokens_of e text ≡ first ∷ rest → first.kind ≡ kinds.Token token.L_CURLY
+no_head : (e : Edition) (text : List ℕ) (first : span.Token) (rest : Tokens) → tokens_of e text ≡ first ∷ rest → 0 < brace_of first.kind
     → Headed text (taken_head e text (fresh text)) → HasNoHead e text
 no_head e text first rest is h (inl k) = k
 no_head e text first rest is h (inr k) =
@@ -86,7 +87,11 @@ no_head e text first rest is h (inr k) =
     let all : tokens_of e text ≡ k.0 ∷ (k.1 ++ tokens_from (length text) e l.rest) =
     steps_tokens (length text) e text l ∙ ap (λ (ts : Tokens). ts ++ tokens_from (length text) e l.rest) k.2 in
     let same : k.0 ≡ first = head_same k.0 first _ rest (sym all ∙ is) in
-    absurd (omega (arith, ap (λ (t : span.Token). brace_of t.kind) same, k.3, open_is first h))
+    absurd (omega (arith, ap (λ (t : span.Token). brace_of t.kind) same, k.3, h))
+
+-- a text whose first token is a brace has no head
+pub brace_plain : (e : Edition) (text : List ℕ) (first : span.Token) (rest : Tokens) → tokens_of e text ≡ first ∷ rest → 0 < brace_of first.kind → HasNoHead e text
+brace_plain e text first rest is h = no_head e text first rest is h (headed e text)
 
 -- ---- the first token
 
@@ -99,22 +104,32 @@ first_byte e (x ∷ s) t ts is h =
 
 -- ---- the last token
 
--- the last byte is `}`, and a token
-record Closed (s : List ℕ) (t : span.Token) : Type 0 where
-  before : List ℕ
-  parts : s ≡ before ++ 125 ∷ []
-  one_byte : t.len ≡ 1
+brace_some : (b : ℕ) → IsBrace b → 0 < b
+brace_some b (inl h) = omega (arith, h)
+brace_some b (inr h) = omega (arith, h)
+
+brace_low : (b : ℕ) → IsBrace b → b < 128
+brace_low b (inl h) = omega (arith, h)
+brace_low b (inr h) = omega (arith, h)
+
+-- the last byte is the brace b, and a token
+pub record Closed (s : List ℕ) (b : ℕ) (t : span.Token) : Type 0 where
+  pub before : List ℕ
+  pub parts : s ≡ before ++ b ∷ []
+  pub one_byte : t.len ≡ 1
 
 none_left : (e : Edition) (s : List ℕ) → tokens_within e s ≡ [] → s ≡ []
 none_left e [] h = refl
 none_left e (x ∷ s) h = absurd (let bad : [] ≡ token_at e (x ∷ s) ∷ tokens_within e (back_of (token_of e (x ∷ s)).left (x ∷ s)) = sym h ∙ within_more e x s in cc)
 
-closed_alone : (e : Edition) (x : ℕ) (s : List ℕ) (t : span.Token) → IsUtf8 (x ∷ s) → tokens_within e (x ∷ s) ≡ t ∷ [] → t.kind ≡ kinds.Token token.R_CURLY → Closed (x ∷ s) t
-closed_alone e x s t u is h =
+closed_alone : (e : Edition) (x : ℕ) (s : List ℕ) (b : ℕ) (t : span.Token) → IsUtf8 (x ∷ s) → tokens_within e (x ∷ s) ≡ t ∷ [] → brace_of t.kind ≡ b → IsBrace b → Closed (x ∷ s) b t
+closed_alone e x s b t u is h i =
+    let some : 0 < b = brace_some b i in
+    let low : b < 128 = brace_low b i in
     let both = sym (within_more e x s) ∙ is in
     let same : token_at e (x ∷ s) ≡ t = head_same (token_at e (x ∷ s)) t _ [] both in
-    let brace = brace_first e x s 125 (ap (λ (z : span.Token). brace_of z.kind) same ∙ close_is t h) (omega arith) in
-    let text : IsUtf8 s = IsUtf8-drop (x ∷ s) 1 u (IsCharBoundary-after_ascii (x ∷ s) 0 u (omega arith) (omega (arith, brace.0))) in
+    let brace = brace_first e x s b (ap (λ (z : span.Token). brace_of z.kind) same ∙ h) some in
+    let text : IsUtf8 s = IsUtf8-drop (x ∷ s) 1 u (IsCharBoundary-after_ascii (x ∷ s) 0 u (omega arith) (omega (arith, brace.0, low))) in
     let cut : cut_of (token_of e (x ∷ s)).left (x ∷ s) ≡ 1 = ap (λ (z : Shape). cut_of z.left (x ∷ s)) brace.1 ∙ cut_one x s text in
     let left : s ≡ [] = ap (λ (j : ℕ). drop j (x ∷ s)) (sym cut) ∙ none_left e (back_of (token_of e (x ∷ s)).left (x ∷ s)) (tail_same (token_at e (x ∷ s)) t _ [] both) in
     record {
@@ -124,22 +139,22 @@ closed_alone e x s t u is h =
           sym (ap (λ (z : span.Token). z.len) same) ∙ ap size_of (front_length (token_of e (x ∷ s)).left (x ∷ s) ∙ cut);
     }
 
-closed_text : (n : ℕ) (e : Edition) (s : List ℕ) (front : Tokens) (t : span.Token) → length s ≤ n → IsUtf8 s → tokens_within e s ≡ front ++ t ∷ []
-    → t.kind ≡ kinds.Token token.R_CURLY → Closed s t
-closed_text n e [] [] t m u is h = absurd (let bad : [] ≡ t ∷ [] = sym (within_empty e) ∙ is in cc)
-closed_text n e [] (r ∷ front) t m u is h = absurd (let bad : [] ≡ r ∷ (front ++ t ∷ []) = sym (within_empty e) ∙ is in cc)
-closed_text n e (x ∷ s) [] t m u is h = closed_alone e x s t u is h
-closed_text zero e (x ∷ s) (r ∷ front) t m u is h = absurd (omega (arith, m))
-closed_text (suc n) e (x ∷ s) (r ∷ front) t m u is h =
+pub closed_text : (n : ℕ) (e : Edition) (s : List ℕ) (front : Tokens) (b : ℕ) (t : span.Token) → length s ≤ n → IsUtf8 s → tokens_within e s ≡ front ++ t ∷ []
+    → brace_of t.kind ≡ b → IsBrace b → Closed s b t
+closed_text n e [] [] b t m u is h i = absurd (let bad : [] ≡ t ∷ [] = sym (within_empty e) ∙ is in cc)
+closed_text n e [] (r ∷ front) b t m u is h i = absurd (let bad : [] ≡ r ∷ (front ++ t ∷ []) = sym (within_empty e) ∙ is in cc)
+closed_text n e (x ∷ s) [] b t m u is h i = closed_alone e x s b t u is h i
+closed_text zero e (x ∷ s) (r ∷ front) b t m u is h i = absurd (omega (arith, m))
+closed_text (suc n) e (x ∷ s) (r ∷ front) b t m u is h i =
     let k : ℕ = (token_of e (x ∷ s)).left in
     let rest : List ℕ = back_of k (x ∷ s) in
     let behind : tokens_within e rest ≡ front ++ t ∷ [] = tail_same (token_at e (x ∷ s)) r _ (front ++ t ∷ []) (sym (within_more e x s) ∙ is) in
-    let c = closed_text n e rest front t (omega (arith, back_short k x s, m)) (back-utf8 k (x ∷ s) u) behind h in
+    let c = closed_text n e rest front b t (omega (arith, back_short k x s, m)) (back-utf8 k (x ∷ s) u) behind h i in
     record {
       before = front_of k (x ∷ s) ++ c.before;
       parts =
           sym (take-append-drop (cut_of k (x ∷ s)) (x ∷ s)) ∙ ap (λ (z : List ℕ). front_of k (x ∷ s) ++ z) c.parts
-          ∙ sym (append_assoc (front_of k (x ∷ s)) c.before (125 ∷ []));
+          ∙ sym (append_assoc (front_of k (x ∷ s)) c.before (b ∷ []));
       one_byte = c.one_byte;
     }
 
@@ -159,14 +174,14 @@ between s r (x ∷ inner) h k =
     record { inner = inner; parts = k ∙ ap (λ (y : ℕ). y ∷ (inner ++ 125 ∷ [])) first }
 
 opens_plain : (e : Edition) (text : List ℕ) → Opens (tokens_of e text) → HasNoHead e text
-opens_plain e text o = no_head e text o.first o.rest o.begins o.is_open (headed e text)
+opens_plain e text o = brace_plain e text o.first o.rest o.begins (omega (arith, open_is o.first o.is_open))
 
 piece_found : (e : Edition) (text : List ℕ) → IsUtf8 text → Opens (tokens_of e text) → Closes (tokens_of e text) → IsPiece e text (tokens_of e text)
 piece_found e text u o c =
     let plain : HasNoHead e text = opens_plain e text o in
     let same : tokens_of e text ≡ tokens_within e text = headless e text plain in
     let first : text ≡ 123 ∷ drop 1 text = first_byte e text o.first o.rest (sym same ∙ o.begins) o.is_open in
-    let d = closed_text (length text) e text c.front c.last (omega arith) u (sym same ∙ c.ends) c.is_close in
+    let d = closed_text (length text) e text c.front 125 c.last (omega arith) u (sym same ∙ c.ends) (close_is c.last c.is_close) (inr refl) in
     let t = between text (drop 1 text) d.before first d.parts in
     record { inner = t.inner; parts = t.parts; are_tokens = sym same; front = c.front; close = c.last; closed = c.ends; one_byte = d.one_byte }
 

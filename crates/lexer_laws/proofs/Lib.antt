@@ -20,3 +20,4 @@ mod Cleaning
 mod Exchanging
 mod Telling
 pub mod Messages
+pub mod Windows

@@ -1,5 +1,5 @@
 -- The errors of a text in which a piece was replaced, with their messages.
-use Rattle.std.proofs.Common.{◌≡◌, inl, inr, ℕ, zero, suc, ◌+◌, ◌-◌, ◌<◌, ◌≤◌, ◌^◌, Bool, true, false, ◌&&◌, ◌||◌, if◌then◌else◌, List, [], ◌∷◌, ◌++◌, length, take, drop, map, reverse, ap, ap₂, sym, ◌∙◌, refl, arith, subst, append_assoc, append-nil, length-append, nat_lt, nat_le}
+use Rattle.std.proofs.Common.{◌≡◌, inl, ℕ, zero, suc, ◌+◌, ◌-◌, ◌<◌, ◌≤◌, ◌^◌, Bool, true, false, ◌&&◌, ◌||◌, if◌then◌else◌, List, [], ◌∷◌, ◌++◌, length, take, drop, map, reverse, ap, ap₂, sym, ◌∙◌, refl, arith, subst, append_assoc, append-nil, length-append, nat_lt, nat_le}
 use Rattle.std.specs.Prelude.{IsUtf8}
 use Rattle.std.specs.List.{flat_map}
 use Rattle.std.proofs.Math.Seq.{drop-append_seam, take-append_seam, take-append-add, drop-append-add}
@@ -30,7 +30,7 @@ use Rattle.lexer_laws.specs.Pieces.{IsReplaced}
 use Rattle.lexer_laws.specs.Quiet.{is_in, errs_early, is_quiet_from, ended_by}
 use Rattle.lexer_laws.proofs.Bracing.{cut_one, brace_token}
 use Rattle.lexer_laws.proofs.Finding.{Replaced, replaced}
-use Rattle.lexer_laws.proofs.Pieces.{IsPiece, piece_front, first_bytes, bytes_append, headless}
+use Rattle.lexer_laws.proofs.Pieces.{IsPiece, IsClosed, piece_closed, closed_front, first_bytes, bytes_append, headless}
 use Rattle.lexer_laws.proofs.Stepping.{token_at, within_more, token_some, back_short}
 use Rattle.lexer_laws.proofs.Telling.{Tokens, Errors, at_range, message, wrong, wrong_none, between, size, rest_of, here, told, told_none, told_more, all, all_more, size_few, take_long, steps_told, silent, Each, each_more, IsFrom, all_from, EndsBy, Before, before_brace, Parted, parted}
 
@@ -197,7 +197,7 @@ all_moved e ts d s l h =
 within_told : (e : Edition) (s : List ℕ) → IsUtf8 s → length s < 2 ^ 32 → (steps_of (length s) e s (record { tokens = []; errors = []; rest = s })).errors ≡ all e [] [] s
 within_told e s u l = steps_told (length s) e s [] [] [] s refl (omega arith) l u (λ z. refl)
 
-text_told : (e : Edition) (text : List ℕ) → HasNoHead e text → IsUtf8 text → length text < 2 ^ 32 → errors_of e text ≡ all e [] [] text
+pub text_told : (e : Edition) (text : List ℕ) → HasNoHead e text → IsUtf8 text → length text < 2 ^ 32 → errors_of e text ≡ all e [] [] text
 text_told e text h u l = ap (λ (k : Lexing). (steps_of (length text) e text k).errors) h ∙ within_told e text u l
 
 ended : (n : ℕ) (f : LexError) → f.range.end ≤ n → ended_by n f ≡ f ∷ []
@@ -206,7 +206,7 @@ ended n f h = let test : nat_le f.range.end n ≡ true = grind (arith, nat_tests
 not_ended : (n : ℕ) (f : LexError) → n < f.range.end → ended_by n f ≡ []
 not_ended n f h = let test : nat_le f.range.end n ≡ false = grind (arith, nat_tests) in ap (λ (b : Bool). if b then f ∷ [] else []) test
 
-all_ended : (n : ℕ) (es : Errors) → Each (EndsBy n) es → flat_map (ended_by n) es ≡ es
+pub all_ended : (n : ℕ) (es : Errors) → Each (EndsBy n) es → flat_map (ended_by n) es ≡ es
 all_ended n [] h = refl
 all_ended n (f ∷ es) h = flat_map-cons (ended_by n) f es ∙ ap₂ (λ (fs gs : Errors). fs ++ gs) (ended n f h.0) (all_ended n es h.1)
 
@@ -226,14 +226,14 @@ left_true : (p q : Bool) → (p && q) ≡ true → p ≡ true
 left_true true q h = refl
 left_true false q h = absurd (cc)
 
-quiet_behind : (n : ℕ) (es fs : Errors) → is_quiet_from n (es ++ fs) ≡ true → is_quiet_from n fs ≡ true
+pub quiet_behind : (n : ℕ) (es fs : Errors) → is_quiet_from n (es ++ fs) ≡ true → is_quiet_from n fs ≡ true
 quiet_behind n [] fs h = h
 quiet_behind n (e ∷ es) fs h = quiet_behind n es fs (right_true (nat_lt e.range.start n) (is_quiet_from n (es ++ fs)) h)
 
 not_below : (i n : ℕ) → n ≤ i → nat_lt i n ≡ true → ⊥
 not_below i n h k = grind (arith, nat_tests)
 
-quiet_none : (n : ℕ) (es : Errors) → Each (IsFrom n) es → is_quiet_from n es ≡ true → es ≡ []
+pub quiet_none : (n : ℕ) (es : Errors) → Each (IsFrom n) es → is_quiet_from n es ≡ true → es ≡ []
 quiet_none n [] h k = refl
 quiet_none n (e ∷ es) h k = absurd (not_below e.range.start n h.0.begins (left_true (nat_lt e.range.start n) (is_quiet_from n es) k))
 
@@ -249,24 +249,24 @@ closing_silent e ts xs d r b s h u is =
     (ap (λ (t : Shape). t.fault) sign) rest
     ∙ silent e (ts ++ token_at e (b ∷ s) ∷ []) xs (d ++ take (size e (b ∷ s)) (b ∷ s)) r s is
 
-no_text : (e : Edition) (ts : Tokens) (d : List ℕ) → all e ts d [] ≡ []
+pub no_text : (e : Edition) (ts : Tokens) (d : List ℕ) → all e ts d [] ≡ []
 no_text e ts d = told_none 0 e ts d
 
--- a piece, behind which no error comes
-piece_told : (e : Edition) (ts : Tokens) (d piece c : List ℕ) (qs : Tokens) → IsPiece e piece qs → IsUtf8 c → length piece + length c < 2 ^ 32
-    → all e [] [] c ≡ [] → all e ts d (piece ++ c) ≡ all e ts d piece
-piece_told e ts d piece c qs w u l is =
-    let s : List ℕ = 123 ∷ w.inner in
-    let len : length piece ≡ length s + 1 = ap length w.parts ∙ length-append s (125 ∷ []) in
-    let tokens : tokens_within e (s ++ 125 ∷ []) ≡ w.front ++ w.close ∷ [] = ap (tokens_within e) (sym w.parts) ∙ w.are_tokens ∙ w.closed in
-    let cut : bytes_of w.front ≡ length s = piece_front e piece qs w (omega (arith, l)) in
-    let b : Before e ts d s 125 [] c w.front =
-    before_brace (length s) e 125 (inr refl) ts d s [] c w.front (w.close ∷ []) (omega arith) (omega (arith, len, l)) (omega (arith, len, l)) tokens cut in
-    let alone : all e ts d piece ≡ b.errors =
-    ap (all e ts d) w.parts ∙ b.first
-    ∙ ap (λ (es : Errors). b.errors ++ es) (closing_silent e (ts ++ w.front) [] (d ++ s) [] 125 [] (inr refl) IsUtf8-nil (no_text e [] [])) ∙ append-nil b.errors in
-    ap (λ (t : List ℕ). all e ts d (t ++ c)) w.parts ∙ ap (all e ts d) (append_assoc s (125 ∷ []) c) ∙ b.second
-    ∙ ap (λ (es : Errors). b.errors ++ es) (closing_silent e (ts ++ w.front) [] (d ++ s) [] 125 c (inr refl) u is) ∙ append-nil b.errors ∙ sym alone
+-- a text that ends in a brace, behind which no error comes
+pub closed_told : (e : Edition) (ts : Tokens) (d text c : List ℕ) (b : ℕ) (qs : Tokens) → IsClosed e text b qs → IsUtf8 c → length text + length c < 2 ^ 32
+    → all e [] [] c ≡ [] → all e ts d (text ++ c) ≡ all e ts d text
+closed_told e ts d text c b qs w u l is =
+    let s : List ℕ = w.inner in
+    let len : length text ≡ length s + 1 = ap length w.parts ∙ length-append s (b ∷ []) in
+    let tokens : tokens_within e (s ++ b ∷ []) ≡ w.front ++ w.close ∷ [] = ap (tokens_within e) (sym w.parts) ∙ w.are_tokens ∙ w.closed in
+    let cut : bytes_of w.front ≡ length s = closed_front e text b qs w (omega (arith, l)) in
+    let f : Before e ts d s b [] c w.front =
+    before_brace (length s) e b w.is_brace ts d s [] c w.front (w.close ∷ []) (omega arith) (omega (arith, len, l)) (omega (arith, len, l)) tokens cut in
+    let alone : all e ts d text ≡ f.errors =
+    ap (all e ts d) w.parts ∙ f.first
+    ∙ ap (λ (es : Errors). f.errors ++ es) (closing_silent e (ts ++ w.front) [] (d ++ s) [] b [] w.is_brace IsUtf8-nil (no_text e [] [])) ∙ append-nil f.errors in
+    ap (λ (t : List ℕ). all e ts d (t ++ c)) w.parts ∙ ap (all e ts d) (append_assoc s (b ∷ []) c) ∙ f.second
+    ∙ ap (λ (es : Errors). f.errors ++ es) (closing_silent e (ts ++ w.front) [] (d ++ s) [] b c w.is_brace u is) ∙ append-nil f.errors ∙ sym alone
 
 pub quiet_replaced : (e : Edition) (a part piece c : List ℕ) (ts ps us : Tokens) → IsReplaced e a part piece c ts ps us
     → errs_early (tokens_of e piece) (errors_of e piece) ≡ false → is_quiet_from (length (a ++ part)) (errors_of e (a ++ (part ++ c))) ≡ true
@@ -307,5 +307,5 @@ quiet_replaced e a part piece c ts ps us r early quiet =
     ap (flat_map (ended_by (length a))) old ∙ kept (length a) b.errors (all e ts a (part ++ c)) ends (all_from e ts a (part ++ c)) in
     text_told e (a ++ (piece ++ c)) w.new_plain r.is_new_text r.new_short ∙ ap (all e [] []) replaced_text ∙ b.second
     ∙ ap₂ (λ (es fs : Errors). es ++ fs) (sym stays)
-    (ap (λ (t : List ℕ). all e ts a (t ++ c)) (sym p.parts) ∙ piece_told e ts a piece c (tokens_of e piece) p r.is_rest_text (omega (arith, w.new_short)) none
+    (ap (λ (t : List ℕ). all e ts a (t ++ c)) (sym p.parts) ∙ closed_told e ts a piece c 125 (tokens_of e piece) (piece_closed e piece (tokens_of e piece) p) r.is_rest_text (omega (arith, w.new_short)) none
     ∙ all_moved e ts a piece (omega (arith, w.new_short)) late ∙ ap (map (moved_by (length a))) (sym alone))

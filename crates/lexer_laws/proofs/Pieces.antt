@@ -11,6 +11,7 @@ use Rattle.rust_lexer.specs.Lexing.{Lexing, steps_of, tokens_of}
 use Rattle.rust_lexer.specs.Signs.{sign_kind_of}
 use Rattle.rust_lexer.specs.Tokens.{token_of}
 use Rattle.rust_lexer.proofs.Cutting.{cut-boundary}
+use Rattle.lexer_laws.specs.Behind.{IsBrace}
 use Rattle.lexer_laws.specs.Cuts.{tokens_within, bytes_of}
 use Rattle.lexer_laws.specs.Heads.{HasNoHead}
 use Rattle.lexer_laws.proofs.Bracing.{braces_cut, brace_alone}
@@ -64,7 +65,7 @@ behind_cut (suc n) e (x ∷ s) (t ∷ ts) us m l is =
     behind_first e x s t ts us l is (λ r k now. behind_cut n e r ts us (omega (arith, k, m)) (omega (arith, k, l)) now)
 
 -- the tokens of a text have its bytes
-all_bytes : (n : ℕ) (e : Edition) (s : List ℕ) → length s ≤ n → length s < 2 ^ 32 → bytes_of (tokens_within e s) ≡ length s
+pub all_bytes : (n : ℕ) (e : Edition) (s : List ℕ) → length s ≤ n → length s < 2 ^ 32 → bytes_of (tokens_within e s) ≡ length s
 all_bytes n e [] m l = ap bytes_of (within_empty e)
 all_bytes zero e (x ∷ s) m l = absurd (omega (arith, m))
 all_bytes (suc n) e (x ∷ s) m l =
@@ -90,38 +91,60 @@ pub record IsPiece (e : Edition) (text : List ℕ) (ts : Tokens) : Type 0 where
   pub closed : ts ≡ front ++ close ∷ []
   pub one_byte : close.len ≡ 1
 
-closing : (e : Edition) → IsUtf8 [] → tokens_within e (125 ∷ []) ≡ record { kind = sign_kind_of 125; len = 1 } ∷ []
-closing e u =
-    brace_alone e 125 [] (inr refl) u ∙ ap (λ (ts : Tokens). record { kind = sign_kind_of 125; len = 1 } ∷ ts) (within_empty e)
+-- the text ends in the brace b, and the last of its tokens is that brace
+pub record IsClosed (e : Edition) (text : List ℕ) (b : ℕ) (ts : Tokens) : Type 0 where
+  pub is_brace : IsBrace b
+  pub inner : List ℕ
+  pub parts : text ≡ inner ++ b ∷ []
+  pub are_tokens : tokens_within e text ≡ ts
+  pub front : Tokens
+  pub close : span.Token
+  pub closed : ts ≡ front ++ close ∷ []
+  pub one_byte : close.len ≡ 1
+
+pub piece_closed : (e : Edition) (text : List ℕ) (ts : Tokens) → IsPiece e text ts → IsClosed e text 125 ts
+piece_closed e text ts p =
+    record { is_brace = inr refl; inner = 123 ∷ p.inner; parts = p.parts; are_tokens = p.are_tokens; front = p.front; close = p.close; closed = p.closed; one_byte = p.one_byte }
+
+closing : (e : Edition) (b : ℕ) → IsBrace b → IsUtf8 [] → tokens_within e (b ∷ []) ≡ record { kind = sign_kind_of b; len = 1 } ∷ []
+closing e b h u =
+    brace_alone e b [] h u ∙ ap (λ (ts : Tokens). record { kind = sign_kind_of b; len = 1 } ∷ ts) (within_empty e)
+
+-- the bytes before the brace
+pub closed_front : (e : Edition) (text : List ℕ) (b : ℕ) (ts : Tokens) (p : IsClosed e text b ts) → length text < 2 ^ 32 → bytes_of p.front ≡ length p.inner
+closed_front e text b ts p l =
+    let len : length text ≡ length p.inner + 1 = ap length p.parts ∙ length-append p.inner (b ∷ []) in
+    let total : bytes_of (p.front ++ p.close ∷ []) ≡ length text =
+    ap bytes_of (sym p.closed ∙ sym p.are_tokens) ∙ all_bytes (length text) e text (omega arith) l in
+    omega (arith, total, len, bytes_append p.front (p.close ∷ []), p.one_byte)
+
+pub closed_cut : (e : Edition) (text c : List ℕ) (b : ℕ) (ts : Tokens) → IsClosed e text b ts → IsUtf8 c → length text + length c < 2 ^ 32
+    → tokens_within e (text ++ c) ≡ ts ++ tokens_within e c
+closed_cut e text c b ts p u l =
+    let s : List ℕ = p.inner in
+    let len : length text ≡ length s + 1 = ap length p.parts ∙ length-append s (b ∷ []) in
+    let is : tokens_within e (s ++ b ∷ []) ≡ p.front ++ p.close ∷ [] = ap (tokens_within e) (sym p.parts) ∙ p.are_tokens ∙ p.closed in
+    let before : bytes_of p.front ≡ length s = closed_front e text b ts p (omega (arith, l)) in
+    let close : span.Token = record { kind = sign_kind_of b; len = 1 } in
+    let alone : tokens_within e text ≡ p.front ++ close ∷ [] =
+    ap (tokens_within e) p.parts
+    ∙ braces_cut e s [] [] b p.front (p.close ∷ []) p.is_brace (omega (arith, len, l)) (omega (arith, len, l)) is before
+    ∙ ap (λ (rs : Tokens). p.front ++ rs) (closing e b p.is_brace IsUtf8-nil) in
+    ap (λ (t : List ℕ). tokens_within e (t ++ c)) p.parts
+    ∙ ap (tokens_within e) (append_assoc s (b ∷ []) c)
+    ∙ braces_cut e s [] c b p.front (p.close ∷ []) p.is_brace (omega (arith, len, l)) (omega (arith, len, l)) is before
+    ∙ ap (λ (rs : Tokens). p.front ++ rs) (brace_alone e b c p.is_brace u)
+    ∙ sym (append_assoc p.front (close ∷ []) (tokens_within e c))
+    ∙ ap (λ (rs : Tokens). rs ++ tokens_within e c) (sym alone ∙ p.are_tokens)
 
 -- the bytes before the `}`
 pub piece_front : (e : Edition) (piece : List ℕ) (ts : Tokens) (p : IsPiece e piece ts) → length piece < 2 ^ 32 → bytes_of p.front ≡ length (123 ∷ p.inner)
-piece_front e piece ts p l =
-    let len : length piece ≡ length (123 ∷ p.inner) + 1 = ap length p.parts ∙ length-append (123 ∷ p.inner) (125 ∷ []) in
-    let total : bytes_of (p.front ++ p.close ∷ []) ≡ length piece =
-    ap bytes_of (sym p.closed ∙ sym p.are_tokens) ∙ all_bytes (length piece) e piece (omega arith) l in
-    omega (arith, total, len, bytes_append p.front (p.close ∷ []), p.one_byte)
+unfolding piece_closed
+piece_front e piece ts p l = closed_front e piece 125 ts (piece_closed e piece ts p) l
 
 pub pieces_cut : (e : Edition) (piece c : List ℕ) (ts : Tokens) → IsPiece e piece ts → IsUtf8 c → length piece + length c < 2 ^ 32
     → tokens_within e (piece ++ c) ≡ ts ++ tokens_within e c
-pieces_cut e piece c ts p u l =
-    let s : List ℕ = 123 ∷ p.inner in
-    let len : length piece ≡ length s + 1 = ap length p.parts ∙ length-append s (125 ∷ []) in
-    let is : tokens_within e (s ++ 125 ∷ []) ≡ p.front ++ p.close ∷ [] = ap (tokens_within e) (sym p.parts) ∙ p.are_tokens ∙ p.closed in
-    let total : bytes_of (p.front ++ p.close ∷ []) ≡ length piece =
-    ap bytes_of (sym p.closed ∙ sym p.are_tokens) ∙ all_bytes (length piece) e piece (omega arith) (omega (arith, l)) in
-    let before : bytes_of p.front ≡ length s = omega (arith, total, len, bytes_append p.front (p.close ∷ []), p.one_byte) in
-    let close : span.Token = record { kind = sign_kind_of 125; len = 1 } in
-    let alone : tokens_within e piece ≡ p.front ++ close ∷ [] =
-    ap (tokens_within e) p.parts
-    ∙ braces_cut e s [] [] 125 p.front (p.close ∷ []) (inr refl) (omega (arith, len, l)) (omega (arith, len, l)) is before
-    ∙ ap (λ (rs : Tokens). p.front ++ rs) (closing e IsUtf8-nil) in
-    ap (λ (t : List ℕ). tokens_within e (t ++ c)) p.parts
-    ∙ ap (tokens_within e) (append_assoc s (125 ∷ []) c)
-    ∙ braces_cut e s [] c 125 p.front (p.close ∷ []) (inr refl) (omega (arith, len, l)) (omega (arith, len, l)) is before
-    ∙ ap (λ (rs : Tokens). p.front ++ rs) (brace_alone e 125 c (inr refl) u)
-    ∙ sym (append_assoc p.front (close ∷ []) (tokens_within e c))
-    ∙ ap (λ (rs : Tokens). rs ++ tokens_within e c) (sym alone ∙ p.are_tokens)
+pieces_cut e piece c ts p u l = closed_cut e piece c 125 ts (piece_closed e piece ts p) u l
 
 pub headless : (e : Edition) (text : List ℕ) → HasNoHead e text → tokens_of e text ≡ tokens_within e text
 headless e text h = ap (λ (l : Lexing). (steps_of (length text) e text l).tokens) h

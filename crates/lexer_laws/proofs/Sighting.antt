@@ -6,14 +6,13 @@ use Rattle.std.proofs.lemmas.Bool.{cases_eq}
 use Rattle.std.proofs.lemmas.Bool.Decides.{nat_tests}
 use Rattle.std.proofs.lemmas.List.{take-append-le, drop-append-le}
 use Rattle.syntax_kind.specs.declared.syntax_kind.SyntaxKind.{SyntaxKind}
-use Rattle.syntax_kind.specs.declared.syntax_kind.SyntaxKind.TheVariants as kinds
-use Rattle.syntax_kind.specs.declared.syntax_kind.token_kind.TokenKind.TheVariants as token
 use Rattle.ras_front_end.specs.declared.edition.Edition.{Edition}
 use Rattle.token_layout.specs.declared.span.Token as span
 use Rattle.grammar_machine.specs.declared.grammar.Sight.{Sight}
 use Rattle.rust_grammar.specs.Seeing.{number_of, number_on, joined_of, finer_of, seen_of, sights_of}
 use Rattle.lexer_laws.specs.Cuts.{bytes_of}
 use Rattle.lexer_laws.specs.Pieces.{IsBraced}
+use Rattle.lexer_laws.specs.Windows.{IsBraceKind, BeginsInBrace, EndsInBrace}
 
 abbrev Tokens : Type 0
 Tokens = List span.Token
@@ -78,9 +77,16 @@ row_on : (left sign : ℕ) → empty_below left 43 ≡ true → (nat_lt sign 43 
 row_on left sign h (inl k) = empty_at left 43 sign h (is_below sign 43 k)
 row_on left sign h (inr k) = second_holds (nat_lt sign 24) (nat_le 19 (sign - 24)) _ (beyond_signs sign k)
 
--- nothing is joined with no token, and nothing with a `}`
+-- nothing is joined with no token, and nothing with a brace
 pub no_left : (sign : ℕ) → joined_of 0 sign ≡ 0
 no_left sign = row_on 0 sign none_before (either_true (nat_lt sign 43))
+
+none_behind_open : empty_below 20 43 ≡ true
+unfolding empty_below
+none_behind_open = refl
+
+no_right_open : (sign : ℕ) → joined_of 20 sign ≡ 0
+no_right_open sign = row_on 20 sign none_behind_open (either_true (nat_lt sign 43))
 
 no_right : (sign : ℕ) → joined_of 21 sign ≡ 0
 no_right sign = row_on 21 sign none_behind (either_true (nat_lt sign 43))
@@ -121,20 +127,26 @@ before_brace e a c (x ∷ ts) us t l h =
     ∙ ap₂ (λ (p r : List Sight). p ++ r) (seen_before e (take x.len a) (number_of x.kind) ts us t h) (before_brace e (drop x.len a) c ts us t rest h)
     ∙ sym (append_assoc (seen_of e (take x.len a) (number_of x.kind) (number_on (slice_get ts 0)) (number_on (slice_get ts 1))) (sights_of e (drop x.len a) ts) (sights_of e c (t ∷ us)))
 
--- what a `}` is seen as does not depend on what follows it
-seen_last : (e : Edition) (w : List ℕ) (n s t : ℕ) → n ≡ 21 → seen_of e w n s t ≡ seen_of e w n 0 0
+-- the number of a brace
+record IsBraceNumber (n : ℕ) : Type 0 where
+  is_small : nat_lt n 24 ≡ true
+  is_last : (j : ℕ) → joined_of n j ≡ 0
+
+-- what a brace is seen as does not depend on what follows it
+seen_last : (e : Edition) (w : List ℕ) (n s t : ℕ) → IsBraceNumber n → seen_of e w n s t ≡ seen_of e w n 0 0
 seen_last e w n s t h =
-    let none : (j : ℕ) → joined_of n j ≡ 0 = λ j. ap (λ (m : ℕ). joined_of m j) h ∙ no_right j in
+    let none : (j : ℕ) → joined_of n j ≡ 0 = h.is_last in
     seen_same e w n s t 0 0 (none s ∙ sym (none 0))
     (ap (λ (j : ℕ). joined_of j t) (none s) ∙ no_left t ∙ sym (ap (λ (j : ℕ). joined_of j 0) (none 0) ∙ no_left 0))
-
-closing_number : (k : SyntaxKind) → k ≡ kinds.Token token.R_CURLY → number_of k ≡ 21
-closing_number k h = ap number_of h
 
 small_on : (n m : ℕ) → n ≡ m → nat_lt m 24 ≡ true → nat_lt n 24 ≡ true
 small_on n m h k = ap (λ (j : ℕ). nat_lt j 24) h ∙ k
 
-closing_last : (e : Edition) (w c : List ℕ) (t : span.Token) (us : Tokens) → t.len ≡ length w → number_of t.kind ≡ 21
+brace_number : (k : SyntaxKind) → IsBraceKind k → IsBraceNumber (number_of k)
+brace_number k (inl h) = record { is_small = small_on (number_of k) 20 (ap number_of h) refl; is_last = λ j. ap (λ (m : SyntaxKind). joined_of (number_of m) j) h ∙ no_right_open j }
+brace_number k (inr h) = record { is_small = small_on (number_of k) 21 (ap number_of h) refl; is_last = λ j. ap (λ (m : SyntaxKind). joined_of (number_of m) j) h ∙ no_right j }
+
+closing_last : (e : Edition) (w c : List ℕ) (t : span.Token) (us : Tokens) → t.len ≡ length w → IsBraceNumber (number_of t.kind)
     → sights_of e (w ++ c) (t ∷ us) ≡ sights_of e w (t ∷ []) ++ sights_of e c us
 closing_last e w c t us l h =
     let front : take t.len (w ++ c) ≡ take t.len w = take-append-le t.len w c (omega (arith, l)) in
@@ -149,7 +161,7 @@ bytes_append : (ts us : Tokens) → bytes_of (ts ++ us) ≡ bytes_of ts + bytes_
 bytes_append [] us = omega arith
 bytes_append (t ∷ ts) us = omega (arith, bytes_append ts us)
 
-behind_brace : (e : Edition) (p c : List ℕ) (front us : Tokens) (t : span.Token) → bytes_of (front ++ t ∷ []) ≡ length p → number_of t.kind ≡ 21
+behind_brace : (e : Edition) (p c : List ℕ) (front us : Tokens) (t : span.Token) → bytes_of (front ++ t ∷ []) ≡ length p → IsBraceNumber (number_of t.kind)
     → sights_of e (p ++ c) (front ++ t ∷ us) ≡ sights_of e p (front ++ t ∷ []) ++ sights_of e c us
 behind_brace e p c front us t l h =
     let n : ℕ = bytes_of front in
@@ -159,7 +171,7 @@ behind_brace e p c front us t l h =
     let parts : a ++ w ≡ p = take-append-drop n p in
     let front_len : bytes_of front ≡ length a = omega (arith, total, length-take n p) in
     let last_len : t.len ≡ length w = omega (arith, total, length-drop n p) in
-    let few : nat_lt (number_of t.kind) 24 ≡ true = small_on (number_of t.kind) 21 h refl in
+    let few : nat_lt (number_of t.kind) 24 ≡ true = h.is_small in
     ap (λ (s : List ℕ). sights_of e (s ++ c) (front ++ t ∷ us)) (sym parts)
     ∙ ap (λ (s : List ℕ). sights_of e s (front ++ t ∷ us)) (append_assoc a w c)
     ∙ before_brace e a (w ++ c) front us t front_len few
@@ -170,8 +182,8 @@ behind_brace e p c front us t l h =
 pub sights_cut : (e : Edition) (a piece c : List ℕ) (ts ps us : Tokens) → bytes_of ts ≡ length a → bytes_of ps ≡ length piece → IsBraced ps
     → sights_of e (a ++ (piece ++ c)) (ts ++ (ps ++ us)) ≡ sights_of e a ts ++ (sights_of e piece ps ++ sights_of e c us)
 sights_cut e a piece c ts ps us l m p =
-    let opening : nat_lt (number_of p.0.first.kind) 24 ≡ true = small_on (number_of p.0.first.kind) 20 (ap number_of p.0.is_open) refl in
-    let closing : number_of p.1.last.kind ≡ 21 = closing_number p.1.last.kind p.1.is_close in
+    let opening : nat_lt (number_of p.0.first.kind) 24 ≡ true = (brace_number p.0.first.kind (inl p.0.is_open)).is_small in
+    let closing : IsBraceNumber (number_of p.1.last.kind) = brace_number p.1.last.kind (inr p.1.is_close) in
     ap (λ (rs : Tokens). sights_of e (a ++ (piece ++ c)) (ts ++ (rs ++ us))) p.0.begins
     ∙ before_brace e a (piece ++ c) ts (p.0.rest ++ us) p.0.first l opening
     ∙ ap (λ (rs : Tokens). sights_of e a ts ++ sights_of e (piece ++ c) (rs ++ us)) (sym p.0.begins ∙ p.1.ends)
@@ -180,3 +192,42 @@ sights_cut e a piece c ts ps us l m p =
     behind_brace e piece c p.1.front us p.1.last (ap bytes_of (sym p.1.ends) ∙ m) closing
     ∙ ap (λ (rs : Tokens). sights_of e piece rs ++ sights_of e c us) (sym p.1.ends)
     )
+
+-- ---- a window, which may also begin or end where the text does
+
+begins_at : (e : Edition) (a s : List ℕ) (ts ps : Tokens) → bytes_of ts ≡ length a → ((a ≡ []) × (ts ≡ [])) ⊎ BeginsInBrace ps
+    → sights_of e (a ++ s) (ts ++ ps) ≡ sights_of e a ts ++ sights_of e s ps
+begins_at e a s ts ps l (inl h) =
+    ap₂ (λ (d : List ℕ) (rs : Tokens). sights_of e (d ++ s) (rs ++ ps)) h.0 h.1
+    ∙ ap (λ (r : List Sight). r ++ sights_of e s ps) (ap (sights_of e a) (sym h.1))
+begins_at e a s ts ps l (inr b) =
+    ap (λ (rs : Tokens). sights_of e (a ++ s) (ts ++ rs)) b.begins
+    ∙ before_brace e a s ts b.rest b.first l (brace_number b.first.kind b.is_brace).is_small
+    ∙ ap (λ (rs : Tokens). sights_of e a ts ++ sights_of e s rs) (sym b.begins)
+
+ends_at : (e : Edition) (w c : List ℕ) (ps us : Tokens) → bytes_of ps ≡ length w → ((c ≡ []) × (us ≡ [])) ⊎ EndsInBrace ps
+    → sights_of e (w ++ c) (ps ++ us) ≡ sights_of e w ps ++ sights_of e c us
+ends_at e w c ps us l (inl h) =
+    ap₂ (λ (d : List ℕ) (rs : Tokens). sights_of e d (ps ++ rs)) (ap (λ (d : List ℕ). w ++ d) h.0 ∙ append-nil w) h.1
+    ∙ ap (sights_of e w) (append-nil ps)
+    ∙ sym (ap (λ (rs : Tokens). sights_of e w ps ++ sights_of e c rs) h.1 ∙ append-nil (sights_of e w ps))
+ends_at e w c ps us l (inr b) =
+    ap (λ (rs : Tokens). sights_of e (w ++ c) (rs ++ us)) b.ends
+    ∙ ap (sights_of e (w ++ c)) (append_assoc b.front (b.last ∷ []) us)
+    ∙ behind_brace e w c b.front us b.last (ap bytes_of (sym b.ends) ∙ l) (brace_number b.last.kind b.is_brace)
+    ∙ ap (λ (rs : Tokens). sights_of e w rs ++ sights_of e c us) (sym b.ends)
+
+more_begins : (ps us : Tokens) → BeginsInBrace ps → BeginsInBrace (ps ++ us)
+more_begins ps us b = record { first = b.first; rest = b.rest ++ us; begins = ap (λ (rs : Tokens). rs ++ us) b.begins; is_brace = b.is_brace }
+
+begins_more : (a : List ℕ) (ts ps us : Tokens) → ((a ≡ []) × (ts ≡ [])) ⊎ BeginsInBrace ps → ((a ≡ []) × (ts ≡ [])) ⊎ BeginsInBrace (ps ++ us)
+begins_more a ts ps us (inl h) = inl h
+begins_more a ts ps us (inr b) = inr (more_begins ps us b)
+
+-- each part is seen as by itself
+pub window_seen : (e : Edition) (a w c : List ℕ) (ts ps us : Tokens) → bytes_of ts ≡ length a → bytes_of ps ≡ length w
+    → ((a ≡ []) × (ts ≡ [])) ⊎ BeginsInBrace ps → ((c ≡ []) × (us ≡ [])) ⊎ EndsInBrace ps
+    → sights_of e (a ++ (w ++ c)) (ts ++ (ps ++ us)) ≡ sights_of e a ts ++ (sights_of e w ps ++ sights_of e c us)
+window_seen e a w c ts ps us l m begins ends =
+    begins_at e a (w ++ c) ts (ps ++ us) l (begins_more a ts ps us begins)
+    ∙ ap (λ (r : List Sight). sights_of e a ts ++ r) (ends_at e w c ps us m ends)

@@ -1,5 +1,5 @@
--- The tokens of a text in which a window between braces was replaced. A window may also begin at the
--- start of the text, or end at its end.
+-- The tokens of a text in which a window between braces was replaced. A window may also begin at
+-- the start of the text, or end at its end.
 use Rattle.std.specs.Prelude.{◌≡◌, ◌⊎◌, ℕ, ◌<◌, ◌^◌, true, false, IsUtf8, List, [], ◌∷◌, ◌++◌, length}
 use Rattle.std.specs.List.{flat_map}
 use Rattle.syntax_kind.specs.declared.syntax_kind.SyntaxKind.{SyntaxKind}
@@ -70,7 +70,9 @@ pub record WindowsAreExchanged (e : Edition) (a w q c : List ℕ) (ts : List Tok
   pub tokens : tokens_of e (a ++ (w ++ c)) ≡ ts ++ (tokens_of e w ++ tokens_within e c)
   pub new_tokens : tokens_of e (a ++ (q ++ c)) ≡ ts ++ (tokens_of e q ++ tokens_within e c)
   pub errors : errors_of e (a ++ (q ++ c)) ≡ errors_of e (a ++ (w ++ c))
-  pub early : flat_map (ended_by (length a)) (errors_of e (a ++ (w ++ c))) ≡ errors_of e (a ++ (w ++ c))
+  pub early :
+      flat_map (ended_by (length a)) (errors_of e (a ++ (w ++ c)))
+      ≡ errors_of e (a ++ (w ++ c))
   -- where the machine sees both windows alike, it sees both texts alike
   pub sights :
       sights_of e w (tokens_of e w) ≡ sights_of e q (tokens_of e q)

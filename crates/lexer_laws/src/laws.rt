@@ -6,6 +6,7 @@ ghost use Rattle.lexer_laws.specs.Errors.{ErrorsStayNone, ErrorsAreReplaced};
 ghost use Rattle.lexer_laws.specs.Quiet.{QuietErrorsAreReplaced};
 ghost use Rattle.lexer_laws.specs.Heads.{PlainTextsHaveNoHead, HeadsEndBeforeBraces};
 ghost use Rattle.lexer_laws.specs.Sights.{SightsAreCut};
+ghost use Rattle.lexer_laws.specs.Windows.{WindowsAreReplaced};
 
 /// The first token of a text with a brace somewhere behind its start either ends before the
 /// brace, and is then, with what is wrong with it, that of the text without the brace and all
@@ -70,4 +71,13 @@ pub fn plain_texts_have_no_head()
 /// grammar's machine sees each part as it does by itself: no sign is joined with a brace.
 pub fn sights_are_cut()
     ensures { SightsAreCut }
+{}
+
+/// A window of a text stands between braces, which are its first and its last token, or at the
+/// start or the end of the text. If a new window takes its place that begins with the same brace,
+/// and neither has errors of the lexer by itself, nor is there one behind it, then each window
+/// brings the tokens that it has by itself, and those around it stay, and all errors. Where the
+/// grammar's machine sees both windows alike, it sees both texts alike.
+pub fn windows_are_replaced()
+    ensures { WindowsAreReplaced }
 {}
