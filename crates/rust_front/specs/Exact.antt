@@ -1,5 +1,5 @@
 -- The pieces of a text that are read by themselves as they are in the text.
-use Rattle.std.specs.Prelude.{ℕ, ◌-◌, ◌^◌, nat_lt, nat_eq, Bool, true, false, not, ◌||◌, ◌&&◌, if◌then◌else◌, Option, Some, None, option_map, option_and_then, List, [], ◌∷◌, length, reverse, take, slice_get}
+use Rattle.std.specs.Prelude.{ℕ, ◌-◌, ◌^◌, nat_lt, Bool, true, false, not, ◌||◌, ◌&&◌, if◌then◌else◌, Option, Some, None, option_map, option_and_then, List, [], ◌∷◌, length, reverse, take, slice_get}
 use Rattle.syntax_kind.specs.declared.syntax_kind.SyntaxKind.{SyntaxKind}
 use Rattle.syntax_kind.specs.declared.syntax_kind.SyntaxKind.TheVariants.{Token}
 use Rattle.syntax_kind.specs.declared.syntax_kind.token_kind.TokenKind.TheVariants as token

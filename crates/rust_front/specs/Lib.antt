@@ -7,3 +7,4 @@ pub mod Heads
 pub mod Exact
 pub mod ExactLaws
 pub mod Retold
+pub mod RetoldLaws

@@ -10,6 +10,7 @@ use crate::exact::{LONGEST_EXACT, exact_piece, has_head, is_exact_piece};
 use crate::message::{lexer_errors, lexer_message};
 use crate::piece::{exact_reparser_of, reparser_of, rule_by};
 use crate::report::reported;
+use crate::retold::is_retold;
 use crate::root::{attaching, root_kind, rule_of_entry};
 use event_layout::{lay_out, outermost};
 use exact_front::ExactFront;
@@ -19,6 +20,7 @@ use rust_grammar::{Rule, grammar, rule_of, sights};
 use rust_lexer::{Lexed, is_strict_keyword, keyword, lex, single_token};
 use std::alloc::{AllocError, Global};
 use syntax_kind::SyntaxKind;
+use text_size::TextRange;
 use token_layout::Token;
 
 /// The front end for Rust, of the editions 2015 to 2024.
@@ -258,5 +260,18 @@ impl ExactFront for Rust {
         edition: Edition,
     ) -> Result<bool, AllocError> {
         is_exact_piece(alloc, reparser, text, edition)
+    }
+
+    fn is_retold(
+        &self,
+        alloc: Global,
+        before: &str,
+        old: &str,
+        new: &str,
+        behind: &str,
+        token: TextRange,
+        edition: Edition,
+    ) -> Result<bool, AllocError> {
+        is_retold(alloc, before, old, new, behind, token, edition)
     }
 }

@@ -3,9 +3,11 @@
 
 mod exact;
 mod front;
+pub mod laws;
 mod message;
 mod piece;
 mod report;
+mod retold;
 mod root;
 
 pub use front::Rust;
