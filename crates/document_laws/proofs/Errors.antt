@@ -41,7 +41,7 @@ with_errors : (root : SyntaxKind) (text : List ℕ) (ts : List RawToken) (errors
 unfolding reading_with
 with_errors root text ts errors es = refl
 
-parsed_errors : (e : Edition) (text : List ℕ) → length text < 2 ^ 32 → (parsed_of SourceFile e text).errors ≡ stored e text
+pub parsed_errors : (e : Edition) (text : List ℕ) → length text < 2 ^ 32 → (parsed_of SourceFile e text).errors ≡ stored e text
 parsed_errors e text small = ap (λ (x : Reading). x.errors) (parsed_is e text small) ∙ with_errors _ text (tokens_of e text) _ _
 
 -- another piece comes in the place of one

@@ -1,8 +1,7 @@
 -- The front end for Rust reads the pieces of every text as in the text.
 use Rattle.std.proofs.Common.{inl, inr, ◌≡◌, ℕ, ◌+◌, ◌-◌, ◌≤◌, ◌<◌, ◌^◌, true, false, List, [], ◌∷◌, ◌++◌, length, take, drop, ap, ap₂, ◌∙◌, refl, subst, sym, arith, length-append}
-use Rattle.std.specs.Prelude.{Option, Some, None, IsUtf8, IsCharBoundary}
+use Rattle.std.specs.Prelude.{Option, Some, None, IsUtf8}
 use Rattle.std.proofs.lemmas.List.{append_cancel_left, append_cancel_right}
-use Rattle.std.proofs.lemmas.Str.{IsUtf8-append, IsUtf8-take, IsUtf8-drop}
 use Rattle.std.proofs.Math.Seq.{drop-append_seam}
 use Rattle.text_size.specs.TextRange.{Bounds}
 use Rattle.syntax_kind.specs.declared.syntax_kind.SyntaxKind.{SyntaxKind}
@@ -26,7 +25,9 @@ use Rattle.ras_parsing.proofs.Around.{boundary_at}
 use Rattle.grammar_machine.specs.declared.event.Event.TheVariants as event
 use Rattle.grammar_machine.specs.Exchanging.{CallsMakeTheirOwn}
 use Rattle.grammar_machine.specs.Sealing.{SealedCallsLeaveNothing}
+use Rattle.event_layout.specs.Retold.{LeavesBeginInTokens, RetoldTokensAreLaid}
 use Rattle.lexer_laws.specs.Heads.{PlainTextsHaveNoHead, HeadsEndBeforeBraces}
+use Rattle.lexer_laws.specs.Windows.{WindowsAreReplaced}
 use Rattle.rust_grammar.specs.declared.tables.rules.Rule.{Rule}
 use Rattle.rust_grammar.specs.declared.tables.rules.Rule.TheVariants as rule
 use Rattle.rust_front.specs.Exact.{exact_piece_of, rust_exact}
@@ -34,6 +35,7 @@ use Rattle.rust_front.specs.Heads.{has_head_of}
 use Rattle.rust_front.specs.Front.{parsed_of, made_of, rust_front}
 use Rattle.rust_front.specs.Laws.{rust_kept}
 use Rattle.rust_front.specs.Pieces.{exact_chosen_of, rule_by_number}
+use Rattle.rust_front.specs.RetoldLaws.{RetoldWindowsAreAlike}
 use Rattle.document_laws.specs.Alone.{IsExactPiece}
 use Rattle.document_laws.specs.Edited.{BuildsFile}
 use Rattle.document_laws.specs.Exactly.{RustReadsExactly}
@@ -49,6 +51,7 @@ use Rattle.document_laws.proofs.Few.{short_few}
 use Rattle.document_laws.proofs.Filing.{files_kinds, files_cursors}
 use Rattle.document_laws.proofs.Opening.{pieces_open}
 use Rattle.document_laws.proofs.Parting.{pieces_stand}
+use Rattle.document_laws.proofs.Retold.{splice_utf8, behind_steps, by_token}
 use Rattle.document_laws.proofs.Setting.{laid_around}
 use Rattle.document_laws.proofs.Textual.{text_there}
 
@@ -76,10 +79,6 @@ record IsSome (o : Option Reading) : Type 0 where
 some_of : (o : Option Reading) → is_piece o ≡ true → IsSome o
 some_of None h = absurd (let bad : false ≡ true = h in cc)
 some_of (Some x) h = record { reading = x; is = refl }
-
--- the lexer's errors are those behind the parser's
-behind_steps : (s : Reading) (errors : List Fault) (n : ℕ) → errors ≡ stored_faults s → n ≡ length (step_faults s.steps) → drop n errors ≡ s.errors
-behind_steps s errors n e count = ap₂ drop count e ∙ drop-append_seam (step_faults s.steps) s.errors
 
 -- ---- the piece
 
@@ -225,11 +224,6 @@ by_place own leave plain heads e t edit a q b k r was now piece u is_q is_new sm
     → Edited e (text t) (edited (text t) edit) (replace t x piece) a (text (subtree t x)) now edit) (sym is)
     (in_parts own leave plain heads e t edit a q b k r was now i p piece u is_q is_new small small_new no_head built builds forwards)
 
--- ---- texts
-
-splice_utf8 : (s ins : List ℕ) (i j : ℕ) → IsUtf8 s → IsUtf8 ins → IsCharBoundary s i → IsCharBoundary s j → IsUtf8 (splice s i j ins)
-splice_utf8 s ins i j u v a b = IsUtf8-append (take i s) (ins ++ drop j s) (IsUtf8-take s i u a) (IsUtf8-append ins (drop j s) v (IsUtf8-drop s j u b))
-
 -- ---- an edit by a piece
 
 -- the path of the edit, with the old text of its node as a piece
@@ -315,7 +309,10 @@ by_piece own leave plain heads e old new before count edit u v is_edit short was
           ∙ sym made.errors.count;
     }
 
-pub exactly : CallsMakeTheirOwn → SealedCallsLeaveNothing → PlainTextsHaveNoHead → HeadsEndBeforeBraces → RustReadsExactly
-exactly own leave plain heads e old new before count edit range u v is_edit short was (inl p) =
+pub exactly : CallsMakeTheirOwn → SealedCallsLeaveNothing → PlainTextsHaveNoHead → HeadsEndBeforeBraces
+    → LeavesBeginInTokens → RetoldTokensAreLaid → WindowsAreReplaced → RetoldWindowsAreAlike → RustReadsExactly
+exactly own leave plain heads leaves laid windows front e old new before count edit range u v is_edit short was (inl p) =
+    by_token heads leaves laid windows front e old new before count edit u v is_edit short was p.retold p.window p.path p.is
+exactly own leave plain heads leaves laid windows front e old new before count edit range u v is_edit short was (inr (inl p)) =
     by_piece own leave plain heads e old new before count edit u v is_edit short was p.block p.reparser p.reading p.path p.is
-exactly own leave plain heads e old new before count edit range u v is_edit short was (inr p) = p.is
+exactly own leave plain heads leaves laid windows front e old new before count edit range u v is_edit short was (inr (inr p)) = p.is

@@ -52,7 +52,7 @@ use Rattle.document_laws.proofs.Inside.{EndsClosed}
 -- ---- the errors of a reading
 
 -- what a reading says of an error of the layout
-abbrev said_of : List RawToken → LaidFault → Fault
+abbrev pub said_of : List RawToken → LaidFault → Fault
 said_of ts f = fault_at (parser_message_of f.message (last_of ts f.left)) f.position
 
 faults_both : (es ds : List FrontStep) → step_faults (es ++ ds) ≡ step_faults es ++ step_faults ds
@@ -66,7 +66,7 @@ reported : (ts : List RawToken) (fs : List LaidFault) → step_faults (map (repo
 reported ts [] = refl
 reported ts (f ∷ fs) = ap (λ (l : List Fault). said_of ts f ∷ l) (reported ts fs)
 
-reading_faults : (root : SyntaxKind) (text : List ℕ) (ts : List RawToken) (errors : List LexError) (es : List Event) → length text < 2 ^ 32 → IsCut ts text
+pub reading_faults : (root : SyntaxKind) (text : List ℕ) (ts : List RawToken) (errors : List LexError) (es : List Event) → length text < 2 ^ 32 → IsCut ts text
     → step_faults (reading_with root text ts errors es).steps ≡ map (said_of ts) (laid_of root attaching_kinds text ts es).faults
 unfolding reading_with
 reading_faults root text ts errors es small cut =
@@ -82,7 +82,7 @@ parsed_is e text small =
     let short : nat_lt (length text) (2 ^ 32) ≡ true = grind (arith, nat_tests, small) in
     ap (λ (b : Bool). if b then entry_reading SourceFile e text (made_of rule.SourceFile e text) else nothing_read) short
 
-parsed_faults : (e : Edition) (text : List ℕ) → IsUtf8 text → length text < 2 ^ 32
+pub parsed_faults : (e : Edition) (text : List ℕ) → IsUtf8 text → length text < 2 ^ 32
     → step_faults (parsed_of SourceFile e text).steps
     ≡ map (said_of (tokens_of e text)) (laid_of (kinds.Node node.SOURCE_FILE) attaching_kinds text (tokens_of e text) (made_of rule.SourceFile e text)).faults
 parsed_faults e text u small =
@@ -91,7 +91,7 @@ parsed_faults e text u small =
 
 -- ---- the next token of a message
 
-next_more : (x : RawToken) (xs ys : List RawToken) (b : Bool) → is_trivia x.kind ≡ b → next_kind_of xs ≡ next_kind_of ys
+pub next_more : (x : RawToken) (xs ys : List RawToken) (b : Bool) → is_trivia x.kind ≡ b → next_kind_of xs ≡ next_kind_of ys
     → (if b then next_kind_of xs else Some x.kind) ≡ (if b then next_kind_of ys else Some x.kind)
 next_more x xs ys true e h = h
 next_more x xs ys false e h = refl
@@ -157,41 +157,41 @@ left_behind ts tw us l most =
     ap (λ (i : ℕ). drop i (ts ++ (tw ++ us))) n ∙ drop-append-add ts (tw ++ us) (length tw + (length us - l))
     ∙ drop-append-add tw us (length us - l)
 
-message_same : (m : ℕ) (xs ys : List RawToken) → next_kind_of xs ≡ next_kind_of ys → parser_message_of m xs ≡ parser_message_of m ys
+pub message_same : (m : ℕ) (xs ys : List RawToken) → next_kind_of xs ≡ next_kind_of ys → parser_message_of m xs ≡ parser_message_of m ys
 message_same m xs ys h = ap (λ (o : Option SyntaxKind). filled (kind_name_of o) (message_of m)) h
 
 -- ---- which errors are put in order
 
-at_most : (m n : ℕ) → m ≤ n → nat_le m n ≡ true
+pub at_most : (m n : ℕ) → m ≤ n → nat_le m n ≡ true
 at_most m n h = grind (arith, nat_tests, h)
 
-more_than : (m n : ℕ) → n < m → nat_le m n ≡ false
+pub more_than : (m n : ℕ) → n < m → nat_le m n ≡ false
 more_than m n h = grind (arith, nat_tests, h)
 
-abbrev by_edit : Edit → Fault → Fault
+abbrev pub by_edit : Edit → Fault → Fault
 by_edit edit f = record { message = f.message; range = record { start = shifted edit f.range.start; end = shifted edit f.range.end } }
 
-is_earlier : (b : Bounds) (f : Fault) → f.range.end ≤ b.start → earlier_fault b f ≡ f ∷ []
+pub is_earlier : (b : Bounds) (f : Fault) → f.range.end ≤ b.start → earlier_fault b f ≡ f ∷ []
 is_earlier b f h = ap (λ (x : Bool). if x then f ∷ [] else []) (at_most f.range.end b.start h)
 
-not_earlier : (b : Bounds) (f : Fault) → b.start < f.range.end → earlier_fault b f ≡ []
+pub not_earlier : (b : Bounds) (f : Fault) → b.start < f.range.end → earlier_fault b f ≡ []
 not_earlier b f h = ap (λ (x : Bool). if x then f ∷ [] else []) (more_than f.range.end b.start h)
 
-is_later : (b : Bounds) (edit : Edit) (f : Fault) → b.end ≤ f.range.start → later_fault b edit f ≡ by_edit edit f ∷ []
+pub is_later : (b : Bounds) (edit : Edit) (f : Fault) → b.end ≤ f.range.start → later_fault b edit f ≡ by_edit edit f ∷ []
 is_later b edit f h = ap (λ (x : Bool). if x then by_edit edit f ∷ [] else []) (at_most b.end f.range.start h)
 
-not_later : (b : Bounds) (edit : Edit) (f : Fault) → f.range.start < b.end → later_fault b edit f ≡ []
+pub not_later : (b : Bounds) (edit : Edit) (f : Fault) → f.range.start < b.end → later_fault b edit f ≡ []
 not_later b edit f h = ap (λ (x : Bool). if x then by_edit edit f ∷ [] else []) (more_than b.end f.range.start h)
 
 -- each of the errors becomes one, or none
-all_one : (P : LaidFault → Type 0) (g : Fault → List Fault) (x y : LaidFault → Fault) → ((f : LaidFault) → P f → g (x f) ≡ y f ∷ [])
+pub all_one : (P : LaidFault → Type 0) (g : Fault → List Fault) (x y : LaidFault → Fault) → ((f : LaidFault) → P f → g (x f) ≡ y f ∷ [])
     → (fs : List LaidFault) → All P fs → flat_map g (map x fs) ≡ map y fs
 all_one P g x y h [] p = refl
 all_one P g x y h (f ∷ fs) p =
     flat_map-cons g (x f) (map x fs)
     ∙ ap₂ (λ (xs ys : List Fault). xs ++ ys) (h f (All-head P f fs p)) (all_one P g x y h fs (All-tail P f fs p))
 
-all_none : (P : LaidFault → Type 0) (g : Fault → List Fault) (x : LaidFault → Fault) → ((f : LaidFault) → P f → g (x f) ≡ [])
+pub all_none : (P : LaidFault → Type 0) (g : Fault → List Fault) (x : LaidFault → Fault) → ((f : LaidFault) → P f → g (x f) ≡ [])
     → (fs : List LaidFault) → All P fs → flat_map g (map x fs) ≡ []
 all_none P g x h [] p = refl
 all_none P g x h (f ∷ fs) p =

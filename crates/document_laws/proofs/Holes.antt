@@ -15,31 +15,31 @@ use Rattle.document_laws.specs.Blocks.{BlocksAreAtPlaces}
 -- ---- a tree in a stack of forests
 
 -- child number i of the forest has the tree at a place, b bytes behind the forest's start
-record IsIn (old : Tree) (f : Forest) (i : ℕ) (p : Place) (b : ℕ) : Type 0 where
-  child : i < child_count f
-  within : Within (child_at f i) p
-  is_old : subtree (child_at f i) p ≡ old
-  starts : bytes_before f i + start (child_at f i) p ≡ b
+pub record IsIn (old : Tree) (f : Forest) (i : ℕ) (p : Place) (b : ℕ) : Type 0 where
+  pub child : i < child_count f
+  pub within : Within (child_at f i) p
+  pub is_old : subtree (child_at f i) p ≡ old
+  pub starts : bytes_before f i + start (child_at f i) p ≡ b
 
 -- so has forest number n
-abbrev Fits : Tree → List Forest → ℕ → ℕ → Place → ℕ → Type 0
+abbrev pub Fits : Tree → List Forest → ℕ → ℕ → Place → ℕ → Type 0
 Fits old [] n i p b = ⊥
 Fits old (f ∷ fs) zero i p b = IsIn old f i p b
 Fits old (f ∷ fs) (suc n) i p b = (d : ℕ) × (b ≡ length (forest_text f) + d) × Fits old fs n i p d
 
 -- another tree is put there
-abbrev put : List Forest → ℕ → ℕ → Place → Tree → List Forest
+abbrev pub put : List Forest → ℕ → ℕ → Place → Tree → List Forest
 put [] n i p u = []
 put (f ∷ fs) zero i p u = set_child f i (replace (child_at f i) p u) ∷ fs
 put (f ∷ fs) (suc n) i p u = f ∷ put fs n i p u
 
 -- the stacks are the first one with another tree there
-record Hole (old : Tree) (fs : List Forest) (gs : Tree → List Forest) (b : ℕ) : Type 0 where
-  n : ℕ
-  i : ℕ
-  p : Place
-  fits : Fits old fs n i p b
-  news : (u : Tree) → gs u ≡ put fs n i p u
+pub record Hole (old : Tree) (fs : List Forest) (gs : Tree → List Forest) (b : ℕ) : Type 0 where
+  pub n : ℕ
+  pub i : ℕ
+  pub p : Place
+  pub fits : Fits old fs n i p b
+  pub news : (u : Tree) → gs u ≡ put fs n i p u
 
 -- ---- one event more
 
@@ -125,7 +125,7 @@ renamed old fs hs gs ks b e f h = record {
 abbrev one : Tree → List Event
 one t = events_of (cons t nil)
 
-hole : (before behind : List Event) (old : Tree) → Hole old (forests (before ++ (one old ++ behind))) (λ u. forests (before ++ (one u ++ behind))) (text_len before)
+pub hole : (before behind : List Event) (old : Tree) → Hole old (forests (before ++ (one old ++ behind))) (λ u. forests (before ++ (one u ++ behind))) (text_len before)
 hole [] behind old =
     let f : Forest = first_forest (forests behind) in
     let fs : List Forest = later_forests (forests behind) in
@@ -153,18 +153,18 @@ hole (exit ∷ before) behind old =
 
 -- ---- the place in the tree
 
-record Found (t old : Tree) (n i : ℕ) (p : Place) (b : ℕ) : Type 0 where
-  within : Within t p
-  is_old : subtree t p ≡ old
-  starts : start t p ≡ b
-  is_new : (u : Tree) → put (cons t nil ∷ []) n i p u ≡ cons (replace t p u) nil ∷ []
+pub record Found (t old : Tree) (n i : ℕ) (p : Place) (b : ℕ) : Type 0 where
+  pub within : Within t p
+  pub is_old : subtree t p ≡ old
+  pub starts : start t p ≡ b
+  pub is_new : (u : Tree) → put (cons t nil ∷ []) n i p u ≡ cons (replace t p u) nil ∷ []
 
-found : (t old : Tree) (n i : ℕ) (p : Place) (b : ℕ) → Fits old (cons t nil ∷ []) n i p b → Found t old n i p b
+pub found : (t old : Tree) (n i : ℕ) (p : Place) (b : ℕ) → Fits old (cons t nil ∷ []) n i p b → Found t old n i p b
 found t old zero zero p b h = record { within = h.within; is_old = h.is_old; starts = omega (arith, h.starts); is_new = λ u. refl }
 found t old zero (suc i) p b h = absurd (omega (arith, h.child))
 found t old (suc n) i p b h = absurd h.2
 
-forests_of : (es : List Event) (t : Tree) → Builds es (cons t nil) → forests es ≡ cons t nil ∷ []
+pub forests_of : (es : List Event) (t : Tree) → Builds es (cons t nil) → forests es ≡ cons t nil ∷ []
 forests_of es t h =
     ap forests (sym (events_of-builds h) ∙ sym (append-nil (one t))) ∙ forests-events_of (cons t nil) []
     ∙ ap (λ (fs : List Forest). cons t (first_forest fs) ∷ later_forests fs) forests_none
@@ -176,7 +176,7 @@ open_within (cons (node k c) r) d es =
     ap (open_after (suc d)) (append_assoc (events_of c) (exit ∷ events_of r) es)
     ∙ open_within c (suc d) (exit ∷ (events_of r ++ es)) ∙ open_within r d es
 
-open_same : (before : List Event) (f g : Forest) (d : ℕ) (behind : List Event) → open_after d (before ++ (events_of f ++ behind)) ≡ open_after d (before ++ (events_of g ++ behind))
+pub open_same : (before : List Event) (f g : Forest) (d : ℕ) (behind : List Event) → open_after d (before ++ (events_of f ++ behind)) ≡ open_after d (before ++ (events_of g ++ behind))
 open_same [] f g d behind = open_within f d behind ∙ sym (open_within g d behind)
 open_same (enter k ∷ before) f g d behind = open_same before f g (suc d) behind
 open_same (leaf k s ∷ before) f g d behind = open_same before f g d behind

@@ -5,6 +5,7 @@ mod Calling
 mod Tabling
 mod Storing
 mod Noding
+mod Leaves
 mod Leaving
 mod Starting
 mod Piecing
@@ -32,6 +33,11 @@ mod Inside
 mod Erring
 mod Faults
 mod Errors
+mod Reporting
+mod Windows
+mod Regrowing
+mod Retelling
+mod Retold
 mod Fitting
 mod Once
 mod Braces

@@ -30,7 +30,7 @@ Steps = List FrontStep
 
 -- ---- the events of a place
 
-abbrev one : Tree → List TreeEvent
+abbrev pub one : Tree → List TreeEvent
 one t = events_of (cons t nil)
 
 events_cons : (t : Tree) (r : Forest) → events_of (cons t r) ≡ one t ++ events_of r
@@ -47,14 +47,14 @@ both_long (leaf k s ∷ es) fs = omega (arith, both_long es fs)
 both_long (exit ∷ es) fs = both_long es fs
 
 -- the events of a tree, which begins behind so many bytes, among others
-record Among (es : List TreeEvent) (t : Tree) (b : ℕ) : Type 0 where
-  before : List TreeEvent
-  behind : List TreeEvent
-  is : es ≡ before ++ (one t ++ behind)
-  starts : text_len before ≡ b
+pub record Among (es : List TreeEvent) (t : Tree) (b : ℕ) : Type 0 where
+  pub before : List TreeEvent
+  pub behind : List TreeEvent
+  pub is : es ≡ before ++ (one t ++ behind)
+  pub starts : text_len before ≡ b
 
 mutual
-  in_forest : (f : Forest) (i : ℕ) (p : Place) → i < child_count f → Within (child_at f i) p → Among (events_of f) (subtree (child_at f i) p) (bytes_before f i + start (child_at f i) p)
+  pub in_forest : (f : Forest) (i : ℕ) (p : Place) → i < child_count f → Within (child_at f i) p → Among (events_of f) (subtree (child_at f i) p) (bytes_before f i + start (child_at f i) p)
   in_forest nil i p h w = absurd (omega (arith, h))
   in_forest (cons t r) zero p h w =
       let a = in_tree t p w in
@@ -77,7 +77,7 @@ mutual
         starts = omega (arith, both_long (one t) a.before, one_long t, a.starts);
       }
 
-  in_tree : (t : Tree) (p : Place) → Within t p → Among (one t) (subtree t p) (start t p)
+  pub in_tree : (t : Tree) (p : Place) → Within t p → Among (one t) (subtree t p) (start t p)
   in_tree t [] w = record { before = []; behind = []; is = sym (append-nil (one t)); starts = refl }
   in_tree (token k s) (i ∷ p) w = absurd (omega (arith, w.0))
   in_tree (node k c) (i ∷ p) w =

@@ -153,7 +153,7 @@ pub bytes_are : (ts : List RawToken) → bytes_of ts ≡ sum_len ts
 bytes_are [] = refl
 bytes_are (t ∷ ts) = ap (λ (n : ℕ). t.len + n) (bytes_are ts)
 
-sum_both : (xs ys : List RawToken) → sum_len (xs ++ ys) ≡ sum_len xs + sum_len ys
+pub sum_both : (xs ys : List RawToken) → sum_len (xs ++ ys) ≡ sum_len xs + sum_len ys
 sum_both [] ys = omega arith
 sum_both (x ∷ xs) ys = omega (arith, sum_both xs ys)
 

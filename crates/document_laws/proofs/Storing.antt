@@ -72,7 +72,7 @@ drop_none : (n : ℕ) → drop n none ≡ none
 drop_none zero = refl
 drop_none (suc n) = refl
 
-same_choice : (b : Bool) → (if b then none else none) ≡ none
+pub same_choice : (b : Bool) → (if b then none else none) ≡ none
 same_choice true = refl
 same_choice false = refl
 
@@ -121,7 +121,7 @@ word_shifted m n a w =
 -- ---- messages
 
 -- before a byte that begins a character, what follows does not matter
-error_before : (a y z : List ℕ) (b : ℕ) (f : LexError) → f.range.end ≤ length a → lexer_error_of (a ++ b ∷ y) f ≡ lexer_error_of (a ++ b ∷ z) f
+pub error_before : (a y z : List ℕ) (b : ℕ) (f : LexError) → f.range.end ≤ length a → lexer_error_of (a ++ b ∷ y) f ≡ lexer_error_of (a ++ b ∷ z) f
 error_before a y z b f h =
     let w : List ℕ = a ++ b ∷ [] in
     let inside : f.range.end < length w = omega (arith, h, length-append a (b ∷ [])) in
@@ -195,7 +195,7 @@ early_same : (ts : List Token) (fs : Errors) → errs_early ts fs ≡ err_early 
 early_same ts [] = refl
 early_same ts (f ∷ fs) = in_same f.range.start (take 5 ts)
 
-quiet_same : (text : List ℕ) (n : ℕ) (fs : Errors) → is_quiet_from n (map (lexer_error_of text) fs) ≡ quiet_from n fs
+pub quiet_same : (text : List ℕ) (n : ℕ) (fs : Errors) → is_quiet_from n (map (lexer_error_of text) fs) ≡ quiet_from n fs
 quiet_same text n [] = refl
 quiet_same text n (f ∷ fs) = ap (λ (b : Bool). nat_lt f.range.start n && b) (quiet_same text n fs)
 

@@ -9,7 +9,7 @@ use Rattle.document_laws.specs.Blocks.{IsAt}
 use Rattle.document_laws.specs.Steps.{BlocksOfStepsAreAtPlaces}
 use Rattle.document_laws.proofs.Holes.{blocks_at}
 
-both : (xs ys : List FrontStep) (s r : List ℕ) → bytes_taken xs ≡ length s → events_from (xs ++ ys) (s ++ r) ≡ events_from xs s ++ events_from ys r
+pub both : (xs ys : List FrontStep) (s r : List ℕ) → bytes_taken xs ≡ length s → events_from (xs ++ ys) (s ++ r) ≡ events_from xs s ++ events_from ys r
 both [] ys [] r h = refl
 both [] ys (b ∷ s) r h = absurd (omega (arith, h))
 both (begins k ∷ xs) ys s r h = ap (λ (es : List Event). enter k ∷ es) (both xs ys s r h)
@@ -20,7 +20,7 @@ both (takes k n ∷ xs) ys s r h =
 both (ends ∷ xs) ys s r h = ap (λ (es : List Event). exit ∷ es) (both xs ys s r h)
 both (reports m p ∷ xs) ys s r h = both xs ys s r h
 
-text_taken : (xs : List FrontStep) (s : List ℕ) → bytes_taken xs ≡ length s → text_len (events_from xs s) ≡ bytes_taken xs
+pub text_taken : (xs : List FrontStep) (s : List ℕ) → bytes_taken xs ≡ length s → text_len (events_from xs s) ≡ bytes_taken xs
 text_taken [] s h = refl
 text_taken (begins k ∷ xs) s h = text_taken xs s h
 text_taken (takes k n ∷ xs) s h =
@@ -28,7 +28,7 @@ text_taken (takes k n ∷ xs) s h =
 text_taken (ends ∷ xs) s h = text_taken xs s h
 text_taken (reports m p ∷ xs) s h = text_taken xs s h
 
-cuts_all : (xs : List FrontStep) (s : List ℕ) → Cuts xs s → bytes_taken xs ≡ length s
+pub cuts_all : (xs : List FrontStep) (s : List ℕ) → Cuts xs s → bytes_taken xs ≡ length s
 cuts_all [] s h = ap length (sym h)
 cuts_all (begins k ∷ xs) s h = cuts_all xs s h
 cuts_all (takes k n ∷ xs) s h = omega (arith, cuts_all xs (drop n s) h.2, length-drop n s, h.0)

@@ -72,11 +72,11 @@ text_there xs s t p cuts b =
 
 -- ---- parts
 
-same_front : (x y s r : List ℕ) → x ++ y ≡ s ++ r → length x ≡ length s → x ≡ s
+pub same_front : (x y s r : List ℕ) → x ++ y ≡ s ++ r → length x ≡ length s → x ≡ s
 same_front x y s r e n =
     sym (take-append_seam x y) ∙ ap (take (length x)) e ∙ ap (λ (m : ℕ). take m (s ++ r)) n ∙ take-append_seam s r
 
-same_back : (x y s r : List ℕ) → x ++ y ≡ s ++ r → length x ≡ length s → y ≡ r
+pub same_back : (x y s r : List ℕ) → x ++ y ≡ s ++ r → length x ≡ length s → y ≡ r
 same_back x y s r e n =
     sym (drop-append_seam x y) ∙ ap (drop (length x)) e ∙ ap (λ (m : ℕ). drop m (s ++ r)) n ∙ drop-append_seam s r
 

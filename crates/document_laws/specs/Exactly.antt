@@ -1,5 +1,6 @@
--- The front end for Rust reads the pieces of every text as in the text. So a document that was read
--- anew once has, after any number of edits, the parse of its text.
+-- The front end for Rust reads the pieces of every text as in the text, and gives one token another
+-- text where nothing else changes. So a document that was read anew once has, after any number of
+-- edits, the parse of its text.
 use Rattle.std.specs.Prelude.{◌≡◌, ℕ, List}
 use Rattle.ras_front_end.specs.declared.edition.Edition.{Edition}
 use Rattle.ras_front_end.specs.Front.{Front}

@@ -1,5 +1,6 @@
 pub mod Blocks
 pub mod Steps
+pub mod Leaves
 pub mod Calls
 pub mod Tables
 pub mod Stored
@@ -23,4 +24,6 @@ pub mod Few
 pub mod Inside
 pub mod Faults
 pub mod Setting
+pub mod Windows
+pub mod Retold
 pub mod Exactly

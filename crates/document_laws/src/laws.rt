@@ -2,6 +2,7 @@
 //! Those that call a law of the machine or of the lexer stand on it.
 ghost use Rattle.document_laws.specs.Blocks.{BlocksAreAtPlaces, PlacesAreKnown};
 ghost use Rattle.document_laws.specs.Steps.{BlocksOfStepsAreAtPlaces};
+ghost use Rattle.document_laws.specs.Leaves.{LeavesOfStepsAreAtPlaces, BytesHaveOneToken, PlacesPartSteps};
 ghost use Rattle.document_laws.specs.Replacing.{ReplacedPiecesAreTrees};
 ghost use Rattle.document_laws.specs.Calls.{SealedNodesAreCalls};
 ghost use Rattle.document_laws.specs.Nodes.{NodesAreOfEvents, NodesStartBehindTokens};
@@ -21,13 +22,17 @@ ghost use Rattle.document_laws.specs.FileKinds.{NodesHaveTheirKinds, FilesHaveTh
 ghost use Rattle.document_laws.specs.Paths.{CursorsOfEdits};
 ghost use Rattle.document_laws.specs.Inside.{PiecesErrInside};
 ghost use Rattle.document_laws.specs.Faults.{ParserErrorsAreReplaced, PiecesShiftTheRest, ErrorsAreReplaced};
+ghost use Rattle.document_laws.specs.Windows.{WindowsAreAroundTokens};
+ghost use Rattle.document_laws.specs.Retold.{RetoldTokensAreRead};
 ghost use Rattle.document_laws.specs.Exactly.{RustReadsExactly, TextsHaveOneParse};
 ghost use Rattle.document_laws.specs.Setting.{PiecesAreInParts, PiecesAreLaidAround};
 ghost use Rattle.document_laws.specs.Few.{EventsAreFew, RustMakesFewEvents, ShortTextsMakeFewEvents, EventsSoFarAreFew, PiecesComeEarly, PiecesFit};
 ghost use Rattle.document_laws.specs.Tables.{RustSealsByCalls, RustLooksAreShort, ExactRulesAreSealed};
 
+use event_layout::laws::{leaves_begin_in_tokens, retold_tokens_are_laid};
 use grammar_machine::laws::{calls_make_their_own, sealed_calls_leave_nothing};
-use lexer_laws::laws::plain_texts_have_no_head;
+use lexer_laws::laws::{plain_texts_have_no_head, windows_are_replaced};
+use rust_front::laws::retold_windows_are_alike;
 
 /// Where some of the events that build a tree build one node by themselves, this node is in the
 /// tree, and starts where the events before have taken their texts. With the events of any other
@@ -250,19 +255,53 @@ pub fn pieces_are_laid_around()
     plain_texts_have_no_head();
 }
 
-/// The front end for Rust reads the pieces of every text as in the text. So where a `Document` was
-/// read anew once, its parse after any number of edits is the parse of its text: the same tree, and
-/// the same errors in the same order (`exact` of `Document::edit`).
+/// The window around a token that an edit is inside of is from the nearest brace before the token
+/// to the nearest one behind it, or to the text's start or end. With the token's new text in it,
+/// the window is that of the new text; what is before and behind it stays.
+pub fn windows_are_around_tokens()
+    ensures { WindowsAreAroundTokens }
+{}
+
+/// Where `Document::edit` gives one token of a text of Rust another text, what it makes is the
+/// parse of the new text: the tree with the token's new text, and the errors.
+pub fn retold_tokens_are_read()
+    ensures { RetoldTokensAreRead }
+{
+    plain_texts_have_no_head();
+    leaves_begin_in_tokens();
+    retold_tokens_are_laid();
+    windows_are_replaced();
+    retold_windows_are_alike();
+}
+
+/// The front end for Rust reads the pieces of every text as in the text, and says that one token
+/// gets another text only where nothing else changes. So where a `Document` was read anew once, its
+/// parse after any number of edits is the parse of its text: the same tree, and the same errors in
+/// the same order (`exact` of `Document::edit`).
 pub fn rust_reads_exactly()
     ensures { RustReadsExactly }
 {
     calls_make_their_own();
     sealed_calls_leave_nothing();
     plain_texts_have_no_head();
+    leaves_begin_in_tokens();
+    retold_tokens_are_laid();
+    windows_are_replaced();
+    retold_windows_are_alike();
 }
 
 /// A text has one parse by a front end in an edition. So the parse of a `Document` that is the
 /// parse of its text is equal to that of a new `Document` of the text.
 pub fn texts_have_one_parse()
     ensures { TextsHaveOneParse }
+{}
+
+/// A step that takes a token makes a token of the tree, which starts where the steps before it have
+/// taken their texts. With another text in its place, the steps with that text's length build the
+/// tree with that text in the token. Each byte of the text is in one token; and where a node or
+/// token begins, the steps are in two parts.
+pub fn leaves_of_steps_are_at_places()
+    ensures leaves { LeavesOfStepsAreAtPlaces }
+    ensures bytes { BytesHaveOneToken }
+    ensures parts { PlacesPartSteps }
 {}

@@ -108,7 +108,6 @@ same_number m n h = grind (arith, nat_tests, h)
 number_same : (m n : ℕ) → m ≡ n → nat_eq m n ≡ true
 number_same m n h = grind (arith, nat_tests, h)
 
-
 covers : (root : Cursor) (at : ℕ) (b : Bounds) (e : NodeOrToken Cursor Cursor) → b ≡ byte_at at → e ≡ element_of (covering_of root b) → e ≡ element_of (covering_of root (byte_at at))
 covers root at b e f g = g ∙ ap (λ (x : Bounds). element_of (covering_of root x)) f
 
