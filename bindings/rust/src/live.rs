@@ -2,6 +2,7 @@
 use crate::held::Held;
 use crate::range::TextRange;
 use crate::splice::Since;
+use crate::text_edit::{ApplyError, TextEdit};
 use crate::tree::{Edition, Errors, ParseError, Tree};
 use ras_sys as raw;
 use std::cell::RefCell;
@@ -113,6 +114,39 @@ impl Live {
             raw::TOO_LONG => Err(EditError::TooLong),
             _ => Err(EditError::Memory),
         }
+    }
+
+    /// Makes all replacements of an edit, whose ranges are of the text as it is: the last one first, each as by [`Live::edit`], so that of
+    /// each only the token or block around it is read again, where that is enough. Where the edit is refused, nothing is changed; but if
+    /// memory runs out, the replacements behind may have been made, and the text and its parse are those with these. It is refused as
+    /// [`EditError::TooLong`], too, if the text between two replacements would be too long.
+    ///
+    /// ```
+    /// use ras::{Edition, Indel, Live, TextEdit, TextRange};
+    ///
+    /// let mut live = Live::parse("fn f(a: u8) { a }", Edition::CURRENT)?;
+    /// let mut edit = TextEdit::replace(TextRange::new(5.into(), 6.into()), "b");
+    /// edit.add(Indel::replace(TextRange::new(14.into(), 15.into()), "b + 1"))?;
+    /// live.edits(&edit)?;
+    /// assert_eq!(live.text(), "fn f(b: u8) { b + 1 }");
+    /// # Ok::<(), Box<dyn std::error::Error>>(())
+    /// ```
+    ///
+    /// Each replacement copies the text, so many of them are made sooner by [`Live::parse`] of [`TextEdit::apply`].
+    pub fn edits(&mut self, edit: &TextEdit) -> Result<(), EditError> {
+        edit.check(&self.text).map_err(|refused| match refused {
+            ApplyError::PastEnd | ApplyError::InsideCharacter => EditError::NoPlace,
+            ApplyError::TooLong => EditError::TooLong,
+        })?;
+        // A text between the replacements may be too long where that after all of them is not.
+        let lens = edit.iter().rev().scan(self.text.len(), |len, it| {
+            *len = len.saturating_add(it.insert.len()) - usize::from(it.delete.len());
+            Some(*len)
+        });
+        if lens.max().is_some_and(|longest| u32::try_from(longest).is_err()) {
+            return Err(EditError::TooLong);
+        }
+        edit.iter().rev().try_for_each(|it| self.edit(it.delete, &it.insert))
     }
 
     /// The tree of the text as it is now, which later edits leave as it is.

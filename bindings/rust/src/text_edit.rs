@@ -152,7 +152,7 @@ impl TextEdit {
     }
 
     // Refuses a text in which the edit cannot be made. Returns the length of the new one.
-    fn check(&self, text: &str) -> Result<usize, ApplyError> {
+    pub(crate) fn check(&self, text: &str) -> Result<usize, ApplyError> {
         let ranges = || self.indels.iter().map(|it| it.delete);
         if ranges().any(|it| usize::from(it.end()) > text.len()) {
             return Err(ApplyError::PastEnd);

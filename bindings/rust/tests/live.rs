@@ -1,5 +1,5 @@
 //! Texts that are edited: after each edit the tree is that of the edited text.
-use ras::{EditError, Edition, Entry, Errors, Live, SourceFile, SyntaxKind, T, TextRange, Tree};
+use ras::{EditError, Edition, Entry, Errors, Indel, Live, SourceFile, SyntaxKind, T, TextEdit, TextRange, Tree};
 
 const TEXT: &str = "\
 //! A file.
@@ -197,6 +197,31 @@ fn a_refused_edit_leaves_all_as_it_was() {
     edited.edit(range(13, 13), " fn g() {}").unwrap();
     assert_eq!(edited.tree().unwrap().root().children().count(), 2);
     assert_eq!(before.root().text(), text);
+}
+
+#[test]
+fn edits_are_made_together() {
+    let mut random = Random(29);
+    let mut edited = live(TEXT);
+    for _ in 0..200 {
+        let names = places(&edited.tree().unwrap(), &[T![ident], SyntaxKind::INT_NUMBER]);
+        let mut edit = TextEdit::default();
+        for _ in 0..random.below(4) {
+            // A range that is taken is left out.
+            let _ = edit.add(Indel::replace(random.of(&names), random.of(&["a", "b2", "größe", "7", "x.y", "{ z }"])));
+        }
+        let new = edit.apply(edited.text()).unwrap();
+        edited.edits(&edit).unwrap();
+        assert_eq!((edited.text(), edited.tree().unwrap()), (&*new, Tree::parse(&*new, Edition::CURRENT).unwrap()));
+        if new.len() > 2 * TEXT.len() {
+            edited = live(TEXT);
+        }
+    }
+    let before = edited.text().to_owned();
+    let mut wrong = TextEdit::insert(0.into(), "a");
+    wrong.add(Indel::delete(range(before.len(), before.len() + 1))).unwrap();
+    assert_eq!(edited.edits(&wrong), Err(EditError::NoPlace));
+    assert_eq!((edited.text(), edited.tree().unwrap()), (&*before, Tree::parse(&*before, Edition::CURRENT).unwrap()));
 }
 
 #[test]
