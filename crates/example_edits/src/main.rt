@@ -1,4 +1,4 @@
-//! An editor's loop: applies edits to a document, prints the range that was parsed again for each,
+//! An editor's loop: applies edits to a document, prints the range that was read again for each,
 //! and its time to standard error.
 #![tactic(auto)]
 
@@ -13,7 +13,7 @@ type File = Document<Rust>;
 // The start and the end of the removed range, in bytes, and the inserted text.
 type Edit = (u32, u32, &'static str);
 
-// Edits a file. Returns the range that was parsed again; `None` where the text has no such range.
+// Edits a file. Returns the range that was read again; `None` where the text has no such range.
 fn edit(alloc: Global, file: &mut File, edit: Edit) -> Result<Option<TextRange>, ParseError> {
     let (start, end, insert) = edit;
     let (text, from, to) = (file.text(), start as usize, end as usize);
@@ -32,7 +32,7 @@ fn apply(rt: &HostRuntime, file: &mut File, change: Edit) -> io::Result<()> {
     };
     let took = Instant::now(rt)?.duration_since(begun).as_nanos();
     let (start, end, insert) = change;
-    println!(rt; "{start}..{end} by {insert:?}: {range} parsed again")?;
+    println!(rt; "{start}..{end} by {insert:?}: {range} read again")?;
     eprintln!(rt; "in {took} ns")
 }
 

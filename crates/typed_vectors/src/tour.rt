@@ -95,15 +95,20 @@ fn a_document_is_edited(rt: HostRuntime) -> Result<(), Fail> {
     let mut document = Document::new(alloc, Rust, text, Edition::CURRENT)?;
     let range = document.edit(alloc, argument, "b")?;
     let parse = document.parse();
-    assert!(rt; range == TextRange::new(TextSize::new(7), TextSize::new(12)));
+    assert!(rt; range == argument);
     assert_eq!(rt; parse.syntax_node().as_str(), "fn f() { b }");
     let name = TextRange::new(TextSize::new(3), TextSize::new(4));
     let range = document.edit(alloc, name, "g")?;
-    assert!(rt; range == TextRange::up_to(TextSize::new(12)));
+    assert!(rt; range == name);
     assert_eq!(rt; document.text(), "fn g() { b }");
     assert!(rt;
         *document.parse() == SourceFile::parse(alloc, "fn g() { b }", &Rust, Edition::CURRENT)?
     );
+    let sum = document.edit(alloc, argument, "b + 1")?;
+    assert!(rt; sum == TextRange::new(TextSize::new(7), TextSize::new(16)));
+    let keyword = TextRange::new(TextSize::new(0), TextSize::new(2));
+    let range = document.edit(alloc, keyword, "enum")?;
+    assert!(rt; range == TextRange::up_to(TextSize::new(18)));
     Ok(())
 }
 
