@@ -43,7 +43,7 @@ pub struct Live {
     last: RefCell<Option<Last>>,
 }
 
-// The tree that was given last, the errors that it was asked for, and what was parsed again since.
+// The tree that was given last, the errors that it was asked for, and what was read again since.
 struct Last {
     tree: Tree,
     errors: Errors,
@@ -152,9 +152,9 @@ impl Live {
     /// The tree of the text as it is now, which later edits leave as it is.
     ///
     /// If there was no edit since the last call, it is the tree that this gave. If one block was parsed again, the library hands over the
-    /// rows of this block alone, and if one token got another text those of the node that has it as a child; the rest comes from that tree: it
-    /// is copied, if that tree is still in use, and moved otherwise. Else the library hands over all rows. Each way takes time linear in the text, and so does the search for what breaks rules beyond the grammar,
-    /// unless [`Live::tree_with`] leaves it out.
+    /// rows of this block alone, and if one token got another text those of the node that has it as a child; the rest comes from that
+    /// tree: it is copied, if that tree is still in use, and moved otherwise. Else the library hands over all rows. Each way takes time
+    /// linear in the text, and so does the search for what breaks rules beyond the grammar, unless [`Live::tree_with`] leaves it out.
     pub fn tree(&self) -> Result<Tree, ParseError> {
         self.tree_with(Errors::All)
     }

@@ -1,25 +1,25 @@
-//! What of a text was parsed again since its tree was read, and the rows of the tree with that.
+//! What of a text was read again since its tree was read, and the rows of the tree with that.
 use crate::range::TextRange;
 use ras_sys::FlatRow;
 
-/// What of a text was parsed again since its tree was read.
+/// What of a text was read again since its tree was read.
 #[derive(Clone, Copy, Debug, PartialEq, Eq)]
 pub(crate) enum Since {
     /// Nothing: there was no edit.
     Nothing,
-    /// One node, and at most what is in it: where it was in the text that was read, and where it is now.
+    /// One node or token, and at most what is in it: where it was in the text that was read, and where it is now.
     Node { was: TextRange, is: TextRange },
-    /// All of it, or more than one node.
+    /// All of it, or more than one.
     All,
 }
 
 impl Since {
-    /// The same after an edit, which parsed a range of the new text again: a node's, or that of the whole text.
+    /// The same after an edit, which read a range of the new text again: a node's, a token's, or that of the whole text.
     pub(crate) fn and(self, again: TextRange, delete: TextRange, insert: u32, len: u32) -> Since {
         if again == TextRange::up_to(len.into()) {
             return Since::All;
         }
-        // How the text before the edit has changed behind it. The node of the range ended behind the edit, and so did what is around it.
+        // How the text before the edit has changed behind it. What is at the range did not end before the edit, nor did what is around it.
         let before = |end: u32| end + delete.len().raw() - insert;
         let after = |end: u32| end + insert - delete.len().raw();
         let node = TextRange::new(again.start(), before(again.end().raw()).into());

@@ -417,7 +417,7 @@ impl Tree {
         Ok((room.rows, errors))
     }
 
-    // The tree of a text after edits, from this one, where at most the node of a row was parsed again since: from a call that writes the
+    // The tree of a text after edits, from this one, where at most the node of a row was read again since: from a call that writes the
     // rows of this node, and the errors of the text. The rows are copied, unless nothing else has a share of this tree.
     pub(crate) fn with_node(
         self,

@@ -9,7 +9,7 @@ use syntax_kind::SyntaxKind;
 use text_size::TextRange;
 
 /// A front end that can tell of a piece of a text, from `{` to `}`, whether it is read in the text
-/// as it is by itself.
+/// as it is by itself, and of one token, whether its text alone changes.
 ///
 /// Take a text that [`ExactFront::has_head`] does not refuse, with a node whose first child is `{`
 /// and whose last child is `}`, which has a reparser here, and whose text is a piece by
@@ -19,6 +19,7 @@ use text_size::TextRange;
 /// the messages of the lexer's errors behind the piece. The errors of a piece are behind its first
 /// byte and before its last one, so that those of the text are told from them by where they are;
 /// the parser's errors of the text come in the order of before, in and behind the piece.
+/// The same goes for a token by [`ExactFront::is_retold`].
 /// `Document` of `ras_parsing` relies on it. It is not a law of the trait: an implementation proves
 /// only the law `exact_kept`, that the steps of a piece build one tree over its text. What a
 /// document needs of it (`ReadsExactly`) is proved for Rust: by `document_laws`.
@@ -63,14 +64,16 @@ pub trait ExactFront: FrontEnd {
     ) -> Result<bool, AllocError>
         ensures { IfOk result (λ b. b ≡ is_piece ((exact self.now).piece reparser edition text.now)) };
 
-    /// Whether a window of a text has the same tokens with the text `new` as with `old`, but for the
-    /// text of one token, which is at the range `token` of `old`, and whether the parser takes this
-    /// token for what it was. Then the tree of the new text is the old one with the token's new
-    /// text, and the errors are the old ones, moved with the text.
+    /// Whether a window of a text has the same tokens with the text `new` as with `old`, but for
+    /// the text of one token, which is at the range `token` of `old`, and whether the parser takes
+    /// this token for what it was.
     ///
-    /// The window stands between the texts `before` and `behind`. It begins and ends with a brace,
-    /// but at the start and the end of the whole text. Takes the time of the lexer for `old` and
-    /// `new`.
+    /// The window stands between the texts `before` and `behind`; its first and its last byte are
+    /// braces, but at the start and the end of the whole text. A document asks this only where the
+    /// window begins with a token of the text, [`ExactFront::has_head`] is false of the text, and no
+    /// error of the lexer is behind the window. If the answer is yes then, a parse of the new text
+    /// should make the old tree with the token's new text, and the old errors, moved with the text.
+    /// `false` is always right. Takes the time of the lexer for `old` and `new`.
     fn is_retold(
         &self,
         alloc: Global,

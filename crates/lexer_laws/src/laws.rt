@@ -73,8 +73,9 @@ pub fn sights_are_cut()
     ensures { SightsAreCut }
 {}
 
-/// A window of a text stands between braces, which are its first and its last token, or at the
-/// start or the end of the text. If a new window takes its place that begins with the same brace,
+/// A window of a text without a head stands between braces, which are its first and its last
+/// token, or at the start or the end of the text; the text's tokens are cut where it begins. If a
+/// new window takes its place that begins with the same brace,
 /// and neither has errors of the lexer by itself, nor is there one behind it, then each window
 /// brings the tokens that it has by itself, and those around it stay, and all errors. Where the
 /// grammar's machine sees both windows alike, it sees both texts alike.

@@ -88,7 +88,7 @@ impl KeptParse {
         self.document.parse()
     }
 
-    // Edits the text in its edition. Returns what was parsed again.
+    // Edits the text in its edition. Returns what was read again.
     fn edit_here(
         &mut self,
         alloc: Global,
@@ -140,8 +140,8 @@ impl KeptParse {
     }
 
     /// Replaces the bytes from `start` to `end`, or returns the status of the refusal. In the
-    /// parse's own edition only one block is parsed again where that is enough; in another one the
-    /// whole text is. Returns the range of the new text that was parsed again.
+    /// parse's own edition one token gets another text or one block is parsed again where that is enough; in
+    /// another one the whole text is. Returns the range of the new text that was read again.
     pub(crate) fn edit(
         &mut self,
         alloc: Global,

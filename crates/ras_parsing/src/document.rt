@@ -192,7 +192,9 @@ impl<T: FileView, F: ExactFront + Drop> Document<T, F> {
     ///
     /// Where one token gets another text, the nodes are shared with the old tree as in
     /// `SyntaxToken::replace_with`, the text is copied, and what stands between the nearest braces
-    /// is lexed with its old and its new text, if that is not more than 32,768 bytes. Otherwise the
+    /// is lexed with its old and its new text, if the old one has at most 32,768 bytes: in vain if
+    /// more than the token changes. An insertion between two tokens belongs to the one before it, so
+    /// a letter typed before a name does not count as an edit of the name. Otherwise the
     /// text and the tree are copied once, as by `SyntaxNode::replace_with`; beside that it takes the
     /// time of the front end for what is parsed again. A block is read with its old text too,
     /// without a tree; and in vain if it turns out to be no exact piece. In a text of more than

@@ -38,7 +38,7 @@ begins_well before ts = is_empty before || is_brace_at (slice_get ts 0)
 abbrev pub ends_well : List ℕ → List span.Token → Bool
 ends_well behind ts = is_empty behind || is_brace_at (slice_get ts (length ts - 1))
 
--- the tokens of a window are those that it has in the text, and none has an error
+-- a window by itself begins and ends in braces, but at the start and the end, and has no errors
 abbrev pub stands_alone : List ℕ → List ℕ → List span.Token → List LexError → Bool
 stands_alone before behind ts es = begins_well before ts && (ends_well behind ts && (length es == 0))
 

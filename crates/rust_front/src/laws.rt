@@ -1,9 +1,9 @@
 //! Laws of what the front end tells of a text. The functions do nothing: the contract is the law.
 ghost use Rattle.rust_front.specs.RetoldLaws.{RetoldWindowsAreAlike};
 
-/// Where `is_retold` answers yes, the tokens of both windows are the same but for the length of one,
-/// which the machine and the layout take for what it was; and both windows have in the text the
-/// tokens that they have by themselves, and no errors of the lexer.
+/// Where `is_retold` answers yes, the tokens of both windows are the same but for the length of
+/// one, which the machine and the layout take for what it was; both windows by themselves begin
+/// and end in braces, but at the start and the end of the text, and have no errors of the lexer.
 pub fn retold_windows_are_alike()
     ensures { RetoldWindowsAreAlike }
 {}

@@ -323,8 +323,8 @@ fn is_retold_in(
 /// text of the token at the range `token` of `old`, and the machine and the layout take this token
 /// for what it was.
 ///
-/// The window's tokens are those that it has in the text, since it begins and ends with a brace,
-/// but at the start and the end of the text. In neither window the lexer finds an error. Windows of
+/// By itself each window begins and ends with a brace, but at the start and the end of the text; so
+/// it has its tokens there if it begins with a token of the text. In neither the lexer finds an error. Windows of
 /// 4 GiB or more are not looked at. Takes the time of the lexer for both.
 #[tactic(auto, unfolding(crate::specs::Retold::is_retold_of))]
 pub fn is_retold(
