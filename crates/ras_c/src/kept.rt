@@ -140,8 +140,9 @@ impl KeptParse {
     }
 
     /// Replaces the bytes from `start` to `end`, or returns the status of the refusal. In the
-    /// parse's own edition one token gets another text or one block is parsed again where that is enough; in
-    /// another one the whole text is. Returns the range of the new text that was read again.
+    /// parse's own edition one token gets another text or one block is parsed again where that is
+    /// enough; in another one the whole text is. Returns the range of the new text that was read
+    /// again.
     pub(crate) fn edit(
         &mut self,
         alloc: Global,

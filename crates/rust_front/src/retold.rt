@@ -324,8 +324,8 @@ fn is_retold_in(
 /// for what it was.
 ///
 /// By itself each window begins and ends with a brace, but at the start and the end of the text; so
-/// it has its tokens there if it begins with a token of the text. In neither the lexer finds an error. Windows of
-/// 4 GiB or more are not looked at. Takes the time of the lexer for both.
+/// it has its tokens there if it begins with a token of the text. In neither the lexer finds an
+/// error. Windows of 4 GiB or more are not looked at. Takes the time of the lexer for both.
 #[tactic(auto, unfolding(crate::specs::Retold::is_retold_of))]
 pub fn is_retold(
     alloc: Global,
