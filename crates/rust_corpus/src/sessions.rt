@@ -1,9 +1,7 @@
 //! Sessions of edits of a document: after each, its tree and its errors are compared with those of a new parse of its text.
 
 use crate::chance::{Chance, Edit, edited};
-use ra_ap_syntax::{
-    Document, Edition, NodeOrToken, Parse, SourceFile, TextRange, TextSize,
-};
+use ra_ap_syntax::{Document, Edition, NodeOrToken, Parse, SourceFile, TextRange, TextSize};
 use rust_front::Rust;
 use std::alloc::Global;
 
@@ -295,13 +293,7 @@ impl Sessions {
     pub fn tell(&self, rt: &HostRuntime) -> anyhow::Result<()> {
         println!(rt;
             "documents: {} edits of a token, {} of a block, {} of all, where a reparse reads {} tokens or blocks; {} trees differ from those of a new parse, {} have other errors, {} texts are wrong",
-            self.tokens,
-            self.blocks,
-            self.all,
-            self.reparsed,
-            self.trees,
-            self.errors,
-            self.texts
+            self.tokens, self.blocks, self.all, self.reparsed, self.trees, self.errors, self.texts
         )?;
         Ok(())
     }
