@@ -289,11 +289,19 @@ impl Sessions {
         self.trees > 0 || self.errors > 0 || self.texts > 0
     }
 
-    /// Prints the counts.
+    /// Prints the counts, and to standard error those of what was read again.
     pub fn tell(&self, rt: &HostRuntime) -> anyhow::Result<()> {
+        eprintln!(rt;
+            "documents: {} edits of a token, {} of a block, {} of all, where a reparse reads {} tokens or blocks",
+            self.tokens, self.blocks, self.all, self.reparsed
+        )?;
+        let edits = self
+            .tokens
+            .saturating_add(self.blocks)
+            .saturating_add(self.all);
         println!(rt;
-            "documents: {} edits of a token, {} of a block, {} of all, where a reparse reads {} tokens or blocks; {} trees differ from those of a new parse, {} have other errors, {} texts are wrong",
-            self.tokens, self.blocks, self.all, self.reparsed, self.trees, self.errors, self.texts
+            "documents: {edits} edits; {} trees differ from those of a new parse, {} have other errors, {} texts are wrong",
+            self.trees, self.errors, self.texts
         )?;
         Ok(())
     }
