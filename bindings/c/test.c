@@ -369,7 +369,7 @@ static void tells_what_is_new(void) {
     owes(ras_c_edit_told(&live, 2024, 0, 2, BYTES("enum"), &again) == RAS_OK && again.start == 0 && again.end == strlen(new) + 2, "all is parsed again");
     owes(ras_c_edit_told(&live, 2024, 0, 4, BYTES("fn"), &again) == RAS_OK && again.start == 0 && again.end == strlen(new), "and once more");
     owes(ras_c_edit_told(&live, 2015, 9, 10, BYTES("a"), &again) == RAS_OK && again.start == 0 && again.end == strlen(new), "another edition reads all anew");
-    owes(ras_c_edit_told(&live, 2015, 9, 10, BYTES("async"), &again) == RAS_OK && again.start == 7 && again.end == 19, "and then stays");
+    owes(ras_c_edit_told(&live, 2015, 9, 10, BYTES("async"), &again) == RAS_OK && again.start == 9 && again.end == 14, "and then stays");
     ras_c_free(&live);
     owes(held == 0, "a freed handle holds nothing");
 }
