@@ -70,9 +70,10 @@ pub trait ExactFront: FrontEnd {
     ///
     /// The window stands between the texts `before` and `behind`; its first and its last byte are
     /// braces, but at the start and the end of the whole text. A document asks this only where the
-    /// window begins with a token of the text, [`ExactFront::has_head`] is false of the text, and no
-    /// error of the lexer is behind the window. If the answer is yes then, a parse of the new text
-    /// should make the old tree with the token's new text, and the old errors, moved with the text.
+    /// window begins with a token of the text, [`ExactFront::has_head`] is false of the text, and
+    /// no error of the lexer is behind the window. If the answer is yes then, a parse of the new
+    /// text should make the old tree with the token's new text, and the old errors, moved with the
+    /// text.
     /// `false` is always right. Takes the time of the lexer for `old` and `new`.
     fn is_retold(
         &self,

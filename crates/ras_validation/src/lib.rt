@@ -1,6 +1,7 @@
 //! Validation: the errors in a tree that a grammar does not rule out, each with the message of a diagnostic.
 //!
-//! `violations` lists them for a whole tree, `violations_in` for a subtree; each rule is also a function, for a node of the kind in its documentation.
+//! `violations` lists them for a whole tree, `violations_in` for a subtree; each rule is also a
+//! function, for a node of the kind in its documentation.
 #![tactic(auto)]
 
 pub mod collect;

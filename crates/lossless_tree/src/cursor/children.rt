@@ -45,7 +45,8 @@ impl SyntaxElementChildren {
         SyntaxElementChildren { table, next, end }
     }
 
-    /// The first of the children left that is a node with a kind of the set, or `None` if there is none. All stay left.
+    /// The first of the children left that is a node with a kind of the set, or `None` if there is
+    /// none. All stay left.
     ///
     /// It makes no cursor for those before it, and takes time linear in their number.
     pub fn node_among<K: KindSet>(&self) -> Option<SyntaxNode>
@@ -55,7 +56,8 @@ impl SyntaxElementChildren {
         Some(SyntaxNode::at(self.table.share(), row))
     }
 
-    /// The first of the children left that is a token with a kind of the set, or `None` if there is none. All stay left.
+    /// The first of the children left that is a token with a kind of the set, or `None` if there is
+    /// none. All stay left.
     ///
     /// It makes no cursor for those before it, and takes time linear in their number.
     pub fn token_among<K: KindSet>(&self) -> Option<SyntaxToken>

@@ -49,7 +49,8 @@ impl DescendantsWithTokens {
         }
     }
 
-    // The next node with a kind of the set; what comes before it is passed, and all where there is none.
+    // The next node with a kind of the set; what comes before it is passed, and all where there is
+    // none.
     fn next_node_among<K: KindSet>(&mut self) -> Option<SyntaxNode>
         ensures found { result ≡ first_node_among K.kinds self.old }
         ensures left { filter at_node self.new ≡ after_first (is_among K.kinds) (filter at_node self.old) }
@@ -112,10 +113,11 @@ impl Descendants {
         Descendants { elements }
     }
 
-    /// The next node with a kind of the set; the nodes before it are passed. `None` if there is none, and then all are.
+    /// The next node with a kind of the set; the nodes before it are passed. `None` if there is
+    /// none, and then all are.
     ///
-    /// It reads the rows that it passes, and makes no cursor for them, so a walk over nodes of a few kinds takes a fraction of
-    /// the time of one over all nodes.
+    /// It reads the rows that it passes, and makes no cursor for them, so a walk over nodes of a few
+    /// kinds takes a fraction of the time of one over all nodes.
     pub fn next_of<K: KindSet>(&mut self) -> Option<SyntaxNode>
         ensures found { result ≡ find (is_among K.kinds) self.old }
         ensures left { self.new ≡ after_first (is_among K.kinds) self.old }

@@ -1,4 +1,5 @@
-//! Children by their kinds. These calls read the rows of the children, and make a cursor for the result alone.
+//! Children by their kinds. These calls read the rows of the children, and make a cursor for the
+//! result alone.
 ghost use Rattle.std.specs.Prelude.{◌≡◌};
 ghost use Rattle.tree_model.specs.Cursor.{children_of};
 ghost use Rattle.tree_rows.specs.KindSearch.{only, first_node_among, first_token_among};
@@ -10,7 +11,8 @@ use syntax_kind::SyntaxKind;
 use tree_rows::KindSet;
 
 impl SyntaxNode {
-    // The row of the first child, and the row after the last one's subtree; the same row twice if there is no child.
+    // The row of the first child, and the row after the last one's subtree; the same row twice if
+    // there is no child.
     fn child_rows(&self) -> (usize, usize)
         ensures have_end { HaveParentEnd self.now.tree result.0 result.1 }
         ensures left { siblings_left self.now.tree result.0 result.1 ≡ children_of self.now }
