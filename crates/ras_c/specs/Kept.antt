@@ -2,7 +2,7 @@
 use Rattle.std.specs.Prelude.{◌≡◌, ◌⊎◌, ℕ, zero, suc, ◌<◌, ◌^◌, List, length, refl}
 use Rattle.std.specs.Coded.{Coded, code_by, coded×, coded_ℕ}
 use Rattle.text_size.specs.TextRange.{Bounds}
-use Rattle.tree_model.specs.Tree.{Tree, IsPlace, text}
+use Rattle.tree_model.specs.Tree.{Tree, text}
 use Rattle.tree_model.specs.Cursor.{Cursor}
 use Rattle.tree_model.specs.Edit.{replace}
 use Rattle.ras_front_end.specs.declared.edition.Edition.{Edition}
@@ -11,6 +11,7 @@ use Rattle.ras_front_end.specs.declared.edition.Entry.TheVariants.{SourceFile}
 use Rattle.ras_front_end.specs.Parsed.{Parsed, parsed_code, IsParseOf}
 use Rattle.ras_parsing.specs.Edit.{Edit, IsEditOf, edited, edited_at}
 use Rattle.ras_parsing.specs.Document.{range_after}
+use Rattle.ras_parsing.specs.Rereading.{IsAround}
 use Rattle.rust_front.specs.Front.{rust_front}
 
 pub record Kept : Type 0 where
@@ -47,12 +48,12 @@ kept_code =
 abbrev pub IsRead : List ℕ → Kept → Type 0
 IsRead s k = IsParseOf s (rust_front.parsed SourceFile k.edition s) k.parse
 
--- a node or token of the old tree was read again: with its new tree in its place the old tree is the
--- new one
+-- a node or token of the old tree around the edit was read again: with its new tree in its place the
+-- old tree is the new one
 pub record OnePieceIs (old : Tree) (edit : Edit) (new : Tree) (range : Bounds) : Type 0 where
   pub piece : Cursor
   pub in_old : piece.tree ≡ old
-  pub is_place : IsPlace piece.tree piece.place
+  pub is_around : IsAround piece edit
   pub parsed : Tree
   pub text_is : text parsed ≡ edited_at piece edit
   pub tree_is : new ≡ replace old piece.place parsed

@@ -86,6 +86,11 @@ pub ok_along : {A E : Type 0} (r : Result A E) (P Q : A → Type 0) → ((x : A)
 ok_along (Ok x) P Q f h = f x h
 ok_along (Err e) P Q f h = tt
 
+-- and from two clauses
+pub ok_both : {A E : Type 0} (r : Result A E) (P Q R : A → Type 0) → ((x : A) → P x → Q x → R x) → IfOk r P → IfOk r Q → IfOk r R
+ok_both (Ok x) P Q R f p q = f x p q
+ok_both (Err e) P Q R f p q = tt
+
 -- a clause of the only value that a call can answer
 pub ok_is : {A E : Type 0} (r : Result A E) (x : A) (P : A → Type 0) → P x → IfOk r (λ y. y ≡ x) → IfOk r P
 ok_is (Ok y) x P h e = subst P (sym e) h

@@ -13,3 +13,4 @@ pub mod ElementKinds
 pub mod ExactPaths
 pub mod OrderedInText
 pub mod Windows
+pub mod Steps

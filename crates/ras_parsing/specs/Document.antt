@@ -2,7 +2,7 @@
 use Rattle.std.specs.Prelude.{◌≡◌, ◌⊎◌, ℕ, zero, suc, ◌+◌, ◌-◌, ◌<◌, ◌^◌, IsUtf8, List, [], ◌∷◌, ◌++◌, map, length, take, drop, Option, Some, None, Bool, true, false, ◌&&◌, nat_le, nat_lt, nat_eq, ◌==◌, ◌||◌, ◌≤◌, position, slice_get, if◌then◌else◌}
 use Rattle.std.specs.List.{flat_map}
 use Rattle.text_size.specs.TextRange.{Bounds}
-use Rattle.tree_model.specs.Tree.{Tree, IsToken, IsPlace, token, text}
+use Rattle.tree_model.specs.Tree.{Tree, IsToken, token, text}
 use Rattle.tree_model.specs.Cursor.{Cursor, focus, range_start, range_end, range_of, first_child_of, last_child_of}
 use Rattle.tree_model.specs.Covering.{covering_of}
 use Rattle.tree_model.specs.Edit.{replace, root_of, splice}
@@ -17,6 +17,7 @@ use Rattle.ras_front_end.specs.Parsed.{Parsed, IsParseOf}
 use Rattle.exact_front.specs.Exact.{Exact, is_piece}
 use Rattle.ras_parsing.specs.Edit.{Edit, IsEditOf, edited, covered, edited_at}
 use Rattle.ras_parsing.specs.Reparse.{kind_at, nodes_around, shifted, moved}
+use Rattle.ras_parsing.specs.Rereading.{IsAround}
 
 -- ---- errors
 
@@ -178,7 +179,7 @@ range_after c edit = record { start = range_start c; end = range_start c + lengt
 -- the parse with the new reading of a piece
 pub record IsPieceOf (old : Parsed) (before : ℕ) (edit : Edit) (c : Cursor) (reading : Reading) (new : Parsed) (count : ℕ) : Type 0 where
   pub in_old : c.tree ≡ old.tree
-  pub is_place : IsPlace c.tree c.place
+  pub is_around : IsAround c edit
   pub piece : Parsed
   pub is_parse : IsParseOf (edited_at c edit) reading piece
   pub tree_is : new.tree ≡ replace old.tree c.place piece.tree
@@ -188,7 +189,7 @@ pub record IsPieceOf (old : Parsed) (before : ℕ) (edit : Edit) (c : Cursor) (r
 -- the parse with another text of one token
 pub record IsRetoldOf (old : Parsed) (before : ℕ) (edit : Edit) (c : Cursor) (new : Parsed) (count : ℕ) : Type 0 where
   pub in_old : c.tree ≡ old.tree
-  pub is_place : IsPlace c.tree c.place
+  pub is_around : IsAround c edit
   pub tree_is : new.tree ≡ replace old.tree c.place (token (kind_at c) (edited_at c edit))
   pub errors_are : new.errors ≡ all_in_order before 0 old.errors [] (range_of c) edit
   pub count_is : count ≡ length (in_order (take before old.errors) [] (range_of c) edit)

@@ -8,3 +8,4 @@ pub mod OkCases
 pub mod Names
 pub mod Document
 pub mod ExactSteps
+pub mod InSteps

@@ -1,9 +1,12 @@
 //! A text that is edited, with its parse.
-ghost use Rattle.std.specs.Prelude.{◌≡◌, ◌↔◌, ◌<◌, ◌≤◌, ◌^◌, length, IfOk, IfErr, OnOk, OnErr};
+ghost use Rattle.std.specs.Prelude.{◌≡◌, ◌↔◌, ◌<◌, ◌≤◌, ◌^◌, length, IfOk, IfErr, IfSome, MatchOption, OnOk, OnErr};
 ghost use Rattle.tree_model.specs.Tree.{text};
 ghost use Rattle.ras_front_end.specs.declared.parse_error.ParseError.TheVariants.{TooLong};
 ghost use Rattle.ras_parsing.specs.Edit.{IsEditOf, edited};
 ghost use Rattle.ras_parsing.specs.Document.{IsReadOf, IsEdited, ReadsExactly};
+ghost use Rattle.ras_parsing.specs.InSteps.{InPlace, NotInPlace};
+
+mod edits;
 
 use crate::build::build_output;
 use crate::exact::{Counted, exact_path, parser_errors, with_exact};
@@ -15,7 +18,7 @@ use exact_front::ExactFront;
 use lossless_tree::laws::node_is_placed;
 use lossless_tree::{TextRange, TextSize};
 use ras_front_end::{Edition, Entry, FrontEnd, ParseError};
-use std::alloc::Global;
+use std::alloc::{AllocError, Global};
 
 /// A text that is edited again and again, and its parse by a front end in an edition.
 ///
@@ -23,14 +26,15 @@ use std::alloc::Global;
 /// tree, and the same errors in the same order, as a parse of the text from the beginning gives.
 /// [`Document::edit`] gives one token another text, or parses one block again, where the front end can
 /// tell that this is enough (see [`ExactFront`]), and otherwise parses the whole text.
+/// [`Document::edits`] makes several replacements at once.
 ///
-/// This is proved. [`Document::new`] gives the parse of its text. By the clause `exact` of
-/// [`Document::edit`], an edit makes the parse of the new text of that of the old one, if the front
-/// end reads the pieces of every text as in the text (`ReadsExactly`): for `Rust` that is the law
-/// `rust_reads_exactly` of `document_laws`, for every text, in every edition. Another front end's
-/// documents rest on the promise of [`ExactFront`], which is no law of the trait. What is true for
-/// each front end is `answer`: which token or piece is read again, and what its tree and errors
-/// replace.
+/// This is proved. [`Document::new`] gives the parse of its text. By the clauses `exact` of
+/// [`Document::edit`] and [`Document::edits`], an edit makes the parse of the new text of that of the
+/// old one, if the front end reads the pieces of every text as in the text (`ReadsExactly`): for
+/// `Rust` that is the law `rust_reads_exactly` of `document_laws`, for every text, in every edition.
+/// Another front end's documents rest on the promise of [`ExactFront`], which is no law of the trait.
+/// What is true for each front end is `answer`: which tokens or pieces are read again, and what their
+/// trees and errors replace.
 ///
 /// A failed edit leaves the document unchanged. [`Parse::reparse`] is for parses that no document
 /// keeps, and makes less sure.
@@ -116,6 +120,42 @@ impl<T: FileView, F: ExactFront + Drop> Document<T, F> {
         self.edition
     }
 
+    // The parse after an edit of one token or one block, if that is enough. The first `count` errors of
+    // the old parse are the parser's.
+    fn in_place(
+        &self,
+        alloc: Global,
+        old: &Parse<T>,
+        count: usize,
+        delete: TextRange,
+        insert: &str,
+    ) -> Result<Option<Counted<T>>, AllocError>
+        requires edit { IsEditOf (text old.now.tree)
+            (record { delete = delete; insert = insert.now }) }
+        requires short { length (edited (text old.now.tree)
+            (record { delete = delete; insert = insert.now })) < 2 ^ 32 }
+        ensures answer { IfOk result (λ o. MatchOption o
+            (NotInPlace (F.exact self.now.front) self.now.edition old.now count
+            (record { delete = delete; insert = insert.now }))
+            (λ n. InPlace (F.exact self.now.front) self.now.edition old.now count
+            (record { delete = delete; insert = insert.now }) n.parse n.parser_errors n.range)) }
+        ensures same_text { IfOk result (λ o. IfSome o (λ n. text n.parse.tree
+            ≡ edited (text old.now.tree) (record { delete = delete; insert = insert.now }))) }
+    {
+        let front = &self.front;
+        if let Some(token) = token_path(alloc, old, count, front, delete, insert, self.edition)? {
+            let new = with_retold(alloc, old, count, token, delete, insert)?;
+            return Ok(Some(new));
+        }
+        match exact_path(alloc, old, count, front, delete, insert, self.edition)? {
+            Some(piece) => {
+                let new = with_exact(alloc, old, count, piece, delete, insert)?;
+                Ok(Some(new))
+            }
+            None => Ok(None),
+        }
+    }
+
     // The parse after an edit, and the range that is parsed again.
     fn after(
         &self,
@@ -135,44 +175,10 @@ impl<T: FileView, F: ExactFront + Drop> Document<T, F> {
             ≡ edited (text self.now.parse.tree) (record { delete = delete; insert = insert.now })) }
         ensures refused { IfErr result (λ e. e ≡ TooLong → ⊥) }
     {
-        if let Some(token) = token_path(
-            alloc,
-            &self.parse,
-            self.parser_errors,
-            &self.front,
-            delete,
-            insert,
-            self.edition,
-        )? {
-            return Ok(with_retold(
-                alloc,
-                &self.parse,
-                self.parser_errors,
-                token,
-                delete,
-                insert,
-            )?);
-        }
-        match exact_path(
-            alloc,
-            &self.parse,
-            self.parser_errors,
-            &self.front,
-            delete,
-            insert,
-            self.edition,
-        )? {
-            Some(piece) => Ok(with_exact(
-                alloc,
-                &self.parse,
-                self.parser_errors,
-                piece,
-                delete,
-                insert,
-            )?),
+        match self.in_place(alloc, &self.parse, self.parser_errors, delete, insert)? {
+            Some(new) => Ok(new),
             None => {
-                let whole = self.parse.root().as_str();
-                let text = edited_text(alloc, whole, TextSize::new(0), delete, insert)?;
+                let text = edited_text(alloc, self.text(), TextSize::new(0), delete, insert)?;
                 read_counted(alloc, &self.front, text.as_str(), self.edition)
             }
         }

@@ -4,3 +4,4 @@ pub mod Offsets
 pub mod Undo
 pub mod Empty
 pub mod Applied
+pub mod Kept

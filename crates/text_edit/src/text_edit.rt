@@ -131,6 +131,14 @@ impl TextEdit {
         self.indels.as_slice().iter()
     }
 
+    /// The replacements as a slice, in the order of the text.
+    pub fn as_slice(&self) -> &[Indel]
+        ensures same { result.now ≡ self.now }
+        ensures in_order { InOrder 0 result.now }
+    {
+        self.indels.as_slice()
+    }
+
     /// Adds a replacement, in any order; its range refers to the old text. Ranges may touch, and insertions at one place stay in
     /// the order of the calls.
     ///

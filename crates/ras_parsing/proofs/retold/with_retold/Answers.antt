@@ -1,11 +1,13 @@
-use Rattle.std.proofs.Common.{◌≡◌, sym, ap, ◌∙◌, subst, arith, length, Err}
+use Rattle.std.proofs.Common.{◌≡◌, [], take, sym, ap, ◌∙◌, subst, arith, length, Err}
 use Rattle.tree_model.specs.Tree.{Tree, token, text}
 use Rattle.text_size.specs.TextRange.{Bounds}
 use Rattle.tree_model.specs.Cursor.{Cursor, range_start}
 use Rattle.tree_model.specs.Edit.{replace}
 use Rattle.ras_parsing.specs.Edit.{Edit, IsEditOf, edited, edited_at}
+use Rattle.ras_parsing.specs.Reparse.{kind_at}
+use Rattle.ras_parsing.specs.Document.{all_in_order, in_order, IsRetoldOf}
 use Rattle.ras_front_end.specs.Parsed.{Parsed}
-use Rattle.ras_parsing.proofs.BuildLemmas.{ok_along}
+use Rattle.ras_parsing.proofs.BuildLemmas.{ok_along, ok_both}
 use Rattle.ras_parsing.proofs.BlockPaths.{IsIn, token_in, new_text, stands}
 use Rattle.ras_parsing.proofs.OrderedInText.{piece_fits}
 use Rattle.ras_parsing.proofs.retold.with_retold.Goals as goal
@@ -43,6 +45,24 @@ spliced-requires-clause-around g c =
     let edit : Edit = record { delete = c.args.delete; insert = c.args.insert.now } in
     let w : IsIn c.args.old.now.tree edit c.args.new.token = token_in c.args.old.now.tree edit c.args.new.token c.requires.edit c.requires.covers in
     stands c.args.old.now.tree edit c.args.new.token c.text_range-replaced.result w c.text_range-replaced.ensures
+
+pub returns-clause-new : goal.returns-clause-new
+returns-clause-new g c =
+    let old = c.args.old.now in
+    let c' = c.args.new.token in
+    let edit : Edit = record { delete = c.args.delete; insert = c.args.insert.now } in
+    let w : IsIn old.tree edit c' = token_in old.tree edit c' c.requires.edit c.requires.covers in
+    let its_text : c.as_str.result.now ≡ edited_at c' edit = c.as_str.ensures.value ∙ c.requires.text in
+    let its_tree : c.in-Ok.root.tree ≡ replace old.tree c'.place (token (kind_at c') (edited_at c' edit)) =
+    ap (λ (d : Cursor). d.tree) c.in-Ok.ensures.ok ∙ ap (λ (t : Tree). replace t c'.place (token c.kind.result c.as_str.result.now)) w.same
+    ∙ ap (λ k. replace old.tree c'.place (token k c.as_str.result.now)) c.kind.ensures ∙ ap (λ s. replace old.tree c'.place (token (kind_at c') s)) its_text in
+    ok_both c.spliced.result _ _ (λ n. IsRetoldOf old c.args.count edit c' n.parse n.parser_errors) (λ n p q. record {
+      in_old = w.same;
+      is_around = w.around;
+      tree_is = ap (λ (x : Parsed). x.tree) p ∙ its_tree;
+      errors_are = ap (λ (x : Parsed). x.errors) p ∙ ap (λ fs. all_in_order c.args.count 0 old.errors fs c.text_range-replaced.result edit) c.new-none.ensures.items ∙ ap (λ r. all_in_order c.args.count 0 old.errors [] r edit) c.text_range-replaced.ensures;
+      count_is = q ∙ ap (λ r. length (in_order (take c.args.count old.errors) [] r edit)) c.text_range-replaced.ensures;
+    }) c.spliced.ensures.parse c.spliced.ensures.count
 
 pub returns-clause-same_text : goal.returns-clause-same_text
 returns-clause-same_text g c =
