@@ -59,8 +59,8 @@ impl Chance {
         }
     }
 
-    // A number below n; 0 where n is 0.
-    fn below(&mut self, n: usize) -> usize {
+    /// A number below n; 0 where n is 0.
+    pub fn below(&mut self, n: usize) -> usize {
         let word = self.numbers.next_u32() as usize;
         if n == 0 { 0 } else { word % n }
     }

@@ -8,10 +8,10 @@
 //! by each of six words, and every token too. What differs from a plain model is printed, and then the status is 1. The lines of
 //! `data/texts` take a minute.
 //!
-//! `documents N SEED` makes N random edits of each file, each on a new `Document`, and N more, one after the other, on one. Every range
-//! of a short text of a line `rust` is replaced by each of thirty words. After each edit the document's tree and its errors, in their
-//! order, have to be those of a new parse; if not, the edit is printed, and the status is 1. `edits` does the same with its files, and
-//! with the text of a line `document`, a tab and a short text.
+//! `documents N SEED` makes N random edits of each file, each on a new `Document`, N more, one after the other, on one, and N of up to
+//! twelve replacements. Every range of a short text of a line `rust` is replaced by each of thirty words. After each edit the document's
+//! tree and its errors, in their order, have to be those of a new parse; if not, the edit is printed, and the status is 1. `edits` does
+//! the same with its files, and with the text of a line `document`, a tab and a short text.
 #![tactic(auto)]
 
 mod chance;

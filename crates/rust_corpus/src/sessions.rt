@@ -4,6 +4,7 @@ use crate::chance::{Chance, Edit, edited};
 use ra_ap_syntax::{Document, Edition, NodeOrToken, Parse, SourceFile, TextRange, TextSize};
 use rust_front::Rust;
 use std::alloc::Global;
+use text_edit::{Indel, OverlapError, TextEdit};
 
 // What comes in place of every range of a short text.
 const WORDS: [&str; 30] = [
@@ -106,6 +107,8 @@ pub struct Sessions {
     tokens: u64,
     blocks: u64,
     all: u64,
+    // edits of several replacements
+    several: u64,
     // edits after which `incremental_reparse` reads one token or block again
     reparsed: u64,
     trees: u64,
@@ -134,6 +137,7 @@ impl Sessions {
             tokens: 0,
             blocks: 0,
             all: 0,
+            several: 0,
             reparsed: 0,
             trees: 0,
             errors: 0,
@@ -141,7 +145,8 @@ impl Sessions {
         }
     }
 
-    /// Makes so many edits of a text, each of a new document; and as many more, one after the other, of one document.
+    /// Makes so many edits of a text, each of a new document; as many more, one after the other, of one document; and as many of
+    /// several replacements, of another one.
     pub fn try_file(
         &mut self,
         rt: &HostRuntime,
@@ -157,6 +162,10 @@ impl Sessions {
         let mut document = Document::new(rt.alloc(), Rust, text, edition)?;
         for _edit in 0..count {
             self.try_any(rt, path, &mut document)?;
+        }
+        let mut document = Document::new(rt.alloc(), Rust, text, edition)?;
+        for _edit in 0..count {
+            self.try_several(rt, path, &mut document)?;
         }
         Ok(())
     }
@@ -189,6 +198,40 @@ impl Sessions {
     ) -> anyhow::Result<()> {
         let edit = self.chance.edit(rt.alloc(), document.text(), &TYPED)?;
         self.try_edit(rt, path, document, &edit)
+    }
+
+    // Makes up to twelve replacements by chance at once, without those that overlap one before.
+    fn try_several(
+        &mut self,
+        rt: &HostRuntime,
+        path: &str,
+        document: &mut Document<Rust>,
+    ) -> anyhow::Result<()> {
+        let alloc = rt.alloc();
+        let mut edits = TextEdit::new(alloc);
+        for _one in 0..=self.chance.below(12) {
+            let edit = self.chance.edit(alloc, document.text(), &TYPED)?;
+            if edit.start > edit.end {
+                continue;
+            }
+            let delete = TextRange::new(TextSize::new(edit.start), TextSize::new(edit.end));
+            match edits.add(Indel::replace(delete, edit.insert)) {
+                Ok(()) | Err(OverlapError::Overlap) => {}
+                Err(refused) => return Err(refused.into()),
+            }
+        }
+        let before = format!(in alloc; "{}", document.text())?;
+        let new = edits.apply(alloc, document.text())?;
+        document.edits(alloc, &edits)?;
+        more(&mut self.several);
+        if !self.is_parse(alloc, document, new.as_str())? {
+            println!(rt;
+                "document: {path} {:?} {} replacements in {before:?} to {new:?}",
+                document.edition(),
+                edits.len()
+            )?;
+        }
+        Ok(())
     }
 
     // Makes an edit on a document, and prints it if its parse is not that of its text.
@@ -300,8 +343,8 @@ impl Sessions {
             .saturating_add(self.blocks)
             .saturating_add(self.all);
         println!(rt;
-            "documents: {edits} edits; {} trees differ from those of a new parse, {} have other errors, {} texts are wrong",
-            self.trees, self.errors, self.texts
+            "documents: {edits} edits, {} of several replacements; {} trees differ from those of a new parse, {} have other errors, {} texts are wrong",
+            self.several, self.trees, self.errors, self.texts
         )?;
         Ok(())
     }
