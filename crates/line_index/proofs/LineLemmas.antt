@@ -237,7 +237,7 @@ searched_line s v h o within (Err i) b =
     let down : get_or v (i - 1) 0 ≤ o = omega (arith, k.1 (i - 1) before) in
     omega (arith, pos, on_kept s v h o (i - 1) (omega (arith, pos, k.0)) down (omega (arith, pos, most)))
 
-take_more : (l : List ℕ) (i : ℕ) → i < length l → take (i + 1) l ≡ take i l ++ get_or l i 0 ∷ []
+pub take_more : (l : List ℕ) (i : ℕ) → i < length l → take (i + 1) l ≡ take i l ++ get_or l i 0 ∷ []
 take_more l i lt = ap (λ n. take n l) (add-one i) ∙ take-suc l i 0 lt
 
 -- the starts of one byte more of a text

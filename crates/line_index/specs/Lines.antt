@@ -47,6 +47,26 @@ pub record HasStarts (s starts : List ℕ) : Type 0 where
   pub count : length starts ≡ line_feeds s + 1
   pub each : (n : ℕ) → n < length starts → IsLineStart s n (get_or starts n 0)
 
+-- where a line starts after each line feed of a text that starts at offset o
+unfoldable pub starts_after : ℕ → List ℕ → List ℕ
+starts_after o [] = []
+starts_after o (b ∷ s) = cond (b == 10) ((o + 1) ∷ starts_after (o + 1) s) (starts_after (o + 1) s)
+
+-- what a `LineStarts` keeps of a text: where its lines start, and how long it is
+pub record Numbers : Type 0 where
+  pub starts : List ℕ
+  pub len : ℕ
+
+-- the numbers are those of the text
+pub record IsIndexOf (s : List ℕ) (numbers : Numbers) : Type 0 where
+  pub starts : HasStarts s numbers.starts
+  pub len : length s ≡ numbers.len
+
+-- some text has these numbers
+pub record HasText (numbers : Numbers) : Type 0 where
+  pub text : List ℕ
+  pub is : IsIndexOf text numbers
+
 -- how many units of the encoding a character takes
 abbrev pub units : WideEncoding → ℕ → ℕ
 units Utf16 c = length (encode_utf16 c)

@@ -2,29 +2,32 @@
 ghost use Rattle.std.specs.Prelude.{◌≡◌, ◌<◌, ◌≤◌, ◌^◌, length, take, IfOk, MatchOption};
 ghost use Rattle.std.specs.Option.{SomeIff};
 ghost use Rattle.std.specs.Str.{IsUtf8};
-ghost use Rattle.line_index.specs.Lines.{line_col_at, line_feeds, IsOffset, NoOffset, IsLine, IsLineStart, IsWide, NoChar, NoWide};
+ghost use Rattle.line_index.specs.Lines.{line_col_at, line_feeds, IsIndexOf, IsOffset, NoOffset};
+ghost use Rattle.line_index.specs.Lines.{IsLine, IsLineStart, IsWide, NoChar, NoWide};
 
 use crate::line_col::{LineCol, WideEncoding, WideLineCol};
+use crate::starts::LineStarts;
 use std::alloc::{AllocError, Global};
 use std::marker::Model;
 use text_size::{TextRange, TextSize};
 
-/// The starts of a text's lines, for the line and the column of an offset and back. A clause sees the bytes of the text.
+/// The starts of a text's lines, for the line and the column of an offset and back. A clause sees
+/// the bytes of the text.
 ///
-/// A line ends after its line feed (`\n`), or at the end of the text. So a text has one line more than it has line feeds.
-/// It has the name, and calls, of the type in the crate `line-index`, and borrows the text.
+/// A line ends after its line feed (`\n`), or at the end of the text. So a text has one line more
+/// than it has line feeds. It has the name, and calls, of the type in the crate `line-index`, and
+/// borrows the text.
 #[derive(Drop)]
 pub struct LineIndex<'a> {
     text: &'a str,
-    // The start of each line, in order: 0, and the offset after each line feed.
-    starts: Vec<u32>,
+    lines: LineStarts,
 }
 
 impl<'a> Model for LineIndex<'a> {
     ghost use Rattle.std.specs.Prelude.{◌<◌, ◌^◌, ℕ, List, length};
     ghost use Rattle.std.specs.Coded.{coded_list, coded_ℕ};
     ghost use Rattle.std.specs.Str.{IsUtf8};
-    ghost use Rattle.line_index.specs.Lines.{HasStarts};
+    ghost use Rattle.line_index.specs.Lines.{IsIndexOf};
 
     ghost Value = { List ℕ };
 
@@ -32,7 +35,7 @@ impl<'a> Model for LineIndex<'a> {
 
     ghost view = { λ a. a.text.now };
 
-    ghost invariant = { λ a. HasStarts a.text.now a.starts.items × (length a.text.now < 2 ^ 32) × IsUtf8 a.text.now };
+    ghost invariant = { λ a. IsIndexOf a.text.now a.lines × (length a.text.now < 2 ^ 32) × IsUtf8 a.text.now };
 }
 
 impl<'a> LineIndex<'a> {
@@ -45,15 +48,24 @@ impl<'a> LineIndex<'a> {
         requires { length text.now < 2 ^ 32 }
         ensures { IfOk result (λ index. index ≡ text.now) }
     {
-        let bytes = text.as_bytes();
-        let mut starts = Vec::new(alloc);
-        starts.push(0)?;
-        for (i, byte) in bytes.iter().enumerate() {
-            if *byte == b'\n' {
-                starts.push(i as u32 + 1)?;
-            }
-        }
-        Ok(LineIndex { text, starts })
+        let lines = LineStarts::new(alloc, text)?;
+        Ok(LineIndex { text, lines })
+    }
+
+    /// The lines of a text whose numbers are known, as of one whose edits `LineStarts::edit` was
+    /// told. Takes the same time for each text.
+    pub fn from_starts(text: &'a str, lines: LineStarts) -> LineIndex<'a>
+        requires { IsIndexOf text.now lines }
+        ensures { result ≡ text.now }
+    {
+        LineIndex { text, lines }
+    }
+
+    /// The numbers, without the text.
+    pub fn into_starts(self) -> LineStarts
+        ensures { IsIndexOf self.entry result }
+    {
+        self.lines
     }
 
     /// The text whose lines these are.
@@ -65,56 +77,35 @@ impl<'a> LineIndex<'a> {
 
     /// The line and the column of an offset, or `None` if it is past the end of the text.
     ///
-    /// The line is the number of line feeds before the offset. In the text `"a\nbc"` offset 1 is line 0 and column 1, offset 2 is
-    /// line 1 and column 0, and offset 4, the text's end, is line 1 and column 2. Takes time logarithmic in the number of lines.
+    /// The line is the number of line feeds before the offset. In the text `"a\nbc"` offset 1 is
+    /// line 0 and column 1, offset 2 is line 1 and column 0, and offset 4, the text's end, is line
+    /// 1 and column 2. Takes time logarithmic in the number of lines.
     pub fn line_col(&self, offset: TextSize) -> Option<LineCol>
         ensures { SomeIff result (offset ≤ length self.now) (line_col_at self.now offset) }
     {
-        let offset = offset.raw();
-        if self.len() < offset {
-            return None;
-        }
-        let line = self.line_at(offset);
-        Some(LineCol {
-            line: line as u32,
-            col: offset - self.starts[line],
-        })
+        self.lines.line_col(offset)
     }
 
-    /// The offset with this line and column, or `None` if the text has no such line, or the line no such column.
+    /// The offset with this line and column, or `None` if the text has no such line, or the line no
+    /// such column.
     ///
-    /// A line feed is the last byte of its line, so the offset after it has another line. The text's end is an offset of the last
-    /// line. Inverse to `line_col`.
+    /// A line feed is the last byte of its line, so the offset after it has another line. The
+    /// text's end is an offset of the last line. Inverse to `line_col`.
     pub fn offset(&self, at: LineCol) -> Option<TextSize>
         ensures { MatchOption result (NoOffset self.now at) (IsOffset self.now at) }
     {
-        let len = self.len();
-        let line = at.line as usize;
-        let offset = self.start(line)?.checked_add(at.col)?;
-        let last = match self.start(line + 1) {
-            Some(next) => next - 1,
-            None => len,
-        };
-        if last < offset {
-            return None;
-        }
-        Some(TextSize::new(offset))
+        self.lines.offset(at)
     }
 
     /// The range of a line with its line feed, or `None` if the text has no such line.
     pub fn line(&self, line: u32) -> Option<TextRange>
         ensures { MatchOption result (line_feeds self.now < line) (IsLine self.now line) }
     {
-        let line = line as usize;
-        let start = self.start(line)?;
-        let end = match self.start(line + 1) {
-            Some(next) => next,
-            None => self.len(),
-        };
-        Some(TextRange::new(TextSize::new(start), TextSize::new(end)))
+        self.lines.line(line)
     }
 
-    /// The same place with its column in units of an encoding, or `None` if the text has no such place, or it is inside a character.
+    /// The same place with its column in units of an encoding, or `None` if the text has no such
+    /// place, or it is inside a character.
     ///
     /// Takes time linear in the column.
     pub fn to_wide(&self, encoding: WideEncoding, at: LineCol) -> Option<WideLineCol>
@@ -132,8 +123,8 @@ impl<'a> LineIndex<'a> {
         })
     }
 
-    // The same as `to_wide`, counted on from a place with a known wide column if that is before `at` in the same line. Takes time linear in
-    // the bytes between the two then.
+    // The same as `to_wide`, counted on from a place with a known wide column if that is before
+    // `at` in the same line. Takes time linear in the bytes between the two then.
     pub(crate) fn to_wide_from(
         &self,
         encoding: WideEncoding,
@@ -160,8 +151,9 @@ impl<'a> LineIndex<'a> {
         })
     }
 
-    /// The same place with its column in bytes, or `None` if the text has no such line, or no character of the line starts at such a
-    /// column. The end of the text counts as the start of a character.
+    /// The same place with its column in bytes, or `None` if the text has no such line, or no
+    /// character of the line starts at such a column. The end of the text counts as the start of a
+    /// character.
     ///
     /// Inverse to `to_wide`. Takes time linear in the column.
     pub fn to_utf8(&self, encoding: WideEncoding, at: WideLineCol) -> Option<LineCol>
@@ -182,28 +174,10 @@ impl<'a> LineIndex<'a> {
         let _ = &self.text;
     }
 
-    // The length of the text.
-    fn len(&self) -> u32
-        ensures { result ≡ length self.now }
-    {
-        self.text.len() as u32
-    }
-
-    // The line of an offset in the text.
-    fn line_at(&self, offset: u32) -> usize
-        requires { offset ≤ length self.now }
-        ensures { result ≡ line_feeds (take offset self.now) }
-    {
-        match self.starts.binary_search(&offset) {
-            Ok(line) => line,
-            Err(next) => next - 1,
-        }
-    }
-
     // The start of a line, or `None` if the text has no such line.
     fn start(&self, line: usize) -> Option<u32>
         ensures { MatchOption result (line_feeds self.now < line) (IsLineStart self.now line) }
     {
-        self.starts.get(line).copied()
+        self.lines.start(line)
     }
 }
