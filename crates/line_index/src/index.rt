@@ -53,7 +53,7 @@ impl<'a> LineIndex<'a> {
     }
 
     /// The lines of a text whose numbers are known, as of one whose edits `LineStarts::edit` was
-    /// told. Takes the same time for each text.
+    /// told. Takes constant time.
     pub fn from_starts(text: &'a str, lines: LineStarts) -> LineIndex<'a>
         requires { IsIndexOf text.now lines }
         ensures { result ≡ text.now }

@@ -84,8 +84,7 @@ impl LineStarts {
     /// such column.
     ///
     /// A line feed is the last byte of its line, so the offset after it has another line. The
-    /// text's end is an offset of the last line. Inverse to `line_col`. Takes the same time for
-    /// each text.
+    /// text's end is an offset of the last line. Inverse to `line_col`. Takes constant time.
     pub fn offset(&self, at: LineCol) -> Option<TextSize>
         ensures { (s : List ℕ) → IsIndexOf s self.now
             → MatchOption result (NoOffset s at) (IsOffset s at) }
@@ -103,8 +102,8 @@ impl LineStarts {
         Some(TextSize::new(offset))
     }
 
-    /// The range of a line with its line feed, or `None` if the text has no such line. Takes the
-    /// same time for each text.
+    /// The range of a line with its line feed, or `None` if the text has no such line. Takes
+    /// constant time.
     pub fn line(&self, line: u32) -> Option<TextRange>
         ensures { (s : List ℕ) → IsIndexOf s self.now
             → MatchOption result (line_feeds s < line) (IsLine s line) }
