@@ -111,7 +111,7 @@ class Table:
         self.check()
 
     def stop(self, what):
-        sys.exit(f"tests/views: {self.place}: {what}")
+        sys.exit(f"tools/views: {self.place}: {what}")
 
     def part(self, last, line, doc):
         """An indented line: what it says of the view above it."""
@@ -153,7 +153,7 @@ class Table:
             lost += [it for it in view.sources if it not in self.enums]
             lost += [view.name] * (view.name not in below if view.name in self.added else not view.doc)
             if lost:
-                sys.exit(f"tests/views: {self.path}: {view.name}: there is no {lost[0]}, or it has no documentation")
+                sys.exit(f"tools/views: {self.path}: {view.name}: there is no {lost[0]}, or it has no documentation")
 
     def with_laws(self):
         """The kinds that have a law of their own on their names."""

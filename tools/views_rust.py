@@ -51,7 +51,7 @@ def indented(lines, depth=2):
 
 
 class Writer:
-    """The files of a table and of the table below it. `templates` are those that `tests/views` shares, `firsts` the views that a lookup
+    """The files of a table and of the table below it. `templates` are those that `tools/views` shares, `firsts` the views that a lookup
     returns the first child of, and `spec_below` gives the spec with the words of a view of the table below."""
 
     def __init__(self, table, filled, templates, firsts, spec_below):
