@@ -1,7 +1,6 @@
-#!/usr/bin/env python3
 """Times `rust_tree parens` on generated files with thousands of needless pairs, and prints a table.
 
-usage: bench/pairs [--rounds N] PROGRAM
+usage: bench/run pairs [--rounds N] PROGRAM
 
 PROGRAM is the built program rust_tree. A file has needless pairs, and 100 pairs that have to stay: none, or pairs of one of the shapes in
 the table. For the first shape the operator test decides that a pair stays, for the others parses of an expression around it. A time is the
@@ -43,14 +42,14 @@ def measured(words, rounds):
         run = subprocess.run(words, stdin=subprocess.DEVNULL, stdout=subprocess.PIPE, check=False)
         after = os.times()
         if run.returncode != 1:
-            raise SystemExit(f"bench/pairs: {' '.join(words)}: status {run.returncode}")
+            raise SystemExit(f"bench/run pairs: {' '.join(words)}: status {run.returncode}")
         lines = run.stdout.count(b"\n")
         least = min(least, after.children_user + after.children_system - before.children_user - before.children_system)
     return least, lines
 
 
 def main():
-    words = argparse.ArgumentParser(description=__doc__, formatter_class=argparse.RawDescriptionHelpFormatter)
+    words = argparse.ArgumentParser(prog="bench/run pairs", description=__doc__, formatter_class=argparse.RawDescriptionHelpFormatter)
     words.add_argument("program", metavar="PROGRAM", help="the built program rust_tree")
     words.add_argument("--rounds", type=int, default=3, metavar="N", help="the number of rounds (default: 3)")
     given = words.parse_args()
@@ -64,7 +63,7 @@ def main():
             seconds, lines = measured([os.path.abspath(given.program), "parens", "--all", path], given.rounds)
             # One of the two pairs of `((a + b))` is needless.
             if lines != needless + STAYING * (staying is not None and "((" in staying):
-                raise SystemExit(f"bench/pairs: {name}: {lines} lines")
+                raise SystemExit(f"bench/run pairs: {name}: {lines} lines")
             print(f"| {name if staying is None else f'100 times {name}'} | {lines:,} | {len(text):,} | {seconds:.2f} |", flush=True)
 
 

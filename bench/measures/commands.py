@@ -1,7 +1,6 @@
-#!/usr/bin/env python3
 """Times the built program's commands over growing inputs, and prints nanoseconds per operator, or per byte, and the memory.
 
-usage: bench/commands [PROGRAM]
+usage: bench/run commands [PROGRAM]
 
 `parens` reads expressions of 1,000 to 1,000,000 operators, of seven shapes: flat sums, nested pairs, pairs before `<<`,
 prefixes, postfixes, arguments in arguments, and mixed. `dump` reads files of 10,000 to 10,000,000 bytes. `reparse` edits one token, or
@@ -14,7 +13,7 @@ import subprocess
 import sys
 import time
 
-TOP = os.path.dirname(os.path.dirname(os.path.abspath(__file__)))
+TOP = os.path.dirname(os.path.dirname(os.path.dirname(os.path.abspath(__file__))))
 SHAPES = {
     "flat": lambda n: "a" + " + a" * n,
     "nested pairs": lambda n: "(" * n + "a" + ")" * n,

@@ -1,7 +1,6 @@
-#!/usr/bin/env python3
 """Times the commands of rust_tree over a list of files and over one file of 10 MB, and prints processor time and memory.
 
-usage: bench/files [--theirs PROGRAM] [--every N] [--rounds N] PROGRAM LIST
+usage: bench/run files [--theirs PROGRAM] [--every N] [--rounds N] PROGRAM LIST
 
 PROGRAM is the built program rust_tree. Each line of LIST is a file, or an edition, a tab and a file; --every takes each N-th. The file of
 10 MB is made of these files, one after another. A time is the processor time, of the user and the system, of a whole command with
@@ -50,7 +49,7 @@ def text_of_size(files):
                 texts.append(read(name))
                 size += len(texts[-1].encode("utf-8"))
         if size == before:
-            raise SystemExit("bench/files: the files have no text")
+            raise SystemExit("bench/run files: the files have no text")
     return "".join(texts).encode("utf-8")[:SIZE].decode("utf-8", "ignore")
 
 
@@ -65,7 +64,7 @@ def measured(runs, rounds):
                 timed = ["/usr/bin/time", "-q", "-o", said.name, "-f", "%U %S %M", *words]
                 run = subprocess.run(timed, stdin=subprocess.DEVNULL, stdout=subprocess.DEVNULL, stderr=subprocess.DEVNULL)
                 if run.returncode not in (0, 1):
-                    raise SystemExit(f"bench/files: {' '.join(words[:3])}: status {run.returncode}")
+                    raise SystemExit(f"bench/run files: {' '.join(words[:3])}: status {run.returncode}")
                 said.seek(0)
                 user, system, room = map(float, said.read().split())
                 most = max(most, room / 1024)
@@ -83,7 +82,7 @@ def runs_of(program, words, files):
 
 
 def main():
-    words = argparse.ArgumentParser(description=__doc__, formatter_class=argparse.RawDescriptionHelpFormatter)
+    words = argparse.ArgumentParser(prog="bench/run files", description=__doc__, formatter_class=argparse.RawDescriptionHelpFormatter)
     words.add_argument("program", metavar="PROGRAM", help="the built program rust_tree")
     words.add_argument("list", metavar="LIST", help="a list of files")
     words.add_argument("--theirs", metavar="PROGRAM", help="a program with rust-analyzer's lexer and parser")

@@ -1,7 +1,6 @@
-#!/usr/bin/env python3
 """Times the library for C, cargo and Python: reading a text, a walk over its tree, an edit, and the first node from Python.
 
-usage: bench/bindings [--theirs PROGRAM] [--rounds N] [--turns N] [--count LINE].. [--sources FOLDER] [FILE..]
+usage: bench/run bindings [--theirs PROGRAM] [--rounds N] [--turns N] [--count LINE].. [--sources FOLDER] [FILE..]
 
 The library is the one in crates/ras_c/out, where `./run --lib` puts it. For each file it prints the minimum processor time of N rounds
 (20). With a folder of Rust sources it makes three files of 20 KB, 200 KB and 1.6 MB, by joining the sources without inner attributes
@@ -17,7 +16,7 @@ import subprocess
 import sys
 import tempfile
 
-TOP = os.path.dirname(os.path.dirname(os.path.abspath(__file__)))
+TOP = os.path.dirname(os.path.dirname(os.path.dirname(os.path.abspath(__file__))))
 RUST = os.path.join(TOP, "bindings", "rust")
 SIZES = {"20KB.rs": 20_000, "200KB.rs": 200_000, "1600KB.rs": 1_600_000}
 # A process of its own for each round: the first node needs the module, the library and the names of kinds too.
@@ -41,7 +40,7 @@ def made(sources, folder):
         while len(joined.encode()) < size:
             text = next(texts, None)
             if text is None:
-                sys.exit(f"bench/bindings: {sources} has fewer than {size} bytes of sources")
+                sys.exit(f"bench/run bindings: {sources} has fewer than {size} bytes of sources")
             joined += "" if "#![" in text or "//!" in text else text
         path = os.path.join(folder, name)
         open(path, "w", encoding="utf-8").write(joined)
@@ -75,7 +74,7 @@ def instructions(command, path, line):
 
 
 def main():
-    words = argparse.ArgumentParser(description=__doc__, formatter_class=argparse.RawDescriptionHelpFormatter)
+    words = argparse.ArgumentParser(prog="bench/run bindings", description=__doc__, formatter_class=argparse.RawDescriptionHelpFormatter)
     words.add_argument("--theirs", metavar="PROGRAM", help="a program with rust-analyzer's lexer and parser")
     words.add_argument("--rounds", type=int, default=20, metavar="N", help="the number of rounds (default: 20)")
     words.add_argument("--turns", type=int, default=1, metavar="N", help="how often the programs run, in turn (default: 1)")

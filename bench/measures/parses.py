@@ -1,7 +1,6 @@
-#!/usr/bin/env python3
 """Builds `benches` and `bench/front_like.rs`, runs `benches fronts` and the other program in turn, and prints a table.
 
-usage: bench/parses [ROUNDS [PROGRAM]]
+usage: bench/run parses [ROUNDS [PROGRAM]]
 
 A row has the operation, the text, its bytes, the minimum time of all runs of both programs, in ROUNDS rounds (2), and the ratio. The
 operations are lexing, a parse with its tree, a parse with its dump, and an edit that parses one token, one block or the whole text again;
@@ -13,7 +12,7 @@ import subprocess
 import sys
 import tempfile
 
-TOP = os.path.dirname(os.path.dirname(os.path.abspath(__file__)))
+TOP = os.path.dirname(os.path.dirname(os.path.dirname(os.path.abspath(__file__))))
 sys.path.insert(0, os.path.join(TOP, "tools"))
 sys.dont_write_bytecode = True
 import repository

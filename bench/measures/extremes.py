@@ -1,7 +1,6 @@
-#!/usr/bin/env python3
 """Runs each command of the built program on a text of 10 MB and on texts that nest 10,000 and 100,000 deep, and prints time and memory.
 
-usage: bench/extremes [PROGRAM]
+usage: bench/run extremes [PROGRAM]
 
 Each row is one run of the whole command with reading and printing, with 12 GB of address space. If a run is refused, its line has the
 refusal: a dump's indentation grows with the square of the depth, and the whole dump is in memory before the first byte is written.
@@ -12,7 +11,7 @@ import subprocess
 import sys
 import time
 
-TOP = os.path.dirname(os.path.dirname(os.path.abspath(__file__)))
+TOP = os.path.dirname(os.path.dirname(os.path.dirname(os.path.abspath(__file__))))
 SIZE = 10_000_000
 ROOM = 12 << 30
 FUNCTION = "fn name() {\n    let mut sum = a + b * (c - 1);\n    f(sum, 2)[0].g()?;\n}\n"

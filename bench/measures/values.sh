@@ -1,19 +1,18 @@
-#!/bin/sh
 # Builds the program `benches` and prints a table of what `benches literals` measures: the values of string literals.
 #
-# usage: bench/values
+# usage: bench/run values
 #
 # They are read as text and as bytes, in MB of the literal per second, beside an iteration over the units of the same content. The
 # contents have 10 KB to 10 MB: letters, escapes, raw strings, characters of two and three bytes, continued lines. Times are the minimum of
 # a few runs.
 case ${1-} in
-    --help | -h) sed -n '2,/^[^#]/s/^# \{0,1\}//p' "$0"; exit 0 ;;
+    --help | -h) sed -n '1,/^[^#]/s/^# \{0,1\}//p' "$0"; exit 0 ;;
 esac
 here=$(cd "$(dirname "$0")" && pwd) || exit 3
 log=$(mktemp) || exit 3
 trap 'rm -f "$log"' EXIT
 
-program=$("$here/../tools/built" benches) || exit 3
+program=$("$here/../../tools/built" benches) || exit 3
 
 # A line is: call, content, bytes, nanoseconds, what was seen.
 "$program" literals >"$log" || exit 3

@@ -1,8 +1,7 @@
-#!/usr/bin/env python3
 """Counts the instructions of a parse by callgrind, for each byte of the text and by part. They do not depend on what else the machine does.
 
-usage: bench/instructions [--program PROGRAM] FILE..
-       bench/instructions [--program PROGRAM] --check | --write
+usage: bench/run instructions [--program PROGRAM] FILE..
+       bench/run instructions [--program PROGRAM] --check | --write
 
 PROGRAM is the built program rust_tree, by default the one that `./check` or `./run --prove` built. It runs `check -q --no-validation`; what
 that takes on an empty file is taken off. The part of a function is with all that it calls; a function that the compiler put into its
@@ -19,7 +18,7 @@ import subprocess
 import sys
 import tempfile
 
-TOP = os.path.dirname(os.path.dirname(os.path.abspath(__file__)))
+TOP = os.path.dirname(os.path.dirname(os.path.dirname(os.path.abspath(__file__))))
 # Where the program was built: the copy that `./check` proves, or this repository.
 PROGRAM = os.path.join(os.environ.get("BUILT") or TOP, "crates", "rust_tree", "out", "rust_tree")
 STORED = os.path.join(TOP, "bench", "instructions.txt")
@@ -42,7 +41,7 @@ def counted(program, path, folder):
     ran = subprocess.run(words, stdin=subprocess.DEVNULL, stdout=subprocess.DEVNULL, stderr=subprocess.PIPE, text=True, errors="replace")
     whole = re.search(r"Collected : (\d+)", ran.stderr)
     if ran.returncode not in (0, 1) or not whole:
-        raise SystemExit(f"bench/instructions: {path}: status {ran.returncode}\n{ran.stderr[-2000:]}")
+        raise SystemExit(f"bench/run instructions: {path}: status {ran.returncode}\n{ran.stderr[-2000:]}")
     words = ["callgrind_annotate", "--inclusive=yes", "--threshold=100", out]
     text = subprocess.run(words, capture_output=True, text=True, errors="replace").stdout
     found = {}
@@ -58,7 +57,7 @@ def text_of_programs():
 
 
 def main():
-    words = argparse.ArgumentParser(description=__doc__, formatter_class=argparse.RawDescriptionHelpFormatter)
+    words = argparse.ArgumentParser(prog="bench/run instructions", description=__doc__, formatter_class=argparse.RawDescriptionHelpFormatter)
     words.add_argument("--program", default=PROGRAM, metavar="PROGRAM", help="the built program rust_tree")
     words.add_argument("--check", action="store_true", help="compares the number of one text with the stored one")
     words.add_argument("--write", action="store_true", help="stores that number")
@@ -68,13 +67,13 @@ def main():
         words.error("give files, or one of --check and --write")
     missing = next((it for it in ("valgrind", "callgrind_annotate") if not shutil.which(it)), None)
     if missing:
-        print(f"bench/instructions: {missing} is not here: not measured")
+        print(f"bench/run instructions: {missing} is not here: not measured")
         return 0 if given.check else 2
     if given.check and not os.path.isfile(STORED):
-        print("bench/instructions: no number is stored: not measured")
+        print("bench/run instructions: no number is stored: not measured")
         return 0
     if not os.access(given.program, os.X_OK):
-        raise SystemExit(f"bench/instructions: {given.program} is not built; `./run --prove` builds it")
+        raise SystemExit(f"bench/run instructions: {given.program} is not built; `./run --prove` builds it")
     with tempfile.TemporaryDirectory() as folder:
         empty = os.path.join(folder, "empty.rs")
         open(empty, "w").close()
@@ -101,9 +100,9 @@ def main():
         return 0
     stored = float(open(STORED, encoding="utf-8").read().split()[0])
     if now > stored * MOST:
-        print(f"bench/instructions: {now:.1f} instructions a byte, and {stored:.1f} are stored: more than 5 % more")
+        print(f"bench/run instructions: {now:.1f} instructions a byte, and {stored:.1f} are stored: more than 5 % more")
         return 1
-    print(f"bench/instructions: {now:.1f} instructions a byte, {stored:.1f} stored")
+    print(f"bench/run instructions: {now:.1f} instructions a byte, {stored:.1f} stored")
     return 0
 
 
