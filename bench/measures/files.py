@@ -14,6 +14,11 @@ import subprocess
 import sys
 import tempfile
 
+TOP = os.path.dirname(os.path.dirname(os.path.dirname(os.path.abspath(__file__))))
+sys.path.insert(0, os.path.join(TOP, "tools"))
+sys.dont_write_bytecode = True
+import rust_files
+
 SIZE = 10_000_000
 COMMANDS = (
     ("check", ["check"]), ("outline", ["outline"]), ("query 'FN > NAME'", ["query", "FN > NAME"]),
@@ -29,14 +34,12 @@ def read(name):
 
 def listed(path, every):
     """Pairs of an edition and a file, of those that are UTF-8."""
-    for number, line in enumerate(open(path, encoding="utf-8")):
-        edition, _, name = line.rstrip("\n").rpartition("\t")
-        if name and number % every == 0:
-            try:
-                read(name)
-            except UnicodeDecodeError:
-                continue
-            yield edition or "2024", name
+    for edition, name in list(rust_files.listed(path))[::every]:
+        try:
+            read(name)
+        except UnicodeDecodeError:
+            continue
+        yield edition, name
 
 
 def text_of_size(files):
