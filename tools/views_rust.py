@@ -23,27 +23,6 @@ HEAD = """//! Views of the nodes of Rust's trees for whose kinds `SyntaxKind` ha
 //! in the number of children that it passes, and no memory.
 #![tactic(auto)]
 """
-CASTS = """
-impl AstNode for {name} {{
-    ghost casts = {{ {casts} }};
-
-    ghost node = {{ {node} }};
-
-    ghost castable = {{ {castable} }};
-
-    fn can_cast(kind: SyntaxKind) -> bool {{
-{can_cast}
-    }}
-
-    fn cast(syntax: SyntaxNode) -> Option<{name}> {{
-{cast}
-    }}
-
-    fn syntax(&self) -> &SyntaxNode {{
-{syntax}
-    }}
-}}
-"""
 
 
 def indented(lines, depth=2):
@@ -137,7 +116,7 @@ class Writer:
         cast += ["} else {", "    None", "}"]
         syntax = ["match self {", *(f"    {name}::{variant}(it) => it.syntax()," for variant, _ in enum.variants), "}"]
         casts = {"casts": f"is_{own}", "node": f"{own}_node", "castable": f"{own}_castable"}
-        out += self.filled(CASTS, name=name, **casts, can_cast=indented(can_cast), cast=indented(cast), syntax=indented(syntax))
+        out += self.filled(self.templates.NODE, name=name, **casts, can_cast=indented(can_cast), cast=indented(cast), syntax=indented(syntax))
         out += self.shown(name, f"({own}_node it)", "self.syntax()")
         for (variant, _), it in zip(enum.variants, views):
             body = f"        {name}::{variant}(it)"
@@ -220,7 +199,7 @@ class Writer:
         clone = ["let syntax = self.syntax.clone()?;", f"Ok({name} {{ syntax }})"]
         words = {"casts": kinds, "node": "λ it. it.syntax", "castable": "λ it. it.is"}
         matched = self.templates.matched([self.kind(of) for of in self.holders(trait)])
-        out += self.filled(CASTS, name=name, **words, can_cast="\n".join(matched), cast=indented(cast), syntax="        &self.syntax")
+        out += self.filled(self.templates.NODE, name=name, **words, can_cast="\n".join(matched), cast=indented(cast), syntax="        &self.syntax")
         words = {key: f"{key}.syntax" for key in ("it", "a", "b")} | {"own": "self.syntax", "other": "other.syntax"}
         out += self.filled(self.templates.BY_NODE, name=name, node="(λ it. it.syntax)", is_clone="copy ≡ s", clone=indented(clone), **words)
         return out + self.shown(name, words["it"], words["own"]) + self.templates.from_of(name, "support::share")
