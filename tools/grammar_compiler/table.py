@@ -1,7 +1,7 @@
 """From rules to one table of operations, with what often comes together made one operation."""
 import collections
 
-from .language import NONE, ONE, WORD, Flag, Label, Op, Seen
+from .language import ONE, WORD, Flag, Label, Op, Seen
 from .sharpen import Sharpened
 
 # A rule of at most so many operations that looks at no flag and no level is in place of its calls.
