@@ -8,7 +8,7 @@ MOST = 500
 
 
 def listed(path, edition="2024"):
-    """The files of a list, each behind its edition. A line is a path, or an edition, a tab and a path; `edition` is that of the first."""
+    """The files of a list, each behind its edition. A line is an edition, a tab and a path, or a path of the edition `edition`."""
     with open(path, encoding="utf-8") as lines:
         for line in lines:
             own, _, name = line.rstrip("\n").rpartition("\t")
