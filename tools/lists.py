@@ -1,0 +1,44 @@
+"""Lists that scripts make within files which are otherwise written by hand."""
+import os
+import re
+
+TOP = os.path.dirname(os.path.dirname(os.path.abspath(__file__)))
+# The folder of these scripts, as the heads of the sources in crates/ that they make name it, and the pages of docs/claims/. They were written
+# when the scripts lay in tests/, and a source is proved with its head: with "tools" here, ./generate writes all heads anew.
+HEADS = "tests"
+
+
+class Lost(Exception):
+    """A file has no place for a list."""
+
+
+def source(path):
+    path = os.path.join(TOP, path)
+    return open(path, encoding="utf-8").read() if os.path.exists(path) else ""
+
+
+class Files:
+    """The files with their lists, as they are to be."""
+
+    def __init__(self):
+        self.texts = {}
+
+    def text(self, path):
+        return self.texts.setdefault(path, source(path))
+
+    def put(self, path, before, lines, behind):
+        """Puts lines between the first lines that are `before` and the next that are `behind`, both of which stay."""
+        text = self.text(path)
+        at = text.find(f"{before}\n")
+        start = at + len(before) + 1
+        end = text.find(f"{behind}\n", start)
+        if at < 0 or end < 0:
+            raise Lost(f"{path} has no list between `{before.strip()}` and `{behind.strip()}`")
+        self.texts[path] = text[:start] + "".join(f"{line}\n" for line in lines) + text[end:]
+
+    def count(self, path, pattern, number):
+        """Sets each number that the pattern finds, its one group."""
+        text, found = re.subn(pattern, lambda it: it[0].replace(it[1], str(number)), self.text(path))
+        if not found:
+            raise Lost(f"{path} has no number `{pattern}`")
+        self.texts[path] = text
