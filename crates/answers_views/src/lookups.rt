@@ -1,4 +1,4 @@
-// Plain lookups. Made by `tests/views` from `views.txt`.
+// Plain lookups. Made by `tools/views` from `views.txt`.
 mod attr;
 mod control;
 mod enums;

@@ -1,4 +1,4 @@
--- The parser's messages. Written by tests/grammar from arithmetic.grammar.
+-- The parser's messages. Written by tools/grammar from arithmetic.grammar.
 use Rattle.std.specs.Prelude.{ℕ, ◌==◌, if◌then◌else◌, List, [], codes}
 
 -- the message of an error by its number; no text where no error has it

@@ -1,4 +1,4 @@
--- Where the rules begin. Written by tests/grammar from arithmetic.grammar.
+-- Where the rules begin. Written by tools/grammar from arithmetic.grammar.
 use Rattle.std.specs.Prelude.{ℕ}
 use Rattle.example_grammar.specs.declared.tables.rules.Rule.{Rule}
 use Rattle.example_grammar.specs.declared.tables.rules.Rule.TheVariants as rule

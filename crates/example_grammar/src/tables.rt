@@ -1,4 +1,4 @@
-//! The tables, which `tests/grammar` writes from `arithmetic.grammar`, lent out.
+//! The tables, which `tools/grammar` writes from `arithmetic.grammar`, lent out.
 ghost use Rattle.std.specs.Prelude.{◌≡◌};
 ghost use Rattle.grammar_machine.specs.Running.{tables_of};
 ghost use Rattle.example_grammar.specs.Tables.{arithmetic_tables};

@@ -1,4 +1,4 @@
--- The parser's messages. Written by tests/grammar from rust.grammar.
+-- The parser's messages. Written by tools/grammar from rust.grammar.
 use Rattle.std.specs.Prelude.{ℕ, ◌==◌, nat_lt, if◌then◌else◌, List, [], ◌∷◌, ◌++◌, codes}
 
 abbrev pub part_0_of : ℕ → List ℕ

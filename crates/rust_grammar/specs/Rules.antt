@@ -1,4 +1,4 @@
--- Where the rules begin. Written by tests/grammar from rust.grammar.
+-- Where the rules begin. Written by tools/grammar from rust.grammar.
 use Rattle.std.specs.Prelude.{ℕ}
 use Rattle.rust_grammar.specs.declared.tables.rules.Rule.{Rule}
 use Rattle.rust_grammar.specs.declared.tables.rules.Rule.TheVariants as rule

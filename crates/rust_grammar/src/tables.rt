@@ -1,4 +1,4 @@
-//! The tables, which `tests/grammar` writes from `rust.grammar`, lent out.
+//! The tables, which `tools/grammar` writes from `rust.grammar`, lent out.
 ghost use Rattle.std.specs.Prelude.{◌≡◌};
 ghost use Rattle.grammar_machine.specs.Running.{tables_of};
 ghost use Rattle.rust_grammar.specs.Tables.{rust_tables};

@@ -1,4 +1,4 @@
--- Each row of the table is found by its name. Written by tests/rust_kinds from kinds.txt.
+-- Each row of the table is found by its name. Written by tools/rust_kinds from kinds.txt.
 use Rattle.std.specs.Prelude.{◌≡◌, ℕ, List, [], codes, Some, IsUtf8}
 use Rattle.std.proofs.Common.{refl}
 use Rattle.std.proofs.lemmas.Str.{IsUtf8-nil}

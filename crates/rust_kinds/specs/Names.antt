@@ -1,4 +1,4 @@
--- The names of kinds: those of the library, and those of the table. Written by tests/rust_kinds from kinds.txt.
+-- The names of kinds: those of the library, and those of the table. Written by tools/rust_kinds from kinds.txt.
 use Rattle.std.specs.Prelude.{◌≡◌, ℕ, ◌+◌, ◌*◌, ◌%◌, ◌==◌, if◌then◌else◌, List, [], codes, bytes_eq, Option, Some, None, fold, slice_index_or}
 use Rattle.syntax_kind.specs.declared.syntax_kind.SyntaxKind.{SyntaxKind}
 use Rattle.syntax_kind.specs.declared.syntax_kind.SyntaxKind.TheVariants.{OTHER}

@@ -1,4 +1,4 @@
-//! The kinds, by their names. Written by tests/rust_kinds from kinds.txt.
+//! The kinds, by their names. Written by tools/rust_kinds from kinds.txt.
 
 use syntax_kind::SyntaxKind;
 

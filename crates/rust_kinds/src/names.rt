@@ -1,4 +1,4 @@
-//! The names of the table. Written by tests/rust_kinds from kinds.txt.
+//! The names of the table. Written by tools/rust_kinds from kinds.txt.
 ghost use Rattle.std.specs.Prelude.{◌≡◌, [], MatchOption};
 ghost use Rattle.rust_kinds.specs.Names.{name_in_table, number_in_table, place_of};
 

@@ -1,4 +1,4 @@
--- The kinds of nodes that have a trait. Made by `tests/views` from `views.txt`.
+-- The kinds of nodes that have a trait. Made by `tools/views` from `views.txt`.
 use Rattle.std.specs.Prelude.{Bool, true, false}
 use Rattle.syntax_kind.specs.declared.syntax_kind.SyntaxKind.{SyntaxKind}
 use Rattle.syntax_kind.specs.declared.syntax_kind.SyntaxKind.TheVariants.{Node}

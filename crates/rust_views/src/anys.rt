@@ -1,4 +1,4 @@
-//! Views of all nodes that have a trait. Made by `tests/views` from `views.txt`.
+//! Views of all nodes that have a trait. Made by `tools/views` from `views.txt`.
 pub mod any_has_arg_list;
 pub mod any_has_generic_args;
 pub mod any_has_loop_body;

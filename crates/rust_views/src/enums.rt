@@ -1,4 +1,4 @@
-//! Views of one of several kinds. Made by `tests/views` from `views.txt`.
+//! Views of one of several kinds. Made by `tools/views` from `views.txt`.
 pub mod asm_operand;
 pub mod asm_piece;
 pub mod field_list;

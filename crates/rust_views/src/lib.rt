@@ -1,5 +1,5 @@
 //! Views of the nodes of Rust's trees for whose kinds `SyntaxKind` has no constant, and the lookups
-//! that lead to them and on from them. Made by `tests/views` from `views.txt`.
+//! that lead to them and on from them. Made by `tools/views` from `views.txt`.
 //!
 //! All other views are in `ra_ap_syntax`. A lookup is a method of a trait with the name of the view
 //! and `Ext`, because a view is an alias of `ra_ap_syntax`'s `Typed`: after

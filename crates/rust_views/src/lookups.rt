@@ -1,4 +1,4 @@
-//! Lookups of children by their kinds. Made by `tests/views` from `views.txt`.
+//! Lookups of children by their kinds. Made by `tools/views` from `views.txt`.
 pub mod asm;
 pub mod expr;
 pub mod item;

@@ -1,4 +1,4 @@
-//! Which views are within a view of several kinds. Made by `tests/views` from `views.txt`.
+//! Which views are within a view of several kinds. Made by `tools/views` from `views.txt`.
 ghost use Rattle.std.proofs.Common.{refl};
 ghost use Rattle.syntax_kind.specs.declared.syntax_kind.SyntaxKind.TheVariants.{Node};
 ghost use Rattle.syntax_kind.specs.declared.syntax_kind.node_kind.NodeKind.TheVariants as node;

@@ -1,4 +1,4 @@
-//! The examples by the parts of the language. Made by `tests/views` from `views.txt`.
+//! The examples by the parts of the language. Made by `tools/views` from `views.txt`.
 #[cfg(test)]
 mod attr;
 #[cfg(test)]

@@ -1,7 +1,7 @@
 //! Tests of the lookups: each returns, on the example that its documentation shows, the part that is
 //! written there.
 //!
-//! `tests/views` makes the tests from the tables of the views.
+//! `tools/views` makes the tests from the tables of the views.
 #![tactic(auto)]
 
 #[cfg(test)]

@@ -1,4 +1,4 @@
-// Plain lookups in enums. Made by `tests/views` from `views.txt`.
+// Plain lookups in enums. Made by `tools/views` from `views.txt`.
 use crate::sheet::Sheet;
 use ra_ap_syntax::SyntaxNode;
 use ra_ap_syntax::ast::{self, AstNode, cast_ref};

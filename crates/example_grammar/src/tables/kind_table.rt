@@ -1,4 +1,4 @@
-//! The kinds of tokens and their numbers. Written by tests/grammar from arithmetic.grammar.
+//! The kinds of tokens and their numbers. Written by tools/grammar from arithmetic.grammar.
 
 use syntax_kind::SyntaxKind;
 

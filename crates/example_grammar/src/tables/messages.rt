@@ -1,4 +1,4 @@
-//! The parser's messages. Written by tests/grammar from arithmetic.grammar.
+//! The parser's messages. Written by tools/grammar from arithmetic.grammar.
 ghost use Rattle.std.specs.Prelude.{◌≡◌};
 ghost use Rattle.example_grammar.specs.Messages.{message_of};
 

@@ -1,4 +1,4 @@
-//! The operations. Written by tests/grammar from arithmetic.grammar.
+//! The operations. Written by tools/grammar from arithmetic.grammar.
 
 use grammar_machine::{Level, Op, Test};
 use syntax_kind::SyntaxKind;

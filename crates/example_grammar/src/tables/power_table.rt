@@ -1,4 +1,4 @@
-//! How operators bind. Written by tests/grammar from arithmetic.grammar.
+//! How operators bind. Written by tools/grammar from arithmetic.grammar.
 
 use grammar_machine::Power;
 

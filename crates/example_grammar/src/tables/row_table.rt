@@ -1,4 +1,4 @@
-//! The rows of targets. Written by tests/grammar from arithmetic.grammar.
+//! The rows of targets. Written by tools/grammar from arithmetic.grammar.
 
 /// A target for each of the 15 kinds of single tokens, row after row.
 #[rattlefmt::skip]

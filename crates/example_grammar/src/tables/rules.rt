@@ -1,4 +1,4 @@
-//! The rules that a text can be read by. Written by tests/grammar from arithmetic.grammar.
+//! The rules that a text can be read by. Written by tools/grammar from arithmetic.grammar.
 ghost use Rattle.std.specs.Prelude.{◌≡◌};
 ghost use Rattle.example_grammar.specs.Rules.{first_op};
 

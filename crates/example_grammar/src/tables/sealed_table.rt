@@ -1,4 +1,4 @@
-//! The nodes of sealed calls. Written by tests/grammar from arithmetic.grammar.
+//! The nodes of sealed calls. Written by tools/grammar from arithmetic.grammar.
 
 use syntax_kind::SyntaxKind;
 

@@ -1,4 +1,4 @@
-//! The sets of kinds. Written by tests/grammar from arithmetic.grammar.
+//! The sets of kinds. Written by tools/grammar from arithmetic.grammar.
 
 /// Four words of 64 bits for each set.
 #[rattlefmt::skip]

@@ -1,4 +1,4 @@
-//! The law on the names of views. Made by `tests/views` from `views.txt`.
+//! The law on the names of views. Made by `tools/views` from `views.txt`.
 ghost use Rattle.ra_ap_syntax.specs.Words.{Views};
 
 use crate::ast::{self, AstNode};

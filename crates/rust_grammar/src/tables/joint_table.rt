@@ -1,4 +1,4 @@
-//! What punctuation makes together. Written by tests/grammar from rust.grammar.
+//! What punctuation makes together. Written by tools/grammar from rust.grammar.
 
 /// The number of the first sign that a joint token may have after its first.
 pub(crate) const FIRST_SIGN: u8 = 24;

@@ -1,4 +1,4 @@
-//! The kinds of tokens and their numbers. Written by tests/grammar from rust.grammar.
+//! The kinds of tokens and their numbers. Written by tools/grammar from rust.grammar.
 
 use rust_kinds::kinds;
 use syntax_kind::SyntaxKind;

@@ -1,4 +1,4 @@
-//! The parser's messages. Written by tests/grammar from rust.grammar.
+//! The parser's messages. Written by tools/grammar from rust.grammar.
 ghost use Rattle.std.specs.Prelude.{◌≡◌};
 ghost use Rattle.rust_grammar.specs.Messages.{part_0_of, part_1_of, part_2_of, part_3_of, message_of};
 

@@ -1,4 +1,4 @@
-//! The operations. Written by tests/grammar from rust.grammar.
+//! The operations. Written by tools/grammar from rust.grammar.
 
 use grammar_machine::{Level, Op, Part, Test, View};
 use rust_kinds::kinds;

@@ -1,4 +1,4 @@
-//! How operators bind. Written by tests/grammar from rust.grammar.
+//! How operators bind. Written by tools/grammar from rust.grammar.
 
 use grammar_machine::Power;
 

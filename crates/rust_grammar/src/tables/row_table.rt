@@ -1,4 +1,4 @@
-//! The rows of targets. Written by tests/grammar from rust.grammar.
+//! The rows of targets. Written by tools/grammar from rust.grammar.
 
 /// A target for each of the 96 kinds of single tokens, row after row.
 #[rattlefmt::skip]

@@ -1,4 +1,4 @@
-//! The rules that a text can be read by. Written by tests/grammar from rust.grammar.
+//! The rules that a text can be read by. Written by tools/grammar from rust.grammar.
 ghost use Rattle.std.specs.Prelude.{◌≡◌};
 ghost use Rattle.rust_grammar.specs.Rules.{first_op};
 

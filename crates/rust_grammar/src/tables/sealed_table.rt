@@ -1,4 +1,4 @@
-//! The nodes of sealed calls. Written by tests/grammar from rust.grammar.
+//! The nodes of sealed calls. Written by tools/grammar from rust.grammar.
 
 use rust_kinds::kinds;
 use syntax_kind::SyntaxKind;

@@ -1,4 +1,4 @@
-//! The sets of kinds. Written by tests/grammar from rust.grammar.
+//! The sets of kinds. Written by tools/grammar from rust.grammar.
 
 /// Four words of 64 bits for each set.
 #[rattlefmt::skip]

@@ -1,4 +1,4 @@
-//! A parameter of a `use` bound. Made by `tests/views` from `views.txt`.
+//! A parameter of a `use` bound. Made by `tools/views` from `views.txt`.
 ghost use Rattle.std.specs.Prelude.{◌≡◌, Some};
 ghost use Rattle.tree_model.specs.Tree.{text};
 ghost use Rattle.tree_model.specs.Cursor.{focus};

@@ -1,4 +1,4 @@
-//! Lookups in inline assembly. Made by `tests/views` from `views.txt`.
+//! Lookups in inline assembly. Made by `tools/views` from `views.txt`.
 ghost use Rattle.std.specs.Prelude.{◌≡◌};
 ghost use Rattle.ras_node.specs.Lookups.{second_typed_child};
 ghost use Rattle.ras_node.specs.Nodes.{token_child, typed_children};

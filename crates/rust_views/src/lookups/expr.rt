@@ -1,4 +1,4 @@
-//! Lookups in expressions. Made by `tests/views` from `views.txt`.
+//! Lookups in expressions. Made by `tools/views` from `views.txt`.
 ghost use Rattle.std.specs.Prelude.{◌≡◌};
 ghost use Rattle.ras_node.specs.Nodes.{token_child, typed_children};
 ghost use Rattle.ra_ap_syntax.specs.AttrViews.{attr_kinds};

@@ -1,4 +1,4 @@
-//! Lookups in items and their parts. Made by `tests/views` from `views.txt`.
+//! Lookups in items and their parts. Made by `tools/views` from `views.txt`.
 ghost use Rattle.std.specs.Prelude.{◌≡◌};
 ghost use Rattle.ras_node.specs.Nodes.{token_child, typed_children};
 ghost use Rattle.ra_ap_syntax.specs.ItemCases.{item_kinds};

@@ -1,4 +1,4 @@
-//! Lookups in patterns. Made by `tests/views` from `views.txt`.
+//! Lookups in patterns. Made by `tools/views` from `views.txt`.
 ghost use Rattle.std.specs.Prelude.{◌≡◌};
 ghost use Rattle.ras_node.specs.Nodes.{token_child, typed_children};
 ghost use Rattle.ra_ap_syntax.specs.PatViews.{IsFirstRestPat, record_pat_field_kinds};

@@ -1,4 +1,4 @@
-//! Lookups in paths, generic arguments and bounds. Made by `tests/views` from `views.txt`.
+//! Lookups in paths, generic arguments and bounds. Made by `tools/views` from `views.txt`.
 ghost use Rattle.std.specs.Prelude.{◌≡◌};
 ghost use Rattle.ras_node.specs.Nodes.{token_child, typed_children};
 ghost use Rattle.ra_ap_syntax.specs.GenericViews.{type_arg_kinds};

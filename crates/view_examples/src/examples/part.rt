@@ -1,4 +1,4 @@
-//! Lookups in parts of items. Made by `tests/views` from `views.txt`.
+//! Lookups in parts of items. Made by `tools/views` from `views.txt`.
 use crate::{find, is_node, is_nodes, is_token};
 use ra_ap_syntax::ast;
 use std::test::Fail;

@@ -1,4 +1,4 @@
-//! Lookups that several views share. Made by `tests/views` from `views.txt`.
+//! Lookups that several views share. Made by `tools/views` from `views.txt`.
 use crate::{find, is_node, is_nodes, is_token};
 use ra_ap_syntax::ast::{
     self, HasArgList, HasAttrs, HasGenericArgs, HasGenericParams, HasLoopBody, HasModuleItem,

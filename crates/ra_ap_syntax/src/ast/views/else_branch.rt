@@ -1,4 +1,4 @@
-//! The branch after an `else`: a block, or another `if`. Made by `tests/views` from `views.txt`.
+//! The branch after an `else`: a block, or another `if`. Made by `tools/views` from `views.txt`.
 ghost use Rattle.std.specs.Prelude.{◌≡◌, Some};
 ghost use Rattle.tree_model.specs.Tree.{text};
 ghost use Rattle.tree_model.specs.Cursor.{focus};

@@ -1,4 +1,4 @@
-//! An expression. Made by `tests/views` from `views.txt`.
+//! An expression. Made by `tools/views` from `views.txt`.
 ghost use Rattle.std.specs.Prelude.{◌≡◌, Some, ⊤};
 ghost use Rattle.std.specs.Cmp.{partial_equiv_from_equiv, on_equiv};
 ghost use Rattle.tree_model.specs.Tree.{text};

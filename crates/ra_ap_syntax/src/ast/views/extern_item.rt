@@ -1,4 +1,4 @@
-//! An item of an `extern` block. Made by `tests/views` from `views.txt`.
+//! An item of an `extern` block. Made by `tools/views` from `views.txt`.
 ghost use Rattle.std.specs.Prelude.{◌≡◌, Some};
 ghost use Rattle.tree_model.specs.Tree.{text};
 ghost use Rattle.tree_model.specs.Cursor.{focus};

@@ -1,4 +1,4 @@
-//! A view for each kind of node. Made by `tests/views` from `views.txt`.
+//! A view for each kind of node. Made by `tools/views` from `views.txt`.
 use crate::ast::{Typed, raw};
 
 /// A constant: `const A: T = a;`.

@@ -1,4 +1,4 @@
-//! The contents of an attribute. Made by `tests/views` from `views.txt`.
+//! The contents of an attribute. Made by `tools/views` from `views.txt`.
 ghost use Rattle.std.specs.Prelude.{◌≡◌, Some};
 ghost use Rattle.ras_node.specs.Nodes.{token_child};
 ghost use Rattle.ra_ap_syntax.specs.AttrViews.{IsFirstTokenTree};

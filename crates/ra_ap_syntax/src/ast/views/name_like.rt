@@ -1,4 +1,4 @@
-//! A name where it is used or defined, or a lifetime. Made by `tests/views` from `views.txt`.
+//! A name where it is used or defined, or a lifetime. Made by `tools/views` from `views.txt`.
 ghost use Rattle.std.specs.Prelude.{◌≡◌, Some};
 ghost use Rattle.tree_model.specs.Tree.{text};
 ghost use Rattle.tree_model.specs.Cursor.{focus};

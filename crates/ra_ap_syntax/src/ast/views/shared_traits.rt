@@ -1,4 +1,4 @@
-//! Which views have which of the shared traits. Made by `tests/views` from `views.txt`.
+//! Which views have which of the shared traits. Made by `tools/views` from `views.txt`.
 use crate::ast::{
     self, HasArgList, HasAttrs, HasGenericArgs, HasGenericParams, HasLoopBody, HasModuleItem,
     HasName, HasTypeBounds, HasVisibility,

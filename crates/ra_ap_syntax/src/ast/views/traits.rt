@@ -1,4 +1,4 @@
-//! The lookups that several types share. Made by `tests/views` from `views.txt`.
+//! The lookups that several types share. Made by `tools/views` from `views.txt`.
 //! Each call takes time linear in the number of children that it passes, and no memory.
 ghost use Rattle.std.specs.Prelude.{◌≡◌};
 ghost use Rattle.ras_node.specs.Nodes.{token_child, typed_children};

@@ -1,4 +1,4 @@
-//! A type parameter or a constant parameter. Made by `tests/views` from `views.txt`.
+//! A type parameter or a constant parameter. Made by `tools/views` from `views.txt`.
 ghost use Rattle.std.specs.Prelude.{◌≡◌, Some};
 ghost use Rattle.tree_model.specs.Tree.{text};
 ghost use Rattle.tree_model.specs.Cursor.{focus};

@@ -1,4 +1,4 @@
-//! Lookups in paths and names. Made by `tests/views` from `views.txt`.
+//! Lookups in paths and names. Made by `tools/views` from `views.txt`.
 //! Each call takes time linear in the number of children that it passes, and no memory.
 //! The names are those of rust-analyzer.
 ghost use Rattle.std.specs.Prelude.{◌≡◌};
