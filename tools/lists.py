@@ -3,9 +3,6 @@ import os
 import re
 
 TOP = os.path.dirname(os.path.dirname(os.path.abspath(__file__)))
-# The folder of these scripts, as the heads of the sources in crates/ that they make name it, and the pages of docs/claims/. They were written
-# when the scripts lay in tests/, and a source is proved with its head: with "tools" here, ./generate writes all heads anew.
-HEADS = "tools"
 
 
 class Lost(Exception):

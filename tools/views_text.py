@@ -1,9 +1,8 @@
 """What the scripts that write the typed views share: how a lookup is written, its documentation, and lists of names."""
 import re
 
-from lists import HEADS
 
-MADE = f"Made by `{HEADS}/views` from `views.txt`."
+MADE = "Made by `tools/views` from `views.txt`."
 # How many characters the formatter fills a line with, and the arguments of a call.
 WIDTH, GIVEN = 100, 60
 # Names of modules and of definitions, where those of the enums are words of the language.

@@ -4,7 +4,6 @@ import json
 import os
 import re
 
-from lists import HEADS
 
 from .checks import bits
 from .language import ONE, Answered, Flag, GrammarError, Seen
@@ -109,7 +108,7 @@ def page(source, doc, items, ghosts=(), uses=None):
     """A file of Rattle, with what it imports and its items."""
     ghost = "".join(f"ghost use {use};\n" for use in ghosts)
     text = "".join(f"use {use};\n" for use in (named_in(items) if uses is None else uses))
-    return f"//! {doc} Written by {HEADS}/grammar from {source.text}.\n{ghost}" + (f"\n{text}" if text else "") + "\n" + "\n\n".join(items) + "\n"
+    return f"//! {doc} Written by tools/grammar from {source.text}.\n{ghost}" + (f"\n{text}" if text else "") + "\n" + "\n\n".join(items) + "\n"
 
 
 def codes(text):
@@ -159,7 +158,7 @@ def message_pages(source, messages):
         choices = "".join(f"    if nat_lt n {limit} then part_{which}_of n else (\n" for which, limit in enumerate(limits))
         definitions.append(f"{comment}abbrev pub message_of : ℕ → List ℕ\nmessage_of n =\n{choices}    part_{last}_of n" + ")" * len(limits))
     ghosts = ["Rattle.std.specs.Prelude.{◌≡◌}", f"Rattle.{source.crate}.specs.Messages.{{{', '.join(names)}}}"]
-    head = f"-- The parser's messages. Written by {HEADS}/grammar from {source.text}.\nuse Rattle.std.specs.Prelude.{{{', '.join(words)}}}\n\n"
+    head = f"-- The parser's messages. Written by tools/grammar from {source.text}.\nuse Rattle.std.specs.Prelude.{{{', '.join(words)}}}\n\n"
     return page(source, "The parser's messages.", codes_of, ghosts, []), head + "\n\n".join(definitions) + "\n"
 
 
@@ -223,7 +222,7 @@ def table_pages(source, grammar):
     modules += [("", module) for module in ("messages", "op_table", "power_table", "row_table", "rules", "sealed_table", "set_table")]
     lent = "".join(f"// {doc}\nfn {it}() -> &'static [{kind}]\n    ensures {{ result.now ≡ {it.upper()} }}\n{{\n    &{it.upper()}\n}}\n\n" for it, kind, doc in TABLES)
     code = (
-        f"//! The tables, which `{HEADS}/grammar` writes from `{source.text}`, lent out.\n"
+        f"//! The tables, which `tools/grammar` writes from `{source.text}`, lent out.\n"
         "ghost use Rattle.std.specs.Prelude.{◌≡◌};\n"
         "ghost use Rattle.grammar_machine.specs.Running.{tables_of};\n"
         f"ghost use Rattle.{source.crate}.specs.Tables.{{{name}}};\n\n"
@@ -284,7 +283,7 @@ def pages(source, grammar, table, top):
         ["Rattle.std.specs.Prelude.{◌≡◌}", f"Rattle.{source.crate}.specs.Rules.{{first_op}}"],
     )
     made["specs/Rules.antt"] = (
-        f"-- Where the rules begin. Written by {HEADS}/grammar from {source.text}.\n"
+        f"-- Where the rules begin. Written by tools/grammar from {source.text}.\n"
         "use Rattle.std.specs.Prelude.{ℕ}\n"
         f"use Rattle.{source.crate}.specs.declared.tables.rules.Rule.{{Rule}}\n"
         f"use Rattle.{source.crate}.specs.declared.tables.rules.Rule.TheVariants as rule\n\n"
