@@ -6,3 +6,4 @@ pub mod StepLemmas
 pub mod ReadLemmas
 pub mod PlaceLemmas
 pub mod RootLemmas
+pub mod JumpLemmas

@@ -20,11 +20,11 @@ use Rattle.tree_match.specs.Finds.{inside_of, ranges_of, nodes_of, match_at}
 use Rattle.tree_match.proofs.ConditionLemmas.{not_for}
 use Rattle.tree_match.proofs.PlaceLemmas.{nil_of}
 
-or_left : (a b : Bool) → (a || b) ≡ false → a ≡ false
+pub or_left : (a b : Bool) → (a || b) ≡ false → a ≡ false
 or_left false b h = refl
 or_left true b h = h
 
-or_right : (a b : Bool) → (a || b) ≡ false → b ≡ false
+pub or_right : (a b : Bool) → (a || b) ≡ false → b ≡ false
 or_right false b h = h
 or_right true b h = absurd (let bad : true ≡ false = h in cc)
 

@@ -6,5 +6,6 @@ pub mod Walks
 pub mod Same
 pub mod Matching
 pub mod Roots
+pub mod Jumps
 pub mod Finds
 pub mod Reads

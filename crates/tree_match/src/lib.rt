@@ -5,6 +5,7 @@ mod bare;
 mod compile;
 mod condition;
 mod fit;
+mod jump;
 mod list;
 mod matching;
 mod part;

@@ -1,12 +1,14 @@
 //! The places of a tree where rules match.
-ghost use Rattle.std.specs.Prelude.{◌≡◌, ◌∷◌, [], IfOk, OnOk, map, option_map};
+ghost use Rattle.std.specs.Prelude.{◌≡◌, ◌∷◌, [], ◌++◌, IfOk, OnOk, map, option_map};
 ghost use Rattle.tree_match.specs.Roots.{AreRoots};
-ghost use Rattle.tree_match.specs.Finds.{occurrence_of, ranges_of, node_range, nodes_of, match_at, drop_behind, is_free, with_some, behind, take_out, found_at, free_behind, found_in};
+ghost use Rattle.tree_match.specs.Finds.{occurrence_of, ranges_of, node_range, nodes_of, match_at, drop_behind, is_free, with_some, behind, take_out, found_at, free_behind, with_found, found_in};
 
+use crate::jump::{have_operations, next_stop};
 use crate::matching::first_among;
 use crate::roots::{Root, roots_of, rules_for};
 use crate::rule::Rule;
 use crate::run::Run;
+use lossless_tree::laws::node_is_placed;
 use lossless_tree::{SyntaxNode, TextRange, TextSize};
 use std::alloc::{AllocError, Global};
 use std::collections::VecDeque;
@@ -191,19 +193,42 @@ fn found_at(
     Ok(found)
 }
 
+// Adds the match at a node, if it may be searched and a rule matches there.
+fn push_found(
+    alloc: Global,
+    rules: &[Rule],
+    roots: &[Root],
+    free: &mut VecDeque<TextRange>,
+    matches: &mut Vec<Match>,
+    node: &SyntaxNode,
+) -> Result<(), AllocError>
+    requires roots { AreRoots rules.now roots.now }
+    ensures found { OnOk result (map occurrence_of matches.new.items ≡ map occurrence_of matches.old.items ++ with_found (found_at rules.now free.old.items node.now) []) }
+    ensures behind { OnOk result (free.new.items ≡ free_behind rules.now free.old.items node.now) }
+{
+    if let Some(found) = found_at(alloc, rules, roots, free, node)? {
+        matches.push(found)?;
+    }
+    Ok(())
+}
+
 /// The places where rules match, in preorder: the outermost, and those inside what stands for placeholders. At one place the first rule
 /// that matches counts.
+///
+/// If all rules match operators, calls and paths alone, as `$a + $b` and `f($a)` do, nodes of most
+/// other kinds are not looked at.
 pub fn find(alloc: Global, rules: &[Rule], root: &SyntaxNode) -> Result<Vec<Match>, AllocError>
     ensures { IfOk result (λ found. map occurrence_of found.items ≡ found_in rules.now root.now) }
 {
+    node_is_placed(root);
     let roots = roots_of(alloc, rules)?;
     let mut free = VecDeque::new(alloc);
     free.push_front(root.text_range())?;
     let mut matches = Vec::new(alloc);
-    for node in root.descendants() {
-        if let Some(found) = found_at(alloc, rules, &roots, &mut free, &node)? {
-            matches.push(found)?;
-        }
+    let operations = have_operations(rules);
+    let mut left = root.descendants();
+    while let Some(node) = next_stop(&mut left, operations) {
+        push_found(alloc, rules, &roots, &mut free, &mut matches, &node)?;
     }
     Ok(matches)
 }
