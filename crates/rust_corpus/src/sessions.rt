@@ -1,4 +1,6 @@
 //! Sessions of edits of a document: after each, its tree and its errors are compared with those of a new parse of its text.
+ghost use Rattle.ra_ap_syntax.specs.Tree.{text};
+ghost use Rattle.ra_ap_syntax.specs.TextEdit.{IsEditOf};
 
 use crate::chance::{Chance, Edit, edited};
 use ra_ap_syntax::{Document, Edition, NodeOrToken, Parse, SourceFile, TextRange, TextSize};
@@ -273,7 +275,9 @@ impl Sessions {
         document: &Document<Rust>,
         delete: TextRange,
         insert: &str,
-    ) -> anyhow::Result<()> {
+    ) -> anyhow::Result<()>
+        requires { IsEditOf (text document.now.parse.tree) (record { delete = delete; insert = insert.now }) }
+    {
         let parse = document.parse();
         let edition = document.edition();
         if parse
