@@ -11,6 +11,7 @@ use Rattle.ras_front_end.specs.declared.edition.Edition.{Edition}
 use Rattle.token_layout.specs.declared.span.Token as span
 use Rattle.grammar_machine.specs.declared.grammar.Sight.{Sight}
 use Rattle.event_layout.specs.Trivia.{has_blank_line, is_comment}
+use Rattle.event_layout.specs.Layout.{is_number}
 use Rattle.rust_grammar.specs.Seeing.{sights_of}
 use Rattle.rust_lexer.specs.declared.lexer.LexError.{LexError}
 use Rattle.rust_lexer.specs.Lexing.{tokens_of, errors_of}
@@ -81,12 +82,16 @@ retold_kind at len (t ∷ ts) (u ∷ us) =
 abbrev pub has_dot : List ℕ → Bool
 has_dot s = list_any (λ b. b == 46) s
 
--- the blank lines of white space say which comments go into the next node; comments do not matter;
--- other tokens have no dots, since the layout cuts numbers there
+-- the blank lines of white space say which comments go into the next node
+abbrev pub keeps_lines : SyntaxKind → List ℕ → List ℕ → Bool
+keeps_lines k old new = (not (is_trivia k) || is_comment k) || beq (has_blank_line old) (has_blank_line new)
+
+-- the layout cuts a number at its dot
+abbrev pub keeps_whole : SyntaxKind → List ℕ → List ℕ → Bool
+keeps_whole k old new = not (is_number k) || (not (has_dot old) && not (has_dot new))
+
 abbrev pub may_be_retold : SyntaxKind → List ℕ → List ℕ → Bool
-may_be_retold k old new =
-    if is_trivia k then is_comment k || beq (has_blank_line old) (has_blank_line new)
-    else not (has_dot old) && not (has_dot new)
+may_be_retold k old new = keeps_lines k old new && keeps_whole k old new
 
 abbrev pub if_retold : Option SyntaxKind → List ℕ → List ℕ → Bool
 if_retold None old new = false

@@ -5,7 +5,7 @@ ghost use Rattle.event_layout.specs.Trivia.{newlines_after, has_blank_line};
 ghost use Rattle.syntax_kind.specs.Kinds.{is_same_kind};
 ghost use Rattle.rust_grammar.specs.Seeing.{sights_of};
 ghost use Rattle.rust_lexer.specs.Lexing.{tokens_of, errors_of};
-ghost use Rattle.rust_front.specs.Retold.{is_brace, is_brace_at, begins_well, ends_well, stands_alone, ends_in_dot, has_no_head, is_same_token, are_same_tokens, retold_kind, has_dot, may_be_retold, if_retold, part_of, len_of, new_len, keeps_tokens, is_same_sight, are_same_sights, is_inside, may_be_inside, retold_in, retold_with, are_short, is_retold_of};
+ghost use Rattle.rust_front.specs.Retold.{is_brace, is_brace_at, begins_well, ends_well, stands_alone, ends_in_dot, has_no_head, is_same_token, are_same_tokens, retold_kind, has_dot, keeps_lines, keeps_whole, may_be_retold, if_retold, part_of, len_of, new_len, keeps_tokens, is_same_sight, are_same_sights, is_inside, may_be_inside, retold_in, retold_with, are_short, is_retold_of};
 
 use crate::exact::has_head;
 use crate::front::is_short;
@@ -176,15 +176,26 @@ fn has_blank_line(text: &[u8]) -> bool
     newlines == 2
 }
 
+// Whether white space keeps a blank line, or has none as before: the comments above it are those of the next item, or not.
+fn keeps_lines(kind: SyntaxKind, old: &[u8], new: &[u8]) -> bool
+    ensures { result ≡ keeps_lines kind old.now new.now }
+{
+    (!kind.is_trivia() || matches!(kind, SyntaxKind::COMMENT))
+        || has_blank_line(old) == has_blank_line(new)
+}
+
+// Whether a token is one leaf of the tree with both texts. In `a.0.1` the number `0.1` is three.
+fn keeps_whole(kind: SyntaxKind, old: &[u8], new: &[u8]) -> bool
+    ensures { result ≡ keeps_whole kind old.now new.now }
+{
+    !matches!(kind, SyntaxKind::FLOAT_NUMBER) || (!has_dot(old) && !has_dot(new))
+}
+
 // Whether the layout of the tree is the same for both texts of a token.
 fn may_be_retold(kind: SyntaxKind, old: &[u8], new: &[u8]) -> bool
     ensures { result ≡ may_be_retold kind old.now new.now }
 {
-    if kind.is_trivia() {
-        matches!(kind, SyntaxKind::COMMENT) || has_blank_line(old) == has_blank_line(new)
-    } else {
-        !has_dot(old) && !has_dot(new)
-    }
+    keeps_lines(kind, old, new) && keeps_whole(kind, old, new)
 }
 
 // The `len` bytes from the byte `start` on, or fewer if the text ends before.
