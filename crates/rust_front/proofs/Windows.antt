@@ -16,6 +16,7 @@ use Rattle.token_layout.specs.Laid.{IsCut}
 use Rattle.grammar_machine.specs.declared.grammar.Sight.{Sight}
 use Rattle.event_layout.specs.Amid.{sum_len}
 use Rattle.event_layout.specs.Trivia.{has_blank_line, is_comment}
+use Rattle.event_layout.specs.Layout.{is_number}
 use Rattle.rust_grammar.specs.Seeing.{sights_of}
 use Rattle.rust_lexer.specs.declared.lexer.LexError.{LexError}
 use Rattle.rust_lexer.specs.Lexing.{tokens_of, errors_of}
@@ -223,12 +224,6 @@ not_both : (p q : Bool) → p ≡ false → p || q ≡ true → q ≡ true
 not_both true q z h = absurd (let bad : true ≡ false = z in cc)
 not_both false q z h = h
 
-if_true : (c p q : Bool) → c ≡ true → (if c then p else q) ≡ true → p ≡ true
-if_true c p q z h = sym (ap (λ (b : Bool). if b then p else q) z) ∙ h
-
-if_false : (c p q : Bool) → c ≡ false → (if c then p else q) ≡ true → q ≡ true
-if_false c p q z h = sym (ap (λ (b : Bool). if b then p else q) z) ∙ h
-
 no_comment : (k : SyntaxKind) → is_trivia k ≡ true → is_comment k ≡ false → (not (is_trivia k) || is_comment k) ≡ false
 no_comment k t c = ap₂ (λ a b. not a || b) t c
 
@@ -236,7 +231,7 @@ lines_same : (k : SyntaxKind) (old new : List ℕ) → may_be_retold k old new �
 lines_same k old new h t c =
     same_bool (has_blank_line old) (has_blank_line new)
     (not_both (not (is_trivia k) || is_comment k) (beq (has_blank_line old) (has_blank_line new)) (no_comment k t c)
-      (both_true (keeps_lines k old new) (keeps_whole k old new) h).0)
+    (both_true (keeps_lines k old new) (keeps_whole k old new) h).0)
 
 no_dots : (k : SyntaxKind) (old new : List ℕ) → may_be_retold k old new ≡ true → is_number k ≡ true → (has_dot old ≡ false) × (has_dot new ≡ false)
 no_dots k old new h n =

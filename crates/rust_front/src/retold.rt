@@ -176,7 +176,8 @@ fn has_blank_line(text: &[u8]) -> bool
     newlines == 2
 }
 
-// Whether white space keeps a blank line, or has none as before: the comments above it are those of the next item, or not.
+// Whether white space has a blank line as before: the comments above one are not those of the next
+// item.
 fn keeps_lines(kind: SyntaxKind, old: &[u8], new: &[u8]) -> bool
     ensures { result ≡ keeps_lines kind old.now new.now }
 {
