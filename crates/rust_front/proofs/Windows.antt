@@ -22,7 +22,7 @@ use Rattle.rust_lexer.specs.declared.lexer.LexError.{LexError}
 use Rattle.rust_lexer.specs.Lexing.{tokens_of, errors_of}
 use Rattle.rust_lexer.proofs.Kept.{lexed}
 use Rattle.rust_front.specs.Heads.{has_head_of}
-use Rattle.rust_front.specs.Retold.{is_brace, is_brace_at, is_empty, begins_well, ends_well, stands_alone, ends_in_dot, has_no_head, is_same_token, are_same_tokens, kind_if, retold_kind, has_dot, keeps_lines, keeps_whole, may_be_retold, if_retold, part_of, len_of, new_len, keeps_tokens, is_same_sight, are_same_sights, is_inside, may_be_inside, retold_in, both_alone, retold_with, are_short, is_retold_of}
+use Rattle.rust_front.specs.Retold.{is_brace, is_brace_at, is_empty, begins_well, ends_well, stands_alone, ends_in_dot, has_no_head, is_same_token, are_same_tokens, kind_if, retold_kind, has_dot, keeps_lines, keeps_whole, may_be_retold, if_retold, part_of, len_of, new_len, keeps_tokens, is_same_sight, are_same_sights, is_inside, token_keeps_sort, may_be_inside, retold_in, both_alone, retold_with, are_short, is_retold_of}
 use Rattle.rust_front.specs.RetoldLaws.{IsBraceKind, BeginsInBrace, EndsInBrace, StandsAlone, OneTokenDiffers, IsRetoldAs}
 
 abbrev Tokens : Type 0
@@ -303,9 +303,10 @@ retold_windows e before old new behind t u v h =
     let l : length old < 2 ^ 32 = is_below (length old) (2 ^ 32) short.0 in
     let m : length new < 2 ^ 32 = is_below (length new) (2 ^ 32) short.1 in
     let q = both_true (may_be_inside before old new t) (retold_with e before old new behind t) p.1 in
-    let i = both_true (is_inside before old new t) (not (ends_in_dot before) && has_no_head before new) q.0 in
+    let i = both_true (is_inside before old new t && token_keeps_sort old new t) (not (ends_in_dot before) && has_no_head before new) q.0 in
+    let inner = both_true (is_inside before old new t) (token_keeps_sort old new t) i.0 in
     let dot = both_true (not (ends_in_dot before)) (has_no_head before new) i.1 in
-    let bounds = both_true (nat_lt 0 (len_of t)) (nat_lt 0 size && (is_empty before || nat_lt 0 t.start)) i.0 in
+    let bounds = both_true (nat_lt 0 (len_of t)) (nat_lt 0 size && (is_empty before || nat_lt 0 t.start)) inner.0 in
     let sizes = both_true (nat_lt 0 size) (is_empty before || nat_lt 0 t.start) bounds.1 in
     let some : 0 < len_of t = is_below 0 (len_of t) bounds.0 in
     let w = both_true (both_alone e before old new behind) (retold_in e old new t ts us) q.1 in
