@@ -12,6 +12,9 @@
 //! twelve replacements. Every range of a short text of a line `rust` is replaced by each of thirty words. After each edit the document's
 //! tree and its errors, in their order, have to be those of a new parse; if not, the edit is printed, and the status is 1. `edits` does
 //! the same with its files, and with the text of a line `document`, a tab and a short text.
+//!
+//! `turns-of-document N SEED` makes N random edits of each file, one after the other, by `Document::edit`, `turns-of-reparse` by
+//! `Parse::reparse`, and `turns-of-none` does neither. Nothing is compared: `bench/run edits` counts their instructions.
 #![tactic(auto)]
 
 mod chance;
@@ -19,6 +22,7 @@ mod edits;
 mod every_edit;
 mod operators;
 mod sessions;
+mod turns;
 
 use every_edit::EveryEdit;
 use ra_ap_syntax::Edition;
@@ -26,6 +30,7 @@ use rust_front::Rust;
 use std::process::ExitCode;
 use std::{env, fs, io};
 use tiny_front::Tiny;
+use turns::By;
 
 fn edition_of(word: &str) -> Edition {
     match word {
@@ -41,6 +46,7 @@ fn edition_of(word: &str) -> Edition {
 enum Command {
     Edits,
     Documents,
+    Turns(By),
     Operators,
 }
 
@@ -48,6 +54,9 @@ fn command_of(word: &str) -> Command {
     match word {
         "edits" => Command::Edits,
         "documents" => Command::Documents,
+        "turns-of-none" => Command::Turns(By::Nothing),
+        "turns-of-reparse" => Command::Turns(By::Reparse),
+        "turns-of-document" => Command::Turns(By::Document),
         _ => Command::Operators,
     }
 }
@@ -59,6 +68,7 @@ struct Asked {
     count: u64,
     edits: edits::Edits,
     sessions: sessions::Sessions,
+    turns: turns::Turns,
     every: EveryEdit,
     operators: operators::Operators,
 }
@@ -72,6 +82,7 @@ impl Asked {
         let text = text.as_str();
         match self.command {
             Command::Operators => return self.operators.ask_file(rt, path, text, edition),
+            Command::Turns(_) => return self.turns.try_file(rt, text, edition, self.count),
             Command::Edits => self.edits.try_file(rt, path, text, edition, self.count)?,
             Command::Documents => {}
         }
@@ -96,6 +107,7 @@ impl Asked {
         match self.command {
             Command::Operators => self.operators.tell(rt),
             Command::Documents => self.sessions.tell(rt),
+            Command::Turns(_) => self.turns.tell(rt),
             Command::Edits => {
                 self.edits.tell(rt)?;
                 self.every.tell(rt)?;
@@ -111,13 +123,19 @@ fn main(rt: HostRuntime) -> anyhow::Result<ExitCode> {
     let number = |index: usize| words
         .get(index)
         .map_or(1, |word| word.parse::<u64>().unwrap_or(1));
+    let command = words
+        .get(1)
+        .map_or(Command::Operators, |word| command_of(word.as_str()));
+    let by = match command {
+        Command::Turns(by) => by,
+        _ => By::Nothing,
+    };
     let mut asked = Asked {
-        command: words
-            .get(1)
-            .map_or(Command::Operators, |word| command_of(word.as_str())),
+        command,
         count: number(2),
         edits: edits::Edits::new(number(3)),
         sessions: sessions::Sessions::new(number(3)),
+        turns: turns::Turns::new(by, number(3)),
         every: EveryEdit::default(),
         operators: operators::Operators::default(),
     };

@@ -14,8 +14,8 @@ const WORDS: [&str; 30] = [
     "/*", "*/", "1.", "+", ";", ",", "=>", "x\"a\"", "\"(//\"", "---\n", "union ", "dyn ", "r#\"",
 ];
 
-// What a user types, and what changes how other text is read.
-const TYPED: [&str; 84] = [
+/// What a user types, and what changes how other text is read.
+pub const TYPED: [&str; 84] = [
     "a",
     "x1",
     "_",
