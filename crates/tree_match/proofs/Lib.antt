@@ -3,6 +3,7 @@ pub mod ListLemmas
 pub mod BareLemmas
 pub mod ConditionLemmas
 pub mod StepLemmas
+pub mod SignLemmas
 pub mod ReadLemmas
 pub mod PlaceLemmas
 pub mod RootLemmas

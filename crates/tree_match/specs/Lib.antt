@@ -3,6 +3,7 @@ pub mod Bare
 pub mod Conditions
 pub mod Lists
 pub mod Walks
+pub mod Signs
 pub mod Same
 pub mod Matching
 pub mod Roots

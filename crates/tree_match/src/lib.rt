@@ -15,6 +15,7 @@ mod roots;
 mod rule;
 mod run;
 mod same;
+mod sign;
 mod walk;
 
 pub use compile::ARM;

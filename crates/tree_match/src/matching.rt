@@ -1,6 +1,7 @@
 //! A pattern at one place of a tree.
 ghost use Rattle.std.specs.Prelude.{◌≡◌, IfOk, OnOk, if◌then◌else◌, Some, None, option_map, replicate, get_or, length, slice_get};
-ghost use Rattle.tree_match.specs.Walks.{levels_of};
+ghost use Rattle.tree_match.specs.Walks.{levels_of, step_of};
+ghost use Rattle.tree_match.specs.Signs.{sign_of};
 ghost use Rattle.tree_match.specs.Matching.{put, put_held, put_new, match_part, match_parts, match_form, first_form, is_for, match_rule, match_template, match_numbered, first_rule, first_among, found_of};
 
 use crate::bare::Comments;
@@ -9,7 +10,8 @@ use crate::part::Part;
 use crate::rule::{Form, Rule};
 use crate::run::Run;
 use crate::same::is_same;
-use crate::walk::{Walk, is_part};
+use crate::sign::{is_fit, sign_of};
+use crate::walk::{Seen, Walk, is_part};
 use lossless_tree::SyntaxKind;
 use std::alloc::{AllocError, Global};
 
@@ -136,6 +138,7 @@ fn match_parts<'t>(
 }
 
 // Notes what stands for the placeholders of a rule, if a node is the pattern of this form.
+#[tactic(auto, using(crate::proofs::SignLemmas::refused))]
 fn match_form<'t>(
     alloc: Global,
     walk: &mut Walk<'t>,
@@ -143,12 +146,14 @@ fn match_form<'t>(
     holes: &[Hole],
     form: &Form,
     kind: SyntaxKind,
+    sign: Seen<'t>,
     inside: &Run<'t>,
 ) -> Result<bool, AllocError>
+    requires sign { step_of sign ≡ sign_of inside.now.trees }
     ensures { IfOk result (λ ok. match_form holes.now form.now kind inside.now
         ≡ (if ok then Some values.new.items else None)) }
 {
-    if form.kind.to_raw() != kind.to_raw() {
+    if form.kind.to_raw() != kind.to_raw() || !is_fit(&form.inside, sign) {
         return Ok(false);
     }
     match_parts(
@@ -171,14 +176,25 @@ fn first_form<'t>(
     holes: &[Hole],
     forms: &[Form],
     kind: SyntaxKind,
+    sign: Seen<'t>,
     inside: &Run<'t>,
 ) -> Result<Option<usize>, AllocError>
+    requires sign { step_of sign ≡ sign_of inside.now.trees }
     ensures { IfOk result (λ o. option_map (λ f. (f, values.new.items)) o
         ≡ first_form holes.now forms.now kind inside.now) }
 {
     let mut number = 0usize;
     while number < forms.len() {
-        if match_form(alloc, walk, values, holes, &forms[number], kind, inside)? {
+        if match_form(
+            alloc,
+            walk,
+            values,
+            holes,
+            &forms[number],
+            kind,
+            sign,
+            inside,
+        )? {
             return Ok(Some(number));
         }
         number += 1;
@@ -202,12 +218,23 @@ fn match_forms<'t>(
     values: &mut Values<'t>,
     rule: &Rule,
     kind: SyntaxKind,
+    sign: Seen<'t>,
     inside: &Run<'t>,
 ) -> Result<Option<usize>, AllocError>
+    requires sign { step_of sign ≡ sign_of inside.now.trees }
     ensures { IfOk result (λ o. option_map (λ f. (f, values.new.items)) o
         ≡ match_rule rule.now kind inside.now) }
 {
-    first_form(alloc, walk, values, &rule.holes, &rule.forms, kind, inside)
+    first_form(
+        alloc,
+        walk,
+        values,
+        &rule.holes,
+        &rule.forms,
+        kind,
+        sign,
+        inside,
+    )
 }
 
 // The same, where most rules have no form for most nodes.
@@ -218,15 +245,17 @@ fn match_rule<'t>(
     values: &mut Values<'t>,
     rule: &Rule,
     kind: SyntaxKind,
+    sign: Seen<'t>,
     inside: &Run<'t>,
 ) -> Result<Option<usize>, AllocError>
+    requires sign { step_of sign ≡ sign_of inside.now.trees }
     ensures { IfOk result (λ o. option_map (λ f. (f, values.new.items)) o
         ≡ match_rule rule.now kind inside.now) }
 {
     if !is_for(kind, rule) {
         return Ok(None);
     }
-    match_forms(alloc, walk, values, rule, kind, inside)
+    match_forms(alloc, walk, values, rule, kind, sign, inside)
 }
 
 /// The rule with a number.
@@ -245,14 +274,16 @@ fn match_numbered<'t>(
     rules: &[Rule],
     number: usize,
     kind: SyntaxKind,
+    sign: Seen<'t>,
     inside: &Run<'t>,
 ) -> Result<Option<usize>, AllocError>
+    requires sign { step_of sign ≡ sign_of inside.now.trees }
     ensures { IfOk result (λ o. option_map (λ f. (f, values.new.items)) o
         ≡ match_numbered rules.now number kind inside.now) }
 {
     match numbered(rules, number) {
         None => Ok(None),
-        Some(rule) => match_forms(alloc, walk, values, rule, kind, inside),
+        Some(rule) => match_forms(alloc, walk, values, rule, kind, sign, inside),
     }
 }
 
@@ -289,12 +320,13 @@ pub(crate) fn first_rule<'t>(
 ) -> Result<Option<Found<'t>>, AllocError>
     ensures { IfOk result (λ o. option_map found_of o ≡ first_rule rules.now kind inside.now) }
 {
+    let sign = sign_of(inside);
     let mut walk = Walk::new(alloc, Comments::Passed, inside);
     let mut values = Vec::new(alloc);
     let mut number = 0usize;
     while number < rules.len() {
         let rule = &rules[number];
-        if let Some(form) = match_rule(alloc, &mut walk, &mut values, rule, kind, inside)? {
+        if let Some(form) = match_rule(alloc, &mut walk, &mut values, rule, kind, sign, inside)? {
             return Ok(Some(Found {
                 rule: number,
                 form,
@@ -317,10 +349,20 @@ pub(crate) fn first_among<'t>(
     ensures { IfOk result (λ o. option_map found_of o
         ≡ first_among rules.now numbers.now kind inside.now) }
 {
+    let sign = sign_of(inside);
     let mut walk = Walk::new(alloc, Comments::Passed, inside);
     let mut values = Vec::new(alloc);
     for number in numbers {
-        let tried = match_numbered(alloc, &mut walk, &mut values, rules, *number, kind, inside)?;
+        let tried = match_numbered(
+            alloc,
+            &mut walk,
+            &mut values,
+            rules,
+            *number,
+            kind,
+            sign,
+            inside,
+        )?;
         if let Some(form) = tried {
             return Ok(Some(Found {
                 rule: *number,
