@@ -14,7 +14,8 @@ use Rattle.grammar_machine.specs.declared.event.Part.{Part}
 use Rattle.event_layout.specs.declared.layout.Fault.{Fault}
 use Rattle.event_layout.specs.Amid.{Around, Fits, sum_len, first_len}
 use Rattle.event_layout.specs.Filled.{past_lead, left_by, left_after}
-use Rattle.event_layout.specs.Layout.{Laying, pass_on, pass_all_of, pass_trivia_of, join_on, cut_at, piece_on, enter_of, exit_of, exit_all_of, finish_of, laid_of}
+use Rattle.event_layout.proofs.Cutting.{no_dot_in}
+use Rattle.event_layout.specs.Layout.{Laying, pass_on, pass_all_of, pass_trivia_of, join_on, cut_at, piece_on, enter_of, exit_of, exit_all_of, finish_of, laid_of, dot_of}
 use Rattle.event_layout.specs.Orders.{Order, begin_node, take_joined, take_part, end_node, say, nothing, ordered, walked, Turn, turns, kinds_at, orders_from, orders_of, begun_at}
 use Rattle.event_layout.specs.Trivia.{lead, part_of, outside_of}
 use Rattle.event_layout.proofs.Amid.{lead_none, pass_all_fits, ordered_fits, walked_fits}
@@ -130,7 +131,7 @@ module _ (text : List ℕ) (small : length text < 2 ^ 32) (ts : List RawToken) (
   }
 
   no_dot : (p : Part) (t : RawToken) (s : Laying) → s.rest ≡ t ∷ [] → Fits text s → Near s
-      → position (λ b. nat_eq b 46) (part_of text s.position (t.len - s.cut)) ≡ None
+      → dot_of t.kind (part_of text s.position (t.len - s.cut)) ≡ None
   no_dot p t s e f h =
       let cut : s.cut ≡ 0 = h.whole (omega (arith, ap length e)) in
       let same : t ≡ z.close = same_last h.gone z.front t z.close (sym (h.is ∙ ap (λ (ys : List RawToken). h.gone ++ ys) e) ∙ z.closed) in
@@ -142,12 +143,12 @@ module _ (text : List ℕ) (small : length text < 2 ^ 32) (ts : List RawToken) (
       let byte : part_of text s.position (t.len - s.cut) ≡ 125 ∷ [] =
       ap (λ (i : ℕ). part_of text i (t.len - s.cut)) at ∙ ap (part_of text (length z.before)) n
       ∙ ap (λ (w : List ℕ). take 1 (drop (length z.before) w)) z.parts ∙ ap (take 1) (drop-append_seam z.before (125 ∷ [])) in
-      ap (position (λ b. nat_eq b 46)) byte
+      no_dot_in t.kind (part_of text s.position (t.len - s.cut)) (ap (position (λ b. nat_eq b 46)) byte)
 
   piece_on_near : (p : Part) (xs : List RawToken) (s : Laying) → s.rest ≡ xs → Fits text s → Near s → Near (piece_on text p xs s)
   piece_on_near p [] s e f h = h
   piece_on_near p (t ∷ []) s e f h = subst (λ (o : Option ℕ). Near (cut_at p o s)) (sym (no_dot p t s e f h)) h
-  piece_on_near p (t ∷ u ∷ xs) s e f h = by (position (λ b. nat_eq b 46) (part_of text s.position (t.len - s.cut)))
+  piece_on_near p (t ∷ u ∷ xs) s e f h = by (dot_of t.kind (part_of text s.position (t.len - s.cut)))
     where
       by : (o : Option ℕ) → Near (cut_at p o s)
       by None = h

@@ -1,9 +1,8 @@
 -- What events take of the tokens, and what they leave, is all.
 use Rattle.std.proofs.Common.{◌≡◌, ℕ, ◌+◌, ◌<◌, ◌≤◌, Bool, true, false, nat_eq, if◌then◌else◌, List, [], ◌∷◌, ◌++◌, take, drop, sum_by, refl, sym, ap, ◌∙◌, arith}
-use Rattle.std.specs.Prelude.{Option, Some, None, position}
+use Rattle.std.specs.Prelude.{Option, Some, None}
 use Rattle.std.proofs.lemmas.List.{length-take}
 use Rattle.std.proofs.lemmas.List.Sums.{sum_by-cons, sum_by-take-drop}
-use Rattle.std.proofs.lemmas.List.Quantifiers.{position-Some}
 use Rattle.syntax_kind.specs.declared.syntax_kind.SyntaxKind.{SyntaxKind}
 use Rattle.syntax_kind.specs.Kinds.{is_trivia}
 use Rattle.ras_front_end.specs.Reading.{FrontStep, begins, takes, ends, reports}
@@ -13,10 +12,11 @@ use Rattle.grammar_machine.specs.declared.event.Event.TheVariants.{Token, Piece,
 use Rattle.grammar_machine.specs.declared.event.Part.{Part}
 use Rattle.grammar_machine.specs.declared.event.Part.TheVariants.{Whole, Dot, Fraction}
 use Rattle.event_layout.specs.Amid.{sum_len}
-use Rattle.event_layout.specs.Layout.{kind_of_part}
+use Rattle.event_layout.specs.Layout.{kind_of_part, dot_of}
 use Rattle.event_layout.specs.Made.{Left, Made, trivia_of, past_trivia, past, joined_on, joined, part_len, parted_at, parted_on, parted, after, made_by}
 use Rattle.document_laws.specs.Nodes.{made_steps, made_left}
 use Rattle.event_layout.specs.Filled.{bytes_taken}
+use Rattle.event_layout.proofs.Cutting.{dot_found}
 
 pub bytes_both : (xs ys : List FrontStep) → bytes_taken (xs ++ ys) ≡ bytes_taken xs + bytes_taken ys
 bytes_both [] ys = omega arith
@@ -65,8 +65,8 @@ parted_keeps p l = by l.tokens
     by : (ts : List RawToken) → Keeps (parted_on p ts l.text) ts
     by [] = refl
     by (t ∷ ts) =
-        at_dot (position (λ b. nat_eq b 46) (take t.len l.text)) t ts
-        (λ dot e. let found = position-Some (λ b. nat_eq b 46) (take t.len l.text) dot 0 e in let first = found.0 in omega (arith, first, length-take t.len l.text))
+        at_dot (dot_of t.kind (take t.len l.text)) t ts
+        (λ dot e. let found = dot_found t.kind (take t.len l.text) dot e in let first = found.0 in omega (arith, first, length-take t.len l.text))
 
 behind_trivia : (m : Made) (l : Left) → Keeps m (past l).tokens → Keeps (after (trivia_of l.tokens) m) l.tokens
 behind_trivia m l h = omega (arith, bytes_both (trivia_of l.tokens) m.steps, h, trivia_sum l.tokens l.text)

@@ -1,7 +1,7 @@
 -- What events leave of the tokens, as they are made and as they are counted: the same, but for the
 -- first token where a part of it was taken.
 use Rattle.std.proofs.Common.{◌≡◌, ◌⊎◌, inl, inr, ℕ, suc, ◌+◌, ◌-◌, ◌<◌, ◌^◌, Bool, true, false, not, nat_eq, nat_le, if◌then◌else◌, List, [], ◌∷◌, ◌++◌, length, take, drop, ap, ◌∙◌, refl, subst, sym, arith, append_assoc}
-use Rattle.std.specs.Prelude.{Option, Some, None, slice_get, reverse, option_map, option_and_then, position}
+use Rattle.std.specs.Prelude.{Option, Some, None, slice_get, reverse, option_map, option_and_then}
 use Rattle.std.proofs.lemmas.List.{reverse-append, take-append-drop, length-append, length-drop}
 use Rattle.std.proofs.lemmas.Option.{slice_get_within}
 use Rattle.syntax_kind.specs.Kinds.{is_trivia}
@@ -18,7 +18,7 @@ use Rattle.grammar_machine.proofs.Counted.{runs-counted}
 use Rattle.grammar_machine.proofs.Seen.{runs-seen}
 use Rattle.event_layout.specs.Filled.{past_lead, taken, left_by, left_after}
 use Rattle.event_layout.specs.Finding.{AreSightsOf}
-use Rattle.event_layout.specs.Layout.{kind_of_part}
+use Rattle.event_layout.specs.Layout.{kind_of_part, dot_of}
 use Rattle.event_layout.specs.Made.{Left, past_trivia, past, joined_on, part_len, shorter, parted_at, parted_on, made_by}
 use Rattle.event_layout.specs.Taking.{seen_tokens, FindsTokens, AllFind, LeavesSeen}
 use Rattle.event_layout.specs.Trivia.{lead}
@@ -104,7 +104,7 @@ record PartNear (p : Part) (u : RawToken) (rest : List RawToken) (text : List �
 part_near : (p : Part) (u : RawToken) (rest : List RawToken) (text : List ℕ) → is_trivia u.kind ≡ false → PartNear p u rest text
 part_near p u rest text plain = by _ refl
   where
-    by : (o : Option ℕ) → position (λ b. nat_eq b 46) (take u.len text) ≡ o → PartNear p u rest text
+    by : (o : Option ℕ) → dot_of u.kind (take u.len text) ≡ o → PartNear p u rest text
     by None e = record {
       v = u;
       kind = refl;

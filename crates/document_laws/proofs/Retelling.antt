@@ -267,7 +267,7 @@ tokens_alike heads windows e a x old new y c t h =
           some = omega (arith, some, own);
           new_some = omega (arith, new_some, new_own);
           lines = λ trivia comment. sym (ap has_blank_line old_is) ∙ d.lines trivia comment ∙ ap has_blank_line new_is;
-          no_dots = λ plain. (sym (ap has_dot old_is) ∙ d.no_dot plain, sym (ap has_dot new_is) ∙ d.no_new_dot plain);
+          no_dots = λ number. (sym (ap has_dot old_is) ∙ d.no_dot number, sym (ap has_dot new_is) ∙ d.no_new_dot number);
         };
         sights = ex.sights h.retold.sights;
       },

@@ -3,7 +3,6 @@ use Rattle.std.proofs.Common.{◌≡◌, ◌⊎◌, inl, inr, ℕ, zero, suc, �
 use Rattle.std.specs.Prelude.{◌&&◌, position}
 use Rattle.std.proofs.lemmas.Bool.{lt-ltb, ltb-true, ltb-false}
 use Rattle.std.proofs.lemmas.List.{drop-take, drop-drop, length-append, length-drop, length-take, take-append-le, drop-append-le, map-append}
-use Rattle.std.proofs.lemmas.List.Quantifiers.{position-Some}
 use Rattle.syntax_kind.specs.declared.syntax_kind.SyntaxKind.{SyntaxKind}
 use Rattle.syntax_kind.specs.Kinds.{is_trivia}
 use Rattle.ras_front_end.specs.Reading.{begins, takes, ends}
@@ -13,9 +12,10 @@ use Rattle.grammar_machine.specs.declared.event.Part.TheVariants.{Whole, Dot, Fr
 use Rattle.event_layout.specs.declared.layout.Fault.{Fault}
 use Rattle.event_layout.specs.declared.trivia.Keep.{Keep}
 use Rattle.event_layout.specs.Trivia.{lead, later_of, part_of, kept_of, attached_after, attached, attaches_of, outside_of}
-use Rattle.event_layout.specs.Layout.{Laying, leaf_of, pass_on, pass_of, pass_all_of, pass_trivia_of, joined_len, join_on, join_of, kind_of_part, len_of_part, cut_at, piece_on, piece_of, enter_of, exit_of, exit_all_of, fault_of, added, finish_of}
+use Rattle.event_layout.specs.Layout.{Laying, leaf_of, pass_on, pass_of, pass_all_of, pass_trivia_of, joined_len, join_on, join_of, kind_of_part, len_of_part, cut_at, piece_on, piece_of, enter_of, exit_of, exit_all_of, fault_of, added, finish_of, dot_of}
 use Rattle.event_layout.specs.Orders.{Order, begin_node, take_joined, take_part, end_node, say, nothing, ordered, walked}
 use Rattle.event_layout.specs.Amid.{Around, fault_amid, faults_amid, amid, IsIn, sum_len, first_len, Fits, Stays, AllStay}
+use Rattle.event_layout.proofs.Cutting.{dot_found}
 
 -- ---- white space and comments
 
@@ -193,12 +193,12 @@ module _ (text : List ℕ) (small : length text < 2 ^ 32) where
       }
 
   pub cut_at_fits : (p : Part) (o : Option ℕ) (t : RawToken) (ts : List RawToken) (s : Laying) → s.rest ≡ t ∷ ts → lead s.rest ≡ 0
-      → position (λ b. nat_eq b 46) (part_of text s.position (t.len - s.cut)) ≡ o → Fits text s → Fits text (cut_at p o s)
+      → dot_of t.kind (part_of text s.position (t.len - s.cut)) ≡ o → Fits text s → Fits text (cut_at p o s)
   cut_at_fits p None t ts s e none f h = h
   cut_at_fits p (Some dot) t ts s e none f h =
       let all : sum_len s.rest ≡ t.len + sum_len ts = ap sum_len e in
       let one : first_len s.rest ≡ t.len = ap first_len e in
-      let found = position-Some (λ b. nat_eq b 46) (part_of text s.position (t.len - s.cut)) dot 0 f in
+      let found = dot_found t.kind (part_of text s.position (t.len - s.cut)) dot f in
       let most = length-take (t.len - s.cut) (drop s.position text) in
       let n = len_part_le p dot in
       let cut_is = later_sum s.cut (len_of_part p dot) (omega (arith, found.0, most, n, h.cut, one, all, h.short, small)) in
@@ -212,7 +212,7 @@ module _ (text : List ℕ) (small : length text < 2 ^ 32) where
 
   pub piece_on_fits : (p : Part) (ts : List RawToken) (s : Laying) → s.rest ≡ ts → lead s.rest ≡ 0 → Fits text s → Fits text (piece_on text p ts s)
   piece_on_fits p [] s e none h = h
-  piece_on_fits p (t ∷ ts) s e none h = cut_at_fits p (position (λ b. nat_eq b 46) (part_of text s.position (t.len - s.cut))) t ts s e none refl h
+  piece_on_fits p (t ∷ ts) s e none h = cut_at_fits p (dot_of t.kind (part_of text s.position (t.len - s.cut))) t ts s e none refl h
 
   pub enter_on_fits : (k : SyntaxKind) (b : Bool) (s : Laying) → Fits text s → Fits text (enter_on k b s)
   enter_on_fits k true s h = record { sum = h.sum; cut = h.cut; whole = h.whole; short = h.short }
@@ -327,11 +327,11 @@ module _ (text whole : List ℕ) (attaching : List SyntaxKind) (a : Around) (ins
       ap₂ (λ us vs. leaf_of k (joined_len (t.len - s.cut) us) (record (amid a s) { rest = vs; cut = 0 })) (take_both more ts a.behind enough) (drop_both more ts a.behind enough)
       ∙ leaf_in k n (drop more ts) 0 s (omega (arith, h.sum, h.cut, all, one, sum_split more ts, n_is))
 
-  cut_at_in : (p : Part) (o : Option ℕ) (n : ℕ) (s : Laying) → position (λ b. nat_eq b 46) (part_of text s.position n) ≡ o → s.position + n ≤ length text
+  cut_at_in : (p : Part) (k : SyntaxKind) (o : Option ℕ) (n : ℕ) (s : Laying) → dot_of k (part_of text s.position n) ≡ o → s.position + n ≤ length text
       → cut_at p o (amid a s) ≡ amid a (cut_at p o s)
-  cut_at_in p None n s f h = refl
-  cut_at_in p (Some dot) n s f h =
-      let found = position-Some (λ b. nat_eq b 46) (part_of text s.position n) dot 0 f in
+  cut_at_in p k None n s f h = refl
+  cut_at_in p k (Some dot) n s f h =
+      let found = dot_found k (part_of text s.position n) dot f in
       let most = length-take n (drop s.position text) in
       leaf_in (kind_of_part p) (len_of_part p dot) s.rest (later_of s.cut (len_of_part p dot)) s (omega (arith, found.0, most, len_part_le p dot, h))
 
@@ -343,8 +343,8 @@ module _ (text whole : List ℕ) (attaching : List SyntaxKind) (a : Around) (ins
       let one : first_len s.rest ≡ t.len = ap first_len e in
       let n = t.len - s.cut in
       let within : s.position + n ≤ length text = omega (arith, h.sum, h.cut, all, one) in
-      ap (λ w. cut_at p (position (λ b. nat_eq b 46) w) (amid a s)) (read s.position n within)
-      ∙ cut_at_in p (position (λ b. nat_eq b 46) (part_of text s.position n)) n s refl within
+      ap (λ w. cut_at p (dot_of t.kind w) (amid a s)) (read s.position n within)
+      ∙ cut_at_in p t.kind (dot_of t.kind (part_of text s.position n)) n s refl within
 
   enter_on_in : (k : SyntaxKind) (b : Bool) (s : Laying) → enter_on k b (amid a s) ≡ amid a (enter_on k b s)
   enter_on_in k true s =

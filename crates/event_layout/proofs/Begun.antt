@@ -16,7 +16,7 @@ use Rattle.grammar_machine.specs.declared.event.Part.{Part}
 use Rattle.grammar_machine.specs.declared.event.Part.TheVariants.{Whole, Dot, Fraction}
 use Rattle.event_layout.specs.Starts.{number_at}
 use Rattle.event_layout.specs.Trivia.{lead, later_of, part_of, outside_of}
-use Rattle.event_layout.specs.Layout.{Given, Laying, given, leaf_of, pass_on, pass_all_of, pass_trivia_of, joined_len, join_on, kind_of_part, len_of_part, cut_at, piece_on, enter_of, exit_of, exit_all_of, begin_at_of, obey_at_of, plus_of, moves, moves_of, start_of, finish_of, laid_of}
+use Rattle.event_layout.specs.Layout.{Given, Laying, given, leaf_of, pass_on, pass_all_of, pass_trivia_of, joined_len, join_on, kind_of_part, len_of_part, cut_at, piece_on, enter_of, exit_of, exit_all_of, begin_at_of, obey_at_of, plus_of, moves, moves_of, start_of, finish_of, laid_of, dot_of}
 use Rattle.event_layout.specs.Orders.{Order, begin_node, take_joined, take_part, end_node, say, nothing, ordered}
 use Rattle.event_layout.specs.Amid.{sum_len, first_len, Fits}
 use Rattle.event_layout.specs.Filled.{bytes_taken}
@@ -26,6 +26,7 @@ use Rattle.event_layout.proofs.Walking.{advance_on, advance_is}
 use Rattle.event_layout.proofs.Filled.{cut_sum, start_fits}
 use Rattle.event_layout.proofs.Amid.{sum_split, joined_is, enter_on, exit_on, enter_is, exit_is, pass_on_fits, join_on_fits, piece_on_fits, enter_on_fits, exit_on_fits, trivia_none}
 use Rattle.event_layout.proofs.Retelling.{sum_both}
+use Rattle.event_layout.proofs.Cutting.{dot_found, dot_place}
 
 -- ---- what orders keep, moves keep
 
@@ -164,18 +165,18 @@ module _ (text : List ℕ) (ts : List RawToken) (cut : IsCut ts text) (small : l
   part_len Dot dot = omega arith
   part_len Fraction dot = omega arith
 
-  cut_at_begun : (p : Part) (o : Option ℕ) (n : ℕ) (s : Laying) → position (λ b. nat_eq b 46) (part_of text s.position n) ≡ o → Begun s → Fits text (cut_at p o s) → Begun (cut_at p o s)
-  cut_at_begun p None n s f h fits = h
-  cut_at_begun p (Some dot) n s f h fits =
-      let found = position-Some (λ b. nat_eq b 46) (part_of text s.position n) dot 0 f in
+  cut_at_begun : (p : Part) (k : SyntaxKind) (o : Option ℕ) (n : ℕ) (s : Laying) → dot_of k (part_of text s.position n) ≡ o → Begun s → Fits text (cut_at p o s) → Begun (cut_at p o s)
+  cut_at_begun p k None n s f h fits = h
+  cut_at_begun p k (Some dot) n s f h fits =
+      let found = dot_found k (part_of text s.position n) dot f in
       let within : s.position + dot < length text = omega (arith, found.0, length-take n (drop s.position text), length-drop s.position text) in
       leaf_begun (kind_of_part p) (len_of_part p dot) s.rest h.gone (later_of s.cut (len_of_part p dot)) s h fits
-      (omega (arith, within, part_len p dot, small)) h.is (good_cut p s dot (dot_at s.position n dot f) within h.here)
+      (omega (arith, within, part_len p dot, small)) h.is (good_cut p s dot (dot_at s.position n dot (dot_place k (part_of text s.position n) dot f)) within h.here)
 
   piece_on_begun : (p : Part) (us : List RawToken) (s : Laying) → s.rest ≡ us → lead s.rest ≡ 0 → Begun s → Begun (piece_on text p us s)
   piece_on_begun p [] s e none h = h
   piece_on_begun p (t ∷ us) s e none h =
-      cut_at_begun p (position (λ b. nat_eq b 46) (part_of text s.position (t.len - s.cut))) (t.len - s.cut) s refl h (piece_on_fits text small p (t ∷ us) s e none h.fits)
+      cut_at_begun p t.kind (dot_of t.kind (part_of text s.position (t.len - s.cut))) (t.len - s.cut) s refl h (piece_on_fits text small p (t ∷ us) s e none h.fits)
 
   -- steps that take nothing
   same_bytes : (steps : List FrontStep) (x : FrontStep) → bytes_taken (x ∷ []) ≡ 0 → bytes_taken (steps ++ x ∷ []) ≡ bytes_taken steps

@@ -6,7 +6,7 @@ use Rattle.ras_front_end.specs.Reading.{FrontStep, begins, takes, ends, reports}
 use Rattle.token_layout.specs.declared.span.Token.{Token as RawToken}
 use Rattle.grammar_machine.specs.declared.event.Part.{Part}
 use Rattle.event_layout.specs.Trivia.{lead, later_of, part_of, outside_of}
-use Rattle.event_layout.specs.Layout.{Laying, leaf_of, pass_on, pass_all_of, pass_trivia_of, joined_len, join_on, len_of_part, kind_of_part, cut_at, piece_on, enter_of, exit_of}
+use Rattle.event_layout.specs.Layout.{Laying, leaf_of, pass_on, pass_all_of, pass_trivia_of, joined_len, join_on, len_of_part, kind_of_part, cut_at, piece_on, enter_of, exit_of, dot_of}
 use Rattle.event_layout.specs.Orders.{Order, begin_node, take_joined, take_part, end_node, say, nothing, ordered, walked}
 use Rattle.event_layout.specs.Filled.{bytes_taken}
 
@@ -43,7 +43,7 @@ cut_took p (Some dot) s h = leaf_took (kind_of_part p) (len_of_part p dot) (reco
 
 pub piece_took : (text : List ℕ) (p : Part) (ts : List RawToken) (s : Laying) → Took s → Took (piece_on text p ts s)
 piece_took text p [] s h = h
-piece_took text p (t ∷ ts) s h = cut_took p (position (λ b. nat_eq b 46) (part_of text s.position (t.len - s.cut))) s h
+piece_took text p (t ∷ ts) s h = cut_took p (dot_of t.kind (part_of text s.position (t.len - s.cut))) s h
 
 pub enter_took : (k : SyntaxKind) (s : Laying) → Took s → Took (enter_of k s)
 enter_took k s h = by (nat_lt s.depth (2 ^ 64 - 1))

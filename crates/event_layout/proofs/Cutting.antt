@@ -1,6 +1,6 @@
 -- Steps that cut a text up to where the rest of it begins, and tokens that cut the rest.
-use Rattle.std.proofs.Common.{◌≡◌, ℕ, zero, suc, ◌+◌, ◌-◌, ◌≤◌, ◌<◌, ◌^◌, List, [], ◌∷◌, ◌++◌, length, take, drop, ap, sym, ◌∙◌, refl, arith, subst, Some, get_or, fold}
-use Rattle.std.specs.Prelude.{IsUtf8, IsCharBoundary, min, position, nat_eq, true}
+use Rattle.std.proofs.Common.{◌≡◌, ℕ, zero, suc, ◌+◌, ◌-◌, ◌≤◌, ◌<◌, ◌^◌, List, [], ◌∷◌, ◌++◌, length, take, drop, ap, sym, ◌∙◌, refl, arith, subst, Option, Some, None, get_or, fold, if◌then◌else◌}
+use Rattle.std.specs.Prelude.{IsUtf8, IsCharBoundary, min, position, nat_eq, Bool, true, false}
 use Rattle.std.proofs.Math.Nat.{min-eq_left}
 use Rattle.std.proofs.Math.Seq.{take-add}
 use Rattle.std.proofs.lemmas.Bool.Decides.{nat_tests}
@@ -14,7 +14,7 @@ use Rattle.token_layout.specs.Laid.{IsCut}
 use Rattle.grammar_machine.specs.declared.event.Part.{Part}
 use Rattle.grammar_machine.specs.declared.event.Part.TheVariants.{Whole, Dot, Fraction}
 use Rattle.event_layout.specs.Trivia.{later_of}
-use Rattle.event_layout.specs.Layout.{len_of_part, joined_len}
+use Rattle.event_layout.specs.Layout.{len_of_part, joined_len, is_number, dot_of}
 
 -- the steps cut the text up to where `rest` begins
 abbrev pub CutsTo : List FrontStep → List ℕ → List ℕ → Type 0
@@ -115,6 +115,28 @@ part_cuts Fraction dot w u l h e = record { within = omega arith; boundary = IsC
 
 is_dot : (b : ℕ) → nat_eq b 46 ≡ true → b ≡ 46
 is_dot b h = grind (arith, nat_tests)
+
+-- what is found as a dot is one
+pub dot_place : (k : SyntaxKind) (w : List ℕ) (dot : ℕ) → dot_of k w ≡ Some dot
+    → position (λ b. nat_eq b 46) w ≡ Some dot
+dot_place k w dot h = by (is_number k) refl
+  where
+    by : (b : Bool) → is_number k ≡ b → position (λ b. nat_eq b 46) w ≡ Some dot
+    by true f = sym (ap (λ c. if c then position (λ b. nat_eq b 46) w else None) f) ∙ h
+    by false f =
+        let no : None ≡ Some dot = sym (ap (λ c. if c then position (λ b. nat_eq b 46) w else None) f) ∙ h in
+        absurd (cc)
+
+pub dot_found : (k : SyntaxKind) (w : List ℕ) (dot : ℕ) → dot_of k w ≡ Some dot
+    → (dot < length w) × (nat_eq (get_or w dot 0) 46 ≡ true)
+dot_found k w dot h = let f = position-Some (λ b. nat_eq b 46) w dot 0 (dot_place k w dot h) in (f.0, f.1)
+
+pub no_dot_in : (k : SyntaxKind) (w : List ℕ) → position (λ b. nat_eq b 46) w ≡ None → dot_of k w ≡ None
+no_dot_in k w h = by (is_number k) refl
+  where
+    by : (b : Bool) → is_number k ≡ b → dot_of k w ≡ None
+    by true f = ap (λ c. if c then position (λ b. nat_eq b 46) w else None) f ∙ h
+    by false f = ap (λ c. if c then position (λ b. nat_eq b 46) w else None) f
 
 -- where the dot is found, the part is a text
 pub found_cuts : (p : Part) (dot : ℕ) (w : List ℕ) → IsUtf8 w → length w < 2 ^ 32 → position (λ b. nat_eq b 46) w ≡ Some dot → CutsAt (len_of_part p dot) w

@@ -15,8 +15,8 @@ use Rattle.grammar_machine.specs.declared.event.Part.{Part}
 use Rattle.event_layout.specs.declared.layout.Fault.{Fault}
 use Rattle.event_layout.specs.Trivia.{lead, later_of, part_of, outside_of}
 use Rattle.event_layout.specs.Starts.{number_at}
-use Rattle.event_layout.specs.Layout.{Given, Laying, leaf_of, pass_on, pass_of, pass_all_of, pass_trivia_of, joined_len, join_on, join_of, kind_of_part, len_of_part, cut_at, piece_on, piece_of, enter_of, exit_of, exit_all_of, begin_of, begin_at_of, fault_of, obey_of, obey_at_of, entering_of, going_of, advance_of, moves, plus_of}
-use Rattle.event_layout.proofs.Cutting.{CutsTo, IsCutFrom, cuts_takes, cuts_begins, cuts_ends, from_start, later_is, Goes, joined_goes, CutsAt, found_cuts, Parts, parted}
+use Rattle.event_layout.specs.Layout.{Given, Laying, leaf_of, pass_on, pass_of, pass_all_of, pass_trivia_of, joined_len, join_on, join_of, kind_of_part, len_of_part, cut_at, piece_on, piece_of, enter_of, exit_of, exit_all_of, begin_of, begin_at_of, fault_of, obey_of, obey_at_of, entering_of, going_of, advance_of, moves, plus_of, dot_of}
+use Rattle.event_layout.proofs.Cutting.{CutsTo, IsCutFrom, cuts_takes, cuts_begins, cuts_ends, from_start, later_is, Goes, joined_goes, CutsAt, found_cuts, Parts, parted, dot_place}
 
 balance-append : (d : ℕ) (xs ys : List FrontStep) → balance d (xs ++ ys) ≡ option_and_then (λ e. balance e ys) (balance d xs)
 balance-append d [] ys = refl
@@ -134,14 +134,14 @@ cut_more n c t ts r h p small =
     (h.0, subst (λ m. m ≤ length (drop n r)) (sym less) here.0, subst (λ m. IsUtf8 (take m (drop n r))) (sym less) here.1, subst (λ m. IsCut ts (drop m (drop n r))) (sym less) here.2)
 
 cut_at_kept : (root : SyntaxKind) (text : List ℕ) (p : Part) (t : RawToken) (ts : List RawToken) (o : Option ℕ) (s : Laying) → length text < 2 ^ 32 → s.rest ≡ t ∷ ts
-    → position (λ b. nat_eq b 46) (part_of text s.position (t.len - s.cut)) ≡ o → Kept root text s → Kept root text (cut_at p o s)
+    → dot_of t.kind (part_of text s.position (t.len - s.cut)) ≡ o → Kept root text s → Kept root text (cut_at p o s)
 cut_at_kept root text p t ts None s l e f h = h
 cut_at_kept root text p t ts (Some dot) s l e f h =
     let r = drop s.position text in
     let here : IsCutFrom s.cut (t ∷ ts) r = subst (λ z. IsCutFrom s.cut z r) e h.ahead in
     let len = t.len - s.cut in
     let short : length (take len r) < 2 ^ 32 = omega (arith, short_rest text s.position l, length-take len r) in
-    let at : CutsAt (len_of_part p dot) (take len r) = found_cuts p dot (take len r) here.2 short f in
+    let at : CutsAt (len_of_part p dot) (take len r) = found_cuts p dot (take len r) here.2 short (dot_place t.kind (take len r) dot f) in
     let parts : Parts (len_of_part p dot) len r = parted (len_of_part p dot) len r here.1 here.2 at in
     let n = len_of_part p dot in
     let more : IsCutFrom (later_of s.cut n) (t ∷ ts) (drop n r) = cut_more n s.cut t ts r here parts h.small in
@@ -150,7 +150,7 @@ cut_at_kept root text p t ts (Some dot) s l e f h =
 
 piece_on_kept : (root : SyntaxKind) (text : List ℕ) (p : Part) (ts : List RawToken) (s : Laying) → length text < 2 ^ 32 → s.rest ≡ ts → Kept root text s → Kept root text (piece_on text p ts s)
 piece_on_kept root text p [] s l e h = h
-piece_on_kept root text p (t ∷ ts) s l e h = cut_at_kept root text p t ts (position (λ b. nat_eq b 46) (part_of text s.position (t.len - s.cut))) s l e refl h
+piece_on_kept root text p (t ∷ ts) s l e h = cut_at_kept root text p t ts (dot_of t.kind (part_of text s.position (t.len - s.cut))) s l e refl h
 
 enter_on_kept : (root : SyntaxKind) (text : List ℕ) (k : SyntaxKind) (b : Bool) (s : Laying) → Kept root text s → Kept root text (if b then record s { depth = s.depth + 1; steps = s.steps ++ begins k ∷ [] } else s)
 enter_on_kept root text k false s h = h

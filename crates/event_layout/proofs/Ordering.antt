@@ -9,7 +9,7 @@ use Rattle.grammar_machine.specs.declared.event.Event.TheVariants.{Token, Piece,
 use Rattle.grammar_machine.specs.declared.event.Part.{Part}
 use Rattle.event_layout.specs.Trivia.{lead, part_of, outside_of}
 use Rattle.event_layout.specs.Starts.{number_at}
-use Rattle.event_layout.specs.Layout.{Given, Laying, given, root_of, added, pass_on, pass_of, pass_all_of, pass_trivia_of, join_on, join_of, kind_of_part, cut_at, piece_on, piece_of, enter_of, exit_of, exit_all_of, begin_with, begin_at_of, obey_of, obey_at_of, entering_of, plus_of, moves, moves_of, start_of, finish_of, laid_of}
+use Rattle.event_layout.specs.Layout.{Given, Laying, given, root_of, added, pass_on, pass_of, pass_all_of, pass_trivia_of, join_on, join_of, kind_of_part, cut_at, piece_on, piece_of, enter_of, exit_of, exit_all_of, begin_with, begin_at_of, obey_of, obey_at_of, entering_of, plus_of, moves, moves_of, start_of, finish_of, laid_of, dot_of}
 use Rattle.event_layout.specs.Made.{Span, node_of}
 use Rattle.event_layout.specs.Orders.{Order, begin_node, take_joined, take_part, end_node, say, nothing, ordered, walked, order_of, turns, kind_if, kinds_at, orders_from, orders_of, begun_at, ordered_of, LaidAlike}
 use Rattle.event_layout.proofs.Chains.{with_number, numbers_at, starts_linked, first_at}
@@ -38,7 +38,7 @@ cut_at_bare p (Some dot) s = refl
 
 piece_on_bare : (text : List ℕ) (p : Part) (ts : List RawToken) (s : Laying) → bare (piece_on text p ts s) ≡ piece_on text p ts (bare s)
 piece_on_bare text p [] s = refl
-piece_on_bare text p (t ∷ ts) s = cut_at_bare p (position (λ b. nat_eq b 46) (part_of text s.position (t.len - s.cut))) s
+piece_on_bare text p (t ∷ ts) s = cut_at_bare p (dot_of t.kind (part_of text s.position (t.len - s.cut))) s
 
 enter_on_bare : (k : SyntaxKind) (b : Bool) (s : Laying) → bare (if b then record s { depth = s.depth + 1; steps = s.steps ++ begins k ∷ [] } else s) ≡ (if b then bare (record s { depth = s.depth + 1; steps = s.steps ++ begins k ∷ [] }) else bare s)
 enter_on_bare k true s = refl

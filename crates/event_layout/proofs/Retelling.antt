@@ -15,7 +15,7 @@ use Rattle.grammar_machine.specs.declared.event.Part.{Part}
 use Rattle.event_layout.specs.declared.layout.Fault.{Fault}
 use Rattle.event_layout.specs.declared.trivia.Keep.{Keep}
 use Rattle.event_layout.specs.Trivia.{lead, later_of, part_of, has_blank_line, is_comment, one_more, kept_of, attached_after, attached, attaches_of, outside_of}
-use Rattle.event_layout.specs.Layout.{Laying, leaf_of, pass_on, joined_len, join_on, cut_at, piece_on, fault_of}
+use Rattle.event_layout.specs.Layout.{Laying, leaf_of, pass_on, joined_len, join_on, is_number, dot_of, cut_at, piece_on, fault_of}
 use Rattle.event_layout.specs.Amid.{Around, amid, IsIn, sum_len, first_len, Fits}
 use Rattle.event_layout.specs.Filled.{bytes_taken}
 use Rattle.event_layout.specs.Retold.{has_dot}
@@ -50,7 +50,7 @@ pub record Retells (e : Retelling) : Type 0 where
   pub some : 0 < length e.old
   pub cut : sum_len e.back ≡ length e.y
   pub lines : is_trivia e.kind ≡ true → is_comment e.kind ≡ false → has_blank_line e.old ≡ has_blank_line e.new
-  pub no_dots : is_trivia e.kind ≡ false → (has_dot e.old ≡ false) × (has_dot e.new ≡ false)
+  pub no_dots : is_number e.kind ≡ true → (has_dot e.old ≡ false) × (has_dot e.new ≡ false)
 
 -- a state of the old text's layout, as it is in that of the new one
 abbrev pub retold : Retelling → List RawToken → Laying → Laying
@@ -139,6 +139,14 @@ no_place s h = by (position (λ b. nat_eq b 46) s) refl
         let bad : false ≡ true = sym h ∙ some in
         absurd (cc)
 
+-- a token that is no number, or has none, is not cut at a dot
+no_dot : (k : SyntaxKind) (s : List ℕ) → (is_number k ≡ true → has_dot s ≡ false) → dot_of k s ≡ None
+no_dot k s h = by (is_number k) refl
+  where
+    by : (b : Bool) → is_number k ≡ b → dot_of k s ≡ None
+    by true f = ap (λ c. if c then position (λ b. nat_eq b 46) s else None) f ∙ no_place s (h f)
+    by false f = ap (λ c. if c then position (λ b. nat_eq b 46) s else None) f
+
 pub lead_both_ways : (front : List RawToken) (b : List RawToken) (t u : RawToken) → t.kind ≡ u.kind → lead (front ++ t ∷ b) ≡ lead (front ++ u ∷ b)
 lead_both_ways [] b t u same = lead_more t b ∙ ap (λ (k : SyntaxKind). if is_trivia k then lead b + 1 else 0) same ∙ sym (lead_more u b)
 lead_both_ways (v ∷ front) b t u same =
@@ -161,13 +169,6 @@ lead_reaches [] b t h = by (is_trivia t.kind) refl
     by true f = f
     by false f = absurd (omega (arith, h, lead_more t b ∙ ap (λ c. if c then lead b + 1 else 0) f))
 lead_reaches (v ∷ front) b t h = reaches_on v front b t (is_trivia v.kind) refl h (lead_reaches front b t)
-
-lead_stops : (t : RawToken) (b : List RawToken) → lead (t ∷ b) ≡ 0 → is_trivia t.kind ≡ false
-lead_stops t b h = by (is_trivia t.kind) refl
-  where
-    by : (c : Bool) → is_trivia t.kind ≡ c → is_trivia t.kind ≡ false
-    by true f = absurd (omega (arith, h, lead_more t b ∙ ap (λ c. if c then lead b + 1 else 0) f))
-    by false f = f
 
 module _ (e : Retelling) (ok : Retells e) where
   pub was_small : length (was e) < 2 ^ 32
@@ -306,14 +307,13 @@ module _ (e : Retelling) (ok : Retells e) where
   pub piece_before : (p : Part) (front : List RawToken) (s : Laying) → lead s.rest ≡ 0 → Before e front s
       → Both e (piece_on (was e) p (front ++ old_token e ∷ e.back) s) (piece_on (now e) p (front ++ new_token e ∷ e.back) (retold e front s))
   piece_before p [] s none h =
-      let free = ok.no_dots (lead_stops (old_token e) e.back (sym (ap lead h.rest) ∙ none)) in
       let cut = h.whole refl in
       let at : s.position ≡ length e.x = omega (arith, sum_here [] s h, cut) in
       let n : length e.old - s.cut ≡ length e.old = omega (arith, cut) in
       let m : length e.new - s.cut ≡ length e.new = omega (arith, cut) in
-      let find : List ℕ → Option ℕ = λ w. position (λ b. nat_eq b 46) w in
-      let o : find (part_of (was e) s.position (length e.old - s.cut)) ≡ None = ap find (ap₂ (part_of (was e)) at n ∙ part_mid e.x e.old e.y) ∙ no_place e.old free.0 in
-      let q : find (part_of (now e) s.position (length e.new - s.cut)) ≡ None = ap find (ap₂ (part_of (now e)) at m ∙ part_mid e.x e.new e.y) ∙ no_place e.new free.1 in
+      let find : List ℕ → Option ℕ = dot_of e.kind in
+      let o : find (part_of (was e) s.position (length e.old - s.cut)) ≡ None = ap find (ap₂ (part_of (was e)) at n ∙ part_mid e.x e.old e.y) ∙ no_dot e.kind e.old (λ number. (ok.no_dots number).0) in
+      let q : find (part_of (now e) s.position (length e.new - s.cut)) ≡ None = ap find (ap₂ (part_of (now e)) at m ∙ part_mid e.x e.new e.y) ∙ no_dot e.kind e.new (λ number. (ok.no_dots number).1) in
       both_is e (cut_at p (find (part_of (was e) s.position (length e.old - s.cut))) s) s
       (cut_at p (find (part_of (now e) s.position (length e.new - s.cut))) (retold e [] s)) (retold e [] s)
       (ap (λ o. cut_at p o s) o) (ap (λ o. cut_at p o (retold e [] s)) q) (ahead_of [] s h)
@@ -322,7 +322,7 @@ module _ (e : Retelling) (ok : Retells e) where
       let one : s.cut ≤ u.len = omega (arith, h.fits.cut, ap first_len h.rest) in
       let n = u.len - s.cut in
       let within : s.position + n ≤ length e.x = omega (arith, sum, one) in
-      let find : List ℕ → Option ℕ = λ w. position (λ b. nat_eq b 46) w in
+      let find : List ℕ → Option ℕ = dot_of u.kind in
       let o = find (part_of (was e) s.position n) in
       let same : part_of (now e) s.position n ≡ part_of (was e) s.position n = part_front e.x (e.new ++ e.y) s.position n within ∙ sym (part_front e.x (e.old ++ e.y) s.position n within) in
       let t = cut_at p o s in

@@ -9,7 +9,7 @@ use Rattle.token_layout.specs.declared.span.Token.{Token as RawToken}
 use Rattle.grammar_machine.specs.declared.event.Part.{Part}
 use Rattle.event_layout.specs.declared.layout.Fault.{Fault}
 use Rattle.event_layout.specs.Trivia.{lead, part_of, outside_of}
-use Rattle.event_layout.specs.Layout.{Laying, pass_on, pass_of, pass_all_of, pass_trivia_of, join_on, cut_at, piece_on, enter_of, exit_of, exit_all_of, finish_of}
+use Rattle.event_layout.specs.Layout.{Laying, pass_on, pass_of, pass_all_of, pass_trivia_of, join_on, cut_at, piece_on, enter_of, exit_of, exit_all_of, finish_of, dot_of}
 use Rattle.event_layout.specs.Orders.{Order, begin_node, take_joined, take_part, end_node, say, nothing, ordered, walked}
 use Rattle.event_layout.specs.Amid.{Fits, sum_len, first_len}
 use Rattle.event_layout.proofs.Amid.{pass_all_fits, ordered_fits}
@@ -104,7 +104,7 @@ module _ (text : List ℕ) (small : length text < 2 ^ 32) where
 
   piece_on_said : (p : Part) (ts : List RawToken) (s : Laying) → Fits text s → Said s (piece_on text p ts s)
   piece_on_said p [] s h = said_none s
-  piece_on_said p (t ∷ ts) s h = cut_at_said p (position (λ b. nat_eq b 46) (part_of text s.position (t.len - s.cut))) s h
+  piece_on_said p (t ∷ ts) s h = cut_at_said p (dot_of t.kind (part_of text s.position (t.len - s.cut))) s h
 
   enter_said : (k : SyntaxKind) (s : Laying) → Said s (enter_of k s)
   enter_said k s = by (nat_lt s.depth (2 ^ 64 - 1))

@@ -6,7 +6,6 @@ use Rattle.std.proofs.lemmas.Bool.{lt-ltb}
 use Rattle.std.proofs.lemmas.List.{drop-drop, length-drop, length-take}
 use Rattle.std.proofs.lemmas.List.Elements.{filter-append}
 use Rattle.std.proofs.lemmas.List.Sums.{sum_by-cons}
-use Rattle.std.proofs.lemmas.List.Quantifiers.{position-Some}
 use Rattle.syntax_kind.specs.declared.syntax_kind.SyntaxKind.{SyntaxKind}
 use Rattle.syntax_kind.specs.Kinds.{is_trivia}
 use Rattle.ras_front_end.specs.Reading.{FrontStep, begins, takes, ends}
@@ -16,9 +15,9 @@ use Rattle.grammar_machine.specs.declared.event.Event.TheVariants.{Token, Piece,
 use Rattle.grammar_machine.specs.declared.event.Part.{Part}
 use Rattle.grammar_machine.specs.declared.event.Part.TheVariants.{Whole, Dot, Fraction}
 use Rattle.event_layout.specs.Trivia.{lead, later_of, attached, attaches_of, outside_of}
-use Rattle.event_layout.specs.Layout.{Given, Laying, pass_on, pass_all_of, pass_trivia_of, joined_len, join_on, join_of, kind_of_part, len_of_part, cut_at, piece_on, piece_of, enter_of, exit_of, begin_of, obey_of}
+use Rattle.event_layout.specs.Layout.{Given, Laying, pass_on, pass_all_of, pass_trivia_of, joined_len, join_on, join_of, kind_of_part, len_of_part, cut_at, piece_on, piece_of, enter_of, exit_of, begin_of, obey_of, dot_of}
 use Rattle.event_layout.specs.Made.{is_seen, without_trivia, node_of, Left, Made, only_tokens, is_token, trivia_of, after, past_trivia, past, joined_on, joined, part_len, shorter, parted_at, parted_on, parted, made_by}
-use Rattle.event_layout.proofs.Cutting.{IsCutFrom, later_is, Goes, goes_on, joined_goes, CutsAt, found_cuts, Parts, parted as cut_parts}
+use Rattle.event_layout.proofs.Cutting.{IsCutFrom, later_is, Goes, goes_on, joined_goes, CutsAt, found_cuts, Parts, parted as cut_parts, dot_found, dot_place}
 use Rattle.event_layout.proofs.Keeping.{Kept, pass_all_kept, first_goes, enter_kept}
 use Rattle.event_layout.proofs.Walking.{one_node}
 
@@ -277,7 +276,7 @@ module _ (root : SyntaxKind) (text : List ℕ) (small : length text < 2 ^ 32) wh
         depth = refl;
       }
 
-  cut_added : (p : Part) (o : Option ℕ) (s : Laying) (t : RawToken) (ts : List RawToken) → s.rest ≡ t ∷ ts → position (λ b. nat_eq b 46) (take (t.len - s.cut) (drop s.position text)) ≡ o → Kept root text s
+  cut_added : (p : Part) (o : Option ℕ) (s : Laying) (t : RawToken) (ts : List RawToken) → s.rest ≡ t ∷ ts → dot_of t.kind (take (t.len - s.cut) (drop s.position text)) ≡ o → Kept root text s
       → Added text (parted_at p o (shorter s.cut t) ts (drop s.position text)) s (cut_at p o s)
   cut_added p None s t ts e f h = record { steps = sym (append-nil s.steps); left = left_is (left_on s.cut s.rest) (shorter s.cut t ∷ ts) (drop s.position text) (drop s.position text) (ap (left_on s.cut) e) refl; depth = refl }
   cut_added p (Some dot) s t ts e f h =
@@ -285,10 +284,10 @@ module _ (root : SyntaxKind) (text : List ℕ) (small : length text < 2 ^ 32) wh
       let len = t.len - s.cut in
       let here : IsCutFrom s.cut (t ∷ ts) r = cut_here s t ts e h in
       let short : length (take len r) < 2 ^ 32 = omega (arith, rest_short s.position, length-take len r) in
-      let found = position-Some (λ b. nat_eq b 46) (take len r) dot 0 f in
+      let found = dot_found t.kind (take len r) dot f in
       let n = len_of_part p dot in
       let is : n ≡ part_len p dot = part_len_is p dot (omega (arith, found.0, short)) in
-      let at : CutsAt n (take len r) = found_cuts p dot (take len r) here.2 short f in
+      let at : CutsAt n (take len r) = found_cuts p dot (take len r) here.2 short (dot_place t.kind (take len r) dot f) in
       let parts : Parts n len r = cut_parts n len r here.1 here.2 at in
       let sum : later_of s.cut n ≡ s.cut + n = later_is s.cut n (omega (arith, parts.within, here.0, h.small)) in
       let less : t.len - later_of s.cut n ≡ (t.len - s.cut) - part_len p dot = omega (arith, sum, is) in
@@ -302,7 +301,7 @@ module _ (root : SyntaxKind) (text : List ℕ) (small : length text < 2 ^ 32) wh
 
   piece_added : (p : Part) (s : Laying) (ts : List RawToken) → s.rest ≡ ts → Kept root text s → Added text (parted_on p (left_on s.cut ts) (drop s.position text)) s (piece_on text p ts s)
   piece_added p s [] e h = record { steps = sym (append-nil s.steps); left = left_is (left_on s.cut s.rest) [] (drop s.position text) (drop s.position text) (ap (left_on s.cut) e) refl; depth = refl }
-  piece_added p s (t ∷ ts) e h = cut_added p (position (λ b. nat_eq b 46) (take (t.len - s.cut) (drop s.position text))) s t ts e refl h
+  piece_added p s (t ∷ ts) e h = cut_added p (dot_of t.kind (take (t.len - s.cut) (drop s.position text))) s t ts e refl h
 
 pub past_on : (t : RawToken) (ts : List RawToken) (text : List ℕ) → is_trivia t.kind ≡ true → past_trivia (t ∷ ts) text ≡ past_trivia ts (drop t.len text)
 past_on t ts text e =

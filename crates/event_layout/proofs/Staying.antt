@@ -11,7 +11,7 @@ use Rattle.grammar_machine.specs.declared.event.Event.{Event}
 use Rattle.grammar_machine.specs.declared.event.Event.TheVariants.{Token, Piece, Node, Error}
 use Rattle.grammar_machine.specs.declared.event.Part.{Part}
 use Rattle.event_layout.specs.Trivia.{lead, part_of, outside_of}
-use Rattle.event_layout.specs.Layout.{Laying, pass_all_of, pass_trivia_of, join_on, join_of, kind_of_part, cut_at, piece_on, piece_of, enter_of, exit_of}
+use Rattle.event_layout.specs.Layout.{Laying, pass_all_of, pass_trivia_of, join_on, join_of, kind_of_part, cut_at, piece_on, piece_of, enter_of, exit_of, dot_of}
 use Rattle.event_layout.specs.Made.{Span, node_of}
 use Rattle.event_layout.specs.Orders.{Order, begin_node, take_joined, take_part, end_node, say, nothing, ordered, walked, Turn, order_of, turns, kind_if, kinds_at, orders_from}
 use Rattle.event_layout.specs.Amid.{Around, HasLeft, Stays, AllStay}
@@ -180,7 +180,7 @@ cut_at_rest p (Some dot) s = (refl, refl)
 
 piece_on_rest : (text : List ℕ) (p : Part) (ts : List RawToken) (s : Laying) → ((piece_on text p ts s).rest ≡ s.rest) × ((piece_on text p ts s).depth ≡ s.depth)
 piece_on_rest text p [] s = (refl, refl)
-piece_on_rest text p (t ∷ ts) s = cut_at_rest p (position (λ b. nat_eq b 46) (part_of text s.position (t.len - s.cut))) s
+piece_on_rest text p (t ∷ ts) s = cut_at_rest p (dot_of t.kind (part_of text s.position (t.len - s.cut))) s
 
 pub trivia_rest : (s : Laying) → (pass_trivia_of s).rest ≡ past_lead s.rest
 trivia_rest s = passed_rest (lead s.rest) s

@@ -11,7 +11,7 @@ use Rattle.grammar_machine.specs.declared.event.Event.TheVariants.{Token, Piece,
 use Rattle.grammar_machine.specs.declared.event.Part.{Part}
 use Rattle.event_layout.specs.Trivia.{lead, part_of, outside_of}
 use Rattle.event_layout.specs.Starts.{number_at}
-use Rattle.event_layout.specs.Layout.{Given, Laying, pass_on, pass_of, pass_all_of, pass_trivia_of, join_on, join_of, kind_of_part, cut_at, piece_on, piece_of, enter_of, exit_of, begin_of, begin_at_of, obey_of, obey_at_of, entering_of, going_of, advance_of, moves, moves_of, plus_of}
+use Rattle.event_layout.specs.Layout.{Given, Laying, pass_on, pass_of, pass_all_of, pass_trivia_of, join_on, join_of, kind_of_part, cut_at, piece_on, piece_of, enter_of, exit_of, begin_of, begin_at_of, obey_of, obey_at_of, entering_of, going_of, advance_of, moves, moves_of, plus_of, dot_of}
 use Rattle.event_layout.specs.Made.{Span, node_of}
 use Rattle.event_layout.proofs.Chains.{numbers_at, with_number, Chain, Linked, past_last}
 
@@ -45,7 +45,7 @@ cut_same p (Some dot) s = record { next = refl; entering = refl }
 
 piece_on_same : (bytes : List ℕ) (p : Part) (ts : List RawToken) (s : Laying) → Same s (piece_on bytes p ts s)
 piece_on_same bytes p [] s = same_refl s
-piece_on_same bytes p (t ∷ ts) s = cut_same p (position (λ b. nat_eq b 46) (part_of bytes s.position (t.len - s.cut))) s
+piece_on_same bytes p (t ∷ ts) s = cut_same p (dot_of t.kind (part_of bytes s.position (t.len - s.cut))) s
 
 enter_on_same : (k : SyntaxKind) (b : Bool) (s : Laying) → Same s (if b then record s { depth = s.depth + 1; steps = s.steps ++ begins k ∷ [] } else s)
 enter_on_same k true s = record { next = refl; entering = refl }

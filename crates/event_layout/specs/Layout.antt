@@ -92,9 +92,17 @@ abbrev pub cut_at : Part → Option ℕ → Laying → Laying
 cut_at p None s = s
 cut_at p (Some dot) s = leaf_of (kind_of_part p) (len_of_part p dot) (record s { cut = later_of s.cut (len_of_part p dot) })
 
+-- where the dot of a number is; no other token is cut
+abbrev pub is_number : SyntaxKind → Bool
+is_number (family.Token kind.FLOAT_NUMBER) = true
+is_number _ = false
+
+abbrev pub dot_of : SyntaxKind → List ℕ → Option ℕ
+dot_of k text = if is_number k then position (λ b. nat_eq b 46) text else None
+
 abbrev pub piece_on : List ℕ → Part → List RawToken → Laying → Laying
 piece_on bytes p [] s = s
-piece_on bytes p (t ∷ ts) s = cut_at p (position (λ b. nat_eq b 46) (part_of bytes s.position (t.len - s.cut))) s
+piece_on bytes p (t ∷ ts) s = cut_at p (dot_of t.kind (part_of bytes s.position (t.len - s.cut))) s
 
 -- the digits before the dot, or the dot
 abbrev pub piece_of : List ℕ → Part → Laying → Laying

@@ -1,6 +1,6 @@
 -- The nodes and tokens that the events of a parser make of a text, in order. White space and comments stand directly before the next token
 -- here. In the layout, nodes may begin between them and that token.
-use Rattle.std.specs.Prelude.{ℕ, zero, suc, ◌+◌, ◌-◌, min, nat_eq, Bool, true, false, not, if◌then◌else◌, Option, Some, None, List, [], ◌∷◌, ◌++◌, length, take, drop, map, filter, sum_by, position, slice_get}
+use Rattle.std.specs.Prelude.{ℕ, zero, suc, ◌+◌, ◌-◌, min, nat_eq, Bool, true, false, not, if◌then◌else◌, Option, Some, None, List, [], ◌∷◌, ◌++◌, length, take, drop, map, filter, sum_by, slice_get}
 use Rattle.syntax_kind.specs.declared.syntax_kind.SyntaxKind.{SyntaxKind}
 use Rattle.syntax_kind.specs.Kinds.{is_trivia}
 use Rattle.ras_front_end.specs.Reading.{FrontStep, begins, takes, ends, reports}
@@ -9,7 +9,7 @@ use Rattle.grammar_machine.specs.declared.event.Event.{Event}
 use Rattle.grammar_machine.specs.declared.event.Event.TheVariants.{Token, Piece, Node, Error}
 use Rattle.grammar_machine.specs.declared.event.Part.{Part}
 use Rattle.grammar_machine.specs.declared.event.Part.TheVariants.{Whole, Dot, Fraction}
-use Rattle.event_layout.specs.Layout.{kind_of_part, root_of}
+use Rattle.event_layout.specs.Layout.{kind_of_part, root_of, dot_of}
 
 -- whether the step is no token of white space or a comment
 abbrev pub is_seen : FrontStep → Bool
@@ -108,7 +108,7 @@ parted_at p (Some dot) t ts text = token_of (kind_of_part p) (part_len p dot) (s
 
 abbrev pub parted_on : Part → List RawToken → List ℕ → Made
 parted_on p [] text = nothing (record { tokens = []; text = text })
-parted_on p (t ∷ ts) text = parted_at p (position (λ b. nat_eq b 46) (take t.len text)) t ts text
+parted_on p (t ∷ ts) text = parted_at p (dot_of t.kind (take t.len text)) t ts text
 
 -- a part of the next token, which is a number, is a token, and the rest of the number is left; without a dot, nothing is made
 abbrev pub parted : Part → Left → Made

@@ -10,7 +10,7 @@ use Rattle.grammar_machine.specs.declared.event.Event.{Event}
 use Rattle.event_layout.specs.declared.layout.Fault.{Fault}
 use Rattle.event_layout.specs.Amid.{sum_len}
 use Rattle.event_layout.specs.Filled.{bytes_taken}
-use Rattle.event_layout.specs.Layout.{Laying, laid_of}
+use Rattle.event_layout.specs.Layout.{Laying, laid_of, is_number}
 use Rattle.event_layout.specs.Trivia.{has_blank_line, is_comment}
 
 abbrev pub has_dot : List ℕ → Bool
@@ -34,7 +34,7 @@ pub record IsRetold (s z : List ℕ) (ts us : List RawToken) (x old new y : List
   pub lines : is_trivia kind ≡ true → is_comment kind ≡ false
       → has_blank_line old ≡ has_blank_line new
   -- a number may be cut at its dot
-  pub no_dots : is_trivia kind ≡ false → (has_dot old ≡ false) × (has_dot new ≡ false)
+  pub no_dots : is_number kind ≡ true → (has_dot old ≡ false) × (has_dot new ≡ false)
 
 -- a fault behind the token moves with the text
 abbrev pub fault_retold : ℕ → ℕ → ℕ → Fault → Fault

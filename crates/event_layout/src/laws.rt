@@ -84,7 +84,7 @@ pub fn replaced_pieces_are_laid()
 /// Of two texts that differ in the text of one token the same events lay the same, but for the
 /// length of the leaf that has the token in it. Errors behind the token are shifted by as much as
 /// it grew; those before it come first, and none is inside of it. White space has to keep whether
-/// it has a blank line, and a token that is neither white space nor a comment has no dot.
+/// it has a blank line, and a number has no dot, before and after.
 pub fn retold_tokens_are_laid()
     ensures { RetoldTokensAreLaid }
 {}

@@ -2,7 +2,7 @@
 ghost use Rattle.std.specs.Prelude.{position, nat_eq, ◌≡◌, ◌-◌, ◌≤◌, ◌<◌, ◌^◌, ◌++◌, ◌∷◌, [], OnOk, IfOk, All, length, slice_get, option_map};
 ghost use Rattle.ras_front_end.specs.Reading.{front_step, front_steps};
 ghost use Rattle.token_layout.specs.Laid.{IsCut, Laid};
-ghost use Rattle.event_layout.specs.Layout.{laying_of, given_of, kind_of_part, len_of_part, cut_at, is_node_of, is_node_at, added, leaf_of, pass_of, pass_all_of, pass_trivia_of, join_of, joined_len, piece_of, enter_of, exit_of, exit_all_of, begin_with, begin_of, begin_at_of, fault_of, obey_of, advance_of, finish_of, root_of, outermost_of, moves, moves_of, start_of, laid_with, laid_of};
+ghost use Rattle.event_layout.specs.Layout.{laying_of, given_of, kind_of_part, len_of_part, dot_of, cut_at, is_node_of, is_node_at, added, leaf_of, pass_of, pass_all_of, pass_trivia_of, join_of, joined_len, piece_of, enter_of, exit_of, exit_all_of, begin_with, begin_of, begin_at_of, fault_of, obey_of, advance_of, finish_of, root_of, outermost_of, moves, moves_of, start_of, laid_with, laid_of};
 ghost use Rattle.event_layout.specs.Trivia.{outside_of};
 ghost use Rattle.event_layout.specs.Made.{without_trivia, only_tokens, made_of};
 
@@ -89,6 +89,16 @@ fn dot_in(text: &[u8]) -> Option<usize>
     ensures { result ≡ position (λ b. nat_eq b 46) text.now }
 {
     text.iter().position(|byte| *byte == b'.')
+}
+
+// Where the dot of a number is. No other token is cut.
+fn dot_of(kind: SyntaxKind, text: &[u8]) -> Option<usize>
+    ensures { result ≡ dot_of kind text.now }
+{
+    match kind {
+        SyntaxKind::FLOAT_NUMBER => dot_in(text),
+        _ => None,
+    }
 }
 
 // The length in bytes of a part of a number with `dot` bytes before its dot.
@@ -267,7 +277,7 @@ impl<'a> Layout<'a> {
             [] => Ok(()),
             [token, ..] => {
                 let text = part(bytes, self.position, less(token.len, self.cut));
-                self.cut_at(piece, dot_in(text))
+                self.cut_at(piece, dot_of(token.kind, text))
             }
         }
     }

@@ -16,12 +16,13 @@ use Rattle.token_layout.specs.Laid.{IsCut}
 use Rattle.grammar_machine.specs.declared.grammar.Sight.{Sight}
 use Rattle.event_layout.specs.Amid.{sum_len}
 use Rattle.event_layout.specs.Trivia.{has_blank_line, is_comment}
+use Rattle.event_layout.specs.Layout.{is_number}
 use Rattle.rust_grammar.specs.Seeing.{sights_of}
 use Rattle.rust_lexer.specs.declared.lexer.LexError.{LexError}
 use Rattle.rust_lexer.specs.Lexing.{tokens_of, errors_of}
 use Rattle.rust_lexer.proofs.Kept.{lexed}
 use Rattle.rust_front.specs.Heads.{has_head_of}
-use Rattle.rust_front.specs.Retold.{is_brace, is_brace_at, is_empty, begins_well, ends_well, stands_alone, ends_in_dot, has_no_head, is_same_token, are_same_tokens, kind_if, retold_kind, has_dot, may_be_retold, if_retold, part_of, len_of, new_len, keeps_tokens, is_same_sight, are_same_sights, is_inside, may_be_inside, retold_in, both_alone, retold_with, are_short, is_retold_of}
+use Rattle.rust_front.specs.Retold.{is_brace, is_brace_at, is_empty, begins_well, ends_well, stands_alone, ends_in_dot, has_no_head, is_same_token, are_same_tokens, kind_if, retold_kind, has_dot, keeps_lines, keeps_whole, may_be_retold, if_retold, part_of, len_of, new_len, keeps_tokens, is_same_sight, are_same_sights, is_inside, token_keeps_sort, may_be_inside, retold_in, both_alone, retold_with, are_short, is_retold_of}
 use Rattle.rust_front.specs.RetoldLaws.{IsBraceKind, BeginsInBrace, EndsInBrace, StandsAlone, OneTokenDiffers, IsRetoldAs}
 
 abbrev Tokens : Type 0
@@ -223,26 +224,20 @@ not_both : (p q : Bool) → p ≡ false → p || q ≡ true → q ≡ true
 not_both true q z h = absurd (let bad : true ≡ false = z in cc)
 not_both false q z h = h
 
-if_true : (c p q : Bool) → c ≡ true → (if c then p else q) ≡ true → p ≡ true
-if_true c p q z h = sym (ap (λ (b : Bool). if b then p else q) z) ∙ h
-
-if_false : (c p q : Bool) → c ≡ false → (if c then p else q) ≡ true → q ≡ true
-if_false c p q z h = sym (ap (λ (b : Bool). if b then p else q) z) ∙ h
-
-abbrev lines_test : SyntaxKind → List ℕ → List ℕ → Bool
-lines_test k old new = is_comment k || beq (has_blank_line old) (has_blank_line new)
-
-abbrev dots_test : List ℕ → List ℕ → Bool
-dots_test old new = not (has_dot old) && not (has_dot new)
+no_comment : (k : SyntaxKind) → is_trivia k ≡ true → is_comment k ≡ false → (not (is_trivia k) || is_comment k) ≡ false
+no_comment k t c = ap₂ (λ a b. not a || b) t c
 
 lines_same : (k : SyntaxKind) (old new : List ℕ) → may_be_retold k old new ≡ true → is_trivia k ≡ true → is_comment k ≡ false → has_blank_line old ≡ has_blank_line new
 lines_same k old new h t c =
     same_bool (has_blank_line old) (has_blank_line new)
-    (not_both (is_comment k) (beq (has_blank_line old) (has_blank_line new)) c (if_true (is_trivia k) (lines_test k old new) (dots_test old new) t h))
+    (not_both (not (is_trivia k) || is_comment k) (beq (has_blank_line old) (has_blank_line new)) (no_comment k t c)
+    (both_true (keeps_lines k old new) (keeps_whole k old new) h).0)
 
-no_dots : (k : SyntaxKind) (old new : List ℕ) → may_be_retold k old new ≡ true → is_trivia k ≡ false → (has_dot old ≡ false) × (has_dot new ≡ false)
-no_dots k old new h t =
-    let p = both_true (not (has_dot old)) (not (has_dot new)) (if_false (is_trivia k) (lines_test k old new) (dots_test old new) t h) in
+no_dots : (k : SyntaxKind) (old new : List ℕ) → may_be_retold k old new ≡ true → is_number k ≡ true → (has_dot old ≡ false) × (has_dot new ≡ false)
+no_dots k old new h n =
+    let p =
+    both_true (not (has_dot old)) (not (has_dot new))
+    (not_both (not (is_number k)) (not (has_dot old) && not (has_dot new)) (ap not n) (both_true (keeps_lines k old new) (keeps_whole k old new) h).1) in
     (not_true (has_dot old) p.0, not_true (has_dot new) p.1)
 
 differs_on : (e : Edition) (old new : List ℕ) (t : Bounds) (o : Option SyntaxKind) → IsUtf8 old → IsUtf8 new → length old < 2 ^ 32 → length new < 2 ^ 32
@@ -263,8 +258,8 @@ differs_on e old new t (Some k) u v l m some is h =
       starts = f.starts;
       new_some = some;
       lines = λ trivia comment. lines_same k part new_part h trivia comment;
-      no_dot = λ other. (no_dots k part new_part h other).0;
-      no_new_dot = λ other. (no_dots k part new_part h other).1;
+      no_dot = λ number. (no_dots k part new_part h number).0;
+      no_new_dot = λ number. (no_dots k part new_part h number).1;
     }
 
 -- ---- what the machine sees
@@ -308,9 +303,10 @@ retold_windows e before old new behind t u v h =
     let l : length old < 2 ^ 32 = is_below (length old) (2 ^ 32) short.0 in
     let m : length new < 2 ^ 32 = is_below (length new) (2 ^ 32) short.1 in
     let q = both_true (may_be_inside before old new t) (retold_with e before old new behind t) p.1 in
-    let i = both_true (is_inside before old new t) (not (ends_in_dot before) && has_no_head before new) q.0 in
+    let i = both_true (is_inside before old new t && token_keeps_sort old new t) (not (ends_in_dot before) && has_no_head before new) q.0 in
+    let inner = both_true (is_inside before old new t) (token_keeps_sort old new t) i.0 in
     let dot = both_true (not (ends_in_dot before)) (has_no_head before new) i.1 in
-    let bounds = both_true (nat_lt 0 (len_of t)) (nat_lt 0 size && (is_empty before || nat_lt 0 t.start)) i.0 in
+    let bounds = both_true (nat_lt 0 (len_of t)) (nat_lt 0 size && (is_empty before || nat_lt 0 t.start)) inner.0 in
     let sizes = both_true (nat_lt 0 size) (is_empty before || nat_lt 0 t.start) bounds.1 in
     let some : 0 < len_of t = is_below 0 (len_of t) bounds.0 in
     let w = both_true (both_alone e before old new behind) (retold_in e old new t ts us) q.1 in

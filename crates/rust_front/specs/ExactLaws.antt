@@ -1,5 +1,5 @@
 -- The steps of a piece that is read by itself build one tree over its text.
-use Rattle.std.proofs.Common.{◌≡◌, ℕ, ◌<◌, ◌^◌, List, length, refl, sym, ap, ◌∙◌, subst, Bool, true, false, Option, Some, None}
+use Rattle.std.proofs.Common.{◌≡◌, ℕ, ◌<◌, ◌^◌, List, length, refl, subst, Bool, true, false, Option, Some, None}
 use Rattle.std.specs.Prelude.{IsUtf8, nat_lt, not, ◌||◌, if◌then◌else◌, option_map}
 use Rattle.ras_front_end.specs.declared.edition.Edition.{Edition}
 use Rattle.ras_front_end.specs.declared.edition.Reparser.{Reparser}

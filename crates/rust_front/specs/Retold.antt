@@ -1,7 +1,8 @@
 -- Windows of a text in which one token is given another text.
 use Rattle.std.specs.Prelude.{ℕ, ◌-◌, ◌^◌, nat_lt, nat_le, ◌==◌, Bool, true, false, not, ◌||◌, ◌&&◌, if◌then◌else◌, Option, Some, None, List, [], ◌∷◌, length, take, drop, slice_get}
 use Rattle.std.specs.Bool.{beq}
-use Rattle.std.specs.List.{list_any}
+use Rattle.std.specs.List.{list_any, list_all}
+use Rattle.std.specs.Char.{is_ascii_alphanumeric, is_ascii_whitespace}
 use Rattle.text_size.specs.TextRange.{Bounds}
 use Rattle.syntax_kind.specs.declared.syntax_kind.SyntaxKind.{SyntaxKind}
 use Rattle.syntax_kind.specs.declared.syntax_kind.SyntaxKind.TheVariants.{Token}
@@ -11,6 +12,7 @@ use Rattle.ras_front_end.specs.declared.edition.Edition.{Edition}
 use Rattle.token_layout.specs.declared.span.Token as span
 use Rattle.grammar_machine.specs.declared.grammar.Sight.{Sight}
 use Rattle.event_layout.specs.Trivia.{has_blank_line, is_comment}
+use Rattle.event_layout.specs.Layout.{is_number}
 use Rattle.rust_grammar.specs.Seeing.{sights_of}
 use Rattle.rust_lexer.specs.declared.lexer.LexError.{LexError}
 use Rattle.rust_lexer.specs.Lexing.{tokens_of, errors_of}
@@ -81,12 +83,16 @@ retold_kind at len (t ∷ ts) (u ∷ us) =
 abbrev pub has_dot : List ℕ → Bool
 has_dot s = list_any (λ b. b == 46) s
 
--- the blank lines of white space say which comments go into the next node; comments do not matter;
--- other tokens have no dots, since the layout cuts numbers there
+-- the blank lines of white space say which comments go into the next node
+abbrev pub keeps_lines : SyntaxKind → List ℕ → List ℕ → Bool
+keeps_lines k old new = (not (is_trivia k) || is_comment k) || beq (has_blank_line old) (has_blank_line new)
+
+-- the layout cuts a number at its dot
+abbrev pub keeps_whole : SyntaxKind → List ℕ → List ℕ → Bool
+keeps_whole k old new = not (is_number k) || (not (has_dot old) && not (has_dot new))
+
 abbrev pub may_be_retold : SyntaxKind → List ℕ → List ℕ → Bool
-may_be_retold k old new =
-    if is_trivia k then is_comment k || beq (has_blank_line old) (has_blank_line new)
-    else not (has_dot old) && not (has_dot new)
+may_be_retold k old new = keeps_lines k old new && keeps_whole k old new
 
 abbrev pub if_retold : Option SyntaxKind → List ℕ → List ℕ → Bool
 if_retold None old new = false
@@ -124,9 +130,27 @@ abbrev pub is_inside : List ℕ → List ℕ → List ℕ → Bounds → Bool
 is_inside before old new t =
     nat_lt 0 (len_of t) && (nat_lt 0 (new_len old new (len_of t)) && (is_empty before || nat_lt 0 t.start))
 
+-- a byte of a name or number
+abbrev pub is_of_word : ℕ → Bool
+is_of_word b = (is_ascii_alphanumeric b || (b == 95)) || nat_le 128 b
+
+-- all bytes stay of one sort, if they were
+abbrev pub keeps_all : (ℕ → Bool) → List ℕ → List ℕ → Bool
+keeps_all p old new = not (list_all p old) || list_all p new
+
+-- white space and words stay such
+abbrev pub keeps_sort : List ℕ → List ℕ → Bool
+keeps_sort old new = keeps_all is_ascii_whitespace old new && keeps_all is_of_word old new
+
+abbrev pub token_keeps_sort : List ℕ → List ℕ → Bounds → Bool
+token_keeps_sort old new t =
+    keeps_sort (part_of old t.start (len_of t)) (part_of new t.start (new_len old new (len_of t)))
+
 -- what can be said without the tokens
 abbrev pub may_be_inside : List ℕ → List ℕ → List ℕ → Bounds → Bool
-may_be_inside before old new t = is_inside before old new t && (not (ends_in_dot before) && has_no_head before new)
+may_be_inside before old new t =
+    (is_inside before old new t && token_keeps_sort old new t)
+    && (not (ends_in_dot before) && has_no_head before new)
 
 abbrev pub retold_in : Edition → List ℕ → List ℕ → Bounds → List span.Token → List span.Token → Bool
 retold_in e old new t ts us = keeps_tokens old new t ts us && are_same_sights (sights_of e old ts) (sights_of e new us)

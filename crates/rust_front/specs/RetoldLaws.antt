@@ -9,6 +9,7 @@ use Rattle.ras_front_end.specs.declared.edition.Edition.{Edition}
 use Rattle.token_layout.specs.declared.span.Token.{Token}
 use Rattle.event_layout.specs.Amid.{sum_len}
 use Rattle.event_layout.specs.Trivia.{has_blank_line, is_comment}
+use Rattle.event_layout.specs.Layout.{is_number}
 use Rattle.rust_grammar.specs.Seeing.{sights_of}
 use Rattle.rust_lexer.specs.Lexing.{tokens_of, errors_of}
 use Rattle.rust_front.specs.Heads.{has_head_of}
@@ -55,9 +56,9 @@ pub record OneTokenDiffers (e : Edition) (old new : List ℕ) (t : Bounds) : Typ
       → has_blank_line (part_of old t.start (len_of t))
       ≡ has_blank_line (part_of new t.start (new_len old new (len_of t)))
   -- a number may be cut at its dot
-  pub no_dot : is_trivia kind ≡ false → has_dot (part_of old t.start (len_of t)) ≡ false
+  pub no_dot : is_number kind ≡ true → has_dot (part_of old t.start (len_of t)) ≡ false
   pub no_new_dot :
-      is_trivia kind ≡ false → has_dot (part_of new t.start (new_len old new (len_of t))) ≡ false
+      is_number kind ≡ true → has_dot (part_of new t.start (new_len old new (len_of t))) ≡ false
 
 -- one token of a window was given another text, which is the only difference for the machine and
 -- the layout

@@ -1,11 +1,13 @@
 //! Windows of a text in which one token is given another text.
 ghost use Rattle.std.specs.Prelude.{◌≡◌, ◌-◌, ◌<◌, ◌^◌, IfOk, length, slice_get};
+ghost use Rattle.std.specs.List.{list_all};
+ghost use Rattle.std.specs.Char.{is_ascii_whitespace};
 ghost use Rattle.token_layout.specs.Laid.{IsCut};
 ghost use Rattle.event_layout.specs.Trivia.{newlines_after, has_blank_line};
 ghost use Rattle.syntax_kind.specs.Kinds.{is_same_kind};
 ghost use Rattle.rust_grammar.specs.Seeing.{sights_of};
 ghost use Rattle.rust_lexer.specs.Lexing.{tokens_of, errors_of};
-ghost use Rattle.rust_front.specs.Retold.{is_brace, is_brace_at, begins_well, ends_well, stands_alone, ends_in_dot, has_no_head, is_same_token, are_same_tokens, retold_kind, has_dot, may_be_retold, if_retold, part_of, len_of, new_len, keeps_tokens, is_same_sight, are_same_sights, is_inside, may_be_inside, retold_in, retold_with, are_short, is_retold_of};
+ghost use Rattle.rust_front.specs.Retold.{is_brace, is_brace_at, begins_well, ends_well, stands_alone, ends_in_dot, has_no_head, is_same_token, are_same_tokens, retold_kind, has_dot, keeps_lines, keeps_whole, may_be_retold, if_retold, part_of, len_of, new_len, keeps_tokens, is_same_sight, are_same_sights, is_inside, is_of_word, keeps_sort, token_keeps_sort, may_be_inside, retold_in, retold_with, are_short, is_retold_of};
 
 use crate::exact::has_head;
 use crate::front::is_short;
@@ -176,15 +178,27 @@ fn has_blank_line(text: &[u8]) -> bool
     newlines == 2
 }
 
+// Whether white space has a blank line as before: the comments above one are not those of the next
+// item.
+fn keeps_lines(kind: SyntaxKind, old: &[u8], new: &[u8]) -> bool
+    ensures { result ≡ keeps_lines kind old.now new.now }
+{
+    (!kind.is_trivia() || matches!(kind, SyntaxKind::COMMENT))
+        || has_blank_line(old) == has_blank_line(new)
+}
+
+// Whether a token is one leaf of the tree with both texts. In `a.0.1` the number `0.1` is three.
+fn keeps_whole(kind: SyntaxKind, old: &[u8], new: &[u8]) -> bool
+    ensures { result ≡ keeps_whole kind old.now new.now }
+{
+    !matches!(kind, SyntaxKind::FLOAT_NUMBER) || (!has_dot(old) && !has_dot(new))
+}
+
 // Whether the layout of the tree is the same for both texts of a token.
 fn may_be_retold(kind: SyntaxKind, old: &[u8], new: &[u8]) -> bool
     ensures { result ≡ may_be_retold kind old.now new.now }
 {
-    if kind.is_trivia() {
-        matches!(kind, SyntaxKind::COMMENT) || has_blank_line(old) == has_blank_line(new)
-    } else {
-        !has_dot(old) && !has_dot(new)
-    }
+    keeps_lines(kind, old, new) && keeps_whole(kind, old, new)
 }
 
 // The `len` bytes from the byte `start` on, or fewer if the text ends before.
@@ -282,11 +296,41 @@ fn is_inside(before: &str, old: &str, new: &str, token: TextRange) -> bool
     0 < len && 0 < new_len(old, new, len) && (before.is_empty() || 0 < token.start().raw())
 }
 
+fn are_blank(text: &[u8]) -> bool
+    ensures { result ≡ list_all is_ascii_whitespace text.now }
+{
+    text.iter().all(|byte| byte.is_ascii_whitespace())
+}
+
+fn are_of_word(text: &[u8]) -> bool
+    ensures { result ≡ list_all is_of_word text.now }
+{
+    text.iter().all(|byte| byte.is_ascii_alphanumeric() || *byte == b'_' || *byte >= 128)
+}
+
+// Whether white space stays white space, and a word a word. With a bracket typed in the midst of a
+// name the windows need not be lexed.
+fn keeps_sort(old: &[u8], new: &[u8]) -> bool
+    ensures { result ≡ keeps_sort old.now new.now }
+{
+    (!are_blank(old) || are_blank(new)) && (!are_of_word(old) || are_of_word(new))
+}
+
+fn token_keeps_sort(old: &str, new: &str, token: TextRange) -> bool
+    ensures { result ≡ token_keeps_sort old.now new.now token }
+{
+    let start = token.start().raw() as usize;
+    let len = len_of(token);
+    let new_part = part(new.as_bytes(), start, new_len(old, new, len));
+    keeps_sort(part(old.as_bytes(), start, len), new_part)
+}
+
 // What can be said without the tokens.
 fn may_be_inside(before: &str, old: &str, new: &str, token: TextRange) -> bool
     ensures { result ≡ may_be_inside before.now old.now new.now token }
 {
-    is_inside(before, old, new, token) && !ends_in_dot(before) && has_no_head(before, new)
+    (is_inside(before, old, new, token) && token_keeps_sort(old, new, token))
+        && (!ends_in_dot(before) && has_no_head(before, new))
 }
 
 fn are_short(old: &str, new: &str) -> bool
