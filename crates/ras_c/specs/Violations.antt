@@ -14,7 +14,8 @@ use Rattle.ras_c.specs.Read.{error_row, messages_of}
 
 -- the node with a number in preorder, that of its row
 abbrev pub node_of_row : Tree → ℕ → Option Cursor
-node_of_row t n = if (nat_lt n (size t) && at_node (cursor_at t n)) then Some (cursor_at t n) else None
+node_of_row t n =
+    if (nat_lt n (size t) && at_node (cursor_at t n)) then Some (cursor_at t n) else None
 
 -- the violations at a node and at the nodes in it, as errors
 abbrev pub faults_in : Cursor → List Fault
@@ -27,7 +28,8 @@ pub record ErrorBuffers : Type 0 where
   pub counts : Counts
 
 abbrev pub error_buffers : List ErrorRow → List ℕ → Counts → ErrorBuffers
-error_buffers errors messages counts = record { errors = errors; messages = messages; counts = counts }
+error_buffers errors messages counts =
+    record { errors = errors; messages = messages; counts = counts }
 
 -- how many violations there are, and bytes of their messages
 abbrev pub counts_of : List Fault → Counts
@@ -52,7 +54,8 @@ pub record FitIn (faults : List Fault) (b : ErrorBuffers) : Type 0 where
 pub record AreListed (faults : List Fault) (before after : ErrorBuffers) : Type 0 where
   pub few : AreFew faults
   pub room : FitIn faults before
-  pub written : after ≡ error_buffers (over (map error_row faults) before.errors) (over (messages_of faults) before.messages) (counts_of faults)
+  pub written : after ≡ error_buffers (over (map error_row faults) before.errors)
+      (over (messages_of faults) before.messages) (counts_of faults)
 
 pub record AreCounted (faults : List Fault) (before after : ErrorBuffers) : Type 0 where
   pub few : AreFew faults

@@ -80,7 +80,12 @@ pub(crate) fn joined(alloc: Global, errors: &[SyntaxError]) -> Result<String, Al
 }
 
 /// The counts of a report, or `None` if one of them has more than 32 bits.
-pub(crate) fn counts_of(rows: usize, errors: usize, violations: usize, messages: usize) -> Option<Counts>
+pub(crate) fn counts_of(
+    rows: usize,
+    errors: usize,
+    violations: usize,
+    messages: usize,
+) -> Option<Counts>
     ensures some { IfSome result (λ c. c ≡ record { rows = rows; errors = errors; violations = violations; messages = messages }) }
     ensures fits { IfSome result (λ _. (rows < 2 ^ 32) × (errors < 2 ^ 32) × (messages < 2 ^ 32)) }
     ensures none { result ≡ None → rows < 2 ^ 32 → errors < 2 ^ 32 → violations < 2 ^ 32 → messages < 2 ^ 32 → ⊥ }

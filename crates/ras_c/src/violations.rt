@@ -93,13 +93,16 @@ fn list_in(
     messages: &mut [u8],
     counts: &mut Counts,
 ) -> u32
-    ensures done { result ≡ 0 → IfSome (node_of_row parse.now.tree row) (λ c. AreListed (faults_in c)
+    ensures done { result ≡ 0
+        → IfSome (node_of_row parse.now.tree row) (λ c. AreListed (faults_in c)
         (error_buffers errors.old messages.old counts.old)
         (error_buffers errors.new messages.new counts.new)) }
-    ensures room { result ≡ 4 → IfSome (node_of_row parse.now.tree row) (λ c. AreCounted (faults_in c)
+    ensures room { result ≡ 4
+        → IfSome (node_of_row parse.now.tree row) (λ c. AreCounted (faults_in c)
         (error_buffers errors.old messages.old counts.old)
         (error_buffers errors.new messages.new counts.new)) }
-    ensures long { result ≡ 2 → IfSome (node_of_row parse.now.tree row) (λ c. AreFew (faults_in c) → ⊥) }
+    ensures long { result ≡ 2
+        → IfSome (node_of_row parse.now.tree row) (λ c. AreFew (faults_in c) → ⊥) }
     ensures kept { (result ≡ 0 → ⊥) → (result ≡ 4 → ⊥)
         → error_buffers errors.new messages.new counts.new
         ≡ error_buffers errors.old messages.old counts.old }
