@@ -5,9 +5,10 @@
 //! (`violations_stand_together`, a law of the crate `ras_validation`, for each row of a tree). What this file does rests on two things more,
 //! which are read off the rules and tested, but not proved:
 //!
-//! - Outside of [`changed_part`] an edit only moves violations. Of what is in a node, a rule at a node around it looks at texts in two levels
-//!   below alone: the token of a literal, and the number in the `NAME_REF` of a field. And of what is in a block it looks only at the inner
-//!   attributes in the `STMT_LIST` of a `BLOCK_EXPR`. The part begins above both. The rules at nodes beside it look at kinds, which stay.
+//! - Outside of [`changed_part`] an edit only moves violations. The rules look at the text of the token of a `LITERAL`, and at that of the
+//!   number that names the field of a `FIELD_EXPR` or a `RECORD_EXPR_FIELD`; of all else they look at kinds, and at which children there are.
+//!   Another text of a token changes none of these, and what is new in a block does so in the block alone, in which a rule at a node around it
+//!   looks only for the inner attributes in the `STMT_LIST` of a `BLOCK_EXPR`. The part has each such node in it.
 //! - Of the violations outside of that part, those at nodes behind it have ranges behind it, and the others have not, nor in it. For a violation
 //!   has the range of its node, or of what is in the node; and where that may be something in the part, or behind it, the part is larger.
 use crate::SyntaxKind;
@@ -41,12 +42,12 @@ const WITH_TEXTS: [SyntaxKind; 6] = [
     SyntaxKind::STRING,
 ];
 
-// The row of the node in which alone violations may come and go when the node of a row is read again, or one of its tokens. It is around that
-// node, and has the same row in the new tree.
+// The row of the node at which, and in which, alone violations may come and go when the node of a row is read again, or one of its tokens. It
+// is that node or one around it, and has the same row in the new tree.
 fn changed_part(tree: &Tree, row: u32) -> u32 {
-    let parent = tree.parent_of(row).unwrap_or(row);
-    let around = successors(Some(parent), |it| tree.parent_of(*it));
-    let mut part = around.filter(|it| WITH_RANGES_OF_CHILDREN.contains(&tree.kind_of(*it))).last().unwrap_or(parent);
+    let around = successors(Some(row), |it| tree.parent_of(*it));
+    let mut part = around.filter(|it| WITH_RANGES_OF_CHILDREN.contains(&tree.kind_of(*it))).last().unwrap_or(row);
+    // What breaks a rule at a block is an attribute in its list.
     while matches!(tree.kind_of(part), SyntaxKind::ATTR | SyntaxKind::STMT_LIST) {
         let Some(above) = tree.parent_of(part) else {
             break;
