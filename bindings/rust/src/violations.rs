@@ -1,24 +1,26 @@
 //! What breaks rules beyond the grammar, after an edit that left all of a tree but one node or token as it was.
 //!
-//! The library lists the violations of a tree in preorder of the nodes that they are at. So those at the nodes of one subtree stand together
-//! in the list: those at the nodes before it in preorder, which has those around it, precede them, and those at the nodes behind it follow
-//! (`violations_stand_together`, a law of the crate `ras_validation`, for each row of a tree). What this file does rests on two things more,
-//! which are read off the rules and tested, but not proved:
+//! The library lists the violations of a tree in preorder of the nodes that they are at. So those at the nodes of one subtree stand
+//! together in the list: those at the nodes before it in preorder, which has those around it, precede them, and those at the nodes behind
+//! it follow (`violations_stand_together`, a law of the crate `ras_validation`, for each row of a tree). What this file does rests on two
+//! things more, which are read off the rules and tested, but not proved:
 //!
 //! - Outside of [`changed_part`] an edit only moves violations. The rules look at the text of the token of a `LITERAL`, and at that of the
-//!   number that names the field of a `FIELD_EXPR` or a `RECORD_EXPR_FIELD`; of all else they look at kinds, and at which children there are.
-//!   Another text of a token changes none of these, and what is new in a block does so in the block alone, in which a rule at a node around it
-//!   looks only for the inner attributes in the `STMT_LIST` of a `BLOCK_EXPR`. The part has each such node in it.
-//! - Of the violations outside of that part, those at nodes behind it have ranges behind it, and the others have not, nor in it. For a violation
-//!   has the range of its node, or of what is in the node; and where that may be something in the part, or behind it, the part is larger.
+//!   number that names the field of a `FIELD_EXPR` or a `RECORD_EXPR_FIELD`; of all else they look at kinds, and at which children there
+//!   are. Another text of a token changes none of these, and what is new in a block does so in the block alone, in which a rule at a node
+//!   around it looks only for the inner attributes in the `STMT_LIST` of a `BLOCK_EXPR`. The part has each such node in it.
+//! - Of the violations outside of that part, those at nodes behind it have ranges behind it, and the others have not, nor in it. For a
+//!   violation has the range of its node, or of what is in the node; and where that may be something in the part, or behind it, the part is
+//!   larger.
 use crate::SyntaxKind;
 use crate::iter::rows_of_children;
 use crate::range::{TextRange, TextSize};
 use crate::tree::{SyntaxError, Tree};
 use std::iter::successors;
 
-// The kinds of nodes at which a violation may have the range of a child, or of what is in a child. An attribute's range is that of one at the
-// block that it is in. Of a block itself this need not be told: what is in its list but not in an attribute has no inner attribute behind it.
+// The kinds of nodes at which a violation may have the range of a child, or of what is in a child. An attribute's range is that of one at
+// the block that it is in. Of a block itself this need not be told: what is in its list but not in an attribute has no inner attribute
+// behind it.
 const WITH_RANGES_OF_CHILDREN: [SyntaxKind; 10] = [
     SyntaxKind::ATTR,
     SyntaxKind::CONST,
@@ -42,8 +44,8 @@ const WITH_TEXTS: [SyntaxKind; 6] = [
     SyntaxKind::STRING,
 ];
 
-// The row of the node at which, and in which, alone violations may come and go when the node of a row is read again, or one of its tokens. It
-// is that node or one around it, and has the same row in the new tree.
+// The row of the node at which, and in which, alone violations may come and go when the node of a row is read again, or one of its
+// tokens. It is that node or one around it, and has the same row in the new tree.
 fn changed_part(tree: &Tree, row: u32) -> u32 {
     let around = successors(Some(row), |it| tree.parent_of(*it));
     let mut part = around.filter(|it| WITH_RANGES_OF_CHILDREN.contains(&tree.kind_of(*it))).last().unwrap_or(row);
@@ -66,7 +68,8 @@ pub(crate) struct Violations {
     // The part of the tree in which alone they may be others, and its range in the older text.
     part: u32,
     part_was: TextRange,
-    // The kinds of the node that was read again and of the token in it, and its row, if the range is that of a token whose text no rule reads.
+    // The kinds of the node that was read again and of the token in it, and its row, if the range is that of a token whose text no rule
+    // reads.
     token: Option<(u32, [SyntaxKind; 2])>,
     node: u32,
     rows: usize,
@@ -111,7 +114,8 @@ impl Violations {
         })
     }
 
-    // How many violations are at nodes before the part, and where those at nodes behind it begin; or `None` if they are not in this order.
+    // How many violations are at nodes before the part, and where those at nodes behind it begin; or `None` if they are not in this
+    // order.
     fn outside(&self) -> Option<(usize, usize)> {
         let part = self.part_was;
         let place = |it: &SyntaxError| match it.range() {

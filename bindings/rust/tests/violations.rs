@@ -1,4 +1,4 @@
-//! What breaks rules beyond the grammar, in texts that are edited: after each edit a tree has the violations that a new parse of the text finds.
+//! What breaks rules beyond the grammar, in texts that are edited: a tree has the violations that a new parse of its text finds.
 use ras::{Edition, Entry, Errors, Live, SyntaxKind, TextRange, Tree};
 
 // Each rule, kept and broken, in places where what breaks it is before, in or behind what is edited.
