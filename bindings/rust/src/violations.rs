@@ -130,7 +130,7 @@ impl Violations {
 
     // A violation of the older text where it is in the new one.
     fn moved(&self, violation: &SyntaxError) -> SyntaxError {
-        let place = |at: TextSize| if at < self.was.end() { at } else { at + self.is.len() - self.was.len() };
+        let place = |at: TextSize| if at < self.was.end() { at } else { at - self.was.len() + self.is.len() };
         let range = violation.range();
         violation.clone().with_range(TextRange::new(place(range.start()), place(range.end())))
     }

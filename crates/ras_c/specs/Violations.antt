@@ -1,7 +1,8 @@
 -- The violations at the nodes of one subtree, in the buffers of the caller, and their numbers.
-use Rattle.std.specs.Prelude.{◌≡◌, ℕ, ◌<◌, ◌≤◌, ◌^◌, nat_lt, ◌&&◌, if◌then◌else◌, List, length, map, Option, Some, None}
+use Rattle.std.specs.Prelude.{◌≡◌, ℕ, ◌<◌, ◌≤◌, ◌^◌, nat_lt, if◌then◌else◌, List, length, map, Option, None, IfSome}
 use Rattle.tree_model.specs.Tree.{Tree, size}
-use Rattle.tree_model.specs.Cursor.{Cursor, cursor_at, at_node}
+use Rattle.tree_model.specs.Cursor.{Cursor, cursor_at}
+use Rattle.lossless_tree.specs.Element.{element_of, node_part}
 use Rattle.ras_front_end.specs.Fault.{Fault}
 use Rattle.ras_validation.specs.Violations.{violations_of}
 use Rattle.ras_parsing.specs.AllErrors.{violation_fault}
@@ -14,8 +15,7 @@ use Rattle.ras_c.specs.Read.{error_row, messages_of}
 
 -- the node with a number in preorder, that of its row
 abbrev pub node_of_row : Tree → ℕ → Option Cursor
-node_of_row t n =
-    if (nat_lt n (size t) && at_node (cursor_at t n)) then Some (cursor_at t n) else None
+node_of_row t n = if nat_lt n (size t) then node_part (element_of (cursor_at t n)) else None
 
 -- the violations at a node and at the nodes in it, as errors
 abbrev pub faults_in : Cursor → List Fault
@@ -62,7 +62,8 @@ pub record AreCounted (faults : List Fault) (before after : ErrorBuffers) : Type
   pub short : FitIn faults before → ⊥
   pub written : after ≡ error_buffers before.errors before.messages (counts_of faults)
 
--- a handle has a parse, and its tree a node with a number, in which the violations have a property
-pub record HoldsFaultsIn (row : ℕ) (held : Option Kept) (P : List Fault → Type 0) : Type 0 where
-  pub node : Cursor
-  pub holds : Holds held (λ p. (node_of_row p.tree row ≡ Some node) × P (faults_in node))
+-- a handle has a parse, in whose tree the violations at the node of a row and in it have a property,
+-- if there is such a node
+abbrev pub HoldsFaultsIn : ℕ → Option Kept → (List Fault → Type 0) → Type 0
+HoldsFaultsIn row held P =
+    Holds held (λ p. IfSome (node_of_row p.tree row) (λ c. P (faults_in c)))

@@ -10,7 +10,7 @@ use crate::held::{put, take};
 use crate::read::{Counts, ErrorRow, counts_of, error_rows, joined};
 use crate::root::Root;
 use crate::status::{NO_MEMORY, NO_PARSE, NO_PLACE, NO_ROOM, OK, TOO_LONG};
-use lossless_tree::{NodeOrToken, SyntaxNode};
+use lossless_tree::SyntaxNode;
 use ras_front_end::SyntaxError;
 use ras_parsing::Parse;
 use ras_validation::{Violation, violations_in};
@@ -21,8 +21,8 @@ fn node_of_row(parse: &Parse<Root>, row: usize) -> Option<SyntaxNode>
     ensures { result ≡ node_of_row parse.now.tree row }
 {
     match parse.root().element_at_row(row) {
-        Some(NodeOrToken::Node(node)) => Some(node),
-        _ => None,
+        Some(element) => element.into_node(),
+        None => None,
     }
 }
 
