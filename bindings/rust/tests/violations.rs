@@ -2,7 +2,10 @@
 use ras::{Edition, Entry, Errors, Live, SyntaxKind, TextRange, Tree};
 
 // Each rule, kept and broken, in places where what breaks it is before, in or behind what is edited.
-const TEXTS: [&str; 13] = [
+const TEXTS: [&str; 16] = [
+    "static S: &str = \"\\q\";\nstatic T: T = (1, \"\\q\", b\"\\q\", c\"\\q\", 'ab', b'\\q', a.0x1, [\"\\z\"].0x2);\nstatic U: U = \"\\q\".1_0;",
+    "static A: A = { fn g() { \"\\q\" } b }.0x1;\nfn f() { { fn g() { 'ab' } b }.1_0; S { 0x1: { fn h() { \"\\q\" } 1 } } }",
+    "static A: fn([u8; { fn g() { \"\\q\" } 1 }]) -> dyn A + B = C;\n#[a = { fn g() { 'ab' } }] pub macro_rules! m { }\nconst mut B: [u8; { fn g() { \"\\q\" } 1 }] = C;",
     "fn f() { g(\"\\q\", b\"\\q\", c\"\\q\", '\\q', b'\\q', b\"é\", \"a\\n\", r\"\\q\", 'ab', \"\\u{110000}\"); h(\"\\z\\y\") }\nfn g() { \"\\q\" }",
     "#[a = \"\\q\"] const mut X: u8 = { \"\\q\"; 1 };\nconst Y: &str = \"\\q\";\nimpl S { const mut Z: [u8; { 'ab'; 1 }] = [1]; }",
     "fn f() { let x = { #![a = \"\\q\"] #![b] #![c(\"\\q\")] \"\\q\"; 1 }; let y = { #![d] { #![e] 2 } }; if x { #![f] y } else { 'ab' } }",
