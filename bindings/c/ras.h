@@ -91,7 +91,7 @@ void rattle_dealloc(void *at);
 /* The edition is not 2015, 2018, 2021 or 2024. Nothing was written. */
 #define RAS_NO_EDITION 5u
 
-/* The text has no such range. Nothing was written. */
+/* The text has no such range, or its tree no such node. Nothing was written. */
 #define RAS_NO_PLACE 6u
 
 /* The handle holds no parse. Nothing was written. */
@@ -119,7 +119,7 @@ void rattle_dealloc(void *at);
 #define RAS_FAULT 64u
 
 /* A number made of the kinds, constants, structs and calls of the library. Bindings that know another number were made for others. */
-#define RAS_VERSION 784081670u
+#define RAS_VERSION 3372460805u
 
 /* The statuses of a wrong escape or character. */
 enum ras_fault {
@@ -952,6 +952,25 @@ uint32_t ras_c_int_value(
     size_t text_len,
     uint64_t *high,
     uint64_t *low);
+
+/*
+ * Writes the violations of rules beyond the grammar at the node of a row of a handle's parse, and
+ * at the nodes in it: a part of those of the whole parse, which stand together in them, in the
+ * same order, with positions in the whole text. It walks through this node alone. A row's number
+ * is that in the rows of the whole parse, such as those of ras_c_rows. The counts have no rows.
+ * The handle keeps its parse.
+ *
+ * Returns RAS_OK, RAS_TOO_LONG, RAS_NO_MEMORY, RAS_NO_ROOM, RAS_NO_PARSE if the handle holds no
+ * parse, or RAS_NO_PLACE if the tree has no such row, or that of a token.
+ */
+uint32_t ras_c_violations_at(
+    ras_handle *handle,
+    uint32_t row,
+    ras_error_row *errors,
+    size_t errors_len,
+    uint8_t *messages,
+    size_t messages_len,
+    ras_counts *counts);
 
 /*
  * What a text is as one word of an edition, such as 2024. A text that is no word, as a b, is

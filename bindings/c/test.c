@@ -374,6 +374,43 @@ static void tells_what_is_new(void) {
     owes(held == 0, "a freed handle holds nothing");
 }
 
+static uint32_t violations_at(ras_handle *handle, uint32_t row, size_t error_room, size_t message_room, ras_counts *counts) {
+    return ras_c_violations_at(handle, row, errors, error_room, messages, message_room, counts);
+}
+
+/* The violations in a node are those of the whole tree that are there, in the same order. */
+static void tells_violations_of_a_part(void) {
+    static const char text[] = "fn f() { \"\\q\" }\nfn g() { \"\\z\"; (let a = '') }\nfn h() { 1 + }";
+    ras_handle live = {0};
+    ras_counts counts = {9, 9, 9, 9}, all, none;
+    owes(violations_at(&live, 0, ERRORS, MESSAGES, &counts) == RAS_NO_PARSE && counts.errors == 9, "an empty handle has no violations");
+    owes(ras_c_parse(BYTES(text), 2024, &live) == RAS_OK, "a text is parsed");
+    owes(ras_c_rows_as(&live, RAS_VIOLATIONS, rows, ROWS, errors, ERRORS, messages, MESSAGES, &all) == RAS_OK && all.violations == 4, "it has four");
+    ras_error_row whole[4];
+    uint8_t texts[MESSAGES];
+    memcpy(whole, errors, sizeof whole);
+    memcpy(texts, messages, all.messages);
+    owes(violations_at(&live, 0, ERRORS, MESSAGES, &counts) == RAS_OK && counts.rows == 0 && counts.errors == 4 && counts.violations == 4
+        && counts.messages == all.messages && !memcmp(errors, whole, sizeof whole) && !memcmp(messages, texts, all.messages), "the root has all");
+    uint32_t second = rows[1].subtree_end;
+    while (rows[second].kind != RAS_KIND_FN) second = rows[second].subtree_end;
+    owes(violations_at(&live, second, ERRORS, MESSAGES, &counts) == RAS_OK && counts.errors == 3 && counts.violations == 3
+        && counts.messages == all.messages - whole[0].message && !memcmp(errors, whole + 1, 3 * sizeof *whole)
+        && !memcmp(messages, texts + whole[0].message, counts.messages), "the second function has the others");
+    none = counts;
+    memset(errors, 7, sizeof whole);
+    owes(violations_at(&live, second, 2, MESSAGES, &counts) == RAS_NO_ROOM && counts.errors == 3 && errors[0].start == 0x07070707, "two errors have no room");
+    owes(violations_at(&live, second, ERRORS, none.messages - 1, &counts) == RAS_NO_ROOM && counts.messages == none.messages
+        && errors[0].start == 0x07070707, "nor has a message less");
+    owes(violations_at(&live, second, 3, none.messages, &counts) == RAS_OK && errors[0].start == whole[1].start, "so much room is enough");
+    counts = (ras_counts){9, 9, 9, 9};
+    owes(violations_at(&live, second + 1, ERRORS, MESSAGES, &counts) == RAS_NO_PLACE && violations_at(&live, all.rows, ERRORS, MESSAGES, &counts) == RAS_NO_PLACE
+        && violations_at(&live, UINT32_MAX, ERRORS, MESSAGES, &counts) == RAS_NO_PLACE && counts.errors == 9, "a token has none, nor is there such a row");
+    owes(tells(&live, text), "the handle keeps its parse");
+    ras_c_free(&live);
+    owes(held == 0, "a freed handle holds nothing");
+}
+
 /* Edits of a name, in a block and before all, at a heap that may refuse: each is done, or leaves the handle as it was. */
 static void refuses_edits(void) {
     static const struct { uint32_t start, end; const char *insert, *text; } steps[] = {
@@ -401,14 +438,17 @@ static void refuses_edits(void) {
     owes(held == 0, "a handle leaves no block behind");
 }
 
-/* The rows of a part, likewise. */
+/* The rows and the violations of a part, likewise. */
 static void refuses_parts(void) {
     ras_handle live = {0};
     ras_counts counts = {9, 9, 9, 9};
-    uint32_t status = ras_c_parse(BYTES(OLD), 2024, &live);
+    uint32_t status = ras_c_parse(BYTES("fn foo() { let x = \"\\q\"; }"), 2024, &live);
     if (status == RAS_OK) {
         status = rows_at(&live, RAS_ALL_ERRORS, 9, 23, ROWS, &counts);
         owes(status == RAS_OK || (status == RAS_NO_MEMORY && counts.rows == 9), "the rows of a part are told or refused");
+        counts = (ras_counts){9, 9, 9, 9};
+        status = violations_at(&live, 0, ERRORS, MESSAGES, &counts);
+        owes(status == RAS_OK ? counts.violations == 1 : status == RAS_NO_MEMORY && counts.rows == 9, "violations are told or refused");
     }
     ras_c_free(&live);
     owes(held == 0, "a handle leaves no block behind");
@@ -461,6 +501,7 @@ int main(void) {
     values();
     edits();
     tells_what_is_new();
+    tells_violations_of_a_part();
     asked = 0;
     refuses();
     long all = asked;

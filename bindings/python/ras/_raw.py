@@ -55,7 +55,7 @@ NO_ROOM = 4
 # The edition is not 2015, 2018, 2021 or 2024. Nothing was written.
 NO_EDITION = 5
 
-# The text has no such range. Nothing was written.
+# The text has no such range, or its tree no such node. Nothing was written.
 NO_PLACE = 6
 
 # The handle holds no parse. Nothing was written.
@@ -81,7 +81,7 @@ TOO_LARGE = 10
 FAULT = 64
 
 # A number made of the kinds, constants, structs and calls of the library. Bindings that know another number were made for others.
-VERSION = 784081670
+VERSION = 3372460805
 
 # What can be wrong with an escape or a character: the names and the messages, from the status FAULT on.
 FAULTS = [
@@ -248,6 +248,8 @@ def declare(library):
     library.ras_c_byte_value.restype = ctypes.c_uint32
     library.ras_c_int_value.argtypes = [ctypes.c_void_p, ctypes.c_size_t, ctypes.c_void_p, ctypes.c_void_p]
     library.ras_c_int_value.restype = ctypes.c_uint32
+    library.ras_c_violations_at.argtypes = [ctypes.c_void_p, ctypes.c_uint32, ctypes.c_void_p, ctypes.c_size_t, ctypes.c_void_p, ctypes.c_size_t, ctypes.c_void_p]
+    library.ras_c_violations_at.restype = ctypes.c_uint32
     library.ras_c_word.argtypes = [ctypes.c_void_p, ctypes.c_size_t, ctypes.c_uint32, ctypes.c_void_p]
     library.ras_c_word.restype = ctypes.c_uint32
     library.ras_c_version.argtypes = []

@@ -54,7 +54,7 @@ pub const NO_ROOM: u32 = 4;
 /// The edition is not 2015, 2018, 2021 or 2024. Nothing was written.
 pub const NO_EDITION: u32 = 5;
 
-/// The text has no such range. Nothing was written.
+/// The text has no such range, or its tree no such node. Nothing was written.
 pub const NO_PLACE: u32 = 6;
 
 /// The handle holds no parse. Nothing was written.
@@ -80,7 +80,7 @@ pub const TOO_LARGE: u32 = 10;
 pub const FAULT: u32 = 64;
 
 /// A number made of the kinds, constants, structs and calls of the library. Bindings that know another number were made for others.
-pub const VERSION: u32 = 784081670;
+pub const VERSION: u32 = 3372460805;
 
 /// One node or token, in 16 bytes. Rows are numbered from 0 in preorder.
 #[repr(C)]
@@ -526,6 +526,24 @@ unsafe extern "C" {
         text_len: usize,
         high: *mut u64,
         low: *mut u64,
+    ) -> u32;
+
+    /// Writes the violations of rules beyond the grammar at the node of a row of a handle's parse, and
+    /// at the nodes in it: a part of those of the whole parse, which stand together in them, in the
+    /// same order, with positions in the whole text. It walks through this node alone. A row's number
+    /// is that in the rows of the whole parse, such as those of `ras_c_rows`. The counts have no rows.
+    /// The handle keeps its parse.
+    ///
+    /// Returns [`OK`], [`TOO_LONG`], [`NO_MEMORY`], [`NO_ROOM`], [`NO_PARSE`] if the handle holds no
+    /// parse, or [`NO_PLACE`] if the tree has no such row, or that of a token.
+    pub fn ras_c_violations_at(
+        handle: *mut Handle,
+        row: u32,
+        errors: *mut ErrorRow,
+        errors_len: usize,
+        messages: *mut u8,
+        messages_len: usize,
+        counts: *mut Counts,
     ) -> u32;
 
     /// What a text is as one word of an edition, such as 2024. A text that is no word, as `a b`, is

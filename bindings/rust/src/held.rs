@@ -1,6 +1,7 @@
 //! A parse that stays with the library.
 use crate::range::TextRange;
-use crate::tree::{Edition, Errors, ParseError, Room, Tree, answered};
+use crate::tree::{Edition, Errors, ParseError, Room, SyntaxError, Tree, answered};
+use crate::violations::Violations;
 use ras_sys::{self as raw, Counts, Handle, Range};
 use std::ptr;
 
@@ -83,17 +84,50 @@ impl Held {
         }
     }
 
-    /// The tree of the parse, which is one of this text, from an older one, where at most one node or token was read again since, that was
-    /// at a range of the older text and now is at another. `None` if the older tree has none there.
-    pub(crate) fn tree_after(&mut self, old: Tree, was: TextRange, is: TextRange, text: &str, errors: Errors) -> Result<Option<Tree>, ParseError> {
+    // What breaks rules beyond the grammar at the node of a row, and at the nodes in it.
+    fn violations_at(&mut self, row: u32) -> Result<Box<[SyntaxError]>, ParseError> {
+        let (_, errors) = Tree::told_parts(Room::of(0), |room, counts| {
+            // SAFETY: both buffers are borrowed for the call, with their lengths, and do not overlap; the handle is this value's own.
+            unsafe {
+                raw::ras_c_violations_at(
+                    &mut self.0,
+                    row,
+                    room.errors.as_mut_ptr(),
+                    room.errors.capacity(),
+                    room.messages.as_mut_ptr(),
+                    room.messages.capacity(),
+                    counts,
+                )
+            }
+        })?;
+        Ok(errors)
+    }
+
+    /// The tree of the parse, which is one of this text, from an older one that has the errors of a choice, where at most one node or token
+    /// was read again since, that was at a range of the older text and now is at another. `None` if the older tree has none there.
+    pub(crate) fn tree_after(
+        &mut self,
+        (old, had): (Tree, Errors),
+        (was, is): (TextRange, TextRange),
+        text: &str,
+        errors: Errors,
+    ) -> Result<Option<Tree>, ParseError> {
         let Some(row) = old.read_again(was) else {
             return Ok(None);
         };
+        // The violations that the older tree has are not looked for again but in a part.
+        let violations = (had.has_violations() && errors.has_violations()).then(|| Violations::of(&old, row, was, is));
+        let told = if violations.is_some() { errors.without_violations() } else { errors };
         let mut counts = Counts { rows: 0, errors: 0, violations: 0, messages: 0 };
         // Without errors this only counts the rows.
         answered(self.rows_at(Errors::Nothing, is, &mut Room::counted(&counts), &mut counts))?;
         let room = Room::like(counts.rows as usize, old.errors());
-        old.with_node(text.into(), row, room, |room, counts| self.rows_at(errors, is, room, counts)).map(Some)
+        let tree = old.with_node(text.into(), row, room, |room, counts| self.rows_at(told, is, room, counts))?;
+        let Some(violations) = violations else {
+            return Ok(Some(tree));
+        };
+        let violations = violations.after(&tree, |row| self.violations_at(row))?;
+        Ok(Some(tree.with_errors(violations)))
     }
 }
 

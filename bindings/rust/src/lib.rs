@@ -50,6 +50,7 @@ pub mod unescape;
 pub mod utils;
 mod values;
 mod version;
+mod violations;
 
 pub use ast::{AstNode, AstToken, SourceFile};
 pub use either::Either;

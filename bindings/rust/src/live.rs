@@ -154,7 +154,11 @@ impl Live {
     /// If there was no edit since the last call, it is the tree that this gave. If one block was parsed again, the library hands over the
     /// rows of this block alone, and if one token got another text those of the node that has it as a child; the rest comes from that
     /// tree: it is copied, if that tree is still in use, and moved otherwise. Else the library hands over all rows. Each way takes time
-    /// linear in the text, and so does the search for what breaks rules beyond the grammar, unless [`Live::tree_with`] leaves it out.
+    /// linear in the text.
+    ///
+    /// Likewise for what breaks rules beyond the grammar: if that tree has it, it is looked for again in a part around the block or the
+    /// token alone, such as the function that a block is the body of, and not at all if a name, white space or a comment got another text.
+    /// Else it is looked for in the whole tree, unless [`Live::tree_with`] leaves it out.
     pub fn tree(&self) -> Result<Tree, ParseError> {
         self.tree_with(Errors::All)
     }
@@ -168,7 +172,9 @@ impl Live {
             }
         }
         let after = match last.take() {
-            Some(Last { tree, since: Since::Node { was, is }, .. }) => held.tree_after(tree, was, is, &self.text, errors)?,
+            Some(Last { tree, errors: had, since: Since::Node { was, is } }) => {
+                held.tree_after((tree, had), (was, is), &self.text, errors)?
+            }
             _ => None,
         };
         let tree = match after {

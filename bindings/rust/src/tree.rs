@@ -247,6 +247,18 @@ impl Errors {
             Errors::All => raw::ALL_ERRORS,
         }
     }
+
+    // Whether what breaks rules beyond the grammar is among them, and those that are left without that.
+    pub(crate) fn has_violations(self) -> bool {
+        matches!(self, Errors::Violations | Errors::All)
+    }
+
+    pub(crate) fn without_violations(self) -> Errors {
+        match self {
+            Errors::Nothing | Errors::Violations => Errors::Nothing,
+            Errors::Parse | Errors::All => Errors::Parse,
+        }
+    }
 }
 
 // What the number of a token's kind has more than that of a node's.
@@ -403,7 +415,7 @@ impl Tree {
     }
 
     // The rows and the errors from such a call.
-    fn told_parts(
+    pub(crate) fn told_parts(
         mut room: Room,
         mut call: impl FnMut(&mut Room, &mut Counts) -> u32,
     ) -> Result<(Vec<FlatRow>, Box<[SyntaxError]>), ParseError> {
@@ -440,6 +452,13 @@ impl Tree {
         rows.reserve_exact(count.saturating_sub(rows.len()));
         splice(&mut rows, row, &new, longer);
         Ok(Tree(Arc::new(Inner { text, edition, rows: rows.into(), errors })))
+    }
+
+    // The same tree, of which there is no other share yet, with further errors behind those that it has.
+    pub(crate) fn with_errors(mut self, more: Vec<SyntaxError>) -> Tree {
+        let inner = Arc::get_mut(&mut self.0).expect("a tree that was just made has one share");
+        inner.errors = std::mem::take(&mut inner.errors).into_iter().chain(more).collect();
+        self
     }
 
     // The tree of a text and its rows, which no parse made: it has no errors of its own.

@@ -8,3 +8,4 @@ pub mod Parens
 pub mod Values
 pub mod Words
 pub mod Rewriting
+pub mod Violations

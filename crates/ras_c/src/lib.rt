@@ -21,4 +21,5 @@ mod status;
 mod tokens;
 mod values;
 mod version;
+mod violations;
 mod words;

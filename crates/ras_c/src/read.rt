@@ -56,7 +56,8 @@ fn error_row(error: &SyntaxError) -> ErrorRow
     }
 }
 
-fn error_rows(alloc: Global, errors: &[SyntaxError]) -> Result<Vec<ErrorRow>, AllocError>
+/// Errors as rows, in order.
+pub(crate) fn error_rows(alloc: Global, errors: &[SyntaxError]) -> Result<Vec<ErrorRow>, AllocError>
     requires { length (messages_of errors.now) < 2 ^ 32 }
     ensures { IfOk result (λ v. v.items ≡ map error_row errors.now) }
 {
@@ -67,7 +68,8 @@ fn error_rows(alloc: Global, errors: &[SyntaxError]) -> Result<Vec<ErrorRow>, Al
     Ok(rows)
 }
 
-fn joined(alloc: Global, errors: &[SyntaxError]) -> Result<String, AllocError>
+/// The messages of errors, one after another.
+pub(crate) fn joined(alloc: Global, errors: &[SyntaxError]) -> Result<String, AllocError>
     ensures { IfOk result (λ s. string_bytes s ≡ messages_of errors.now) }
 {
     let mut messages = String::new(alloc);
@@ -77,7 +79,13 @@ fn joined(alloc: Global, errors: &[SyntaxError]) -> Result<String, AllocError>
     Ok(messages)
 }
 
-fn counts_of(rows: usize, errors: usize, violations: usize, messages: usize) -> Option<Counts>
+/// The counts of a report, or `None` if one of them has more than 32 bits.
+pub(crate) fn counts_of(
+    rows: usize,
+    errors: usize,
+    violations: usize,
+    messages: usize,
+) -> Option<Counts>
     ensures some { IfSome result (λ c. c ≡ record { rows = rows; errors = errors; violations = violations; messages = messages }) }
     ensures fits { IfSome result (λ _. (rows < 2 ^ 32) × (errors < 2 ^ 32) × (messages < 2 ^ 32)) }
     ensures none { result ≡ None → rows < 2 ^ 32 → errors < 2 ^ 32 → violations < 2 ^ 32 → messages < 2 ^ 32 → ⊥ }
