@@ -3,3 +3,4 @@ pub mod Lookups
 pub mod Messages
 pub mod Rules
 pub mod Violations
+pub mod Plain

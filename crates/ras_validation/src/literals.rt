@@ -1,10 +1,12 @@
 //! Faults of literals.
-ghost use Rattle.std.specs.Prelude.{◌≡◌, ◌+◌, ◌<◌, ◌≤◌, ◌^◌, ◌++◌, length, flat_map, OnOk, IfSome, option_map};
+ghost use Rattle.std.specs.Prelude.{◌≡◌, true, ◌+◌, ◌<◌, ◌≤◌, ◌^◌, ◌++◌, length, flat_map, OnOk, IfSome, option_map};
 ghost use Rattle.std.specs.Str.{chars};
+ghost use Rattle.literal_escape.specs.Literal.{is_string};
 ghost use Rattle.literal_escape.specs.Reading.{reports_in};
 ghost use Rattle.tree_model.specs.Tree.{text};
 ghost use Rattle.tree_model.specs.Cursor.{focus};
 ghost use Rattle.ras_node.specs.Nodes.{kind_at};
+ghost use Rattle.ras_validation.specs.Plain.{stands_for_itself, is_plain};
 ghost use Rattle.ras_validation.specs.Violations.{fault_at, report_fault, content_faults, form_of, content_of, token_faults, literal_faults};
 
 use crate::lookups::literal_token;
@@ -84,6 +86,39 @@ fn add_unit_faults(
     Ok(())
 }
 
+// Whether a character stands for itself in a string, and may.
+fn stands_for_itself(mode: Mode, c: char) -> bool
+    ensures { result ≡ stands_for_itself mode c }
+{
+    c != '\\'
+        && (c != '\r'
+            && (c != '"'
+                && (c != '\0' && !(matches!(mode, Mode::Byte | Mode::ByteStr) && !c.is_ascii()))))
+}
+
+fn is_plain(mode: Mode, content: &str) -> bool
+    ensures { result ≡ is_plain mode (chars content.now) }
+{
+    content.chars().all(|c| stands_for_itself(mode, c))
+}
+
+// The same of a string, most of which have no escapes and need not be read unit by unit.
+fn add_string_faults(
+    found: &mut Vec<Violation>,
+    mode: Mode,
+    start: u32,
+    content: &str,
+) -> Result<(), AllocError>
+    requires string { is_string mode ≡ true }
+    requires fits { start + length content.now < 2 ^ 32 }
+    ensures { OnOk result (found.new.items ≡ found.old.items ++ flat_map (report_fault start) (reports_in mode (chars content.now))) }
+{
+    if is_plain(mode, content) {
+        return Ok(());
+    }
+    add_unit_faults(found, mode, start, content)
+}
+
 // Appends the faults of a content that starts at an offset.
 fn add_content_faults(
     found: &mut Vec<Violation>,
@@ -95,7 +130,7 @@ fn add_content_faults(
     ensures { OnOk result (found.new.items ≡ found.old.items ++ content_faults mode start content.now) }
 {
     match mode {
-        Mode::Str | Mode::ByteStr | Mode::CStr => add_unit_faults(found, mode, start, content),
+        Mode::Str | Mode::ByteStr | Mode::CStr => add_string_faults(found, mode, start, content),
         Mode::Char | Mode::Byte => add_fault(
             found,
             TextSize::new(start),
