@@ -126,7 +126,7 @@ impl Held {
         let Some(violations) = violations else {
             return Ok(Some(tree));
         };
-        let violations = violations.after(&tree, |row| self.violations_at(row))?;
+        let violations = violations.with_part(|row| self.violations_at(row))?;
         Ok(Some(tree.with_errors(violations)))
     }
 }
