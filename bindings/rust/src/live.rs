@@ -156,8 +156,8 @@ impl Live {
     /// tree: it is copied, if that tree is still in use, and moved otherwise. Else the library hands over all rows. Each way takes time
     /// linear in the text.
     ///
-    /// Likewise for what breaks rules beyond the grammar: if that tree has it, it is looked for again in a part around the block or the
-    /// token alone, such as the function that a block is the body of, and not at all if a name, white space or a comment got another text.
+    /// Likewise for what breaks rules beyond the grammar: if that tree has it, it is looked for again in the item around the block or the
+    /// token alone, such as a function in an implementation, and not at all if white space or a comment between two items got another text.
     /// Else it is looked for in the whole tree, unless [`Live::tree_with`] leaves it out.
     pub fn tree(&self) -> Result<Tree, ParseError> {
         self.tree_with(Errors::All)

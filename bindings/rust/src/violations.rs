@@ -7,10 +7,11 @@
 //!
 //! - There is no rule at a node around the part: these nodes are of the kinds in [`AROUND_ITEMS`] alone. So all other violations are at
 //!   nodes before the part or behind it, of which none has a token in the part.
-//! - A violation starts in a token of its node. So it starts before the part, in it or behind it as its node does.
-//! - Outside of its node a rule looks at kinds alone: at those of the nodes around, of their children, and of the tokens beside, and at their
-//!   order. An edit changes none that is outside of the part, nor the kind of the part, nor those of its first and last token: what was read
-//!   again is a token that keeps its kind, or a node that keeps its kind and its two braces.
+//! - The range of a violation is in that of its node, and does not start at its end. So it starts before the part, in it or behind it as
+//!   its node does.
+//! - Outside of its node a rule looks at kinds and at their order alone: at those of the nodes around, of the children of these, and of the
+//!   tokens beside. An edit changes none outside of the part, nor the kind of the part, nor those of its first and last token: what was
+//!   read again is a token that keeps its kind, or a node that keeps its kind and its two braces.
 use crate::SyntaxKind;
 use crate::iter::rows_of_children;
 use crate::range::TextRange;
@@ -32,7 +33,8 @@ const AROUND_ITEMS: [SyntaxKind; 6] = [
 // was read again. It has the same row in the new tree.
 fn changed_part(tree: &Tree, node: u32, was: TextRange) -> u32 {
     let around = successors(Some(node), |it| tree.parent_of(*it));
-    let read_again = || rows_of_children(tree, node).find(|it| tree.is_token(*it) && tree.range_of(*it) == was).unwrap_or(node);
+    // No node is in it that has its range, so a child that has the range is a token.
+    let read_again = || rows_of_children(tree, node).find(|it| tree.range_of(*it) == was).unwrap_or(node);
     around.filter(|it| !AROUND_ITEMS.contains(&tree.kind_of(*it))).last().unwrap_or_else(read_again)
 }
 
@@ -45,8 +47,8 @@ pub(crate) struct Violations {
 }
 
 impl Violations {
-    /// Those of a tree, of which one node or token was read again: that of a row, or a token that is a child of it. It was at a range of the
-    /// text, and now is at another.
+    /// Those of a tree, of which one node or token was read again: that of a row, or a token that is a child of it. It was at a range of
+    /// the text, and now is at another.
     pub(crate) fn of(tree: &Tree, node: u32, was: TextRange, is: TextRange) -> Violations {
         let part = changed_part(tree, node, was);
         let range = tree.range_of(part);
@@ -68,5 +70,34 @@ impl Violations {
         }
         all.extend(self.behind);
         Ok(all)
+    }
+}
+
+#[test]
+fn the_part_is_an_item_or_what_was_read_again() {
+    use crate::Edition;
+    // In each text what is edited is between two `|`.
+    let texts = [
+        ("use a;\nfn f() { g(|b|); { c } }\nfn h() {}", "fn f() { g(b); { c } }"),
+        ("mod m { mod n { const A: u8 = |1|; } }", "const A: u8 = 1;"),
+        ("mod m { impl T for S { fn f() { |'a'| } fn g() {} } }", "fn f() { 'a' }"),
+        ("mod m { trait T { fn f() { |\"a\"| } fn g() {} } }", "fn f() { \"a\" }"),
+        ("mod m { trait T { fn f() {}| |fn g() {} } }", " "),
+        ("impl S {| |fn f() {} fn g() {} }", " "),
+        ("fn f() {}|\n|fn g() {}", "\n"),
+        ("mod m {| |fn f() {} }", " "),
+        ("mod m |{ fn f() {} }|", "{ fn f() {} }"),
+        ("trait T |{ fn f(); }|", "{ fn f(); }"),
+        ("impl T| |for S {}", " "),
+        ("impl T for &|S| {}", "&S"),
+        ("pub(in |a|) mod m {}", "pub(in a)"),
+    ];
+    for (text, part) in texts {
+        let parts: Vec<&str> = text.split('|').collect();
+        let start = parts[0].len() as u32;
+        let was = TextRange::at(start.into(), (parts[1].len() as u32).into());
+        let tree = Tree::parse(parts.concat(), Edition::CURRENT).unwrap();
+        let node = tree.read_again(was).expect("it is a node or a token");
+        assert_eq!(tree.text_of(changed_part(&tree, node, was)), part, "{text}");
     }
 }
