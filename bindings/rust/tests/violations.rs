@@ -132,7 +132,7 @@ const BLOCKS: Group = Group {
         "fn f() { g('ab'); { @ } b.0x1 }",
         "fn f() { let x = { @ }; let y = || { #![a] { @ } }; [b].0x1 }",
         "fn f() { { @ }.0x1.0x2; b.0x1 }",
-        "fn f() { g({ @ }).0x1 }",
+        "fn f() { g({ @ }).0x1; { @ }.a.0x1.b.0x2 }",
         "static A: A = { @ }.0x1;\nstatic B: A = [b].0x1;",
         "const mut A: u8 = { @ };",
         "const mut A: [u8; { @ }] = 1.0x1;",
@@ -241,6 +241,7 @@ const LISTS: [Group; 9] = [
             "pub(x) impl T for &dyn A + B{ @ }\nfn f() { b.0x1 }",
             "#[a = 'ab'] impl T for S { @ } pub(x) mod m;",
             "impl dyn 'a{ @ }fn f() { b.0x1 }",
+            "pub(in x) impl T for impl 'a + 'b { @ }fn f() { b.0x1 }",
             "pub(x) trait T: A<{ 'ab' }> { @ }pub(x) fn g() {}",
             "fn f() { impl T for S { @ } b.0x1 }",
             "static A: A = { impl T for S { pub fn f() {} @ } 1 }.0x1;",
@@ -427,7 +428,8 @@ fn tokens_give_the_violations_of_the_new_texts() {
     let mut edits = Edits::default();
     for group in LISTS.iter().chain([&BLOCKS]) {
         for (text, at) in group.texts.iter().zip(0..) {
-            for part in group.parts.iter().skip(at % 5).step_by(5) {
+            // No text has a broken literal behind its place if this is empty.
+            for part in ["", group.parts[at % group.parts.len()]] {
                 edits.of_tokens(&text.replace('@', part), at);
             }
         }
