@@ -30,7 +30,8 @@ const AROUND_ITEMS: [SyntaxKind; 6] = [
 ];
 
 // The row of the part after a node was read again, or one of its tokens: the outermost node that is not of these kinds, and otherwise what
-// was read again. It has the same row in the new tree.
+// was read again. It has the same row in the new tree. The block in `static A: A = { b }.0x1;` is too little: the violation at the
+// `FIELD_EXPR` around it is behind it in the text, but in the list before those in it.
 fn changed_part(tree: &Tree, node: u32, was: TextRange) -> u32 {
     let around = successors(Some(node), |it| tree.parent_of(*it));
     // No node is in it that has its range, so a child that has the range is a token.
