@@ -13,8 +13,9 @@
 //! tree and its errors, in their order, have to be those of a new parse; if not, the edit is printed, and the status is 1. `edits` does
 //! the same with its files, and with the text of a line `document`, a tab and a short text.
 //!
-//! `turns-of-document N SEED` makes N random edits of each file, one after the other, by `Document::edit`, `turns-of-reparse` by
-//! `Parse::reparse`, and `turns-of-none` does neither. Nothing is compared: `bench/run edits` counts their instructions.
+//! `turns-of-document N SEED` makes N random edits of each file, one after the other, by
+//! `Document::edit`, `turns-of-reparse` by `Parse::reparse`, and `turns-of-none` does neither.
+//! Nothing is compared: `bench/run edits` counts their instructions.
 #![tactic(auto)]
 
 mod chance;
