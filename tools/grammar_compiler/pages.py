@@ -245,6 +245,39 @@ def table_pages(source, grammar):
     return code, definition
 
 
+def bodies(table, others):
+    """Where the bodies of sealed rules begin, by the kinds of their nodes, and how many operations there are."""
+    targets = {op.fields["kind"]: op.target for op in table.ops if op.name == "Sealed"}
+    named = [f"body_of (Node node.{kind}) = {target}\n" for kind, target in sorted(targets.items()) if kind not in others]
+    numbered = "0"
+    for kind, target in sorted(targets.items(), reverse=True):
+        if kind in others:
+            numbered = f"if nat_eq n {others[kind]} then {target} else " + (f"({numbered})" if " " in numbered else numbered)
+    return (
+        "\n-- the number of the first operation of what is called for a node of the kind\nabbrev pub body_of : SyntaxKind → ℕ\n"
+        + "".join(named) + f"body_of (OTHER n) = {numbered}\nbody_of _ = 0\n"
+        f"\n-- how many operations there are\nabbrev pub op_count : ℕ\nop_count = {len(table.ops)}\n"
+    )
+
+
+def rule_page(source, grammar, table, others):
+    """Where the rules begin."""
+    words, uses, more = "ℕ", "", ""
+    if grammar.sealed:
+        kinds = "Rattle.syntax_kind.specs.declared.syntax_kind"
+        words = "ℕ, nat_eq, if◌then◌else◌"
+        uses = f"use {kinds}.SyntaxKind.{{SyntaxKind}}\nuse {kinds}.SyntaxKind.TheVariants.{{Node, OTHER}}\nuse {kinds}.node_kind.NodeKind.TheVariants as node\n"
+        more = bodies(table, others)
+    return (
+        f"-- Where the rules begin. Written by tools/grammar from {source.text}.\n"
+        f"use Rattle.std.specs.Prelude.{{{words}}}\n{uses}"
+        f"use Rattle.{source.crate}.specs.declared.tables.rules.Rule.{{Rule}}\n"
+        f"use Rattle.{source.crate}.specs.declared.tables.rules.Rule.TheVariants as rule\n\n"
+        "-- the number of a rule's first operation\nabbrev pub first_op : Rule → ℕ\n"
+        + "".join(f"first_op rule.{camel(name)} = {table.start_of[name]}\n" for name in grammar.entries) + more
+    )
+
+
 def pages(source, grammar, table, top):
     """The files that the tables of a grammar make, by their paths in the crate."""
     kinds = os.path.join(top, "crates", "syntax_kind", "src", "syntax_kind", "all.rt")
@@ -282,12 +315,5 @@ def pages(source, grammar, table, top):
         ],
         ["Rattle.std.specs.Prelude.{◌≡◌}", f"Rattle.{source.crate}.specs.Rules.{{first_op}}"],
     )
-    made["specs/Rules.antt"] = (
-        f"-- Where the rules begin. Written by tools/grammar from {source.text}.\n"
-        "use Rattle.std.specs.Prelude.{ℕ}\n"
-        f"use Rattle.{source.crate}.specs.declared.tables.rules.Rule.{{Rule}}\n"
-        f"use Rattle.{source.crate}.specs.declared.tables.rules.Rule.TheVariants as rule\n\n"
-        "-- the number of a rule's first operation\nabbrev pub first_op : Rule → ℕ\n"
-        + "".join(f"first_op rule.{camel(name)} = {table.start_of[name]}\n" for name in grammar.entries)
-    )
+    made["specs/Rules.antt"] = rule_page(source, grammar, table, others)
     return made

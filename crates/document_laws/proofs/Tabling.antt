@@ -14,7 +14,7 @@ use Rattle.grammar_machine.specs.Running.{is_among}
 use Rattle.grammar_machine.specs.Alone.{reach_of}
 use Rattle.event_layout.specs.Trivia.{attaches_of}
 use Rattle.rust_grammar.specs.Tables.{rust_tables}
-use Rattle.rust_grammar.specs.Rules.{first_op}
+use Rattle.rust_grammar.specs.Rules.{first_op, body_of, op_count}
 use Rattle.rust_front.specs.Pieces.{reparser_on, rule_by_number}
 use Rattle.rust_front.specs.Roots.{attaching_kinds}
 use Rattle.document_laws.specs.Calls.{makes_one_of}
@@ -71,19 +71,6 @@ looks_short i o e = at_most (reach_of o) (passes looks_near rust_tables.ops i o 
 
 -- ---- the calls of each kind
 
--- the first operation of what is called for a node of the kind
-abbrev body_of : SyntaxKind → ℕ
-body_of (Node node.TOKEN_TREE) = 278
-body_of (Node node.STMT_LIST) = 1153
-body_of (Node node.MATCH_ARM_LIST) = 2308
-body_of (Node node.ASSOC_ITEM_LIST) = 2927
-body_of (Node node.EXTERN_ITEM_LIST) = 3527
-body_of (Node node.ITEM_LIST) = 3527
-body_of (Node node.RECORD_FIELD_LIST) = 3786
-body_of (Node node.USE_TREE_LIST) = 4232
-body_of (OTHER n) = if nat_eq n 275 then 3668 else (if nat_eq n 271 then 5990 else 5224)
-body_of _ = 0
-
 abbrev calls_body : Op → Bool
 calls_body (op.Sealed target k) = nat_eq target (body_of k)
 calls_body _ = true
@@ -98,7 +85,7 @@ same_number m n h = grind (arith, nat_tests, h)
 body_called : (k : SyntaxKind) (i t : ℕ) → slice_get rust_tables.ops i ≡ Some (op.Sealed t k) → t ≡ body_of k
 body_called k i t e = same_number t (body_of k) (passes calls_body rust_tables.ops i (op.Sealed t k) all_bodies e)
 
-count : length rust_tables.ops ≡ 7193
+count : length rust_tables.ops ≡ op_count
 unfolding rust_tables
 count = refl
 

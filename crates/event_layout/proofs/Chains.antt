@@ -13,7 +13,8 @@ abbrev pub with_number : ℕ → ℕ → Option Span → List ℕ → List ℕ
 with_number i n None ns = ns
 with_number i n (Some s) ns = if nat_eq s.from i then n ∷ ns else ns
 
--- the numbers of the nodes that end with the first n events and whose first event is i, from the last on
+-- the numbers of the nodes that end with the first n events and whose first event is i, from the
+-- last on
 abbrev pub numbers_at : ℕ → List Event → ℕ → ℕ → List ℕ
 numbers_at root es i zero = []
 numbers_at root es i (suc n) = with_number i n (node_of root n (slice_get es n)) (numbers_at root es i n)

@@ -46,7 +46,8 @@ reports_lie say n (f ∷ fs) h =
     let one : LiesIn n (fault_at (say f).0 (say f).1) = record { forwards = omega arith; within = own } in
     All-cons (LiesIn n) (fault_at (say f).0 (say f).1) (step_faults (map (report_by say) fs)) one (reports_lie say n fs (All-tail (λ f. (say f).1 ≤ n) f fs h))
 
--- the steps of one tree, after them the parser's errors, and the lexer's errors: if all lie in the text, and the root is a right one
+-- the steps of one tree, after them the parser's errors, and the lexer's errors: if all lie in the
+-- text, and the root is a right one
 pub kept : {A : Type 0} (say : A → List ℕ × ℕ) (is_root : SyntaxKind → Type 0) (root : SyntaxKind) (fs : List A) (errors : List Fault) (text : List ℕ) (es : List FrontStep)
     → is_root root → Laid root text es → All (λ f. (say f).1 ≤ length text) fs → All (LiesIn (length text)) errors → Keeps is_root text (record { steps = es ++ map (report_by say) fs; errors = errors })
 kept say is_root root fs errors text es h y lie inside =

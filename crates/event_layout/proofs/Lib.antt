@@ -24,3 +24,6 @@ pub mod Replaced
 pub mod Retelling
 pub mod Retold
 pub mod Begun
+pub mod Noting
+pub mod Idle
+pub mod Blanks

@@ -1,5 +1,5 @@
 -- The walk over the events.
-use Rattle.std.specs.Prelude.{ℕ, zero, suc, ◌+◌, ◌-◌, ◌*◌, ◌^◌, min, nat_lt, nat_eq, if◌then◌else◌, Bool, true, false, Option, Some, None, List, [], ◌∷◌, ◌++◌, length, slice_get, position, fold, take, drop}
+use Rattle.std.specs.Prelude.{ℕ, zero, suc, ◌≡◌, ◌≤◌, ◌<◌, ◌+◌, ◌-◌, ◌*◌, ◌^◌, min, nat_lt, nat_eq, if◌then◌else◌, Bool, true, false, Option, Some, None, List, [], ◌∷◌, ◌++◌, length, slice_get, position, fold, take, drop}
 use Rattle.syntax_kind.specs.declared.syntax_kind.SyntaxKind.{SyntaxKind}
 use Rattle.syntax_kind.specs.declared.syntax_kind.SyntaxKind.TheVariants as family
 use Rattle.syntax_kind.specs.declared.syntax_kind.token_kind.TokenKind.TheVariants as kind
@@ -15,8 +15,8 @@ use Rattle.event_layout.specs.declared.layout.Plan.{Plan}
 use Rattle.event_layout.specs.Starts.{Links, links_of, number_at, starts_of}
 use Rattle.event_layout.specs.Trivia.{lead, later_of, part_of, outside_of}
 
--- what stays the same: the text, the events, the kinds of nodes that comments go into, the event of the root's node, and where nodes
--- begin
+-- what stays the same: the text, the events, the kinds of nodes that comments go into, the event of
+-- the root's node, and where nodes begin
 pub record Given : Type 0 where
   pub bytes : List ℕ
   pub events : List Event
@@ -161,6 +161,18 @@ going_of g number s = obey_at_of g (slice_get g.events number) number (record s 
 
 unfoldable pub advance_of : Given → Laying → Laying
 advance_of g s = if nat_lt 0 s.entering then entering_of g (s.entering - 1) s else going_of g s.next s
+
+-- behind the last event, with no node left to enter: further moves change nothing but the number of
+-- the next event
+pub record IsOver (g : Given) (s : Laying) : Type 0 where
+  pub no_node : s.entering ≡ 0
+  pub no_event : length g.events ≤ s.next
+  pub no_start : length g.links.last ≤ s.next
+  pub fits : s.next < 2 ^ 64
+
+-- the same, whatever event is the next
+abbrev pub anywhere : Laying → Laying
+anywhere s = record s { next = 0; entering = 0 }
 
 -- n moves
 unfoldable pub moves : ℕ → Given → Laying → Laying

@@ -1,5 +1,6 @@
--- The nodes and tokens that the events of a parser make of a text, in order. White space and comments stand directly before the next token
--- here. In the layout, nodes may begin between them and that token.
+-- The nodes and tokens that the events of a parser make of a text, in order. White space and
+-- comments stand directly before the next token here. In the layout, nodes may begin between them
+-- and that token.
 use Rattle.std.specs.Prelude.{ℕ, zero, suc, ◌+◌, ◌-◌, min, nat_eq, Bool, true, false, not, if◌then◌else◌, Option, Some, None, List, [], ◌∷◌, ◌++◌, length, take, drop, map, filter, sum_by, slice_get}
 use Rattle.syntax_kind.specs.declared.syntax_kind.SyntaxKind.{SyntaxKind}
 use Rattle.syntax_kind.specs.Kinds.{is_trivia}
@@ -49,7 +50,8 @@ abbrev pub begin_at : ℕ → Option Span → List FrontStep
 begin_at i None = []
 begin_at i (Some s) = if nat_eq s.from i then begins s.kind ∷ [] else []
 
--- of the nodes that the first n events end, those that begin with event i: the one that ends last begins first
+-- of the nodes that the first n events end, those that begin with event i: the one that ends last
+-- begins first
 unfoldable pub begins_at : ℕ → List Event → ℕ → ℕ → List FrontStep
 begins_at root es i zero = []
 begins_at root es i (suc n) = begin_at i (node_of root n (slice_get es n)) ++ begins_at root es i n
@@ -88,7 +90,8 @@ abbrev pub joined_on : SyntaxKind → ℕ → List RawToken → List ℕ → Mad
 joined_on k more [] text = nothing (record { tokens = []; text = text })
 joined_on k more (t ∷ ts) text = token_of k (t.len + sum_by (λ u. u.len) (take more ts)) (drop more ts) text
 
--- the next token and `more` after it are one token of the kind k; without a next token, nothing is made
+-- the next token and `more` after it are one token of the kind k; without a next token, nothing is
+-- made
 abbrev pub joined : SyntaxKind → ℕ → Left → Made
 joined k more l = joined_on k more l.tokens l.text
 
@@ -110,7 +113,8 @@ abbrev pub parted_on : Part → List RawToken → List ℕ → Made
 parted_on p [] text = nothing (record { tokens = []; text = text })
 parted_on p (t ∷ ts) text = parted_at p (dot_of t.kind (take t.len text)) t ts text
 
--- a part of the next token, which is a number, is a token, and the rest of the number is left; without a dot, nothing is made
+-- a part of the next token, which is a number, is a token, and the rest of the number is left;
+-- without a dot, nothing is made
 abbrev pub parted : Part → Left → Made
 parted p l = parted_on p l.tokens l.text
 
@@ -127,7 +131,8 @@ made_by root n (Error m) l = nothing l
 abbrev pub tokens_as_they_are : List RawToken → List FrontStep
 tokens_as_they_are ts = map (λ t. takes t.kind t.len) ts
 
--- what is made from event n on, of the events es: before each event, the nodes begin that begin with it; at the end, the tokens that are left
+-- what is made from event n on, of the events es: before each event, the nodes begin that begin
+-- with it; at the end, the tokens that are left
 unfoldable pub made_from : ℕ → List Event → ℕ → List Event → Left → List FrontStep
 made_from root all n [] l = tokens_as_they_are l.tokens
 made_from root all n (e ∷ es) l = begins_at root all n (length all) ++ ((made_by root n e l).steps ++ made_from root all (n + 1) es (made_by root n e l).left)

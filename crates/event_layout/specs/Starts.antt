@@ -45,3 +45,22 @@ linked root (Error message) l = passed_by l
 -- all nodes but that of the event `root`
 unfoldable pub starts_of : ℕ → List Event → Links
 starts_of root events = fold (λ l e. linked root e l) (record { last = replicate (length events) 0; before = [] }) events
+
+-- in lists that are full from the start: the node of an event begins with the event `at`
+abbrev pub set_at : ℕ → ℕ → Links → Links
+set_at at event l = record { last = slice_set l.last at (number_of event); before = slice_set l.before event (number_at l.last at) }
+
+-- the same: with the event `from`, or with its own if that is earlier
+abbrev pub begun_from : ℕ → ℕ → Links → Links
+begun_from from event l = set_at (min from event) event l
+
+-- the event of this number, in such lists
+abbrev pub noted : ℕ → ℕ → Event → Links → Links
+noted root number (Node kind from) l = if nat_eq number root then l else begun_from from number l
+noted root number (Token kind signs) l = l
+noted root number (Piece part last) l = l
+noted root number (Error message) l = l
+
+-- links with room for n more events
+abbrev pub with_room : ℕ → Links → Links
+with_room n l = record l { before = l.before ++ replicate n 0 }

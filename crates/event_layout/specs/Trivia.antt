@@ -1,5 +1,5 @@
 -- White space and comments, and which of them go into the node that follows.
-use Rattle.std.specs.Prelude.{ℕ, ◌+◌, ◌-◌, ◌^◌, min, nat_lt, nat_eq, Bool, true, false, ◌||◌, ◌&&◌, if◌then◌else◌, List, [], ◌∷◌, take, drop, fold}
+use Rattle.std.specs.Prelude.{ℕ, ◌+◌, ◌-◌, ◌^◌, min, nat_lt, nat_eq, not, Bool, true, false, ◌||◌, ◌&&◌, if◌then◌else◌, List, [], ◌∷◌, take, drop, fold}
 use Rattle.std.specs.List.{list_any}
 use Rattle.syntax_kind.specs.declared.syntax_kind.SyntaxKind.{SyntaxKind}
 use Rattle.syntax_kind.specs.declared.syntax_kind.SyntaxKind.TheVariants as family
@@ -32,6 +32,11 @@ abbrev pub is_comment : SyntaxKind → Bool
 is_comment (family.Token kind.COMMENT) = true
 is_comment _ = false
 
+-- the first token is no comment
+abbrev pub is_blank_on : List Token → Bool
+is_blank_on [] = false
+is_blank_on (t ∷ ts) = not (is_comment t.kind)
+
 abbrev pub one_more : ℕ → ℕ
 one_more n = min (n + 1) (2 ^ 64 - 1)
 
@@ -41,8 +46,8 @@ kept_of text k kept = if is_comment k then one_more kept else (if nat_eq kept 0 
 abbrev pub attached_after : List ℕ → Token → Keep → Keep
 attached_after bytes t a = record { kept = kept_of (part_of bytes a.start t.len) t.kind a.kept; start = later_of a.start t.len }
 
--- how many of the trivia, which start at `start`, go into the node after them: the comments from the last blank line on, and what
--- white space follows them
+-- how many of the trivia, which start at `start`, go into the node after them: the comments from
+-- the last blank line on, and what white space follows them
 unfoldable pub attached : List ℕ → ℕ → List Token → ℕ
 attached bytes start ts = (fold (λ a t. attached_after bytes t a) (record { kept = 0; start = start }) ts).kept
 

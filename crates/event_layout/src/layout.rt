@@ -1,13 +1,13 @@
 //! The walk over the events.
-ghost use Rattle.std.specs.Prelude.{position, nat_eq, ◌≡◌, ◌-◌, ◌≤◌, ◌<◌, ◌^◌, ◌++◌, ◌∷◌, [], OnOk, IfOk, All, length, slice_get, option_map};
+ghost use Rattle.std.specs.Prelude.{false, position, nat_eq, ◌≡◌, ◌-◌, ◌≤◌, ◌<◌, ◌^◌, ◌++◌, ◌∷◌, [], OnOk, IfOk, All, length, slice_get, option_map};
 ghost use Rattle.ras_front_end.specs.Reading.{front_step, front_steps};
 ghost use Rattle.token_layout.specs.Laid.{IsCut, Laid};
-ghost use Rattle.event_layout.specs.Layout.{laying_of, given_of, kind_of_part, len_of_part, dot_of, cut_at, is_node_of, is_node_at, added, leaf_of, pass_of, pass_all_of, pass_trivia_of, join_of, joined_len, piece_of, enter_of, exit_of, exit_all_of, begin_with, begin_of, begin_at_of, fault_of, obey_of, advance_of, finish_of, root_of, outermost_of, moves, moves_of, start_of, laid_with, laid_of};
-ghost use Rattle.event_layout.specs.Trivia.{outside_of};
+ghost use Rattle.event_layout.specs.Layout.{laying_of, given_of, kind_of_part, len_of_part, dot_of, cut_at, is_node_of, is_node_at, added, leaf_of, pass_of, pass_all_of, pass_trivia_of, join_of, joined_len, piece_of, enter_of, exit_of, exit_all_of, begin_with, begin_of, begin_at_of, fault_of, obey_of, advance_of, IsOver, anywhere, finish_of, root_of, outermost_of, moves, moves_of, start_of, laid_with, laid_of};
+ghost use Rattle.event_layout.specs.Trivia.{outside_of, is_blank_on};
 ghost use Rattle.event_layout.specs.Made.{without_trivia, only_tokens, made_of};
 
 use crate::starts::{Starts, find_starts};
-use crate::trivia::{behind, first, later, lead, outside, part};
+use crate::trivia::{behind, first, is_blank, later, lead, outside, part};
 use grammar_machine::{Event, Part};
 use ras_front_end::Step;
 use std::alloc::{AllocError, Global};
@@ -119,7 +119,8 @@ fn is_node(event: Event) -> bool
     matches!(event, Event::Node { .. })
 }
 
-// The length in bytes of a token whose first part has `first` bytes and whose other parts are these tokens.
+// The length in bytes of a token whose first part has `first` bytes and whose other parts are these
+// tokens.
 #[tactic(auto, unfolding(crate::specs::Layout::joined_len))]
 fn joined_len(first: TextSize, tokens: &[Token]) -> TextSize
     ensures { result ≡ joined_len first tokens.now }
@@ -140,9 +141,10 @@ fn is_node_at(events: &[Event], i: usize) -> bool
     }
 }
 
-// The capacity of the list of steps: one for each token, two for each node and for the root, and three tenths more. The C library keeps
-// freed memory of up to twice its largest block, so that with this much the next parse gets the same memory again. Pages that the list does
-// not fill are never touched.
+// The capacity of the list of steps: one for each token, two for each node and for the root, and
+// three tenths more. The C library keeps freed memory of up to twice its largest block, so that
+// with this much the next parse gets the same memory again. Pages that the list does not fill are
+// never touched.
 fn capacity_for(tokens: &[Token], nodes: usize) -> usize {
     let steps = nodes
         .saturating_add(1)
@@ -250,7 +252,8 @@ impl<'a> Layout<'a> {
 
     // The rest of the token.
     fn last_piece(&mut self, part: Part) -> Result<(), AllocError>
-        ensures { OnOk result (laying_of self.new ≡ join_of (kind_of_part part) 0 (laying_of self.old)) }
+        ensures { OnOk result
+            (laying_of self.new ≡ join_of (kind_of_part part) 0 (laying_of self.old)) }
     {
         self.join(kind_of(part), 0)
     }
@@ -316,13 +319,17 @@ impl<'a> Layout<'a> {
 
     // A node before which there are `count` trivia.
     #[inline(never)]
+    #[tactic(auto, using(crate::proofs::Moves::pass_all_none))]
     fn begin_behind(
         &mut self,
         plan: &Plan,
         kind: SyntaxKind,
         count: usize,
     ) -> Result<(), AllocError>
-        ensures { OnOk result (laying_of self.new ≡ begin_with kind count (outside_of plan.now.bytes.now plan.now.attaching.now kind self.old.position self.old.rest.now count) (laying_of self.old)) }
+        ensures { OnOk result (laying_of self.new
+            ≡ begin_with kind count
+            (outside_of plan.now.bytes.now plan.now.attaching.now kind self.old.position
+            self.old.rest.now count) (laying_of self.old)) }
     {
         let outside = outside(
             plan.bytes,
@@ -334,25 +341,34 @@ impl<'a> Layout<'a> {
         );
         self.pass_all(outside)?;
         self.enter(kind)?;
-        self.pass_all(count.saturating_sub(outside))
+        if outside < count {
+            self.pass_all(count - outside)
+        } else {
+            Ok(())
+        }
     }
 
-    // Most nodes have none before them.
+    // Most nodes have none before them, or white space alone, which stays outside.
     #[inline(always)]
-    #[tactic(auto, using(crate::proofs::Moves::pass_all_none))]
+    #[tactic(auto, using(crate::proofs::Moves::pass_all_none, crate::proofs::Blanks::begun_behind_blank))]
     fn begin(&mut self, plan: &Plan, kind: SyntaxKind) -> Result<(), AllocError>
-        ensures { OnOk result (laying_of self.new ≡ begin_of (given_of plan.now) kind (laying_of self.old)) }
+        ensures { OnOk result
+            (laying_of self.new ≡ begin_of (given_of plan.now) kind (laying_of self.old)) }
     {
         let count = lead(self.rest);
-        if count > 0 {
-            self.begin_behind(plan, kind, count)
-        } else {
+        if count == 0 {
             self.enter(kind)
+        } else if count == 1 && is_blank(self.rest) {
+            self.pass()?;
+            self.enter(kind)
+        } else {
+            self.begin_behind(plan, kind, count)
         }
     }
 
     fn begin_at(&mut self, plan: &Plan, event: Option<Event>) -> Result<(), AllocError>
-        ensures { OnOk result (laying_of self.new ≡ begin_at_of (given_of plan.now) event (laying_of self.old)) }
+        ensures { OnOk result
+            (laying_of self.new ≡ begin_at_of (given_of plan.now) event (laying_of self.old)) }
     {
         match event {
             Some(Event::Node { kind, from: _ }) => self.begin(plan, kind),
@@ -373,7 +389,8 @@ impl<'a> Layout<'a> {
     }
 
     fn obey(&mut self, plan: &Plan, event: Event, number: usize) -> Result<(), AllocError>
-        ensures { OnOk result (laying_of self.new ≡ obey_of (given_of plan.now) event number (laying_of self.old)) }
+        ensures { OnOk result
+            (laying_of self.new ≡ obey_of (given_of plan.now) event number (laying_of self.old)) }
     {
         match event {
             Event::Token { kind, signs } => {
@@ -397,21 +414,32 @@ impl<'a> Layout<'a> {
         }
     }
 
-    #[tactic(auto, unfolding(crate::specs::Layout::advance_of))]
-    fn advance(&mut self, plan: &Plan) -> Result<(), AllocError>
-        ensures { OnOk result (laying_of self.new ≡ advance_of (given_of plan.now) (laying_of self.old)) }
+    // One move. Returns whether there is more to do.
+    #[tactic(auto, unfolding(crate::specs::Layout::advance_of), using(crate::proofs::Idle::none_left))]
+    fn advance(&mut self, plan: &Plan) -> Result<bool, AllocError>
+        ensures moved { OnOk result
+            (laying_of self.new ≡ advance_of (given_of plan.now) (laying_of self.old)) }
+        ensures over { IfOk result
+            (λ more. more ≡ false → IsOver (given_of plan.now) (laying_of self.new)) }
     {
         if self.entering > 0 {
             let number = self.entering as usize - 1;
             self.entering = plan.starts.before(number);
-            self.begin_at(plan, event_at(plan.events, number))
-        } else {
-            let number = self.next;
-            self.next = number.saturating_add(1);
-            self.entering = plan.starts.last_at(self.next);
-            match event_at(plan.events, number) {
-                None => Ok(()),
-                Some(event) => self.obey(plan, event, number),
+            self.begin_at(plan, event_at(plan.events, number))?;
+            return Ok(true);
+        }
+        let number = self.next;
+        match event_at(plan.events, number) {
+            None => {
+                self.next = number.saturating_add(1);
+                self.entering = plan.starts.last_at(self.next);
+                Ok(self.entering > 0 || number < plan.starts.last.len())
+            }
+            Some(event) => {
+                self.next = number + 1;
+                self.entering = plan.starts.last_at(number + 1);
+                self.obey(plan, event, number)?;
+                Ok(true)
             }
         }
     }
@@ -435,12 +463,16 @@ fn walked<'a>(
     plan: &Plan,
     tokens: &'a [Token],
 ) -> Result<Layout<'a>, AllocError>
-    ensures { IfOk result (λ l. laying_of l ≡ moves (moves_of (length plan.now.events.now)) (given_of plan.now) (start_of root (given_of plan.now) tokens.now)) }
+    ensures { IfOk result (λ l. anywhere (laying_of l)
+        ≡ anywhere (moves (moves_of (length plan.now.events.now)) (given_of plan.now)
+        (start_of root (given_of plan.now) tokens.now))) }
 {
     let mut layout = Layout::new(alloc, root, plan, tokens)?;
     let moves = plan.events.len().saturating_mul(2);
     for _i in 0..moves {
-        layout.advance(plan)?;
+        if !layout.advance(plan)? {
+            return Ok(layout);
+        }
     }
     Ok(layout)
 }
@@ -451,7 +483,8 @@ fn walk<'a>(
     plan: &Plan,
     tokens: &'a [Token],
 ) -> Result<Layout<'a>, AllocError>
-    ensures { IfOk result (λ l. laying_of l ≡ laid_with root (given_of plan.now) tokens.now) }
+    ensures { IfOk result
+        (λ l. anywhere (laying_of l) ≡ anywhere (laid_with root (given_of plan.now) tokens.now)) }
 {
     let mut layout = walked(alloc, root, plan, tokens)?;
     layout.finish()?;
@@ -472,7 +505,8 @@ fn root_of(events: &[Event]) -> usize
     events.len()
 }
 
-/// The kind of the node that ends last. This is the outermost node if the parser puts one node over everything.
+/// The kind of the node that ends last. This is the outermost node if the parser puts one node over
+/// everything.
 pub fn outermost(events: &[Event]) -> Option<SyntaxKind>
     ensures { result ≡ outermost_of events.now }
 {
@@ -490,8 +524,10 @@ fn lay(
     tokens: &[Token],
     events: &[Event],
 ) -> Result<LaidOut, AllocError>
-    ensures steps { IfOk result (λ l. front_steps l.steps.items ≡ (laid_of root attaching.now bytes.now tokens.now events.now).steps) }
-    ensures faults { IfOk result (λ l. l.faults.items ≡ (laid_of root attaching.now bytes.now tokens.now events.now).faults) }
+    ensures steps { IfOk result (λ l. front_steps l.steps.items
+        ≡ (laid_of root attaching.now bytes.now tokens.now events.now).steps) }
+    ensures faults { IfOk result (λ l. l.faults.items
+        ≡ (laid_of root attaching.now bytes.now tokens.now events.now).faults) }
 {
     let last = root_of(events);
     let plan = Plan {
@@ -510,12 +546,14 @@ fn lay(
 
 /// The steps of one node of the kind `root` over all tokens, and in it of the nodes of the events.
 ///
-/// The node that ends last becomes the root, with the kind `root` in place of its own. White space and comments are put in as late
-/// as possible: before the next token, or before the next node, in the node around it. A node of one of the kinds `attaching` takes
-/// the comments before it, from the last blank line on, and the white space after them.
+/// The node that ends last becomes the root, with the kind `root` in place of its own. White space
+/// and comments are put in as late as possible: before the next token, or before the next node, in
+/// the node around it. A node of one of the kinds `attaching` takes the comments before it, from
+/// the last blank line on, and the white space after them.
 ///
-/// If nodes do not nest, or if the events take more or fewer tokens than there are, the steps still build one tree over the whole
-/// text. It takes time and memory linear in the tokens and events, if `attaching` has few kinds.
+/// If nodes do not nest, or if the events take more or fewer tokens than there are, the steps still
+/// build one tree over the whole text. It takes time and memory linear in the tokens and events, if
+/// `attaching` has few kinds.
 pub fn lay_out(
     alloc: Global,
     root: SyntaxKind,
@@ -524,8 +562,10 @@ pub fn lay_out(
     tokens: &[Token],
     events: &[Event],
 ) -> Result<LaidOut, AllocError>
-    ensures steps { IfOk result (λ l. front_steps l.steps.items ≡ (laid_of root attaching.now text.now tokens.now events.now).steps) }
-    ensures faults { IfOk result (λ l. l.faults.items ≡ (laid_of root attaching.now text.now tokens.now events.now).faults) }
+    ensures steps { IfOk result (λ l. front_steps l.steps.items
+        ≡ (laid_of root attaching.now text.now tokens.now events.now).steps) }
+    ensures faults { IfOk result
+        (λ l. l.faults.items ≡ (laid_of root attaching.now text.now tokens.now events.now).faults) }
     // white space and comments aside, the nodes and tokens are those of the events, in order
     ensures of_events { IfOk result (λ l.
         length text.now < 2 ^ 32 → IsCut tokens.now text.now → length events.now < 2 ^ 32 →
@@ -536,8 +576,10 @@ pub fn lay_out(
         length text.now < 2 ^ 32 → IsCut tokens.now text.now → length events.now < 2 ^ 32 →
         only_tokens (front_steps l.steps.items)
         ≡ only_tokens (made_of root tokens.now text.now events.now)) }
-    ensures one_tree { IfOk result (λ l. length text.now < 2 ^ 32 → IsCut tokens.now text.now → Laid root text.now (front_steps l.steps.items)) }
-    ensures in_text { IfOk result (λ l. length text.now < 2 ^ 32 → IsCut tokens.now text.now → All (λ f. f.position ≤ length text.now) l.faults.items) }
+    ensures one_tree { IfOk result (λ l. length text.now < 2 ^ 32 → IsCut tokens.now text.now
+        → Laid root text.now (front_steps l.steps.items)) }
+    ensures in_text { IfOk result (λ l. length text.now < 2 ^ 32 → IsCut tokens.now text.now
+        → All (λ f. f.position ≤ length text.now) l.faults.items) }
 {
     let laid = lay(alloc, root, attaching, text.as_bytes(), tokens, events)?;
     Ok(laid)

@@ -1,11 +1,12 @@
 //! The nodes that begin at an event.
-ghost use Rattle.std.specs.Prelude.{◌≡◌, IfOk, OnOk, slice_set};
-ghost use Rattle.event_layout.specs.Starts.{links_of, number_at, number_of, passed_by, begun, linked, starts_of};
+ghost use Rattle.std.specs.Prelude.{◌≡◌, IfOk, slice_set};
+ghost use Rattle.event_layout.specs.Starts.{links_of, number_at, number_of, begun_from, noted, starts_of};
 
 use grammar_machine::Event;
 use std::alloc::{AllocError, Global};
 
-/// The nodes by the events that they begin with. The number of a node is that of its event plus 1; 0 stands for none.
+/// The nodes by the events that they begin with. The number of a node is that of its event plus 1;
+/// 0 stands for none.
 #[derive(Drop)]
 pub struct Starts {
     /// For each event, the last node that begins with it.
@@ -45,35 +46,24 @@ fn note(numbers: &mut Vec<u32>, i: usize, number: u32)
 }
 
 impl Starts {
-    fn pass(&mut self) -> Result<(), AllocError>
-        ensures { OnOk result (links_of self.new ≡ passed_by (links_of self.old)) }
+    // The node of this event begins with the event `from`, or with its own.
+    fn begin(&mut self, event: usize, from: usize)
+        ensures { links_of self.new ≡ begun_from from event (links_of self.old) }
     {
-        self.before.push(0)?;
-        Ok(())
-    }
-
-    fn begin(&mut self, from: usize) -> Result<(), AllocError>
-        ensures { OnOk result (links_of self.new ≡ begun from (links_of self.old)) }
-    {
-        let event = self.before.len();
         let from = from.min(event);
         let earlier = number_at(&self.last, from);
-        self.before.push(earlier)?;
-        self.nodes = self.nodes.saturating_add(1);
+        note(&mut self.before, event, earlier);
         note(&mut self.last, from, number_of(event));
-        Ok(())
+        self.nodes = self.nodes.wrapping_add(1);
     }
 
-    fn link(&mut self, root: usize, event: Event) -> Result<(), AllocError>
-        ensures { OnOk result (links_of self.new ≡ linked root event (links_of self.old)) }
+    fn link(&mut self, root: usize, number: usize, event: &Event)
+        ensures { links_of self.new ≡ noted root number event.now (links_of self.old) }
     {
-        match event {
-            Event::Node { kind: _, from } => if self.before.len() == root {
-                self.pass()
-            } else {
-                self.begin(from as usize)
-            },
-            _ => self.pass(),
+        if let Event::Node { kind: _, from } = *event {
+            if number != root {
+                self.begin(number, from as usize);
+            }
         }
     }
 
@@ -97,13 +87,14 @@ impl Starts {
 pub fn find_starts(alloc: Global, root: usize, events: &[Event]) -> Result<Starts, AllocError>
     ensures { IfOk result (λ s. links_of s ≡ starts_of root events.now) }
 {
+    // Both lists are full from the start: most events are no nodes, and have nothing to be noted.
     let mut starts = Starts {
         last: vec![in alloc; 0u32; events.len()]?,
-        before: Vec::with_capacity(alloc, events.len())?,
+        before: vec![in alloc; 0u32; events.len()]?,
         nodes: 0,
     };
-    for event in events {
-        starts.link(root, *event)?;
+    for (number, event) in events.iter().enumerate() {
+        starts.link(root, number, event);
     }
     Ok(starts)
 }

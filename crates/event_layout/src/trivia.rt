@@ -1,6 +1,6 @@
 //! White space and comments: how many come next, and which of them go into the next node.
 ghost use Rattle.std.specs.Prelude.{◌≡◌, ◌+◌, ◌-◌, fold, take, drop, length, slice_get};
-ghost use Rattle.event_layout.specs.Trivia.{lead, later_of, part_of, newlines_after, has_blank_line, attached_after, attached, attaches_of, kept_of, outside_of};
+ghost use Rattle.event_layout.specs.Trivia.{lead, later_of, part_of, newlines_after, has_blank_line, attached_after, attached, attaches_of, is_blank_on, kept_of, outside_of};
 
 use syntax_kind::SyntaxKind;
 use text_size::TextSize;
@@ -68,12 +68,12 @@ struct Keep {
     start: TextSize,
 }
 
-fn kept(text: &[u8], kind: SyntaxKind, kept: usize) -> usize
-    ensures { result ≡ kept_of text.now kind kept }
+fn kept(bytes: &[u8], start: TextSize, len: TextSize, kind: SyntaxKind, kept: usize) -> usize
+    ensures { result ≡ kept_of (part_of bytes.now start len) kind kept }
 {
     if matches!(kind, SyntaxKind::COMMENT) {
         kept.saturating_add(1)
-    } else if kept == 0 || has_blank_line(text) {
+    } else if kept == 0 || has_blank_line(part(bytes, start, len)) {
         0
     } else {
         kept.saturating_add(1)
@@ -84,17 +84,13 @@ fn attached_after(bytes: &[u8], token: Token, before: Keep) -> Keep
     ensures { result ≡ attached_after bytes.now token before }
 {
     Keep {
-        kept: kept(
-            part(bytes, before.start, token.len),
-            token.kind,
-            before.kept,
-        ),
+        kept: kept(bytes, before.start, token.len, token.kind, before.kept),
         start: later(before.start, token.len),
     }
 }
 
-// The number of trivia that go into the node: the comments from the last blank line on, and the white space after them. The first of
-// the trivia starts at `start`.
+// The number of trivia that go into the node: the comments from the last blank line on, and the
+// white space after them. The first of the trivia starts at `start`.
 #[tactic(auto, unfolding(crate::specs::Trivia::attached))]
 fn attached(bytes: &[u8], start: TextSize, trivia: &[Token]) -> usize
     ensures { result ≡ attached bytes.now start trivia.now }
@@ -110,6 +106,17 @@ fn attaches(kinds: &[SyntaxKind], kind: SyntaxKind) -> bool
     ensures { result ≡ attaches_of kinds.now kind }
 {
     kinds.iter().any(|other| other.to_raw() == kind.to_raw())
+}
+
+/// Whether the first of the tokens is no comment.
+#[inline(always)]
+pub fn is_blank(tokens: &[Token]) -> bool
+    ensures { result ≡ is_blank_on tokens.now }
+{
+    match tokens {
+        [] => false,
+        [token, ..] => !matches!(token.kind, SyntaxKind::COMMENT),
+    }
 }
 
 /// How many of the next `count` trivia stay outside of a node of the kind.

@@ -1,4 +1,5 @@
--- A mark, and the start of a sealed call, is the number of an event that was made, or of the next one.
+-- A mark, and the start of a sealed call, is the number of an event that was made, or of the next
+-- one.
 use Rattle.std.proofs.Common.{ℕ, zero, suc, ◌-◌, ◌≤◌, ◌^◌, Bool, true, false, nat_eq, nat_lt, if◌then◌else◌, List, [], ◌∷◌, map, drop, length, refl, subst, sym, arith}
 use Rattle.std.specs.Prelude.{Option, Some, None, slice_get, ⊤}
 use Rattle.std.proofs.Math.Nat.{min-le_left}

@@ -1,4 +1,5 @@
--- How many operations a run may still have: each one takes one away, and a token that is taken gives no more than it stood for.
+-- How many operations a run may still have: each one takes one away, and a token that is taken
+-- gives no more than it stood for.
 use Rattle.std.proofs.Common.{◌≡◌, ℕ, ◌+◌, ◌*◌, ◌-◌, ◌<◌, ◌≤◌, ◌^◌, min, Bool, true, false, nat_lt, nat_eq, not, ◌||◌, if◌then◌else◌, List, [], ◌∷◌, length, ap, ◌∙◌, sym, subst, refl, arith, mod-eq_of_lt}
 use Rattle.std.specs.Prelude.{Option, Some, None, slice_get}
 use Rattle.std.proofs.lemmas.Option.{slice_get_within}

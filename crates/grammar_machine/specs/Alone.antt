@@ -1,4 +1,5 @@
--- Runs over a piece of a text that look at nothing else: neither before its first token nor behind its last.
+-- Runs over a piece of a text that look at nothing else: neither before its first token nor behind
+-- its last.
 use Rattle.std.specs.Prelude.{ℕ, zero, suc, ◌+◌, ◌-◌, ◌^◌, min, Bool, true, false, ◌&&◌, not, nat_le, nat_eq, if◌then◌else◌, Option, Some, None, List, length, reverse, slice_get}
 use Rattle.grammar_machine.specs.declared.event.Event.{Event}
 use Rattle.grammar_machine.specs.declared.grammar.Sight.{Sight}

@@ -1,4 +1,5 @@
--- A run goes on in the same way whatever events a piece before it is made of: laws of the definitions.
+-- A run goes on in the same way whatever events a piece before it is made of: laws of the
+-- definitions.
 use Rattle.std.specs.Prelude.{◌≡◌, ℕ, ◌<◌, ◌≤◌, ◌+◌, ◌-◌, ◌^◌, nat_le, if◌then◌else◌, List, [], ◌∷◌, ◌++◌, map, length, Some, slice_get}
 use Rattle.grammar_machine.specs.declared.event.Event.{Event}
 use Rattle.grammar_machine.specs.declared.event.Event.TheVariants as event
@@ -9,7 +10,8 @@ use Rattle.grammar_machine.specs.declared.made.Seal.{Seal}
 use Rattle.grammar_machine.specs.Running.{Tables, Stacks, State, runs}
 use Rattle.grammar_machine.specs.Alone.{reach_of}
 
--- what a piece has besides its last event: `rest`, with `below` events beneath them; and how many more tokens were taken
+-- what a piece has besides its last event: `rest`, with `below` events beneath them; and how many
+-- more tokens were taken
 pub record Hole : Type 0 where
   pub taken : ℕ
   pub below : ℕ

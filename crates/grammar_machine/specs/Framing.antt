@@ -86,7 +86,8 @@ returns_of op.Leave = true
 returns_of (op.Reply a) = true
 returns_of _ = false
 
--- an operation meets nothing of what lies around: it looks at the first b tokens alone, and returns from no call around
+-- an operation meets nothing of what lies around: it looks at the first b tokens alone, and returns
+-- from no call around
 pub record Stays (b : ℕ) (c : Around) (o : Op) (s : State) : Type 0 where
   pub near : s.place.at + reach_of o ≤ b
   pub back : looks_back_of o ≡ true → 0 < s.place.at

@@ -9,8 +9,8 @@ use Rattle.grammar_machine.specs.Alone.{alone_of}
 use Rattle.grammar_machine.specs.Sealing.{SealedCall, returned}
 use Rattle.grammar_machine.specs.Standing.{LooksInside}
 
--- a rule that makes a sealed call and returns, as the grammar's compiler makes of a sealed rule; the tables have fewer than 2^32
--- operations
+-- a rule that makes a sealed call and returns, as the grammar's compiler makes of a sealed rule;
+-- the tables have fewer than 2^32 operations
 pub record IsSealedRule (g : Tables) (rule target : ℕ) (k : SyntaxKind) : Type 0 where
   pub call : slice_get g.ops rule ≡ Some (op.Sealed target k)
   pub back : slice_get g.ops (rule + 1) ≡ Some op.Return

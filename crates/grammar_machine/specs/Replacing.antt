@@ -8,8 +8,8 @@ use Rattle.grammar_machine.specs.Locality.{Agree, IsBraceAt}
 use Rattle.grammar_machine.specs.Filling.{Hole, filled, LooksAreShort, Fits}
 use Rattle.grammar_machine.specs.Sealing.{SealedCall, returned, behind_call}
 
--- the same rule over two texts that are the same up to a brace; there both make a sealed call; and what it leaves of them is the same
--- again, from the last token on that it took
+-- the same rule over two texts that are the same up to a brace; there both make a sealed call; and
+-- what it leaves of them is the same again, from the last token on that it took
 pub record Exchanges (g : Tables) (old new : List Sight) (rule : ℕ) (k : SyntaxKind) : Type 0 where
   pub steps : ℕ
   pub was : SealedCall g old k (runs steps g old (begin_of rule))

@@ -38,7 +38,8 @@ pub record SealedCall (g : Tables) (ts : List Sight) (k : SyntaxKind) (s : State
 abbrev pub returned : {g : Tables} {ts : List Sight} {k : SyntaxKind} {s : State} → SealedCall g ts k s → State
 returned {g} {ts} {k} {s} c = step_of g ts (inside c.steps g ts s)
 
--- behind a sealed call of s: what is left of it is where it returned, and the events that it made, last first
+-- behind a sealed call of s: what is left of it is where it returned, and the events that it made,
+-- last first
 abbrev pub behind_call : SyntaxKind → State → ℕ → List Event → State
 behind_call k s at es = record {
   place = record {

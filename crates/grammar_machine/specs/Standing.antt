@@ -1,4 +1,5 @@
--- A sealed call over the tokens of a piece alone is one wherever the piece is in a text: a law of the definitions.
+-- A sealed call over the tokens of a piece alone is one wherever the piece is in a text: a law of
+-- the definitions.
 use Rattle.std.specs.Prelude.{◌≡◌, ℕ, ◌<◌, ◌≤◌, ◌+◌, ◌-◌, ◌^◌, List, length, Some, slice_get}
 use Rattle.syntax_kind.specs.declared.syntax_kind.SyntaxKind.{SyntaxKind}
 use Rattle.grammar_machine.specs.declared.event.Event.{Event}

@@ -58,7 +58,8 @@ fn looks_back(op: Op) -> bool
     }
 }
 
-/// Whether an operation looks at tokens of the piece alone: at none before the first, and not at what follows the last.
+/// Whether an operation looks at tokens of the piece alone: at none before the first, and not at
+/// what follows the last.
 pub fn stays(op: &Op, at: usize, sights: &[Sight]) -> bool
     ensures { result ≡ stays_of op.now at (length sights.now) }
 {

@@ -18,7 +18,8 @@ pub enum Part {
 pub enum Event {
     /// A token of this kind, joined from the next `signs` tokens that are not trivia (1 to 3).
     Token { kind: SyntaxKind, signs: u8 },
-    /// A part of the next token that is not trivia: a number with a dot. `last`: the token is done with it.
+    /// A part of the next token that is not trivia: a number with a dot. `last`: the token is done
+    /// with it.
     Piece { part: Part, last: bool },
     /// A node over all events from number `from` on (saturates at `u32::MAX`).
     Node { kind: SyntaxKind, from: u32 },

@@ -1,15 +1,15 @@
 //! What a grammar is made of, and how the machine sees the tokens.
 //!
-//! Kinds of tokens are small numbers here, so that a set of them is a row of 256 bits: 0 is no kind, and 1 is the kind of
-//! what follows the last token.
+//! Kinds of tokens are small numbers here, so that a set of them is a row of 256 bits: 0 is no
+//! kind, and 1 is the kind of what follows the last token.
 
 use crate::event::Part;
 use syntax_kind::SyntaxKind;
 
 /// A token that is not trivia, as the machine sees it: numbers of kinds, 0 for none.
 ///
-/// Punctuation comes as single signs. `two` and `three` are the kinds that this sign forms with the next one or two, with
-/// nothing between.
+/// Punctuation comes as single signs. `two` and `three` are the kinds that this sign forms with the
+/// next one or two, with nothing between.
 #[derive(Clone, Copy, Debug, PartialEq, Eq)]
 pub struct Sight {
     /// The token's own kind.
@@ -18,7 +18,8 @@ pub struct Sight {
     pub two: u8,
     /// The kind of what this token and the next two make together.
     pub three: u8,
-    /// A finer kind: the contextual keyword that an identifier spells, or the shape of a number with a dot.
+    /// A finer kind: the contextual keyword that an identifier spells, or the shape of a number
+    /// with a dot.
     pub word: u8,
 }
 
@@ -37,7 +38,8 @@ pub enum View {
 
 /// What a rule may test besides the kind of the next token.
 ///
-/// A look ahead does not go over a brace: if one of the tokens before the one that is asked for is a brace, no kind is seen.
+/// A look ahead does not go over a brace: if one of the tokens before the one that is asked for is
+/// a brace, no kind is seen.
 #[derive(Clone, Copy, Debug, PartialEq, Eq)]
 pub enum Test {
     /// Whether the token `ahead` tokens ahead has this kind in that view.
@@ -100,7 +102,8 @@ pub enum Op {
         test: Test,
         target: u16,
     },
-    /// Goes to the target at the index of the next token's kind in the row of targets that begins at `row`.
+    /// Goes to the target at the index of the next token's kind in the row of targets that begins
+    /// at `row`.
     Switch {
         row: u16,
     },
@@ -110,7 +113,8 @@ pub enum Op {
     },
     /// Takes the next token, if there is one.
     Take,
-    /// Takes the next token by its kind in the view, and with it those that it is seen together with; by itself, if there are none.
+    /// Takes the next token by its kind in the view, and with it those that it is seen together
+    /// with; by itself, if there are none.
     TakeAs {
         view: View,
     },
@@ -121,7 +125,8 @@ pub enum Op {
         kind: u8,
         message: u16,
     },
-    /// Takes a part of the next token, if it has a finer kind; with the last part the token is taken completely.
+    /// Takes a part of the next token, if it has a finer kind; with the last part the token is
+    /// taken completely.
     Piece {
         part: Part,
         last: bool,
@@ -142,7 +147,8 @@ pub enum Op {
     Leaf {
         kind: SyntaxKind,
     },
-    /// Has the node that ended just now start at the last mark, if that is earlier and no sealed call made the node.
+    /// Has the node that ended just now start at the last mark, if that is earlier and no sealed
+    /// call made the node.
     Extend,
     /// Makes the error of this number.
     Error {
@@ -163,10 +169,11 @@ pub enum Op {
         keep: u8,
         add: u8,
     },
-    /// A sealed call: takes the next token, if there is one, and calls a rule as if the text began with that token. When the rule
-    /// returns, all that was taken since is a node of this kind.
+    /// A sealed call: takes the next token, if there is one, and calls a rule as if the text began
+    /// with that token. When the rule returns, all that was taken since is a node of this kind.
     ///
-    /// The rule sees no level, flag, answer, mark or call from before the token, and leaves none behind.
+    /// The rule sees no level, flag, answer, mark or call from before the token, and leaves none
+    /// behind.
     Sealed {
         target: u16,
         kind: SyntaxKind,
@@ -178,7 +185,8 @@ pub enum Op {
         keep: u8,
         add: u8,
     },
-    /// Returns after the last call, with the level and the flags from before it. With no call to return from the machine stops.
+    /// Returns after the last call, with the level and the flags from before it. With no call to
+    /// return from the machine stops.
     Return,
     /// Forgets the last mark, and returns.
     Leave,
@@ -195,8 +203,8 @@ pub enum Op {
         keep: u8,
         add: u8,
     },
-    /// Goes to the target unless an operator of at least the rule's level begins at the next token. If one does, the level of
-    /// its right operand is noted.
+    /// Goes to the target unless an operator of at least the rule's level begins at the next token.
+    /// If one does, the level of its right operand is noted.
     Operator {
         target: u16,
     },
@@ -205,7 +213,8 @@ pub enum Op {
 /// How tightly an operator binds.
 #[derive(Clone, Copy, Debug, PartialEq, Eq)]
 pub struct Power {
-    /// Its level. At 0 it is not an operator, and it only hides the shorter one that it begins with, as `=>` hides `=`.
+    /// Its level. At 0 it is not an operator, and it only hides the shorter one that it begins
+    /// with, as `=>` hides `=`.
     pub level: u8,
     /// The level of its right operand.
     pub right: u8,
@@ -216,7 +225,8 @@ pub struct Power {
 pub struct Grammar<'a> {
     /// The operations.
     pub ops: &'a [Op],
-    /// The sets of kinds, four words of 64 bits each. The bit of kind k of set s is bit k % 64 of word 4 s + k / 64.
+    /// The sets of kinds, four words of 64 bits each. The bit of kind k of set s is bit k % 64 of
+    /// word 4 s + k / 64.
     pub sets: &'a [u64],
     /// The rows of targets for `Switch`, one after the other.
     pub rows: &'a [u16],

@@ -1,5 +1,5 @@
-//! The machine. It has a stack of calls, one of marks, and one of what sealed calls keep; it has no recursion, and ends whatever the
-//! grammar is.
+//! The machine. It has a stack of calls, one of marks, and one of what sealed calls keep; it has no
+//! recursion, and ends whatever the grammar is.
 ghost use Rattle.std.specs.Prelude.{◌≡◌, ◌<◌, ◌+◌, ◌^◌, ◌&&◌, not, OnOk, IfOk, length, slice_get, option_map, nat_eq, if◌then◌else◌, Some, None};
 ghost use Rattle.grammar_machine.specs.Alone.{stays_of, alone_of, run_as_of};
 ghost use Rattle.grammar_machine.specs.Running.{tables_of, stacks_of, state_of, seen_as_of, end_as_of, signs_of_view, signs_taken_of, seen_at_of, here_of, has_of, is_brace_of, hides_of, sees_of, target_of, kind_of, power_of, is_some, operator_view_of, holds_of, goto_of, goto_if_of, level_for_of, enter_of, bind_of, frame_of, pass_of, fresh_of, resume_of, leave_of, left_of, take_of, expect_of, piece_of, leaf_of, return_of, sealed_of, obey_of, begin_of, fuel_of, events_of};
@@ -17,8 +17,8 @@ const END: u8 = 1;
 /// Not the number of an operation: the return address of a rule that was not called.
 const STOP: u32 = u32::MAX;
 
-/// So many operations are allowed at the beginning and for each token that is taken. A grammar in which every loop takes a token stays
-/// far below.
+/// So many operations are allowed at the beginning and for each token that is taken. A grammar in
+/// which every loop takes a token stays far below.
 const STEPS_A_TOKEN: usize = 1200;
 
 /// Where the machine is.
@@ -402,7 +402,8 @@ fn take(
     sights: &[Sight],
     view: View,
 ) -> Result<(), AllocError>
-    ensures { OnOk result (state_of place.new made.new ≡ take_of (tables_of grammar.now) sights.now view (state_of place.old made.old)) }
+    ensures { OnOk result (state_of place.new made.new
+        ≡ take_of (tables_of grammar.now) sights.now view (state_of place.old made.old)) }
 {
     match sight_at(sights, place.at) {
         None => Ok(()),
@@ -425,7 +426,9 @@ fn expect(
     kind: u8,
     message: u16,
 ) -> Result<(), AllocError>
-    ensures { OnOk result (state_of place.new made.new ≡ expect_of (tables_of grammar.now) sights.now kind message (state_of place.old made.old)) }
+    ensures { OnOk result (state_of place.new made.new
+        ≡ expect_of (tables_of grammar.now) sights.now kind message
+        (state_of place.old made.old)) }
 {
     if place.kind(sights) == kind {
         take(place, made, grammar, sights, View::One)
@@ -442,7 +445,8 @@ fn leaf(
     sights: &[Sight],
     kind: SyntaxKind,
 ) -> Result<(), AllocError>
-    ensures { OnOk result (state_of place.new made.new ≡ leaf_of (tables_of grammar.now) sights.now kind (state_of place.old made.old)) }
+    ensures { OnOk result (state_of place.new made.new
+        ≡ leaf_of (tables_of grammar.now) sights.now kind (state_of place.old made.old)) }
 {
     let from = made.start();
     take(place, made, grammar, sights, View::One)?;
@@ -457,7 +461,8 @@ fn piece(
     part: Part,
     last: bool,
 ) -> Result<(), AllocError>
-    ensures { OnOk result (state_of place.new made.new ≡ piece_of sights.now part last (state_of place.old made.old)) }
+    ensures { OnOk result (state_of place.new made.new
+        ≡ piece_of sights.now part last (state_of place.old made.old)) }
 {
     match sight_at(sights, place.at) {
         None => Ok(()),
@@ -482,7 +487,9 @@ fn sealed(
     target: u16,
     kind: SyntaxKind,
 ) -> Result<(), AllocError>
-    ensures { OnOk result (state_of place.new made.new ≡ sealed_of (tables_of grammar.now) sights.now target kind (state_of place.old made.old)) }
+    ensures { OnOk result (state_of place.new made.new
+        ≡ sealed_of (tables_of grammar.now) sights.now target kind
+        (state_of place.old made.old)) }
 {
     match sight_at(sights, place.at) {
         None => Ok(()),
@@ -507,7 +514,8 @@ fn obey(
     sights: &[Sight],
     op: &Op,
 ) -> Result<(), AllocError>
-    ensures { OnOk result (state_of place.new made.new ≡ obey_of (tables_of grammar.now) sights.now op.now (state_of place.old made.old)) }
+    ensures { OnOk result (state_of place.new made.new
+        ≡ obey_of (tables_of grammar.now) sights.now op.now (state_of place.old made.old)) }
 {
     match *op {
         Op::IfKind { kind, target } => {
@@ -625,7 +633,9 @@ fn room_for(sights: &[Sight]) -> usize
 
 // The events of a run that stopped, if it stopped right behind the last token, with no call open.
 fn at_the_end(place: Place, made: Made, sights: &[Sight]) -> Option<Vec<Event>>
-    ensures { option_map (λ v. v.items) result ≡ (if nat_eq place.at (length sights.now) && nat_eq (length made.frames.items) 0 then Some made.events.items else None) }
+    ensures { option_map (λ v. v.items) result
+        ≡ (if nat_eq place.at (length sights.now) && nat_eq (length made.frames.items) 0
+        then Some made.events.items else None) }
 {
     if place.at == sights.len() && made.frames.len() == 0 {
         Some(made.events)
@@ -637,7 +647,9 @@ fn at_the_end(place: Place, made: Made, sights: &[Sight]) -> Option<Vec<Event>>
 // The same of a run that is to be alone, and the events of any other one.
 fn ended(place: Place, made: Made, sights: &[Sight], is_alone: bool) -> Option<Vec<Event>>
     ensures { option_map (λ v. v.items) result
-        ≡ (if is_alone then (if nat_eq place.at (length sights.now) && nat_eq (length made.frames.items) 0 then Some made.events.items else None)
+        ≡ (if is_alone
+        then (if nat_eq place.at (length sights.now) && nat_eq (length made.frames.items) 0
+        then Some made.events.items else None)
         else Some made.events.items) }
 {
     if is_alone {
@@ -706,7 +718,8 @@ pub fn run(
     rule: usize,
     sights: &[Sight],
 ) -> Result<Vec<Event>, AllocError>
-    ensures { IfOk result (λ events. events.items ≡ events_of (tables_of grammar.now) rule sights.now) }
+    ensures { IfOk result
+        (λ events. events.items ≡ events_of (tables_of grammar.now) rule sights.now) }
 {
     match run_as(alloc, grammar, rule, sights, false)? {
         Some(events) => Ok(events),
@@ -714,17 +727,20 @@ pub fn run(
     }
 }
 
-/// Runs a rule over the tokens of a piece of a text. Returns the events of [`run`] if the rule returns right behind the last token and
-/// no operation looked at what stands before the first token or behind the last; otherwise `None`.
+/// Runs a rule over the tokens of a piece of a text. Returns the events of [`run`] if the rule
+/// returns right behind the last token and no operation looked at what stands before the first
+/// token or behind the last; otherwise `None`.
 ///
-/// So what was made of the piece does not depend on the text around it. The only error is out of memory.
+/// So what was made of the piece does not depend on the text around it. The only error is out of
+/// memory.
 pub fn run_alone(
     alloc: Global,
     grammar: &Grammar,
     rule: usize,
     sights: &[Sight],
 ) -> Result<Option<Vec<Event>>, AllocError>
-    ensures { IfOk result (λ events. option_map (λ v. v.items) events ≡ alone_of (tables_of grammar.now) rule sights.now) }
+    ensures { IfOk result (λ events. option_map (λ v. v.items) events
+        ≡ alone_of (tables_of grammar.now) rule sights.now) }
 {
     run_as(alloc, grammar, rule, sights, true)
 }

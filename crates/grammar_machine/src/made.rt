@@ -47,7 +47,8 @@ fn is_among(kinds: &[SyntaxKind], kind: SyntaxKind) -> bool
     kinds.iter().any(|other| other.to_raw() == kind.to_raw())
 }
 
-// Where a node begins that is to begin at the mark, if that is earlier. It is asked for its kind only then.
+// Where a node begins that is to begin at the mark, if that is earlier. It is asked for its kind
+// only then.
 fn earlier(sealed: &[SyntaxKind], kind: SyntaxKind, from: u32, mark: u32) -> u32
     ensures { result ≡ (if is_among sealed.now kind then from else min from mark) }
 {
@@ -207,7 +208,8 @@ impl Made {
         kind: SyntaxKind,
         credit: usize,
     ) -> Result<(), AllocError>
-        ensures { OnOk result (stacks_of self.new ≡ seal_of frame kind credit (stacks_of self.old)) }
+        ensures { OnOk result
+            (stacks_of self.new ≡ seal_of frame kind credit (stacks_of self.old)) }
     {
         let from = self.start();
         self.frames.push(frame)?;

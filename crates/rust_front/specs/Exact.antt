@@ -50,7 +50,8 @@ abbrev pub is_in : ℕ → List span.Token → Bool
 is_in byte [] = false
 is_in byte (t ∷ ts) = if nat_lt byte t.len then true else is_in (byte - t.len) ts
 
--- the first error is in one of the first five tokens, whose messages may depend on what stands before the text
+-- the first error is in one of the first five tokens, whose messages may depend on what stands
+-- before the text
 abbrev pub errs_early : List span.Token → List LexError → Bool
 errs_early ts [] = false
 errs_early ts (e ∷ es) = is_in e.range.start (take 5 ts)

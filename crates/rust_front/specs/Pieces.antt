@@ -1,4 +1,5 @@
--- The nodes that may be parsed again by themselves, as rust-analyzer's parser has them: each begins with `{` and ends with `}`.
+-- The nodes that may be parsed again by themselves, as rust-analyzer's parser has them: each begins
+-- with `{` and ends with `}`.
 use Rattle.std.specs.Prelude.{ℕ, Bool, true, false, if◌then◌else◌, nat_eq, Option, Some, None}
 use Rattle.syntax_kind.specs.declared.syntax_kind.SyntaxKind.{SyntaxKind}
 use Rattle.syntax_kind.specs.declared.syntax_kind.SyntaxKind.TheVariants.{Token, Node, OTHER}

@@ -145,7 +145,9 @@ fn events_alone(
     tokens: &[Token],
     edition: Edition,
 ) -> Result<Option<Vec<Event>>, AllocError>
-    ensures { IsCut tokens.now text.now → IfOk result (λ o. option_map (λ v. v.items) o ≡ alone_with rule (sights_of edition text.now tokens.now)) }
+    ensures { IsCut tokens.now text.now
+        → IfOk result (λ o. option_map (λ v. v.items) o
+        ≡ alone_with rule (sights_of edition text.now tokens.now)) }
 {
     let sights = sights(alloc, text, tokens, edition)?;
     match run_alone(alloc, &grammar(), rule_of(rule), &sights)? {
@@ -160,7 +162,8 @@ fn whole_exact(
     text: &str,
     edition: Edition,
 ) -> Result<Option<Output>, AllocError>
-    ensures { length text.now < 2 ^ 32 → IfOk result (λ o. option_map reading_of o ≡ whole_exact_of reparser edition text.now) }
+    ensures { length text.now < 2 ^ 32
+        → IfOk result (λ o. option_map reading_of o ≡ whole_exact_of reparser edition text.now) }
 {
     let lexed = lex(alloc, text, edition)?;
     if !is_braced(&lexed.tokens) || errs_early(&lexed.tokens, &lexed.errors) {
@@ -191,7 +194,8 @@ pub fn exact_piece(
     text: &str,
     edition: Edition,
 ) -> Result<Option<Output>, AllocError>
-    ensures { IfOk result (λ o. option_map reading_of o ≡ exact_piece_of reparser edition text.now) }
+    ensures { IfOk result
+        (λ o. option_map reading_of o ≡ exact_piece_of reparser edition text.now) }
 {
     if is_short(text) {
         whole_exact(alloc, reparser, text, edition)
@@ -206,7 +210,8 @@ fn is_whole_exact(
     text: &str,
     edition: Edition,
 ) -> Result<bool, AllocError>
-    ensures { length text.now < 2 ^ 32 → IfOk result (λ b. b ≡ is_piece (whole_exact_of reparser edition text.now)) }
+    ensures { length text.now < 2 ^ 32
+        → IfOk result (λ b. b ≡ is_piece (whole_exact_of reparser edition text.now)) }
 {
     let lexed = lex(alloc, text, edition)?;
     if !is_braced(&lexed.tokens) || errs_early(&lexed.tokens, &lexed.errors) {

@@ -25,8 +25,9 @@ use token_layout::Token;
 
 /// The front end for Rust, of the editions 2015 to 2024.
 ///
-/// Its trees, messages and positions are those of rust-analyzer's parser, but for the differences that `docs/DIFFERENCES.md` lists under
-/// "Rust". Takes time and memory linear in the text, and does not recurse.
+/// Its trees, messages and positions are those of rust-analyzer's parser, but for the differences
+/// that `docs/DIFFERENCES.md` lists under "Rust". Takes time and memory linear in the text, and
+/// does not recurse.
 #[derive(Clone, Copy, Debug, Drop)]
 pub struct Rust;
 
@@ -48,7 +49,8 @@ fn events(
     tokens: &[Token],
     edition: Edition,
 ) -> Result<Vec<Event>, AllocError>
-    ensures { IsCut tokens.now text.now → IfOk result (λ v. v.items ≡ made_with rule (sights_of edition text.now tokens.now)) }
+    ensures { IsCut tokens.now text.now
+        → IfOk result (λ v. v.items ≡ made_with rule (sights_of edition text.now tokens.now)) }
 {
     let sights = sights(alloc, text, tokens, edition)?;
     run(alloc, &grammar(), rule_of(rule), &sights)
@@ -62,7 +64,8 @@ pub(crate) fn assemble(
     lexed: &Lexed,
     events: &[Event],
 ) -> Result<Output, AllocError>
-    ensures { IfOk result (λ o. reading_of o ≡ reading_with root text.now lexed.now.tokens.items lexed.now.errors.items events.now) }
+    ensures { IfOk result (λ o. reading_of o
+        ≡ reading_with root text.now lexed.now.tokens.items lexed.now.errors.items events.now) }
 {
     let laid = lay_out(alloc, root, attaching(), text, &lexed.tokens, events)?;
     let steps = reported(alloc, &lexed.tokens, laid.steps, &laid.faults)?;
@@ -87,7 +90,8 @@ fn nothing(alloc: Global) -> Output
 }
 
 fn whole(alloc: Global, entry: Entry, text: &str, edition: Edition) -> Result<Output, AllocError>
-    ensures { length text.now < 2 ^ 32 → IfOk result (λ o. reading_of o ≡ whole_of entry edition text.now) }
+    ensures { length text.now < 2 ^ 32
+        → IfOk result (λ o. reading_of o ≡ whole_of entry edition text.now) }
 {
     let lexed = lex(alloc, text, edition)?;
     let events = events(alloc, rule_of_entry(entry), text, &lexed.tokens, edition)?;
@@ -113,7 +117,8 @@ fn whole_piece(
     text: &str,
     edition: Edition,
 ) -> Result<Output, AllocError>
-    ensures { length text.now < 2 ^ 32 → IfOk result (λ o. reading_of o ≡ whole_piece_of reparser edition text.now) }
+    ensures { length text.now < 2 ^ 32
+        → IfOk result (λ o. reading_of o ≡ whole_piece_of reparser edition text.now) }
 {
     let lexed = lex(alloc, text, edition)?;
     let events = events(

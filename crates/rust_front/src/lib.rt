@@ -1,4 +1,5 @@
-//! Rust's front end: parses a text by the whole grammar into a lossless tree, with rust-analyzer's error messages.
+//! Rust's front end: parses a text by the whole grammar into a lossless tree, with rust-analyzer's
+//! error messages.
 #![tactic(auto)]
 
 mod exact;

@@ -52,8 +52,8 @@ fn filled(alloc: Global, name: &str, text: &str) -> Result<String, AllocError>
     Ok(out)
 }
 
-/// The parser's message with this number. A `%` in it is replaced by the name of the kind of the next token, which is the first of
-/// `tokens` that is not trivia.
+/// The parser's message with this number. A `%` in it is replaced by the name of the kind of the
+/// next token, which is the first of `tokens` that is not trivia.
 pub fn parser_message(alloc: Global, number: u16, tokens: &[Token]) -> Result<String, AllocError>
     ensures { IfOk result (λ s. string_bytes s ≡ parser_message_of number tokens.now) }
 {

@@ -106,8 +106,9 @@ fn exact_number_of(kind: SyntaxKind) -> Option<u32>
     }
 }
 
-/// The reparser of the nodes between braces that are parsed by themselves as in the text, or `None` for other kinds. A block is one of
-/// its `STMT_LIST`, which one rule makes wherever it is; a `BLOCK_EXPR` is made in several ways.
+/// The reparser of the nodes between braces that are parsed by themselves as in the text, or `None`
+/// for other kinds. A block is one of its `STMT_LIST`, which one rule makes wherever it is; a
+/// `BLOCK_EXPR` is made in several ways.
 pub fn exact_reparser_of(kind: SyntaxKind) -> Option<Reparser>
     ensures { result ≡ exact_chosen_of kind }
 {

@@ -26,7 +26,8 @@ fn report(alloc: Global, tokens: &[Token], fault: Fault) -> Result<Step, AllocEr
 
 #[tactic(auto, using(token_layout::proofs::Push::front_steps_push))]
 fn add(steps: &mut Vec<Step>, step: Step) -> Result<(), AllocError>
-    ensures { OnOk result (front_steps steps.new.items ≡ front_steps steps.old.items ++ front_step step ∷ []) }
+    ensures { OnOk result
+        (front_steps steps.new.items ≡ front_steps steps.old.items ++ front_step step ∷ []) }
 {
     steps.push(step)?;
     Ok(())
@@ -39,7 +40,8 @@ pub fn reported(
     mut steps: Vec<Step>,
     faults: &[Fault],
 ) -> Result<Vec<Step>, AllocError>
-    ensures { IfOk result (λ v. front_steps v.items ≡ front_steps steps.items ++ map (report_by (say_of tokens.now)) faults.now) }
+    ensures { IfOk result (λ v. front_steps v.items
+        ≡ front_steps steps.items ++ map (report_by (say_of tokens.now)) faults.now) }
 {
     for fault in faults {
         let step = report(alloc, tokens, *fault)?;

@@ -280,7 +280,10 @@ fn are_seen_alike(
     new_tokens: &[Token],
     edition: Edition,
 ) -> Result<bool, AllocError>
-    ensures { IsCut old_tokens.now old.now → IsCut new_tokens.now new.now → IfOk result (λ b. b ≡ are_same_sights (sights_of edition old.now old_tokens.now) (sights_of edition new.now new_tokens.now)) }
+    ensures { IsCut old_tokens.now old.now → IsCut new_tokens.now new.now
+        → IfOk result (λ b. b
+        ≡ are_same_sights (sights_of edition old.now old_tokens.now)
+        (sights_of edition new.now new_tokens.now)) }
 {
     let seen = sights(alloc, old, old_tokens, edition)?;
     let seen_now = sights(alloc, new, new_tokens, edition)?;
@@ -348,7 +351,8 @@ fn is_retold_in(
     token: TextRange,
     edition: Edition,
 ) -> Result<bool, AllocError>
-    ensures { length old.now < 2 ^ 32 → length new.now < 2 ^ 32 → IfOk result (λ b. b ≡ retold_with edition before.now old.now new.now behind.now token) }
+    ensures { length old.now < 2 ^ 32 → length new.now < 2 ^ 32
+        → IfOk result (λ b. b ≡ retold_with edition before.now old.now new.now behind.now token) }
 {
     let lexed = lex(alloc, old, edition)?;
     if !stands_alone(before, behind, &lexed.tokens, &lexed.errors) {
@@ -380,7 +384,8 @@ pub fn is_retold(
     token: TextRange,
     edition: Edition,
 ) -> Result<bool, AllocError>
-    ensures { IfOk result (λ b. b ≡ is_retold_of edition before.now old.now new.now behind.now token) }
+    ensures { IfOk result
+        (λ b. b ≡ is_retold_of edition before.now old.now new.now behind.now token) }
 {
     if are_short(old, new) && may_be_inside(before, old, new, token) {
         is_retold_in(alloc, before, old, new, behind, token, edition)

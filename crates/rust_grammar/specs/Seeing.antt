@@ -1,5 +1,5 @@
--- How the machine sees tokens. Sources: the Rust Reference, "Tokens", on punctuation; "Keywords", on weak keywords; "Tuple
--- indexing expressions".
+-- How the machine sees tokens. Sources: the Rust Reference, "Tokens", on punctuation; "Keywords",
+-- on weak keywords; "Tuple indexing expressions".
 use Rattle.std.specs.Prelude.{ℕ, ◌+◌, ◌*◌, ◌-◌, ◌==◌, Bool, false, ◌||◌, nat_lt, nat_le, if◌then◌else◌, Option, Some, None, List, [], ◌∷◌, ◌++◌, reverse, take, drop, slice_get}
 use Rattle.std.specs.List.{list_any}
 use Rattle.syntax_kind.specs.declared.syntax_kind.SyntaxKind.{SyntaxKind}

@@ -126,7 +126,8 @@ fn see(
     second: u8,
     third: u8,
 ) -> Result<(), AllocError>
-    ensures { OnOk result (sights.new.items ≡ sights.old.items ++ seen_of edition text.now one second third) }
+    ensures { OnOk result
+        (sights.new.items ≡ sights.old.items ++ seen_of edition text.now one second third) }
 {
     if one == 0 {
         return Ok(());
@@ -145,7 +146,8 @@ fn see(
 
 // The first bytes and the others. Where no character begins after them, all and nothing.
 fn cut(text: &str, len: usize) -> (&str, &str)
-    ensures { len ≤ length text.now → IsUtf8 (take len text.now) → (result.0.now ≡ take len text.now) × (result.1.now ≡ drop len text.now) }
+    ensures { len ≤ length text.now → IsUtf8 (take len text.now)
+        → (result.0.now ≡ take len text.now) × (result.1.now ≡ drop len text.now) }
 {
     match text.split_at_checked(len) {
         None => (text, ""),
@@ -153,18 +155,19 @@ fn cut(text: &str, len: usize) -> (&str, &str)
     }
 }
 
-/// How the machine sees the tokens that are not trivia, in order. A token's text is looked at only if it is an identifier
-/// or a number with a dot.
+/// How the machine sees the tokens that are not trivia, in order. A token's text is looked at only
+/// if it is an identifier or a number with a dot.
 ///
-/// Time is linear in the tokens and in those texts. Where the tokens don't cut the text, which no lexer does, the finer kinds
-/// of identifiers and numbers may be those of other pieces of it.
+/// Time is linear in the tokens and in those texts. Where the tokens don't cut the text, which no
+/// lexer does, the finer kinds of identifiers and numbers may be those of other pieces of it.
 pub fn sights(
     alloc: Global,
     text: &str,
     tokens: &[Token],
     edition: Edition,
 ) -> Result<Vec<Sight>, AllocError>
-    ensures { IsCut tokens.now text.now → IfOk result (λ sights. sights.items ≡ sights_of edition text.now tokens.now) }
+    ensures { IsCut tokens.now text.now
+        → IfOk result (λ sights. sights.items ≡ sights_of edition text.now tokens.now) }
 {
     let mut sights = Vec::with_capacity(alloc, tokens.len())?;
     let mut left = tokens;

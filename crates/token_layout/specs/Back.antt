@@ -93,7 +93,8 @@ worked (suc n) ts s =
 pub worked_off : (ts : List Token) (s : Laying) → work (moves (work s) ts s) ≡ 0
 worked_off ts s = elim (worked (work s) ts s) [ inl h ↦ omega (arith, h) | inr h ↦ h ]
 
--- how many nodes are open after the steps, where d are open before them; None where there would be fewer than none
+-- how many nodes are open after the steps, where d are open before them; None where there would be
+-- fewer than none
 abbrev pub balance : ℕ → List FrontStep → Option ℕ
 balance d [] = Some d
 balance d (begins k ∷ r) = balance (suc d) r

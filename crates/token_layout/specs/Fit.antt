@@ -27,7 +27,8 @@ abbrev pub error_over : List ℕ → List LexedToken
 error_over [] = []
 error_over (b ∷ s) = (record { kind = Token token.ERROR; len = size_of (b ∷ s) }) ∷ []
 
--- the tokens without those that do not end on a boundary, and an `ERROR` over what they leave of the text
+-- the tokens without those that do not end on a boundary, and an `ERROR` over what they leave of
+-- the text
 abbrev pub fitted_of : List LexedToken → List ℕ → List LexedToken
 fitted_of [] s = error_over s
 fitted_of (t ∷ ts) s = kept_of t s ++ fitted_of ts (left_of t s)

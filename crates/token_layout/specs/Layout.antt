@@ -6,7 +6,8 @@ use Rattle.token_layout.specs.declared.span.Span.{Span}
 use Rattle.token_layout.specs.declared.span.Token.{Token}
 use Rattle.token_layout.specs.declared.layout.Layout.{Layout}
 
--- `steps` are those of the tokens from `before` on; a node is open that ends there and doesn't begin there
+-- `steps` are those of the tokens from `before` on; a node is open that ends there and doesn't
+-- begin there
 pub record Laying : Type 0 where
   pub before : ℕ
   pub left : List Span

@@ -15,7 +15,8 @@ pub fn size(text: &str) -> TextSize
     TextSize::new(u32::try_from(text.len()).unwrap_or(u32::MAX))
 }
 
-// Keeps the token if it ends on a character boundary of the text that it begins, and returns the rest of the text.
+// Keeps the token if it ends on a character boundary of the text that it begins, and returns the
+// rest of the text.
 fn keep<'a>(kept: &mut Vec<Token>, token: Token, text: &'a str) -> Result<&'a str, AllocError>
     ensures tokens { OnOk result (kept.new.items ≡ kept.old.items ++ kept_of token text.now) }
     ensures text { IfOk result (λ left. left.now ≡ left_of token text.now) }
@@ -42,8 +43,9 @@ fn keep_error(kept: &mut Vec<Token>, text: &str) -> Result<(), AllocError>
     Ok(())
 }
 
-/// Tokens that cut the text: those that are given, without those that end inside a character or after the text, and an `ERROR`
-/// over the bytes at the end that no token covers. It takes time and memory linear in the tokens.
+/// Tokens that cut the text: those that are given, without those that end inside a character or
+/// after the text, and an `ERROR` over the bytes at the end that no token covers. It takes time and
+/// memory linear in the tokens.
 pub fn fitted(alloc: Global, text: &str, tokens: &[Token]) -> Result<Vec<Token>, AllocError>
     ensures { IfOk result (λ v. v.items ≡ fitted_of tokens.now text.now) }
 {

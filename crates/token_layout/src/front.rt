@@ -16,12 +16,15 @@ use std::alloc::{AllocError, Global};
 use syntax_kind::SyntaxKind;
 use text_size::TextSize;
 
-/// The front end of a lexer and a parser. Whatever they return, a parse keeps the law of [`FrontEnd`]:
+/// The front end of a lexer and a parser. Whatever they return, a parse keeps the law of
+/// [`FrontEnd`]:
 ///
-/// - Tokens that end inside a character or after the text are left out, and an `ERROR` is put over the bytes at the end that no
-///   token covers. The parser sees the tokens after that. Those that cut the text are kept as they are.
+/// - Tokens that end inside a character or after the text are left out, and an `ERROR` is put over
+///   the bytes at the end that no token covers. The parser sees the tokens after that. Those that
+///   cut the text are kept as they are.
 /// - Nodes that cross, or reach past the tokens, are laid out as [`lay_out`] says.
-/// - Ranges of errors are cut off at the end of the text. Those of the parser are stored before those of the lexer.
+/// - Ranges of errors are cut off at the end of the text. Those of the parser are stored before
+///   those of the lexer.
 #[derive(Clone, Copy, Debug, Drop)]
 pub struct SpanFront<L, P> {
     /// Cuts texts into tokens.
@@ -68,7 +71,8 @@ fn single(
     tokens: &[Token],
     errors: &[SyntaxError],
 ) -> Result<Option<(SyntaxKind, Option<String>)>, AllocError>
-    ensures { IfOk result (λ token. option_map single_of token ≡ single_with tokens.now errors.now) }
+    ensures { IfOk result
+        (λ token. option_map single_of token ≡ single_with tokens.now errors.now) }
 {
     match tokens {
         [token] => Ok(Some((token.kind, message(alloc, errors)?))),
@@ -84,7 +88,8 @@ fn assemble(
     errors: &[SyntaxError],
     outline: Outline,
 ) -> Result<Output, AllocError>
-    ensures { IfOk result (λ output. reading_of output ≡ reading_over target end tokens.now errors.now (outlined outline)) }
+    ensures { IfOk result (λ output. reading_of output
+        ≡ reading_over target end tokens.now errors.now (outlined outline)) }
 {
     let steps = lay_out(alloc, root(target, outline.root), tokens, outline.spans)?;
     let mut stored = Vec::new(alloc);
@@ -104,7 +109,9 @@ impl<L: Lexer, P: Parser> SpanFront<L, P> {
         text: &str,
         edition: Edition,
     ) -> Result<Output, AllocError>
-        ensures { IfOk result (λ output. reading_of output ≡ reading_with (L.lexes self.now.lexer) (P.parses self.now.parser) target edition text.now) }
+        ensures { IfOk result (λ output. reading_of output
+            ≡ reading_with (L.lexes self.now.lexer) (P.parses self.now.parser) target edition
+            text.now) }
     {
         let lexed = self.lexer.lex(alloc, text, edition)?;
         let tokens = fitted(alloc, text, &lexed.tokens)?;

@@ -16,7 +16,8 @@ fn token_at(tokens: &[Token], i: usize) -> Option<Token>
     tokens.get(i).copied()
 }
 
-// The steps of the tokens from `before` on, last first; `open` are nodes that end there and don't begin there.
+// The steps of the tokens from `before` on, last first; `open` are nodes that end there and don't
+// begin there.
 #[derive(Drop)]
 pub struct Layout {
     pub before: usize,
@@ -100,7 +101,9 @@ impl Layout {
 
 // All moves from after the last token.
 fn lay(alloc: Global, tokens: &[Token], spans: Vec<Span>) -> Result<Layout, AllocError>
-    ensures { IfOk result (λ p. laying_of p ≡ moves (length tokens.now + 2 * length spans.items) tokens.now (start_of tokens.now spans.items)) }
+    ensures { IfOk result (λ p. laying_of p
+        ≡ moves (length tokens.now + 2 * length spans.items) tokens.now
+        (start_of tokens.now spans.items)) }
 {
     let limit = tokens.len() + 2 * spans.len();
     let mut layout = Layout {
@@ -130,18 +133,21 @@ fn steps(
 
 /// The steps of one node of the kind `root` over all tokens, and in it of the nodes of `spans`.
 ///
-/// The spans are in the order in which their nodes end: inner ones before outer ones, and earlier before later ones.
-/// If they are in another order, cross, or reach past the tokens, the steps still build one tree over all tokens, though
-/// perhaps not the one that was meant. An empty span becomes an empty node before all nonempty nodes that start at the same
-/// token. Takes time and memory linear in the tokens and spans.
+/// The spans are in the order in which their nodes end: inner ones before outer ones, and earlier
+/// before later ones. If they are in another order, cross, or reach past the tokens, the steps
+/// still build one tree over all tokens, though perhaps not the one that was meant. An empty span
+/// becomes an empty node before all nonempty nodes that start at the same token. Takes time and
+/// memory linear in the tokens and spans.
 pub fn lay_out(
     alloc: Global,
     root: SyntaxKind,
     tokens: &[Token],
     spans: Vec<Span>,
 ) -> Result<Vec<Step>, AllocError>
-    ensures function { IfOk result (λ v. front_steps v.items ≡ steps_of root tokens.now spans.items) }
-    ensures one_tree { IfOk result (λ v. (text : List ℕ) → IsCut tokens.now text → Laid root text (front_steps v.items)) }
+    ensures function { IfOk result
+        (λ v. front_steps v.items ≡ steps_of root tokens.now spans.items) }
+    ensures one_tree { IfOk result
+        (λ v. (text : List ℕ) → IsCut tokens.now text → Laid root text (front_steps v.items)) }
 {
     let steps = steps(alloc, root, tokens, spans)?;
     Ok(steps)

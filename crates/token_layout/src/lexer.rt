@@ -16,16 +16,19 @@ pub struct Lexed {
     pub errors: Vec<SyntaxError>,
 }
 
-/// A lexer. Each result, except out of memory, is a function of the arguments; nothing has to be proved about that function.
+/// A lexer. Each result, except out of memory, is a function of the arguments; nothing has to be
+/// proved about that function.
 pub trait Lexer {
     // The results, as functions of the arguments.
     ghost lexes: { Self → LexerAnswers };
 
-    /// The tokens of a text, and the errors. The tokens should cut the text; [`SpanFront`](crate::SpanFront) states what it
-    /// does with those that do not.
+    /// The tokens of a text, and the errors. The tokens should cut the text;
+    /// [`SpanFront`](crate::SpanFront) states what it does with those that do not.
     fn lex(&self, alloc: Global, text: &str, edition: Edition) -> Result<Lexed, AllocError>
-        ensures tokens { IfOk result (λ lexed. lexed.tokens.items ≡ (lexes self.now).tokens edition text.now) }
-        ensures errors { IfOk result (λ lexed. lexed.errors.items ≡ (lexes self.now).errors edition text.now) };
+        ensures tokens { IfOk result
+            (λ lexed. lexed.tokens.items ≡ (lexes self.now).tokens edition text.now) }
+        ensures errors { IfOk result
+            (λ lexed. lexed.errors.items ≡ (lexes self.now).errors edition text.now) };
 
     /// The kind of the keyword that the text is, or `None` if it is not one in the edition.
     fn keyword(&self, text: &str, edition: Edition) -> Option<SyntaxKind>

@@ -12,15 +12,17 @@ use syntax_kind::SyntaxKind;
 pub enum Target {
     /// A file or an expression.
     Whole(Entry),
-    /// A node that is parsed again by itself. The reparser's number is one that [`Parser::reparser`] returned.
+    /// A node that is parsed again by itself. The reparser's number is one that
+    /// [`Parser::reparser`] returned.
     Piece(Reparser),
 }
 
 /// The nodes over tokens, and the parser's errors.
 #[derive(Drop)]
 pub struct Outline {
-    /// The kind of an expression's root; if it is not the kind of an expression, the root is an `ERROR`. The root of a file is a
-    /// `SOURCE_FILE` and that of a piece has the reparser's kind, whatever this is.
+    /// The kind of an expression's root; if it is not the kind of an expression, the root is an
+    /// `ERROR`. The root of a file is a `SOURCE_FILE` and that of a piece has the reparser's kind,
+    /// whatever this is.
     pub root: SyntaxKind,
     /// The nodes below the root, in the order in which they end ([`lay_out`](crate::lay_out)).
     pub spans: Vec<Span>,
@@ -28,8 +30,8 @@ pub struct Outline {
     pub errors: Vec<SyntaxError>,
 }
 
-/// A parser that returns its nodes as spans of tokens. Each result, except out of memory, is a function of the arguments; nothing
-/// has to be proved about that function.
+/// A parser that returns its nodes as spans of tokens. Each result, except out of memory, is a
+/// function of the arguments; nothing has to be proved about that function.
 pub trait Parser {
     // The results, as functions of the arguments.
     ghost parses: { Self → ParserAnswers };
@@ -41,10 +43,12 @@ pub trait Parser {
         target: Target,
         tokens: &[Token],
     ) -> Result<Outline, AllocError>
-        ensures { IfOk result (λ outline. outlined outline ≡ (parses self.now).outline target tokens.now) };
+        ensures { IfOk result
+            (λ outline. outlined outline ≡ (parses self.now).outline target tokens.now) };
 
-    /// The number of the rule by which a node of this kind may be parsed again by itself, or `None` if it may not. `first_child` is
-    /// the kind of its first child, node or token, and `parent` that of its parent.
+    /// The number of the rule by which a node of this kind may be parsed again by itself, or `None`
+    /// if it may not. `first_child` is the kind of its first child, node or token, and `parent`
+    /// that of its parent.
     fn reparser(
         &self,
         kind: SyntaxKind,

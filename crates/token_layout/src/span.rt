@@ -12,8 +12,8 @@ pub struct Token {
     pub len: TextSize,
 }
 
-/// A node over the tokens `first..end`. If that is empty, it is an empty node before token `first`: a sibling, never a child, of
-/// nodes that start there.
+/// A node over the tokens `first..end`. If that is empty, it is an empty node before token `first`:
+/// a sibling, never a child, of nodes that start there.
 #[derive(Clone, Copy, Debug, PartialEq, Eq)]
 pub struct Span {
     /// Its kind.

@@ -9,7 +9,8 @@ use syntax_kind::SyntaxKind;
 /// One more step.
 #[tactic(auto, using(crate::proofs::Push::front_steps_push))]
 pub fn add(steps: &mut Vec<Step>, step: Step) -> Result<(), AllocError>
-    ensures { OnOk result (front_steps steps.new.items ≡ front_steps steps.old.items ++ front_step step ∷ []) }
+    ensures { OnOk result
+        (front_steps steps.new.items ≡ front_steps steps.old.items ++ front_step step ∷ []) }
 {
     steps.push(step)?;
     Ok(())
@@ -23,9 +24,11 @@ fn turn(steps: &mut Vec<Step>)
     steps.reverse();
 }
 
-/// Reverses `steps`, which were made back to front, and wraps them in a `root` node. It takes time linear in their number.
+/// Reverses `steps`, which were made back to front, and wraps them in a `root` node. It takes time
+/// linear in their number.
 pub fn rooted(root: SyntaxKind, mut steps: Vec<Step>) -> Result<Vec<Step>, AllocError>
-    ensures { IfOk result (λ v. front_steps v.items ≡ begins root ∷ (reverse (front_steps steps.items) ++ ends ∷ [])) }
+    ensures { IfOk result (λ v. front_steps v.items
+        ≡ begins root ∷ (reverse (front_steps steps.items) ++ ends ∷ [])) }
 {
     add(&mut steps, Step::Enter(root))?;
     turn(&mut steps);
