@@ -1,8 +1,13 @@
 -- The ranges of an edit, compared with others one after the other.
-use Rattle.std.proofs.Common.{◌≡◌, List, [], ◌∷◌, length, map, refl, sym, subst, ◌∙◌, ap, arith}
+use Rattle.std.proofs.Common.{◌≡◌, ℕ, None, List, [], ◌∷◌, length, map, refl, sym, subst, ◌∙◌, ap, arith}
 use Rattle.text_size.specs.TextRange.{Bounds}
 use Rattle.text_edit.specs.Replacements.{Replacement}
-use Rattle.rust_rewrite.specs.Rewrites.{ranges_of}
+use Rattle.ras_front_end.specs.declared.edition.Edition.{Edition}
+use Rattle.ras_front_end.specs.Front.{Front}
+use Rattle.ras_front_end.specs.Parsed.{Parsed}
+use Rattle.tree_match.specs.declared.rule.Rule.{Rule}
+use Rattle.tree_match.specs.Finds.{Occurrence}
+use Rattle.rust_rewrite.specs.Rewrites.{ranges_of, IsRewrite, WithoutNeedless}
 
 nil_of : {A : Type 0} (xs : List A) → length xs ≡ 0 → xs ≡ []
 nil_of [] e = refl
@@ -23,3 +28,20 @@ one_same es es' a rs rs' b e r l f g d = record {
 
 pub all_same : (es a : List Replacement) (rs b : List Bounds) → LeftSame es rs a b → rs ≡ [] → length es ≡ 0 → ranges_of a ≡ b
 all_same es a rs b l f g = l.same (ap ranges_of (nil_of es g) ∙ sym f)
+
+-- ---- a text in which no pair was put
+
+pub none_put : (front : Front) (edition : Edition) (rules : List Rule) (old : Parsed) (found : List Occurrence) (edit : List Replacement) (s : List ℕ)
+    → IsRewrite front edition rules old found edit s → WithoutNeedless front edition s
+none_put front edition rules old found edit s w = record {
+  full = s;
+  parse = w.reads_as.parse;
+  is_parse = w.reads_as.is_parse;
+  candidates = [];
+  going = [];
+  tried = [];
+  without = None;
+  were_tried = record { in_order = refl; going = refl; sorted = tt; text = refl };
+  all = refl;
+  is_text = refl;
+}

@@ -27,7 +27,8 @@ use Rattle.rust_rewrite.specs.declared.refusal.Failure.{Failure}
 use Rattle.rust_rewrite.specs.declared.refusal.Failure.TheVariants as failure
 use Rattle.rust_rewrite.specs.declared.refusal.RewriteError.TheVariants.{ReadsOtherwise, LosesComment, TooLong, Memory}
 
--- the ranges of matches that are in no other match: those that start where the one before ends, or later
+-- the ranges of matches that are in no other match: those that start where the one before ends, or
+-- later
 abbrev pub outermost : ℕ → List Occurrence → List Bounds
 outermost n [] = []
 outermost n (m ∷ ms) = if nat_le n m.range.start then m.range ∷ outermost m.range.end ms else outermost n ms
@@ -35,15 +36,17 @@ outermost n (m ∷ ms) = if nat_le n m.range.start then m.range ∷ outermost m.
 abbrev pub ranges_of : List Replacement → List Bounds
 ranges_of es = map (λ e. e.delete) es
 
--- the text parses to the tree of the old one in which each match is its rule's template, with what its placeholders stand for put in,
--- but for white space, comments and pairs of parentheses; and with no more errors, those of validation among them
+-- the text parses to the tree of the old one in which each match is its rule's template, with what
+-- its placeholders stand for put in, but for white space, comments and pairs of parentheses; and
+-- with no more errors, those of validation among them
 pub record ReadsAs (front : Front) (edition : Edition) (rules : List Rule) (old : Parsed) (s : List ℕ) : Type 0 where
   pub parse : Parsed
   pub is_parse : IsParseOf s (front.parsed SourceFile edition s) parse
   pub errors : length (all_errors parse) ≤ length (all_errors old)
   pub reads : AllRead rules (inside_of (root_of old.tree)) (inside_of (root_of parse.tree))
 
--- the text is the old one with the outermost matches replaced, and nothing else, and reads as it is meant
+-- the text is the old one with the outermost matches replaced, and nothing else, and reads as it is
+-- meant
 pub record IsRewrite (front : Front) (edition : Edition) (rules : List Rule) (old : Parsed) (found : List Occurrence) (edit : List Replacement) (s : List ℕ) : Type 0 where
   pub matches : found ≡ found_in rules (root_of old.tree)
   pub places : ranges_of edit ≡ outermost 0 found
@@ -55,8 +58,8 @@ abbrev pub IsTextOf : List ℕ → Option (List ℕ) → List ℕ → Type 0
 IsTextOf full None s = s ≡ full
 IsTextOf full (Some t) s = s ≡ t
 
--- Some text with pairs of parentheses was parsed, and some of its pairs were tried: those that could go are not in the new text, and each
--- other one was refused beside them.
+-- Some text with pairs of parentheses was parsed, and some of its pairs were tried: those that
+-- could go are not in the new text, and each other one was refused beside them.
 pub record WithoutNeedless (front : Front) (edition : Edition) (s : List ℕ) : Type 0 where
   pub full : List ℕ
   pub parse : Parsed
@@ -99,7 +102,8 @@ is_in r n = nat_le r.start n && nat_lt n r.end
 abbrev pub has_comment : List ℕ → Bounds → Bool
 has_comment starts r = list_any (is_in r) starts
 
--- a comment is in what stands for the placeholder with a number, and the template of a form of the rule has not that placeholder
+-- a comment is in what stands for the placeholder with a number, and the template of a form of the
+-- rule has not that placeholder
 abbrev pub loses_value : List ℕ → Rule → ℕ → ℕ → Option Bounds → Bool
 loses_value starts rule form n None = false
 loses_value starts rule form n (Some r) = is_none (sort_by (slice_get rule.forms.items form) n) && has_comment starts r
@@ -121,7 +125,8 @@ loses_any rules starts ms = list_any (λ m. loses_by starts (slice_get rules m.r
 abbrev pub loses_comment : List Rule → Cursor → Bool
 loses_comment rules root = loses_any rules (comment_starts root) (found_in rules root)
 
--- why there is no new text: a comment would be lost; or none would be, and there is another reason; or memory ran out
+-- why there is no new text: a comment would be lost; or none would be, and there is another reason;
+-- or memory ran out
 abbrev pub IsRefused : List Rule → Cursor → RewriteError → Type 0
 IsRefused rules root LosesComment = loses_comment rules root ≡ true
 IsRefused rules root ReadsOtherwise = loses_comment rules root ≡ false

@@ -1,14 +1,16 @@
 //! The text of a file with the matches of rules replaced.
-ghost use Rattle.std.specs.Prelude.{◌≡◌, [], false, IfOk, IfErr, OnOk, IsTrue, map, string_bytes, slice_get, option_map};
+ghost use Rattle.std.specs.Prelude.{◌≡◌, [], false, IfOk, IfErr, IfSome, OnOk, IsTrue, map, string_bytes, slice_get, option_map};
 ghost use Rattle.std.specs.Ordering.{nat_cmp};
 ghost use Rattle.std.specs.List.Sorted.{IsSorted, IsPermutation};
+ghost use Rattle.text_edit.specs.Replacements.{edited};
 ghost use Rattle.tree_model.specs.Tree.{text};
 ghost use Rattle.tree_model.specs.Edit.{root_of};
 ghost use Rattle.tree_match.specs.Finds.{occurrence_of, found_in};
 ghost use Rattle.rust_rewrite.specs.Rewrites.{ranges_of, outermost, ReadsAs, IsRewrite, WithoutNeedless, is_comment, comment_starts, has_comment, loses_value, loses_from, loses_by, loses_any, loses_comment, IsCommentLost, IsRefused};
 
+use crate::plain::need_none;
 use crate::refusal::{Failure, RewriteError};
-use crate::render::{Rendered, Source, render};
+use crate::render::{Pairs, Rendered, Source, render};
 use lossless_tree::{SyntaxElement, SyntaxKind, SyntaxNode, TextRange};
 use ras_front_end::{Edition, Entry, FrontEnd};
 use ras_parsing::{Parse, read};
@@ -118,7 +120,8 @@ fn loses_value_of(starts: &[usize], rule: &Rule, form: usize, values: &[Option<T
 #[tactic(auto, using(crate::proofs::LossLemmas::no_rule, crate::proofs::LossLemmas::some_rule))]
 fn loses_comment(starts: &[usize], rules: &[Rule], found: &Match) -> bool
     requires { IsSorted nat_cmp starts.now }
-    ensures { result ≡ loses_by starts.now (slice_get rules.now found.now.rule) (occurrence_of found.now) }
+    ensures { result
+        ≡ loses_by starts.now (slice_get rules.now found.now.rule) (occurrence_of found.now) }
 {
     match numbered(rules, found.rule) {
         None => false,
@@ -147,8 +150,10 @@ fn check_comments(
     rules: &[Rule],
     matches: &[Match],
 ) -> Result<(), RewriteError>
-    ensures kept { OnOk result (loses_any rules.now (comment_starts root.now) (map occurrence_of matches.now) ≡ false) }
-    ensures lost { IfErr result (IsCommentLost (loses_any rules.now (comment_starts root.now) (map occurrence_of matches.now))) }
+    ensures kept { OnOk result
+        (loses_any rules.now (comment_starts root.now) (map occurrence_of matches.now) ≡ false) }
+    ensures lost { IfErr result (IsCommentLost
+        (loses_any rules.now (comment_starts root.now) (map occurrence_of matches.now))) }
 {
     let starts = sorted_starts(alloc, root)?;
     if loses_any(&starts, rules, matches) {
@@ -157,7 +162,8 @@ fn check_comments(
     Ok(())
 }
 
-// The pairs of a tree whose `(` is at one of these offsets, and that the tests of operators and statements let go.
+// The pairs of a tree whose `(` is at one of these offsets, and that the tests of operators and
+// statements let go.
 fn candidates(
     alloc: Global,
     root: &SyntaxNode,
@@ -246,50 +252,78 @@ fn are_ranges(edit: &TextEdit, ranges: &[TextRange]) -> bool
     }
 }
 
-// Whether a text reads as the old tree with the matches replaced, with no more errors.
-fn reads<F: FrontEnd>(
+// The parse of a text, if that reads as the old tree with the matches replaced, with no more
+// errors.
+fn read_meant<F: FrontEnd>(
     alloc: Global,
     front: &F,
     edition: Edition,
     rules: &[Rule],
     old: &Parse<SyntaxNode>,
     text: &str,
-) -> Result<bool, Failure>
-    ensures { IfOk result (λ yes. IsTrue yes → ReadsAs (F.answers front.now) edition rules.now old.now text.now) }
+) -> Result<Option<Parse<SyntaxNode>>, Failure>
+    ensures { IfOk result
+        (λ o. IfSome o (λ p. ReadsAs (F.answers front.now) edition rules.now old.now text.now)) }
 {
     let new: Parse<SyntaxNode> = read(alloc, front, Entry::SourceFile, text, edition)?;
     if new.errors(alloc)?.len() > old.errors(alloc)?.len() {
-        return Ok(false);
+        return Ok(None);
     }
-    Ok(reads_as(alloc, rules, old.root(), new.root())?)
+    if reads_as(alloc, rules, old.root(), new.root())? {
+        Ok(Some(new))
+    } else {
+        Ok(None)
+    }
+}
+
+// A text by an edit of another one, if the edit replaces the outermost matches.
+fn edited(
+    alloc: Global,
+    text: &str,
+    matches: &[Match],
+    edit: &TextEdit,
+) -> Result<Option<String>, Failure>
+    ensures places { IfOk result
+        (λ o. IfSome o (λ t. ranges_of edit.now ≡ outermost 0 (map occurrence_of matches.now))) }
+    ensures text { IfOk result (λ o. IfSome o (λ t. string_bytes t ≡ edited text.now edit.now)) }
+{
+    let ranges = outermost(alloc, matches)?;
+    if !are_ranges(edit, &ranges) {
+        return Ok(None);
+    }
+    Ok(Some(edit.apply(alloc, text)?))
+}
+
+// A new text, and how it reads.
+#[derive(Drop)]
+struct NewText {
+    text: String,
+    parse: Parse<SyntaxNode>,
 }
 
 // The new text by an edit, if it is what it should be.
-fn checked<F: FrontEnd>(
+fn made<F: FrontEnd>(
     alloc: Global,
     front: &F,
     edition: Edition,
     rules: &[Rule],
     old: &Parse<SyntaxNode>,
-    matches: Vec<Match>,
-    edit: TextEdit,
-) -> Result<Rewritten, Failure>
-    requires { map occurrence_of matches.items ≡ found_in rules.now (root_of old.now.tree) }
-    ensures { IfOk result (λ r. IsRewrite (F.answers front.now) edition rules.now old.now (map occurrence_of r.matches.items) r.edit (string_bytes r.text)) }
+    matches: &[Match],
+    edit: &TextEdit,
+) -> Result<Option<NewText>, Failure>
+    requires { map occurrence_of matches.now ≡ found_in rules.now (root_of old.now.tree) }
+    ensures { IfOk result (λ o.
+        IfSome o (λ m.
+        IsRewrite (F.answers front.now) edition rules.now old.now
+        (map occurrence_of matches.now) edit.now (string_bytes m.text))) }
 {
-    let ranges = outermost(alloc, &matches)?;
-    if !are_ranges(&edit, &ranges) {
-        return Err(Failure::ReadsOtherwise);
+    let Some(text) = edited(alloc, old.root().as_str(), matches, edit)? else {
+        return Ok(None);
+    };
+    match read_meant(alloc, front, edition, rules, old, text.as_str())? {
+        None => Ok(None),
+        Some(parse) => Ok(Some(NewText { text, parse })),
     }
-    let text = edit.apply(alloc, old.root().as_str())?;
-    if !reads(alloc, front, edition, rules, old, text.as_str())? {
-        return Err(Failure::ReadsOtherwise);
-    }
-    Ok(Rewritten {
-        matches,
-        edit,
-        text,
-    })
 }
 
 // The ranges of the statements without a `;` in a tree.
@@ -303,6 +337,27 @@ fn open_statements(alloc: Global, root: &SyntaxNode) -> Result<Vec<TextRange>, A
     Ok(ranges)
 }
 
+// The text with the matches of a tree replaced, with some of the pairs.
+fn text_with(
+    alloc: Global,
+    rules: &[Rule],
+    root: &SyntaxNode,
+    matches: &[Match],
+    open: &[TextRange],
+    pairs: Pairs<'_>,
+) -> Result<Rendered, Failure> {
+    render(
+        alloc,
+        &Source {
+            old: root.as_str(),
+            rules,
+            matches,
+            open,
+            pairs,
+        },
+    )
+}
+
 // The edit of an old tree by which its matches are replaced, and the new text that comes out.
 fn planned<F: FrontEnd>(
     alloc: Global,
@@ -311,21 +366,11 @@ fn planned<F: FrontEnd>(
     rules: &[Rule],
     root: &SyntaxNode,
     matches: &[Match],
+    open: &[TextRange],
 ) -> Result<(TextEdit, String), Failure>
     ensures { IfOk result (λ p. WithoutNeedless (F.answers front.now) edition (string_bytes p.1)) }
 {
-    let open = open_statements(alloc, root)?;
-    let full = render(
-        alloc,
-        &Source {
-            old: root.as_str(),
-            rules,
-            matches,
-            open: &open,
-            gone: &[],
-            guide: "",
-        },
-    )?;
+    let full = text_with(alloc, rules, root, matches, open, Pairs::All)?;
     let parse: Parse<SyntaxNode> = read(
         alloc,
         front,
@@ -337,37 +382,85 @@ fn planned<F: FrontEnd>(
     let needless = find_needless_among(alloc, front, Entry::SourceFile, edition, &parse, tried)?;
     let gone = gone_of(alloc, &full.pairs, &needless.pairs)?;
     let meant = needless.text.unwrap_or(full.text);
-    let last = render(
-        alloc,
-        &Source {
-            old: root.as_str(),
-            rules,
-            matches,
-            open: &open,
-            gone: &gone,
-            guide: meant.as_str(),
-        },
-    )?;
+    let pairs = Pairs::Without(&gone, meant.as_str());
+    let last = text_with(alloc, rules, root, matches, open, pairs)?;
     Ok((edit_of(alloc, &last)?, meant))
 }
 
-// The matches in a tree. Refuses them if a comment would be lost.
-#[tactic(auto, using(crate::proofs::LossLemmas::lost_refused, crate::proofs::LossLemmas::memory_refused, crate::proofs::LossLemmas::none_lost))]
-fn kept_matches(
+// The text with these matches replaced, with those pairs that are needed.
+fn with_pairs<F: FrontEnd>(
+    alloc: Global,
+    front: &F,
+    edition: Edition,
+    rules: &[Rule],
+    old: &Parse<SyntaxNode>,
+    matches: Vec<Match>,
+    open: &[TextRange],
+) -> Result<Rewritten, Failure>
+    requires { map occurrence_of matches.items ≡ found_in rules.now (root_of old.now.tree) }
+    ensures rewritten { IfOk result (λ r.
+        IsRewrite (F.answers front.now) edition rules.now old.now
+        (map occurrence_of r.matches.items) r.edit (string_bytes r.text)) }
+    ensures needless { IfOk result
+        (λ r. WithoutNeedless (F.answers front.now) edition (string_bytes r.text)) }
+{
+    let (edit, meant) = planned(alloc, front, edition, rules, old.root(), &matches, open)?;
+    match made(alloc, front, edition, rules, old, &matches, &edit)? {
+        Some(done) if done.text.as_str() == meant.as_str() => Ok(Rewritten {
+            matches,
+            edit,
+            text: done.text,
+        }),
+        _ => Err(Failure::ReadsOtherwise),
+    }
+}
+
+// What replaces the matches if no pair is put, and the text that comes out, if that is as meant and
+// needs no pair. Most replacements need none, so that the text is parsed once.
+fn without_pairs<F: FrontEnd>(
+    alloc: Global,
+    front: &F,
+    edition: Edition,
+    rules: &[Rule],
+    old: &Parse<SyntaxNode>,
+    matches: &[Match],
+    open: &[TextRange],
+) -> Result<Option<(TextEdit, String)>, Failure>
+    requires { map occurrence_of matches.now ≡ found_in rules.now (root_of old.now.tree) }
+    ensures { IfOk result (λ o.
+        IfSome o (λ p.
+        IsRewrite (F.answers front.now) edition rules.now old.now
+        (map occurrence_of matches.now) p.0 (string_bytes p.1))) }
+{
+    let plain = text_with(alloc, rules, old.root(), matches, open, Pairs::Absent)?;
+    if plain.may_join {
+        return Ok(None);
+    }
+    let edit = edit_of(alloc, &plain)?;
+    match made(alloc, front, edition, rules, old, matches, &edit)? {
+        Some(done) if need_none(done.parse.root(), &plain.spans) => Ok(Some((edit, done.text))),
+        _ => Ok(None),
+    }
+}
+
+// Refuses the matches in a tree if a comment would be lost.
+#[tactic(auto, using(crate::proofs::LossLemmas::lost_refused, crate::proofs::LossLemmas::none_lost))]
+fn check_matches(
     alloc: Global,
     rules: &[Rule],
     root: &SyntaxNode,
-) -> Result<Vec<Match>, RewriteError>
-    ensures found { IfOk result (λ m. map occurrence_of m.items ≡ found_in rules.now root.now) }
+    matches: &[Match],
+) -> Result<(), RewriteError>
+    requires { map occurrence_of matches.now ≡ found_in rules.now root.now }
     ensures kept { OnOk result (loses_comment rules.now root.now ≡ false) }
     ensures refused { IfErr result (IsRefused rules.now root.now) }
 {
-    let matches = find(alloc, rules, root)?;
-    check_comments(alloc, root, rules, &matches)?;
-    Ok(matches)
+    check_comments(alloc, root, rules, matches)?;
+    Ok(())
 }
 
 // The text with these matches replaced.
+#[tactic(auto, using(crate::proofs::EditLemmas::none_put))]
 fn replaced<F: FrontEnd>(
     alloc: Global,
     front: &F,
@@ -377,33 +470,44 @@ fn replaced<F: FrontEnd>(
     matches: Vec<Match>,
 ) -> Result<Rewritten, Failure>
     requires { map occurrence_of matches.items ≡ found_in rules.now (root_of old.now.tree) }
-    ensures rewritten { IfOk result (λ r. IsRewrite (F.answers front.now) edition rules.now old.now (map occurrence_of r.matches.items) r.edit (string_bytes r.text)) }
-    ensures needless { IfOk result (λ r. WithoutNeedless (F.answers front.now) edition (string_bytes r.text)) }
+    ensures rewritten { IfOk result (λ r.
+        IsRewrite (F.answers front.now) edition rules.now old.now
+        (map occurrence_of r.matches.items) r.edit (string_bytes r.text)) }
+    ensures needless { IfOk result
+        (λ r. WithoutNeedless (F.answers front.now) edition (string_bytes r.text)) }
 {
-    let (edit, meant) = planned(alloc, front, edition, rules, old.root(), &matches)?;
-    let done = checked(alloc, front, edition, rules, old, matches, edit)?;
-    if done.text.as_str() == meant.as_str() {
-        Ok(done)
-    } else {
-        Err(Failure::ReadsOtherwise)
+    let open = open_statements(alloc, old.root())?;
+    match without_pairs(alloc, front, edition, rules, old, &matches, &open)? {
+        Some((edit, text)) => Ok(Rewritten {
+            matches,
+            edit,
+            text,
+        }),
+        None => with_pairs(alloc, front, edition, rules, old, matches, &open),
     }
 }
 
-/// The text of a parsed file with the matches of rules replaced, and parentheses exactly where they are needed.
+/// The text of a parsed file with the matches of rules replaced, and parentheses exactly where they
+/// are needed.
 ///
-/// Each match that [`find`] returns becomes its rule's template, with what its placeholders stand for put in; matches in these are replaced
-/// too. `foo(1, 2) * 3` by `foo($a, $b) ==>> $a + $b` becomes `(1 + 2) * 3`. All rules must have templates. A match with a comment
-/// between its tokens is none, since the comment would be lost; comments in what stands for placeholders are kept with it.
+/// Each match that [`find`] returns becomes its rule's template, with what its placeholders stand
+/// for put in; matches in these are replaced too. `foo(1, 2) * 3` by `foo($a, $b) ==>> $a + $b`
+/// becomes `(1 + 2) * 3`. All rules must have templates. A match with a comment between its tokens
+/// is none, since the comment would be lost; comments in what stands for placeholders are kept with
+/// it.
 ///
-/// Every value and every replacement is put into a pair of parentheses, and those pairs that are needless go, by the parses of
-/// [`find_needless_among`]. The user's own pairs stay. What is outside of the matches is kept byte for byte. Takes a few parses of the
-/// text, and time linear in the text for each rule.
+/// Every value and every replacement is put into a pair of parentheses, and those pairs that are
+/// needless go, by the parses of [`find_needless_among`]. The user's own pairs stay. What is
+/// outside of the matches is kept byte for byte. Takes a few parses of the text, and time linear in
+/// the text for each rule.
 ///
 /// # Errors
 ///
-/// `ReadsOtherwise` if the new text does not parse to the tree that is meant, or with more errors than the old one, as where an expression
-/// stands that is also a name; `LosesComment` if a comment is in what stands for a placeholder that the template has not; `TooLong` if it is too long; `Memory` at any time.
-#[tactic(auto, using(crate::proofs::LossLemmas::failure_refused, crate::proofs::LossLemmas::stays))]
+/// `ReadsOtherwise` if the new text does not parse to the tree that is meant, or with more errors
+/// than the old one, as where an expression stands that is also a name; `LosesComment` if a comment
+/// is in what stands for a placeholder that the template has not; `TooLong` if it is too long;
+/// `Memory` at any time.
+#[tactic(auto, using(crate::proofs::LossLemmas::memory_refused))]
 pub fn rewrite<F: FrontEnd>(
     alloc: Global,
     front: &F,
@@ -411,12 +515,46 @@ pub fn rewrite<F: FrontEnd>(
     rules: &[Rule],
     old: &Parse<SyntaxNode>,
 ) -> Result<Rewritten, RewriteError>
-    ensures rewritten { IfOk result (λ r. IsRewrite (F.answers front.now) edition rules.now old.now (map occurrence_of r.matches.items) r.edit (string_bytes r.text)) }
-    ensures needless { IfOk result (λ r. WithoutNeedless (F.answers front.now) edition (string_bytes r.text)) }
-    ensures unchanged { IfOk result (λ r. r.matches.items ≡ [] → string_bytes r.text ≡ text old.now.tree) }
+    ensures rewritten { IfOk result (λ r.
+        IsRewrite (F.answers front.now) edition rules.now old.now
+        (map occurrence_of r.matches.items) r.edit (string_bytes r.text)) }
+    ensures needless { IfOk result
+        (λ r. WithoutNeedless (F.answers front.now) edition (string_bytes r.text)) }
+    ensures unchanged { IfOk result
+        (λ r. r.matches.items ≡ [] → string_bytes r.text ≡ text old.now.tree) }
     ensures kept { OnOk result (loses_comment rules.now (root_of old.now.tree) ≡ false) }
     ensures refused { IfErr result (IsRefused rules.now (root_of old.now.tree)) }
 {
-    let matches = kept_matches(alloc, rules, old.root())?;
+    let matches = find(alloc, rules, old.root())?;
+    rewrite_matches(alloc, front, edition, rules, old, matches)
+}
+
+/// The same where the matches are known: those that [`find`] returns for these rules and this
+/// parse.
+///
+/// # Errors
+///
+/// Those of [`rewrite`].
+#[tactic(auto, using(crate::proofs::LossLemmas::failure_refused, crate::proofs::LossLemmas::stays))]
+pub fn rewrite_matches<F: FrontEnd>(
+    alloc: Global,
+    front: &F,
+    edition: Edition,
+    rules: &[Rule],
+    old: &Parse<SyntaxNode>,
+    matches: Vec<Match>,
+) -> Result<Rewritten, RewriteError>
+    requires { map occurrence_of matches.items ≡ found_in rules.now (root_of old.now.tree) }
+    ensures rewritten { IfOk result (λ r.
+        IsRewrite (F.answers front.now) edition rules.now old.now
+        (map occurrence_of r.matches.items) r.edit (string_bytes r.text)) }
+    ensures needless { IfOk result
+        (λ r. WithoutNeedless (F.answers front.now) edition (string_bytes r.text)) }
+    ensures unchanged { IfOk result
+        (λ r. r.matches.items ≡ [] → string_bytes r.text ≡ text old.now.tree) }
+    ensures kept { OnOk result (loses_comment rules.now (root_of old.now.tree) ≡ false) }
+    ensures refused { IfErr result (IsRefused rules.now (root_of old.now.tree)) }
+{
+    check_matches(alloc, rules, old.root(), &matches)?;
     Ok(replaced(alloc, front, edition, rules, old, matches)?)
 }

@@ -154,6 +154,31 @@ impl<'a> Reader<'a> {
         }
     }
 
+    // The test that a word begins, which is not `not`.
+    fn test(&mut self, alloc: Global, word: &str, start: usize) -> Result<Test, RuleError>
+        ensures { IfErr result (λ e. is_other e.fault ≡ true) }
+    {
+        if word == "kind" {
+            self.open()?;
+            return Ok(Test::Kind(self.kind(alloc)?));
+        }
+        if word == "text" {
+            self.open()?;
+            return Ok(Test::Text(self.regex(alloc)?));
+        }
+        Err(fault(RuleFault::NoCondition, start))
+    }
+
+    // Passes over so many `)` and one more.
+    fn close_all(&mut self, nots: usize) -> Result<(), RuleError>
+        ensures { IfErr result (λ e. is_other e.fault ≡ true) }
+    {
+        for _not in 0..=nots {
+            self.close()?;
+        }
+        Ok(())
+    }
+
     // The condition that is next.
     fn condition(&mut self, alloc: Global) -> Result<Condition, RuleError>
         ensures { IfErr result (λ e. is_other e.fault ≡ true) }
@@ -162,29 +187,17 @@ impl<'a> Reader<'a> {
         for _turn in 0..=self.text.len() {
             self.skip_blanks();
             let start = self.base.saturating_add(self.at);
-            let test = match self.word() {
-                "not" => {
-                    self.open()?;
-                    nots = nots.saturating_add(1);
-                    continue;
-                }
-                "kind" => {
-                    self.open()?;
-                    Test::Kind(self.kind(alloc)?)
-                }
-                "text" => {
-                    self.open()?;
-                    Test::Text(self.regex(alloc)?)
-                }
-                _ => return Err(fault(RuleFault::NoCondition, start)),
-            };
-            for _not in 0..=nots {
-                self.close()?;
+            let word = self.word();
+            if word != "not" {
+                let test = self.test(alloc, word, start)?;
+                self.close_all(nots)?;
+                return Ok(Condition {
+                    test,
+                    is_not: nots % 2 == 1,
+                });
             }
-            return Ok(Condition {
-                test,
-                is_not: nots % 2 == 1,
-            });
+            self.open()?;
+            nots = nots.saturating_add(1);
         }
         Err(self.refusal(RuleFault::NoCondition))
     }

@@ -3,71 +3,104 @@ ghost use Rattle.std.specs.Prelude.{◌≡◌};
 
 use ras_front_end::ParseError;
 use std::alloc::AllocError;
+use std::error::Error;
+use std::fmt;
 
 /// What is wrong with a rule.
-#[derive(Debug, Drop, thiserror::Error)]
+#[derive(Debug, Drop)]
 pub enum RuleFault {
     /// There is no `==>>`.
-    #[error("expected `==>>` between a pattern and a template")]
     NoArrow,
     /// There is a second `==>>`, or one in a pattern without a template.
-    #[error("expected one pattern, without a further `==>>`")]
     FurtherArrow,
     /// No name follows directly behind a `$`.
-    #[error("expected the name of a placeholder behind `$`")]
     NoName,
     /// Behind the name or a condition of a placeholder in braces is neither `:` nor `}`.
-    #[error("expected `:` and a condition, or `}}`")]
     NoBrace,
     /// A placeholder in braces has a `:` without a condition.
-    #[error("expected a condition: `kind(..)`, `text(/../)` or `not(..)`")]
     NoCondition,
     /// The `(` of a condition is missing.
-    #[error("expected `(`")]
     NoOpening,
     /// The `)` of a condition is missing.
-    #[error("expected `)`")]
     NoClosing,
     /// The word in `kind(..)` names no kind.
-    #[error("expected the name of a kind, as `literal`, not `{0}`; `tree` shows the kinds of a text")]
     UnknownKind(String),
     /// In `text(..)` is no regular expression between two `/`.
-    #[error("expected a regular expression between `/` and `/`")]
     NoRegex,
     /// The regular expression in `text(/../)` is not well formed.
-    #[error("{0}")]
     BadRegex(regex::Error),
     /// A placeholder of a template has conditions.
-    #[error("expected the condition in the pattern, not in the template")]
     TemplateCondition,
     /// A word stands directly before a `$`.
-    #[error("expected white space before the placeholder")]
     Joined,
     /// The template has a placeholder that the pattern has not.
-    #[error("expected a placeholder of the pattern")]
     Unknown,
-    /// The text is of no kind that it could be: the name of the kind of which most of it was read, and what the parser says.
-    #[error("this is no {0}")]
+    /// The text is of no kind that it could be: the name of the kind of which most of it was read,
+    /// and what the parser says.
     Syntax(String),
     /// A placeholder stands where nothing is that it can stand for, as in the arguments of a macro.
-    #[error("expected a place of an expression, a type, a pattern, a path or a name for this placeholder")]
     Misplaced,
     /// A placeholder has one `$` here and two of them there.
-    #[error("expected one `$` or two before this name, as where it stands first")]
     ListName,
     /// A placeholder for a list comes twice in a side, or beside another one in one list.
-    #[error("expected one placeholder for a list, which comes once, in each list")]
     ListTwice,
     /// The pattern is a placeholder, which each expression is.
-    #[error("expected a pattern that is more than a placeholder")]
     Everything,
     /// The rule is too long.
-    #[error("the rule is longer than 4294967295 bytes")]
     TooLong,
     /// Out of memory.
-    #[error("out of memory")]
     Memory,
 }
+
+fn write_unknown<W: fmt::Write>(f: &mut fmt::Formatter<W>, word: &str) -> fmt::Result {
+    write!(
+        f,
+        "expected the name of a kind, as `literal`, not `{word}`; `tree` shows the kinds of a text"
+    )
+}
+
+impl RuleFault {
+    // What is wrong, but for the faults that have a text of their own.
+    fn told(&self) -> &'static str {
+        match self {
+            RuleFault::NoArrow => "expected `==>>` between a pattern and a template",
+            RuleFault::FurtherArrow => "expected one pattern, without a further `==>>`",
+            RuleFault::NoName => "expected the name of a placeholder behind `$`",
+            RuleFault::NoBrace => "expected `:` and a condition, or `}`",
+            RuleFault::NoCondition => "expected a condition: `kind(..)`, `text(/../)` or `not(..)`",
+            RuleFault::NoOpening => "expected `(`",
+            RuleFault::NoClosing => "expected `)`",
+            RuleFault::NoRegex => "expected a regular expression between `/` and `/`",
+            RuleFault::TemplateCondition =>
+                "expected the condition in the pattern, not in the template",
+            RuleFault::Joined => "expected white space before the placeholder",
+            RuleFault::Unknown => "expected a placeholder of the pattern",
+            RuleFault::Misplaced =>
+                "expected a place of an expression, a type, a pattern, a path or a name for this placeholder",
+            RuleFault::ListName =>
+                "expected one `$` or two before this name, as where it stands first",
+            RuleFault::ListTwice =>
+                "expected one placeholder for a list, which comes once, in each list",
+            RuleFault::Everything => "expected a pattern that is more than a placeholder",
+            RuleFault::TooLong => "the rule is longer than 4294967295 bytes",
+            RuleFault::Memory => "out of memory",
+            RuleFault::UnknownKind(_) | RuleFault::BadRegex(_) | RuleFault::Syntax(_) => "",
+        }
+    }
+}
+
+impl fmt::Display for RuleFault {
+    fn fmt<W: fmt::Write>(&self, f: &mut fmt::Formatter<W>) -> fmt::Result {
+        match self {
+            RuleFault::UnknownKind(word) => write_unknown(f, word.as_str()),
+            RuleFault::BadRegex(error) => write!(f, "{error}"),
+            RuleFault::Syntax(told) => write!(f, "this is no {told}"),
+            _ => f.write_str(self.told()),
+        }
+    }
+}
+
+impl Error for RuleFault {}
 
 /// Why a rule is refused, and where.
 #[derive(Debug, Drop, thiserror::Error)]

@@ -58,7 +58,8 @@ fn placed(refusal: RuleRefusal, names: &Names, start: usize) -> RuleError
     }
 }
 
-// Adds what a rule is for one kind of syntax, if its sides are of it. Else returns why they are not.
+// Adds what a rule is for one kind of syntax, if its sides are of it. Else returns why they are
+// not.
 fn add_form<F: FrontEnd>(
     alloc: Global,
     words: &Words<'_, F>,
@@ -91,7 +92,8 @@ fn add_form<F: FrontEnd>(
     }
 }
 
-// The refusal of sides that are of no kind: by the one of which most was read, of those before the first.
+// The refusal of sides that are of no kind: by the one of which most was read, of those before the
+// first.
 fn refusal_of(sides: &Sides, names: &Names, miss: Option<Miss>) -> RuleError
     ensures { is_other result.fault ≡ true }
 {

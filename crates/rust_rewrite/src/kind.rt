@@ -5,7 +5,7 @@ ghost use Rattle.rust_rewrite.specs.Rules.{is_other};
 use crate::error::RuleError;
 use crate::side::{Side, Words};
 use lossless_tree::{SyntaxKind, SyntaxNode};
-use ras_front_end::{Entry, FrontEnd};
+use ras_front_end::{Entry, FrontEnd, SyntaxError};
 use ras_node::sets::{Exprs, Items, KindSet, Pats, Types};
 use ras_parsing::{Parse, read};
 use rust_report::plain_message;
@@ -130,6 +130,74 @@ struct Reading {
     arms: Vec<usize>,
 }
 
+// The text that is parsed for a text of a kind.
+fn file_of(alloc: Global, text: &str, before: &str, behind: &str) -> Result<String, AllocError> {
+    let mut file = String::from_str(alloc, before)?;
+    file.push_str(text)?;
+    file.push_str(behind)?;
+    Ok(file)
+}
+
+// Where an error is in a text that starts at an offset.
+fn place_of(error: &SyntaxError, start: usize) -> usize {
+    (error.range().start().raw() as usize).saturating_sub(start)
+}
+
+// Whether an error is one of an element of a list, at a place where a word for one ends.
+fn is_of_element(error: &SyntaxError, lists: &[usize], start: usize) -> bool {
+    lists.contains(&place_of(error, start)) && OF_ELEMENTS.contains(&error.message())
+}
+
+// The places of such errors that want an arm.
+fn arms_of(
+    alloc: Global,
+    errors: &[SyntaxError],
+    lists: &[usize],
+    start: usize,
+) -> Result<Vec<usize>, AllocError> {
+    let mut arms = Vec::new(alloc);
+    for error in errors {
+        if is_of_element(error, lists, start) && error.message() == ARROW {
+            arms.push(place_of(error, start))?;
+        }
+    }
+    Ok(arms)
+}
+
+// The first of the other errors, as it is told, and its place in a text of so many bytes.
+fn told_of(
+    alloc: Global,
+    errors: &[SyntaxError],
+    lists: &[usize],
+    start: usize,
+    len: usize,
+) -> Result<Option<(String, usize)>, AllocError> {
+    for error in errors {
+        if !is_of_element(error, lists, start) {
+            let message = format!(in alloc; "{}", plain_message(error.message()))?;
+            return Ok(Some((message, place_of(error, start).min(len))));
+        }
+    }
+    Ok(None)
+}
+
+// What is read of a text that starts at an offset of the one that was parsed.
+fn read_in(
+    alloc: Global,
+    parse: &Parse<SyntaxNode>,
+    lists: &[usize],
+    kind: RuleKind,
+    start: usize,
+    len: usize,
+) -> Result<Reading, AllocError> {
+    let errors = parse.errors(alloc)?;
+    Ok(Reading {
+        node: node_in(kind, parse.root(), start, start.saturating_add(len)),
+        error: told_of(alloc, &errors, lists, start, len)?,
+        arms: arms_of(alloc, &errors, lists, start)?,
+    })
+}
+
 // Reads a text as one of a kind. At some places of it, where words for lists end, errors of
 // elements do not count.
 fn reading_of<F: FrontEnd>(
@@ -142,27 +210,9 @@ fn reading_of<F: FrontEnd>(
     ensures { IfErr result (λ e. is_other e.fault ≡ true) }
 {
     let (entry, before, behind) = kind.entry();
-    let file = format!(in alloc; "{before}{text}{behind}")?;
+    let file = file_of(alloc, text, before, behind)?;
     let parse: Parse<SyntaxNode> = read(alloc, words.front, entry, file.as_str(), words.edition)?;
-    let start = before.len();
-    let end = start.saturating_add(text.len());
-    let mut reading = Reading {
-        node: node_in(kind, parse.root(), start, end),
-        error: None,
-        arms: Vec::new(alloc),
-    };
-    for error in parse.errors(alloc)? {
-        let at = (error.range().start().raw() as usize).saturating_sub(start);
-        if lists.contains(&at) && OF_ELEMENTS.contains(&error.message()) {
-            if error.message() == ARROW {
-                reading.arms.push(at).map_err(AllocError::from)?;
-            }
-        } else if reading.error.is_none() {
-            let message = format!(in alloc; "{}", plain_message(error.message()))?;
-            reading.error = Some((message, at.min(text.len())));
-        }
-    }
-    Ok(reading)
+    Ok(read_in(alloc, &parse, lists, kind, before.len(), text.len())?)
 }
 
 // A text in which an arm of a `match` stands in place of the word that ends at each of some places:

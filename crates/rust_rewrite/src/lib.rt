@@ -1,4 +1,5 @@
-//! Search and replace by rules: the text of a file with the matches replaced, and parentheses exactly where they are needed.
+//! Search and replace by rules: the text of a file with the matches replaced, and parentheses
+//! exactly where they are needed.
 #![tactic(auto)]
 
 mod applied;
@@ -7,11 +8,12 @@ mod error;
 mod forms;
 mod kind;
 mod parse;
+mod plain;
 mod refusal;
 mod render;
 mod side;
 
-pub use applied::{Rewritten, rewrite};
+pub use applied::{Rewritten, rewrite, rewrite_matches};
 pub use error::{RuleError, RuleFault};
 pub use parse::{parse_pattern, parse_rule, parse_rules};
 pub use refusal::RewriteError;

@@ -60,7 +60,8 @@ pub fn parse_rule<F: FrontEnd>(
 
 // What is before the first `==>>` of a text, and what is behind it.
 fn split(text: &str) -> Option<(&str, &str)>
-    ensures { MatchOption result (HasArrow text.now → ⊥) (λ p. IsFirstSplit text.now p.0.now p.1.now) }
+    ensures { MatchOption result (HasArrow text.now → ⊥)
+        (λ p. IsFirstSplit text.now p.0.now p.1.now) }
 {
     text.split_once(ARROW)
 }
@@ -135,7 +136,8 @@ pub fn parse_pattern<F: FrontEnd>(
     text: &str,
 ) -> Result<Rule, RuleError>
     ensures refused { IfErr result (λ e. e.offset ≤ length text.now) }
-    ensures arrow { MatchResult result (λ _. HasArrow text.now → ⊥) (λ e. IsPatternFault text.now e.fault) }
+    ensures arrow { MatchResult result (λ _. HasArrow text.now → ⊥)
+        (λ e. IsPatternFault text.now e.fault) }
 {
     match search_rule(alloc, front, edition, text) {
         Ok(rule) => Ok(rule),
@@ -150,7 +152,8 @@ fn search_rule<F: FrontEnd>(
     edition: Edition,
     text: &str,
 ) -> Result<Rule, RuleError>
-    ensures { MatchResult result (λ _. HasArrow text.now → ⊥) (λ e. IsPatternFault text.now e.fault) }
+    ensures { MatchResult result (λ _. HasArrow text.now → ⊥)
+        (λ e. IsPatternFault text.now e.fault) }
 {
     if let Some(at) = arrow_at(text) {
         return Err(fault(RuleFault::FurtherArrow, at));
@@ -198,8 +201,8 @@ fn line_rule<F: FrontEnd>(
     }
 }
 
-/// The rules of a text, one a line: each a pattern, or a pattern and its template with `==>>` between them. Lines that are empty or
-/// begin with `#` are passed over, white space aside.
+/// The rules of a text, one a line: each a pattern, or a pattern and its template with `==>>`
+/// between them. Lines that are empty or begin with `#` are passed over, white space aside.
 ///
 /// # Errors
 ///

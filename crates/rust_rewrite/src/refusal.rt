@@ -7,13 +7,15 @@ use text_edit::{ApplyError, OverlapError};
 /// Why the matches of a text are not replaced.
 #[derive(Clone, Copy, Debug, PartialEq, Eq, Drop, thiserror::Error)]
 pub enum RewriteError {
-    /// The new text does not parse to the tree that is meant, or it has more errors, those of validation among them.
+    /// The new text does not parse to the tree that is meant, or it has more errors, those of
+    /// validation among them.
     #[error("the new text reads otherwise")]
     ReadsOtherwise,
     /// A comment would be lost: it is in what stands for a placeholder that is not in the template.
     #[error("a comment would be lost")]
     LosesComment,
-    /// The new text is too long: more than sixteen times as long as the old one and 1 MiB, or than 4,294,967,295 bytes.
+    /// The new text is too long: more than sixteen times as long as the old one and 1 MiB, or than
+    /// 4,294,967,295 bytes.
     #[error("the new text is too long")]
     TooLong,
     /// Out of memory.
@@ -32,7 +34,8 @@ impl From<AllocError> for RewriteError {
     }
 }
 
-/// Why a text is not put together, or is not what it should be. Each is a [`RewriteError`] of its name.
+/// Why a text is not put together, or is not what it should be. Each is a [`RewriteError`] of its
+/// name.
 #[derive(Clone, Copy, Drop)]
 pub(crate) enum Failure {
     ReadsOtherwise,

@@ -1,4 +1,5 @@
-//! The text with the matches replaced, with pairs of parentheses round each value and each replacement.
+//! The text with the matches replaced, with pairs of parentheses round each value and each
+//! replacement.
 
 use crate::refusal::Failure;
 use lossless_tree::TextRange;
@@ -18,6 +19,25 @@ enum Task {
     End,
 }
 
+/// Which pairs are put.
+#[derive(Clone, Copy, Drop)]
+pub(crate) enum Pairs<'a> {
+    /// All.
+    All,
+    /// None.
+    Absent,
+    /// All but the marked ones. A blank is put where this text, which is to come out, has one in
+    /// place of a parenthesis.
+    Without(&'a [bool], &'a str),
+}
+
+/// Where the contents of a pair are that is not put.
+#[derive(Clone, Copy, Drop)]
+pub(crate) struct Span {
+    pub(crate) start: usize,
+    pub(crate) end: usize,
+}
+
 /// Where an outermost match stood, and where its replacement is in the new text.
 #[derive(Clone, Copy, Drop)]
 pub(crate) struct Place {
@@ -32,6 +52,11 @@ pub(crate) struct Rendered {
     pub(crate) text: String,
     // Where the `(` of each pair is, but for those that are left out.
     pub(crate) pairs: Vec<usize>,
+    // Where the contents of the pairs are, if none is put, in the order of their starts, and of
+    // those that start together the outermost first.
+    pub(crate) spans: Vec<Span>,
+    // Whether tokens may be joined there that a pair would keep apart.
+    pub(crate) may_join: bool,
     pub(crate) places: Vec<Place>,
 }
 
@@ -43,10 +68,7 @@ pub(crate) struct Source<'a> {
     pub(crate) matches: &'a [Match],
     /// The ranges of statements without a `;`, in the order of their starts.
     pub(crate) open: &'a [TextRange],
-    /// Which pairs are left out.
-    pub(crate) gone: &'a [bool],
-    /// The text that is to come out, if it is known: a blank is put where it has one in place of a parenthesis.
-    pub(crate) guide: &'a str,
+    pub(crate) pairs: Pairs<'a>,
 }
 
 // The length of a text beyond which it is too long.
@@ -94,6 +116,43 @@ fn lines_of(alloc: Global, source: &Source) -> Result<Vec<usize>, AllocError> {
     Ok(lines)
 }
 
+// Whether a byte is part of no token that another byte beside it may belong to.
+fn is_apart(byte: u8) -> bool {
+    byte.is_ascii_whitespace()
+        || matches!(byte, b'(' | b')' | b'[' | b']' | b'{' | b'}' | b',' | b';')
+}
+
+fn is_word(byte: u8) -> bool {
+    byte.is_ascii_alphanumeric() || byte == b'_' || !byte.is_ascii()
+}
+
+fn is_quote(byte: u8) -> bool {
+    byte == b'"' || byte == b'\''
+}
+
+// Whether a token that ends with one byte and one that begins with the other might be joined.
+fn may_join(last: u8, first: u8) -> bool {
+    if is_apart(last) || is_apart(first) {
+        return false;
+    }
+    if is_word(last) {
+        return is_word(first) || is_quote(first) || first == b'#';
+    }
+    !is_word(first) && !is_quote(last) && !is_quote(first)
+}
+
+// The same of texts.
+fn may_join_at(before: &str, text: &str) -> bool {
+    match (before.as_bytes().last(), text.as_bytes().first()) {
+        (Some(last), Some(first)) => may_join(*last, *first),
+        _ => false,
+    }
+}
+
+fn push_task(tasks: &mut Vec<Task>, task: Task) -> Result<(), AllocError> {
+    Ok(tasks.push(task)?)
+}
+
 // Writes a text.
 #[derive(Drop)]
 struct Writer<'a> {
@@ -106,21 +165,41 @@ struct Writer<'a> {
 }
 
 impl<'a> Writer<'a> {
+    // A blank where the text that is to come out has one.
+    fn push_blank(&mut self, guide: &str, text: &str) -> Result<(), AllocError> {
+        let at = self.out.text.len();
+        if guide.as_bytes().get(at) == Some(&b' ') && !text.starts_with(' ') {
+            self.out.text.push(' ')?;
+            if let Some(place) = self.out.places.last_mut() {
+                if place.end == at {
+                    place.end = at.saturating_add(1);
+                }
+            }
+        }
+        Ok(())
+    }
+
+    // Keeps a text apart from what is before a parenthesis that is left out, if that is known.
+    fn part(&mut self, text: &str) -> Result<(), AllocError> {
+        match self.source.pairs {
+            Pairs::All => Ok(()),
+            Pairs::Absent => {
+                if may_join_at(self.out.text.as_str(), text) {
+                    self.out.may_join = true;
+                }
+                Ok(())
+            }
+            Pairs::Without(_, guide) => self.push_blank(guide, text),
+        }
+    }
+
     fn push(&mut self, text: &str) -> Result<(), Failure> {
         if text.is_empty() {
             return Ok(());
         }
         if self.gap {
             self.gap = false;
-            let at = self.out.text.len();
-            if self.source.guide.as_bytes().get(at) == Some(&b' ') && !text.starts_with(' ') {
-                self.out.text.push(' ')?;
-                if let Some(place) = self.out.places.last_mut() {
-                    if place.end == at {
-                        place.end = at.saturating_add(1);
-                    }
-                }
-            }
+            self.part(text)?;
         }
         self.out.text.push_str(text)?;
         if self.out.text.len() > limit(self.source) {
@@ -137,7 +216,30 @@ impl<'a> Writer<'a> {
 
     // Whether a pair is left out.
     fn is_gone(&self, pair: usize) -> bool {
-        matches!(self.source.gone.get(pair), Some(true))
+        match self.source.pairs {
+            Pairs::All => false,
+            Pairs::Absent => true,
+            Pairs::Without(gone, _) => matches!(gone.get(pair), Some(true)),
+        }
+    }
+
+    // Notes where the contents of a pair start that is left out.
+    fn note_start(&mut self) -> Result<(), AllocError> {
+        self.gap = true;
+        if let Pairs::Absent = self.source.pairs {
+            let start = self.out.text.len();
+            self.out.spans.push(Span { start, end: start })?;
+        }
+        Ok(())
+    }
+
+    // Notes where they end.
+    fn note_end(&mut self, pair: usize) {
+        self.gap = true;
+        let end = self.out.text.len();
+        if let Some(span) = self.out.spans.get_mut(pair) {
+            span.end = end;
+        }
     }
 
     // The `(` of the next pair. Returns its number.
@@ -145,7 +247,7 @@ impl<'a> Writer<'a> {
         let pair = self.count;
         self.count = pair.saturating_add(1);
         if self.is_gone(pair) {
-            self.gap = true;
+            self.note_start()?;
         } else {
             self.push("(")?;
             self.out
@@ -158,7 +260,7 @@ impl<'a> Writer<'a> {
 
     fn close(&mut self, pair: usize) -> Result<(), Failure> {
         if self.is_gone(pair) {
-            self.gap = true;
+            self.note_end(pair);
             return Ok(());
         }
         self.push(")")
@@ -209,6 +311,13 @@ impl<'a> Writer<'a> {
         matches!(self.source.open.get(at), Some(range) if *range == found.range)
     }
 
+    // Notes where an outermost match stood, whose replacement follows.
+    fn note_place(&mut self, old: TextRange) -> Result<(), AllocError> {
+        let start = self.out.text.len();
+        let end = 0;
+        Ok(self.out.places.push(Place { old, start, end })?)
+    }
+
     // The old text of a range up to the next match in it. Adds what follows to the tasks.
     fn copy(
         &mut self,
@@ -228,35 +337,75 @@ impl<'a> Writer<'a> {
             return self.push_old(from, to);
         }
         self.push_old(from, start)?;
-        tasks
-            .push(Task::Copy {
+        let next = number.saturating_add(1);
+        push_task(
+            tasks,
+            Task::Copy {
                 from: end,
                 to,
-                next: number.saturating_add(1),
-            })
-            .map_err(AllocError::from)?;
+                next,
+            },
+        )?;
         if is_outer {
-            self.out
-                .places
-                .push(Place {
-                    old: found.range,
-                    start: self.out.text.len(),
-                    end: 0,
-                })
-                .map_err(AllocError::from)?;
-            tasks.push(Task::End).map_err(AllocError::from)?;
+            self.note_place(found.range)?;
+            push_task(tasks, Task::End)?;
         }
         if self.is_expr(found) && !self.is_open(found) {
             let pair = self.open()?;
-            tasks.push(Task::Close { pair }).map_err(AllocError::from)?;
+            push_task(tasks, Task::Close { pair })?;
         }
-        tasks
-            .push(Task::Fill {
-                found: number,
-                piece: 0,
-            })
-            .map_err(AllocError::from)?;
-        Ok(())
+        let task = Task::Fill {
+            found: number,
+            piece: 0,
+        };
+        Ok(push_task(tasks, task)?)
+    }
+
+    // What stands for a placeholder in a match.
+    fn value(&self, found: &Match, number: usize) -> Result<(usize, usize), Failure> {
+        match found.values.get(number) {
+            Some(Some(value)) => Ok((value.start().raw() as usize, value.end().raw() as usize)),
+            _ => Err(Failure::ReadsOtherwise),
+        }
+    }
+
+    // The comma beside a list, which goes if the list has no elements.
+    fn fill_comma(
+        &mut self,
+        number: usize,
+        found: &Match,
+        text: &str,
+        list: usize,
+    ) -> Result<(), Failure> {
+        let (from, to) = self.value(found, list)?;
+        let old = self.source.old.get(from..to).unwrap_or("");
+        if old.is_empty() {
+            return Ok(());
+        }
+        let indent = self.indent(number, found);
+        match text.strip_prefix(',') {
+            // An arm of a `match` has its comma itself.
+            Some(rest) if old.ends_with(',') => self.push_lines(rest, indent),
+            _ => self.push_lines(text, indent),
+        }
+    }
+
+    // What stands for a placeholder. Adds what follows to the tasks.
+    fn fill_hole(
+        &mut self,
+        tasks: &mut Vec<Task>,
+        number: usize,
+        found: &Match,
+        rule: &Rule,
+        hole: usize,
+    ) -> Result<(), Failure> {
+        let (from, to) = self.value(found, hole)?;
+        if rule.sort(found.form, hole) == Some(Sort::Expr) {
+            let pair = self.open()?;
+            push_task(tasks, Task::Close { pair })?;
+        }
+        let next = number.saturating_add(1);
+        Ok(push_task(tasks, Task::Copy { from, to, next })?)
     }
 
     // A piece of a template. Adds what follows to the tasks.
@@ -271,53 +420,68 @@ impl<'a> Writer<'a> {
         let Some(here) = rule.pieces().get(piece) else {
             return Ok(());
         };
-        tasks
-            .push(Task::Fill {
+        let next = piece.saturating_add(1);
+        push_task(
+            tasks,
+            Task::Fill {
                 found: number,
-                piece: piece.saturating_add(1),
-            })
-            .map_err(AllocError::from)?;
+                piece: next,
+            },
+        )?;
         match here {
             Piece::Text(text) => {
                 let indent = self.indent(number, found);
                 self.push_lines(text.as_str(), indent)
             }
-            Piece::Comma(text, list) => {
-                let Some(Some(value)) = found.values.get(*list) else {
-                    return Err(Failure::ReadsOtherwise);
-                };
-                let from = value.start().raw() as usize;
-                let to = value.end().raw() as usize;
-                let old = source.old.get(from..to).unwrap_or("");
-                if old.is_empty() {
-                    return Ok(());
-                }
-                let indent = self.indent(number, found);
-                match text.as_str().strip_prefix(',') {
-                    // An arm of a `match` has its comma itself.
-                    Some(rest) if old.ends_with(',') => self.push_lines(rest, indent),
-                    _ => self.push_lines(text.as_str(), indent),
-                }
+            Piece::Comma(text, list) => self.fill_comma(number, found, text.as_str(), *list),
+            Piece::Hole(hole) => self.fill_hole(tasks, number, found, rule, *hole),
+        }
+    }
+
+    // The end of an outermost match.
+    fn end(&mut self) {
+        let end = self.out.text.len();
+        if let Some(place) = self.out.places.last_mut() {
+            place.end = end;
+        }
+    }
+
+    fn turn(&mut self, tasks: &mut Vec<Task>, task: Task) -> Result<(), Failure> {
+        match task {
+            Task::Copy { from, to, next } => {
+                let is_outer = tasks.is_empty();
+                self.copy(tasks, from, to, next, is_outer)
             }
-            Piece::Hole(hole) => {
-                let Some(Some(value)) = found.values.get(*hole) else {
-                    return Err(Failure::ReadsOtherwise);
-                };
-                if rule.sort(found.form, *hole) == Some(Sort::Expr) {
-                    let pair = self.open()?;
-                    tasks.push(Task::Close { pair }).map_err(AllocError::from)?;
-                }
-                tasks
-                    .push(Task::Copy {
-                        from: value.start().raw() as usize,
-                        to: value.end().raw() as usize,
-                        next: number.saturating_add(1),
-                    })
-                    .map_err(AllocError::from)?;
+            Task::Fill { found, piece } => self.fill(tasks, found, piece),
+            Task::Close { pair } => self.close(pair),
+            Task::End => {
+                self.end();
                 Ok(())
             }
         }
     }
+
+    // Each turn takes a task. A text that is too long ends it.
+    fn write(&mut self, tasks: &mut Vec<Task>) -> Result<(), Failure> {
+        for _turn in 0..u64::MAX {
+            let Some(task) = tasks.pop() else {
+                return Ok(());
+            };
+            self.turn(tasks, task)?;
+        }
+        Err(Failure::TooLong)
+    }
+}
+
+// What a text is before anything is written.
+fn nothing(alloc: Global, len: usize) -> Result<Rendered, AllocError> {
+    Ok(Rendered {
+        text: String::with_capacity(alloc, len)?,
+        pairs: Vec::new(alloc),
+        spans: Vec::new(alloc),
+        may_join: false,
+        places: Vec::new(alloc),
+    })
 }
 
 /// The text.
@@ -325,41 +489,19 @@ pub(crate) fn render(alloc: Global, source: &Source) -> Result<Rendered, Failure
     let mut writer = Writer {
         source,
         lines: lines_of(alloc, source)?,
-        out: Rendered {
-            text: String::with_capacity(alloc, source.old.len())?,
-            pairs: Vec::new(alloc),
-            places: Vec::new(alloc),
-        },
+        out: nothing(alloc, source.old.len())?,
         count: 0,
         gap: false,
     };
     let mut tasks = Vec::new(alloc);
-    tasks
-        .push(Task::Copy {
+    push_task(
+        &mut tasks,
+        Task::Copy {
             from: 0,
             to: source.old.len(),
             next: 0,
-        })
-        .map_err(AllocError::from)?;
-    // Each turn takes a task. A text that is too long ends it.
-    for _turn in 0..u64::MAX {
-        let Some(task) = tasks.pop() else {
-            return Ok(writer.out);
-        };
-        match task {
-            Task::Copy { from, to, next } => {
-                let is_outer = tasks.is_empty();
-                writer.copy(&mut tasks, from, to, next, is_outer)?;
-            }
-            Task::Fill { found, piece } => writer.fill(&mut tasks, found, piece)?,
-            Task::Close { pair } => writer.close(pair)?,
-            Task::End => {
-                let end = writer.out.text.len();
-                if let Some(place) = writer.out.places.last_mut() {
-                    place.end = end;
-                }
-            }
-        }
-    }
-    Err(Failure::TooLong)
+        },
+    )?;
+    writer.write(&mut tasks)?;
+    Ok(writer.out)
 }

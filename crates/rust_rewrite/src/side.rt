@@ -4,7 +4,7 @@ ghost use Rattle.rust_rewrite.specs.Rules.{is_other};
 
 use crate::condition::{begins_word, read_braced};
 use crate::error::{RuleError, RuleFault, fault};
-use lossless_tree::{NodeOrToken, SyntaxKind, SyntaxNode};
+use lossless_tree::{NodeOrToken, SyntaxKind, SyntaxNode, SyntaxToken};
 use ras_front_end::{Edition, Entry, FrontEnd};
 use ras_parsing::{Parse, read};
 use std::alloc::{AllocError, Global};
@@ -246,37 +246,56 @@ fn push_comma(
     Ok(())
 }
 
+// The parts of a text before a list, behind another one, or neither: the comma at its front, what
+// is between, and the comma at its end.
+fn parted(text: &str, is_behind: bool, is_before: bool) -> (&str, &str, &str) {
+    let (front, rest) = if is_behind {
+        cut_front(text)
+    } else {
+        ("", text)
+    };
+    let (rest, end) = if is_before { cut_end(rest) } else { (rest, "") };
+    (front, rest, end)
+}
+
+// Adds a text that stands between two pieces, with its commas as pieces of their own. The first is
+// none if the list before has one. Returns whether the list behind has one.
+fn push_parted(
+    alloc: Global,
+    out: &mut Vec<Piece>,
+    text: &str,
+    before: Option<usize>,
+    next: Option<usize>,
+    has_comma: bool,
+) -> Result<bool, AllocError> {
+    let (front, rest, end) = parted(text, before.is_some(), next.is_some());
+    if has_comma {
+        push_text(alloc, out, front)?;
+    } else {
+        push_comma(alloc, out, front, before)?;
+    }
+    push_text(alloc, out, rest)?;
+    push_comma(alloc, out, end, next)?;
+    Ok(!end.is_empty())
+}
+
 // Some pieces, in which the comma before a list, or else behind it, is a piece of its own.
 fn with_commas(alloc: Global, pieces: Vec<Piece>, names: &Names) -> Result<Vec<Piece>, AllocError> {
     let mut out = Vec::with_capacity(alloc, pieces.len())?;
     let mut has_comma = false;
+    let mut before = None;
     for (index, piece) in pieces.iter().enumerate() {
         match piece {
             Piece::Text(text) => {
-                let before = list_of(index.checked_sub(1).and_then(|at| pieces.get(at)), names);
                 let next = list_of(pieces.get(index.saturating_add(1)), names);
-                let (front, rest) = match before {
-                    Some(_) => cut_front(text.as_str()),
-                    None => ("", text.as_str()),
-                };
-                let (rest, end) = match next {
-                    Some(_) => cut_end(rest),
-                    None => (rest, ""),
-                };
-                if has_comma {
-                    push_text(alloc, &mut out, front)?;
-                } else {
-                    push_comma(alloc, &mut out, front, before)?;
-                }
-                push_text(alloc, &mut out, rest)?;
-                push_comma(alloc, &mut out, end, next)?;
-                has_comma = !end.is_empty();
+                has_comma = push_parted(alloc, &mut out, text.as_str(), before, next, has_comma)?;
             }
             Piece::Hole(number) => out.push(Piece::Hole(*number))?,
             Piece::Comma(text, number) => {
                 push_comma(alloc, &mut out, text.as_str(), Some(*number))?;
             }
         }
+        before = list_of(Some(piece), names);
     }
     Ok(out)
 }
@@ -289,6 +308,127 @@ struct Dollar {
     end: Option<usize>,
 }
 
+// A token of a rule.
+#[derive(Clone, Copy, Drop)]
+struct Sign {
+    kind: SyntaxKind,
+    start: usize,
+    end: usize,
+    begins_word: bool,
+    ends_word: bool,
+}
+
+impl Sign {
+    // A token of a text that starts at an offset.
+    fn of(token: &SyntaxToken, from: usize) -> Sign {
+        let range = token.text_range();
+        Sign {
+            kind: token.kind(),
+            start: from.saturating_add(range.start().raw() as usize),
+            end: from.saturating_add(range.end().raw() as usize),
+            begins_word: begins_word(token.text()),
+            ends_word: ends_word(token.text()),
+        }
+    }
+
+    fn is_dollar(&self) -> bool {
+        self.kind.to_raw() == SyntaxKind::DOLLAR.to_raw()
+    }
+
+    fn is_brace(&self) -> bool {
+        self.kind.to_raw() == SyntaxKind::L_CURLY.to_raw()
+    }
+}
+
+// The tokens of a tree whose text starts at an offset.
+fn signs_in(alloc: Global, root: &SyntaxNode, from: usize) -> Result<Vec<Sign>, AllocError> {
+    let mut signs = Vec::new(alloc);
+    for element in root.descendants_with_tokens() {
+        if let NodeOrToken::Token(token) = element {
+            signs.push(Sign::of(&token, from))?;
+        }
+    }
+    Ok(signs)
+}
+
+// The tokens of a text from an offset on.
+fn signs_of<F: FrontEnd>(
+    alloc: Global,
+    words: &Words<'_, F>,
+    text: &str,
+    from: usize,
+) -> Result<Vec<Sign>, RuleError>
+    ensures { IfErr result (λ e. is_other e.fault ≡ true) }
+{
+    let rest = text.get(from..).unwrap_or("");
+    let parse: Parse<SyntaxNode> = read(alloc, words.front, Entry::Expr, rest, words.edition)?;
+    Ok(signs_in(alloc, parse.root(), from)?)
+}
+
+// The `$`s that are first among some tokens, and how many tokens they are with the name behind
+// them; `None` if neither a name nor a brace follows directly.
+fn dollar_at(signs: &[Sign]) -> Option<(Dollar, usize)> {
+    let first = signs.first()?;
+    let is_list = match signs.get(1) {
+        Some(second) => second.is_dollar() && second.start == first.end,
+        None => false,
+    };
+    let count = if is_list { 2usize } else { 1usize };
+    let behind = signs.get(count)?;
+    if behind.start != first.start.saturating_add(count) {
+        return None;
+    }
+    let at = first.start;
+    if behind.is_brace() && !is_list {
+        return Some((
+            Dollar {
+                at,
+                is_list,
+                end: None,
+            },
+            count,
+        ));
+    }
+    if !behind.begins_word {
+        return None;
+    }
+    Some((
+        Dollar {
+            at,
+            is_list,
+            end: Some(behind.end),
+        },
+        count.saturating_add(1),
+    ))
+}
+
+// The `$`s among some tokens, up to the first with braces.
+fn dollars_in(alloc: Global, signs: &[Sign], base: usize) -> Result<Vec<Dollar>, RuleError>
+    ensures { IfErr result (λ e. is_other e.fault ≡ true) }
+{
+    let mut dollars = Vec::new(alloc);
+    let mut passed = 0usize;
+    let mut before_ends_word = false;
+    for (number, sign) in signs.iter().enumerate() {
+        if sign.is_dollar() && passed <= number {
+            let at = base.saturating_add(sign.start);
+            if before_ends_word {
+                return Err(fault(RuleFault::Joined, at));
+            }
+            let Some((dollar, count)) = dollar_at(signs.get(number..).unwrap_or(&[])) else {
+                return Err(fault(RuleFault::NoName, at));
+            };
+            dollars.push(dollar).map_err(AllocError::from)?;
+            if dollar.end.is_none() {
+                return Ok(dollars);
+            }
+            passed = number.saturating_add(count);
+        }
+        before_ends_word = sign.ends_word;
+    }
+    Ok(dollars)
+}
+
 // The `$`s of a text from an offset on, up to the first with braces.
 fn dollars_of<F: FrontEnd>(
     alloc: Global,
@@ -299,63 +439,12 @@ fn dollars_of<F: FrontEnd>(
 ) -> Result<Vec<Dollar>, RuleError>
     ensures { IfErr result (λ e. is_other e.fault ≡ true) }
 {
-    let rest = text.get(from..).unwrap_or("");
-    let parse: Parse<SyntaxNode> = read(alloc, words.front, Entry::Expr, rest, words.edition)?;
-    let mut dollars = Vec::new(alloc);
-    let mut dollar: Option<usize> = None;
-    let mut is_list = false;
-    let mut before_ends_word = false;
-    for element in parse.root().descendants_with_tokens() {
-        let NodeOrToken::Token(token) = element else {
-            continue;
-        };
-        let start = from.saturating_add(token.text_range().start().raw() as usize);
-        if let Some(at) = dollar {
-            let signs = if is_list { 2 } else { 1 };
-            let is_next = start == at.saturating_add(signs);
-            let kind = token.kind();
-            if is_next && !is_list && kind == SyntaxKind::DOLLAR {
-                is_list = true;
-                continue;
-            }
-            if is_next && !is_list && kind == SyntaxKind::L_CURLY {
-                dollars
-                    .push(Dollar {
-                        at,
-                        is_list,
-                        end: None,
-                    })
-                    .map_err(AllocError::from)?;
-                return Ok(dollars);
-            }
-            if !is_next || !begins_word(token.text()) {
-                return Err(fault(RuleFault::NoName, base.saturating_add(at)));
-            }
-            let end = start.saturating_add(token.text().len());
-            dollars
-                .push(Dollar {
-                    at,
-                    is_list,
-                    end: Some(end),
-                })
-                .map_err(AllocError::from)?;
-            dollar = None;
-            is_list = false;
-        } else if token.kind().to_raw() == SyntaxKind::DOLLAR.to_raw() {
-            if before_ends_word {
-                return Err(fault(RuleFault::Joined, base.saturating_add(start)));
-            }
-            dollar = Some(start);
-        }
-        before_ends_word = ends_word(token.text());
-    }
-    match dollar {
-        None => Ok(dollars),
-        Some(at) => Err(fault(RuleFault::NoName, base.saturating_add(at))),
-    }
+    let signs = signs_of(alloc, words, text, from)?;
+    dollars_in(alloc, &signs, base)
 }
 
-// Adds the number of a placeholder with its conditions, which a template cannot have. Returns the number, and where what follows starts.
+// Adds the number of a placeholder with its conditions, which a template cannot have. Returns the
+// number, and where what follows starts.
 fn braced_number(
     alloc: Global,
     text: &str,
@@ -405,7 +494,8 @@ fn number_at(
     Ok((number, end))
 }
 
-/// The side of a rule that starts at the offset `base`. Takes time for each placeholder with braces that is linear in the side.
+/// The side of a rule that starts at the offset `base`. Takes time for each placeholder with braces
+/// that is linear in the side.
 pub(crate) fn side_of<F: FrontEnd>(
     alloc: Global,
     words: &Words<'_, F>,

@@ -13,7 +13,8 @@ use std::io;
 use std::io::Write;
 use text_edit::Indel;
 
-// Writes lines with a sign before each. Control characters in them are symbols, and of a long line only the front is written.
+// Writes lines with a sign before each. Control characters in them are symbols, and of a long line
+// only the front is written.
 fn write_signed<W: Write>(out: &mut W, sign: &str, text: &str) -> io::Result<()> {
     for line in text.trim_end_matches('\n').split('\n') {
         writeln!(out, "{sign}{}", short_of(line.trim_end_matches('\r')))?;

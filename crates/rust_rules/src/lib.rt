@@ -1,4 +1,5 @@
-//! Reports on the matches of rules of search and replace, as a terminal, a program or a workflow reads them.
+//! Reports on the matches of rules of search and replace, as a terminal, a program or a workflow
+//! reads them.
 #![tactic(auto)]
 
 mod ask;

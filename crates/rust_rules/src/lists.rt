@@ -11,12 +11,14 @@ use ras_parsing::Parse;
 use rust_print::source::{Reading, parsed};
 use std::alloc::{AllocError, Global};
 
-// What stands before and behind the arguments of a macro in the file that they are read as. A line comment may end the arguments.
+// What stands before and behind the arguments of a macro in the file that they are read as. A line
+// comment may end the arguments.
 const BEFORE: &str = "const _: () = [";
 
 const BEHIND: &str = "\n];";
 
-/// How deep the arguments of macros in the arguments of macros are looked into: 1 for those of the macros of a file.
+/// How deep the arguments of macros in the arguments of macros are looked into: 1 for those of the
+/// macros of a file.
 pub(crate) const DEPTH: u32 = 8;
 
 // What is between the delimiters of a tree of tokens.
@@ -115,7 +117,8 @@ pub(crate) fn read_list(
     }
 }
 
-/// Where a range of a file of arguments is in the text that they are arguments in, at a range. `None` if it is not in the arguments.
+/// Where a range of a file of arguments is in the text that they are arguments in, at a range.
+/// `None` if it is not in the arguments.
 pub(crate) fn outward(range: TextRange, list: TextRange) -> Option<TextRange>
     ensures { result ≡ outward list range }
 {

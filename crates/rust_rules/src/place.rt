@@ -13,8 +13,8 @@ use std::alloc::Global;
 use std::io::Write;
 use std::{fmt, io};
 
-// A match in JSON. Lines and columns count from 1, columns in characters, and rules from 1; `start` and `end` are offsets in bytes. Of a long
-// text the front is written, and `cut` says so.
+// A match in JSON. Lines and columns count from 1, columns in characters, and rules from 1; `start`
+// and `end` are offsets in bytes. Of a long text the front is written, and `cut` says so.
 #[derive(Drop, Serialize)]
 struct MatchRecord<'a> {
     path: &'a str,
@@ -78,7 +78,8 @@ impl Place<'_> {
     }
 }
 
-// What is said of a match on one line: the rule's name and message, the match, and what replaces it.
+// What is said of a match on one line: the rule's name and message, the match, and what replaces
+// it.
 #[derive(Clone, Copy)]
 struct Said<'a> {
     place: &'a Place<'a>,

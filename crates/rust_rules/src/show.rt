@@ -76,7 +76,8 @@ pub fn search<'a, W: Write>(
     set: &'a RuleSet,
     asked: Asked,
 ) -> Result<u64, Failure>
-    ensures { IfOk result (IsNumberOfMatches asked.reading set.now.rules.items source.entry.text.now) }
+    ensures { IfOk result
+        (IsNumberOfMatches asked.reading set.now.rules.items source.entry.text.now) }
 {
     let parse = parsed(alloc, source.text, asked.reading)?;
     let matches = matches_of(alloc, set, parse.root())?;

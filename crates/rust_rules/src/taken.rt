@@ -27,7 +27,8 @@ pub struct Taken {
 
 // The edit of the marked replacements, and the text by it.
 fn edited(alloc: Global, text: &str, edit: &TextEdit, marks: &[bool]) -> Result<Taken, Failure>
-    ensures { IfOk result (λ t. string_bytes t.text ≡ edited text.now (with_all [] (chosen marks.now edit.now))) }
+    ensures { IfOk result
+        (λ t. string_bytes t.text ≡ edited text.now (with_all [] (chosen marks.now edit.now))) }
 {
     let Ok(edit) = chosen(alloc, edit, marks) else {
         return Err(Failure::Text(ParseError::Memory));
@@ -84,7 +85,8 @@ impl<'a> Side<'a> {
     }
 }
 
-// Whether a tree is the old one in which the marked replacements stand as in the tree with all of them.
+// Whether a tree is the old one in which the marked replacements stand as in the tree with all of
+// them.
 fn reads_as_meant(
     old: &mut Side<'_>,
     all: &mut Side<'_>,
@@ -124,10 +126,12 @@ fn reads_as_meant(
     are_same(old.text, old.part(rest), new.text, new.part(behind))
 }
 
-/// A text with the marked ones of its replacements, by their numbers from 0: what `done` has for the others stays as it was.
+/// A text with the marked ones of its replacements, by their numbers from 0: what `done` has for
+/// the others stays as it was.
 ///
-/// The new text has to parse, with no more errors than the old one, to the tree of the old text in which the marked replacements stand as in
-/// the text with all of them. White space, comments and pairs of parentheses aside.
+/// The new text has to parse, with no more errors than the old one, to the tree of the old text in
+/// which the marked replacements stand as in the text with all of them. White space, comments and
+/// pairs of parentheses aside.
 ///
 /// # Errors
 ///
@@ -139,7 +143,8 @@ pub fn with_taken(
     marks: &[bool],
     asked: Asked,
 ) -> Result<Taken, Failure>
-    ensures { IfOk result (λ t. string_bytes t.text ≡ edited source.entry.text.now (with_all [] (chosen marks.now done.now.edit))) }
+    ensures { IfOk result (λ t. string_bytes t.text
+        ≡ edited source.entry.text.now (with_all [] (chosen marks.now done.now.edit))) }
 {
     let taken = edited(alloc, source.text, &done.edit, marks)?;
     let old = parsed(alloc, source.text, asked.reading)?;

@@ -1,5 +1,6 @@
-//! The steps of a walk over a tree, in preorder: its nodes and tokens without white space, comments and pairs of parentheses, each with the number
-//! of nodes around it. Two trees with the same steps are the same.
+//! The steps of a walk over a tree, in preorder: its nodes and tokens without white space, comments
+//! and pairs of parentheses, each with the number of nodes around it. Two trees with the same steps
+//! are the same.
 
 use lossless_tree::{NodeOrToken, SyntaxElement, SyntaxKind, SyntaxNode, WalkEvent};
 use std::alloc::{AllocError, Global};
@@ -22,7 +23,8 @@ fn is_paren(kind: SyntaxKind) -> bool {
     kind == SyntaxKind::L_PAREN || kind == SyntaxKind::R_PAREN
 }
 
-// Whether an element is passed over: white space, a comment, a pair of parentheses or one of its parentheses.
+// Whether an element is passed over: white space, a comment, a pair of parentheses or one of its
+// parentheses.
 fn is_aside(element: &SyntaxElement) -> bool {
     let kind = element.kind();
     if is_trivia(kind) || kind == SyntaxKind::PAREN_EXPR {
@@ -76,7 +78,8 @@ pub(crate) fn steps(alloc: Global, root: &SyntaxNode) -> Result<Vec<Step>, Alloc
     Ok(found)
 }
 
-/// The number of the first step behind the last token that starts before an offset; the steps before `from` are passed.
+/// The number of the first step behind the last token that starts before an offset; the steps
+/// before `from` are passed.
 pub(crate) fn end_of_part(steps: &[Step], from: usize, offset: usize) -> usize {
     let mut end = from;
     let rest = steps.get(from..).unwrap_or(&[]);

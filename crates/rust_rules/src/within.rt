@@ -13,7 +13,7 @@ use ras_parsing::Parse;
 use rust_front::Rust;
 use rust_print::failure::Failure;
 use rust_print::source::{Reading, parsed};
-use rust_rewrite::{Match, RewriteError, Rewritten, Rule, find, rewrite};
+use rust_rewrite::{Match, RewriteError, Rewritten, Rule, find, rewrite_matches};
 use std::alloc::{AllocError, Global};
 use text_edit::{Indel, OverlapError, TextEdit};
 
@@ -41,7 +41,8 @@ pub struct Found {
 /// A text with its matches replaced.
 #[derive(Drop)]
 pub struct Replaced {
-    /// The matches that are in no other match, in the order of the text: what replaces each is the replacement with its place among these.
+    /// The matches that are in no other match, in the order of the text: what replaces each is the
+    /// replacement with its place among these.
     pub places: Vec<Found>,
     /// What replaces them.
     pub edit: TextEdit,
@@ -104,9 +105,11 @@ fn found_outward(found: Found, list: TextRange) -> Option<Found>
     })
 }
 
-// Adds the matches in a file of arguments, as matches in the text around it. One that is not in the arguments is left out.
+// Adds the matches in a file of arguments, as matches in the text around it. One that is not in the
+// arguments is left out.
 fn push_outward(found: &mut Vec<Found>, inner: &[Found], list: TextRange) -> Result<(), AllocError>
-    ensures { OnOk result (found.new.items ≡ found.old.items ++ filter_map (found_outward list) inner.now) }
+    ensures { OnOk result
+        (found.new.items ≡ found.old.items ++ filter_map (found_outward list) inner.now) }
 {
     for one in inner {
         if let Some(one) = found_outward(*one, list) {
@@ -123,7 +126,8 @@ fn found_before(
     rules: &[Rule],
     mut inner: Vec<Found>,
 ) -> Result<Vec<Found>, AllocError>
-    ensures { IfOk result (λ f. f.items ≡ map found_of (found_in rules.now root.now) ++ inner.items) }
+    ensures { IfOk result
+        (λ f. f.items ≡ map found_of (found_in rules.now root.now) ++ inner.items) }
 {
     let mut found = all_found(alloc, &find(alloc, rules, root)?)?;
     found.append(&mut inner)?;
@@ -140,7 +144,8 @@ fn found_in_lists(
     reading: Reading,
     depth: u32,
 ) -> Result<Vec<Found>, Failure>
-    ensures { IfOk result (λ f. AreFoundInLists reading rules.now depth text.now parse.now f.items) }
+    ensures { IfOk result
+        (λ f. AreFoundInLists reading rules.now depth text.now parse.now f.items) }
 {
     let mut found = Vec::new(alloc);
     if depth == 0 {
@@ -159,10 +164,12 @@ fn found_in_lists(
     Ok(found)
 }
 
-/// The matches of rules in a text and in the arguments of its macro calls, in the order of the text.
+/// The matches of rules in a text and in the arguments of its macro calls, in the order of the
+/// text.
 ///
-/// The arguments of a macro are searched if they read as a list of expressions, as those of `vec![a, b]`, `vec![a; b]` and
-/// `assert!(a == b)`, and so are those of macros in them, up to eight deep. The text is read once for each level.
+/// The arguments of a macro are searched if they read as a list of expressions, as those of
+/// `vec![a, b]`, `vec![a; b]` and `assert!(a == b)`, and so are those of macros in them, up to
+/// eight deep. The text is read once for each level.
 pub(crate) fn found_within(
     alloc: Global,
     text: &str,
@@ -223,8 +230,8 @@ fn copied(alloc: Global, change: &Change) -> Result<Change, AllocError> {
     })
 }
 
-// Adds those changes of the arguments, from one on, that are before an offset of the text that they made. Returns how many there are up
-// to there.
+// Adds those changes of the arguments, from one on, that are before an offset of the text that they
+// made. Returns how many there are up to there.
 fn push_before(
     alloc: Global,
     all: &mut Vec<Change>,
@@ -246,7 +253,8 @@ fn push_before(
     Ok(at)
 }
 
-// Passes those changes of the arguments, from one on, that begin before an offset of the text that they made.
+// Passes those changes of the arguments, from one on, that begin before an offset of the text that
+// they made.
 fn pass_inside(inner: &[Change], from: usize, offset: usize, shift: &mut Shift) -> usize {
     let mut at = from;
     for change in inner.get(from..).unwrap_or(&[]) {
@@ -269,8 +277,8 @@ fn range_of(start: usize, end: usize) -> Option<TextRange> {
     }
 }
 
-// The changes of the arguments and, after them, those of the text that they made, as changes of the old text: one of the arguments in a
-// match that is replaced is in its replacement.
+// The changes of the arguments and, after them, those of the text that they made, as changes of the
+// old text: one of the arguments in a match that is replaced is in its replacement.
 fn joined(
     alloc: Global,
     inner: &[Change],
@@ -370,10 +378,11 @@ pub(crate) fn rewriting(
 ) -> Result<Option<Rewritten>, Failure>
     ensures { IfOk result (IsRewritingOf reading rules.now parse.now) }
 {
-    if find(alloc, rules, parse.root())?.is_empty() {
+    let matches = find(alloc, rules, parse.root())?;
+    if matches.is_empty() {
         return Ok(None);
     }
-    match rewrite(alloc, &Rust, reading.edition, rules, parse) {
+    match rewrite_matches(alloc, &Rust, reading.edition, rules, parse, matches) {
         Ok(done) => Ok(Some(done)),
         Err(error) => Err(failure_of(error)),
     }
@@ -402,7 +411,8 @@ fn joined_to(
     done: &Rewritten,
 ) -> Result<Vec<Change>, Failure>
     ensures same { IfOk result (λ all. changed text.now all.items ≡ string_bytes done.now.text) }
-    ensures alone { IfOk result (λ all. inner.now ≡ [] → map replacement_of all.items ≡ done.now.edit) }
+    ensures alone { IfOk result
+        (λ all. inner.now ≡ [] → map replacement_of all.items ≡ done.now.edit) }
 {
     let outer = changes_of(alloc, done)?;
     let Some(all) = all_joined(alloc, inner, outer)? else {
@@ -427,7 +437,9 @@ fn outside(
     inner: &[Change],
     parse: &Parse<SyntaxNode>,
 ) -> Result<Option<Vec<Change>>, Failure>
-    ensures { IfOk result (λ o. IsOutside reading rules.now text.now inner.now parse.now (option_map (λ v. v.items) o)) }
+    ensures { IfOk result (λ o.
+        IsOutside reading rules.now text.now inner.now parse.now
+        (option_map (λ v. v.items) o)) }
 {
     match rewriting(alloc, rules, reading, parse)? {
         None => Ok(None),
@@ -447,7 +459,8 @@ fn changes_after(
     parse: &Parse<SyntaxNode>,
 ) -> Result<Option<Vec<Change>>, Failure>
     requires { IsReadAs reading text.now parse.now }
-    ensures { IfOk result (λ o. AreOutside reading rules.now text.now inner.now (option_map (λ v. v.items) o)) }
+    ensures { IfOk result
+        (λ o. AreOutside reading rules.now text.now inner.now (option_map (λ v. v.items) o)) }
 {
     if inner.is_empty() {
         return outside(alloc, text, rules, reading, inner, parse);
@@ -470,7 +483,8 @@ fn all_or(inner: Vec<Change>, outer: Option<Vec<Change>>) -> Vec<Change>
 // Adds a change of a file of arguments, as one of the text around it. One that is not in the
 // arguments is left out.
 fn push_change(all: &mut Vec<Change>, change: Change, list: TextRange) -> Result<(), AllocError>
-    ensures { OnOk result (all.new.items ≡ all.old.items ++ filter_map (change_outward list) (change ∷ [])) }
+    ensures { OnOk result
+        (all.new.items ≡ all.old.items ++ filter_map (change_outward list) (change ∷ [])) }
 {
     let Change { found, text } = change;
     if let Some(found) = found_outward(found, list) {
@@ -487,7 +501,8 @@ fn push_moved(
     changes: Vec<Change>,
     list: TextRange,
 ) -> Result<(), AllocError>
-    ensures { OnOk result (all.new.items ≡ all.old.items ++ filter_map (change_outward list) changes.items) }
+    ensures { OnOk result
+        (all.new.items ≡ all.old.items ++ filter_map (change_outward list) changes.items) }
 {
     for change in changes {
         push_change(all, change, list)?;
@@ -506,7 +521,8 @@ fn changes_in_lists(
     reading: Reading,
     depth: u32,
 ) -> Result<Vec<Change>, Failure>
-    ensures { IfOk result (λ c. AreChangesInLists reading rules.now depth text.now parse.now c.items) }
+    ensures { IfOk result
+        (λ c. AreChangesInLists reading rules.now depth text.now parse.now c.items) }
 {
     let mut changes = Vec::new(alloc);
     if depth == 0 {

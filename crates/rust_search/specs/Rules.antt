@@ -17,7 +17,8 @@ use Rattle.rust_search.specs.declared.rules.RulesError.TheVariants as error
 
 -- ---- why a text is no rule, and where
 
--- the line and the column of the character at an offset, or of the end; of a text of at least 4 GiB nothing is said
+-- the line and the column of the character at an offset, or of the end; of a text of at least 4 GiB
+-- nothing is said
 pub record IsPlaceOf (s : List ℕ) (o : ℕ) (at : Spot) : Type 0 where
   pub is : length s < 2 ^ 32 → o ≤ length s → IsCharBoundary s o → IsSpot s o at
 

@@ -8,8 +8,8 @@ use crate::toml_rules::{push_noted, rule_by};
 use gitignore::chooses;
 use std::alloc::{AllocError, Global};
 
-/// The path of a file as the globs of rules see it: as it is printed, without a `./` in front of it. An absolute path is counted from the
-/// folder whose search found the file, if there is one.
+/// The path of a file as the globs of rules see it: as it is printed, without a `./` in front of
+/// it. An absolute path is counted from the folder whose search found the file, if there is one.
 pub fn path_in<'a>(name: &'a str, folder: Option<&str>) -> &'a str {
     let path = match folder {
         Some(folder) if name.starts_with('/') => name.strip_prefix(folder).unwrap_or(name),
@@ -46,13 +46,15 @@ impl RuleSet {
         self.notes.iter().all(|note| note.files.is_empty())
     }
 
-    /// The numbers of the notes of those rules, from 0, that are for a file, by its path as [`path_in`] gives it.
+    /// The numbers of the notes of those rules, from 0, that are for a file, by its path as
+    /// [`path_in`] gives it.
     ///
     /// # Errors
     ///
     /// `AllocError` if memory runs out.
     pub fn numbers_for(&self, alloc: Global, path: &str) -> Result<Vec<usize>, AllocError>
-        ensures { IfOk result (λ numbers. numbers.items ≡ numbers_for 0 path.now self.now.notes.items) }
+        ensures { IfOk result
+            (λ numbers. numbers.items ≡ numbers_for 0 path.now self.now.notes.items) }
     {
         let mut numbers = Vec::new(alloc);
         for (number, note) in self.notes.iter().enumerate() {
@@ -63,7 +65,8 @@ impl RuleSet {
         Ok(numbers)
     }
 
-    /// The set of the rules with these numbers, in this order. Those that there are not are passed over.
+    /// The set of the rules with these numbers, in this order. Those that there are not are passed
+    /// over.
     ///
     /// # Errors
     ///
@@ -86,7 +89,8 @@ impl RuleSet {
     }
 }
 
-/// The rules for the file that was looked at last, so that they are chosen again only for a file that others are for.
+/// The rules for the file that was looked at last, so that they are chosen again only for a file
+/// that others are for.
 #[derive(Drop)]
 pub struct Chosen {
     numbers: Vec<usize>,
@@ -102,8 +106,9 @@ impl Chosen {
         }
     }
 
-    /// The rules of a set for a file, by its path as [`path_in`] gives it; each call has to be with the same set. Takes the time of a
-    /// comparison of the path with each glob, and where other rules are for the file than for the one before, that of a parse of them.
+    /// The rules of a set for a file, by its path as [`path_in`] gives it; each call has to be with
+    /// the same set. Takes the time of a comparison of the path with each glob, and where other
+    /// rules are for the file than for the one before, that of a parse of them.
     ///
     /// # Errors
     ///

@@ -6,8 +6,8 @@ use std::io;
 use std::io::Write;
 use text_edit::{Indel, TextEdit};
 
-// Lines of the old text that an edit changes, from the start of the first to the end of the last, and their new text so far: what stands for the
-// old text up to `done`.
+// Lines of the old text that an edit changes, from the start of the first to the end of the last,
+// and their new text so far: what stands for the old text up to `done`.
 #[derive(Drop)]
 struct Hunk {
     start: usize,
@@ -111,7 +111,8 @@ fn feeds(text: &str) -> usize {
     text.bytes().filter(|byte| *byte == b'\n').count()
 }
 
-/// Writes a hunk for each run of lines that an edit changes, without context lines. The edit has to be one of the text.
+/// Writes a hunk for each run of lines that an edit changes, without context lines. The edit has to
+/// be one of the text.
 pub fn write_hunks<W: Write>(
     alloc: Global,
     out: &mut W,

@@ -1,4 +1,5 @@
-//! Rules of search and replace from a command line and from files, and patches of what they replace.
+//! Rules of search and replace from a command line and from files, and patches of what they
+//! replace.
 #![tactic(auto)]
 
 mod choice;

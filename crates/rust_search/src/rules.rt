@@ -54,7 +54,8 @@ pub enum RulesError {
         at: Spot,
         fault: RuleFault,
     },
-    /// A rule of a file is none, for what is at this place of `PATTERN ==>> TEMPLATE`. Its number counts from 1.
+    /// A rule of a file is none, for what is at this place of `PATTERN ==>> TEMPLATE`. Its number
+    /// counts from 1.
     Numbered {
         number: u64,
         at: Spot,
@@ -270,7 +271,8 @@ fn check_templates(rules: &[Rule]) -> Result<(), RulesError>
     }
 }
 
-/// The rules of a file: TOML if its name ends with `.toml`, and otherwise one a line. If they are to replace, each must have a template.
+/// The rules of a file: TOML if its name ends with `.toml`, and otherwise one a line. If they are
+/// to replace, each must have a template.
 ///
 /// # Errors
 ///

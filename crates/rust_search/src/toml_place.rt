@@ -1,4 +1,5 @@
-//! Where a value stands in a file of rules, for messages about it. The file has been parsed before, so that what is no TOML is not looked for.
+//! Where a value stands in a file of rules, for messages about it. The file has been parsed before,
+//! so that what is no TOML is not looked for.
 
 use std::alloc::Global;
 use toml_parser::text::{skip_blank, skip_ws};
@@ -62,8 +63,9 @@ fn head<'a>(alloc: Global, text: &'a str) -> Result<(bool, &'a str), ParseError>
     Ok((is_list && is_word(&key, "rule"), behind_line(behind)))
 }
 
-/// The offset of the value of a key in the table of the rule with a number, from 1; that of the table's head if it has no such key, and 0 if
-/// there is no head of its own, as for tables in a list.
+/// The offset of the value of a key in the table of the rule with a number, from 1; that of the
+/// table's head if it has no such key, and 0 if there is no head of its own, as for tables in a
+/// list.
 pub(crate) fn value_at(
     alloc: Global,
     text: &str,

@@ -1,4 +1,5 @@
-//! Rules of a TOML file: tables `[[rule]]` with the texts `pattern`, `template`, `name`, `message` and `severity`, of which only the first must be there, and `files`, a glob or a list of globs.
+//! Rules of a TOML file: tables `[[rule]]` with the texts `pattern`, `template`, `name`, `message`
+//! and `severity`, of which only the first must be there, and `files`, a glob or a list of globs.
 
 ghost use Rattle.std.specs.Prelude.{◌≡◌, IfOk, OnOk, length};
 ghost use Rattle.rust_search.specs.Rules.{IsSeverityBy};

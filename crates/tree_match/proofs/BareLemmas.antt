@@ -78,7 +78,7 @@ rest_smaller nil = omega arith
 rest_smaller (cons (node k c) r) = omega arith
 rest_smaller (cons (token k s) r) = omega arith
 
-children_smaller : (f : Forest) → is_node_there f ≡ true → forest_size (forest_of_children (first_of f)) < forest_size f
+pub children_smaller : (f : Forest) → is_node_there f ≡ true → forest_size (forest_of_children (first_of f)) < forest_size f
 children_smaller nil h = absurd (let bad : false ≡ true = h in cc)
 children_smaller (cons (node k c) r) h = omega arith
 children_smaller (cons (token k s) r) h = absurd (let bad : false ≡ true = h in cc)

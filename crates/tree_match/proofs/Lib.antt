@@ -4,6 +4,7 @@ pub mod BareLemmas
 pub mod ConditionLemmas
 pub mod StepLemmas
 pub mod SignLemmas
+pub mod LeadLemmas
 pub mod ReadLemmas
 pub mod PlaceLemmas
 pub mod RootLemmas

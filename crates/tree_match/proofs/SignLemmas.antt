@@ -40,7 +40,7 @@ or_first true b h = refl
 or_first false b h = absurd (let bad : false ≡ true = h in cc)
 
 -- what is given only where a test holds
-given : {A P : Type 0} (b : Bool) (x y : A) → (if b then Some x else None) ≡ Some y → (b ≡ true → x ≡ y → P) → P
+pub given : {A P : Type 0} (b : Bool) (x y : A) → (if b then Some x else None) ≡ Some y → (b ≡ true → x ≡ y → P) → P
 given true x y h k = k refl (let same : Some x ≡ Some y = h in cc)
 given false x y h k = absurd (let bad : None ≡ Some y = h in cc)
 
@@ -49,7 +49,7 @@ levels_are : (l : List Siblings) (o : Option Values) (r : List Siblings × Value
 levels_are l None r h = absurd (let bad : None ≡ Some r = h in cc)
 levels_are l (Some w) r h = ap (λ (q : List Siblings × Values). q.0) (let same : (l, w) ≡ r = (let e : Some (l, w) ≡ Some r = h in cc) in same)
 
-fits_end : (q : Option Part) → fits q end ≡ true
+pub fits_end : (q : Option Part) → fits q end ≡ true
 fits_end None = refl
 fits_end (Some p) = refl
 
@@ -78,7 +78,7 @@ none_told s h = by s.trees h
 
 -- ---- what is passed over tells nothing
 
-passed_trivia : (cs : Comments) (k : SyntaxKind) → is_passed cs k ≡ true → is_trivia k ≡ true
+pub passed_trivia : (cs : Comments) (k : SyntaxKind) → is_passed cs k ≡ true → is_trivia k ≡ true
 passed_trivia Passed k h = h
 passed_trivia Kept k h = ap is_trivia ((is_same_kind-equal k WHITESPACE).0 h)
 
@@ -317,7 +317,7 @@ word_top cs hs (part.Token k w ∷ ps) c b below vs ws m = by (is_trivia k) refl
         (λ y q. word_fits cs k w c (past_start cs c b) below e y))
 
 -- a node without a pair round it
-bare_itself : (cs : Comments) (k : SyntaxKind) (c r : Forest) (b : ℕ) → is_same_kind k PAREN_EXPR ≡ false
+pub bare_itself : (cs : Comments) (k : SyntaxKind) (c r : Forest) (b : ℕ) → is_same_kind k PAREN_EXPR ≡ false
     → bare cs (at (cons (node k c) r) b) ≡ at (cons (node k c) r) b
 bare_itself cs k c r b h =
     ap (λ x. if x && (opens cs (at (cons (node k c) r) b) && closes cs (at (cons (node k c) r) b)) then inner cs c b else at (cons (node k c) r) b) h

@@ -1,4 +1,5 @@
--- Trees without what does not count: white space, comments, pairs of parentheses round an expression, and commas at the end of lists.
+-- Trees without what does not count: white space, comments, pairs of parentheses round an
+-- expression, and commas at the end of lists.
 use Rattle.std.specs.Prelude.{ℕ, ◌+◌, ◌==◌, Bool, true, false, not, ◌&&◌, ◌||◌, if◌then◌else◌, List, length}
 use Rattle.std.specs.Cmp.Lexicographic.{pointwise}
 use Rattle.syntax_kind.specs.declared.syntax_kind.SyntaxKind.{SyntaxKind}
@@ -43,7 +44,8 @@ is_node_there f = not (is_done f) && not (is_token (first_of f))
 abbrev pub is_node_of : SyntaxKind → Forest → Bool
 is_node_of k f = is_node_there f && is_same_kind (kind_of (first_of f)) k
 
--- the children of the first sibling from the first on that counts, those behind that one, and behind the next one
+-- the children of the first sibling from the first on that counts, those behind that one, and
+-- behind the next one
 abbrev pub opening : Comments → Siblings → Siblings
 opening cs s = past cs (inside_first s)
 

@@ -28,7 +28,8 @@ abbrev pub all_hold : List Condition → Siblings → Bool
 all_hold [] s = true
 all_hold (c ∷ cs) s = holds c s && all_hold cs s
 
--- a placeholder may stand for the first of some siblings: its conditions hold for it without the pairs round it
+-- a placeholder may stand for the first of some siblings: its conditions hold for it without the
+-- pairs round it
 abbrev pub admits : Option Hole → Siblings → Bool
 admits None s = true
 admits (Some h) s = all_hold h.conditions.items (bare Passed s)

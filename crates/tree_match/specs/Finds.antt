@@ -1,4 +1,5 @@
--- The places of a tree where rules match: the outermost, and those inside what stands for placeholders.
+-- The places of a tree where rules match: the outermost, and those inside what stands for
+-- placeholders.
 use Rattle.std.specs.Prelude.{ℕ, Bool, false, ◌&&◌, if◌then◌else◌, List, [], ◌∷◌, Option, Some, None, option_map, map, nat_le}
 use Rattle.std.specs.Option.{option_and_then}
 use Rattle.tree_model.specs.Tree.{forest_of_children, is_token}
@@ -12,7 +13,8 @@ use Rattle.tree_match.specs.declared.places.Match.{Match}
 use Rattle.tree_match.specs.Runs.{run_range}
 use Rattle.tree_match.specs.Matching.{Values, first_rule}
 
--- a rule, which of its forms, where it matches, where what stands for each placeholder is, and where if that is a node
+-- a rule, which of its forms, where it matches, where what stands for each placeholder is, and
+-- where if that is a node
 pub record Occurrence : Type 0 where
   pub rule : ℕ
   pub form : ℕ

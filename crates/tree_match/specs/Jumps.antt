@@ -7,7 +7,8 @@ use Rattle.syntax_kind.specs.declared.syntax_kind.node_kind.NodeKind.TheVariants
 use Rattle.tree_match.specs.declared.rule.Rule.{Rule}
 use Rattle.tree_match.specs.Matching.{is_for}
 
--- the kinds of operators and calls, and of what else is written as a call: patterns, types and paths
+-- the kinds of operators and calls, and of what else is written as a call: patterns, types and
+-- paths
 abbrev pub is_operation : SyntaxKind → Bool
 is_operation (Node node.BIN_EXPR) = true
 is_operation (Node node.PREFIX_EXPR) = true

@@ -4,6 +4,7 @@ pub mod Conditions
 pub mod Lists
 pub mod Walks
 pub mod Signs
+pub mod Leads
 pub mod Same
 pub mod Matching
 pub mod Roots

@@ -43,8 +43,8 @@ abbrev pub put_new : ℕ → Siblings → Values → Option Values
 put_new n v vs =
     if nat_lt n (length vs) && is_none (get_or vs n None) then Some (set vs n (Some v)) else None
 
--- the levels and the values behind one part of a pattern, if that is next: a placeholder passes over a node of its sort, where its
--- conditions hold
+-- the levels and the values behind one part of a pattern, if that is next: a placeholder passes
+-- over a node of its sort, where its conditions hold
 abbrev pub match_hole : Comments → List Hole → ℕ → Sort → List Siblings → Values → Option (List Siblings × Values)
 match_hole cs hs n sort st vs = option_and_then (λ t. option_map (λ ws. (t.1, ws)) (put_held hs n t.0 vs)) (taken cs sort st)
 
@@ -78,7 +78,8 @@ abbrev pub comments_by : List Part → Comments
 comments_by [] = Passed
 comments_by (p ∷ ps) = Kept
 
--- what stands for some placeholders, if a node of this kind with these children is the pattern of a form
+-- what stands for some placeholders, if a node of this kind with these children is the pattern of a
+-- form
 abbrev pub match_form : List Hole → Form → SyntaxKind → Siblings → Option Values
 match_form hs f k s =
     if is_same_kind f.kind k then match_parts (comments_by f.template.items) hs f.inside.items (length hs) s else None
@@ -98,7 +99,8 @@ is_for k r = list_any (λ f. is_same_kind f.kind k) r.forms.items
 abbrev pub match_rule : Rule → SyntaxKind → Siblings → Option (ℕ × Values)
 match_rule r k s = first_form r.holes.items r.forms.items k s
 
--- what stands for n placeholders of a form, if the first of some siblings is its template: conditions are those of the pattern
+-- what stands for n placeholders of a form, if the first of some siblings is its template:
+-- conditions are those of the pattern
 abbrev pub match_template : Form → ℕ → Siblings → Option Values
 match_template f n s = match_parts Passed [] f.template.items n s
 

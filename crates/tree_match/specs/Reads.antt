@@ -26,12 +26,14 @@ mutual
     same_token : {old new : Siblings} → is_token (first_of old.trees) ≡ true → is_token (first_of new.trees) ≡ true
         → is_same_kind (kind_of (first_of old.trees)) (kind_of (first_of new.trees)) ≡ true
         → text (first_of old.trees) ≡ text (first_of new.trees) → FirstReads rules old new
-    -- where no rule matches: a node of the same kind, whose children are the old ones with the matches in them replaced
+    -- where no rule matches: a node of the same kind, whose children are the old ones with the
+    -- matches in them replaced
     same_node : {old new : Siblings} → is_token (first_of old.trees) ≡ false → rule_at rules old ≡ None
         → is_token (first_of (bare Passed new).trees) ≡ false
         → is_same_kind (kind_of (first_of (bare Passed old).trees)) (kind_of (first_of (bare Passed new).trees)) ≡ true
         → AllRead rules (inside_first (bare Passed old)) (inside_first (bare Passed new)) → FirstReads rules old new
-    -- where a rule matches: the template of its form, in which each placeholder stands for what it stands for in the match, with the matches in that replaced
+    -- where a rule matches: the template of its form, in which each placeholder stands for what it
+    -- stands for in the match, with the matches in that replaced
     replaced : {old new : Siblings} (n m : ℕ) (form : Form) (olds news : Values) → is_token (first_of old.trees) ≡ false
         → rule_at rules old ≡ Some (n, m, olds) → form_at rules n m ≡ Some form
         → match_template form (length olds) new ≡ Some news
@@ -44,7 +46,8 @@ mutual
         → FirstReads rules (past Passed old) (past Passed new)
         → AllRead rules (behind_first (past Passed old)) (behind_first (past Passed new)) → AllRead rules old new
 
-  -- What a placeholder of a template stands for: the same with the matches of rules replaced. A placeholder that is not in the template has no value there.
+  -- What a placeholder of a template stands for: the same with the matches of rules replaced. A
+  -- placeholder that is not in the template has no value there.
   pub data ValueReads (rules : List Rule) : Option Siblings → Option Siblings → Type 0 where
     unused : {old : Option Siblings} → ValueReads rules old None
     used : {old new : Siblings} → AllRead rules old new → ValueReads rules (Some old) (Some new)
@@ -63,8 +66,8 @@ pub record IsReplaced (rules : List Rule) (found : ℕ × ℕ × Values) (new : 
   pub is_template : match_template form (length found.2) new ≡ Some news
   pub values : ValuesRead rules found.2 news
 
--- the first of the new siblings is the same token as that of the old ones; or a node of the same kind, whose children are the old ones
--- with the matches in them replaced
+-- the first of the new siblings is the same token as that of the old ones; or a node of the same
+-- kind, whose children are the old ones with the matches in them replaced
 pub record IsSameToken (old new : Siblings) : Type 0 where
   pub old_token : is_token (first_of old.trees) ≡ true
   pub new_token : is_token (first_of new.trees) ≡ true
@@ -82,7 +85,8 @@ abbrev pub TasksRead : List Rule → List Task → Type 0
 TasksRead rules [] = ⊤
 TasksRead rules (t ∷ ts) = AllRead rules t.old t.new × TasksRead rules ts
 
--- if a call returned true, and the tasks that it left hold, so do a fact and the tasks that there were
+-- if a call returned true, and the tasks that it left hold, so do a fact and the tasks that there
+-- were
 pub record Leads (P : List Rule → Type 0) (ok : Bool) (new old : List Task) : Type 0 where
   pub leads : IsTrue ok → (rules : List Rule) → TasksRead rules new → P rules × TasksRead rules old
 

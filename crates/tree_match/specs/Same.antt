@@ -8,7 +8,8 @@ use Rattle.tree_match.specs.declared.bare.Comments.{Comments}
 use Rattle.tree_match.specs.declared.bare.Comments.TheVariants.{Passed}
 use Rattle.tree_match.specs.Bare.{Step, enter, leave, leaf, is_passed, is_pair, is_last_comma, is_element, bare, is_same_step}
 
--- the steps of the walk of some siblings, behind an element of a list or not; or, in a pair, of its first node alone
+-- the steps of the walk of some siblings, behind an element of a list or not; or, in a pair, of its
+-- first node alone
 abbrev pub steps : Comments → Bool → Bool → Forest → List Step
 steps cs in_pair behind nil = []
 steps cs true behind (cons (token k t) r) = steps cs true behind r
@@ -26,7 +27,8 @@ abbrev pub steps_left : Comments → List Siblings → List Step
 steps_left cs [] = []
 steps_left cs (s ∷ below) = steps cs false false s.trees ++ leave ∷ steps_left cs below
 
--- whether all steps of two walks are the same is decided; or it is what is left of them, which is less
+-- whether all steps of two walks are the same is decided; or it is what is left of them, which is
+-- less
 abbrev pub IsDecided : List Siblings → List Siblings → List Siblings → List Siblings → Option Bool → Type 0
 IsDecided st su st' su' (Some same) = same ≡ pointwise is_same_step (steps_left Passed st) (steps_left Passed su)
 IsDecided st su st' su' None =

@@ -1,4 +1,5 @@
--- What tells most nodes from a pattern at once: the word of a method, a field or a path, or the first token.
+-- What tells most nodes from a pattern at once: the word of a method, a field or a path, or the
+-- first token.
 use Rattle.std.specs.Prelude.{ℕ, suc, ◌-◌, ◌==◌, Bool, true, false, not, ◌&&◌, ◌||◌, if◌then◌else◌, List, [], ◌∷◌, Option, Some, None}
 use Rattle.syntax_kind.specs.declared.syntax_kind.SyntaxKind.{SyntaxKind}
 use Rattle.syntax_kind.specs.declared.syntax_kind.TheConstants.SyntaxKind.{NAME_REF, PAREN_EXPR, COMMA, DOT}
@@ -25,7 +26,8 @@ abbrev pub word_of : Forest → Step
 word_of nil = end
 word_of (cons t r) = word_at t (word_of r)
 
--- a tree may be the sign, or is the node of a name, whose word is; a pair of parentheses may be round a name
+-- a tree may be the sign, or is the node of a name, whose word is; a pair of parentheses may be
+-- round a name
 abbrev pub is_sign : Tree → Bool
 is_sign t =
     if is_token t then not (is_plain (kind_of t))
@@ -37,7 +39,8 @@ sign_here t =
     if is_token t then leaf (kind_of t) (text t)
     else (if is_same_kind (kind_of t) NAME_REF then word_of (forest_of_children t) else end)
 
--- the first token of some trees that tells something, or the word of a name, whichever is first; the end of the node if there is none
+-- the first token of some trees that tells something, or the word of a name, whichever is first;
+-- the end of the node if there is none
 abbrev pub sign_of : Forest → Step
 sign_of nil = leave
 sign_of (cons t r) = if is_sign t then sign_here t else sign_of r

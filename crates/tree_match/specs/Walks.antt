@@ -1,4 +1,5 @@
--- A walk of a tree that can pass over a node at once: the siblings that are left on each level, the innermost first.
+-- A walk of a tree that can pass over a node at once: the siblings that are left on each level, the
+-- innermost first.
 use Rattle.std.specs.Prelude.{◌==◌, Bool, true, false, ◌&&◌, ◌||◌, if◌then◌else◌, List, [], ◌∷◌, Option, Some, None, string_bytes}
 use Rattle.std.specs.Cmp.Lexicographic.{pointwise}
 use Rattle.syntax_kind.specs.declared.syntax_kind.SyntaxKind.{SyntaxKind}

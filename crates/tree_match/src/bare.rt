@@ -83,7 +83,8 @@ fn closes(comments: Comments, left: &Run<'_>) -> bool
     is_token_of(SyntaxKind::R_PAREN, &closing) && past(comments, &closing.rest()).is_done()
 }
 
-// Whether the first of the siblings is a pair of parentheses round one node, with nothing else in it that counts.
+// Whether the first of the siblings is a pair of parentheses round one node, with nothing else in
+// it that counts.
 fn is_pair(comments: Comments, left: &Run<'_>) -> bool
     ensures { result ≡ is_pair comments left.now }
 {
@@ -139,14 +140,16 @@ pub(crate) fn without_comma<'t>(comments: Comments, left: &Run<'t>) -> Run<'t>
     }
 }
 
-// Whether the first of the siblings is a node that may be an element of a list. In a tree of tokens each comma counts.
+// Whether the first of the siblings is a node that may be an element of a list. In a tree of tokens
+// each comma counts.
 fn is_element(left: &Run<'_>) -> bool
     ensures { result ≡ is_element left.now.trees }
 {
     is_node_there(left) && left.kind().to_raw() != SyntaxKind::TOKEN_TREE.to_raw()
 }
 
-/// The siblings behind the first one, if that is an element of a list without a comma that ends the list.
+/// The siblings behind the first one, if that is an element of a list without a comma that ends the
+/// list.
 pub(crate) fn behind_one<'t>(comments: Comments, left: &Run<'t>) -> Run<'t>
     ensures { result ≡ behind_one comments left.now }
 {

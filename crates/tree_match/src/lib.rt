@@ -1,4 +1,5 @@
-//! Patterns with placeholders, and where they match in trees. White space, comments and pairs of parentheses do not count.
+//! Patterns with placeholders, and where they match in trees. White space, comments and pairs of
+//! parentheses do not count.
 #![tactic(auto)]
 
 mod bare;
@@ -6,6 +7,7 @@ mod compile;
 mod condition;
 mod fit;
 mod jump;
+mod lead;
 mod list;
 mod matching;
 mod part;

@@ -6,6 +6,7 @@ ghost use Rattle.tree_match.specs.Matching.{put, put_held, put_new, match_part, 
 
 use crate::bare::Comments;
 use crate::condition::{Hole, admits};
+use crate::lead::is_led;
 use crate::part::Part;
 use crate::rule::{Form, Rule};
 use crate::run::Run;
@@ -45,7 +46,8 @@ fn put<'t>(
     number: usize,
     value: Run<'t>,
 ) -> Result<bool, AllocError>
-    ensures { IfOk result (λ ok. put number value.entry values.old.items ≡ (if ok then Some values.new.items else None)) }
+    ensures { IfOk result (λ ok. put number value.entry values.old.items
+        ≡ (if ok then Some values.new.items else None)) }
 {
     if number >= values.len() {
         return Ok(false);
@@ -65,7 +67,8 @@ fn put_held<'t>(
     number: usize,
     value: Run<'t>,
 ) -> Result<bool, AllocError>
-    ensures { IfOk result (λ ok. put_held holes.now number value.entry values.old.items ≡ (if ok then Some values.new.items else None)) }
+    ensures { IfOk result (λ ok. put_held holes.now number value.entry values.old.items
+        ≡ (if ok then Some values.new.items else None)) }
 {
     if !admits(alloc, holes, number, &value)? {
         return Ok(false);
@@ -93,7 +96,10 @@ fn match_part<'t>(
     values: &mut Values<'t>,
     part: &Part,
 ) -> Result<bool, AllocError>
-    ensures step { IfOk result (λ ok. match_part walk.old.comments holes.now part.now (levels_of walk.old) values.old.items ≡ (if ok then Some (levels_of walk.new, values.new.items) else None)) }
+    ensures step { IfOk result (λ ok.
+        match_part walk.old.comments holes.now part.now (levels_of walk.old)
+        values.old.items
+        ≡ (if ok then Some (levels_of walk.new, values.new.items) else None)) }
     ensures same { walk.new.comments ≡ walk.old.comments }
 {
     if let Part::Hole(number, sort) = part {
@@ -137,6 +143,27 @@ fn match_parts<'t>(
     Ok(true)
 }
 
+// The same, where most nodes begin otherwise than a pattern.
+#[tactic(auto, using(crate::proofs::LeadLemmas::not_led))]
+fn match_led<'t>(
+    alloc: Global,
+    walk: &mut Walk<'t>,
+    values: &mut Values<'t>,
+    comments: Comments,
+    holes: &[Hole],
+    parts: &[Part],
+    count: usize,
+    start: &Run<'t>,
+) -> Result<bool, AllocError>
+    ensures { IfOk result (λ ok. match_parts comments holes.now parts.now count start.now
+        ≡ (if ok then Some values.new.items else None)) }
+{
+    if !is_led(parts, start) {
+        return Ok(false);
+    }
+    match_parts(alloc, walk, values, comments, holes, parts, count, start)
+}
+
 // Notes what stands for the placeholders of a rule, if a node is the pattern of this form.
 #[tactic(auto, using(crate::proofs::SignLemmas::refused))]
 fn match_form<'t>(
@@ -156,7 +183,7 @@ fn match_form<'t>(
     if form.kind.to_raw() != kind.to_raw() || !is_fit(&form.inside, sign) {
         return Ok(false);
     }
-    match_parts(
+    match_led(
         alloc,
         walk,
         values,
@@ -287,14 +314,16 @@ fn match_numbered<'t>(
     }
 }
 
-/// What stands for the placeholders of a form, if the first of some siblings is its template. There are as many as stand for them in the match.
+/// What stands for the placeholders of a form, if the first of some siblings is its template. There
+/// are as many as stand for them in the match.
 pub(crate) fn match_template<'t>(
     alloc: Global,
     form: &Form,
     olds: &[Option<Run<'_>>],
     start: &Run<'t>,
 ) -> Result<Option<Values<'t>>, AllocError>
-    ensures { IfOk result (λ o. option_map (λ vs. vs.items) o ≡ match_template form.now (length olds.now) start.now) }
+    ensures { IfOk result
+        (λ o. option_map (λ vs. vs.items) o ≡ match_template form.now (length olds.now) start.now) }
 {
     let mut walk = Walk::new(alloc, Comments::Passed, start);
     let mut values = Vec::new(alloc);

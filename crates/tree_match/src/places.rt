@@ -22,7 +22,8 @@ pub struct Match {
     pub form: usize,
     /// The range of the node.
     pub range: TextRange,
-    /// The range of what stands for each placeholder, with the pairs of parentheses round it; `None` if it is not in the pattern.
+    /// The range of what stands for each placeholder, with the pairs of parentheses round it;
+    /// `None` if it is not in the pattern.
     pub values: Vec<Option<TextRange>>,
     // The ranges of those values that are nodes.
     pub(crate) nodes: Vec<Option<TextRange>>,
@@ -157,9 +158,11 @@ fn behind(found: TextRange, next: TextRange) -> TextRange
     }
 }
 
-// A match takes its range out of the next one that may be searched, but for what stands for placeholders.
+// A match takes its range out of the next one that may be searched, but for what stands for
+// placeholders.
 fn take_out(free: &mut VecDeque<TextRange>, found: &Option<Match>) -> Result<(), AllocError>
-    ensures { OnOk result (free.new.items ≡ take_out (option_map occurrence_of found.now) free.old.items) }
+    ensures { OnOk result
+        (free.new.items ≡ take_out (option_map occurrence_of found.now) free.old.items) }
 {
     let Some(found) = found else {
         return Ok(());
@@ -180,7 +183,8 @@ fn found_at(
     node: &SyntaxNode,
 ) -> Result<Option<Match>, AllocError>
     requires roots { AreRoots rules.now roots.now }
-    ensures found { IfOk result (λ o. option_map occurrence_of o ≡ found_at rules.now free.old.items node.now) }
+    ensures found { IfOk result
+        (λ o. option_map occurrence_of o ≡ found_at rules.now free.old.items node.now) }
     ensures behind { OnOk result (free.new.items ≡ free_behind rules.now free.old.items node.now) }
 {
     let range = node.text_range();
@@ -203,7 +207,9 @@ fn push_found(
     node: &SyntaxNode,
 ) -> Result<(), AllocError>
     requires roots { AreRoots rules.now roots.now }
-    ensures found { OnOk result (map occurrence_of matches.new.items ≡ map occurrence_of matches.old.items ++ with_found (found_at rules.now free.old.items node.now) []) }
+    ensures found { OnOk result (map occurrence_of matches.new.items
+        ≡ map occurrence_of matches.old.items
+        ++ with_found (found_at rules.now free.old.items node.now) []) }
     ensures behind { OnOk result (free.new.items ≡ free_behind rules.now free.old.items node.now) }
 {
     if let Some(found) = found_at(alloc, rules, roots, free, node)? {
@@ -212,8 +218,8 @@ fn push_found(
     Ok(())
 }
 
-/// The places where rules match, in preorder: the outermost, and those inside what stands for placeholders. At one place the first rule
-/// that matches counts.
+/// The places where rules match, in preorder: the outermost, and those inside what stands for
+/// placeholders. At one place the first rule that matches counts.
 ///
 /// If all rules match operators, calls and paths alone, as `$a + $b` and `f($a)` do, nodes of most
 /// other kinds are not looked at.

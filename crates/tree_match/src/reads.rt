@@ -21,14 +21,16 @@ struct Task<'a, 'b> {
     new: Run<'b>,
 }
 
-// Adds a task for what stands for a placeholder, if a template has it. Returns false if the pattern has it not.
+// Adds a task for what stands for a placeholder, if a template has it. Returns false if the pattern
+// has it not.
 #[tactic(auto, using(crate::proofs::ReadLemmas::value_unused, crate::proofs::ReadLemmas::value_used, crate::proofs::ReadLemmas::not_led))]
 fn push_value<'a, 'b>(
     tasks: &mut VecDeque<Task<'a, 'b>>,
     old: &Option<Run<'a>>,
     new: &Option<Run<'b>>,
 ) -> Result<bool, AllocError>
-    ensures { IfOk result (λ ok. Leads (λ rules. ValueReads rules old.now new.now) ok tasks.new.items tasks.old.items) }
+    ensures { IfOk result (λ ok.
+        Leads (λ rules. ValueReads rules old.now new.now) ok tasks.new.items tasks.old.items) }
 {
     match (old, new) {
         (_, None) => Ok(true),
@@ -50,7 +52,9 @@ fn push_values<'a, 'b>(
     olds: &[Option<Run<'a>>],
     news: &[Option<Run<'b>>],
 ) -> Result<bool, AllocError>
-    ensures { IfOk result (λ ok. Leads (λ rules. ValuesRead rules olds.now news.now) ok tasks.new.items tasks.old.items) }
+    ensures { IfOk result (λ ok.
+        Leads (λ rules. ValuesRead rules olds.now news.now) ok tasks.new.items
+        tasks.old.items) }
 {
     let mut left = olds.iter();
     for new in news {
@@ -87,7 +91,9 @@ fn is_replaced<'a, 'b>(
     found: &Found<'a>,
     new: &Run<'b>,
 ) -> Result<bool, AllocError>
-    ensures { IfOk result (λ ok. LeadsBy rules.now (IsReplaced rules.now (found_of found.now) new.now) ok tasks.new.items tasks.old.items) }
+    ensures { IfOk result (λ ok.
+        LeadsBy rules.now (IsReplaced rules.now (found_of found.now) new.now) ok tasks.new.items
+        tasks.old.items) }
 {
     let Some(form) = form_at(rules, found.rule, found.form) else {
         return Ok(false);
@@ -114,7 +120,8 @@ fn push_inside<'a, 'b>(
     old: &Run<'a>,
     new: &Run<'b>,
 ) -> Result<bool, AllocError>
-    ensures { IfOk result (λ ok. Leads (λ rules. IsSameNode rules old.now new.now) ok tasks.new.items tasks.old.items) }
+    ensures { IfOk result (λ ok.
+        Leads (λ rules. IsSameNode rules old.now new.now) ok tasks.new.items tasks.old.items) }
 {
     if new.is_token() || old.kind().to_raw() != new.kind().to_raw() {
         return Ok(false);
@@ -132,7 +139,9 @@ fn push_bare<'a, 'b>(
     old: &Run<'a>,
     new: &Run<'b>,
 ) -> Result<bool, AllocError>
-    ensures { IfOk result (λ ok. Leads (λ rules. IsSameNode rules (bare Passed old.now) (bare Passed new.now)) ok tasks.new.items tasks.old.items) }
+    ensures { IfOk result (λ ok.
+        Leads (λ rules. IsSameNode rules (bare Passed old.now) (bare Passed new.now)) ok
+        tasks.new.items tasks.old.items) }
 {
     push_inside(
         tasks,
@@ -162,7 +171,9 @@ fn step_into<'a, 'b>(
     old: &Run<'a>,
     new: &Run<'b>,
 ) -> Result<bool, AllocError>
-    ensures { IfOk result (λ ok. LeadsBy rules.now (FirstReads rules.now old.now new.now) ok tasks.new.items tasks.old.items) }
+    ensures { IfOk result (λ ok.
+        LeadsBy rules.now (FirstReads rules.now old.now new.now) ok tasks.new.items
+        tasks.old.items) }
 {
     if old.is_token() {
         return Ok(is_same_token(old, new));
@@ -182,7 +193,9 @@ fn step_along<'a, 'b>(
     old: &Run<'a>,
     new: &Run<'b>,
 ) -> Result<bool, AllocError>
-    ensures { IfOk result (λ ok. LeadsBy rules.now (AllRead rules.now old.now new.now) ok tasks.new.items tasks.old.items) }
+    ensures { IfOk result (λ ok.
+        LeadsBy rules.now (AllRead rules.now old.now new.now) ok tasks.new.items
+        tasks.old.items) }
 {
     let old = past(Comments::Passed, old);
     let new = past(Comments::Passed, new);
@@ -199,9 +212,10 @@ fn step_along<'a, 'b>(
     step_into(alloc, tasks, rules, &old, &new)
 }
 
-/// Whether a tree is another one in which each match is replaced by its rule's template, with what stands for placeholders put in, in which
-/// matches are replaced too. White space, comments and pairs of parentheses do not count. It may return false also if memory for more
-/// than 2^64 steps would be needed.
+/// Whether a tree is another one in which each match is replaced by its rule's template, with what
+/// stands for placeholders put in, in which matches are replaced too. White space, comments and
+/// pairs of parentheses do not count. It may return false also if memory for more than 2^64 steps
+/// would be needed.
 ///
 /// Takes time linear in the old tree for each rule, and in the new one.
 ///
@@ -215,7 +229,8 @@ pub fn reads_as(
     old: &SyntaxNode,
     new: &SyntaxNode,
 ) -> Result<bool, AllocError>
-    ensures { IfOk result (λ reads. IsTrue reads → AllRead rules.now (inside_of old.now) (inside_of new.now)) }
+    ensures { IfOk result
+        (λ reads. IsTrue reads → AllRead rules.now (inside_of old.now) (inside_of new.now)) }
 {
     let mut tasks = VecDeque::new(alloc);
     tasks.push_front(Task {

@@ -31,7 +31,8 @@ pub struct Form {
     pub(crate) template: Vec<Part>,
 }
 
-/// A pattern, and the template of what it matches, for each kind of syntax that both are. A pattern without a template is searched for only.
+/// A pattern, and the template of what it matches, for each kind of syntax that both are. A pattern
+/// without a template is searched for only.
 #[derive(Drop)]
 pub struct Rule {
     pub(crate) forms: Vec<Form>,
@@ -99,7 +100,8 @@ impl Form {
         })
     }
 
-    /// Whether comments between the tokens of a match do not count: they would be lost where the match is replaced.
+    /// Whether comments between the tokens of a match do not count: they would be lost where the
+    /// match is replaced.
     pub(crate) fn comments(&self) -> Comments
         ensures { result ≡ comments_by self.now.template.items }
     {
@@ -126,7 +128,8 @@ impl Form {
 }
 
 impl Rule {
-    /// A rule without a form, which matches nothing yet: its placeholders, and the pieces of its template's text.
+    /// A rule without a form, which matches nothing yet: its placeholders, and the pieces of its
+    /// template's text.
     pub fn new(alloc: Global, holes: Vec<Hole>, pieces: Vec<Piece>) -> Rule
         ensures forms { result.forms.items ≡ [] }
         ensures holes { result.holes.items ≡ holes.items }
@@ -139,8 +142,9 @@ impl Rule {
         }
     }
 
-    /// Adds what the rule is for a further kind of syntax: the node of its pattern, and of its template if it has one. In them a word that is
-    /// `prefix` and the number of a placeholder stands for the placeholder: any expression, type, pattern or path where the word is one, and
+    /// Adds what the rule is for a further kind of syntax: the node of its pattern, and of its
+    /// template if it has one. In them a word that is `prefix` and the number of a placeholder
+    /// stands for the placeholder: any expression, type, pattern or path where the word is one, and
     /// a word where it is a name, or where it is of one kind here and of another one there.
     ///
     /// # Errors
@@ -156,7 +160,8 @@ impl Rule {
         pattern: &SyntaxNode,
         template: Option<&SyntaxNode>,
     ) -> Result<(), RuleRefusal>
-        ensures forms { OnOk result (map (λ f. f.kind) self.new.forms.items ≡ map (λ f. f.kind) self.old.forms.items ++ kind_at pattern.now ∷ []) }
+        ensures forms { OnOk result (map (λ f. f.kind) self.new.forms.items
+            ≡ map (λ f. f.kind) self.old.forms.items ++ kind_at pattern.now ∷ []) }
         ensures kept { OnErr result (self.new.forms.items ≡ self.old.forms.items) }
         ensures holes { self.new.holes.items ≡ self.old.holes.items }
         ensures pieces { self.new.pieces.items ≡ self.old.pieces.items }
@@ -191,7 +196,8 @@ impl Rule {
         }
     }
 
-    /// What the placeholder with a number stands for in the template of a form; `None` if it is not in it.
+    /// What the placeholder with a number stands for in the template of a form; `None` if it is not
+    /// in it.
     #[tactic(auto, using(crate::proofs::ConditionLemmas::no_sort, crate::proofs::ConditionLemmas::some_sort))]
     pub fn sort(&self, form: usize, number: usize) -> Option<Sort>
         ensures { result ≡ sort_by (slice_get self.now.forms.items form) number }

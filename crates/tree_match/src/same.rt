@@ -30,12 +30,14 @@ fn is_end(step: Seen<'_>) -> bool
     matches!(step, Seen::End)
 }
 
-// Compares the next steps of two walks. Returns whether all steps are the same, as soon as that is known.
+// Compares the next steps of two walks. Returns whether all steps are the same, as soon as that is
+// known.
 #[tactic(auto, using(crate::proofs::StepLemmas::differ, crate::proofs::StepLemmas::ended, crate::proofs::StepLemmas::goes_on))]
 fn compare_next(first: &mut Walk<'_>, second: &mut Walk<'_>) -> Result<Option<bool>, AllocError>
     requires first { first.old.comments ≡ Passed }
     requires second { second.old.comments ≡ Passed }
-    ensures decided { IfOk result (IsDecided (levels_of first.old) (levels_of second.old) (levels_of first.new) (levels_of second.new)) }
+    ensures decided { IfOk result (IsDecided (levels_of first.old) (levels_of second.old)
+        (levels_of first.new) (levels_of second.new)) }
     ensures first { first.new.comments ≡ Passed }
     ensures second { second.new.comments ≡ Passed }
 {
@@ -52,7 +54,9 @@ fn compare_next(first: &mut Walk<'_>, second: &mut Walk<'_>) -> Result<Option<bo
 
 // Whether all of some siblings and all of others are the same.
 fn same_siblings(alloc: Global, a: &Run<'_>, b: &Run<'_>) -> Result<bool, AllocError>
-    ensures { IfOk result (λ same. same ≡ pointwise is_same_step (steps_left Passed (a.now ∷ [])) (steps_left Passed (b.now ∷ []))) }
+    ensures { IfOk result (λ same. same
+        ≡ pointwise is_same_step (steps_left Passed (a.now ∷ []))
+        (steps_left Passed (b.now ∷ []))) }
 {
     let mut first = Walk::new(alloc, Comments::Passed, a);
     let mut second = Walk::new(alloc, Comments::Passed, b);

@@ -73,8 +73,8 @@ pub(crate) fn sign_of<'t>(inside: &Run<'t>) -> Seen<'t>
     Seen::Leave
 }
 
-// The token that a part is, if it is one and no white space or comment.
-fn word_part(part: &Part) -> Option<&Part>
+/// The token that a part is, if it is one and no white space or comment.
+pub(crate) fn word_part(part: &Part) -> Option<&Part>
     ensures { option_map (λ p. p.now) result ≡ word_part part.now }
 {
     match part {

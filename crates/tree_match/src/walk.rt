@@ -71,7 +71,8 @@ impl<'t> Walk<'t> {
 
     /// The next step.
     pub(crate) fn next(&mut self) -> Result<Seen<'t>, AllocError>
-        ensures step { IfOk result (λ s. (step_of s, levels_of self.new) ≡ advance self.old.comments (levels_of self.old)) }
+        ensures step { IfOk result (λ s. (step_of s, levels_of self.new)
+            ≡ advance self.old.comments (levels_of self.old)) }
         ensures same { self.new.comments ≡ self.old.comments }
     {
         let Some(level) = &self.level else {
@@ -92,7 +93,8 @@ impl<'t> Walk<'t> {
         Ok(Seen::Enter(inner.kind()))
     }
 
-    /// The kind and the text of the next node without the pairs round it; `None` if no node is next.
+    /// The kind and the text of the next node without the pairs round it; `None` if no node is
+    /// next.
     pub(crate) fn peek(&self) -> Option<(SyntaxKind, &'t str)> {
         let Some(level) = &self.level else {
             return None;
