@@ -113,13 +113,13 @@ void rattle_dealloc(void *at);
 #define RAS_TOO_LARGE 10u
 
 /*
- * From this status on, an escape or a character of a literal is wrong: RAS_FAULT + n, where n counts EscapeError's variants. Nothing
- * was written.
+ * From this status on, an escape or a character of a literal is wrong: RAS_FAULT + n, where n
+ * counts EscapeError's variants. Nothing was written.
  */
 #define RAS_FAULT 64u
 
 /* A number made of the kinds, constants, structs and calls of the library. Bindings that know another number were made for others. */
-#define RAS_VERSION 3372460805u
+#define RAS_VERSION 1848753718u
 
 /* The statuses of a wrong escape or character. */
 enum ras_fault {
@@ -544,7 +544,10 @@ typedef struct {
 typedef struct {
     /* The nodes and tokens of its tree. */
     uint32_t rows;
-    /* Its errors: those of the parser, then those of the lexer, then the violations of rules beyond the grammar. */
+    /*
+     * Its errors: those of the parser, then those of the lexer, then the violations of rules
+     * beyond the grammar.
+     */
     uint32_t errors;
     /* How many of the errors are such violations. They are the last ones. */
     uint32_t violations;
@@ -603,8 +606,9 @@ typedef struct {
 } ras_word;
 
 /*
- * Writes the name of the kind with this number, for example FN, to the front of name, and returns the name's length in bytes: 0 if
- * no kind has the number, or if the kind has no name. If name is shorter than that, it is not changed. 64 bytes are enough for all.
+ * Writes the name of the kind with this number, for example FN, to the front of name, and
+ * returns the name's length in bytes: 0 if no kind has the number, or if the kind has no name. If
+ * name is shorter than that, it is not changed. 64 bytes are enough for all.
  */
 size_t ras_c_kind_name(
     uint32_t kind,
@@ -617,9 +621,11 @@ uint32_t ras_c_kind_of_name(
     size_t name_len);
 
 /*
- * Parses a text as a Rust file of an edition, such as 2024, and puts the parse into a handle. A parse that the handle held is freed.
+ * Parses a text as a Rust file of an edition, such as 2024, and puts the parse into a handle. A
+ * parse that the handle held is freed.
  *
- * Returns RAS_OK, RAS_NOT_UTF8, RAS_TOO_LONG, RAS_NO_MEMORY or RAS_NO_EDITION. Unless it is RAS_OK, the handle is not changed.
+ * Returns RAS_OK, RAS_NOT_UTF8, RAS_TOO_LONG, RAS_NO_MEMORY or RAS_NO_EDITION. Unless it is
+ * RAS_OK, the handle is not changed.
  */
 uint32_t ras_c_parse(
     const uint8_t *text,
@@ -628,9 +634,11 @@ uint32_t ras_c_parse(
     ras_handle *handle);
 
 /*
- * Writes the rows, errors and messages of a handle's parse, as ras_c_read does for a text. The handle keeps its parse.
+ * Writes the rows, errors and messages of a handle's parse, as ras_c_read does for a text. The
+ * handle keeps its parse.
  *
- * Returns RAS_OK, RAS_TOO_LONG, RAS_NO_MEMORY, RAS_NO_ROOM, or RAS_NO_PARSE if the handle holds no parse.
+ * Returns RAS_OK, RAS_TOO_LONG, RAS_NO_MEMORY, RAS_NO_ROOM, or RAS_NO_PARSE if the handle holds no
+ * parse.
  */
 uint32_t ras_c_rows(
     ras_handle *handle,
@@ -723,13 +731,15 @@ void ras_c_free(
     ras_handle *handle);
 
 /*
- * Finds the needless pairs of parentheses of a text of an edition, such as 2024, in preorder of the tree: those that
- * rust_tree parens --all --mixed lists. All of them can be removed together.
+ * Finds the needless pairs of parentheses of a text of an edition, such as 2024, in preorder of
+ * the tree: those that rust_tree parens --all --mixed lists. All of them can be removed
+ * together.
  *
- * Returns RAS_OK, RAS_NOT_UTF8, RAS_TOO_LONG, RAS_NO_MEMORY, RAS_NO_ROOM or RAS_NO_EDITION. A range is that of a PAREN_EXPR or a
- * PAREN_PAT, with both parentheses. Put a blank in place of a parenthesis whose neighbours would be joined, as in return(a). Pairs
- * that rustc needs stay, for example around a macro call that is a statement. It usually takes a few parses of the text; at worst one for
- * each pair that stays.
+ * Returns RAS_OK, RAS_NOT_UTF8, RAS_TOO_LONG, RAS_NO_MEMORY, RAS_NO_ROOM or RAS_NO_EDITION. A
+ * range is that of a PAREN_EXPR or a PAREN_PAT, with both parentheses. Put a blank in place of
+ * a parenthesis whose neighbours would be joined, as in return(a). Pairs that rustc needs stay,
+ * for example around a macro call that is a statement. It usually takes a few parses of the text;
+ * at worst one for each pair that stays.
  */
 uint32_t ras_c_parens(
     const uint8_t *text,
@@ -740,10 +750,12 @@ uint32_t ras_c_parens(
     uint32_t *count);
 
 /*
- * Tests whether the operator tree with exactly this range, in a text of an edition such as 2024, is the one reading of its tokens.
- * answer is 1 if it is, and 0 if not. If several operator trees have the range, the innermost is tested.
+ * Tests whether the operator tree with exactly this range, in a text of an edition such as 2024,
+ * is the one reading of its tokens. answer is 1 if it is, and 0 if not. If several operator
+ * trees have the range, the innermost is tested.
  *
- * Returns RAS_OK, RAS_NOT_UTF8, RAS_TOO_LONG, RAS_NO_MEMORY, RAS_NO_EDITION, or RAS_NO_PLACE if no operator tree has the range.
+ * Returns RAS_OK, RAS_NOT_UTF8, RAS_TOO_LONG, RAS_NO_MEMORY, RAS_NO_EDITION, or RAS_NO_PLACE if no
+ * operator tree has the range.
  */
 uint32_t ras_c_reads_back(
     const uint8_t *text,
@@ -754,11 +766,25 @@ uint32_t ras_c_reads_back(
     uint32_t *answer);
 
 /*
- * Parses a text as a Rust file of an edition, such as 2024. Writes the tree as rows in preorder, the errors, and their messages one after
- * another, each to the front of its buffer.
+ * Fills a buffer with rows of a handle's parse, those from number from on: a part of the rows
+ * that ras_c_rows writes, so that a caller can use each part while it is near. The handle keeps
+ * its parse.
  *
- * Returns RAS_OK, RAS_NOT_UTF8, RAS_TOO_LONG, RAS_NO_MEMORY, RAS_NO_ROOM or RAS_NO_EDITION. Text with syntax errors has a tree too. A text
- * of n bytes seldom has more than 2 n rows.
+ * Returns RAS_OK, RAS_TOO_LONG if the whole tree has 2^32 rows or more, RAS_NO_PARSE if the handle
+ * holds no parse, or RAS_NO_PLACE if the tree has fewer rows from from on than the buffer.
+ */
+uint32_t ras_c_rows_from(
+    ras_handle *handle,
+    uint32_t from,
+    ras_flat_row *rows,
+    size_t rows_len);
+
+/*
+ * Parses a text as a Rust file of an edition, such as 2024. Writes the tree as rows in preorder,
+ * the errors, and their messages one after another, each to the front of its buffer.
+ *
+ * Returns RAS_OK, RAS_NOT_UTF8, RAS_TOO_LONG, RAS_NO_MEMORY, RAS_NO_ROOM or RAS_NO_EDITION. Text
+ * with syntax errors has a tree too. A text of n bytes seldom has more than 2 n rows.
  */
 uint32_t ras_c_read(
     const uint8_t *text,
@@ -773,8 +799,9 @@ uint32_t ras_c_read(
     ras_counts *counts);
 
 /*
- * Parses a text as an expression of an edition, and writes what ras_c_read writes for a file. The root is a node of an expression, or
- * ERROR if the text is not one expression; there are errors then.
+ * Parses a text as an expression of an edition, and writes what ras_c_read writes for a file.
+ * The root is a node of an expression, or ERROR if the text is not one expression; there are
+ * errors then.
  *
  * Returns RAS_OK, RAS_NOT_UTF8, RAS_TOO_LONG, RAS_NO_MEMORY, RAS_NO_ROOM or RAS_NO_EDITION.
  */
@@ -866,10 +893,11 @@ uint32_t ras_c_rewrite(
     ras_rule_fault *fault);
 
 /*
- * Cuts a text of an edition, such as 2024, into tokens. White space and comments are tokens too, and punctuation is cut into single
- * characters.
+ * Cuts a text of an edition, such as 2024, into tokens. White space and comments are tokens too,
+ * and punctuation is cut into single characters.
  *
- * Returns RAS_OK, RAS_NOT_UTF8, RAS_TOO_LONG, RAS_NO_MEMORY, RAS_NO_ROOM or RAS_NO_EDITION. A text has at most as many tokens as bytes.
+ * Returns RAS_OK, RAS_NOT_UTF8, RAS_TOO_LONG, RAS_NO_MEMORY, RAS_NO_ROOM or RAS_NO_EDITION. A text
+ * has at most as many tokens as bytes.
  */
 uint32_t ras_c_tokens(
     const uint8_t *text,
@@ -880,11 +908,11 @@ uint32_t ras_c_tokens(
     uint32_t *count);
 
 /*
- * Writes the value of a string with this text, quotes and prefix with it, to the front of value, and its length to count:
- * of "a\n" the letter and a line feed.
+ * Writes the value of a string with this text, quotes and prefix with it, to the front of value,
+ * and its length to count: of "a\n" the letter and a line feed.
  *
- * Returns RAS_OK, RAS_NOT_UTF8, RAS_TOO_LONG, RAS_NO_MEMORY, RAS_NO_ROOM, or a status from RAS_FAULT on. The value is at most as long as
- * the text.
+ * Returns RAS_OK, RAS_NOT_UTF8, RAS_TOO_LONG, RAS_NO_MEMORY, RAS_NO_ROOM, or a status from
+ * RAS_FAULT on. The value is at most as long as the text.
  */
 uint32_t ras_c_string_value(
     const uint8_t *text,
@@ -894,11 +922,11 @@ uint32_t ras_c_string_value(
     uint32_t *count);
 
 /*
- * Writes the value of a byte string with this text, quotes and prefix with it, to the front of value, and its length to count:
- * of b"\xff" the byte 255.
+ * Writes the value of a byte string with this text, quotes and prefix with it, to the front of
+ * value, and its length to count: of b"\xff" the byte 255.
  *
- * Returns RAS_OK, RAS_NOT_UTF8, RAS_TOO_LONG, RAS_NO_MEMORY, RAS_NO_ROOM, or a status from RAS_FAULT on. The value is at most as long as
- * the text.
+ * Returns RAS_OK, RAS_NOT_UTF8, RAS_TOO_LONG, RAS_NO_MEMORY, RAS_NO_ROOM, or a status from
+ * RAS_FAULT on. The value is at most as long as the text.
  */
 uint32_t ras_c_byte_string_value(
     const uint8_t *text,
@@ -908,11 +936,11 @@ uint32_t ras_c_byte_string_value(
     uint32_t *count);
 
 /*
- * Writes the value of a C string with this text, quotes and prefix with it, to the front of value, and its length to count:
- * of c"a" the letter, without the zero behind it.
+ * Writes the value of a C string with this text, quotes and prefix with it, to the front of
+ * value, and its length to count: of c"a" the letter, without the zero behind it.
  *
- * Returns RAS_OK, RAS_NOT_UTF8, RAS_TOO_LONG, RAS_NO_MEMORY, RAS_NO_ROOM, or a status from RAS_FAULT on. The value is at most as long as
- * the text.
+ * Returns RAS_OK, RAS_NOT_UTF8, RAS_TOO_LONG, RAS_NO_MEMORY, RAS_NO_ROOM, or a status from
+ * RAS_FAULT on. The value is at most as long as the text.
  */
 uint32_t ras_c_c_string_value(
     const uint8_t *text,
@@ -922,7 +950,8 @@ uint32_t ras_c_c_string_value(
     uint32_t *count);
 
 /*
- * Writes the value of a character with this text, quotes with it, to value: of 'a' the number 97.
+ * Writes the value of a character with this text, quotes with it, to value: of 'a' the number
+ * 97.
  *
  * Returns RAS_OK, RAS_NOT_UTF8, or a status from RAS_FAULT on.
  */
@@ -942,8 +971,8 @@ uint32_t ras_c_byte_value(
     uint32_t *value);
 
 /*
- * Writes the value of an integer with this text, prefix and suffix with it, to high and low, 64 bits each: of 0x10u8 the numbers 0
- * and 16.
+ * Writes the value of an integer with this text, prefix and suffix with it, to high and low,
+ * 64 bits each: of 0x10u8 the numbers 0 and 16.
  *
  * Returns RAS_OK, RAS_NOT_UTF8, RAS_NO_DIGIT, RAS_BAD_DIGIT or RAS_TOO_LARGE.
  */
@@ -966,6 +995,25 @@ uint32_t ras_c_int_value(
 uint32_t ras_c_violations_at(
     ras_handle *handle,
     uint32_t row,
+    ras_error_row *errors,
+    size_t errors_len,
+    uint8_t *messages,
+    size_t messages_len,
+    ras_counts *counts);
+
+/*
+ * Writes the violations of rules beyond the grammar at the nodes of a handle's parse whose rows
+ * have the numbers from from to before to. Those of the whole parse are those among its first
+ * rows, and then those among the rest, as they are written here. The counts have no rows. The
+ * handle keeps its parse.
+ *
+ * Returns RAS_OK, RAS_TOO_LONG, RAS_NO_MEMORY, RAS_NO_ROOM, RAS_NO_PARSE if the handle holds no
+ * parse, or RAS_NO_PLACE if the tree has fewer than to rows.
+ */
+uint32_t ras_c_violations_among(
+    ras_handle *handle,
+    uint32_t from,
+    uint32_t to,
     ras_error_row *errors,
     size_t errors_len,
     uint8_t *messages,

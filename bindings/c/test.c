@@ -411,6 +411,54 @@ static void tells_violations_of_a_part(void) {
     owes(held == 0, "a freed handle holds nothing");
 }
 
+static uint32_t violations_among(ras_handle *handle, uint32_t from, uint32_t to, size_t error_room, size_t message_room, ras_counts *counts) {
+    return ras_c_violations_among(handle, from, to, errors, error_room, messages, message_room, counts);
+}
+
+/* Parts of the rows, and the violations among them, are together those of the whole tree. */
+static void tells_parts_of_the_rows(void) {
+    static const char text[] = "fn f() { \"\\q\" }\nfn g() { \"\\z\"; (let a = '') }\nfn h() { 1 + }";
+    ras_handle live = {0};
+    ras_counts counts = {9, 9, 9, 9}, all;
+    ras_flat_row part[8];
+    memset(part, 7, sizeof part);
+    ras_flat_row untouched = part[0];
+    owes(ras_c_rows_from(&live, 0, part, 1) == RAS_NO_PARSE && !memcmp(part, &untouched, sizeof *part), "an empty handle has no rows");
+    owes(violations_among(&live, 0, 1, ERRORS, MESSAGES, &counts) == RAS_NO_PARSE && counts.errors == 9, "nor violations");
+    owes(ras_c_parse(BYTES(text), 2024, &live) == RAS_OK, "a text is parsed");
+    owes(ras_c_rows_as(&live, RAS_VIOLATIONS, rows, ROWS, errors, ERRORS, messages, MESSAGES, &all) == RAS_OK && all.violations == 4, "it has four");
+    ras_error_row whole[4];
+    uint8_t texts[MESSAGES];
+    memcpy(whole, errors, sizeof whole);
+    memcpy(texts, messages, all.messages);
+    for (uint32_t size = 1; size <= 8; size++) {
+        uint32_t told = 0, bytes = 0;
+        for (uint32_t from = 0; from < all.rows; from += size) {
+            uint32_t count = all.rows - from < size ? all.rows - from : size;
+            owes(ras_c_rows_from(&live, from, part, count) == RAS_OK && !memcmp(part, rows + from, count * sizeof *part), "a part has those rows");
+            owes(violations_among(&live, from, from + count, ERRORS, MESSAGES, &counts) == RAS_OK && counts.rows == 0, "and its violations are told");
+            owes(counts.errors == counts.violations && told + counts.errors <= 4 && !memcmp(errors, whole + told, counts.errors * sizeof *whole)
+                && !memcmp(messages, texts + bytes, counts.messages), "which are the next ones");
+            told += counts.errors, bytes += counts.messages;
+        }
+        owes(told == 4 && bytes == all.messages, "the parts have all");
+    }
+    memset(part, 7, sizeof part);
+    owes(ras_c_rows_from(&live, all.rows, part, 0) == RAS_OK && ras_c_rows_from(&live, all.rows, part, 1) == RAS_NO_PLACE
+        && ras_c_rows_from(&live, all.rows - 1, part, 2) == RAS_NO_PLACE && ras_c_rows_from(&live, UINT32_MAX, part, 1) == RAS_NO_PLACE
+        && !memcmp(part, &untouched, sizeof *part), "behind the last row is none");
+    counts = (ras_counts){9, 9, 9, 9};
+    owes(violations_among(&live, 0, all.rows + 1, ERRORS, MESSAGES, &counts) == RAS_NO_PLACE
+        && violations_among(&live, 0, UINT32_MAX, ERRORS, MESSAGES, &counts) == RAS_NO_PLACE && counts.errors == 9, "nor a violation");
+    owes(violations_among(&live, 5, 2, ERRORS, MESSAGES, &counts) == RAS_OK && counts.errors == 0, "and none among no rows");
+    owes(violations_among(&live, 0, all.rows, 3, MESSAGES, &counts) == RAS_NO_ROOM && counts.errors == 4, "three errors are too little room");
+    owes(violations_among(&live, 0, all.rows, 4, all.messages - 1, &counts) == RAS_NO_ROOM && counts.messages == all.messages, "so is a byte less");
+    owes(violations_among(&live, 0, all.rows, 4, all.messages, &counts) == RAS_OK && !memcmp(errors, whole, sizeof whole), "so much room is enough");
+    owes(tells(&live, text), "the handle keeps its parse");
+    ras_c_free(&live);
+    owes(held == 0, "a freed handle holds nothing");
+}
+
 /* Edits of a name, in a block and before all, at a heap that may refuse: each is done, or leaves the handle as it was. */
 static void refuses_edits(void) {
     static const struct { uint32_t start, end; const char *insert, *text; } steps[] = {
@@ -449,6 +497,10 @@ static void refuses_parts(void) {
         counts = (ras_counts){9, 9, 9, 9};
         status = violations_at(&live, 0, ERRORS, MESSAGES, &counts);
         owes(status == RAS_OK ? counts.violations == 1 : status == RAS_NO_MEMORY && counts.rows == 9, "violations are told or refused");
+        counts = (ras_counts){9, 9, 9, 9};
+        status = violations_among(&live, 0, 4, ERRORS, MESSAGES, &counts);
+        owes(status == RAS_OK ? counts.violations == 0 : status == RAS_NO_MEMORY && counts.rows == 9, "so are those among some rows");
+        owes(ras_c_rows_from(&live, 1, rows, 2) == RAS_OK, "rows need no memory");
     }
     ras_c_free(&live);
     owes(held == 0, "a handle leaves no block behind");
@@ -502,6 +554,7 @@ int main(void) {
     edits();
     tells_what_is_new();
     tells_violations_of_a_part();
+    tells_parts_of_the_rows();
     asked = 0;
     refuses();
     long all = asked;

@@ -76,12 +76,12 @@ BAD_DIGIT = 9
 # An integer of 2^128 or more. Nothing was written.
 TOO_LARGE = 10
 
-# From this status on, an escape or a character of a literal is wrong: [`FAULT`] + n, where n counts `EscapeError`'s variants. Nothing
-# was written.
+# From this status on, an escape or a character of a literal is wrong: [`FAULT`] + n, where n
+# counts `EscapeError`'s variants. Nothing was written.
 FAULT = 64
 
 # A number made of the kinds, constants, structs and calls of the library. Bindings that know another number were made for others.
-VERSION = 3372460805
+VERSION = 1848753718
 
 # What can be wrong with an escape or a character: the names and the messages, from the status FAULT on.
 FAULTS = [
@@ -224,6 +224,8 @@ def declare(library):
     library.ras_c_parens.restype = ctypes.c_uint32
     library.ras_c_reads_back.argtypes = [ctypes.c_void_p, ctypes.c_size_t, ctypes.c_uint32, ctypes.c_uint32, ctypes.c_uint32, ctypes.c_void_p]
     library.ras_c_reads_back.restype = ctypes.c_uint32
+    library.ras_c_rows_from.argtypes = [ctypes.c_void_p, ctypes.c_uint32, ctypes.c_void_p, ctypes.c_size_t]
+    library.ras_c_rows_from.restype = ctypes.c_uint32
     library.ras_c_read.argtypes = [ctypes.c_void_p, ctypes.c_size_t, ctypes.c_uint32, ctypes.c_void_p, ctypes.c_size_t, ctypes.c_void_p, ctypes.c_size_t, ctypes.c_void_p, ctypes.c_size_t, ctypes.c_void_p]
     library.ras_c_read.restype = ctypes.c_uint32
     library.ras_c_read_expr.argtypes = [ctypes.c_void_p, ctypes.c_size_t, ctypes.c_uint32, ctypes.c_void_p, ctypes.c_size_t, ctypes.c_void_p, ctypes.c_size_t, ctypes.c_void_p, ctypes.c_size_t, ctypes.c_void_p]
@@ -250,6 +252,8 @@ def declare(library):
     library.ras_c_int_value.restype = ctypes.c_uint32
     library.ras_c_violations_at.argtypes = [ctypes.c_void_p, ctypes.c_uint32, ctypes.c_void_p, ctypes.c_size_t, ctypes.c_void_p, ctypes.c_size_t, ctypes.c_void_p]
     library.ras_c_violations_at.restype = ctypes.c_uint32
+    library.ras_c_violations_among.argtypes = [ctypes.c_void_p, ctypes.c_uint32, ctypes.c_uint32, ctypes.c_void_p, ctypes.c_size_t, ctypes.c_void_p, ctypes.c_size_t, ctypes.c_void_p]
+    library.ras_c_violations_among.restype = ctypes.c_uint32
     library.ras_c_word.argtypes = [ctypes.c_void_p, ctypes.c_size_t, ctypes.c_uint32, ctypes.c_void_p]
     library.ras_c_word.restype = ctypes.c_uint32
     library.ras_c_version.argtypes = []

@@ -75,12 +75,12 @@ pub const BAD_DIGIT: u32 = 9;
 /// An integer of 2^128 or more. Nothing was written.
 pub const TOO_LARGE: u32 = 10;
 
-/// From this status on, an escape or a character of a literal is wrong: [`FAULT`] + n, where n counts `EscapeError`'s variants. Nothing
-/// was written.
+/// From this status on, an escape or a character of a literal is wrong: [`FAULT`] + n, where n
+/// counts `EscapeError`'s variants. Nothing was written.
 pub const FAULT: u32 = 64;
 
 /// A number made of the kinds, constants, structs and calls of the library. Bindings that know another number were made for others.
-pub const VERSION: u32 = 3372460805;
+pub const VERSION: u32 = 1848753718;
 
 /// One node or token, in 16 bytes. Rows are numbered from 0 in preorder.
 #[repr(C)]
@@ -137,7 +137,8 @@ pub struct ErrorRow {
 pub struct Counts {
     /// The nodes and tokens of its tree.
     pub rows: u32,
-    /// Its errors: those of the parser, then those of the lexer, then the violations of rules beyond the grammar.
+    /// Its errors: those of the parser, then those of the lexer, then the violations of rules
+    /// beyond the grammar.
     pub errors: u32,
     /// How many of the errors are such violations. They are the last ones.
     pub violations: u32,
@@ -196,8 +197,9 @@ pub struct Word {
 }
 
 unsafe extern "C" {
-    /// Writes the name of the kind with this number, for example `FN`, to the front of `name`, and returns the name's length in bytes: 0 if
-    /// no kind has the number, or if the kind has no name. If `name` is shorter than that, it is not changed. 64 bytes are enough for all.
+    /// Writes the name of the kind with this number, for example `FN`, to the front of `name`, and
+    /// returns the name's length in bytes: 0 if no kind has the number, or if the kind has no name. If
+    /// `name` is shorter than that, it is not changed. 64 bytes are enough for all.
     pub fn ras_c_kind_name(
         kind: u32,
         name: *mut u8,
@@ -210,9 +212,11 @@ unsafe extern "C" {
         name_len: usize,
     ) -> u32;
 
-    /// Parses a text as a Rust file of an edition, such as 2024, and puts the parse into a handle. A parse that the handle held is freed.
+    /// Parses a text as a Rust file of an edition, such as 2024, and puts the parse into a handle. A
+    /// parse that the handle held is freed.
     ///
-    /// Returns [`OK`], [`NOT_UTF8`], [`TOO_LONG`], [`NO_MEMORY`] or [`NO_EDITION`]. Unless it is [`OK`], the handle is not changed.
+    /// Returns [`OK`], [`NOT_UTF8`], [`TOO_LONG`], [`NO_MEMORY`] or [`NO_EDITION`]. Unless it is
+    /// [`OK`], the handle is not changed.
     pub fn ras_c_parse(
         text: *const u8,
         text_len: usize,
@@ -220,9 +224,11 @@ unsafe extern "C" {
         handle: *mut Handle,
     ) -> u32;
 
-    /// Writes the rows, errors and messages of a handle's parse, as `ras_c_read` does for a text. The handle keeps its parse.
+    /// Writes the rows, errors and messages of a handle's parse, as `ras_c_read` does for a text. The
+    /// handle keeps its parse.
     ///
-    /// Returns [`OK`], [`TOO_LONG`], [`NO_MEMORY`], [`NO_ROOM`], or [`NO_PARSE`] if the handle holds no parse.
+    /// Returns [`OK`], [`TOO_LONG`], [`NO_MEMORY`], [`NO_ROOM`], or [`NO_PARSE`] if the handle holds no
+    /// parse.
     pub fn ras_c_rows(
         handle: *mut Handle,
         rows: *mut FlatRow,
@@ -311,13 +317,15 @@ unsafe extern "C" {
         handle: *mut Handle,
     );
 
-    /// Finds the needless pairs of parentheses of a text of an edition, such as 2024, in preorder of the tree: those that
-    /// `rust_tree parens --all --mixed` lists. All of them can be removed together.
+    /// Finds the needless pairs of parentheses of a text of an edition, such as 2024, in preorder of
+    /// the tree: those that `rust_tree parens --all --mixed` lists. All of them can be removed
+    /// together.
     ///
-    /// Returns [`OK`], [`NOT_UTF8`], [`TOO_LONG`], [`NO_MEMORY`], [`NO_ROOM`] or [`NO_EDITION`]. A range is that of a `PAREN_EXPR` or a
-    /// `PAREN_PAT`, with both parentheses. Put a blank in place of a parenthesis whose neighbours would be joined, as in `return(a)`. Pairs
-    /// that rustc needs stay, for example around a macro call that is a statement. It usually takes a few parses of the text; at worst one for
-    /// each pair that stays.
+    /// Returns [`OK`], [`NOT_UTF8`], [`TOO_LONG`], [`NO_MEMORY`], [`NO_ROOM`] or [`NO_EDITION`]. A
+    /// range is that of a `PAREN_EXPR` or a `PAREN_PAT`, with both parentheses. Put a blank in place of
+    /// a parenthesis whose neighbours would be joined, as in `return(a)`. Pairs that rustc needs stay,
+    /// for example around a macro call that is a statement. It usually takes a few parses of the text;
+    /// at worst one for each pair that stays.
     pub fn ras_c_parens(
         text: *const u8,
         text_len: usize,
@@ -327,10 +335,12 @@ unsafe extern "C" {
         count: *mut u32,
     ) -> u32;
 
-    /// Tests whether the operator tree with exactly this range, in a text of an edition such as 2024, is the one reading of its tokens.
-    /// `answer` is 1 if it is, and 0 if not. If several operator trees have the range, the innermost is tested.
+    /// Tests whether the operator tree with exactly this range, in a text of an edition such as 2024,
+    /// is the one reading of its tokens. `answer` is 1 if it is, and 0 if not. If several operator
+    /// trees have the range, the innermost is tested.
     ///
-    /// Returns [`OK`], [`NOT_UTF8`], [`TOO_LONG`], [`NO_MEMORY`], [`NO_EDITION`], or [`NO_PLACE`] if no operator tree has the range.
+    /// Returns [`OK`], [`NOT_UTF8`], [`TOO_LONG`], [`NO_MEMORY`], [`NO_EDITION`], or [`NO_PLACE`] if no
+    /// operator tree has the range.
     pub fn ras_c_reads_back(
         text: *const u8,
         text_len: usize,
@@ -340,11 +350,24 @@ unsafe extern "C" {
         answer: *mut u32,
     ) -> u32;
 
-    /// Parses a text as a Rust file of an edition, such as 2024. Writes the tree as rows in preorder, the errors, and their messages one after
-    /// another, each to the front of its buffer.
+    /// Fills a buffer with rows of a handle's parse, those from number `from` on: a part of the rows
+    /// that `ras_c_rows` writes, so that a caller can use each part while it is near. The handle keeps
+    /// its parse.
     ///
-    /// Returns [`OK`], [`NOT_UTF8`], [`TOO_LONG`], [`NO_MEMORY`], [`NO_ROOM`] or [`NO_EDITION`]. Text with syntax errors has a tree too. A text
-    /// of n bytes seldom has more than 2 n rows.
+    /// Returns [`OK`], [`TOO_LONG`] if the whole tree has 2^32 rows or more, [`NO_PARSE`] if the handle
+    /// holds no parse, or [`NO_PLACE`] if the tree has fewer rows from `from` on than the buffer.
+    pub fn ras_c_rows_from(
+        handle: *mut Handle,
+        from: u32,
+        rows: *mut FlatRow,
+        rows_len: usize,
+    ) -> u32;
+
+    /// Parses a text as a Rust file of an edition, such as 2024. Writes the tree as rows in preorder,
+    /// the errors, and their messages one after another, each to the front of its buffer.
+    ///
+    /// Returns [`OK`], [`NOT_UTF8`], [`TOO_LONG`], [`NO_MEMORY`], [`NO_ROOM`] or [`NO_EDITION`]. Text
+    /// with syntax errors has a tree too. A text of n bytes seldom has more than 2 n rows.
     pub fn ras_c_read(
         text: *const u8,
         text_len: usize,
@@ -358,8 +381,9 @@ unsafe extern "C" {
         counts: *mut Counts,
     ) -> u32;
 
-    /// Parses a text as an expression of an edition, and writes what `ras_c_read` writes for a file. The root is a node of an expression, or
-    /// `ERROR` if the text is not one expression; there are errors then.
+    /// Parses a text as an expression of an edition, and writes what `ras_c_read` writes for a file.
+    /// The root is a node of an expression, or `ERROR` if the text is not one expression; there are
+    /// errors then.
     ///
     /// Returns [`OK`], [`NOT_UTF8`], [`TOO_LONG`], [`NO_MEMORY`], [`NO_ROOM`] or [`NO_EDITION`].
     pub fn ras_c_read_expr(
@@ -447,10 +471,11 @@ unsafe extern "C" {
         fault: *mut RuleFault,
     ) -> u32;
 
-    /// Cuts a text of an edition, such as 2024, into tokens. White space and comments are tokens too, and punctuation is cut into single
-    /// characters.
+    /// Cuts a text of an edition, such as 2024, into tokens. White space and comments are tokens too,
+    /// and punctuation is cut into single characters.
     ///
-    /// Returns [`OK`], [`NOT_UTF8`], [`TOO_LONG`], [`NO_MEMORY`], [`NO_ROOM`] or [`NO_EDITION`]. A text has at most as many tokens as bytes.
+    /// Returns [`OK`], [`NOT_UTF8`], [`TOO_LONG`], [`NO_MEMORY`], [`NO_ROOM`] or [`NO_EDITION`]. A text
+    /// has at most as many tokens as bytes.
     pub fn ras_c_tokens(
         text: *const u8,
         text_len: usize,
@@ -460,11 +485,11 @@ unsafe extern "C" {
         count: *mut u32,
     ) -> u32;
 
-    /// Writes the value of a string with this text, quotes and prefix with it, to the front of `value`, and its length to `count`:
-    /// of `"a\n"` the letter and a line feed.
+    /// Writes the value of a string with this text, quotes and prefix with it, to the front of `value`,
+    /// and its length to `count`: of `"a\n"` the letter and a line feed.
     ///
-    /// Returns [`OK`], [`NOT_UTF8`], [`TOO_LONG`], [`NO_MEMORY`], [`NO_ROOM`], or a status from [`FAULT`] on. The value is at most as long as
-    /// the text.
+    /// Returns [`OK`], [`NOT_UTF8`], [`TOO_LONG`], [`NO_MEMORY`], [`NO_ROOM`], or a status from
+    /// [`FAULT`] on. The value is at most as long as the text.
     pub fn ras_c_string_value(
         text: *const u8,
         text_len: usize,
@@ -473,11 +498,11 @@ unsafe extern "C" {
         count: *mut u32,
     ) -> u32;
 
-    /// Writes the value of a byte string with this text, quotes and prefix with it, to the front of `value`, and its length to `count`:
-    /// of `b"\xff"` the byte 255.
+    /// Writes the value of a byte string with this text, quotes and prefix with it, to the front of
+    /// `value`, and its length to `count`: of `b"\xff"` the byte 255.
     ///
-    /// Returns [`OK`], [`NOT_UTF8`], [`TOO_LONG`], [`NO_MEMORY`], [`NO_ROOM`], or a status from [`FAULT`] on. The value is at most as long as
-    /// the text.
+    /// Returns [`OK`], [`NOT_UTF8`], [`TOO_LONG`], [`NO_MEMORY`], [`NO_ROOM`], or a status from
+    /// [`FAULT`] on. The value is at most as long as the text.
     pub fn ras_c_byte_string_value(
         text: *const u8,
         text_len: usize,
@@ -486,11 +511,11 @@ unsafe extern "C" {
         count: *mut u32,
     ) -> u32;
 
-    /// Writes the value of a C string with this text, quotes and prefix with it, to the front of `value`, and its length to `count`:
-    /// of `c"a"` the letter, without the zero behind it.
+    /// Writes the value of a C string with this text, quotes and prefix with it, to the front of
+    /// `value`, and its length to `count`: of `c"a"` the letter, without the zero behind it.
     ///
-    /// Returns [`OK`], [`NOT_UTF8`], [`TOO_LONG`], [`NO_MEMORY`], [`NO_ROOM`], or a status from [`FAULT`] on. The value is at most as long as
-    /// the text.
+    /// Returns [`OK`], [`NOT_UTF8`], [`TOO_LONG`], [`NO_MEMORY`], [`NO_ROOM`], or a status from
+    /// [`FAULT`] on. The value is at most as long as the text.
     pub fn ras_c_c_string_value(
         text: *const u8,
         text_len: usize,
@@ -499,7 +524,8 @@ unsafe extern "C" {
         count: *mut u32,
     ) -> u32;
 
-    /// Writes the value of a character with this text, quotes with it, to `value`: of `'a'` the number 97.
+    /// Writes the value of a character with this text, quotes with it, to `value`: of `'a'` the number
+    /// 97.
     ///
     /// Returns [`OK`], [`NOT_UTF8`], or a status from [`FAULT`] on.
     pub fn ras_c_char_value(
@@ -517,8 +543,8 @@ unsafe extern "C" {
         value: *mut u32,
     ) -> u32;
 
-    /// Writes the value of an integer with this text, prefix and suffix with it, to `high` and `low`, 64 bits each: of `0x10u8` the numbers 0
-    /// and 16.
+    /// Writes the value of an integer with this text, prefix and suffix with it, to `high` and `low`,
+    /// 64 bits each: of `0x10u8` the numbers 0 and 16.
     ///
     /// Returns [`OK`], [`NOT_UTF8`], [`NO_DIGIT`], [`BAD_DIGIT`] or [`TOO_LARGE`].
     pub fn ras_c_int_value(
@@ -539,6 +565,24 @@ unsafe extern "C" {
     pub fn ras_c_violations_at(
         handle: *mut Handle,
         row: u32,
+        errors: *mut ErrorRow,
+        errors_len: usize,
+        messages: *mut u8,
+        messages_len: usize,
+        counts: *mut Counts,
+    ) -> u32;
+
+    /// Writes the violations of rules beyond the grammar at the nodes of a handle's parse whose rows
+    /// have the numbers from `from` to before `to`. Those of the whole parse are those among its first
+    /// rows, and then those among the rest, as they are written here. The counts have no rows. The
+    /// handle keeps its parse.
+    ///
+    /// Returns [`OK`], [`TOO_LONG`], [`NO_MEMORY`], [`NO_ROOM`], [`NO_PARSE`] if the handle holds no
+    /// parse, or [`NO_PLACE`] if the tree has fewer than `to` rows.
+    pub fn ras_c_violations_among(
+        handle: *mut Handle,
+        from: u32,
+        to: u32,
         errors: *mut ErrorRow,
         errors_len: usize,
         messages: *mut u8,

@@ -2,7 +2,7 @@
 use crate::range::TextRange;
 use crate::tree::{Edition, Errors, ParseError, Room, SyntaxError, Tree, answered};
 use crate::violations::Violations;
-use ras_sys::{self as raw, Counts, Handle, Range};
+use ras_sys::{self as raw, Counts, FlatRow, Handle, Range};
 use std::ptr;
 
 /// A parse of a file, in the library's memory.
@@ -57,9 +57,59 @@ impl Held {
     /// The tree of the parse, which is one of this text.
     pub(crate) fn tree(&mut self, text: Box<str>, edition: Edition, errors: Errors) -> Result<Tree, ParseError> {
         let mut counts = Counts { rows: 0, errors: 0, violations: 0, messages: 0 };
-        // Without errors this only counts the rows.
-        answered(self.rows(Errors::Nothing, &mut Room::counted(&counts), &mut counts))?;
+        // Without room this only counts the rows, and the errors of the parse.
+        answered(self.rows(errors.without_violations(), &mut Room::counted(&counts), &mut counts))?;
+        if errors.has_violations() && counts.errors == 0 {
+            return self.tree_by_parts(text, edition, counts.rows);
+        }
         Tree::told(text, edition, Room::of(counts.rows as usize), |_, room, counts| self.rows(errors, room, counts))
+    }
+
+    // The same with violations, where the parse has no errors. They are looked for in each part of the rows right after it is copied, while
+    // it is near the processor.
+    fn tree_by_parts(&mut self, text: Box<str>, edition: Edition, count: u32) -> Result<Tree, ParseError> {
+        const PART: u32 = 4096;
+        let mut rows = Vec::with_capacity(count as usize);
+        let mut violations = Vec::new();
+        let mut from = 0;
+        while from < count {
+            let to = from.saturating_add(PART).min(count);
+            self.push_rows(&mut rows, to)?;
+            violations.extend(self.violations_among(from, to)?);
+            from = to;
+        }
+        Ok(Tree::built(text.into_string(), edition, rows, violations))
+    }
+
+    // Appends the rows behind those that are there, up to a number, for which there is room.
+    fn push_rows(&mut self, rows: &mut Vec<FlatRow>, to: u32) -> Result<(), ParseError> {
+        let from = rows.len();
+        let room = &mut rows.spare_capacity_mut()[..to as usize - from];
+        // SAFETY: the room is borrowed for the call, with its length; the handle is this value's own.
+        answered(unsafe { raw::ras_c_rows_from(&mut self.0, from as u32, room.as_mut_ptr().cast(), room.len()) })?;
+        // SAFETY: the call returned `OK`, and then it has filled the room.
+        unsafe { rows.set_len(to as usize) };
+        Ok(())
+    }
+
+    // What breaks rules beyond the grammar at the nodes of some rows.
+    fn violations_among(&mut self, from: u32, to: u32) -> Result<Box<[SyntaxError]>, ParseError> {
+        let (_, errors) = Tree::told_parts(Room::of(0), |room, counts| {
+            // SAFETY: both buffers are borrowed for the call, with their lengths, and do not overlap; the handle is this value's own.
+            unsafe {
+                raw::ras_c_violations_among(
+                    &mut self.0,
+                    from,
+                    to,
+                    room.errors.as_mut_ptr(),
+                    room.errors.capacity(),
+                    room.messages.as_mut_ptr(),
+                    room.messages.capacity(),
+                    counts,
+                )
+            }
+        })?;
+        Ok(errors)
     }
 }
 

@@ -104,6 +104,20 @@ fn violations_come_last() {
     assert!(flags.is_sorted(), "{:?}", tree.errors());
 }
 
+// A parse without errors is told in parts of some thousand rows, and one with errors as a whole.
+#[test]
+fn parts_of_the_rows_have_the_violations_of_the_whole() {
+    let text = "fn f() { a.0x1; b..= } impl T for S { pub fn g() { let x = (let b = c); } } const mut C: u8 = 1;\n".repeat(700);
+    let (parts, whole) = (tree(&text), tree(&format!("{text}fn h() {{ 1 + }}\n")));
+    let told = |it: &ras::SyntaxError| format!("{}: {it}", it.range());
+    let wanted: Vec<_> = whole.errors().iter().filter(|it| it.is_violation()).map(told).collect();
+    assert_eq!((whole.errors().len(), wanted.len() % 700, wanted.len() / 700), (wanted.len() + 1, 0, 5));
+    assert!(parts.rows().len() > 20_000 && parts.errors().iter().all(|it| it.is_violation()));
+    assert_eq!(parts.errors().iter().map(told).collect::<Vec<_>>(), wanted);
+    let bare = Tree::parse_as(&*text, Edition::CURRENT, ras::Entry::SourceFile, ras::Errors::Nothing).unwrap();
+    assert_eq!(format!("{parts:?}"), format!("{bare:?}"));
+}
+
 #[test]
 fn editions_have_their_words() {
     let kind = |edition| {

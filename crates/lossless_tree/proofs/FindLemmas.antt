@@ -24,7 +24,8 @@ progress rest s t (Some x) w = record {
   rests = λ _. tt;
 }
 
--- `part` says what is kept of an item, if anything: `kept` adds it in front of what is kept of the others
+-- `part` says what is kept of an item, if anything: `kept` adds it in front of what is kept of the
+-- others
 module _ {C E D F : Type 0} (view : C → E) (same : (l m : List C) → map view l ≡ map view m → l ≡ m)
     (part : E → Option D) (kept : List C → List D) (nothing : kept [] ≡ [])
     (adds : (c : C) (l : List C) → MatchOption (part (view c)) (kept (c ∷ l) ≡ kept l) (λ y. kept (c ∷ l) ≡ y ∷ kept l))

@@ -1,5 +1,5 @@
--- How a tree prints: a line for each node and token, in preorder.
--- (Upstream: the text that `{:#?}` gives of a `rowan` `SyntaxNode`, with this crate's format for the tokens' texts.)
+-- How a tree prints: a line for each node and token, in preorder. (Upstream: the text that `{:#?}`
+-- gives of a `rowan` `SyntaxNode`, with this crate's format for the tokens' texts.)
 use Rattle.std.specs.Prelude.{ℕ, ◌-◌, ◌*◌, List, [], ◌∷◌, ◌++◌, length, codes, encode_utf8, replicate, ◌==◌, ◌||◌, ◌&&◌, Bool, not, nat_le, nat_lt, if◌then◌else◌}
 use Rattle.std.specs.Char.{len_utf8}
 use Rattle.std.specs.Fmt.{digits}
@@ -11,8 +11,9 @@ use Rattle.text_size.specs.TextRange.{range_text}
 use Rattle.tree_model.specs.Tree.{Tree, node, token, kind_of, text}
 use Rattle.tree_model.specs.Cursor.{Cursor, focus, range_of, level_below, descendants_of}
 
--- a character as it is between the quotes: `"` and `\` after a backslash, newline, carriage return, tab and NUL
--- by their letters, every other control byte as `\u{h}` with its number h in hexadecimal, all else as it is
+-- a character as it is between the quotes: `"` and `\` after a backslash, newline, carriage return,
+-- tab and NUL by their letters, every other control byte as `\u{h}` with its number h in
+-- hexadecimal, all else as it is
 abbrev pub escaped : ℕ → List ℕ
 escaped c =
     if c == 34 then codes "\\\""
@@ -33,8 +34,8 @@ abbrev pub shortest_front : ℕ → List ℕ → List ℕ
 shortest_front n [] = []
 shortest_front n (c ∷ cs) = if n == 0 then [] else (c ∷ shortest_front (n - len_utf8 c) cs)
 
--- the part of a text that is shown: all of one of fewer than 25 bytes; of a longer one the prefix that ends at the first
--- character boundary from byte 21 on, and three dots
+-- the part of a text that is shown: all of one of fewer than 25 bytes; of a longer one the prefix
+-- that ends at the first character boundary from byte 21 on, and three dots
 abbrev pub shown : List ℕ → List ℕ
 shown t =
     if nat_lt (length t) 25 then flat_map escaped (chars t)
@@ -48,7 +49,8 @@ abbrev pub shown_text : Tree → List ℕ
 shown_text (node k c) = []
 shown_text (token k t) = codes " " ++ quoted t
 
--- `KIND@start..end`: the node or token at a cursor, its text aside. So a node prints for programmers
+-- `KIND@start..end`: the node or token at a cursor, its text aside. So a node prints for
+-- programmers
 abbrev pub span_text : Cursor → List ℕ
 span_text c = kind_name (kind_of (focus c)) ++ codes "@" ++ range_text (range_of c)
 

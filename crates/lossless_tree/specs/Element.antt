@@ -41,7 +41,8 @@ is_same_by f g (Token a) (Token b) = g a b
 is_same_by f g (Node a) (Token b) = false
 is_same_by f g (Token a) (Node b) = false
 
--- the same node, or the same token, at the same place in equal whole trees: what `==` tests of two elements
+-- the same node, or the same token, at the same place in equal whole trees: what `==` tests of two
+-- elements
 abbrev pub is_same_element : NodeOrToken Cursor Cursor → NodeOrToken Cursor Cursor → Bool
 is_same_element = is_same_by is_same_cursor is_same_cursor
 

@@ -12,9 +12,10 @@ use tree_rows::{BuilderEvent, Table, build_rows, first_refusal};
 
 /// Builds a tree from events: a node starts, its tokens and nodes are added, the node is finished.
 ///
-/// The three calls that append an event accept any event in any order. They fail only if memory runs out, and the builder
-/// is then unchanged. `finish` checks that the events build one tree. The calls have the names of those of
-/// `GreenNodeBuilder` in the crate `rowan`. In clauses, a builder is its list of events.
+/// The three calls that append an event accept any event in any order. They fail only if memory
+/// runs out, and the builder is then unchanged. `finish` checks that the events build one tree. The
+/// calls have the names of those of `GreenNodeBuilder` in the crate `rowan`. In clauses, a builder
+/// is its list of events.
 ///
 /// ```text
 /// let mut builder = TreeBuilder::new(alloc);
@@ -94,8 +95,8 @@ impl TreeBuilder {
         self.text.as_str().len()
     }
 
-    /// The error that [`TreeBuilder::finish`] would return now, other than `Memory`, or `None` if the events build a tree.
-    /// It takes no memory, and time linear in the number of events.
+    /// The error that [`TreeBuilder::finish`] would return now, other than `Memory`, or `None` if
+    /// the events build a tree. It takes no memory, and time linear in the number of events.
     pub fn refusal(&self) -> Option<FinishError>
         ensures { result ≡ first_refusal self.now }
     {
@@ -107,8 +108,8 @@ impl TreeBuilder {
 
     /// The root of the tree that the events build, in time linear in the number of events.
     ///
-    /// If the events do not build one tree, returns the first error, in the order of [`FinishError`], and the builder is
-    /// dropped. The text is not copied.
+    /// If the events do not build one tree, returns the first error, in the order of
+    /// [`FinishError`], and the builder is dropped. The text is not copied.
     #[tactic(auto, using(tree_model::proofs::Refusals::first_refusal_is, tree_model::proofs::Refusals::none_accepted))]
     pub fn finish(self) -> Result<SyntaxNode, FinishError>
         ensures ok { IfOk result (λ root. BuildsNode self root.tree × IsRoot root) }

@@ -12,7 +12,8 @@ use std::fmt::{Formatter, Write};
 use std::marker::Model;
 use tree_rows::Table;
 
-/// Writes by `{}` what `dump` of a node or token returns, without a `String` of its own. It takes no memory.
+/// Writes by `{}` what `dump` of a node or token returns, without a `String` of its own. It takes
+/// no memory.
 #[derive(Drop)]
 pub struct Dump<'t> {
     table: &'t Shared<Table>,
@@ -28,7 +29,8 @@ impl<'t> Model for Dump<'t> {
 
     ghost use Rattle.tree_model.specs.Rows.{place_at, IsRow};
 
-    ghost view = { λ d. record { tree = d.table.now.value; place = place_at d.table.now.value d.row } };
+    ghost view = { λ d.
+        record { tree = d.table.now.value; place = place_at d.table.now.value d.row } };
 
     ghost invariant = { λ d. IsRow d.table.now.value d.row };
 }
@@ -84,7 +86,8 @@ fn write_line<W: Write>(
     row: usize,
 ) -> fmt::Result
     requires { IsRow table.now row }
-    ensures { WritesOnOk W.write_str_gives f.old result (dump_line level (cursor_at table.now row)) f.new }
+    ensures { WritesOnOk W.write_str_gives f.old result (dump_line level (cursor_at table.now row))
+        f.new }
 {
     write_indent(f, level)?;
     let kind = table.kind_at(row);
@@ -97,7 +100,8 @@ fn write_line<W: Write>(
 // The lines of the subtree at a row.
 fn write_lines<W: Write>(f: &mut Formatter<W>, table: &Table, start: usize) -> fmt::Result
     requires { IsRow table.now start }
-    ensures { WritesOnOk W.write_str_gives f.old result (dump_of (cursor_at table.now start)) f.new }
+    ensures { WritesOnOk W.write_str_gives f.old result (dump_of (cursor_at table.now start))
+        f.new }
 {
     // For the proof: the number of rows fits.
     let _count = table.len();

@@ -36,8 +36,9 @@ fn printed_len<D: Display>(value: &D) -> Result<usize, fmt::Error>
 
 /// Formats a value with `{}`, as `to_string` does, into a string whose capacity is its length.
 ///
-/// It formats the value twice, first to count the bytes, so that memory is allocated once: `to_string` doubles its buffer as
-/// it grows. If formatting fails, the result is an `AllocError` too.
+/// It formats the value twice, first to count the bytes, so that memory is allocated once:
+/// `to_string` doubles its buffer as it grows. If formatting fails, the result is an `AllocError`
+/// too.
 pub fn exact_string<D: Display>(alloc: Global, value: &D) -> Result<String, AllocError>
     ensures { IfOk result (λ s. IfSome (D.output value.now) (λ text. string_bytes s ≡ text)) }
 {

@@ -1,4 +1,5 @@
-//! Laws of the definitions that contracts cite, and of cursors. The functions do nothing: the contract is the law.
+//! Laws of the definitions that contracts cite, and of cursors. The functions do nothing: the
+//! contract is the law.
 ghost use Rattle.tree_model.specs.Tree.{IsNode, IsToken};
 ghost use Rattle.tree_model.specs.Cursor.{focus};
 ghost use Rattle.tree_model.specs.Placed.{IsPlaced};
@@ -18,8 +19,8 @@ pub use tree_rows::laws::{
     siblings_stand_behind, tokens_stand_together,
 };
 
-/// A node's place is in its tree, and has a node; the root of the tree is a node, and its text is UTF-8 of fewer than
-/// 2^32 bytes.
+/// A node's place is in its tree, and has a node; the root of the tree is a node, and its text is
+/// UTF-8 of fewer than 2^32 bytes.
 pub fn node_is_placed(node: &SyntaxNode)
     ensures placed { IsPlaced node.now }
     ensures node { IsNode (focus node.now) }
@@ -27,8 +28,8 @@ pub fn node_is_placed(node: &SyntaxNode)
     node.placed()
 }
 
-/// A token's place is one of its tree's and holds a token; the tree's root is a node, and its text is UTF-8 of fewer than
-/// 2^32 bytes.
+/// A token's place is one of its tree's and holds a token; the tree's root is a node, and its text
+/// is UTF-8 of fewer than 2^32 bytes.
 pub fn token_is_placed(token: &SyntaxToken)
     ensures placed { IsPlaced token.now }
     ensures token { IsToken (focus token.now) }
@@ -36,7 +37,8 @@ pub fn token_is_placed(token: &SyntaxToken)
     token.placed()
 }
 
-/// Two elements are equal exactly where both are nodes, or both tokens, at the same place in equal trees.
+/// Two elements are equal exactly where both are nodes, or both tokens, at the same place in equal
+/// trees.
 pub fn element_equality_is_sameness()
     ensures { ElementEqualityIsSameness }
 {}

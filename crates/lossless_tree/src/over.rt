@@ -8,11 +8,13 @@ use crate::cursor::node::SyntaxNode;
 use std::alloc::{AllocError, Global};
 use tree_rows::{Table, TreeStep};
 
-/// Builds a tree from steps over a text: each token takes the bytes that follow those of the tokens before it.
+/// Builds a tree from steps over a text: each token takes the bytes that follow those of the tokens
+/// before it.
 ///
-/// It is the tree that a [`TreeBuilder`](crate::TreeBuilder) builds from the same events, made in one pass: no list of events is
-/// made, and the text is copied once. The steps are not checked, since the caller has proved that they build one tree. Takes
-/// time linear in the steps and the text.
+/// It is the tree that a [`TreeBuilder`](crate::TreeBuilder) builds from the same events, made in
+/// one pass: no list of events is made, and the text is copied once. The steps are not checked,
+/// since the caller has proved that they build one tree. Takes time linear in the steps and the
+/// text.
 pub fn tree_over<S: TreeStep>(
     alloc: Global,
     text: &str,
@@ -20,7 +22,9 @@ pub fn tree_over<S: TreeStep>(
 ) -> Result<SyntaxNode, AllocError>
     requires short { length text.now < 2 ^ 32 }
     requires one_tree { IsOneTree (filter_map S.step_event steps.now) text.now }
-    ensures { IfOk result (λ root. BuildsNode (events_from (filter_map S.step_event steps.now) text.now) root.tree × IsRoot root) }
+    ensures { IfOk result (λ root.
+        BuildsNode (events_from (filter_map S.step_event steps.now) text.now) root.tree
+        × IsRoot root) }
 {
     let table = Table::over(alloc, text, steps)?;
     SyntaxNode::root(alloc, table)

@@ -8,7 +8,8 @@ use std::marker::Model;
 use syntax_kind::SyntaxKind;
 use text_size::TextRange;
 
-/// A node's kind and range, by which it is found again in its tree or in another tree of the same shape.
+/// A node's kind and range, by which it is found again in its tree or in another tree of the same
+/// shape.
 ///
 /// It holds no tree, so it can be copied, compared and kept.
 #[derive(Clone, Copy, Debug)]
@@ -52,12 +53,12 @@ impl SyntaxNodePtr {
         self.range
     }
 
-    /// The first node in preorder of the tree of `root` that has this kind and range, or `None` if there is none or if `root`
-    /// has a parent.
+    /// The first node in preorder of the tree of `root` that has this kind and range, or `None` if
+    /// there is none or if `root` has a parent.
     ///
-    /// It is the node that the pointer was made from if that node is not empty and no ancestor has the same kind and range.
-    /// Takes time logarithmic in the size of the tree, and linear in the number of nodes and tokens that start where the
-    /// range does.
+    /// It is the node that the pointer was made from if that node is not empty and no ancestor has
+    /// the same kind and range. Takes time logarithmic in the size of the tree, and linear in the
+    /// number of nodes and tokens that start where the range does.
     pub fn to_node(&self, root: &SyntaxNode) -> Option<SyntaxNode>
         ensures { Finds self.now root.now result }
     {

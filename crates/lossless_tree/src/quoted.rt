@@ -69,7 +69,8 @@ fn is_plain(c: char) -> bool
 
 // The shortest prefix of whole characters that has at least this many bytes, or the whole text.
 fn write_front<W: Write>(f: &mut Formatter<W>, text: &str, bytes: usize) -> fmt::Result
-    ensures { WritesOnOk W.write_str_gives f.old result (flat_map escaped (shortest_front bytes (chars text.now))) f.new }
+    ensures { WritesOnOk W.write_str_gives f.old result
+        (flat_map escaped (shortest_front bytes (chars text.now))) f.new }
 {
     let mut missing = bytes;
     for c in text.chars() {

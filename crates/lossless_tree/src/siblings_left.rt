@@ -9,11 +9,12 @@ use syntax_kind::SyntaxKind;
 use text_size::TextSize;
 use tree_rows::Table;
 
-/// A child and all its later siblings, for code that reads a tree in order and looks ahead at a few siblings.
-/// A clause sees a forest and the byte where its first tree starts.
+/// A child and all its later siblings, for code that reads a tree in order and looks ahead at a few
+/// siblings. A clause sees a forest and the byte where its first tree starts.
 ///
-/// No call takes memory, and each takes constant time but for `without_trivia`. A value is never changed: `rest` and `inside`
-/// give new ones. Where nothing is left, the kind is `OTHER(0)`, the text is empty, and `rest` and `inside` have nothing.
+/// No call takes memory, and each takes constant time but for `without_trivia`. A value is never
+/// changed: `rest` and `inside` give new ones. Where nothing is left, the kind is `OTHER(0)`, the
+/// text is empty, and `rest` and `inside` have nothing.
 #[derive(Drop)]
 pub struct SiblingsLeft<'t> {
     table: &'t Table,
@@ -39,7 +40,11 @@ impl<'t> SiblingsLeft<'t> {
     // The children of the node or token at a row.
     pub(crate) fn below(table: &'t Table, row: usize) -> Self
         requires { IsRow table.now row }
-        ensures { result ≡ record { trees = forest_of_children (tree_at table.now row); start = start_at table.now row } }
+        ensures { result
+            ≡ record {
+              trees = forest_of_children (tree_at table.now row);
+              start = start_at table.now row;
+            } }
     {
         let (first, end) = table.rows_below(row);
         SiblingsLeft {
@@ -98,8 +103,8 @@ impl<'t> SiblingsLeft<'t> {
         }
     }
 
-    /// Offset of the first sibling left, in bytes; if none is left, the end of the last; if there were none, the start of the
-    /// parent.
+    /// Offset of the first sibling left, in bytes; if none is left, the end of the last; if there
+    /// were none, the start of the parent.
     pub fn start(&self) -> TextSize
         ensures { result ≡ self.now.start }
     {
@@ -133,8 +138,8 @@ impl<'t> SiblingsLeft<'t> {
         }
     }
 
-    /// The siblings left, from the first on that is not trivia (white space or a comment). Takes time linear in the trivia
-    /// that it passes.
+    /// The siblings left, from the first on that is not trivia (white space or a comment). Takes
+    /// time linear in the trivia that it passes.
     pub fn without_trivia(&self) -> SiblingsLeft<'t>
         ensures { result ≡ without_trivia self.now }
     {

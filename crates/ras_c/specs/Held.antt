@@ -1,4 +1,5 @@
--- The memory that a handle with a parse owns: the parse at its pointer, and the right to free its block.
+-- The memory that a handle with a parse owns: the parse at its pointer, and the right to free its
+-- block.
 use Rattle.std.specs.Prelude.{Bool, true, false, Option, None, Some}
 use Rattle.std.specs.contracts.impls.GlobalAllocator.TheImpl.{ghosts}
 use Rattle.std_alloc.specs.Box.Ownership.{box_owns}

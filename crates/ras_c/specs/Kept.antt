@@ -48,8 +48,8 @@ kept_code =
 abbrev pub IsRead : List ℕ → Kept → Type 0
 IsRead s k = IsParseOf s (rust_front.parsed SourceFile k.edition s) k.parse
 
--- a node or token of the old tree around the edit was read again: with its new tree in its place the
--- old tree is the new one
+-- a node or token of the old tree around the edit was read again: with its new tree in its place
+-- the old tree is the new one
 pub record OnePieceIs (old : Tree) (edit : Edit) (new : Tree) (range : Bounds) : Type 0 where
   pub piece : Cursor
   pub in_old : piece.tree ≡ old

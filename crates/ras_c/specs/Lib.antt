@@ -9,3 +9,4 @@ pub mod Values
 pub mod Words
 pub mod Rewriting
 pub mod Violations
+pub mod Part

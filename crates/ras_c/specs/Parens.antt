@@ -1,4 +1,5 @@
--- The needless pairs of parentheses of a text, as ranges, and whether the operator tree at a range reads back.
+-- The needless pairs of parentheses of a text, as ranges, and whether the operator tree at a range
+-- reads back.
 use Rattle.std.specs.Prelude.{◌≡◌, ℕ, Bool, ◌&&◌, ◌==◌, List, length, map, Option, Some}
 use Rattle.std.specs.List.{find}
 use Rattle.std.specs.Option.{option_and_then, is_some}
@@ -23,8 +24,8 @@ use Rattle.ras_c.specs.declared.parens.Range.{Range}
 abbrev pub range_at : Cursor → Range
 range_at c = record { start = range_start c; end = range_end c }
 
--- pairs of a file's parse that can all be removed together, as `rust_tree parens` lists them: all candidates were tried, these go, and
--- the text without them parses to the tree without them
+-- pairs of a file's parse that can all be removed together, as `rust_tree parens` lists them: all
+-- candidates were tried, these go, and the text without them parses to the tree without them
 pub record AreNeedless (edition : Edition) (parse : Parsed) (pairs : List Cursor) : Type 0 where
   pub tried : List Tried
   pub fixed : Option (List ℕ)
@@ -62,7 +63,8 @@ shows_term c = is_some (term_at c)
 abbrev pub is_term_over : Bounds → Cursor → Bool
 is_term_over range c = spans range c && shows_term c
 
--- the innermost operator tree with exactly this range: one of what covers the range and the nodes above it
+-- the innermost operator tree with exactly this range: one of what covers the range and the nodes
+-- above it
 abbrev pub node_over : Cursor → Bounds → Option Cursor
 node_over root range = find (is_term_over range) (ancestors_of_element (element_of (covering_of root range)))
 

@@ -1,10 +1,10 @@
 -- The violations at the nodes of one subtree, in the buffers of the caller, and their numbers.
-use Rattle.std.specs.Prelude.{◌≡◌, ℕ, ◌<◌, ◌≤◌, ◌^◌, nat_lt, if◌then◌else◌, List, length, map, Option, None, IfSome}
+use Rattle.std.specs.Prelude.{◌≡◌, ℕ, ◌-◌, ◌<◌, ◌≤◌, ◌^◌, nat_lt, if◌then◌else◌, List, length, map, Option, None, IfSome}
 use Rattle.tree_model.specs.Tree.{Tree, size}
-use Rattle.tree_model.specs.Cursor.{Cursor, cursor_at}
+use Rattle.tree_model.specs.Cursor.{Cursor, cursor_at, cursors_from}
 use Rattle.lossless_tree.specs.Element.{element_of, node_part}
 use Rattle.ras_front_end.specs.Fault.{Fault}
-use Rattle.ras_validation.specs.Violations.{violations_of}
+use Rattle.ras_validation.specs.Violations.{violations_of, violations_among}
 use Rattle.ras_parsing.specs.AllErrors.{violation_fault}
 use Rattle.ras_c.specs.declared.read.ErrorRow.{ErrorRow}
 use Rattle.ras_c.specs.declared.read.Counts.{Counts}
@@ -20,6 +20,10 @@ node_of_row t n = if nat_lt n (size t) then node_part (element_of (cursor_at t n
 -- the violations at a node and at the nodes in it, as errors
 abbrev pub faults_in : Cursor → List Fault
 faults_in c = map violation_fault (violations_of c)
+
+-- the violations at the nodes of some rows
+abbrev pub faults_among : Tree → ℕ → ℕ → List Fault
+faults_among t from to = map violation_fault (violations_among (cursors_from t from (to - from)))
 
 -- what the caller has room for, without rows
 pub record ErrorBuffers : Type 0 where
@@ -62,8 +66,13 @@ pub record AreCounted (faults : List Fault) (before after : ErrorBuffers) : Type
   pub short : FitIn faults before → ⊥
   pub written : after ≡ error_buffers before.errors before.messages (counts_of faults)
 
--- a handle has a parse, in whose tree the violations at the node of a row and in it have a property,
--- if there is such a node
+-- a handle has a parse, in whose tree the violations at the node of a row and in it have a
+-- property, if there is such a node
 abbrev pub HoldsFaultsIn : ℕ → Option Kept → (List Fault → Type 0) → Type 0
 HoldsFaultsIn row held P =
     Holds held (λ p. IfSome (node_of_row p.tree row) (λ c. P (faults_in c)))
+
+-- a handle has a parse, whose tree has these rows, and the violations among them have a property
+abbrev pub HoldsFaultsAmong : ℕ → ℕ → Option Kept → (List Fault → Type 0) → Type 0
+HoldsFaultsAmong from to held P =
+    Holds held (λ p. (to ≤ size p.tree) × P (faults_among p.tree from to))

@@ -19,12 +19,14 @@ pub fn small(count: usize) -> Option<u32>
     u32::try_from(count).ok()
 }
 
-/// Writes the values to the front of the buffer if it has room for all of them, and returns their number.
+/// Writes the values to the front of the buffer if it has room for all of them, and returns their
+/// number.
 pub fn hand<T: Copy>(values: &[T], out: &mut [T], count: &mut u32) -> u32
     ensures done { result ≡ 0 → IsHanded values.now out.old out.new count.new }
     ensures room { result ≡ 4 → IsCounted values.now out.old out.new count.new }
     ensures long { result ≡ 2 → 2 ^ 32 ≤ length values.now }
-    ensures kept { (result ≡ 0 → ⊥) → (result ≡ 4 → ⊥) → (out.new ≡ out.old) × (count.new ≡ count.old) }
+    ensures kept { (result ≡ 0 → ⊥) → (result ≡ 4 → ⊥)
+        → (out.new ≡ out.old) × (count.new ≡ count.old) }
     ensures which { (result ≡ 0) ⊎ (2 ≤ result) × (result ≤ 4) }
 {
     let Some(needed) = small(values.len()) else {

@@ -19,7 +19,8 @@ fn unseal(alloc: Global, handle: Handle) -> Option<Box<KeptParse>>
 
 /// Takes the parse out of a handle, which then holds none.
 pub(crate) fn take(alloc: Global, handle: &mut Handle) -> Option<Box<KeptParse>>
-    ensures taken { MatchOption result (handle.old.kept ≡ None) (λ b. handle.old.kept ≡ Some b.value) }
+    ensures taken { MatchOption result (handle.old.kept ≡ None)
+        (λ b. handle.old.kept ≡ Some b.value) }
     ensures left { handle.new.kept ≡ None }
 {
     unseal(alloc, replace(handle, empty()))

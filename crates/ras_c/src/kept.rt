@@ -160,7 +160,9 @@ impl KeptParse {
             ↔ (IsEditOf (text self.old.parse.tree) (edit_from start end insert.now) → ⊥)) }
         ensures long { IfErr result (λ s. (s ≡ 2)
             ↔ IsEditOf (text self.old.parse.tree) (edit_from start end insert.now)
-            × (2 ^ 32 ≤ length (edited (text self.old.parse.tree) (edit_from start end insert.now)))) }
+            × (2 ^ 32
+            ≤ length
+            (edited (text self.old.parse.tree) (edit_from start end insert.now)))) }
         ensures which { IfErr result (λ s. (s ≡ 2) ⊎ (s ≡ 3) ⊎ (s ≡ 6)) }
     {
         let text = self.document.text();

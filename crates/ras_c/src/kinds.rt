@@ -12,14 +12,18 @@ use syntax_kind::SyntaxKind;
 /// A number that no kind has.
 pub const NO_KIND: u32 = 4_294_967_295;
 
-/// Writes the name of the kind with this number, for example `FN`, to the front of `name`, and returns the name's length in bytes: 0 if
-/// no kind has the number, or if the kind has no name. If `name` is shorter than that, it is not changed. 64 bytes are enough for all.
+/// Writes the name of the kind with this number, for example `FN`, to the front of `name`, and
+/// returns the name's length in bytes: 0 if no kind has the number, or if the kind has no name. If
+/// `name` is shorter than that, it is not changed. 64 bytes are enough for all.
 #[unsafe(no_mangle)]
 pub extern "C" fn ras_c_kind_name(kind: u32, name: &mut [u8]) -> usize
-    ensures count { (k : SyntaxKind) → IsKind k → kind_raw k ≡ kind → result ≡ length (rust_name k) }
-    ensures written { (k : SyntaxKind) → IsKind k → kind_raw k ≡ kind → length (rust_name k) ≤ length name.old → name.new ≡ over (rust_name k) name.old }
+    ensures count { (k : SyntaxKind) → IsKind k → kind_raw k ≡ kind
+        → result ≡ length (rust_name k) }
+    ensures written { (k : SyntaxKind) → IsKind k → kind_raw k ≡ kind
+        → length (rust_name k) ≤ length name.old → name.new ≡ over (rust_name k) name.old }
     ensures kept { length name.old < result → name.new ≡ name.old }
-    ensures unknown { ((k : SyntaxKind) → IsKind k → kind_raw k ≡ kind → ⊥) → (result ≡ 0) × (name.new ≡ name.old) }
+    ensures unknown { ((k : SyntaxKind) → IsKind k → kind_raw k ≡ kind → ⊥)
+        → (result ≡ 0) × (name.new ≡ name.old) }
 {
     match SyntaxKind::from_raw(kind) {
         None => 0,

@@ -1,7 +1,8 @@
 //! The library for C, and for Rust and Python beyond Rattle: texts in, rows of plain numbers out.
 //!
-//! Each call writes to the caller's buffers. If a buffer is too small, the call returns the sizes that are needed and changes no buffer.
-//! Only the parse in a handle, which the caller owns, is kept between calls.
+//! Each call writes to the caller's buffers. If a buffer is too small, the call returns the sizes
+//! that are needed and changes no buffer. Only the parse in a handle, which the caller owns, is
+//! kept between calls.
 #![tactic(auto)]
 
 mod choice;
@@ -14,6 +15,7 @@ mod live;
 mod loose;
 mod parens;
 mod parsed;
+mod part;
 mod read;
 mod rewriting;
 mod root;

@@ -23,15 +23,18 @@ use ras_front_end::ParseError;
 use ras_parsing::Parse;
 use std::alloc::Global;
 
-/// Parses a text as a Rust file of an edition, such as 2024, and puts the parse into a handle. A parse that the handle held is freed.
+/// Parses a text as a Rust file of an edition, such as 2024, and puts the parse into a handle. A
+/// parse that the handle held is freed.
 ///
-/// Returns [`OK`], [`NOT_UTF8`], [`TOO_LONG`], [`NO_MEMORY`] or [`NO_EDITION`]. Unless it is [`OK`], the handle is not changed.
+/// Returns [`OK`], [`NOT_UTF8`], [`TOO_LONG`], [`NO_MEMORY`] or [`NO_EDITION`]. Unless it is
+/// [`OK`], the handle is not changed.
 #[unsafe(no_mangle)]
 pub extern "C" fn ras_c_parse(alloc: Global, text: &[u8], edition: u32, handle: &mut Handle) -> u32
     ensures done { result ≡ 0 → HoldsRead edition text.now handle.new.kept }
     ensures kept { (result ≡ 0 → ⊥) → handle.new.kept ≡ handle.old.kept }
     ensures utf8 { (result ≡ 1) ↔ (edition_of edition ≡ None → ⊥) × (IsUtf8 text.now → ⊥) }
-    ensures long { (result ≡ 2) ↔ (edition_of edition ≡ None → ⊥) × IsUtf8 text.now × (2 ^ 32 ≤ length text.now) }
+    ensures long { (result ≡ 2)
+        ↔ (edition_of edition ≡ None → ⊥) × IsUtf8 text.now × (2 ^ 32 ≤ length text.now) }
     ensures edition { (result ≡ 5) ↔ (edition_of edition ≡ None) }
     ensures which { (result ≤ 3) ⊎ (result ≡ 5) }
 {
@@ -89,9 +92,11 @@ fn rows_told(
     status
 }
 
-/// Writes the rows, errors and messages of a handle's parse, as `ras_c_read` does for a text. The handle keeps its parse.
+/// Writes the rows, errors and messages of a handle's parse, as `ras_c_read` does for a text. The
+/// handle keeps its parse.
 ///
-/// Returns [`OK`], [`TOO_LONG`], [`NO_MEMORY`], [`NO_ROOM`], or [`NO_PARSE`] if the handle holds no parse.
+/// Returns [`OK`], [`TOO_LONG`], [`NO_MEMORY`], [`NO_ROOM`], or [`NO_PARSE`] if the handle holds no
+/// parse.
 #[unsafe(no_mangle)]
 pub extern "C" fn ras_c_rows(
     alloc: Global,
@@ -306,7 +311,8 @@ pub extern "C" fn ras_c_edit_told(
         handle.old.kept handle.new.kept }
     ensures again { result ≡ 0 → HoldsAgain (edit_from start end insert.now)
         handle.old.kept handle.new.kept again.new }
-    ensures kept { (result ≡ 0 → ⊥) → (handle.new.kept ≡ handle.old.kept) × (again.new ≡ again.old) }
+    ensures kept { (result ≡ 0 → ⊥)
+        → (handle.new.kept ≡ handle.old.kept) × (again.new ≡ again.old) }
     ensures utf8 { (result ≡ 1) ↔ (edition_of edition ≡ None → ⊥) × (IsUtf8 insert.now → ⊥) }
     ensures long { (result ≡ 2) ↔ (edition_of edition ≡ None → ⊥) × IsUtf8 insert.now
         × Holds handle.old.kept (λ p. IsEditOf (text p.tree) (edit_from start end insert.now)

@@ -55,7 +55,8 @@ fn needless_ranges(
     parse: &Parse<SyntaxNode>,
     edition: Edition,
 ) -> Result<Vec<Range>, AllocError>
-    ensures { IfOk result (λ ranges. HasNeedless edition parse.now (λ found. ranges.items ≡ found)) }
+    ensures { IfOk result
+        (λ ranges. HasNeedless edition parse.now (λ found. ranges.items ≡ found)) }
 {
     let found = find_needless(alloc, &Rust, Entry::SourceFile, edition, parse)?;
     ranges_of(alloc, &found.pairs)
@@ -67,7 +68,8 @@ fn listed(alloc: Global, text: &[u8], year: u32) -> Result<Vec<Range>, u32>
     ensures found { IfOk result (λ ranges. Lists year text.now (λ found. ranges.items ≡ found)) }
     ensures known { IfOk result (λ _. edition_of year ≡ None → ⊥) }
     ensures text { IfOk result (λ _. IsUtf8 text.now) }
-    ensures utf8 { IfErr result (λ s. (s ≡ 1) ↔ (edition_of year ≡ None → ⊥) × (IsUtf8 text.now → ⊥)) }
+    ensures utf8 { IfErr result
+        (λ s. (s ≡ 1) ↔ (edition_of year ≡ None → ⊥) × (IsUtf8 text.now → ⊥)) }
     ensures long { IfErr result (λ s. s ≡ 2 → 2 ^ 32 ≤ length text.now) }
     ensures edition { IfErr result (λ s. (s ≡ 5) ↔ (edition_of year ≡ None)) }
     ensures which { IfErr result (λ s. (s ≡ 1) ⊎ (s ≡ 2) ⊎ (s ≡ 3) ⊎ (s ≡ 5)) }
@@ -82,13 +84,15 @@ fn listed(alloc: Global, text: &[u8], year: u32) -> Result<Vec<Range>, u32>
     }
 }
 
-/// Finds the needless pairs of parentheses of a text of an edition, such as 2024, in preorder of the tree: those that
-/// `rust_tree parens --all --mixed` lists. All of them can be removed together.
+/// Finds the needless pairs of parentheses of a text of an edition, such as 2024, in preorder of
+/// the tree: those that `rust_tree parens --all --mixed` lists. All of them can be removed
+/// together.
 ///
-/// Returns [`OK`], [`NOT_UTF8`], [`TOO_LONG`], [`NO_MEMORY`], [`NO_ROOM`] or [`NO_EDITION`]. A range is that of a `PAREN_EXPR` or a
-/// `PAREN_PAT`, with both parentheses. Put a blank in place of a parenthesis whose neighbours would be joined, as in `return(a)`. Pairs
-/// that rustc needs stay, for example around a macro call that is a statement. It usually takes a few parses of the text; at worst one for
-/// each pair that stays.
+/// Returns [`OK`], [`NOT_UTF8`], [`TOO_LONG`], [`NO_MEMORY`], [`NO_ROOM`] or [`NO_EDITION`]. A
+/// range is that of a `PAREN_EXPR` or a `PAREN_PAT`, with both parentheses. Put a blank in place of
+/// a parenthesis whose neighbours would be joined, as in `return(a)`. Pairs that rustc needs stay,
+/// for example around a macro call that is a statement. It usually takes a few parses of the text;
+/// at worst one for each pair that stays.
 #[tactic(auto, using(crate::proofs::ParensLemmas::at_ranges))]
 #[unsafe(no_mangle)]
 pub extern "C" fn ras_c_parens(
@@ -98,11 +102,15 @@ pub extern "C" fn ras_c_parens(
     pairs: &mut [Range],
     count: &mut u32,
 ) -> u32
-    ensures done { result ≡ 0 → Lists edition text.now (λ found. IsHanded found pairs.old pairs.new count.new) }
-    ensures room { result ≡ 4 → Lists edition text.now (λ found. IsCounted found pairs.old pairs.new count.new) }
-    ensures kept { (result ≡ 0 → ⊥) → (result ≡ 4 → ⊥) → (pairs.new ≡ pairs.old) × (count.new ≡ count.old) }
+    ensures done { result ≡ 0
+        → Lists edition text.now (λ found. IsHanded found pairs.old pairs.new count.new) }
+    ensures room { result ≡ 4
+        → Lists edition text.now (λ found. IsCounted found pairs.old pairs.new count.new) }
+    ensures kept { (result ≡ 0 → ⊥) → (result ≡ 4 → ⊥)
+        → (pairs.new ≡ pairs.old) × (count.new ≡ count.old) }
     ensures utf8 { (result ≡ 1) ↔ (edition_of edition ≡ None → ⊥) × (IsUtf8 text.now → ⊥) }
-    ensures long { result ≡ 2 → (2 ^ 32 ≤ length text.now) ⊎ Lists edition text.now (λ found. 2 ^ 32 ≤ length found) }
+    ensures long { result ≡ 2
+        → (2 ^ 32 ≤ length text.now) ⊎ Lists edition text.now (λ found. 2 ^ 32 ≤ length found) }
     ensures edition { (result ≡ 5) ↔ (edition_of edition ≡ None) }
     ensures which { result ≤ 5 }
 {
@@ -152,10 +160,12 @@ fn reads_back_at(root: &SyntaxNode, range: TextRange) -> Option<bool>
     }
 }
 
-/// Tests whether the operator tree with exactly this range, in a text of an edition such as 2024, is the one reading of its tokens.
-/// `answer` is 1 if it is, and 0 if not. If several operator trees have the range, the innermost is tested.
+/// Tests whether the operator tree with exactly this range, in a text of an edition such as 2024,
+/// is the one reading of its tokens. `answer` is 1 if it is, and 0 if not. If several operator
+/// trees have the range, the innermost is tested.
 ///
-/// Returns [`OK`], [`NOT_UTF8`], [`TOO_LONG`], [`NO_MEMORY`], [`NO_EDITION`], or [`NO_PLACE`] if no operator tree has the range.
+/// Returns [`OK`], [`NOT_UTF8`], [`TOO_LONG`], [`NO_MEMORY`], [`NO_EDITION`], or [`NO_PLACE`] if no
+/// operator tree has the range.
 #[unsafe(no_mangle)]
 pub extern "C" fn ras_c_reads_back(
     alloc: Global,
@@ -166,7 +176,8 @@ pub extern "C" fn ras_c_reads_back(
     answer: &mut u32,
 ) -> u32
     ensures answers { result ≡ 0 → (p : Parsed) × IsReading edition text.now p × (start ≤ end)
-        × ReadsBackAt (Some (answer.new == 1)) (root_of p.tree) (range_from start end) × (answer.new ≤ 1) }
+        × ReadsBackAt (Some (answer.new == 1)) (root_of p.tree) (range_from start end)
+        × (answer.new ≤ 1) }
     ensures nowhere { result ≡ 6 → (p : Parsed) × IsReading edition text.now p
         × ((end < start) ⊎ ReadsBackAt None (root_of p.tree) (range_from start end)) }
     ensures kept { (result ≡ 0 → ⊥) → answer.new ≡ answer.old }

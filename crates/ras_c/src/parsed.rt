@@ -19,8 +19,10 @@ pub(crate) fn parsed_as<T>(
     ensures read { IfOk result (λ p. IsReadingAs entry edition text.now p) }
     ensures known { IfOk result (λ _. edition_of edition ≡ None → ⊥) }
     ensures text { IfOk result (λ _. IsUtf8 text.now × (length text.now < 2 ^ 32)) }
-    ensures utf8 { IfErr result (λ s. (s ≡ 1) ↔ (edition_of edition ≡ None → ⊥) × (IsUtf8 text.now → ⊥)) }
-    ensures long { IfErr result (λ s. (s ≡ 2) ↔ (edition_of edition ≡ None → ⊥) × IsUtf8 text.now × (2 ^ 32 ≤ length text.now)) }
+    ensures utf8 { IfErr result
+        (λ s. (s ≡ 1) ↔ (edition_of edition ≡ None → ⊥) × (IsUtf8 text.now → ⊥)) }
+    ensures long { IfErr result (λ s. (s ≡ 2)
+        ↔ (edition_of edition ≡ None → ⊥) × IsUtf8 text.now × (2 ^ 32 ≤ length text.now)) }
     ensures edition { IfErr result (λ s. (s ≡ 5) ↔ (edition_of edition ≡ None)) }
     ensures which { IfErr result (λ s. (s ≡ 1) ⊎ (s ≡ 2) ⊎ (s ≡ 3) ⊎ (s ≡ 5)) }
 {
@@ -42,8 +44,10 @@ pub(crate) fn parsed<T>(alloc: Global, text: &[u8], edition: u32) -> Result<Pars
     ensures read { IfOk result (λ p. IsReading edition text.now p) }
     ensures known { IfOk result (λ _. edition_of edition ≡ None → ⊥) }
     ensures text { IfOk result (λ _. IsUtf8 text.now × (length text.now < 2 ^ 32)) }
-    ensures utf8 { IfErr result (λ s. (s ≡ 1) ↔ (edition_of edition ≡ None → ⊥) × (IsUtf8 text.now → ⊥)) }
-    ensures long { IfErr result (λ s. (s ≡ 2) ↔ (edition_of edition ≡ None → ⊥) × IsUtf8 text.now × (2 ^ 32 ≤ length text.now)) }
+    ensures utf8 { IfErr result
+        (λ s. (s ≡ 1) ↔ (edition_of edition ≡ None → ⊥) × (IsUtf8 text.now → ⊥)) }
+    ensures long { IfErr result (λ s. (s ≡ 2)
+        ↔ (edition_of edition ≡ None → ⊥) × IsUtf8 text.now × (2 ^ 32 ≤ length text.now)) }
     ensures edition { IfErr result (λ s. (s ≡ 5) ↔ (edition_of edition ≡ None)) }
     ensures which { IfErr result (λ s. (s ≡ 1) ⊎ (s ≡ 2) ⊎ (s ≡ 3) ⊎ (s ≡ 5)) }
 {

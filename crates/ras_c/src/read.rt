@@ -34,7 +34,8 @@ pub struct ErrorRow {
 pub struct Counts {
     /// The nodes and tokens of its tree.
     pub rows: u32,
-    /// Its errors: those of the parser, then those of the lexer, then the violations of rules beyond the grammar.
+    /// Its errors: those of the parser, then those of the lexer, then the violations of rules
+    /// beyond the grammar.
     pub errors: u32,
     /// How many of the errors are such violations. They are the last ones.
     pub violations: u32,
@@ -86,9 +87,12 @@ pub(crate) fn counts_of(
     violations: usize,
     messages: usize,
 ) -> Option<Counts>
-    ensures some { IfSome result (λ c. c ≡ record { rows = rows; errors = errors; violations = violations; messages = messages }) }
+    ensures some { IfSome result (λ c. c
+        ≡ record
+        { rows = rows; errors = errors; violations = violations; messages = messages }) }
     ensures fits { IfSome result (λ _. (rows < 2 ^ 32) × (errors < 2 ^ 32) × (messages < 2 ^ 32)) }
-    ensures none { result ≡ None → rows < 2 ^ 32 → errors < 2 ^ 32 → violations < 2 ^ 32 → messages < 2 ^ 32 → ⊥ }
+    ensures none { result ≡ None → rows < 2 ^ 32 → errors < 2 ^ 32 → violations < 2 ^ 32
+        → messages < 2 ^ 32 → ⊥ }
 {
     Some(Counts {
         rows: small(rows)?,
@@ -177,7 +181,8 @@ fn tell_violations(
     ensures room { result ≡ 4 → IsCut (report_at (focus node.now) (violations_by all) parse.now)
         (buffers rows.old errors.old messages.old counts.old)
         (buffers rows.new errors.new messages.new counts.new) }
-    ensures long { result ≡ 2 → IsSmall (report_at (focus node.now) (violations_by all) parse.now) → ⊥ }
+    ensures long { result ≡ 2 → IsSmall (report_at (focus node.now) (violations_by all) parse.now)
+        → ⊥ }
     ensures kept { (result ≡ 0 → ⊥) → (result ≡ 4 → ⊥)
         → buffers rows.new errors.new messages.new counts.new
         ≡ buffers rows.old errors.old messages.old counts.old }
@@ -295,11 +300,11 @@ fn read_told(
     }
 }
 
-/// Parses a text as a Rust file of an edition, such as 2024. Writes the tree as rows in preorder, the errors, and their messages one after
-/// another, each to the front of its buffer.
+/// Parses a text as a Rust file of an edition, such as 2024. Writes the tree as rows in preorder,
+/// the errors, and their messages one after another, each to the front of its buffer.
 ///
-/// Returns [`OK`], [`NOT_UTF8`], [`TOO_LONG`], [`NO_MEMORY`], [`NO_ROOM`] or [`NO_EDITION`]. Text with syntax errors has a tree too. A text
-/// of n bytes seldom has more than 2 n rows.
+/// Returns [`OK`], [`NOT_UTF8`], [`TOO_LONG`], [`NO_MEMORY`], [`NO_ROOM`] or [`NO_EDITION`]. Text
+/// with syntax errors has a tree too. A text of n bytes seldom has more than 2 n rows.
 #[unsafe(no_mangle)]
 pub extern "C" fn ras_c_read(
     alloc: Global,
@@ -319,8 +324,9 @@ pub extern "C" fn ras_c_read(
     )
 }
 
-/// Parses a text as an expression of an edition, and writes what `ras_c_read` writes for a file. The root is a node of an expression, or
-/// `ERROR` if the text is not one expression; there are errors then.
+/// Parses a text as an expression of an edition, and writes what `ras_c_read` writes for a file.
+/// The root is a node of an expression, or `ERROR` if the text is not one expression; there are
+/// errors then.
 ///
 /// Returns [`OK`], [`NOT_UTF8`], [`TOO_LONG`], [`NO_MEMORY`], [`NO_ROOM`] or [`NO_EDITION`].
 #[unsafe(no_mangle)]

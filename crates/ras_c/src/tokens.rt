@@ -40,10 +40,11 @@ fn token_rows(alloc: Global, tokens: &[Token]) -> Result<Vec<TokenRow>, AllocErr
     Ok(rows)
 }
 
-/// Cuts a text of an edition, such as 2024, into tokens. White space and comments are tokens too, and punctuation is cut into single
-/// characters.
+/// Cuts a text of an edition, such as 2024, into tokens. White space and comments are tokens too,
+/// and punctuation is cut into single characters.
 ///
-/// Returns [`OK`], [`NOT_UTF8`], [`TOO_LONG`], [`NO_MEMORY`], [`NO_ROOM`] or [`NO_EDITION`]. A text has at most as many tokens as bytes.
+/// Returns [`OK`], [`NOT_UTF8`], [`TOO_LONG`], [`NO_MEMORY`], [`NO_ROOM`] or [`NO_EDITION`]. A text
+/// has at most as many tokens as bytes.
 #[unsafe(no_mangle)]
 pub extern "C" fn ras_c_tokens(
     alloc: Global,
@@ -52,11 +53,19 @@ pub extern "C" fn ras_c_tokens(
     tokens: &mut [TokenRow],
     count: &mut u32,
 ) -> u32
-    ensures done { result ≡ 0 → (e : Edition) × (edition_of edition ≡ Some e) × IsHanded (map token_row (tokens_of e text.now)) tokens.old tokens.new count.new }
-    ensures room { result ≡ 4 → (e : Edition) × (edition_of edition ≡ Some e) × IsCounted (map token_row (tokens_of e text.now)) tokens.old tokens.new count.new }
-    ensures kept { (result ≡ 0 → ⊥) → (result ≡ 4 → ⊥) → (tokens.new ≡ tokens.old) × (count.new ≡ count.old) }
+    ensures done { result ≡ 0
+        → (e : Edition) × (edition_of edition ≡ Some e)
+        × IsHanded (map token_row (tokens_of e text.now)) tokens.old tokens.new count.new }
+    ensures room { result ≡ 4
+        → (e : Edition) × (edition_of edition ≡ Some e)
+        × IsCounted (map token_row (tokens_of e text.now)) tokens.old tokens.new count.new }
+    ensures kept { (result ≡ 0 → ⊥) → (result ≡ 4 → ⊥)
+        → (tokens.new ≡ tokens.old) × (count.new ≡ count.old) }
     ensures utf8 { (result ≡ 1) ↔ (edition_of edition ≡ None → ⊥) × (IsUtf8 text.now → ⊥) }
-    ensures long { result ≡ 2 → (2 ^ 32 ≤ length text.now) ⊎ ((e : Edition) × (edition_of edition ≡ Some e) × (2 ^ 32 ≤ length (tokens_of e text.now))) }
+    ensures long { result ≡ 2
+        → (2 ^ 32 ≤ length text.now)
+        ⊎ ((e : Edition) × (edition_of edition ≡ Some e)
+        × (2 ^ 32 ≤ length (tokens_of e text.now))) }
     ensures edition { (result ≡ 5) ↔ (edition_of edition ≡ None) }
     ensures which { result ≤ 5 }
 {

@@ -18,8 +18,8 @@ pub const NO_DIGIT: u32 = 8;
 pub const BAD_DIGIT: u32 = 9;
 /// An integer of 2^128 or more. Nothing was written.
 pub const TOO_LARGE: u32 = 10;
-/// From this status on, an escape or a character of a literal is wrong: [`FAULT`] + n, where n counts `EscapeError`'s variants. Nothing
-/// was written.
+/// From this status on, an escape or a character of a literal is wrong: [`FAULT`] + n, where n
+/// counts `EscapeError`'s variants. Nothing was written.
 pub const FAULT: u32 = 64;
 
 // The number of values of 64 bits.
@@ -63,11 +63,11 @@ fn fault_status(fault: EscapeError) -> u32
     FAULT + fault_number(fault)
 }
 
-/// Writes the value of a string with this text, quotes and prefix with it, to the front of `value`, and its length to `count`:
-/// of `"a\n"` the letter and a line feed.
+/// Writes the value of a string with this text, quotes and prefix with it, to the front of `value`,
+/// and its length to `count`: of `"a\n"` the letter and a line feed.
 ///
-/// Returns [`OK`], [`NOT_UTF8`], [`TOO_LONG`], [`NO_MEMORY`], [`NO_ROOM`], or a status from [`FAULT`] on. The value is at most as long as
-/// the text.
+/// Returns [`OK`], [`NOT_UTF8`], [`TOO_LONG`], [`NO_MEMORY`], [`NO_ROOM`], or a status from
+/// [`FAULT`] on. The value is at most as long as the text.
 #[unsafe(no_mangle)]
 pub extern "C" fn ras_c_string_value(
     alloc: Global,
@@ -80,7 +80,8 @@ pub extern "C" fn ras_c_string_value(
     ensures long { result ≡ 2 → HasBytes (string_of text.now) (λ bytes. 2 ^ 32 ≤ length bytes) }
     ensures fault { 5 ≤ result → IsFaulty (string_of text.now) result }
     ensures utf8 { (result ≡ 1) ↔ (IsUtf8 text.now → ⊥) }
-    ensures kept { (result ≡ 0 → ⊥) → (result ≡ 4 → ⊥) → (value.new ≡ value.old) × (count.new ≡ count.old) }
+    ensures kept { (result ≡ 0 → ⊥) → (result ≡ 4 → ⊥)
+        → (value.new ≡ value.old) × (count.new ≡ count.old) }
 {
     let Ok(text) = str::from_utf8(text) else {
         return NOT_UTF8;
@@ -92,11 +93,11 @@ pub extern "C" fn ras_c_string_value(
     }
 }
 
-/// Writes the value of a byte string with this text, quotes and prefix with it, to the front of `value`, and its length to `count`:
-/// of `b"\xff"` the byte 255.
+/// Writes the value of a byte string with this text, quotes and prefix with it, to the front of
+/// `value`, and its length to `count`: of `b"\xff"` the byte 255.
 ///
-/// Returns [`OK`], [`NOT_UTF8`], [`TOO_LONG`], [`NO_MEMORY`], [`NO_ROOM`], or a status from [`FAULT`] on. The value is at most as long as
-/// the text.
+/// Returns [`OK`], [`NOT_UTF8`], [`TOO_LONG`], [`NO_MEMORY`], [`NO_ROOM`], or a status from
+/// [`FAULT`] on. The value is at most as long as the text.
 #[unsafe(no_mangle)]
 pub extern "C" fn ras_c_byte_string_value(
     alloc: Global,
@@ -106,10 +107,12 @@ pub extern "C" fn ras_c_byte_string_value(
 ) -> u32
     ensures done { result ≡ 0 → IsWritten (byte_string_of text.now) value.old value.new count.new }
     ensures room { result ≡ 4 → LacksRoom (byte_string_of text.now) value.old value.new count.new }
-    ensures long { result ≡ 2 → HasBytes (byte_string_of text.now) (λ bytes. 2 ^ 32 ≤ length bytes) }
+    ensures long { result ≡ 2
+        → HasBytes (byte_string_of text.now) (λ bytes. 2 ^ 32 ≤ length bytes) }
     ensures fault { 5 ≤ result → IsFaulty (byte_string_of text.now) result }
     ensures utf8 { (result ≡ 1) ↔ (IsUtf8 text.now → ⊥) }
-    ensures kept { (result ≡ 0 → ⊥) → (result ≡ 4 → ⊥) → (value.new ≡ value.old) × (count.new ≡ count.old) }
+    ensures kept { (result ≡ 0 → ⊥) → (result ≡ 4 → ⊥)
+        → (value.new ≡ value.old) × (count.new ≡ count.old) }
 {
     let Ok(text) = str::from_utf8(text) else {
         return NOT_UTF8;
@@ -121,11 +124,11 @@ pub extern "C" fn ras_c_byte_string_value(
     }
 }
 
-/// Writes the value of a C string with this text, quotes and prefix with it, to the front of `value`, and its length to `count`:
-/// of `c"a"` the letter, without the zero behind it.
+/// Writes the value of a C string with this text, quotes and prefix with it, to the front of
+/// `value`, and its length to `count`: of `c"a"` the letter, without the zero behind it.
 ///
-/// Returns [`OK`], [`NOT_UTF8`], [`TOO_LONG`], [`NO_MEMORY`], [`NO_ROOM`], or a status from [`FAULT`] on. The value is at most as long as
-/// the text.
+/// Returns [`OK`], [`NOT_UTF8`], [`TOO_LONG`], [`NO_MEMORY`], [`NO_ROOM`], or a status from
+/// [`FAULT`] on. The value is at most as long as the text.
 #[unsafe(no_mangle)]
 pub extern "C" fn ras_c_c_string_value(
     alloc: Global,
@@ -138,7 +141,8 @@ pub extern "C" fn ras_c_c_string_value(
     ensures long { result ≡ 2 → HasBytes (c_string_of text.now) (λ bytes. 2 ^ 32 ≤ length bytes) }
     ensures fault { 5 ≤ result → IsFaulty (c_string_of text.now) result }
     ensures utf8 { (result ≡ 1) ↔ (IsUtf8 text.now → ⊥) }
-    ensures kept { (result ≡ 0 → ⊥) → (result ≡ 4 → ⊥) → (value.new ≡ value.old) × (count.new ≡ count.old) }
+    ensures kept { (result ≡ 0 → ⊥) → (result ≡ 4 → ⊥)
+        → (value.new ≡ value.old) × (count.new ≡ count.old) }
 {
     let Ok(text) = str::from_utf8(text) else {
         return NOT_UTF8;
@@ -150,7 +154,8 @@ pub extern "C" fn ras_c_c_string_value(
     }
 }
 
-/// Writes the value of a character with this text, quotes with it, to `value`: of `'a'` the number 97.
+/// Writes the value of a character with this text, quotes with it, to `value`: of `'a'` the number
+/// 97.
 ///
 /// Returns [`OK`], [`NOT_UTF8`], or a status from [`FAULT`] on.
 #[unsafe(no_mangle)]
@@ -194,14 +199,15 @@ pub extern "C" fn ras_c_byte_value(text: &[u8], value: &mut u32) -> u32
     }
 }
 
-/// Writes the value of an integer with this text, prefix and suffix with it, to `high` and `low`, 64 bits each: of `0x10u8` the numbers 0
-/// and 16.
+/// Writes the value of an integer with this text, prefix and suffix with it, to `high` and `low`,
+/// 64 bits each: of `0x10u8` the numbers 0 and 16.
 ///
 /// Returns [`OK`], [`NOT_UTF8`], [`NO_DIGIT`], [`BAD_DIGIT`] or [`TOO_LARGE`].
 #[unsafe(no_mangle)]
 pub extern "C" fn ras_c_int_value(text: &[u8], high: &mut u64, low: &mut u64) -> u32
     ensures done { result ≡ 0 → int_value text.now ≡ Ok (high.new * 2 ^ 64 + low.new) }
-    ensures refused { 2 ≤ result → (e : IntError) × (int_value text.now ≡ Err e) × (result ≡ int_status e) }
+    ensures refused { 2 ≤ result
+        → (e : IntError) × (int_value text.now ≡ Err e) × (result ≡ int_status e) }
     ensures utf8 { (result ≡ 1) ↔ (IsUtf8 text.now → ⊥) }
     ensures kept { (result ≡ 0 → ⊥) → (high.new ≡ high.old) × (low.new ≡ low.old) }
 {

@@ -1,5 +1,5 @@
 -- Walks over the nodes that have rules, and parts of them.
-use Rattle.std.proofs.Common.{◌≡◌, ◌+◌, ◌-◌, ◌<◌, ◌≤◌, suc, List, [], ◌∷◌, ◌++◌, length, cond, Bool, true, false, refl, sym, ap, ◌∙◌, arith, append_assoc}
+use Rattle.std.proofs.Common.{◌≡◌, ℕ, ◌+◌, ◌-◌, ◌<◌, ◌≤◌, suc, List, [], ◌∷◌, ◌++◌, length, cond, Bool, true, false, refl, sym, ap, ◌∙◌, arith, append_assoc}
 use Rattle.std.specs.Prelude.{Option, None, Some, flat_map, is_some, if◌then◌else◌, not, ◌&&◌}
 use Rattle.std.specs.List.{filter, find}
 use Rattle.std.specs.Option.{option_and_then}
@@ -9,7 +9,7 @@ use Rattle.syntax_kind.specs.declared.syntax_kind.SyntaxKind.TheVariants.{Node, 
 use Rattle.syntax_kind.specs.declared.syntax_kind.node_kind.NodeKind.TheVariants as node
 use Rattle.syntax_kind.specs.declared.syntax_kind.token_kind.TokenKind.TheVariants as token
 use Rattle.syntax_kind.specs.KindLaws.{is_same_kind-equal}
-use Rattle.tree_model.specs.Tree.{size, nil}
+use Rattle.tree_model.specs.Tree.{Tree, size, nil}
 use Rattle.tree_model.specs.Rows.{tree_at}
 use Rattle.tree_model.specs.Neighbours.{behind_at}
 use Rattle.tree_model.specs.Cursor.{Cursor, at_node, at_token, children_of, descendants_of, cursor_at, cursors_from}
@@ -24,7 +24,7 @@ use Rattle.ras_validation.specs.Kinds.{has_rules, is_path_keyword}
 use Rattle.ras_validation.specs.Lookups.{node_child, segment_keyword, has_path_keyword, path_around, starts_path}
 use Rattle.ras_validation.specs.Rules.{self_in_path, crate_in_path, crate_is_inside}
 use Rattle.ras_validation.specs.declared.violation.ViolationMessage.TheVariants as messages
-use Rattle.ras_validation.specs.Violations.{named, violations_by, violations_at, violations_among, at_segment, ViolationsStandTogether, OnlyKindsWithRules}
+use Rattle.ras_validation.specs.Violations.{named, violations_by, violations_at, violations_of, violations_among, at_segment, ViolationsStandTogether, ViolationsOfParts, OnlyKindsWithRules}
 
 -- ---- nodes without rules
 
@@ -157,3 +157,20 @@ stand_together tree n h =
     ∙ among-append front (own ++ rest)
     ∙ ap (λ v. violations_among front ++ v) (among-append own rest)
     ∙ ap (λ l. violations_among front ++ (violations_among l ++ violations_among rest)) (descendants-numbered tree n e h refl)
+
+-- ---- the walk in runs of rows
+
+whole_rows : (tree : Tree) → violations_of (cursor_at tree 0) ≡ violations_among (cursors_from tree 0 (size tree))
+whole_rows tree =
+    let root : size tree ≡ 0 + size (tree_at tree 0) = omega (arith, ap size (root_tree tree)) in
+    let none : size tree - 0 ≡ size tree = omega arith in
+    sym (ap violations_among (ap (cursors_from tree 0) (sym none) ∙ descendants-numbered tree 0 (size tree) (omega (arith, some_row tree)) root))
+
+parts_of_rows : (tree : Tree) (a b c : ℕ) → a ≤ b → b ≤ c
+    → violations_among (cursors_from tree a (c - a)) ≡ violations_among (cursors_from tree a (b - a)) ++ violations_among (cursors_from tree b (c - b))
+parts_of_rows tree a b c ab bc =
+    ap violations_among (cursors_from-append tree a (b - a) (c - b) (c - a) b (omega (arith, ab, bc)) (omega (arith, ab)))
+    ∙ among-append (cursors_from tree a (b - a)) (cursors_from tree b (c - b))
+
+pub of_parts : ViolationsOfParts
+of_parts = (whole_rows, parts_of_rows)

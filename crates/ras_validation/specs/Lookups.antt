@@ -1,4 +1,5 @@
--- Lookups of the rules below and above a node. (Upstream: the accessors of rust-analyzer's `ast` of these names.)
+-- Lookups of the rules below and above a node. (Upstream: the accessors of rust-analyzer's `ast` of
+-- these names.)
 use Rattle.std.specs.Prelude.{Bool, true, false, not, ◌&&◌, ◌||◌, List, [], ◌∷◌, Option, Some, None, option_map, is_some, nat_lt, if◌then◌else◌}
 use Rattle.std.specs.List.{filter, find}
 use Rattle.std.specs.Option.{option_and_then, option_map_or}
@@ -36,7 +37,8 @@ token_before c = find has_no_trivia_kind (tokens_beyond Prev c)
 abbrev pub token_behind : Cursor → Option Cursor
 token_behind c = find has_no_trivia_kind (tokens_beyond Next c)
 
--- the token of a literal: the first child that is not an attribute, doc comment or trivia, if that is a token
+-- the token of a literal: the first child that is not an attribute, doc comment or trivia, if that
+-- is a token
 abbrev pub literal_token : Cursor → Option Cursor
 literal_token c = option_and_then token_part (option_map element_of (find (has_other_kind is_before_literal) (children_of c)))
 

@@ -1,4 +1,5 @@
--- For each rule the piece of a tree that breaks it at a node, if one does. (Upstream: rust-analyzer's validation.)
+-- For each rule the piece of a tree that breaks it at a node, if one does. (Upstream:
+-- rust-analyzer's validation.)
 use Rattle.std.specs.Prelude.{Bool, true, false, not, ◌&&◌, ◌||◌, List, [], ◌∷◌, drop, Option, Some, None, is_some, if◌then◌else◌}
 use Rattle.std.specs.List.{filter, list_any}
 use Rattle.std.specs.Option.{option_and_then, option_map_or, option_map}
@@ -71,8 +72,8 @@ abbrev pub self_in_path : Cursor → Option Cursor
 self_in_path c =
     option_and_then (λ path. if not (starts_path c path) && is_some (path_around path) then segment_keyword (Token token.SELF_KW) c else None) (path_around c)
 
--- the verdict of one node above a path, where `last` is the last path passed: it is under a use prefix, it is not, or the
--- nodes above decide
+-- the verdict of one node above a path, where `last` is the last path passed: it is under a use
+-- prefix, it is not, or the nodes above decide
 abbrev pub prefix_verdict : Cursor → SyntaxKind → Cursor → Option Bool
 prefix_verdict last (Node node.USE_TREE) a = option_and_then (λ path. if is_same_cursor path last then None else Some true) (node_child (Node node.PATH) a)
 prefix_verdict last (Node node.USE_TREE_LIST) a = None
@@ -84,14 +85,15 @@ abbrev pub decided : Option Bool → Bool → Bool
 decided None above = above
 decided (Some b) above = b
 
--- the walk up from a path, through paths, use trees and their lists alone, meets a use tree whose path is not the last
--- path that it passed
+-- the walk up from a path, through paths, use trees and their lists alone, meets a use tree whose
+-- path is not the last path that it passed
 abbrev pub under_use_prefix : Cursor → List Cursor → Bool
 under_use_prefix last [] = false
 under_use_prefix last (a ∷ above) =
     decided (prefix_verdict last (kind_at a) a) (under_use_prefix (if is_of_kind (Node node.PATH) a then a else last) above)
 
--- `crate` that does not begin its path, or is under a use prefix; a segment with a `self` too breaks no rule by it
+-- `crate` that does not begin its path, or is under a use prefix; a segment with a `self` too
+-- breaks no rule by it
 abbrev pub crate_is_inside : Cursor → Cursor → Bool
 crate_is_inside c path = not (starts_path c path) || under_use_prefix path (drop 1 (ancestors_of path))
 
@@ -105,7 +107,8 @@ bounded_keyword (Node node.DYN_TRAIT_TYPE) c = token_child (Token token.DYN_KW) 
 bounded_keyword (Node node.IMPL_TRAIT_TYPE) c = token_child (Token token.IMPL_KW) c
 bounded_keyword _ c = None
 
--- a `dyn` or `impl` type with two bounds or more, where a token other than `(`, `<` and `=` precedes its keyword
+-- a `dyn` or `impl` type with two bounds or more, where a token other than `(`, `<` and `=`
+-- precedes its keyword
 abbrev pub ambiguous_plus : Cursor → Option Cursor
 ambiguous_plus c =
     option_and_then (λ keyword. option_and_then (λ before. option_and_then (λ list. if has_two_bounds false (filter at_node (children_of list)) && not (delimits_type (kind_at before)) then Some c else None)
@@ -128,7 +131,8 @@ without_trait c = option_and_then (λ list. if list_any is_typed_bound (filter a
 abbrev pub macro_rules_visibility : Cursor → Option Cursor
 macro_rules_visibility c = node_child (Node node.VISIBILITY) c
 
--- the verdict of one node above a `let`: it is part of a condition, it is not, or the nodes above decide
+-- the verdict of one node above a `let`: it is part of a condition, it is not, or the nodes above
+-- decide
 abbrev pub is_and : Cursor → Bool
 is_and c = option_map_or (is_of_kind (Token token.AMP2)) (binary_operator c) false
 

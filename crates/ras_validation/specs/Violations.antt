@@ -1,5 +1,5 @@
 -- The violations of a tree: those of each node by its kind, in preorder of the nodes.
-use Rattle.std.specs.Prelude.{◌≡◌, ℕ, ◌+◌, ◌-◌, false, codes, List, [], ◌∷◌, ◌++◌, flat_map, Option, Some, None, option_map, Result, Ok, Err, if◌then◌else◌}
+use Rattle.std.specs.Prelude.{◌≡◌, ℕ, ◌+◌, ◌-◌, ◌≤◌, false, codes, List, [], ◌∷◌, ◌++◌, flat_map, Option, Some, None, option_map, Result, Ok, Err, if◌then◌else◌}
 use Rattle.std.specs.List.{filter}
 use Rattle.std.specs.Option.{option_and_then, option_map_or}
 use Rattle.std.specs.Str.{chars}
@@ -48,14 +48,14 @@ fault_at at (Err e) = if is_warning e then [] else ((record { message = messages
 abbrev pub report_fault : ℕ → Report → List Violation
 report_fault start r = fault_at (start + r.start) r.unit
 
--- the faults of a content that starts at an offset: for a string the fault of each unit, at the unit's start; for a
--- character or a byte the fault of the whole
+-- the faults of a content that starts at an offset: for a string the fault of each unit, at the
+-- unit's start; for a character or a byte the fault of the whole
 abbrev pub content_faults : Mode → ℕ → List ℕ → List Violation
 content_faults mode start content =
     if is_string mode then flat_map (report_fault start) (reports_in mode (chars content)) else fault_at start (single (reports_in mode (chars content)))
 
--- a literal whose content is checked, by the kind and the text of its token: the offset of the content, and the quote that
--- ends it; None for a raw string
+-- a literal whose content is checked, by the kind and the text of its token: the offset of the
+-- content, and the quote that ends it; None for a raw string
 abbrev pub unless_raw : List ℕ → List ℕ → LiteralForm → Option LiteralForm
 unless_raw prefix text form = if is_raw prefix text then None else Some form
 
@@ -129,14 +129,23 @@ violations_of c = flat_map violations_at (filter at_node (descendants_of c))
 abbrev pub violations_among : List Cursor → List Violation
 violations_among l = flat_map violations_at (filter at_node l)
 
--- the violations of a tree are those of the nodes before a place in preorder, those of the place, and those of the nodes
--- after its subtree
+-- the violations of a tree are those of the nodes before a place in preorder, those of the place,
+-- and those of the nodes after its subtree
 abbrev pub ViolationsStandTogether : Type 0
 ViolationsStandTogether =
     (tree : Tree) (n : ℕ) → IsRow tree n
     → violations_of (cursor_at tree 0)
     ≡ violations_among (cursors_from tree 0 n)
     ++ (violations_of (cursor_at tree n) ++ violations_among (cursors_from tree (behind_at tree n) (size tree - behind_at tree n)))
+
+-- the violations of a tree are those among all of its rows, and those among some rows in a run are
+-- those among the first of them, and then those among the rest
+abbrev pub ViolationsOfParts : Type 0
+ViolationsOfParts =
+    ((tree : Tree) → violations_of (cursor_at tree 0) ≡ violations_among (cursors_from tree 0 (size tree)))
+    × ((tree : Tree) (a b c : ℕ) → a ≤ b → b ≤ c
+    → violations_among (cursors_from tree a (c - a))
+    ≡ violations_among (cursors_from tree a (b - a)) ++ violations_among (cursors_from tree b (c - b)))
 
 -- a node of another kind has none
 abbrev pub OnlyKindsWithRules : Type 0

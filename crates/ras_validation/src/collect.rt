@@ -1,8 +1,9 @@
 //! The walk over a tree.
-ghost use Rattle.std.specs.Prelude.{◌≡◌, ◌++◌, IfOk, OnOk, option_map};
-ghost use Rattle.ras_validation.specs.Violations.{named_at, attributes_in, block_attributes, at_visibility, at_segment, violations_at, violations_of};
+ghost use Rattle.std.specs.Prelude.{◌≡◌, ◌-◌, ◌<◌, ◌≤◌, ◌++◌, IfOk, OnOk, option_map, flat_map};
+ghost use Rattle.ras_validation.specs.Violations.{named_at, attributes_in, block_attributes, at_visibility, at_segment, violations_at, violations_of, violations_among};
 ghost use Rattle.ras_validation.specs.Rules.{inner_attribute, bare_statements};
-ghost use Rattle.tree_model.specs.Cursor.{range_of};
+ghost use Rattle.tree_model.specs.Cursor.{range_of, cursors_from};
+ghost use Rattle.tree_model.specs.Tree.{size};
 
 use crate::exprs::{misplaced_let, numeric_name, range_without_end};
 use crate::items::{macro_rules_visibility, mutable_const, visibility_in_trait, visibility_path};
@@ -12,7 +13,7 @@ use crate::lookups::{has_path_keyword, is_inner_attribute, node_child};
 use crate::paths::{crate_in_path, self_in_path};
 use crate::types::{ambiguous_return, ambiguous_target, without_trait};
 use crate::violation::{Violation, ViolationMessage};
-use lossless_tree::{SyntaxKind, SyntaxNode};
+use lossless_tree::{Descendants, SyntaxKind, SyntaxNode};
 use ras_node::KindSet;
 use std::alloc::{AllocError, Global};
 use text_size::TextRange;
@@ -69,7 +70,8 @@ fn add_attributes_in(found: &mut Vec<Violation>, list: &SyntaxNode) -> Result<()
     Ok(())
 }
 
-// Appends the inner attributes of a `BLOCK_EXPR` that may not have any. If memory runs out, some of them may be missing.
+// Appends the inner attributes of a `BLOCK_EXPR` that may not have any. If memory runs out, some of
+// them may be missing.
 fn add_block_attributes(found: &mut Vec<Violation>, block: &SyntaxNode) -> Result<(), AllocError>
     ensures { OnOk result (found.new.items ≡ found.old.items ++ block_attributes block.now) }
 {
@@ -105,8 +107,8 @@ fn add_at_segment(found: &mut Vec<Violation>, node: &SyntaxNode) -> Result<(), A
     add(found, ViolationMessage::CrateInPath, crate_in_path(node))
 }
 
-// Appends the violations at one node, by its kind, without those at nodes below it. If memory runs out, some of them may be
-// missing.
+// Appends the violations at one node, by its kind, without those at nodes below it. If memory runs
+// out, some of them may be missing.
 fn add_violations_at(found: &mut Vec<Violation>, node: &SyntaxNode) -> Result<(), AllocError>
     ensures { OnOk result (found.new.items ≡ found.old.items ++ violations_at node.now) }
 {
@@ -140,11 +142,23 @@ fn add_violations_at(found: &mut Vec<Violation>, node: &SyntaxNode) -> Result<()
     }
 }
 
-/// The violations of a tree, in preorder of its nodes; for one node in the order of its rules, and for one rule in the
-/// order of the text.
+// Appends the violations at some nodes. If memory runs out, some of them may be missing.
+fn add_all(found: &mut Vec<Violation>, nodes: Descendants) -> Result<(), AllocError>
+    ensures { OnOk result (found.new.items ≡ found.old.items ++ flat_map violations_at nodes) }
+{
+    let mut left = nodes;
+    while let Some(next) = left.next_of::<WithRules>() {
+        add_violations_at(found, &next)?;
+    }
+    Ok(())
+}
+
+/// The violations of a tree, in preorder of its nodes; for one node in the order of its rules, and
+/// for one rule in the order of the text.
 ///
-/// Takes memory for the list only, and time linear in the tree and its literals, plus the nodes around that are looked at
-/// for each segment of a path that is `self` or `crate`, each `let`, and each visibility in an implementation.
+/// Takes memory for the list only, and time linear in the tree and its literals, plus the nodes
+/// around that are looked at for each segment of a path that is `self` or `crate`, each `let`, and
+/// each visibility in an implementation.
 pub fn violations(alloc: Global, root: &SyntaxNode) -> Result<Vec<Violation>, AllocError>
     ensures { IfOk result (λ found. found.items ≡ violations_of root.now) }
 {
@@ -153,17 +167,37 @@ pub fn violations(alloc: Global, root: &SyntaxNode) -> Result<Vec<Violation>, Al
 
 /// The violations at the nodes of one subtree, in the order of [`violations`].
 ///
-/// The rules look at the nodes around, too, so they are those that the whole tree has there: the violations of a tree are
-/// those at the nodes before a subtree in preorder, those in it, and those at the nodes after it
-/// ([`violations_stand_together`](crate::laws::violations_stand_together)). Takes time linear in the subtree and its literals,
-/// plus what [`violations`] says of the nodes around.
+/// The rules look at the nodes around, too, so they are those that the whole tree has there: the
+/// violations of a tree are those at the nodes before a subtree in preorder, those in it, and those
+/// at the nodes after it ([`violations_stand_together`](crate::laws::violations_stand_together)).
+/// Takes time linear in the subtree and its literals, plus what [`violations`] says of the nodes
+/// around.
 pub fn violations_in(alloc: Global, node: &SyntaxNode) -> Result<Vec<Violation>, AllocError>
     ensures { IfOk result (λ found. found.items ≡ violations_of node.now) }
 {
     let mut found = Vec::new(alloc);
-    let mut left = node.descendants();
-    while let Some(next) = left.next_of::<WithRules>() {
-        add_violations_at(&mut found, &next)?;
-    }
+    add_all(&mut found, node.descendants())?;
+    Ok(found)
+}
+
+/// The violations at the nodes of a node's whole tree whose rows have the numbers `from..to`, in
+/// the order of [`violations`]. If there are fewer rows, it is all from `from` on.
+///
+/// Rows are numbered in preorder, so the violations of a tree are those among its first rows, and
+/// then those among the rest ([`violations_of_parts`](crate::laws::violations_of_parts)). Takes
+/// time linear in these rows and their literals, plus what [`violations`] says of the nodes around.
+pub fn violations_among(
+    alloc: Global,
+    node: &SyntaxNode,
+    from: usize,
+    to: usize,
+) -> Result<Vec<Violation>, AllocError>
+    ensures within { to ≤ size node.now.tree → IfOk result (λ found. found.items
+        ≡ violations_among (cursors_from node.now.tree from (to - from))) }
+    ensures past { size node.now.tree < to → IfOk result (λ found. found.items
+        ≡ violations_among (cursors_from node.now.tree from (size node.now.tree - from))) }
+{
+    let mut found = Vec::new(alloc);
+    add_all(&mut found, node.nodes_among_rows(from, to))?;
     Ok(found)
 }

@@ -24,7 +24,8 @@ fn first_token_in(node: &SyntaxNode) -> Option<SyntaxToken>
     node.first_child_or_token()?.into_token()
 }
 
-/// The number that names the field of a `FIELD_EXPR` or `RECORD_EXPR_FIELD`, if it is not made of decimal digits alone.
+/// The number that names the field of a `FIELD_EXPR` or `RECORD_EXPR_FIELD`, if it is not made of
+/// decimal digits alone.
 pub fn numeric_name(field: &SyntaxNode) -> Option<TextRange>
     ensures { result ≡ option_map range_of (numeric_name field.now) }
 {
@@ -56,7 +57,8 @@ fn is_and(expr: &SyntaxNode) -> bool
     binary_operator(expr).is_some_and(|operator| operator.kind() == SyntaxKind::AMP2)
 }
 
-// The verdict of one node above a `let`: whether the `let` is part of a condition, or `None` if the nodes above decide.
+// The verdict of one node above a `let`: whether the `let` is part of a condition, or `None` if the
+// nodes above decide.
 fn let_verdict(above: &SyntaxNode) -> Option<bool>
     ensures { result ≡ let_verdict (kind_at above.now) above.now }
 {
@@ -68,7 +70,8 @@ fn let_verdict(above: &SyntaxNode) -> Option<bool>
     }
 }
 
-// Whether the walk up from a node, through parentheses and `&&` only, meets an `if`, a `while` or the guard of a match.
+// Whether the walk up from a node, through parentheses and `&&` only, meets an `if`, a `while` or
+// the guard of a match.
 fn is_in_condition(node: &SyntaxNode) -> bool
     ensures { result ≡ in_condition (drop 1 (ancestors_of node.now)) }
 {
@@ -82,8 +85,9 @@ fn is_in_condition(node: &SyntaxNode) -> bool
     false
 }
 
-/// A `LET_EXPR` that is not part of a condition: of an `if`, a `while` or the guard of a match, through parentheses and
-/// `&&` only. Takes time linear in the number of parentheses and `&&` around it.
+/// A `LET_EXPR` that is not part of a condition: of an `if`, a `while` or the guard of a match,
+/// through parentheses and `&&` only. Takes time linear in the number of parentheses and `&&`
+/// around it.
 pub fn misplaced_let(expr: &SyntaxNode) -> Option<TextRange>
     ensures { result ≡ option_map range_of (misplaced_let expr.now) }
 {

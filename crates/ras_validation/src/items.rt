@@ -80,8 +80,8 @@ fn is_trait_member(item: &SyntaxNode) -> bool
     is_plain_trait_impl(&around)
 }
 
-/// A `VISIBILITY` on a function, a constant or a type of the implementation of a trait, where the implementation has no
-/// attribute.
+/// A `VISIBILITY` on a function, a constant or a type of the implementation of a trait, where the
+/// implementation has no attribute.
 pub fn visibility_in_trait(visibility: &SyntaxNode) -> Option<TextRange>
     ensures { result ≡ option_map range_of (visibility_in_trait visibility.now) }
 {

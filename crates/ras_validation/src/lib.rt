@@ -1,7 +1,8 @@
-//! Validation: the errors in a tree that a grammar does not rule out, each with the message of a diagnostic.
+//! Validation: the errors in a tree that a grammar does not rule out, each with the message of a
+//! diagnostic.
 //!
-//! `violations` lists them for a whole tree, `violations_in` for a subtree; each rule is also a
-//! function, for a node of the kind in its documentation.
+//! `violations` lists them for a whole tree, `violations_in` for a subtree, `violations_among` for
+//! some rows; each rule is also a function, for a node of the kind in its documentation.
 #![tactic(auto)]
 
 pub mod collect;
@@ -15,5 +16,5 @@ pub mod paths;
 pub mod types;
 mod violation;
 
-pub use collect::{violations, violations_in};
+pub use collect::{violations, violations_among, violations_in};
 pub use violation::{Violation, ViolationMessage};

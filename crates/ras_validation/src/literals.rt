@@ -17,7 +17,8 @@ use ras_token_ext::{cut, is_raw, last_place};
 use std::alloc::AllocError;
 use text_size::{TextRange, TextSize};
 
-// A literal whose content is checked: its mode, the offset of the content, and the quote that ends it.
+// A literal whose content is checked: its mode, the offset of the content, and the quote that ends
+// it.
 #[derive(Clone, Copy)]
 pub struct LiteralForm {
     pub mode: Mode,
@@ -25,7 +26,8 @@ pub struct LiteralForm {
     pub quote: u8,
 }
 
-// The form of a token by its kind and text; `None` for a token that is not such a literal, and for a raw string.
+// The form of a token by its kind and text; `None` for a token that is not such a literal, and for
+// a raw string.
 fn form(kind: SyntaxKind, text: &str) -> Option<LiteralForm>
     ensures { result ≡ form_of kind text.now }
 {
@@ -76,7 +78,9 @@ fn add_unit_faults(
     content: &str,
 ) -> Result<(), AllocError>
     requires { start + length content.now < 2 ^ 32 }
-    ensures { OnOk result (found.new.items ≡ found.old.items ++ flat_map (report_fault start) (reports_in mode (chars content.now))) }
+    ensures { OnOk result (found.new.items
+        ≡ found.old.items
+        ++ flat_map (report_fault start) (reports_in mode (chars content.now))) }
 {
     let mut units = Units::new(mode, content);
     while let Some(report) = units.next() {
@@ -111,7 +115,9 @@ fn add_string_faults(
 ) -> Result<(), AllocError>
     requires string { is_string mode ≡ true }
     requires fits { start + length content.now < 2 ^ 32 }
-    ensures { OnOk result (found.new.items ≡ found.old.items ++ flat_map (report_fault start) (reports_in mode (chars content.now))) }
+    ensures { OnOk result (found.new.items
+        ≡ found.old.items
+        ++ flat_map (report_fault start) (reports_in mode (chars content.now))) }
 {
     if is_plain(mode, content) {
         return Ok(());
@@ -127,7 +133,8 @@ fn add_content_faults(
     content: &str,
 ) -> Result<(), AllocError>
     requires { start + length content.now < 2 ^ 32 }
-    ensures { OnOk result (found.new.items ≡ found.old.items ++ content_faults mode start content.now) }
+    ensures { OnOk result
+        (found.new.items ≡ found.old.items ++ content_faults mode start content.now) }
 {
     match mode {
         Mode::Str | Mode::ByteStr | Mode::CStr => add_string_faults(found, mode, start, content),
@@ -154,8 +161,9 @@ fn add_token_faults(found: &mut Vec<Violation>, token: &SyntaxToken) -> Result<(
     add_content_faults(found, form.mode, start, content)
 }
 
-// Appends the faults of the token of a `LITERAL`: for a string, byte string or C string that is not raw each unit with a
-// fatal fault, in order; for a character or a byte the first fault. If memory runs out, some of them may be missing.
+// Appends the faults of the token of a `LITERAL`: for a string, byte string or C string that is not
+// raw each unit with a fatal fault, in order; for a character or a byte the first fault. If memory
+// runs out, some of them may be missing.
 pub(crate) fn add_literal_faults(
     found: &mut Vec<Violation>,
     literal: &SyntaxNode,

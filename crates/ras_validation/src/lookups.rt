@@ -89,10 +89,7 @@ pub fn segment_keyword(segment: &SyntaxNode, kind: SyntaxKind) -> Option<SyntaxT
 pub fn has_path_keyword(segment: &SyntaxNode) -> bool
     ensures { result ≡ has_path_keyword segment.now }
 {
-    let Some(name) = node_child(segment, SyntaxKind::NAME_REF) else {
-        return false;
-    };
-    name.token_among::<PathKeywords>().is_some()
+    segment.has_token_in_child::<PathKeywords>(SyntaxKind::NAME_REF)
 }
 
 /// The path that a segment or a path is in.

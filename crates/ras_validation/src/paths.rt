@@ -8,8 +8,8 @@ use crate::lookups::{node_child, path_around, segment_keyword, starts_path};
 use lossless_tree::{SyntaxKind, SyntaxNode};
 use text_size::TextRange;
 
-/// The `self` of a `PATH_SEGMENT` that is neither at the start nor at the end of its path. A segment that is not in a path
-/// breaks no rule.
+/// The `self` of a `PATH_SEGMENT` that is neither at the start nor at the end of its path. A
+/// segment that is not in a path breaks no rule.
 pub fn self_in_path(segment: &SyntaxNode) -> Option<TextRange>
     ensures { result ≡ option_map range_of (self_in_path segment.now) }
 {
@@ -22,8 +22,8 @@ pub fn self_in_path(segment: &SyntaxNode) -> Option<TextRange>
     Some(keyword.text_range())
 }
 
-// The verdict of one node above a path, where `last` is the last path passed: whether it is under a use prefix, or `None`
-// if the nodes above decide.
+// The verdict of one node above a path, where `last` is the last path passed: whether it is under a
+// use prefix, or `None` if the nodes above decide.
 fn prefix_verdict(last: &SyntaxNode, above: &SyntaxNode) -> Option<bool>
     ensures { result ≡ prefix_verdict last.now (kind_at above.now) above.now }
 {
@@ -37,8 +37,8 @@ fn prefix_verdict(last: &SyntaxNode, above: &SyntaxNode) -> Option<bool>
     }
 }
 
-// Whether the walk up from a path, through paths, use trees and their lists only, meets a use tree whose path is not the
-// last path that it passed.
+// Whether the walk up from a path, through paths, use trees and their lists only, meets a use tree
+// whose path is not the last path that it passed.
 fn is_under_use_prefix(path: SyntaxNode) -> bool
     ensures { result ≡ under_use_prefix path (drop 1 (ancestors_of path)) }
 {
@@ -63,8 +63,9 @@ fn crate_is_inside(segment: &SyntaxNode, path: SyntaxNode) -> bool
     !starts_path(segment, &path) || is_under_use_prefix(path)
 }
 
-/// The `crate` of a `PATH_SEGMENT` that does not begin its path, or is under a prefix of a `use`. A segment that is not in
-/// a path, or has a `self` too, breaks no rule. Takes time linear in the depth of the use trees around it.
+/// The `crate` of a `PATH_SEGMENT` that does not begin its path, or is under a prefix of a `use`. A
+/// segment that is not in a path, or has a `self` too, breaks no rule. Takes time linear in the
+/// depth of the use trees around it.
 pub fn crate_in_path(segment: &SyntaxNode) -> Option<TextRange>
     ensures { result ≡ option_map range_of (crate_in_path segment.now) }
 {

@@ -21,8 +21,8 @@ fn bounded_keyword(ty: &SyntaxNode) -> Option<SyntaxToken>
     }
 }
 
-/// A `dyn` or `impl` type with two bounds or more, where a token precedes its keyword, white space and comments left out,
-/// that is not one of `(`, `<` and `=`.
+/// A `dyn` or `impl` type with two bounds or more, where a token precedes its keyword, white space
+/// and comments left out, that is not one of `(`, `<` and `=`.
 pub fn ambiguous_plus(ty: &SyntaxNode) -> Option<TextRange>
     ensures { result ≡ option_map range_of (ambiguous_plus ty.now) }
 {

@@ -9,8 +9,8 @@ use text_size::TextRange;
 /// Which rule is broken. It prints as the message of a diagnostic.
 #[derive(Clone, Copy, Debug, PartialEq, Eq)]
 pub enum ViolationMessage {
-    /// A unit of a literal has a fatal fault. The range is empty: at the start of the unit, or for a character or a byte at
-    /// the start of the content.
+    /// A unit of a literal has a fatal fault. The range is empty: at the start of the unit, or for
+    /// a character or a byte at the start of the content.
     Escape(EscapeError),
     /// A `const` is followed by `mut`: the range is that of the `mut`.
     MutableConst,
@@ -20,20 +20,22 @@ pub enum ViolationMessage {
     NumericName,
     /// A visibility names a path of one identifier without `in`: the visibility's range.
     VisibilityPath,
-    /// A function, a constant or a type alias of the implementation of a trait has a visibility, and the implementation has no
-    /// attribute: the visibility's range.
+    /// A function, a constant or a type alias of the implementation of a trait has a visibility,
+    /// and the implementation has no attribute: the visibility's range.
     VisibilityInTrait,
     /// A range by `..=` has no end: the range of the whole expression.
     RangeWithoutEnd,
     /// `self` is neither at the start nor at the end of its path: the keyword's range.
     SelfInPath,
-    /// `crate` does not begin its path, or the path is under a prefix of a `use`: the keyword's range.
+    /// `crate` does not begin its path, or the path is under a prefix of a `use`: the keyword's
+    /// range.
     CrateInPath,
-    /// A `dyn` or `impl` type with two bounds or more is the target of a reference or a raw pointer, or the return type of
-    /// a function pointer, and the token before its keyword is not one of `(`, `<` and `=`: the range of the `dyn` or
-    /// `impl` type.
+    /// A `dyn` or `impl` type with two bounds or more is the target of a reference or a raw
+    /// pointer, or the return type of a function pointer, and the token before its keyword is not
+    /// one of `(`, `<` and `=`: the range of the `dyn` or `impl` type.
     AmbiguousPlus,
-    /// A `dyn` or `impl` has a list of bounds in which no bound has a type: the range of the `dyn` or `impl` type.
+    /// A `dyn` or `impl` has a list of bounds in which no bound has a type: the range of the `dyn`
+    /// or `impl` type.
     NoTrait,
     /// A `macro_rules!` has a visibility: the visibility's range.
     MacroRulesVisibility,
@@ -42,7 +44,8 @@ pub enum ViolationMessage {
 }
 
 impl ViolationMessage {
-    /// The message of a diagnostic. The message about a bare carriage return contains one (byte 0D).
+    /// The message of a diagnostic. The message about a bare carriage return contains one (byte
+    /// 0D).
     pub fn text(self) -> &'static str
         ensures { result.now ≡ text_of self }
     {

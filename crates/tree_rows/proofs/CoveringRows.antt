@@ -188,7 +188,8 @@ path_by (suc steps) whole n m asked h le lt close (inr w) =
           ∙ to_holder whole v.q v.w.position m asked v.in_range (child_of_parent whole m v) (is_held asked (range_at whole m) w)
     ]
 
--- where the search for a row that holds the range begins: the last row in the subtree of row n that starts before the bound
+-- where the search for a row that holds the range begins: the last row in the subtree of row n that
+-- starts before the bound
 pub record Begun (whole : Tree) (n x e bound : ℕ) (asked : Bounds) : Type 0 where
   pub is_row : n < size whole
   pub is_end : e ≡ (row_at whole n).end

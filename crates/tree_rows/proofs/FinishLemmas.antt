@@ -195,7 +195,8 @@ module _ (steps : List BuilderEvent) (s : List ℕ) (w : Ready steps s) (kept : 
   pub node_built : BuildsNode (events_from steps s) (tree_of_rows kept s)
   node_built = subst (BuildsNode (events_from steps s)) (sym tree_built) (subst (λ es. Builds es (cons (node w.kind w.children) nil)) (sym w.events_are) (builds-events_of (cons (node w.kind w.children) nil)), tt)
 
--- rows that are those of the steps' forest, over a copy of the text, represent the tree that the steps build
+-- rows that are those of the steps' forest, over a copy of the text, represent the tree that the
+-- steps build
 pub built_over : (steps : List BuilderEvent) (s copy : List ℕ) (kept : Columns) → IsOneTree steps s → copy ≡ s → length s < 2 ^ 32
     → ((f : Forest) → steps ≡ map step_of (events_of f) → kept ≡ columns_of f)
     → Represents kept copy (tree_of_rows kept copy) × BuildsNode (events_from steps s) (tree_of_rows kept copy)

@@ -1,5 +1,5 @@
 -- The flat rows of a node are those of the table, with the numbers of its own row taken away.
-use Rattle.std.proofs.Common.{◌≡◌, ℕ, suc, inl, inr, ◌+◌, ◌-◌, ◌<◌, ◌≤◌, List, ◌∷◌, ◌++◌, length, get_or, map, refl, sym, ap, ◌∙◌, arith, append_assoc, append-nil, length-append, []}
+use Rattle.std.proofs.Common.{◌≡◌, ℕ, suc, inl, inr, ◌+◌, ◌-◌, ◌<◌, ◌≤◌, List, ◌∷◌, ◌++◌, length, get_or, map, refl, sym, ap, subst, ◌∙◌, arith, append_assoc, append-nil, length-append, []}
 use Rattle.std.specs.Prelude.{set, slice_set, take, drop}
 use Rattle.std.proofs.Common.{false}
 use Rattle.std.proofs.lemmas.List.{map-append, length-map, length-drop, length-take-le, get_or-map, get_or-append-add, get_or_append_left, take-append-drop, take_more, take_more_set, drop-drop, drop-set-lt}
@@ -16,6 +16,7 @@ use Rattle.tree_rows.proofs.Hung.{Hung, hung, hung_of}
 use Rattle.tree_rows.proofs.At.{length-hung_of, hung-At}
 use Rattle.tree_model.proofs.At.{cong₂, below_or_after, forest_size-cons}
 use Rattle.tree_model.proofs.EditLemmas.{within_rows}
+use Rattle.tree_model.proofs.StepLemmas.{root_tree}
 use Rattle.tree_model.proofs.TableLemmas.{at_row, up_at}
 use Rattle.tree_rows.proofs.TableLemmas.{row_at-is, row_of-start}
 use Rattle.tree_rows.proofs.StepLemmas.{parent_of_row, end_of_row, hangs}
@@ -154,6 +155,30 @@ flat_made whole root n r s k p q is_r is_s is_k is_q is_p =
     same_flat k (flat_kind (row_at whole n).kind (row_at whole n).is_token) (r.start - s.start) ((row_at whole n).start - (row_at whole root).start)
     (r.end - root) ((row_at whole n).end - root) q (parent_at whole n - root)
     (is_k ∙ ap (λ r. flat_kind r.kind r.is_token) is_r) (cong₂ (λ x y. x.start - y.start) is_r is_s) (ap (λ r. r.end - root) is_r) (is_q ∙ ap (λ p. p - root) is_p)
+
+-- ---- the whole tree, from whose numbers nothing is taken away
+
+root_start : (whole : Tree) → start_at whole 0 ≡ 0
+root_start (token k x) = refl
+root_start (node k c) = refl
+
+pub whole_row-seen : (whole : Tree) (n : ℕ) (r : Row) (k p : ℕ) → n < size whole → IsNode whole → r ≡ row_at whole n → k ≡ flat_kind r.kind r.is_token → p ≡ parent_at whole n
+    → flat_by k r.start r.end p ≡ flat_row_at whole n
+whole_row-seen whole n r k p h is_node is_r is_k is_p =
+    let root : tree_at whole 0 ≡ whole = root_tree whole in
+    let seen : flat_seen whole 0 n ≡ flat_row_at (tree_at whole 0) (n - 0) =
+    flat_row-seen whole 0 n (omega (arith, h)) (subst IsNode (sym root) is_node) (omega arith) (omega (arith, h, ap size root)) in
+    same_flat k (flat_kind (row_at whole n).kind (row_at whole n).is_token) r.start ((row_at whole n).start - (row_at whole 0).start)
+    r.end ((row_at whole n).end - 0) p (parent_at whole n - 0)
+    (is_k ∙ ap (λ r. flat_kind r.kind r.is_token) is_r) (omega (arith, ap (λ r. r.start) is_r, row_starts whole 0 (omega (arith, h)), root_start whole))
+    (omega (arith, ap (λ r. r.end) is_r)) (omega (arith, is_p))
+    ∙ seen ∙ cong₂ flat_row_at root (let e : n - 0 ≡ n = omega arith in e)
+
+pub whole_end : (whole : Tree) (n : ℕ) → n < size whole → (row_at whole n).end ≤ size whole
+whole_end whole n h = omega (arith, end_of_row whole n h, within_rows whole n h)
+
+pub whole_parent : (whole : Tree) (n : ℕ) → n < size whole → parent_at whole n < size whole
+whole_parent whole n h = omega (arith, parent_is_earlier whole n h, h)
 
 -- a list whose front is written over, one more value at a time
 pub filled_more : {X : Type 0} → (xs ys : List X) (out : List X) (k : ℕ) (x d : X) → out ≡ take k xs ++ drop k ys → k < length xs → k < length ys → x ≡ get_or xs k d

@@ -1,5 +1,5 @@
--- Rows that hang: each beside the number of the row below which its place hangs in the nested tree. The definition of a parent
--- answers that number (`Parents`).
+-- Rows that hang: each beside the number of the row below which its place hangs in the nested tree.
+-- The definition of a parent answers that number (`Parents`).
 use Rattle.std.proofs.Common.{◌≡◌, ℕ, suc, ◌+◌, List, [], ◌∷◌, ◌++◌, length, map, refl, ap, ◌∙◌}
 use Rattle.std.proofs.lemmas.List.{map-append}
 use Rattle.tree_rows.specs.declared.rows.Row.{Row}
@@ -21,7 +21,8 @@ up_in h = h.up
 abbrev pub hung : Tree → ℕ → ℕ → ℕ → Hung
 hung t n b up = record { row = row_of t n b; up = up }
 
--- the rows of a forest whose first row is number n, whose text starts at byte b, and whose trees hang below row up
+-- the rows of a forest whose first row is number n, whose text starts at byte b, and whose trees
+-- hang below row up
 abbrev pub hung_of : Forest → ℕ → ℕ → ℕ → List Hung
 hung_of nil n b up = []
 hung_of (cons (token k t) r) n b up = hung (token k t) n b up ∷ hung_of r (suc n) (b + length t) up

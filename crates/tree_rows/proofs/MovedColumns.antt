@@ -1,4 +1,5 @@
--- Rows and their parents, joined, cut out and moved: what is done to both columns is done to the rows as they hang.
+-- Rows and their parents, joined, cut out and moved: what is done to both columns is done to the
+-- rows as they hang.
 use Rattle.std.proofs.Common.{◌≡◌, ℕ, ◌+◌, ◌-◌, ◌<◌, ◌≤◌, List, [], ◌∷◌, ◌++◌, length, map, get_or, take, drop, refl, sym, ap, ◌∙◌, arith, append_assoc, append-nil}
 use Rattle.std.proofs.lemmas.List.{map-append, take-map, drop-map, take_more, get_or-drop, length-drop}
 use Rattle.tree_rows.specs.declared.shift.Shift.{Shift}

@@ -1,5 +1,5 @@
--- The rows of a subtree are together, and are its own rows moved; the rows of a tree with a piece replaced. They are seen as they
--- hang, each beside its parent's number.
+-- The rows of a subtree are together, and are its own rows moved; the rows of a tree with a piece
+-- replaced. They are seen as they hang, each beside its parent's number.
 use Rattle.std.proofs.Common.{◌≡◌, ℕ, suc, ◌+◌, ◌-◌, ◌<◌, ◌≤◌, List, [], ◌∷◌, ◌++◌, length, map, refl, sym, ap, ◌∙◌, arith, append_assoc, append-nil, length-append}
 use Rattle.std.proofs.Common.{Bool, true, false}
 use Rattle.std.proofs.lemmas.Bool.Decides.{nat_tests}

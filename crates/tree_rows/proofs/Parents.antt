@@ -31,7 +31,8 @@ none_nearest rows n (suc m) ends =
     if_not_above n (get_or rows m no_row).end m (nearest_reaching rows n m) (ends m (omega arith))
     ∙ none_nearest rows n m (λ k before. ends k (omega (arith, before)))
 
--- the rows between a place and that below which it hangs end before it; at the top all earlier ones do
+-- the rows between a place and that below which it hangs end before it; at the top all earlier ones
+-- do
 pub between_ends : {f : Forest} {n : ℕ} {p : Place} {t : Tree} {b : ℕ} (a : At f n p t b) (w : Inner a) (k : ℕ) → w.parent_row < k → k < n → (get_or (rows_of f 0 0) k no_row).end ≤ n
 between_ends {t} a w k later before =
     let m : ℕ = k - suc w.parent_row in

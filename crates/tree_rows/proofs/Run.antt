@@ -1,4 +1,5 @@
--- How rows come from steps, one after another; the steps of a forest give its rows and their parents.
+-- How rows come from steps, one after another; the steps of a forest give its rows and their
+-- parents.
 use Rattle.std.proofs.Common.{◌≡◌, ℕ, suc, ◌+◌, ◌<◌, ◌≤◌, List, ◌∷◌, ◌++◌, length, get_or, map, refl, sym, ap, ◌∙◌, arith, append_assoc, append-nil, length-append, true, false, drop, []}
 use Rattle.std.specs.Prelude.{cond, nat_lt, Option, filter_map}
 use Rattle.std.proofs.Math.ListN.{set, get_or-map, drop_of_length-le}

@@ -1,4 +1,5 @@
--- The starts of rows: they don't decrease with the row number, and a subtree's rows lie within its text.
+-- The starts of rows: they don't decrease with the row number, and a subtree's rows lie within its
+-- text.
 use Rattle.std.proofs.Common.{◌≡◌, inl, inr, ℕ, suc, ◌+◌, ◌<◌, ◌≤◌, ◌∷◌, ◌++◌, refl, sym, ◌∙◌, arith, []}
 use Rattle.tree_rows.specs.RowSearch.{SplitsAt, IsNarrowed}
 use Rattle.tree_rows.specs.declared.table.narrow.Stretch.{Stretch}

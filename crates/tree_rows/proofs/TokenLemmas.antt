@@ -1,4 +1,5 @@
--- The first and the last token of a run of rows, the list of all tokens, and the nearest that is no trivia.
+-- The first and the last token of a run of rows, the list of all tokens, and the nearest that is no
+-- trivia.
 use Rattle.std.proofs.Common.{◌≡◌, ℕ, zero, suc, ◌+◌, ◌-◌, ◌<◌, ◌≤◌, inl, inr, List, [], ◌∷◌, ◌++◌, map, reverse, cond, Bool, true, false, ◌&&◌, not, refl, sym, ap, subst, ◌∙◌, arith, append_assoc}
 use Rattle.std.specs.Prelude.{Option, None, Some, option_map}
 use Rattle.std.specs.List.{range_with_len, filter, find}

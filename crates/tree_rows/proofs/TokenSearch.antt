@@ -1,4 +1,5 @@
--- The tokens at an offset, by rows: at most one that starts before it, and at most one that starts at it.
+-- The tokens at an offset, by rows: at most one that starts before it, and at most one that starts
+-- at it.
 use Rattle.std.proofs.Common.{◌≡◌, ℕ, suc, ◌+◌, ◌-◌, ◌<◌, ◌≤◌, ◌⊎◌, inl, inr, ◌++◌, map, refl, sym, ap, ◌∙◌, arith, append-nil, Bool, false, []}
 use Rattle.std.specs.Prelude.{Option, Some, None, IfSome, ◌&&◌}
 use Rattle.std.specs.List.{filter}
@@ -17,7 +18,8 @@ use Rattle.tree_rows.proofs.WalkLemmas.{descendants-cursors_from}
 use Rattle.tree_rows.proofs.Starts.{Nested, nested, behind_starts, first_starts}
 use Rattle.tree_model.proofs.TokenSearch.{LastPasses, cursors_from-append, last_passes, no_pass, none_pass, one_row_with_text, pass, passes, token_has_one_row}
 
--- the rows `from..to` of a subtree start at or before the offset, and those after them do not reach it
+-- the rows `from..to` of a subtree start at or before the offset, and those after them do not reach
+-- it
 record Window (whole : Tree) (n e offset from to reach : ℕ) : Type 0 where
   is_row : n < size whole
   is_end : e ≡ (row_at whole n).end

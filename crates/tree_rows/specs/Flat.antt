@@ -10,7 +10,8 @@ abbrev pub flat_kind : SyntaxKind → Bool → ℕ
 flat_kind k false = kind_raw k
 flat_kind k true = kind_raw k + 2 ^ 31
 
--- the rows of a forest in preorder: its first row is number n, its text starts at byte b, and its trees have their parent in row up
+-- the rows of a forest in preorder: its first row is number n, its text starts at byte b, and its
+-- trees have their parent in row up
 abbrev pub flat_forest : Forest → ℕ → ℕ → ℕ → List FlatRow
 flat_forest nil n b up = []
 flat_forest (cons (token k t) r) n b up =

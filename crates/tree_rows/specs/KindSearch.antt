@@ -1,10 +1,11 @@
 -- What a search for a node or a token of some kinds finds in a list of cursors.
-use Rattle.std.specs.Prelude.{Bool, ◌&&◌, List, [], ◌∷◌, Option, if◌then◌else◌}
+use Rattle.std.specs.Prelude.{Bool, ◌&&◌, List, [], ◌∷◌, Option, is_some, if◌then◌else◌}
 use Rattle.std.specs.List.{filter, find}
+use Rattle.std.specs.Option.{option_and_then}
 use Rattle.syntax_kind.specs.declared.syntax_kind.SyntaxKind.{SyntaxKind}
 use Rattle.syntax_kind.specs.Kinds.{is_same_kind}
 use Rattle.tree_model.specs.Tree.{kind_of}
-use Rattle.tree_model.specs.Cursor.{Cursor, focus, at_node, at_token}
+use Rattle.tree_model.specs.Cursor.{Cursor, focus, at_node, at_token, children_of}
 
 -- the kind of the node or token is one of the set
 abbrev pub is_among : (SyntaxKind → Bool) → Cursor → Bool
@@ -27,6 +28,10 @@ first_node_among kinds l = find (is_among kinds) (filter at_node l)
 
 abbrev pub first_token_among : (SyntaxKind → Bool) → List Cursor → Option Cursor
 first_token_among kinds l = find (is_among kinds) (filter at_token l)
+
+-- there is such a node, and it has a child token with a kind of the set
+abbrev pub has_token_in : Option Cursor → (SyntaxKind → Bool) → Bool
+has_token_in parent kinds = is_some (option_and_then (λ c. first_token_among kinds (children_of c)) parent)
 
 -- what comes after the first item of a list that passes a test; nothing if none does
 abbrev pub after_first : {A : Type 0} → (A → Bool) → List A → List A

@@ -46,8 +46,8 @@ rows_between tree a b = cut_of a b (columns_of (cons tree nil))
 abbrev pub shift_from : ℕ → ℕ → ℕ → ℕ → Shift
 shift_from n m b d = record { from_row = n; to_row = m; from_byte = b; to_byte = d }
 
--- the rows of the subtree at row n, moved so that the first has row number m, starts at byte b and has the parent up; those
--- below it keep their parents, which move with them
+-- the rows of the subtree at row n, moved so that the first has row number m, starts at byte b and
+-- has the parent up; those below it keep their parents, which move with them
 abbrev pub moved_subtree : Tree → ℕ → ℕ → ℕ → ℕ → Columns
 moved_subtree tree n m b up = record {
   rows = rows_of (cons (tree_at tree n) nil) m b;

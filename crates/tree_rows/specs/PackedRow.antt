@@ -1,5 +1,5 @@
--- Rows as stored, in 16 bytes each, beside their parents: the end of a token has 2^63 added. No contract outside this crate
--- names them.
+-- Rows as stored, in 16 bytes each, beside their parents: the end of a token has 2^63 added. No
+-- contract outside this crate names them.
 use Rattle.std.specs.Prelude.{ℕ, ◌-◌, ◌^◌, Bool, true, false, List, map, nat_lt, if◌then◌else◌, refl}
 use Rattle.std.specs.Coded.{Coded, code_by, coded_ℕ, coded_bool, coded_list, coded×}
 use Rattle.syntax_kind.specs.declared.syntax_kind.SyntaxKind.{SyntaxKind}

@@ -1,4 +1,5 @@
--- What a search of rows by the offset of their start finds. No contract outside this crate names them.
+-- What a search of rows by the offset of their start finds. No contract outside this crate names
+-- them.
 use Rattle.std.specs.Prelude.{◌≡◌, ℕ, suc, ◌<◌, ◌≤◌, Option, Some, None, length, slice_index_or, false}
 use Rattle.text_size.specs.TextRange.{Bounds}
 use Rattle.tree_model.specs.Tree.{Tree, IsNode, IsToken, forest_of_children}
@@ -7,14 +8,16 @@ use Rattle.tree_rows.specs.declared.table.narrow.Stretch.{Stretch}
 use Rattle.tree_model.specs.Cursor.{cursor_at}
 use Rattle.tree_model.specs.Covering.{child_ranges, holds, covering_of}
 
--- the rows from `from` on that start before the offset end at row i, and from there to `to` each starts at it or after it
+-- the rows from `from` on that start before the offset end at row i, and from there to `to` each
+-- starts at it or after it
 pub record SplitsAt (tree : Tree) (from to offset i : ℕ) : Type 0 where
   pub begun : from ≤ i
   pub within : i ≤ to
   pub before : (k : ℕ) → from ≤ k → k < i → start_at tree k < offset
   pub behind : (k : ℕ) → i ≤ k → k < to → offset ≤ start_at tree k
 
--- the first row that starts at the offset or after it is in the stretch near, or right after it, if it is so with whole
+-- the first row that starts at the offset or after it is in the stretch near, or right after it, if
+-- it is so with whole
 pub record IsNarrowed (tree : Tree) (whole : Stretch) (offset : ℕ) (near : Stretch) : Type 0 where
   pub begun : whole.low ≤ near.low
   pub ordered : near.low ≤ near.high

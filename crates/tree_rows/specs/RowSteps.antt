@@ -25,7 +25,8 @@ pub record IsNearestOver (tree : Tree) (n q : ℕ) : Type 0 where
   pub reaches : n < (row_at tree q).end
   pub between : (k : ℕ) → q < k → k < n → (row_at tree k).end ≤ n
 
--- each row but the root's has a nearest earlier row whose subtree reaches past it; that is its parent, and no other row is
+-- each row but the root's has a nearest earlier row whose subtree reaches past it; that is its
+-- parent, and no other row is
 abbrev pub ParentsAreNearest : Type 0
 ParentsAreNearest = (tree : Tree) (n q : ℕ) → 0 < n → n < size tree → (parent_at tree n ≡ q) ↔ IsNearestOver tree n q
 

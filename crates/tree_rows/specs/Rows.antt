@@ -1,4 +1,5 @@
--- The rows of a tree: one for each place in preorder. No public contract outside this crate names them.
+-- The rows of a tree: one for each place in preorder. No public contract outside this crate names
+-- them.
 use Rattle.std.specs.Prelude.{◌≡◌, ℕ, zero, suc, ◌+◌, ◌-◌, List, ◌∷◌, ◌++◌, length, map, take, drop, true, false, cond, ◌<◌, ◌^◌, nat_lt, if◌then◌else◌, get_or, []}
 use Rattle.std.specs.List.{range_with_len}
 use Rattle.tree_rows.specs.declared.rows.Row.{Row}
@@ -28,8 +29,8 @@ abbrev pub nearest_reaching : List Row → ℕ → ℕ → ℕ
 nearest_reaching rows n zero = 0
 nearest_reaching rows n (suc m) = if nat_lt n (get_or rows m no_row).end then m else nearest_reaching rows n m
 
--- the parent of row n is the nearest earlier row whose subtree reaches past it; for the root, which has none, it is 0,
--- itself
+-- the parent of row n is the nearest earlier row whose subtree reaches past it; for the root, which
+-- has none, it is 0, itself
 abbrev pub parent_of : List Row → ℕ → ℕ
 parent_of rows n = nearest_reaching rows n n
 
@@ -89,7 +90,8 @@ forest_of_rows n (r ∷ rs) s =
 abbrev pub tree_of_rows : Columns → List ℕ → Tree
 tree_of_rows kept s = first_tree (forest_of_rows 0 kept.rows s)
 
--- the rows and the text of a table show the tree, whose root is a node, and the column beside the rows holds each one's parent
+-- the rows and the text of a table show the tree, whose root is a node, and the column beside the
+-- rows holds each one's parent
 pub record Represents (kept : Columns) (s : List ℕ) (tree : Tree) : Type 0 where
   pub rows_are : kept.rows ≡ rows_of (cons tree nil) 0 0
   pub parents_are : kept.parents ≡ parents_of kept.rows

@@ -7,7 +7,8 @@ use Rattle.tree_rows.specs.Rows.{row_at, parent_at}
 use Rattle.tree_model.specs.Tree.{Tree, start, size}
 use Rattle.tree_model.specs.Cursor.{Cursor, cursor_at, level_below, siblings_in, walk_of}
 
--- the row n and its later siblings, where their parent's rows end before stop; nothing is left from there on
+-- the row n and its later siblings, where their parent's rows end before stop; nothing is left from
+-- there on
 abbrev pub siblings_left : Tree → ℕ → ℕ → List Cursor
 siblings_left tree n stop = if nat_lt n stop then siblings_in Next (cursor_at tree n) else []
 
@@ -29,13 +30,15 @@ open_count tree start (Some o) = length (place_at tree o) + 1 - length (place_at
 abbrev pub walk_left : Tree → ℕ → ℕ → Option ℕ → List (Bool × Cursor)
 walk_left tree start next o = drop ((next - start) + (next - start) - open_count tree start o) (walk_of (cursor_at tree start))
 
--- the innermost open row holds the next one and all between have ended; where none is open, the walk has not begun or is over
+-- the innermost open row holds the next one and all between have ended; where none is open, the
+-- walk has not begun or is over
 abbrev pub OpenAt : Tree → ℕ → ℕ → Option ℕ → Type 0
 OpenAt tree start next None = (next ≡ start) ⊎ (next ≡ start + size (tree_at tree start))
 OpenAt tree start next (Some o) =
     (start ≤ o) × (o < next) × (next ≤ o + size (tree_at tree o)) × ((k : ℕ) → o < k → k < next → (row_at tree k).end ≤ next)
 
--- a step that enters a row opens it, at the depth of the rows that were open before; a step that leaves a row closes it
+-- a step that enters a row opens it, at the depth of the rows that were open before; a step that
+-- leaves a row closes it
 abbrev pub MovesLevel : Tree → ℕ → Option ℕ → Bool → ℕ → Option ℕ → Type 0
 MovesLevel tree start o enters row after =
     (enters ≡ true → (open_count tree start after ≡ open_count tree start o + 1) × (level_below (cursor_at tree start) (cursor_at tree row) ≡ open_count tree start o))

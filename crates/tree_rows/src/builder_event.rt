@@ -14,7 +14,8 @@ pub enum BuilderEvent {
     Exit,
 }
 
-/// A step that may be an event. Rows are built from a list of such steps directly, without a list of events.
+/// A step that may be an event. Rows are built from a list of such steps directly, without a list
+/// of events.
 pub trait TreeStep {
     ghost use Rattle.tree_rows.specs.declared.builder_event.BuilderEvent.{BuilderEvent};
 

@@ -79,7 +79,8 @@ fn row_count<S: TreeStep>(steps: &[S]) -> usize
 /// The rows of the steps of a forest, and their parents.
 pub fn build_rows<S: TreeStep>(alloc: Global, steps: &[S]) -> Result<Kept, AllocError>
     requires { text_len (filter_map S.step_event steps.now) < 2 ^ 32 }
-    ensures { IfOk result (λ rows. (f : Forest) → filter_map S.step_event steps.now ≡ map step_of (events_of f) → rows ≡ columns_of f) }
+    ensures { IfOk result (λ rows. (f : Forest)
+        → filter_map S.step_event steps.now ≡ map step_of (events_of f) → rows ≡ columns_of f) }
 {
     let mut rows = Rows::with_capacity(alloc, row_count(steps))?;
     let mut innermost: usize = 0;
@@ -109,7 +110,8 @@ pub fn build_rows<S: TreeStep>(alloc: Global, steps: &[S]) -> Result<Kept, Alloc
                 at += len as u32;
             }
             Some(BuilderEvent::Exit) => {
-                // No prefix of the steps has more exits than enters, so an exit always finds its node.
+                // No prefix of the steps has more exits than enters, so an exit always finds its
+                // node.
                 let row = innermost;
                 if row < rows.len() {
                     let end = rows.len();

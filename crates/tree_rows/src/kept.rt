@@ -89,8 +89,8 @@ impl Kept {
         self.rows.as_ref().parent(n)
     }
 
-    /// The same rows, shared, with the starts of all rows after row `n` (at least `from`) shifted by `to - from`. Returns
-    /// `None` if the starts after another row are shifted already.
+    /// The same rows, shared, with the starts of all rows after row `n` (at least `from`) shifted
+    /// by `to - from`. Returns `None` if the starts after another row are shifted already.
     pub(crate) fn restarted(&self, n: usize, from: usize, to: usize) -> Option<Kept>
         requires is_row { n < length self.now.rows }
         requires fits { StartsFit n from to self.now }

@@ -82,7 +82,8 @@ impl PackedRow {
     }
 }
 
-/// A list of rows, and beside it the number of each one's parent, for the calls that go up. A clause sees both columns.
+/// A list of rows, and beside it the number of each one's parent, for the calls that go up. A
+/// clause sees both columns.
 #[derive(Drop)]
 pub struct Rows {
     packed: Vec<PackedRow>,
@@ -160,7 +161,11 @@ impl Rows {
     pub(crate) fn set_end(&mut self, n: usize, end: usize)
         requires is_row { n < length self.old.rows }
         requires fits { end < 2 ^ 63 }
-        ensures { self.new ≡ record self.old { rows = set self.old.rows n (record (get_or self.old.rows n no_row) { end = end }) } }
+        ensures { self.new
+            ≡ record self.old {
+              rows
+                  = set self.old.rows n (record (get_or self.old.rows n no_row) { end = end });
+            } }
     {
         self.packed[n].set_end(end);
     }
@@ -191,8 +196,11 @@ impl Rows {
     /// Moves the rows from `n` on.
     pub(crate) fn move_from(&mut self, n: usize, by: Shift)
         requires is_row { n ≤ length self.old.rows }
-        requires rows_fit { (k : ℕ) → n ≤ k → k < length self.old.rows → (get_or self.old.rows k no_row).end < 2 ^ 63 → MoveFits by (get_or self.old.rows k no_row) }
-        requires parents_fit { (k : ℕ) → n ≤ k → k < length self.old.rows → get_or self.old.parents k 0 < 2 ^ 64 → NumberFits by (get_or self.old.parents k 0) }
+        requires rows_fit { (k : ℕ) → n ≤ k → k < length self.old.rows
+            → (get_or self.old.rows k no_row).end < 2 ^ 63
+            → MoveFits by (get_or self.old.rows k no_row) }
+        requires parents_fit { (k : ℕ) → n ≤ k → k < length self.old.rows
+            → get_or self.old.parents k 0 < 2 ^ 64 → NumberFits by (get_or self.old.parents k 0) }
         ensures { self.new ≡ moved_from n by self.old }
     {
         by.rows(&mut self.packed[n..]);

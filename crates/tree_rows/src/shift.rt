@@ -6,8 +6,8 @@ ghost use Rattle.tree_rows.specs.MovedRows.{moved_number, moved_row, MoveFits, N
 
 use crate::rows::{PackedRow, Row};
 
-/// How rows move: row number `from_row + k` becomes `to_row + k`, and byte `from_byte + k` becomes `to_byte + k`. Row
-/// numbers before `from_row` stay, such as those of the nodes around a piece.
+/// How rows move: row number `from_row + k` becomes `to_row + k`, and byte `from_byte + k` becomes
+/// `to_byte + k`. Row numbers before `from_row` stay, such as those of the nodes around a piece.
 #[derive(Clone, Copy)]
 pub struct Shift {
     pub from_row: usize,
@@ -43,7 +43,9 @@ impl Shift {
 
     /// Moves each of the rows.
     pub(crate) fn rows(self, rows: &mut [PackedRow])
-        requires { (k : ℕ) → k < length rows.old → (get_or (map unpacked rows.old) k no_row).end < 2 ^ 63 → MoveFits self (get_or (map unpacked rows.old) k no_row) }
+        requires { (k : ℕ) → k < length rows.old
+            → (get_or (map unpacked rows.old) k no_row).end < 2 ^ 63
+            → MoveFits self (get_or (map unpacked rows.old) k no_row) }
         ensures { map unpacked rows.new ≡ map (moved_row self) (map unpacked rows.old) }
     {
         for row in rows.iter_mut() {
@@ -53,7 +55,8 @@ impl Shift {
 
     /// Moves each of the row numbers.
     pub(crate) fn numbers(self, numbers: &mut [usize])
-        requires { (k : ℕ) → k < length numbers.old → get_or numbers.old k 0 < 2 ^ 64 → NumberFits self (get_or numbers.old k 0) }
+        requires { (k : ℕ) → k < length numbers.old → get_or numbers.old k 0 < 2 ^ 64
+            → NumberFits self (get_or numbers.old k 0) }
         ensures { numbers.new ≡ map (moved_number self) numbers.old }
     {
         for number in numbers.iter_mut() {

@@ -41,7 +41,8 @@ impl Model for Table {
 
     ghost view = { λ a. tree_of_rows a.rows (string_bytes a.text) };
 
-    ghost invariant = { λ a. Represents a.rows (string_bytes a.text) (tree_of_rows a.rows (string_bytes a.text)) };
+    ghost invariant = { λ a.
+        Represents a.rows (string_bytes a.text) (tree_of_rows a.rows (string_bytes a.text)) };
 }
 
 impl Table {
@@ -60,7 +61,8 @@ impl Table {
         self.rows.len()
     }
 
-    /// The text of each token is UTF-8. The contract is the law: the function reads the number of rows, and that opens the invariant.
+    /// The text of each token is UTF-8. The contract is the law: the function reads the number of
+    /// rows, and that opens the invariant.
     #[inline(always)]
     pub fn texts_are_utf8(&self)
         ensures { TextsAreUtf8 (cons self.now nil) }
@@ -193,7 +195,8 @@ impl Table {
     /// The row of the first child of row `n`, or `None` if it has none.
     pub fn first_child_row(&self, n: usize) -> Option<usize>
         requires { n < size self.now }
-        ensures place { option_map (place_at self.now) result ≡ first_child_place self.now (place_at self.now n) }
+        ensures place { option_map (place_at self.now) result
+            ≡ first_child_place self.now (place_at self.now n) }
         ensures in_range { IfSome result (λ q. q < size self.now) }
     {
         let end = self.row(n).end;
@@ -204,7 +207,8 @@ impl Table {
     /// The row of the next sibling of row `n`; `None` for a last child and for the root.
     pub fn next_sibling_row(&self, n: usize) -> Option<usize>
         requires { n < size self.now }
-        ensures place { option_map (place_at self.now) result ≡ next_sibling_place self.now (place_at self.now n) }
+        ensures place { option_map (place_at self.now) result
+            ≡ next_sibling_place self.now (place_at self.now n) }
         ensures in_range { IfSome result (λ q. q < size self.now) }
     {
         let after = self.row(n).end;

@@ -12,7 +12,8 @@ pub fn expr_let(pat: &ast::Pat, expr: &ast::Expr) -> Result<ast::LetExpr, MakeEr
     ])
 }
 
-/// An `if`, with its `else` if there is one: `if a { b } else { c }`. A record as the condition gets a pair.
+/// An `if`, with its `else` if there is one: `if a { b } else { c }`. A record as the condition
+/// gets a pair.
 pub fn expr_if(condition: &ast::Expr, then_branch: &ast::BlockExpr, else_branch: Option<&ast::ElseBranch>) -> Result<ast::IfExpr, MakeError> {
     let mut form = Pieces::default();
     form.text("if ");

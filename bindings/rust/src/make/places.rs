@@ -8,7 +8,8 @@ pub enum Place {
     Stmt,
     /// A whole file, or its one item. Its text stands in `…`.
     File,
-    /// An expression, but for a `let`: the value of a constant. Also the name or the block that it is. Its text stands in `const C: () = …;`.
+    /// An expression, but for a `let`: the value of a constant. Also the name or the block that it
+    /// is. Its text stands in `const C: () = …;`.
     Expr,
     /// A condition: a `let` too. Its text stands in `fn f() { while … {} }`.
     Condition,
@@ -50,7 +51,8 @@ pub enum Place {
     TupleField,
     /// A variant of an enum. Its text stands in `enum E { … }`.
     Variant,
-    /// What stands before a function's `fn`: an attribute, a visibility, an ABI. Its text stands in `… fn f() {}`.
+    /// What stands before a function's `fn`: an attribute, a visibility, an ABI. Its text stands in
+    /// `… fn f() {}`.
     Head,
     /// The contents of an attribute. Its text stands in `#[…] fn f() {}`.
     Meta,

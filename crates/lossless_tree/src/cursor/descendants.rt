@@ -1,9 +1,9 @@
 //! Every node and token of a subtree, and every node, in preorder.
-ghost use Rattle.std.specs.Prelude.{◌≡◌, map};
+ghost use Rattle.std.specs.Prelude.{◌≡◌, ◌-◌, map};
 ghost use Rattle.std.specs.List.{filter, find};
 ghost use Rattle.std.specs.Iterator.{YieldsFirst, item_count};
-ghost use Rattle.tree_model.specs.Rows.{IsRow};
-ghost use Rattle.tree_model.specs.Cursor.{descendants_of, cursor_at, at_node};
+ghost use Rattle.tree_model.specs.Rows.{IsRow, EndsWithin};
+ghost use Rattle.tree_model.specs.Cursor.{descendants_of, cursor_at, cursors_from, at_node};
 ghost use Rattle.tree_rows.specs.KindSearch.{is_among, first_node_among, after_first};
 ghost use Rattle.lossless_tree.specs.Element.{element_of};
 
@@ -13,7 +13,8 @@ use shared_pointer::Shared;
 use std::marker::Model;
 use tree_rows::{KindSet, Table};
 
-/// The nodes and tokens of a subtree in preorder, itself first. A clause sees the cursors that are left.
+/// The nodes and tokens of a subtree in preorder, itself first. A clause sees the cursors that are
+/// left.
 #[derive(Clone, Drop)]
 pub struct DescendantsWithTokens {
     table: Shared<Table>,
@@ -49,11 +50,24 @@ impl DescendantsWithTokens {
         }
     }
 
+    // The rows from one on, up to another.
+    pub(crate) fn among(table: Shared<Table>, from: usize, to: usize) -> Self
+        requires { EndsWithin table.value to }
+        ensures { result ≡ cursors_from table.value from (to - from) }
+    {
+        DescendantsWithTokens {
+            table,
+            next: from,
+            end: to,
+        }
+    }
+
     // The next node with a kind of the set; what comes before it is passed, and all where there is
     // none.
     fn next_node_among<K: KindSet>(&mut self) -> Option<SyntaxNode>
         ensures found { result ≡ first_node_among K.kinds self.old }
-        ensures left { filter at_node self.new ≡ after_first (is_among K.kinds) (filter at_node self.old) }
+        ensures left { filter at_node self.new
+            ≡ after_first (is_among K.kinds) (filter at_node self.old) }
     {
         let end = self.end;
         match self.table.first_node_among::<K>(self.next, end) {
@@ -116,8 +130,8 @@ impl Descendants {
     /// The next node with a kind of the set; the nodes before it are passed. `None` if there is
     /// none, and then all are.
     ///
-    /// It reads the rows that it passes, and makes no cursor for them, so a walk over nodes of a few
-    /// kinds takes a fraction of the time of one over all nodes.
+    /// It reads the rows that it passes, and makes no cursor for them, so a walk over nodes of a
+    /// few kinds takes a fraction of the time of one over all nodes.
     pub fn next_of<K: KindSet>(&mut self) -> Option<SyntaxNode>
         ensures found { result ≡ find (is_among K.kinds) self.old }
         ensures left { self.new ≡ after_first (is_among K.kinds) self.old }

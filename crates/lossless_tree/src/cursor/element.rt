@@ -88,8 +88,8 @@ impl NodeOrToken<SyntaxNode, SyntaxToken> {
         }
     }
 
-    /// Whether this is a token of white space or a comment. It is false for every node, also for one that contains only
-    /// comments.
+    /// Whether this is a token of white space or a comment. It is false for every node, also for
+    /// one that contains only comments.
     pub fn is_trivia(&self) -> bool
         ensures { result ≡ is_trivia_element self.now }
     {
@@ -129,7 +129,8 @@ impl NodeOrToken<SyntaxNode, SyntaxToken> {
         }
     }
 
-    /// The nodes above a token, and a node and the nodes above it, the nearest first, up to the root.
+    /// The nodes above a token, and a node and the nodes above it, the nearest first, up to the
+    /// root.
     pub fn ancestors(&self) -> Ancestors
         ensures { result ≡ ancestors_of_element self.now }
     {
@@ -139,8 +140,8 @@ impl NodeOrToken<SyntaxNode, SyntaxToken> {
         }
     }
 
-    /// What comes before this in its parent, node or token; `None` for the first child and the root. Takes time linear in the
-    /// depth of what comes before.
+    /// What comes before this in its parent, node or token; `None` for the first child and the
+    /// root. Takes time linear in the depth of what comes before.
     pub fn prev_sibling_or_token(&self) -> Option<SyntaxElement>
         ensures { result ≡ option_map element_of (prev_sibling_of (cursor_of self.now)) }
     {
@@ -152,7 +153,8 @@ impl NodeOrToken<SyntaxNode, SyntaxToken> {
 
     /// The nearest later sibling, node or token, that is not trivia, or `None` if there is none.
     pub fn next_no_trivia(&self) -> Option<SyntaxElement>
-        ensures { result ≡ option_map element_of (find is_no_trivia (following_of (cursor_of self.now))) }
+        ensures { result
+            ≡ option_map element_of (find is_no_trivia (following_of (cursor_of self.now))) }
     {
         match self {
             NodeOrToken::Node(node) => node.next_no_trivia(),
@@ -160,8 +162,8 @@ impl NodeOrToken<SyntaxNode, SyntaxToken> {
         }
     }
 
-    /// This and its siblings in a direction, nodes and tokens. A step backwards takes time linear in the depth of the sibling
-    /// before.
+    /// This and its siblings in a direction, nodes and tokens. A step backwards takes time linear
+    /// in the depth of the sibling before.
     pub fn siblings_with_tokens(&self, direction: Direction) -> SyntaxElementSiblings
         ensures { result ≡ siblings_in direction (cursor_of self.now) }
     {

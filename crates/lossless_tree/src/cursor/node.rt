@@ -1,9 +1,9 @@
 //! Nodes.
-ghost use Rattle.std.specs.Prelude.{◌≡◌, option_map, IfOk, IfSome, reverse, string_bytes, ◌↔◌, ◌≤◌, ◌^◌, length, IsErrOf};
+ghost use Rattle.std.specs.Prelude.{◌≡◌, option_map, IfOk, IfSome, reverse, string_bytes, ◌↔◌, ◌-◌, ◌<◌, ◌≤◌, ◌^◌, length, IsErrOf};
 ghost use Rattle.std.specs.List.{filter, find};
-ghost use Rattle.tree_model.specs.Tree.{text, kind_of, IsNode, forest_of_children};
+ghost use Rattle.tree_model.specs.Tree.{text, size, kind_of, IsNode, forest_of_children};
 ghost use Rattle.tree_model.specs.Rows.{IsRow};
-ghost use Rattle.tree_model.specs.Cursor.{focus, range_of, parent_of, ancestors_of, children_of, first_child_of, last_child_of, next_sibling_of, prev_sibling_of, following_of, preceding_of, siblings_in, at_node, at_token, descendants_of, walk_of, moves_at_node, range_start};
+ghost use Rattle.tree_model.specs.Cursor.{focus, range_of, parent_of, ancestors_of, children_of, first_child_of, last_child_of, next_sibling_of, prev_sibling_of, following_of, preceding_of, siblings_in, at_node, at_token, cursors_from, descendants_of, walk_of, moves_at_node, range_start};
 ghost use Rattle.tree_rows.specs.Walks.{siblings_from};
 ghost use Rattle.tree_model.specs.declared.error.ReplaceError.TheVariants.{TooLong};
 ghost use Rattle.lossless_tree.specs.Trees.{child_text};
@@ -39,7 +39,8 @@ use tree_rows::Table;
 
 /// A node of a tree: a cursor, which shares the whole tree with every other cursor of it.
 ///
-/// Cloning one takes no memory and always succeeds. A clause sees the whole tree and the node's place in it.
+/// Cloning one takes no memory and always succeeds. A clause sees the whole tree and the node's
+/// place in it.
 #[derive(Drop)]
 pub struct SyntaxNode {
     table: Shared<Table>,
@@ -96,7 +97,8 @@ impl SyntaxNode {
         &self.table
     }
 
-    /// The root of the tree of a table, or `None` if its first row is a token. For crates that build tables.
+    /// The root of the tree of a table, or `None` if its first row is a token. For crates that
+    /// build tables.
     pub fn of_table(alloc: Global, table: Table) -> Result<Option<SyntaxNode>, AllocError>
         ensures some { IsNode table → IfOk result (λ o. o ≡ Some (root_of table)) }
         ensures none { IfOk result (λ o. o ≡ None → IsNode table → ⊥) }
@@ -107,7 +109,8 @@ impl SyntaxNode {
         Ok(Some(SyntaxNode::root(alloc, table)?))
     }
 
-    /// The node or token at a row of [`SyntaxNode::table`], or `None` if it has fewer rows. Takes constant time.
+    /// The node or token at a row of [`SyntaxNode::table`], or `None` if it has fewer rows. Takes
+    /// constant time.
     pub fn element_at_row(&self, row: usize) -> Option<SyntaxElement>
         ensures some { IfSome result (λ e. e ≡ element_of (cursor_at self.now.tree row)) }
         ensures none { result ≡ None ↔ size self.now.tree ≤ row }
@@ -118,7 +121,8 @@ impl SyntaxNode {
         None
     }
 
-    /// The row of the node in [`SyntaxNode::table`]: its number in a preorder walk of the whole tree, from 0 for the root.
+    /// The row of the node in [`SyntaxNode::table`]: its number in a preorder walk of the whole
+    /// tree, from 0 for the root.
     pub fn row(&self) -> usize
         ensures is_row { IsRow self.now.tree result }
         ensures place { cursor_at self.now.tree result ≡ self.now }
@@ -146,8 +150,8 @@ impl SyntaxNode {
         SyntaxNode::root(alloc, table)
     }
 
-    /// The root of a new tree: this node's whole tree with `replacement` in place of this node. The old tree stays as
-    /// it was. Where this node is the root, the new tree equals `replacement`.
+    /// The root of a new tree: this node's whole tree with `replacement` in place of this node. The
+    /// old tree stays as it was. Where this node is the root, the new tree equals `replacement`.
     ///
     /// It takes time and memory linear in the new tree.
     pub fn replace_with(
@@ -155,8 +159,12 @@ impl SyntaxNode {
         alloc: Global,
         replacement: &SyntaxNode,
     ) -> Result<SyntaxNode, ReplaceError>
-        ensures ok { IfOk result (λ root. root ≡ root_of (replace self.now.tree self.now.place (focus replacement.now))) }
-        ensures too_long { IsErrOf result TooLong ↔ (2 ^ 32 ≤ length (text (replace self.now.tree self.now.place (focus replacement.now)))) }
+        ensures ok { IfOk result (λ root. root
+            ≡ root_of (replace self.now.tree self.now.place (focus replacement.now))) }
+        ensures too_long { IsErrOf result TooLong
+            ↔ (2 ^ 32
+            ≤ length
+            (text (replace self.now.tree self.now.place (focus replacement.now)))) }
     {
         let table = self
             .table
@@ -175,12 +183,14 @@ impl SyntaxNode {
 
     /// The node's children as a `SiblingsLeft`, for code that reads whole trees.
     pub fn trees(&self) -> SiblingsLeft<'_>
-        ensures { result ≡ record { trees = forest_of_children (focus self.now); start = range_start self.now } }
+        ensures { result
+            ≡ record { trees = forest_of_children (focus self.now); start = range_start self.now } }
     {
         SiblingsLeft::below(&self.table, self.row)
     }
 
-    /// The text of child number `n`, from 0, if it is a token. Returns `None` if it is a node or if there is no such child.
+    /// The text of child number `n`, from 0, if it is a token. Returns `None` if it is a node or if
+    /// there is no such child.
     ///
     /// Takes time linear in `n`, whatever the children contain.
     pub fn child_text(&self, n: usize) -> Option<&str>
@@ -202,8 +212,8 @@ impl SyntaxNode {
 }
 
 impl SyntaxNode {
-    /// A law: the place of the node is in its tree, and has a node. The function does nothing; other crates call it for
-    /// these facts.
+    /// A law: the place of the node is in its tree, and has a node. The function does nothing;
+    /// other crates call it for these facts.
     pub fn placed(&self)
         ensures placed { IsPlaced self.now }
         ensures node { IsNode (focus self.now) }
@@ -220,7 +230,8 @@ impl SyntaxNode {
         self.cursor().kind()
     }
 
-    /// The range of the node's text in the whole tree's text, in bytes. A node without text has an empty range.
+    /// The range of the node's text in the whole tree's text, in bytes. A node without text has an
+    /// empty range.
     pub fn text_range(&self) -> TextRange
         ensures { result ≡ range_of self.now }
     {
@@ -263,8 +274,8 @@ impl SyntaxNode {
         self.cursor().next_sibling_or_token()
     }
 
-    /// The last child, node or token, or `None` if there is none. It climbs from the subtree's last row, so it takes time
-    /// linear in the depth there.
+    /// The last child, node or token, or `None` if there is none. It climbs from the subtree's last
+    /// row, so it takes time linear in the depth there.
     pub fn last_child_or_token(&self) -> Option<SyntaxElement>
         ensures { result ≡ option_map element_of (last_child_of self.now) }
     {
@@ -272,10 +283,11 @@ impl SyntaxNode {
         Some(element(&self.table, row))
     }
 
-    /// What comes before this node in its parent, node or token; `None` for the first child and the root.
+    /// What comes before this node in its parent, node or token; `None` for the first child and the
+    /// root.
     ///
-    /// Takes time linear in the depth of the previous sibling's subtree. Going back through all siblings takes time linear in
-    /// the size of their subtrees.
+    /// Takes time linear in the depth of the previous sibling's subtree. Going back through all
+    /// siblings takes time linear in the size of their subtrees.
     pub fn prev_sibling_or_token(&self) -> Option<SyntaxElement>
         ensures { result ≡ option_map element_of (prev_sibling_of self.now) }
     {
@@ -304,8 +316,8 @@ impl SyntaxNode {
         children.next()
     }
 
-    /// The last child node, or `None` if there is none. It passes over the tokens after it, and takes time linear in the
-    /// depth of that node and of the sibling before it.
+    /// The last child node, or `None` if there is none. It passes over the tokens after it, and
+    /// takes time linear in the depth of that node and of the sibling before it.
     pub fn last_child(&self) -> Option<SyntaxNode>
         ensures { result ≡ find at_node (reverse (children_of self.now)) }
     {
@@ -313,7 +325,8 @@ impl SyntaxNode {
         nearest_node(&self.table, last, Direction::Prev)
     }
 
-    /// The nearest sibling node after this one, or `None` if there is none. It passes over the tokens between.
+    /// The nearest sibling node after this one, or `None` if there is none. It passes over the
+    /// tokens between.
     pub fn next_sibling(&self) -> Option<SyntaxNode>
         ensures { result ≡ find at_node (following_of self.now) }
     {
@@ -321,8 +334,9 @@ impl SyntaxNode {
         nearest_node(&self.table, next, Direction::Next)
     }
 
-    /// The nearest sibling node before this one, or `None` if there is none. It passes over the tokens between, and takes
-    /// time linear in the depth of that node and of the sibling before it.
+    /// The nearest sibling node before this one, or `None` if there is none. It passes over the
+    /// tokens between, and takes time linear in the depth of that node and of the sibling before
+    /// it.
     pub fn prev_sibling(&self) -> Option<SyntaxNode>
         ensures { result ≡ find at_node (preceding_of self.now) }
     {
@@ -330,8 +344,8 @@ impl SyntaxNode {
         nearest_node(&self.table, prev, Direction::Prev)
     }
 
-    /// The first child, node or token, that is not trivia (white space or a comment), or `None` if there is none. It passes
-    /// over the trivia before it.
+    /// The first child, node or token, that is not trivia (white space or a comment), or `None` if
+    /// there is none. It passes over the trivia before it.
     pub fn first_child_no_trivia(&self) -> Option<SyntaxElement>
         ensures { result ≡ option_map element_of (find is_no_trivia (children_of self.now)) }
     {
@@ -339,31 +353,32 @@ impl SyntaxNode {
         first_no_trivia(SyntaxElementSiblings::new(self.table.share(), first, Direction::Next))
     }
 
-    /// The nearest later sibling, node or token, that is not trivia (white space or a comment), or `None` if there is none.
-    /// It passes over the trivia between.
+    /// The nearest later sibling, node or token, that is not trivia (white space or a comment), or
+    /// `None` if there is none. It passes over the trivia between.
     pub fn next_no_trivia(&self) -> Option<SyntaxElement>
         ensures { result ≡ option_map element_of (find is_no_trivia (following_of self.now)) }
     {
         self.cursor().next_no_trivia()
     }
 
-    /// This node and its siblings in a direction, nodes and tokens. A step backwards takes time linear in the depth of the
-    /// sibling before.
+    /// This node and its siblings in a direction, nodes and tokens. A step backwards takes time
+    /// linear in the depth of the sibling before.
     pub fn siblings_with_tokens(&self, direction: Direction) -> SyntaxElementSiblings
         ensures { result ≡ siblings_in direction self.now }
     {
         self.cursor().siblings_with_tokens(direction)
     }
 
-    /// This node and its sibling nodes in a direction. A step backwards takes time linear in the depth of the siblings
-    /// before.
+    /// This node and its sibling nodes in a direction. A step backwards takes time linear in the
+    /// depth of the siblings before.
     pub fn siblings(&self, direction: Direction) -> SyntaxNodeSiblings
         ensures { result ≡ filter at_node (siblings_in direction self.now) }
     {
         SyntaxNodeSiblings::new(self.siblings_with_tokens(direction))
     }
 
-    /// The first token below this node, or `None` if there is none. Takes time linear in the number of nodes before it.
+    /// The first token below this node, or `None` if there is none. Takes time linear in the number
+    /// of nodes before it.
     pub fn first_token(&self) -> Option<SyntaxToken>
         ensures { result ≡ find at_token (descendants_of self.now) }
     {
@@ -371,7 +386,8 @@ impl SyntaxNode {
         Some(SyntaxToken::at(self.table.share(), row))
     }
 
-    /// The last token below this node, or `None` if there is none. Takes time linear in the number of nodes after it.
+    /// The last token below this node, or `None` if there is none. Takes time linear in the number
+    /// of nodes after it.
     pub fn last_token(&self) -> Option<SyntaxToken>
         ensures { result ≡ find at_token (reverse (descendants_of self.now)) }
     {
@@ -379,7 +395,8 @@ impl SyntaxNode {
         Some(SyntaxToken::at(self.table.share(), row))
     }
 
-    /// The walk of the nodes alone: it enters this node, walks its child nodes in order, and leaves it.
+    /// The walk of the nodes alone: it enters this node, walks its child nodes in order, and leaves
+    /// it.
     pub fn preorder(&self) -> Preorder
         ensures { result ≡ filter moves_at_node (walk_of self.now) }
     {
@@ -391,6 +408,22 @@ impl SyntaxNode {
         ensures { result ≡ filter at_node (descendants_of self.now) }
     {
         Descendants::new(self.descendants_with_tokens())
+    }
+
+    /// The nodes of the whole tree whose rows have the numbers `from..to`, in preorder: a part of
+    /// the [`descendants`](SyntaxNode::descendants) of the root. If there are fewer rows, it is all
+    /// from `from` on.
+    pub fn nodes_among_rows(&self, from: usize, to: usize) -> Descendants
+        ensures within { to ≤ size self.now.tree
+            → result ≡ filter at_node (cursors_from self.now.tree from (to - from)) }
+        ensures past { size self.now.tree < to
+            → result
+            ≡ filter at_node (cursors_from self.now.tree from (size self.now.tree - from)) }
+    {
+        let count = self.table.len();
+        let end = if to > count { count } else { to };
+        let elements = DescendantsWithTokens::among(self.table.share(), from, end);
+        Descendants::new(elements)
     }
 
     /// The walk that enters this node, walks its children in order, and leaves it.
@@ -417,10 +450,12 @@ impl SyntaxNode {
     ghost use Rattle.tree_model.specs.Covering.{covering_of};
     ghost use Rattle.tree_model.specs.Pointer.{Finds};
 
-    /// The tokens of this node at an offset of the whole tree's text: those that are not empty and whose range, both ends
-    /// included, contains the offset. Between two tokens both are returned, and none if the offset is outside the node.
+    /// The tokens of this node at an offset of the whole tree's text: those that are not empty and
+    /// whose range, both ends included, contains the offset. Between two tokens both are returned,
+    /// and none if the offset is outside the node.
     ///
-    /// Empty tokens and nodes are passed over. The time grows with the logarithm of the size of the tree.
+    /// Empty tokens and nodes are passed over. The time grows with the logarithm of the size of the
+    /// tree.
     pub fn token_at_offset(&self, offset: TextSize) -> TokenAtOffset<SyntaxToken>
         ensures { found_tokens result ≡ tokens_at self.now offset }
     {
@@ -434,14 +469,15 @@ impl SyntaxNode {
         }
     }
 
-    /// The node or token that covers a range of the whole tree's text. From this node, it goes down to a child as long as
-    /// there is one to go to.
+    /// The node or token that covers a range of the whole tree's text. From this node, it goes down
+    /// to a child as long as there is one to go to.
     ///
-    /// For a non-empty range, that is the child whose range contains it. For an empty range, it is the child that has its
-    /// offset strictly inside, otherwise the last child that ends at or before it, otherwise the first child. So the result
-    /// is this node for a non-empty range that no child contains, for example one outside this node; for an empty range it
-    /// is always a token or a node without children. The time grows with the logarithm of the size of the tree and with its
-    /// depth.
+    /// For a non-empty range, that is the child whose range contains it. For an empty range, it is
+    /// the child that has its offset strictly inside, otherwise the last child that ends at or
+    /// before it, otherwise the first child. So the result is this node for a non-empty range that
+    /// no child contains, for example one outside this node; for an empty range it is always a
+    /// token or a node without children. The time grows with the logarithm of the size of the tree
+    /// and with its depth.
     pub fn covering_element(&self, range: TextRange) -> SyntaxElement
         ensures { result ≡ element_of (covering_of self.now range) }
     {
@@ -449,7 +485,8 @@ impl SyntaxNode {
         element(&self.table, row)
     }
 
-    // The first node of this tree in preorder with this kind and range; `None` where this node is not the root.
+    // The first node of this tree in preorder with this kind and range; `None` where this node is
+    // not the root.
     pub(crate) fn first_in_root(&self, kind: SyntaxKind, range: TextRange) -> Option<SyntaxNode>
         ensures { Finds (record { kind = kind; range = range }) self.now result }
     {
@@ -471,19 +508,20 @@ impl SyntaxNode {
 }
 
 impl SyntaxNode {
-    /// The tree below this node as text, a line for each node and token in preorder, two spaces a level:
-    /// `KIND@start..end`, and after that a token's text in quotes.
+    /// The tree below this node as text, a line for each node and token in preorder, two spaces a
+    /// level: `KIND@start..end`, and after that a token's text in quotes.
     ///
-    /// A text of 25 bytes or more is cut off at the first character boundary at or after byte 21, and ` ...` is added.
-    /// Quotes, backslashes and control bytes are escaped. Every line ends with a newline. Takes time linear in the length of
-    /// the result.
+    /// A text of 25 bytes or more is cut off at the first character boundary at or after byte 21,
+    /// and ` ...` is added. Quotes, backslashes and control bytes are escaped. Every line ends with
+    /// a newline. Takes time linear in the length of the result.
     pub fn dump(&self, alloc: Global) -> Result<String, AllocError>
         ensures { IfOk result (λ text. string_bytes text ≡ dump_of self.now) }
     {
         self.cursor().dump(alloc)
     }
 
-    /// What [`SyntaxNode::dump`] returns, as a value that `{}` prints. It takes no memory, and prints in time linear in the text.
+    /// What [`SyntaxNode::dump`] returns, as a value that `{}` prints. It takes no memory, and
+    /// prints in time linear in the text.
     pub fn display_dump(&self) -> Dump<'_>
         ensures { result ≡ self.now }
     {
@@ -520,7 +558,8 @@ impl Clone for SyntaxNode {
     }
 }
 
-/// Equal where both are at the same place in equal trees. Takes constant time for cursors of one tree.
+/// Equal where both are at the same place in equal trees. Takes constant time for cursors of one
+/// tree.
 impl PartialEq for SyntaxNode {
     ghost use Rattle.tree_model.specs.Equality.{is_same_cursor};
     ghost use Rattle.tree_model.specs.EqualityLaws.{cursor_equivalence};

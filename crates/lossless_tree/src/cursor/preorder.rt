@@ -22,7 +22,8 @@ pub enum WalkEvent<T> {
     Leave(T),
 }
 
-/// The walk of a subtree. A clause sees the steps that are left: cursors that are entered (true) or left (false).
+/// The walk of a subtree. A clause sees the steps that are left: cursors that are entered (true) or
+/// left (false).
 #[derive(Clone, Drop)]
 pub struct PreorderWithTokens {
     table: Shared<Table>,
@@ -80,8 +81,8 @@ impl Iterator for PreorderWithTokens {
     }
 }
 
-/// The walk of the nodes of a subtree. A clause sees the steps that are left: cursors that are entered (true) or left
-/// (false).
+/// The walk of the nodes of a subtree. A clause sees the steps that are left: cursors that are
+/// entered (true) or left (false).
 #[derive(Clone, Drop)]
 pub struct Preorder {
     events: PreorderWithTokens,

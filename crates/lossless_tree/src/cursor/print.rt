@@ -1,4 +1,5 @@
-//! How nodes, tokens and elements print: `{}` gives the text, and `{:?}` the kind and the range, and of a token its text too.
+//! How nodes, tokens and elements print: `{}` gives the text, and `{:?}` the kind and the range,
+//! and of a token its text too.
 ghost use Rattle.std.specs.Prelude.{Some};
 ghost use Rattle.tree_model.specs.Tree.{text};
 ghost use Rattle.tree_model.specs.Cursor.{focus};

@@ -15,7 +15,8 @@ use std::marker::Model;
 use tree_model::Direction;
 use tree_rows::Table;
 
-/// A node or token and its siblings in a direction, nodes and tokens. A clause sees the cursors that are left.
+/// A node or token and its siblings in a direction, nodes and tokens. A clause sees the cursors
+/// that are left.
 #[derive(Clone, Drop)]
 pub struct SyntaxElementSiblings {
     table: Shared<Table>,

@@ -56,7 +56,8 @@ impl<'t> SyntaxText<'t> {
         self.len
     }
 
-    /// The character that starts at byte `offset` of the text; `None` past the last one, and inside a character.
+    /// The character that starts at byte `offset` of the text; `None` past the last one, and inside
+    /// a character.
     pub fn char_at(&self, offset: TextSize) -> Option<char>
         ensures { MatchOption result (NoneStartsAt self.now offset) (StartsAt self.now offset) }
     {

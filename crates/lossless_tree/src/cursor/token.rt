@@ -27,7 +27,8 @@ use tree_rows::Table;
 
 /// A token of a tree: a cursor, which shares the whole tree with every other cursor of it.
 ///
-/// Cloning one takes no memory and always succeeds. A clause sees the whole tree and the token's place in it.
+/// Cloning one takes no memory and always succeeds. A clause sees the whole tree and the token's
+/// place in it.
 #[derive(Drop)]
 pub struct SyntaxToken {
     table: Shared<Table>,
@@ -71,7 +72,8 @@ impl SyntaxToken {
         &self.table
     }
 
-    /// The row of the token in [`SyntaxToken::table`]: its number in a preorder walk of the whole tree, from 0 for the root.
+    /// The row of the token in [`SyntaxToken::table`]: its number in a preorder walk of the whole
+    /// tree, from 0 for the root.
     pub fn row(&self) -> usize
         ensures is_row { IsRow self.now.tree result }
         ensures place { cursor_at self.now.tree result ≡ self.now }
@@ -89,19 +91,22 @@ impl SyntaxToken {
 }
 
 impl SyntaxToken {
-    /// The root of a new tree: this token's whole tree with a token of the kind and the text `new` in place of this one. The old
-    /// tree stays as it was.
+    /// The root of a new tree: this token's whole tree with a token of the kind and the text `new`
+    /// in place of this one. The old tree stays as it was.
     ///
-    /// It takes time and memory linear in the whole text and the new one. The nodes and tokens are shared with the old tree if
-    /// `kind` is the token's kind and no other token of the old tree was replaced before; otherwise they are copied.
+    /// It takes time and memory linear in the whole text and the new one. The nodes and tokens are
+    /// shared with the old tree if `kind` is the token's kind and no other token of the old tree
+    /// was replaced before; otherwise they are copied.
     pub fn replace_with(
         &self,
         alloc: Global,
         kind: SyntaxKind,
         new: &str,
     ) -> Result<SyntaxNode, ReplaceError>
-        ensures ok { IfOk result (λ root. root ≡ root_of (replace self.now.tree self.now.place (token kind new.now))) }
-        ensures too_long { IsErrOf result TooLong ↔ (2 ^ 32 ≤ length (text (replace self.now.tree self.now.place (token kind new.now)))) }
+        ensures ok { IfOk result
+            (λ root. root ≡ root_of (replace self.now.tree self.now.place (token kind new.now))) }
+        ensures too_long { IsErrOf result TooLong
+            ↔ (2 ^ 32 ≤ length (text (replace self.now.tree self.now.place (token kind new.now)))) }
     {
         let table = self.table.with_token(alloc, self.row, kind, new)?;
         Ok(SyntaxNode::root(alloc, table)?)
@@ -109,8 +114,8 @@ impl SyntaxToken {
 }
 
 impl SyntaxToken {
-    /// A law: the place of the token is in its tree, and has a token. The function does nothing; other crates call it for
-    /// these facts.
+    /// A law: the place of the token is in its tree, and has a token. The function does nothing;
+    /// other crates call it for these facts.
     pub fn placed(&self)
         ensures placed { IsPlaced self.now }
         ensures token { IsToken (focus self.now) }
@@ -127,7 +132,8 @@ impl SyntaxToken {
         self.cursor().kind()
     }
 
-    /// The range of the token's text in the whole tree's text, in bytes. A token without text has an empty range.
+    /// The range of the token's text in the whole tree's text, in bytes. A token without text has
+    /// an empty range.
     pub fn text_range(&self) -> TextRange
         ensures { result ≡ range_of self.now }
     {
@@ -141,8 +147,8 @@ impl SyntaxToken {
         self.cursor().text()
     }
 
-    /// The node that this token is a child of. It is never `None`, since the root of a tree is a node. It takes constant
-    /// time.
+    /// The node that this token is a child of. It is never `None`, since the root of a tree is a
+    /// node. It takes constant time.
     pub fn parent(&self) -> Option<SyntaxNode>
         ensures { result ≡ parent_of self.now }
     {
@@ -163,32 +169,32 @@ impl SyntaxToken {
         Ancestors::from_parent(self.parent())
     }
 
-    /// What comes before this token in its parent, node or token; `None` for the first child. It climbs from the row before,
-    /// so it takes time linear in the depth there.
+    /// What comes before this token in its parent, node or token; `None` for the first child. It
+    /// climbs from the row before, so it takes time linear in the depth there.
     pub fn prev_sibling_or_token(&self) -> Option<SyntaxElement>
         ensures { result ≡ option_map element_of (prev_sibling_of self.now) }
     {
         self.cursor().prev_sibling_or_token()
     }
 
-    /// The nearest later sibling, node or token, that is not trivia (white space or a comment), or `None` if there is none.
-    /// It passes over the trivia between.
+    /// The nearest later sibling, node or token, that is not trivia (white space or a comment), or
+    /// `None` if there is none. It passes over the trivia between.
     pub fn next_no_trivia(&self) -> Option<SyntaxElement>
         ensures { result ≡ option_map element_of (find is_no_trivia (following_of self.now)) }
     {
         self.cursor().next_no_trivia()
     }
 
-    /// This token and its siblings in a direction, nodes and tokens. A step backwards takes time linear in the depth of the
-    /// sibling before.
+    /// This token and its siblings in a direction, nodes and tokens. A step backwards takes time
+    /// linear in the depth of the sibling before.
     pub fn siblings_with_tokens(&self, direction: Direction) -> SyntaxElementSiblings
         ensures { result ≡ siblings_in direction self.now }
     {
         self.cursor().siblings_with_tokens(direction)
     }
 
-    /// The token right after this one in the whole tree; `None` for the last. Takes time linear in the number of nodes
-    /// between.
+    /// The token right after this one in the whole tree; `None` for the last. Takes time linear in
+    /// the number of nodes between.
     pub fn next_token(&self) -> Option<SyntaxToken>
         ensures { IsRightBehind (all_tokens self.now) self.now result }
     {
@@ -196,8 +202,8 @@ impl SyntaxToken {
         Some(SyntaxToken::at(self.table.share(), row))
     }
 
-    /// The token right before this one in the whole tree; `None` for the first. Takes time linear in the number of nodes
-    /// between.
+    /// The token right before this one in the whole tree; `None` for the first. Takes time linear
+    /// in the number of nodes between.
     pub fn prev_token(&self) -> Option<SyntaxToken>
         ensures { IsRightBefore (all_tokens self.now) self.now result }
     {
@@ -205,8 +211,9 @@ impl SyntaxToken {
         Some(SyntaxToken::at(self.table.share(), row))
     }
 
-    /// The nearest token after this one in the whole tree that is not trivia (white space or a comment), or `None` if there
-    /// is none. Takes time linear in the nodes and tokens that it passes.
+    /// The nearest token after this one in the whole tree that is not trivia (white space or a
+    /// comment), or `None` if there is none. Takes time linear in the nodes and tokens that it
+    /// passes.
     pub fn next_token_no_trivia(&self) -> Option<SyntaxToken>
         ensures { result ≡ find is_no_trivia (tokens_beyond Next self.now) }
     {
@@ -214,8 +221,9 @@ impl SyntaxToken {
         Some(SyntaxToken::at(self.table.share(), row))
     }
 
-    /// The nearest token before this one in the whole tree that is not trivia (white space or a comment), or `None` if there
-    /// is none. Takes time linear in the nodes and tokens that it passes.
+    /// The nearest token before this one in the whole tree that is not trivia (white space or a
+    /// comment), or `None` if there is none. Takes time linear in the nodes and tokens that it
+    /// passes.
     pub fn prev_token_no_trivia(&self) -> Option<SyntaxToken>
         ensures { result ≡ find is_no_trivia (tokens_beyond Prev self.now) }
     {
@@ -246,7 +254,8 @@ impl Clone for SyntaxToken {
     }
 }
 
-/// Equal where both are at the same place in equal trees. Takes constant time for cursors of one tree.
+/// Equal where both are at the same place in equal trees. Takes constant time for cursors of one
+/// tree.
 impl PartialEq for SyntaxToken {
     ghost use Rattle.tree_model.specs.Equality.{is_same_cursor};
     ghost use Rattle.tree_model.specs.EqualityLaws.{cursor_equivalence};

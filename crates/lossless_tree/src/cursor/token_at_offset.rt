@@ -5,8 +5,8 @@ ghost use Rattle.lossless_tree.specs.TokenAtOffset.{found_tokens, leftmost, righ
 
 use std::mem;
 
-/// The tokens at an offset: none outside of the node's text, one where the offset is inside a token or at an end of that text,
-/// and two where it is between two tokens.
+/// The tokens at an offset: none outside of the node's text, one where the offset is inside a token
+/// or at an end of that text, and two where it is between two tokens.
 ///
 /// It gives them in order as an iterator.
 #[derive(Clone, Debug, Drop)]

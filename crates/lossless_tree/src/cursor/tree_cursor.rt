@@ -23,7 +23,8 @@ use text_size::TextRange;
 use tree_model::Direction;
 use tree_rows::Table;
 
-// A row of a shared table, borrowed from a node or a token. A clause sees the whole tree and the place in it.
+// A row of a shared table, borrowed from a node or a token. A clause sees the whole tree and the
+// place in it.
 #[derive(Drop)]
 pub(crate) struct TreeCursor<'t> {
     table: &'t Shared<Table>,
@@ -39,7 +40,8 @@ impl<'t> Model for TreeCursor<'t> {
 
     ghost use Rattle.tree_model.specs.Rows.{place_at, IsRow};
 
-    ghost view = { λ a. record { tree = a.table.now.value; place = place_at a.table.now.value a.row } };
+    ghost view = { λ a.
+        record { tree = a.table.now.value; place = place_at a.table.now.value a.row } };
 
     ghost invariant = { λ a. IsRow a.table.now.value a.row };
 }
@@ -119,8 +121,8 @@ impl<'t> TreeCursor<'t> {
     }
 }
 
-// Equal where both are at the same place in equal trees. Takes constant time if they share one table; otherwise, if the row
-// numbers are equal, it compares texts and rows.
+// Equal where both are at the same place in equal trees. Takes constant time if they share one
+// table; otherwise, if the row numbers are equal, it compares texts and rows.
 impl<'t> PartialEq for TreeCursor<'t> {
     ghost use Rattle.tree_model.specs.Equality.{is_same_cursor};
     ghost use Rattle.tree_model.specs.EqualityLaws.{cursor_equivalence};
@@ -142,7 +144,8 @@ impl<'t> Eq for TreeCursor<'t> {
     ghost laws = { cursor_equivalence };
 }
 
-// It feeds the kind, the range and the number of nodes and tokens in the subtree, and never walks the tree.
+// It feeds the kind, the range and the number of nodes and tokens in the subtree, and never walks
+// the tree.
 impl<'t> Hash for TreeCursor<'t> {
     ghost use Rattle.tree_model.specs.Equality.{cursor_hash};
     ghost use Rattle.tree_model.specs.EqualityLaws.{cursors_alike};

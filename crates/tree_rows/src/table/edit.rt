@@ -30,7 +30,8 @@ impl Table {
         requires ordered { first ≤ end }
         requires in_range { end ≤ size self.now }
         requires fits { (k : ℕ) → first ≤ k → k < end → MoveFits by (row_at self.now k) }
-        ensures { OnOk result (rows.new ≡ joined rows.old (moved by (rows_between self.now first end))) }
+        ensures { OnOk result
+            (rows.new ≡ joined rows.old (moved by (rows_between self.now first end))) }
     {
         let count = rows.len();
         self.rows.copy_to(rows, first, end)?;
@@ -38,8 +39,8 @@ impl Table {
         Ok(())
     }
 
-    // The rows of the node at row `n` after `rows`, moved so that the node has the row `to`, starts at `byte` and has its
-    // parent at `up`.
+    // The rows of the node at row `n` after `rows`, moved so that the node has the row `to`, starts
+    // at `byte` and has its parent at `up`.
     fn push_node(
         &self,
         rows: &mut Rows,
@@ -90,8 +91,12 @@ impl Table {
     // The whole text with `new` in place of that of row `n`.
     fn spliced_text(&self, alloc: Global, n: usize, new: &str) -> Result<String, ReplaceError>
         requires { n < size self.now }
-        ensures ok { IfOk result (λ s. string_bytes s ≡ splice (text self.now) (start_at self.now n) (end_at self.now n) new.now) }
-        ensures too_long { IsErrOf result TooLong ↔ (2 ^ 32 ≤ length (splice (text self.now) (start_at self.now n) (end_at self.now n) new.now)) }
+        ensures ok { IfOk result (λ s. string_bytes s
+            ≡ splice (text self.now) (start_at self.now n) (end_at self.now n) new.now) }
+        ensures too_long { IsErrOf result TooLong
+            ↔ (2 ^ 32
+            ≤ length (splice (text self.now) (start_at self.now n) (end_at self.now n)
+            new.now)) }
     {
         let text = self.text.as_str();
         let start = self.start_at(n) as usize;
@@ -107,7 +112,8 @@ impl Table {
         Ok(spliced)
     }
 
-    // The rows before row `n`, where `count` rows take the place of the subtree there. The list has room for all rows.
+    // The rows before row `n`, where `count` rows take the place of the subtree there. The list has
+    // room for all rows.
     fn rows_before(&self, alloc: Global, n: usize, count: usize) -> Result<Rows, AllocError>
         requires is_row { n < size self.now }
         requires count_fits { count < 2 ^ 63 }
@@ -137,7 +143,8 @@ impl Table {
     ) -> Result<(), AllocError>
         requires is_row { n < size self.now }
         requires rows_fit { (size self.now - size (tree_at self.now n)) + count < 2 ^ 63 }
-        requires bytes_fit { (length (text self.now) - length (text (tree_at self.now n))) + bytes < 2 ^ 32 }
+        requires bytes_fit { (length (text self.now) - length (text (tree_at self.now n))) + bytes
+            < 2 ^ 32 }
         ensures { OnOk result (rows.new ≡ joined rows.old (moved_behind self.now n count bytes)) }
     {
         let after = self.row(n).end;
@@ -160,8 +167,12 @@ impl Table {
     ) -> Result<Kept, AllocError>
         requires is_row { n < size self.now }
         requires is_token { IsToken (tree_at self.now n) }
-        requires fits { length (splice (text self.now) (start_at self.now n) (end_at self.now n) new.now) < 2 ^ 32 }
-        ensures { IfOk result (λ rows. rows ≡ columns_of (cons (replace self.now (place_at self.now n) (token kind new.now)) nil)) }
+        requires fits { length
+            (splice (text self.now) (start_at self.now n) (end_at self.now n) new.now)
+            < 2 ^ 32 }
+        ensures { IfOk result (λ rows. rows
+            ≡ columns_of
+            (cons (replace self.now (place_at self.now n) (token kind new.now)) nil)) }
     {
         // Opens the table's invariant for the proof.
         let _count = self.rows.len();
@@ -186,7 +197,8 @@ impl Table {
         Ok(kept)
     }
 
-    // The rows of the tree with the node at row `other` of `piece` in place of the subtree at row `n`.
+    // The rows of the tree with the node at row `other` of `piece` in place of the subtree at row
+    // `n`.
     fn rows_with_node(
         &self,
         alloc: Global,
@@ -197,8 +209,11 @@ impl Table {
         requires is_row { n < size self.now }
         requires is_other { other < size piece.now }
         requires is_node { IsNode (tree_at piece.now other) }
-        requires fits { length (splice (text self.now) (start_at self.now n) (end_at self.now n) (text (tree_at piece.now other))) < 2 ^ 32 }
-        ensures { IfOk result (λ rows. rows ≡ columns_of (cons (replace self.now (place_at self.now n) (tree_at piece.now other)) nil)) }
+        requires fits { length (splice (text self.now) (start_at self.now n) (end_at self.now n)
+            (text (tree_at piece.now other))) < 2 ^ 32 }
+        ensures { IfOk result (λ rows. rows
+            ≡ columns_of
+            (cons (replace self.now (place_at self.now n) (tree_at piece.now other)) nil)) }
     {
         // Opens the table's invariant for the proof.
         let _count = self.rows.len();
@@ -223,8 +238,11 @@ impl Table {
     ) -> Result<Table, ReplaceError>
         requires is_row { n < size self.now }
         requires is_token { IsToken (tree_at self.now n) }
-        ensures ok { IfOk result (λ t. (t ≡ replace self.now (place_at self.now n) (token kind new.now)) × IsNode t) }
-        ensures too_long { IsErrOf result TooLong ↔ (2 ^ 32 ≤ length (text (replace self.now (place_at self.now n) (token kind new.now)))) }
+        ensures ok { IfOk result
+            (λ t. (t ≡ replace self.now (place_at self.now n) (token kind new.now)) × IsNode t) }
+        ensures too_long { IsErrOf result TooLong
+            ↔ (2 ^ 32
+            ≤ length (text (replace self.now (place_at self.now n) (token kind new.now)))) }
     {
         // Opens the table's invariant for the proof.
         let _count = self.rows.len();
@@ -233,7 +251,8 @@ impl Table {
         Ok(Table::from_parts(spliced, rows))
     }
 
-    /// The table of the tree with the node at row `other` of `piece` in place of the node at row `n`.
+    /// The table of the tree with the node at row `other` of `piece` in place of the node at row
+    /// `n`.
     pub fn with_node(
         &self,
         alloc: Global,
@@ -244,8 +263,13 @@ impl Table {
         requires is_row { n < size self.now }
         requires is_other { other < size piece.now }
         requires is_node { IsNode (tree_at piece.now other) }
-        ensures ok { IfOk result (λ t. (t ≡ replace self.now (place_at self.now n) (tree_at piece.now other)) × IsNode t) }
-        ensures too_long { IsErrOf result TooLong ↔ (2 ^ 32 ≤ length (text (replace self.now (place_at self.now n) (tree_at piece.now other)))) }
+        ensures ok { IfOk result (λ t.
+            (t ≡ replace self.now (place_at self.now n) (tree_at piece.now other))
+            × IsNode t) }
+        ensures too_long { IsErrOf result TooLong
+            ↔ (2 ^ 32
+            ≤ length
+            (text (replace self.now (place_at self.now n) (tree_at piece.now other)))) }
     {
         // Opens the table's invariant for the proof.
         let _count = self.rows.len();
@@ -255,8 +279,8 @@ impl Table {
         Ok(Table::from_parts(spliced, rows))
     }
 
-    /// A law: the place of row `n` is in the tree, whose root is a node and whose text is UTF-8 of less than 2^32 bytes. The
-    /// function does nothing.
+    /// A law: the place of row `n` is in the tree, whose root is a node and whose text is UTF-8 of
+    /// less than 2^32 bytes. The function does nothing.
     pub fn placed(&self, n: usize)
         requires { n < size self.now }
         ensures { IsPlaced (cursor_at self.now n) }

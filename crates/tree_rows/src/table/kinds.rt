@@ -2,7 +2,7 @@
 ghost use Rattle.std.specs.Prelude.{◌≡◌, ◌<◌, ◌≤◌, option_map, IfSome};
 ghost use Rattle.tree_model.specs.Tree.{size};
 ghost use Rattle.tree_model.specs.Cursor.{cursor_at};
-ghost use Rattle.tree_rows.specs.KindSearch.{only, is_node_among, is_token_among, first_node_among, first_token_among};
+ghost use Rattle.tree_rows.specs.KindSearch.{only, is_node_among, is_token_among, first_node_among, first_token_among, has_token_in};
 ghost use Rattle.tree_rows.specs.RowKinds.{IsFirstNodeAmong};
 ghost use Rattle.tree_rows.specs.RowSearch.{IsNodeRow, IsTokenRow};
 ghost use Rattle.tree_rows.specs.Walks.{siblings_left, HaveParentEnd};
@@ -59,11 +59,12 @@ impl Table {
         None
     }
 
-    /// The first of row `next` and its later siblings that is a node with a kind of the set, where their parent's rows end
-    /// before `stop`. It steps over the rows below each of them.
+    /// The first of row `next` and its later siblings that is a node with a kind of the set, where
+    /// their parent's rows end before `stop`. It steps over the rows below each of them.
     pub fn child_node_among<K: KindSet>(&self, next: usize, stop: usize) -> Option<usize>
         requires { HaveParentEnd self.now next stop }
-        ensures found { option_map (cursor_at self.now) result ≡ first_node_among K.kinds (siblings_left self.now next stop) }
+        ensures found { option_map (cursor_at self.now) result
+            ≡ first_node_among K.kinds (siblings_left self.now next stop) }
         ensures node { IfSome result (IsNodeRow self.now) }
     {
         let mut n = next;
@@ -79,7 +80,8 @@ impl Table {
     /// The first of these that is a token with a kind of the set.
     pub fn child_token_among<K: KindSet>(&self, next: usize, stop: usize) -> Option<usize>
         requires { HaveParentEnd self.now next stop }
-        ensures found { option_map (cursor_at self.now) result ≡ first_token_among K.kinds (siblings_left self.now next stop) }
+        ensures found { option_map (cursor_at self.now) result
+            ≡ first_token_among K.kinds (siblings_left self.now next stop) }
         ensures token { IfSome result (IsTokenRow self.now) }
     {
         let mut n = next;
@@ -95,7 +97,8 @@ impl Table {
     /// The first of these that is a node of a kind.
     pub fn child_node_of(&self, next: usize, stop: usize, kind: SyntaxKind) -> Option<usize>
         requires { HaveParentEnd self.now next stop }
-        ensures found { option_map (cursor_at self.now) result ≡ first_node_among (only kind) (siblings_left self.now next stop) }
+        ensures found { option_map (cursor_at self.now) result
+            ≡ first_node_among (only kind) (siblings_left self.now next stop) }
         ensures node { IfSome result (IsNodeRow self.now) }
     {
         let mut n = next;
@@ -111,7 +114,8 @@ impl Table {
     /// The first of these that is a token of a kind.
     pub fn child_token_of(&self, next: usize, stop: usize, kind: SyntaxKind) -> Option<usize>
         requires { HaveParentEnd self.now next stop }
-        ensures found { option_map (cursor_at self.now) result ≡ first_token_among (only kind) (siblings_left self.now next stop) }
+        ensures found { option_map (cursor_at self.now) result
+            ≡ first_token_among (only kind) (siblings_left self.now next stop) }
         ensures token { IfSome result (IsTokenRow self.now) }
     {
         let mut n = next;
@@ -122,5 +126,22 @@ impl Table {
             n = self.row_behind(n);
         }
         None
+    }
+
+    /// Whether the first of these that is a node of a kind has a child token with a kind of the
+    /// set.
+    pub fn has_token_in_child<K: KindSet>(&self, next: usize, stop: usize, kind: SyntaxKind) -> bool
+        requires { HaveParentEnd self.now next stop }
+        ensures { result
+            ≡ has_token_in (first_node_among (only kind) (siblings_left self.now next stop))
+            K.kinds }
+    {
+        match self.child_node_of(next, stop, kind) {
+            Some(child) => {
+                let (first, behind) = self.rows_below(child);
+                self.child_token_among::<K>(first, behind).is_some()
+            }
+            None => false,
+        }
     }
 }

@@ -1,5 +1,5 @@
-//! Interpolation search: starts mostly rise evenly with the row numbers, so a search of rows by offset first guesses the
-//! row by linear interpolation.
+//! Interpolation search: starts mostly rise evenly with the row numbers, so a search of rows by
+//! offset first guesses the row by linear interpolation.
 ghost use Rattle.std.specs.Prelude.{◌≤◌, ◌<◌, ◌-◌};
 ghost use Rattle.tree_model.specs.Tree.{size};
 ghost use Rattle.tree_rows.specs.RowSearch.{IsNarrowed};
@@ -17,8 +17,9 @@ pub struct Stretch {
 }
 
 impl Table {
-    // A part of a stretch that contains the first row that starts at or after `offset`, or ends right before it. It starts
-    // at a guess and takes growing steps, so a search costs at most a constant factor more than binary search alone.
+    // A part of a stretch that contains the first row that starts at or after `offset`, or ends
+    // right before it. It starts at a guess and takes growing steps, so a search costs at most a
+    // constant factor more than binary search alone.
     pub(super) fn narrowed(&self, whole: Stretch, offset: usize) -> Stretch
         requires ordered { whole.low ≤ whole.high }
         requires in_range { whole.high ≤ size self.now }
@@ -57,8 +58,8 @@ impl Table {
         }
     }
 
-    // The part of a stretch that is left after a look at the rows `reach` before and after the guess, clamped to the
-    // stretch.
+    // The part of a stretch that is left after a look at the rows `reach` before and after the
+    // guess, clamped to the stretch.
     fn narrower(&self, whole: Stretch, guess: usize, offset: usize, reach: usize) -> Stretch
         requires some { whole.low < whole.high }
         requires in_range { whole.high ≤ size self.now }
@@ -86,8 +87,8 @@ impl Table {
         }
     }
 
-    // Linear interpolation: the row as far along from `first` to `last` as `offset` is between their starts. Any row would
-    // do.
+    // Linear interpolation: the row as far along from `first` to `last` as `offset` is between
+    // their starts. Any row would do.
     fn guess(&self, first: usize, last: usize, offset: usize) -> usize
         requires ordered { first ≤ last }
         requires in_range { last < size self.now }

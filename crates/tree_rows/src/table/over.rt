@@ -13,7 +13,8 @@ impl Table {
     pub fn over<S: TreeStep>(alloc: Global, text: &str, steps: &[S]) -> Result<Table, AllocError>
         requires short { length text.now < 2 ^ 32 }
         requires one_tree { IsOneTree (filter_map S.step_event steps.now) text.now }
-        ensures { IfOk result (BuildsNode (events_from (filter_map S.step_event steps.now) text.now)) }
+        ensures { IfOk result
+            (BuildsNode (events_from (filter_map S.step_event steps.now) text.now)) }
     {
         let rows = build_rows(alloc, steps)?;
         let copy = String::from_str(alloc, text)?;

@@ -1,4 +1,5 @@
-//! Searches of rows by offset. The starts of rows are sorted, so they are binary searches, after a guess.
+//! Searches of rows by offset. The starts of rows are sorted, so they are binary searches, after a
+//! guess.
 ghost use Rattle.std.specs.Prelude.{◌≡◌, ◌+◌, ◌≤◌, ◌<◌, ◌^◌, ◌++◌, nat_lt, length, map, option_map, IfSome, IsTrue, ◌↔◌};
 ghost use Rattle.std.specs.Option.{option_to_list};
 ghost use Rattle.tree_model.specs.Tree.{nil, cons, size};
@@ -35,12 +36,14 @@ impl Table {
         near.low
     }
 
-    /// The non-empty tokens in the subtree at row `n` that touch the offset: one that starts before it, and one that starts
-    /// at it.
+    /// The non-empty tokens in the subtree at row `n` that touch the offset: one that starts before
+    /// it, and one that starts at it.
     pub fn tokens_at(&self, n: usize, offset: usize) -> (Option<usize>, Option<usize>)
         requires is_row { n < size self.now }
         requires fits { offset < 2 ^ 32 }
-        ensures tokens { map (cursor_at self.now) (option_to_list result.0 ++ option_to_list result.1) ≡ tokens_at (cursor_at self.now n) offset }
+        ensures tokens { map (cursor_at self.now)
+            (option_to_list result.0 ++ option_to_list result.1)
+            ≡ tokens_at (cursor_at self.now n) offset }
         ensures left { IfSome result.0 (IsTokenRow self.now) }
         ensures right { IfSome result.1 (IsTokenRow self.now) }
     {
@@ -67,7 +70,8 @@ impl Table {
 
     /// The first node in preorder with this kind and range.
     pub fn first_node(&self, kind: SyntaxKind, range: TextRange) -> Option<usize>
-        ensures first { IsFirst (PointsTo (record { kind = kind; range = range })) (descendants_of (cursor_at self.now 0)) (option_map (cursor_at self.now) result) }
+        ensures first { IsFirst (PointsTo (record { kind = kind; range = range }))
+            (descendants_of (cursor_at self.now 0)) (option_map (cursor_at self.now) result) }
         ensures node { IfSome result (IsNodeRow self.now) }
     {
         let start = range.start().raw() as usize;
@@ -98,7 +102,8 @@ impl Table {
         }
     }
 
-    // The lowest row in the subtree at row `n` whose range contains a range; row `n` itself if none of its children does.
+    // The lowest row in the subtree at row `n` whose range contains a range; row `n` itself if none
+    // of its children does.
     fn holding_row(&self, n: usize, range: TextRange) -> usize
         requires { n < size self.now }
         ensures holding { IsHolding self.now n range result }
@@ -114,7 +119,8 @@ impl Table {
         row
     }
 
-    // The row that covers an empty range in the subtree at row `n`, if the range is strictly inside no child.
+    // The row that covers an empty range in the subtree at row `n`, if the range is strictly inside
+    // no child.
     fn row_by_empty_range(&self, n: usize, range: TextRange) -> usize
         requires is_row { n < size self.now }
         requires empty { range.start ≡ range.end }
@@ -138,7 +144,8 @@ impl Table {
         requires empty { range.start ≡ range.end }
         requires none { NoneHolds self.now n range }
         ensures holding { IsHolding self.now n range result }
-        ensures first_ends { result + 1 < (row_at self.now result).end → end_at self.now (result + 1) ≤ range.start }
+        ensures first_ends { result + 1 < (row_at self.now result).end
+            → end_at self.now (result + 1) ≤ range.start }
     {
         let offset = range.start().raw() as usize;
         let mut row = n;

@@ -26,11 +26,12 @@ impl Table {
         child
     }
 
-    /// The row of the last child of row `n`, or `None` if it has none. It climbs from the last row below, so it takes time linear
-    /// in the depth there.
+    /// The row of the last child of row `n`, or `None` if it has none. It climbs from the last row
+    /// below, so it takes time linear in the depth there.
     pub fn last_child_row(&self, n: usize) -> Option<usize>
         requires { n < size self.now }
-        ensures place { option_map (place_at self.now) result ≡ last_child_place self.now (place_at self.now n) }
+        ensures place { option_map (place_at self.now) result
+            ≡ last_child_place self.now (place_at self.now n) }
         ensures in_range { IfSome result (λ q. q < size self.now) }
     {
         let last = self.row(n).end - 1;
@@ -41,11 +42,12 @@ impl Table {
         }
     }
 
-    /// The row of the previous sibling of row `n`; `None` for a first child and for the root. It climbs from the row before, so it takes
-    /// time linear in the depth there.
+    /// The row of the previous sibling of row `n`; `None` for a first child and for the root. It
+    /// climbs from the row before, so it takes time linear in the depth there.
     pub fn prev_sibling_row(&self, n: usize) -> Option<usize>
         requires { n < size self.now }
-        ensures place { option_map (place_at self.now) result ≡ prev_sibling_place (place_at self.now n) }
+        ensures place { option_map (place_at self.now) result
+            ≡ prev_sibling_place (place_at self.now n) }
         ensures in_range { IfSome result (λ q. q < size self.now) }
     {
         let parent = self.parent_row(n)?;
@@ -60,7 +62,8 @@ impl Table {
     /// The next sibling or the previous one.
     pub fn sibling_row(&self, n: usize, direction: Direction) -> Option<usize>
         requires { n < size self.now }
-        ensures place { option_map (place_at self.now) result ≡ sibling_place_in direction self.now (place_at self.now n) }
+        ensures place { option_map (place_at self.now) result
+            ≡ sibling_place_in direction self.now (place_at self.now n) }
         ensures in_range { IfSome result (λ q. q < size self.now) }
     {
         match direction {
@@ -104,7 +107,8 @@ impl Table {
     /// The first token of the subtree at row `n`.
     pub fn first_token_in(&self, n: usize) -> Option<usize>
         requires { n < size self.now }
-        ensures found { option_map (cursor_at self.now) result ≡ find at_token (descendants_of (cursor_at self.now n)) }
+        ensures found { option_map (cursor_at self.now) result
+            ≡ find at_token (descendants_of (cursor_at self.now n)) }
         ensures token { IfSome result (λ q. IsToken (tree_at self.now q)) }
         ensures in_range { IfSome result (λ q. q < size self.now) }
     {
@@ -115,7 +119,8 @@ impl Table {
     /// The last token of the subtree at row `n`.
     pub fn last_token_in(&self, n: usize) -> Option<usize>
         requires { n < size self.now }
-        ensures found { option_map (cursor_at self.now) result ≡ find at_token (reverse (descendants_of (cursor_at self.now n))) }
+        ensures found { option_map (cursor_at self.now) result
+            ≡ find at_token (reverse (descendants_of (cursor_at self.now n))) }
         ensures token { IfSome result (λ q. IsToken (tree_at self.now q)) }
         ensures in_range { IfSome result (λ q. q < size self.now) }
     {
@@ -127,7 +132,8 @@ impl Table {
     pub fn next_token_row(&self, n: usize) -> Option<usize>
         requires is_row { n < size self.now }
         requires is_token { IsToken (tree_at self.now n) }
-        ensures found { IsRightBehind (all_tokens (cursor_at self.now n)) (cursor_at self.now n) (option_map (cursor_at self.now) result) }
+        ensures found { IsRightBehind (all_tokens (cursor_at self.now n)) (cursor_at self.now n)
+            (option_map (cursor_at self.now) result) }
         ensures token { IfSome result (λ q. IsToken (tree_at self.now q)) }
         ensures in_range { IfSome result (λ q. q < size self.now) }
     {
@@ -139,7 +145,8 @@ impl Table {
     pub fn prev_token_row(&self, n: usize) -> Option<usize>
         requires is_row { n < size self.now }
         requires is_token { IsToken (tree_at self.now n) }
-        ensures found { IsRightBefore (all_tokens (cursor_at self.now n)) (cursor_at self.now n) (option_map (cursor_at self.now) result) }
+        ensures found { IsRightBefore (all_tokens (cursor_at self.now n)) (cursor_at self.now n)
+            (option_map (cursor_at self.now) result) }
         ensures token { IfSome result (λ q. IsToken (tree_at self.now q)) }
         ensures in_range { IfSome result (λ q. q < size self.now) }
     {
@@ -149,7 +156,8 @@ impl Table {
     // Whether the node or token at row `n` is a token that is not trivia. It reads the row once.
     fn is_no_trivia_token_at(&self, n: usize) -> bool
         requires { n < size self.now }
-        ensures { result ≡ (at_token (cursor_at self.now n) && is_no_trivia (cursor_at self.now n)) }
+        ensures { result
+            ≡ (at_token (cursor_at self.now n) && is_no_trivia (cursor_at self.now n)) }
     {
         let row = self.row(n);
         row.is_token && !row.kind.is_trivia()
@@ -158,7 +166,8 @@ impl Table {
     // The first token among the rows `from..to` that is not trivia.
     fn first_no_trivia_token_row(&self, from: usize, to: usize) -> Option<usize>
         requires { to ≤ size self.now }
-        ensures found { option_map (cursor_at self.now) result ≡ find is_no_trivia (tokens_among self.now from to) }
+        ensures found { option_map (cursor_at self.now) result
+            ≡ find is_no_trivia (tokens_among self.now from to) }
         ensures token { IfSome result (λ q. IsToken (tree_at self.now q)) }
         ensures in_range { IfSome result (λ q. q < size self.now) }
     {
@@ -173,7 +182,8 @@ impl Table {
     // The last token among the rows `from..to` that is not trivia.
     fn last_no_trivia_token_row(&self, from: usize, to: usize) -> Option<usize>
         requires { to ≤ size self.now }
-        ensures found { option_map (cursor_at self.now) result ≡ find is_no_trivia (reverse (tokens_among self.now from to)) }
+        ensures found { option_map (cursor_at self.now) result
+            ≡ find is_no_trivia (reverse (tokens_among self.now from to)) }
         ensures token { IfSome result (λ q. IsToken (tree_at self.now q)) }
         ensures in_range { IfSome result (λ q. q < size self.now) }
     {
@@ -187,11 +197,13 @@ impl Table {
         None
     }
 
-    /// The nearest token after the token at row `n` that is not trivia. It goes over the rows between, and reads each once.
+    /// The nearest token after the token at row `n` that is not trivia. It goes over the rows
+    /// between, and reads each once.
     pub fn next_no_trivia_token_row(&self, n: usize) -> Option<usize>
         requires is_row { n < size self.now }
         requires is_token { IsToken (tree_at self.now n) }
-        ensures found { option_map (cursor_at self.now) result ≡ find is_no_trivia (tokens_beyond Next (cursor_at self.now n)) }
+        ensures found { option_map (cursor_at self.now) result
+            ≡ find is_no_trivia (tokens_beyond Next (cursor_at self.now n)) }
         ensures token { IfSome result (λ q. IsToken (tree_at self.now q)) }
         ensures in_range { IfSome result (λ q. q < size self.now) }
     {
@@ -199,11 +211,13 @@ impl Table {
         self.first_no_trivia_token_row(n + 1, count)
     }
 
-    /// The nearest token before the token at row `n` that is not trivia. It goes over the rows between, and reads each once.
+    /// The nearest token before the token at row `n` that is not trivia. It goes over the rows
+    /// between, and reads each once.
     pub fn prev_no_trivia_token_row(&self, n: usize) -> Option<usize>
         requires is_row { n < size self.now }
         requires is_token { IsToken (tree_at self.now n) }
-        ensures found { option_map (cursor_at self.now) result ≡ find is_no_trivia (tokens_beyond Prev (cursor_at self.now n)) }
+        ensures found { option_map (cursor_at self.now) result
+            ≡ find is_no_trivia (tokens_beyond Prev (cursor_at self.now n)) }
         ensures token { IfSome result (λ q. IsToken (tree_at self.now q)) }
         ensures in_range { IfSome result (λ q. q < size self.now) }
     {

@@ -20,8 +20,8 @@ pub struct WalkStep {
 }
 
 impl Table {
-    /// The next step of the walk of the subtree at row `start`, when its rows before `next` have been entered and `innermost` is
-    /// open; `None` at the end.
+    /// The next step of the walk of the subtree at row `start`, when its rows before `next` have
+    /// been entered and `innermost` is open; `None` at the end.
     pub fn walk_step(&self, start: usize, next: usize, innermost: Option<usize>) -> Option<WalkStep>
         requires { IsWalk self.now start next innermost }
         ensures rest { MatchOption result (walk_left self.now start next innermost ≡ [])
@@ -29,7 +29,8 @@ impl Table {
             ≡ (s.enters, cursor_at self.now s.row) ∷ walk_left self.now start s.next s.innermost) }
         ensures state { MatchOption result (IsWalk self.now start next innermost)
             (λ s. IsRow self.now s.row × IsWalk self.now start s.next s.innermost) }
-        ensures level { IfSome result (λ s. MovesLevel self.now start innermost s.enters s.row s.innermost) }
+        ensures level { IfSome result
+            (λ s. MovesLevel self.now start innermost s.enters s.row s.innermost) }
     {
         match innermost {
             None => {

@@ -2,7 +2,7 @@
 //! result alone.
 ghost use Rattle.std.specs.Prelude.{◌≡◌};
 ghost use Rattle.tree_model.specs.Cursor.{children_of};
-ghost use Rattle.tree_rows.specs.KindSearch.{only, first_node_among, first_token_among};
+ghost use Rattle.tree_rows.specs.KindSearch.{only, first_node_among, first_token_among, has_token_in};
 ghost use Rattle.tree_rows.specs.Walks.{siblings_left, HaveParentEnd};
 
 use super::SyntaxNode;
@@ -62,5 +62,16 @@ impl SyntaxNode {
         let (next, stop) = self.child_rows();
         let row = self.table.child_token_of(next, stop, kind)?;
         Some(SyntaxToken::at(self.table.share(), row))
+    }
+
+    /// Whether the first child node of a kind has a child token with a kind of the set.
+    ///
+    /// Takes time linear in the number of children before them, whatever these contain.
+    pub fn has_token_in_child<K: KindSet>(&self, kind: SyntaxKind) -> bool
+        ensures { result
+            ≡ has_token_in (first_node_among (only kind) (children_of self.now)) K.kinds }
+    {
+        let (next, stop) = self.child_rows();
+        self.table.has_token_in_child::<K>(next, stop, kind)
     }
 }

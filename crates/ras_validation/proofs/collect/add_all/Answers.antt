@@ -4,7 +4,7 @@ use Rattle.lossless_tree.specs.KindSearch.{is_among}
 use Rattle.ras_validation.specs.Kinds.{has_rules}
 use Rattle.ras_validation.specs.Violations.{violations_at}
 use Rattle.ras_validation.proofs.Walks.{walked, all_walked, fewer_left}
-use Rattle.ras_validation.proofs.collect.violations_in.Goals as goal
+use Rattle.ras_validation.proofs.collect.add_all.Goals as goal
 
 pub loop-next-smaller : goal.loop-next-smaller
 loop-next-smaller c = omega (arith, ap length c.in-Some.ensures.left, fewer_left (is_among has_rules) c.loop-next.left c.in-Some.next c.in-Some.ensures.found)
