@@ -12,7 +12,7 @@ STEPS = (
     ("tools/proved", ["--write"], ["--check"]),
 )
 # What compares files that are written by hand.
-COMPARED = (("tests/operators", ["--check"]), ("tools/railroad", ["--check"]), ("tests/tour", []), ("tests/scripts", []))
+COMPARED = (("tests/operators", ["--check"]), ("tools/railroad", ["--check"]), ("tests/tour", []), ("tests/scripts", []), ("tests/widths", []))
 
 
 def made():

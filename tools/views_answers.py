@@ -1,7 +1,7 @@
 """Writes the lookups of the program `answers_views`, which calls each and prints its result."""
 import os
 
-from views_text import CALLS, CALLS_OF_ONE, GIVEN, MADE, WIDTH, listed, snake
+from views_text import CALLS, CALLS_OF_ONE, GIVEN, WIDTH, comment, file_head, listed, snake
 
 ASKING = os.path.join("crates", "answers_views")
 # ---- the program that asks the lookups
@@ -39,7 +39,7 @@ def chain(name, calls, doc=None):
     """Functions that make these calls, each at most `CALLS` of them and then the next function: more in one take long to prove."""
     out = []
     for at in range(0, len(calls), CALLS):
-        heading = [f"/// {doc}", *opened(f"pub fn {name}", ASKED)] if at == 0 and doc else opened(f"fn {name}", ASKED)
+        heading = [*comment("///", doc), *opened(f"pub fn {name}", ASKED)] if at == 0 and doc else opened(f"fn {name}", ASKED)
         name = f"from_{calls[at + CALLS][0]}" if at + CALLS < len(calls) else None
         rest = [[f"    {name}(sheet, node)"]] if name else []
         out += ["", *heading, *chained([lines for _, lines in calls[at : at + CALLS]] + rest), "}"]
@@ -47,7 +47,7 @@ def chain(name, calls, doc=None):
 
 
 def asking(title, uses):
-    out = [f"// Plain lookups {title}. {MADE}", "use crate::sheet::Sheet;", "use ra_ap_syntax::SyntaxNode;"]
+    out = [*file_head("//", f"Plain lookups {title}."), "use crate::sheet::Sheet;", "use ra_ap_syntax::SyntaxNode;"]
     return [*out, *listed("use ra_ap_syntax::ast::", uses), "use std::alloc::AllocError;"]
 
 
@@ -111,7 +111,7 @@ def asking_shared_file(table):
 def asking_files(table, rust, sections):
     added = [f"rust_{it}" for it in rust.sections]
     parts = sorted([*sections, "enums", "shared", *added])
-    out = [f"// Plain lookups. {MADE}", *(f"mod {it};" for it in parts), "", "use crate::sheet::Sheet;", "use ra_ap_syntax::SyntaxNode;"]
+    out = [*file_head("//", "Plain lookups."), *(f"mod {it};" for it in parts), "", "use crate::sheet::Sheet;", "use ra_ap_syntax::SyntaxNode;"]
     out += ["use std::alloc::AllocError;"]
     calls = [(it, [f"    {it}::answers(sheet, node)"]) for it in parts]
     out += chain("answers", calls, "Prints the results of the plain lookups for a node.")

@@ -1,7 +1,7 @@
 """Writes the crate `view_examples`: a test for each view, which calls its lookups on the examples of the tables."""
 import os
 
-from views_text import MADE, listed, of_ast, snake
+from views_text import file_head, listed, of_ast, snake
 
 EXAMPLES = os.path.join("crates", "view_examples")
 
@@ -44,7 +44,7 @@ def file(title, rows, view, traits):
     rows = [row for row in rows if row[1]]
     ways = {it.way for _, lookups in rows for it in lookups}
     calls = ["find"] + [f"is_{name}" for name, those in (("node", {"first", "second"}), ("nodes", {"all"}), ("token", {"token"})) if ways & those]
-    out = [f"//! {title} {MADE}", *listed("use crate::", sorted(calls))]
+    out = [*file_head("//!", f"{title}"), *listed("use crate::", sorted(calls))]
     named = sorted({view(it.example.view) for _, lookups in rows for it in lookups})
     out += of_ast(["self"] * any(it.startswith("ast::") for it in named) + [it for owner, it in traits if owner == "ast"])
     own = [it for it in named if not it.startswith("ast::")] + [it for owner, it in traits if owner == "rust_views"]
@@ -72,6 +72,6 @@ def example_files(table, rust):
         views = sorted((it for it in views if it.section == section and any(lookup.example for lookup in it.lookups)), key=lambda it: it.name)
         traits = [("rust_views", f"{it.name}Ext") for it in views]
         files[f"rust_{section}"] = file(f"Lookups of `rust_views` in {title}.", [(snake(it.name), it.lookups) for it in views], view, traits)
-    modules = [f"//! The examples by the parts of the language. {MADE}"] + [line for it in sorted(files) for line in ("#[cfg(test)]", f"mod {it};")]
+    modules = [*file_head("//!", "The examples by the parts of the language.")] + [line for it in sorted(files) for line in ("#[cfg(test)]", f"mod {it};")]
     made = {os.path.join(src, "examples", f"{name}.rt"): lines for name, lines in files.items()}
     return made | {os.path.join(src, "examples.rt"): modules}

@@ -1,7 +1,7 @@
 """Writes the crate `rust_views`: the views of the kinds that have no constant in `SyntaxKind`, from crates/rust_views/views.txt."""
 import os
 
-from views_text import MADE, WIDTH, by_name, call, cited, listed, of_ast, snake, word, words_head, words_of, words_of_kinds
+from views_text import MADE, WIDTH, by_name, call, cited, file_head, listed, of_ast, snake, word, words_head, words_of, words_of_kinds
 
 CRATE = os.path.join("crates", "rust_views")
 CURSORS = [
@@ -19,8 +19,8 @@ HEAD = """//! Views of the nodes of Rust's trees for whose kinds `SyntaxKind` ha
 //!
 //! All other views are in `ra_ap_syntax`. A lookup is a method of a trait with the name of the view
 //! and `Ext`, because a view is an alias of `ra_ap_syntax`'s `Typed`: after
-//! `use rust_views::EnumExt;`, `it.variant_list()` is rust-analyzer's call. A call takes time linear
-//! in the number of children that it passes, and no memory.
+//! `use rust_views::EnumExt;`, `it.variant_list()` is rust-analyzer's call. A call takes time
+//! linear in the number of children that it passes, and no memory.
 #![tactic(auto)]
 """
 
@@ -71,7 +71,7 @@ class Writer:
         views = self.extended(section)
         lookups = [lookup for it in views for lookup in it.lookups]
         ways = {it.way for it in lookups}
-        out = [f"//! Lookups in {self.table.sections[section]}. {MADE}"]
+        out = [*file_head("//!", f"Lookups in {self.table.sections[section]}.")]
         out += cited(lookups, "(Self.node self.now)", self.spec_of)
         others = sorted({it.of for it in lookups if it.is_other})
         out += [f"ghost use Rattle.rust_kinds.specs.declared.kinds.TheConstants.{{{', '.join(others)}}};"] if others else []
@@ -97,7 +97,7 @@ class Writer:
     def enum(self, enum):
         name, own = enum.name, word(enum.name)
         views = [self.view(of) for _, of in enum.variants]
-        out = [f"//! {enum.doc} {MADE}", "ghost use Rattle.std.specs.Prelude.{◌≡◌, Some};", *CURSORS]
+        out = [*file_head("//!", f"{enum.doc}"), "ghost use Rattle.std.specs.Prelude.{◌≡◌, Some};", *CURSORS]
         out += [f"ghost use Rattle.rust_views.specs.declared.enums.{own}.{name}.TheVariants as {own};"]
         out += [f"ghost use Rattle.rust_views.specs.{name}Cases.{{{own}_node, {own}_castable, is_{own}}};"]
         out += ["", *self.uses([of for _, of in enum.variants], ["AstNode"]), *listed("use ra_ap_syntax::", ["SyntaxKind", "SyntaxNode"])]
@@ -134,7 +134,7 @@ class Writer:
         """The spec of an enum: its kinds, the node of each variant, and that its kind is one of these."""
         name, own = enum.name, word(enum.name)
         declared = f"Rattle.rust_views.specs.declared.enums.{own}.{name}"
-        out = [f"-- `{name}`: its kinds by their raw numbers, the node of each variant, and words of clauses. {MADE}"]
+        out = [*file_head("--", f"`{name}`: its kinds by their raw numbers, the node of each variant, and words of clauses.")]
         out += ["use Rattle.std.specs.Prelude.{◌≡◌, ◌||◌, Bool, true, ℕ, nat_eq, Option, option_map}", "use Rattle.std.proofs.lemmas.Bool.{eq-eqb}"]
         out += ["use Rattle.syntax_kind.specs.declared.syntax_kind.SyntaxKind.{SyntaxKind}", "use Rattle.syntax_kind.specs.Kinds.{kind_raw}"]
         out += self.numbers([of for _, of in enum.variants])
@@ -166,7 +166,7 @@ class Writer:
     def views_spec(self, section):
         """The spec with the words of clauses of the views of a section."""
         kinds = sorted((it for it in self.table.kinds.values() if it.section == section), key=lambda it: it.name)
-        out = [f"-- Words of clauses for the views of {self.table.sections[section]}: the kinds of each, and what is one. {MADE}"]
+        out = [*file_head("--", f"Words of clauses for the views of {self.table.sections[section]}: the kinds of each, and what is one.")]
         return out + words_head(kinds, self.firsts, "rust_views", "ra_ap_syntax.specs.declared.ast.typed") + words_of_kinds(kinds, self.firsts)
 
     def holders(self, trait):
@@ -175,7 +175,7 @@ class Writer:
 
     def sets(self):
         """The spec of the kinds of the views of several kinds."""
-        out = [f"-- The kinds of nodes that have a trait. {MADE}", "use Rattle.std.specs.Prelude.{Bool, true, false}"]
+        out = [*file_head("--", "The kinds of nodes that have a trait."), "use Rattle.std.specs.Prelude.{Bool, true, false}"]
         out += ["use Rattle.syntax_kind.specs.declared.syntax_kind.SyntaxKind.{SyntaxKind}"]
         out += ["use Rattle.syntax_kind.specs.declared.syntax_kind.SyntaxKind.TheVariants.{Node}"]
         out += ["use Rattle.syntax_kind.specs.declared.syntax_kind.node_kind.NodeKind.TheVariants as node"]
@@ -188,7 +188,7 @@ class Writer:
     def any(self, it):
         name, trait = it.name, it.traits[0]
         kinds = snake(trait)
-        out = [f"//! {it.doc} {MADE}", "ghost use Rattle.std.specs.Prelude.{◌≡◌, Some, true, ⊤, option_map};", *CURSORS, *EQUALITY]
+        out = [*file_head("//!", f"{it.doc}"), "ghost use Rattle.std.specs.Prelude.{◌≡◌, Some, true, ⊤, option_map};", *CURSORS, *EQUALITY]
         out += ["ghost use Rattle.ras_node.specs.Nodes.{kind_at};", "ghost use Rattle.ras_node.specs.Lookups.{if_of};"]
         out += [f"ghost use Rattle.rust_views.specs.Sets.{{{kinds}}};", "", *listed("use ra_ap_syntax::ast::", sorted(["AstNode", trait, "Within"]))]
         out += ["use ra_ap_syntax::{SyntaxKind, SyntaxNode};", "use ras_node::support;", "use std::alloc::AllocError;", "use std::fmt;", "use std::hash::{Hash, Hasher};", ""]
@@ -208,7 +208,7 @@ class Writer:
 
     def within(self):
         anys = self.table.anys.values()
-        out = [f"//! Which views are within a view of several kinds. {MADE}", *self.templates.WITHIN]
+        out = [*file_head("//!", "Which views are within a view of several kinds."), *self.templates.WITHIN]
         out += [f"ghost use Rattle.rust_views.specs.Sets.{{{', '.join(sorted(snake(it.traits[0]) for it in anys))}}};", ""]
         out += [*listed("use crate::", list(self.table.anys)), *listed("use ra_ap_syntax::ast::", ["self", "Within"])]
         for it in anys:
@@ -232,7 +232,7 @@ class Writer:
 
     def laws(self):
         kinds = sorted(self.table.kinds.values(), key=lambda it: it.name)
-        out = [f"//! The views are of the kinds that they are named for. The function does nothing: the contract is the law. {MADE}"]
+        out = [*file_head("//!", "The views are of the kinds that they are named for. The function does nothing: the contract is the law.")]
         out += ["ghost use Rattle.std.specs.Prelude.{◌≡◌};", "ghost use Rattle.ra_ap_syntax.specs.Words.{Views};"]
         out += [f"ghost use Rattle.rust_kinds.specs.declared.kinds.TheConstants.{{{', '.join(it.kind for it in kinds)}}};", ""]
         out += ["// The formatter would write this many names one per line.", "#[rattlefmt::skip]"] * (len(kinds) > 16)
@@ -245,7 +245,7 @@ class Writer:
 
     def shared_traits(self):
         rows = [(trait, name) for name, it in sorted(self.table.enums.items()) for trait in it.traits]
-        out = [f"//! Which views have which of the shared traits. {MADE}"]
+        out = [*file_head("//!", "Which views have which of the shared traits.")]
         rows += [(it.traits[0], it.name) for it in self.table.anys.values()]
         out += listed("use crate::", sorted({name for _, name in rows})) + listed("use ra_ap_syntax::ast::", sorted({trait for trait, _ in rows}))
         for trait, name in rows:
@@ -253,13 +253,13 @@ class Writer:
         return out
 
     def raw(self):
-        out = ["//! The raw numbers of the kinds, as `SyntaxKind::to_raw` gives them. " + MADE, "", "// The number of `SyntaxKind::OTHER(0)`.", "const FIRST_OTHER: u32 = 65_536;"]
+        out = [*file_head("//!", "The raw numbers of the kinds, as `SyntaxKind::to_raw` gives them."), "", "// The number of `SyntaxKind::OTHER(0)`.", "const FIRST_OTHER: u32 = 65_536;"]
         for it in sorted(self.table.kinds.values(), key=lambda it: it.kind):
             out += ["", f"pub const {it.kind}: u32 = FIRST_OTHER + {self.table.numbers[it.kind]};"]
         return out
 
     def kinds(self):
-        out = [f"//! A view for each kind of node. {MADE}", "use crate::raw;", "use ra_ap_syntax::ast::Typed;"]
+        out = [*file_head("//!", "A view for each kind of node."), "use crate::raw;", "use ra_ap_syntax::ast::Typed;"]
         for it in self.table.kinds.values():
             out += ["", f"/// {it.doc}", f"pub type {it.name} = Typed<{{ raw::{it.kind} }}>;"]
         return out
@@ -268,9 +268,9 @@ class Writer:
         src, specs = os.path.join(CRATE, "src"), os.path.join(CRATE, "specs")
         sections = sorted(it for it in self.table.sections if self.extended(it))
         out = {"lib": self.lib(), "laws": self.laws(), "raw": self.raw(), "kinds": self.kinds(), "shared_traits": self.shared_traits(), "within": self.within()}
-        out |= {"lookups": [f"//! Lookups of children by their kinds. {MADE}", *(f"pub mod {it};" for it in sections)]}
-        out |= {"enums": [f"//! Views of one of several kinds. {MADE}", *(f"pub mod {snake(it)};" for it in sorted(self.table.enums))]}
-        out |= {"anys": [f"//! Views of all nodes that have a trait. {MADE}", *(f"pub mod {snake(it)};" for it in sorted(self.table.anys))]}
+        out |= {"lookups": [*file_head("//!", "Lookups of children by their kinds."), *(f"pub mod {it};" for it in sections)]}
+        out |= {"enums": [*file_head("//!", "Views of one of several kinds."), *(f"pub mod {snake(it)};" for it in sorted(self.table.enums))]}
+        out |= {"anys": [*file_head("//!", "Views of all nodes that have a trait."), *(f"pub mod {snake(it)};" for it in sorted(self.table.anys))]}
         out |= {os.path.join("lookups", it): self.lookups(it) for it in sections}
         out |= {os.path.join("enums", snake(it.name)): self.enum(it) for it in self.table.enums.values()}
         out |= {os.path.join("anys", snake(it.name)): self.any(it) for it in self.table.anys.values()}

@@ -1,5 +1,7 @@
 """What the scripts that write the typed views share: how a lookup is written, its documentation, and lists of names."""
+import itertools
 import re
+import textwrap
 
 
 MADE = "Made by `tools/views` from `views.txt`."
@@ -18,6 +20,23 @@ MEANINGS = {
     "ident": "identifier", "meta": "meta item", "param": "parameter", "pat": "pattern", "pred": "predicate", "ref": "reference",
     "ret": "return", "stmt": "statement", "where": "`where`",
 }  # fmt: skip
+
+
+def comment(mark, text):
+    """A comment, in as many lines as it takes."""
+    width = WIDTH - len(mark) - 1
+    return [f"{mark} {line}" for line in textwrap.wrap(text, width, break_long_words=False, break_on_hyphens=False)]
+
+
+def file_head(mark, text):
+    """The comment at the head of a made file."""
+    return comment(mark, f"{text} {MADE}")
+
+
+def is_made(text):
+    """Whether the comment at the head of a file says that the table made it."""
+    lines = itertools.takewhile(lambda line: line.startswith(("//", "--")), text.split("\n"))
+    return MADE in " ".join(line.lstrip("/!-").strip() for line in lines)
 
 
 def snake(name):

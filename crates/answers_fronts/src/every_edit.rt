@@ -30,7 +30,8 @@ fn errors_lie(alloc: Global, file: &File) -> Result<bool, Stopped> {
     Ok(true)
 }
 
-// The tree that the front end parses from a node's text alone; `None` if such a node may not be parsed alone.
+// The tree that the front end parses from a node's text alone; `None` if such a node may not be
+// parsed alone.
 fn read_alone<F: FrontEnd>(
     alloc: Global,
     front: &F,
@@ -92,7 +93,8 @@ fn is_as_read_over<F: FrontEnd>(
     }
 }
 
-// Whether the first node from an element up that has this range and may be parsed alone equals the parse of its text.
+// Whether the first node from an element up that has this range and may be parsed alone equals the
+// parse of its text.
 fn is_node_piece<F: FrontEnd>(
     alloc: Global,
     front: &F,

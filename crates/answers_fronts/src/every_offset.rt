@@ -9,7 +9,8 @@ use ra_ap_syntax::{
 use std::alloc::Global;
 use std::fmt::Write;
 
-// The tokens with a text that touch an offset: the first and the last of them, and how many nodes are above them in all.
+// The tokens with a text that touch an offset: the first and the last of them, and how many nodes
+// are above them in all.
 #[derive(Drop)]
 struct Touching {
     first: Option<SyntaxToken>,
@@ -72,7 +73,8 @@ fn are_tokens_at(root: &SyntaxNode, at: TextSize, wanted: &Touching) -> bool {
         && root.token_at_offset(at).right_biased() == wanted.last
 }
 
-// Whether there are `wanted` nodes above an offset, all of them touch it, and the shortest come first.
+// Whether there are `wanted` nodes above an offset, all of them touch it, and the shortest come
+// first.
 fn are_nodes_above(root: &SyntaxNode, offset: u32, wanted: usize) -> bool {
     let (mut above, mut len, mut ordered) = (0_usize, 0_u32, true);
     for node in ancestors_at_offset(root, TextSize::new(offset)) {
@@ -95,7 +97,8 @@ fn is_right_at(root: &SyntaxNode, offset: u32) -> Result<bool, Stopped> {
     Ok(tokens && nodes)
 }
 
-// Whether the search for the element that covers a range continues in this child: it contains the range, an empty one strictly inside.
+// Whether the search for the element that covers a range continues in this child: it contains the
+// range, an empty one strictly inside.
 fn holds(child: TextRange, range: TextRange) -> bool {
     if range.is_empty() {
         child.start().raw() < range.start().raw() && range.end().raw() < child.end().raw()
@@ -104,8 +107,8 @@ fn holds(child: TextRange, range: TextRange) -> bool {
     }
 }
 
-// The child to go to, if there is one: one that holds the range; else, for an empty range, the last that ends before it, or the
-// first.
+// The child to go to, if there is one: one that holds the range; else, for an empty range, the last
+// that ends before it, or the first.
 fn child_towards(node: &SyntaxNode, range: TextRange) -> Option<SyntaxElement> {
     let mut nearest = None;
     for child in node.children_with_tokens() {

@@ -1,6 +1,7 @@
-//! Every operator term up to a number of forms over the name `a`, written with spaces and parsed by `Tiny`. If the built
-//! tree reads back, the parsed tree must equal it, also in a body: after `let`, as a statement and as the tail. Otherwise
-//! the text must have errors, or be parsed as another tree that reads back. Every other result is printed.
+//! Every operator term up to a number of forms over the name `a`, written with spaces and parsed by
+//! `Tiny`. If the built tree reads back, the parsed tree must equal it, also in a body: after
+//! `let`, as a statement and as the tail. Otherwise the text must have errors, or be parsed as
+//! another tree that reads back. Every other result is printed.
 
 mod body;
 mod terms;

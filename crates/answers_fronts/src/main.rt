@@ -1,17 +1,25 @@
-//! Reads requests on front ends, parses and edits, one on each line, and prints each request with its result.
+//! Reads requests on front ends, parses and edits, one on each line, and prints each request with
+//! its result.
 //!
-//! A request is a word and what it is about. In it `\n`, `\t`, `\r` and `\\` are escapes. `FRONT` is `tiny`, or one of the
-//! useless front ends `wrong` and `flat`.
+//! A request is a word and what it is about. In it `\n`, `\t`, `\r` and `\\` are escapes. `FRONT`
+//! is `tiny`, or one of the useless front ends `wrong` and `flat`.
 //!
-//! - `run COMMAND INPUT`: what the program writes, and its status; `bytes COMMAND` runs it on the byte 255.
-//! - `file FRONT TEXT`, `expr FRONT TEXT`: the parse's dump, its errors, the results of `tree`, `cast` and `ok`.
-//! - `edit FRONT START END |INSERT|TEXT`: the re-parsed range, the new text, whether the parse equals that of the new text, errors.
+//! - `run COMMAND INPUT`: what the program writes, and its status; `bytes COMMAND` runs it on the
+//!   byte 255.
+//! - `file FRONT TEXT`, `expr FRONT TEXT`: the parse's dump, its errors, the results of `tree`,
+//!   `cast` and `ok`.
+//! - `edit FRONT START END |INSERT|TEXT`: the re-parsed range, the new text, whether the parse
+//!   equals that of the new text, errors.
 //! - `edits FRONT TEXT`: each range of the text edited with nothing, `x`, `}`, `"` and a newline.
-//! - `offsets FRONT TEXT`: each offset and each range of the text, by the tree's searches and by plain ones.
-//! - `walk TEXT`: its items, their names, and what is in and around the last expression of each body.
-//! - `built WORDS`: the errors of a tree that is built; `KIND(` enters, `)` leaves, `KIND:text` is a token, `!5` an error at 5.
+//! - `offsets FRONT TEXT`: each offset and each range of the text, by the tree's searches and by
+//!   plain ones.
+//! - `walk TEXT`: its items, their names, and what is in and around the last expression of each
+//!   body.
+//! - `built WORDS`: the errors of a tree that is built; `KIND(` enters, `)` leaves, `KIND:text` is
+//!   a token, `!5` an error at 5.
 //! - `name WORD`: whether it is an identifier, and a raw one.
-//! - `parens WANTED ROW`: whether a marked node of a tree needs parentheses, and whether that is as wanted.
+//! - `parens WANTED ROW`: whether a marked node of a tree needs parentheses, and whether that is as
+//!   wanted.
 //! - `terms N`: every operator term of at most N forms, parsed by `tiny`; how many had each result.
 //!
 //! A line that begins with `#` is skipped.

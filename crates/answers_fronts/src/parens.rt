@@ -1,8 +1,8 @@
 //! Rows on parentheses.
 //!
-//! A row is a tree as words, parted by a space: `KIND(` enters a node, `)` leaves it, `KIND:text` is a token, and a short word
-//! stands for some of these. The tested node is marked by `>` before its word, the parent by `^`, and the node in whose
-//! place it would be by `@`, if that is another.
+//! A row is a tree as words, parted by a space: `KIND(` enters a node, `)` leaves it, `KIND:text`
+//! is a token, and a short word stands for some of these. The tested node is marked by `>` before
+//! its word, the parent by `^`, and the node in whose place it would be by `@`, if that is another.
 
 mod short;
 
@@ -108,7 +108,8 @@ fn answer(alloc: Global, words: &str) -> Result<bool, Stopped> {
     asks.or(type_asks(&own, &parent)).ok_or(Stopped::NoNode)
 }
 
-/// Whether the marked node needs parentheses, and the expected result: `true` or `false`, and then the row.
+/// Whether the marked node needs parentheses, and the expected result: `true` or `false`, and then
+/// the row.
 pub fn show_parens(alloc: Global, out: &mut String, row: &str) -> Result<(), Stopped> {
     let (wanted, words) = row.split_once(' ').unwrap_or((row, ""));
     let asks = answer(alloc, words)?;

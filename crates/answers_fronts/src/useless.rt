@@ -5,7 +5,8 @@ use ras_front_end::Entry;
 use std::alloc::{AllocError, Global};
 use token_layout::{Outline, Parser, Span, Target, Token};
 
-/// Every expression is an `ERROR` over its tokens, the parser reports no errors, and every node may be parsed again.
+/// Every expression is an `ERROR` over its tokens, the parser reports no errors, and every node may
+/// be parsed again.
 #[derive(Clone, Copy, Debug, Drop)]
 pub enum Useless {
     /// Every token is a child of the root.

@@ -6,7 +6,8 @@ use ra_ap_syntax::ast::{
 use ra_ap_syntax::{SyntaxNode, SyntaxToken};
 use std::alloc::AllocError;
 
-/// Prints the results, for a node, of the accessors of attributes, documentation comments and token trees that are not plain lookups.
+/// Prints the results, for a node, of the accessors of attributes, documentation comments and token
+/// trees that are not plain lookups.
 pub fn answers(sheet: &mut Sheet, node: &SyntaxNode) -> Result<(), AllocError> {
     meta(sheet, node)?;
     opened_meta(sheet, node)?;

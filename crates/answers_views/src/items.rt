@@ -4,7 +4,8 @@ use ra_ap_syntax::SyntaxNode;
 use ra_ap_syntax::ast::{self, AstNode, StructKind, TypeBoundKind, VisibilityKind, cast_ref};
 use std::alloc::AllocError;
 
-/// Prints the results, for a node, of the accessors of items, patterns and types that are not plain lookups.
+/// Prints the results, for a node, of the accessors of items, patterns and types that are not plain
+/// lookups.
 pub fn answers(sheet: &mut Sheet, node: &SyntaxNode) -> Result<(), AllocError> {
     macros(sheet, node)?;
     impls(sheet, node)?;

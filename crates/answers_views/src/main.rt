@@ -1,9 +1,12 @@
-//! Reads trees that are written as words, and prints the result of each call of each view of each node.
+//! Reads trees that are written as words, and prints the result of each call of each view of each
+//! node.
 //!
-//! A line is a tree, or a heading that begins with `#`. The words are parted by a space: `KIND(` enters a node, `)` leaves it, and
-//! `KIND:text` is a token. After a line that makes no tree is `no tree`.
+//! A line is a tree, or a heading that begins with `#`. The words are parted by a space: `KIND(`
+//! enters a node, `)` leaves it, and `KIND:text` is a token. After a line that makes no tree is
+//! `no tree`.
 //!
-//! With the argument `texts` a line is a text of Rust, in which `\n` is a newline. What is printed is what is printed for its tree.
+//! With the argument `texts` a line is a text of Rust, in which `\n` is a newline. What is printed
+//! is what is printed for its tree.
 #![tactic(auto)]
 
 mod attrs;

@@ -4,7 +4,8 @@ use ra_ap_syntax::SyntaxNode;
 use ra_ap_syntax::ast::{self, AstNode, NameLike, NameOrNameRef, PathSegmentKind, cast_ref};
 use std::alloc::AllocError;
 
-/// Prints the results, for a node, of the accessors of names, paths and imports that are not plain lookups.
+/// Prints the results, for a node, of the accessors of names, paths and imports that are not plain
+/// lookups.
 pub fn answers(sheet: &mut Sheet, node: &SyntaxNode) -> Result<(), AllocError> {
     names(sheet, node)?;
     name_ref(sheet, node)?;

@@ -6,7 +6,8 @@ use ra_ap_syntax::{NodeOrToken, SyntaxKind, SyntaxNode, SyntaxToken, TextRange};
 use std::alloc::{AllocError, Global};
 use std::fmt::{Debug, Display, Write};
 
-/// The lines that are written so far. An answer is `-` where there is none, and a list is in brackets.
+/// The lines that are written so far. An answer is `-` where there is none, and a list is in
+/// brackets.
 #[derive(Drop)]
 pub struct Sheet {
     alloc: Global,

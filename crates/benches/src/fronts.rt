@@ -1,5 +1,5 @@
-//! Lexing, parsing, errors, the dump and edits of the small language. A line for each has what was done, to which text, its
-//! bytes, and the least nanoseconds of a few runs.
+//! Lexing, parsing, errors, the dump and edits of the small language. A line for each has what was
+//! done, to which text, its bytes, and the least nanoseconds of a few runs.
 
 mod edit;
 mod parse;

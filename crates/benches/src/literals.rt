@@ -1,5 +1,5 @@
-//! The values of string literals. A line for each call, content and length has the call, the content, its bytes, the least
-//! nanoseconds of a few runs, and the bytes or units that were seen.
+//! The values of string literals. A line for each call, content and length has the call, the
+//! content, its bytes, the least nanoseconds of a few runs, and the bytes or units that were seen.
 
 mod call;
 mod content;

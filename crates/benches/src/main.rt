@@ -1,4 +1,5 @@
-//! The program `benches`: measures what its first argument names, and prints a line for each measurement.
+//! The program `benches`: measures what its first argument names, and prints a line for each
+//! measurement.
 #![tactic(auto)]
 
 mod fronts;

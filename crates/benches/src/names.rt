@@ -1,5 +1,5 @@
-//! The kinds of names: `SyntaxKind::from_name` of every name of a kind. A line has the number of names, the nanoseconds a call, and a sum
-//! over the kinds.
+//! The kinds of names: `SyntaxKind::from_name` of every name of a kind. A line has the number of
+//! names, the nanoseconds a call, and a sum over the kinds.
 
 use crate::stopped::Stopped;
 use crate::timing::least_time;

@@ -1,5 +1,6 @@
-//! The calls `reads_back` and `needless_parens` on expressions of a thousand to a million operators. A row of a table for each
-//! call, shape and size has the least nanoseconds for each operator, of a few runs.
+//! The calls `reads_back` and `needless_parens` on expressions of a thousand to a million
+//! operators. A row of a table for each call, shape and size has the least nanoseconds for each
+//! operator, of a few runs.
 
 mod call;
 mod shape;

@@ -1,4 +1,5 @@
-//! The lexer and the parser of Rust on a file: the minimum of some rounds, in nanoseconds for each byte.
+//! The lexer and the parser of Rust on a file: the minimum of some rounds, in nanoseconds for each
+//! byte.
 
 use crate::stopped::Stopped;
 use crate::timing::time_once;
@@ -22,7 +23,8 @@ fn show(rt: &HostRuntime, what: &str, least: u128, text: &str) -> Result<(), Sto
     Ok(())
 }
 
-/// Times lexing, parsing to steps and parsing to a tree, in this many rounds, and prints a line for each.
+/// Times lexing, parsing to steps and parsing to a tree, in this many rounds, and prints a line for
+/// each.
 pub fn time_rust(rt: &HostRuntime, name: &str, rounds: u32) -> Result<(), Stopped> {
     let file = fs::read_to_string(rt, name)?;
     let text = file.as_str();

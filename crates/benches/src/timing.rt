@@ -3,7 +3,8 @@
 use crate::stopped::Stopped;
 use std::time::Instant;
 
-/// Makes a call once, and returns how many nanoseconds it took. Its result is dropped after the measurement.
+/// Makes a call once, and returns how many nanoseconds it took. Its result is dropped after the
+/// measurement.
 pub fn time_once<T: Drop, F: FnOnce() -> Result<T, Stopped>>(
     rt: &HostRuntime,
     call: F,
@@ -17,7 +18,8 @@ pub fn time_once<T: Drop, F: FnOnce() -> Result<T, Stopped>>(
     Ok(end.duration_since(start).as_nanos())
 }
 
-/// Makes a call this many times. Returns the least nanoseconds that it took, and its last result, or `found` if it was not made.
+/// Makes a call this many times. Returns the least nanoseconds that it took, and its last result,
+/// or `found` if it was not made.
 pub fn least_time<T: Copy + Drop, F: FnMut() -> Result<T, Stopped>>(
     rt: &HostRuntime,
     runs: u32,
@@ -36,7 +38,8 @@ pub fn least_time<T: Copy + Drop, F: FnMut() -> Result<T, Stopped>>(
     Ok((least, found))
 }
 
-/// Makes a call this many times, and returns the least nanoseconds that it took. Each result is dropped after its measurement.
+/// Makes a call this many times, and returns the least nanoseconds that it took. Each result is
+/// dropped after its measurement.
 pub fn least_of<T: Drop, F: FnMut() -> Result<T, Stopped>>(
     rt: &HostRuntime,
     runs: u32,

@@ -1,5 +1,5 @@
-//! The calls on trees. A line for each operation and tree has the operation, the tree, how many elements were seen, the least
-//! nanoseconds of a few runs, and a sum over what was seen.
+//! The calls on trees. A line for each operation and tree has the operation, the tree, how many
+//! elements were seen, the least nanoseconds of a few runs, and a sum over what was seen.
 
 mod measure;
 mod operation;

@@ -1,5 +1,6 @@
-//! The test for parentheses where it walks far: below an `if`, an `&&`, a statement, a `let` with `else` and a cast, over trees that are
-//! wide or deep, broken ones too. A row of a table for each walk and size has the least nanoseconds of a few calls, for each element.
+//! The test for parentheses where it walks far: below an `if`, an `&&`, a statement, a `let` with
+//! `else` and a cast, over trees that are wide or deep, broken ones too. A row of a table for each
+//! walk and size has the least nanoseconds of a few calls, for each element.
 
 mod walk;
 

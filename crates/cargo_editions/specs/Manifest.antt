@@ -1,4 +1,5 @@
--- What a Cargo manifest says of an edition. (The Cargo Book: "The Manifest Format", "The edition field"; "Workspaces", "The package table".)
+-- What a Cargo manifest says of an edition. (The Cargo Book: "The Manifest Format", "The edition
+-- field"; "Workspaces", "The package table".)
 use Rattle.std.specs.Prelude.{◌≡◌, ℕ, Bool, true, false, List, [], codes, Option, Some, None, if◌then◌else◌}
 use Rattle.std.specs.Cmp.Lexicographic.{pointwise}
 use Rattle.std.specs.Prelude.{◌==◌}

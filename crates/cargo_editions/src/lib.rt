@@ -1,5 +1,6 @@
-//! The edition of Rust that a Cargo manifest gives to its files. (The Cargo Book: "The Manifest Format", "The edition field"; "Cargo
-//! Targets", "Configuring a target"; "Workspaces", "The package table".)
+//! The edition of Rust that a Cargo manifest gives to its files. (The Cargo Book: "The Manifest
+//! Format", "The edition field"; "Cargo Targets", "Configuring a target"; "Workspaces", "The
+//! package table".)
 #![tactic(auto)]
 
 mod manifest;

@@ -13,7 +13,8 @@ pub enum Stated {
     Edition(Edition),
     /// That of the workspace's packages: `edition.workspace = true`.
     Workspace,
-    /// Something that names no edition, such as `edition = 2021`, or one that is newer than those known here.
+    /// Something that names no edition, such as `edition = 2021`, or one that is newer than those
+    /// known here.
     Unknown,
     /// Nothing: there is no such table, or no edition in it.
     Nothing,
@@ -51,8 +52,8 @@ pub(crate) fn edition_field(edition: &Value) -> Stated
     }
 }
 
-/// What a manifest says of the edition of its package. A package without the field `edition` is one of 2015. `Nothing` if the manifest has
-/// no package.
+/// What a manifest says of the edition of its package. A package without the field `edition` is one
+/// of 2015. `Nothing` if the manifest has no package.
 ///
 /// ```text
 /// [package]
@@ -78,8 +79,8 @@ pub fn is_workspace(manifest: &Value) -> bool
     manifest.get("workspace").is_some()
 }
 
-/// What the manifest of a workspace says of the edition of those packages that take theirs from it: `workspace.package.edition`. `Nothing` if
-/// it says nothing.
+/// What the manifest of a workspace says of the edition of those packages that take theirs from it:
+/// `workspace.package.edition`. `Nothing` if it says nothing.
 pub fn of_workspace(manifest: &Value) -> Stated
     ensures { result ≡ workspace_edition (view manifest.now) }
 {

@@ -46,7 +46,8 @@ fn first_at<'a>(path: &str, targets: &'a [Value]) -> Option<&'a Value>
 
 // The first of the targets of a field at a path.
 fn listed_at<'a>(field: &str, path: &str, manifest: &'a Value) -> Option<&'a Value>
-    ensures { option_map (λ t. view t.now) result ≡ listed_at field.now path.now (view manifest.now) }
+    ensures { option_map (λ t. view t.now) result
+        ≡ listed_at field.now path.now (view manifest.now) }
 {
     match manifest.get(field) {
         None => None,
@@ -92,9 +93,10 @@ fn target_at<'a>(path: &str, manifest: &'a Value) -> Option<&'a Value>
     listed_at("bench", path, manifest)
 }
 
-/// What a manifest says of the edition of the target whose root is the file at `path`: one with a field `path` that is this text, or the
-/// library, which is at `src/lib.rs` if its manifest names no other path. Paths are relative to the folder of the manifest. `Nothing` if
-/// there is no such target, or if it says nothing of an edition.
+/// What a manifest says of the edition of the target whose root is the file at `path`: one with a
+/// field `path` that is this text, or the library, which is at `src/lib.rs` if its manifest names
+/// no other path. Paths are relative to the folder of the manifest. `Nothing` if there is no such
+/// target, or if it says nothing of an edition.
 ///
 /// ```text
 /// [[test]]

@@ -1,4 +1,5 @@
-//! Tests of sessions of changes: random ones against a plain model, and each refusal; and of white space.
+//! Tests of sessions of changes: random ones against a plain model, and each refusal; and of white
+//! space.
 #![tactic(auto)]
 
 #[cfg(test)]

@@ -133,7 +133,8 @@ impl Model {
         None
     }
 
-    /// The rows of the siblings from one row to another, or `None` if the last is neither the first nor a later sibling.
+    /// The rows of the siblings from one row to another, or `None` if the last is neither the first
+    /// nor a later sibling.
     pub fn run(
         &self,
         alloc: Global,
@@ -197,8 +198,8 @@ pub fn count(element: &SyntaxElement) -> usize {
     sum
 }
 
-/// Appends the row in the new tree of each node and token of an element, or `None` where it is not kept; `next` is the new row
-/// that comes next.
+/// Appends the row in the new tree of each node and token of an element, or `None` where it is not
+/// kept; `next` is the new row that comes next.
 pub fn new_rows(
     element: &SyntaxElement,
     model: &Model,

@@ -193,7 +193,8 @@ fn annotations_are_found(
     Ok(sum)
 }
 
-// The edit of the text makes the new text from the old one, and its inverse the old one from the new one; no part of it changes nothing.
+// The edit of the text makes the new text from the old one, and its inverse the old one from the
+// new one; no part of it changes nothing.
 fn text_edit_is_the_difference(alloc: Global, edit: &SyntaxEdit) -> Result<(), Fail> {
     let text_edit = edit.text_edit(alloc)?;
     let old = edit.old_root().text().as_str();

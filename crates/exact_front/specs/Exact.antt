@@ -1,4 +1,5 @@
--- Which pieces of a text a front end reads by themselves as in the text, as functions of their arguments.
+-- Which pieces of a text a front end reads by themselves as in the text, as functions of their
+-- arguments.
 use Rattle.std.specs.Prelude.{◌≡◌, ℕ, ◌<◌, ◌^◌, List, length, Option, Some, None, IsUtf8, Bool, true, false}
 use Rattle.text_size.specs.TextRange.{Bounds}
 use Rattle.syntax_kind.specs.declared.syntax_kind.SyntaxKind.{SyntaxKind}

@@ -51,7 +51,8 @@ pub trait ExactFront: FrontEnd {
         text: &str,
         edition: Edition,
     ) -> Result<Option<Output>, AllocError>
-        ensures { IfOk result (λ o. option_map reading_of o ≡ (exact self.now).piece reparser edition text.now) };
+        ensures { IfOk result
+            (λ o. option_map reading_of o ≡ (exact self.now).piece reparser edition text.now) };
 
     /// Whether [`ExactFront::exact_piece`] parses the text: without its output this takes less
     /// time.
@@ -62,7 +63,8 @@ pub trait ExactFront: FrontEnd {
         text: &str,
         edition: Edition,
     ) -> Result<bool, AllocError>
-        ensures { IfOk result (λ b. b ≡ is_piece ((exact self.now).piece reparser edition text.now)) };
+        ensures { IfOk result
+            (λ b. b ≡ is_piece ((exact self.now).piece reparser edition text.now)) };
 
     /// Whether a window of a text has the same tokens with the text `new` as with `old`, but for
     /// the text of one token, which is at the range `token` of `old`, and whether the parser takes
@@ -85,7 +87,8 @@ pub trait ExactFront: FrontEnd {
         token: TextRange,
         edition: Edition,
     ) -> Result<bool, AllocError>
-        ensures { IfOk result (λ b. b ≡ (exact self.now).is_retold edition before.now old.now new.now behind.now token) };
+        ensures { IfOk result (λ b. b
+            ≡ (exact self.now).is_retold edition before.now old.now new.now behind.now token) };
 
     ghost exact_kept: { (front : Self) → ExactKeeps (exact front) };
 }

@@ -1,4 +1,5 @@
-//! A codemod: `x == None` becomes `x.is_none()`, and `x != None` becomes `x.is_some()`, over a whole file at once.
+//! A codemod: `x == None` becomes `x.is_none()`, and `x != None` becomes `x.is_some()`, over a
+//! whole file at once.
 #![tactic(auto)]
 
 use anyhow::Result;
@@ -9,7 +10,8 @@ use rust_make::Make;
 use std::io;
 use syntax_editor::{ChangeError, SyntaxEditor};
 
-// The method that says what a comparison with `None` says. One with a comment beside its operator stays: the comment would be lost.
+// The method that says what a comparison with `None` says. One with a comment beside its operator
+// stays: the comment would be lost.
 fn method_for(comparison: &ast::BinExpr) -> Option<&'static str> {
     let node = comparison.syntax();
     let has_comment = node
@@ -25,7 +27,8 @@ fn method_for(comparison: &ast::BinExpr) -> Option<&'static str> {
     }
 }
 
-// Puts the call in the place of a comparison with `None`. One inside a comparison that is replaced stays: a second run changes it.
+// Puts the call in the place of a comparison with `None`. One inside a comparison that is replaced
+// stays: a second run changes it.
 fn change(make: &Make<Rust>, editor: &mut SyntaxEditor, node: &SyntaxNode) -> Result<()> {
     let Some(comparison) = ast::BinExpr::cast(node.clone()?) else {
         return Ok(());

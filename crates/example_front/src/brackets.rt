@@ -1,4 +1,5 @@
-//! Words in round brackets: each pair of brackets is a node. A bracket without a partner is a token like any other.
+//! Words in round brackets: each pair of brackets is a node. A bracket without a partner is a token
+//! like any other.
 ghost use Rattle.std.specs.Prelude.{◌≡◌, ◌<◌, ◌-◌, ◌^◌, OnOk};
 ghost use Rattle.example_front.specs.Pairing.{pairing_of, met_of};
 

@@ -1,5 +1,5 @@
--- The front end keeps the law of front ends, whatever its grammar makes of a text: the lexer's tokens cut the text, and any events are
--- laid out as one tree over them.
+-- The front end keeps the law of front ends, whatever its grammar makes of a text: the lexer's
+-- tokens cut the text, and any events are laid out as one tree over them.
 use Rattle.std.proofs.Common.{◌≡◌, ℕ, ◌<◌, ◌^◌, List, [], ◌∷◌, length, map, refl, inl, inr, Bool, true, false, Option, Some, None}
 use Rattle.std.specs.Prelude.{IsUtf8, All, if◌then◌else◌}
 use Rattle.std.proofs.lemmas.List.Elements.{All-cons, All-nil, All-head, All-tail}

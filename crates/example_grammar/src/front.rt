@@ -1,4 +1,5 @@
-//! The front end: `tiny_lexer`'s tokens, the machine's run over the grammar's tables, and one tree of what it made.
+//! The front end: `tiny_lexer`'s tokens, the machine's run over the grammar's tables, and one tree
+//! of what it made.
 ghost use Rattle.std.specs.Prelude.{◌≡◌, ◌++◌, ◌∷◌, [], IfOk, OnOk, option_map, string_bytes, map, slice_get};
 ghost use Rattle.ras_front_end.specs.Reading.{reading_of, single_of, front_step, front_steps};
 ghost use Rattle.token_layout.specs.Front.{kinds_of, message_with, single_with};
@@ -104,7 +105,8 @@ fn report(alloc: Global, fault: Fault) -> Result<Step, AllocError>
 
 #[tactic(auto, using(token_layout::proofs::Push::front_steps_push))]
 fn add(steps: &mut Vec<Step>, step: Step) -> Result<(), AllocError>
-    ensures { OnOk result (front_steps steps.new.items ≡ front_steps steps.old.items ++ front_step step ∷ []) }
+    ensures { OnOk result
+        (front_steps steps.new.items ≡ front_steps steps.old.items ++ front_step step ∷ []) }
 {
     steps.push(step)?;
     Ok(())
@@ -112,7 +114,8 @@ fn add(steps: &mut Vec<Step>, step: Step) -> Result<(), AllocError>
 
 // The steps, and after them the grammar's errors.
 fn reported(alloc: Global, mut steps: Vec<Step>, faults: &[Fault]) -> Result<Vec<Step>, AllocError>
-    ensures { IfOk result (λ v. front_steps v.items ≡ front_steps steps.items ++ map (report_by say_of) faults.now) }
+    ensures { IfOk result
+        (λ v. front_steps v.items ≡ front_steps steps.items ++ map (report_by say_of) faults.now) }
 {
     for fault in faults {
         let step = report(alloc, *fault)?;
@@ -139,7 +142,8 @@ fn steps(
     tokens: &[Token],
     events: &[Event],
 ) -> Result<Vec<Step>, AllocError>
-    ensures { IfOk result (λ v. front_steps v.items ≡ steps_of entry text.now tokens.now events.now) }
+    ensures { IfOk result
+        (λ v. front_steps v.items ≡ steps_of entry text.now tokens.now events.now) }
 {
     let root = root_for(entry, outermost(events));
     let laid = lay_out(alloc, root, &[], text, tokens, events)?;

@@ -1,5 +1,5 @@
-//! Reads arithmetic by a front end over a grammar of its own: the first line of its input as an expression, the rest as a file. It
-//! prints the tree and the errors of each.
+//! Reads arithmetic by a front end over a grammar of its own: the first line of its input as an
+//! expression, the rest as a file. It prints the tree and the errors of each.
 #![tactic(auto)]
 
 mod front;

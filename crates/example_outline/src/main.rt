@@ -1,4 +1,5 @@
-//! Prints the items of a Rust file, read from standard input: the line, kind and name of each, indented by the items around it.
+//! Prints the items of a Rust file, read from standard input: the line, kind and name of each,
+//! indented by the items around it.
 #![tactic(auto)]
 
 use line_index::LineIndex;

@@ -1,4 +1,5 @@
-//! A linter: prints the line and column of each pair of parentheses of a Rust file that its place does not need.
+//! A linter: prints the line and column of each pair of parentheses of a Rust file that its place
+//! does not need.
 #![tactic(auto)]
 
 use line_index::LineIndex;
@@ -8,8 +9,8 @@ use std::alloc::{AllocError, Global};
 use std::fmt::Write;
 use std::io;
 
-// Whether the expression inside a pair needs no parentheses in place of the pair, below any of the nodes around it: a record may
-// need them because of an `if` further up.
+// Whether the expression inside a pair needs no parentheses in place of the pair, below any of the
+// nodes around it: a record may need them because of an `if` further up.
 fn is_needless(pair: &ast::ParenExpr) -> bool {
     let Some(inside) = pair.expr() else {
         return false;

@@ -1,4 +1,5 @@
--- Sets of bytes between brackets. (gitignore(5), fnmatch(3).) 33 is `!`, 45 `-`, 47 `/`, 92 a backslash, 93 `]`, 94 `^`.
+-- Sets of bytes between brackets. (gitignore(5), fnmatch(3).) 33 is `!`, 45 `-`, 47 `/`, 92 a
+-- backslash, 93 `]`, 94 `^`.
 use Rattle.std.specs.Prelude.{◌≡◌, ℕ, ◌==◌, ◌+◌, ◌-◌, Bool, true, false, not, ◌&&◌, ◌||◌, nat_le, if◌then◌else◌, List, [], ◌∷◌, length, drop, Option, Some, None}
 use Rattle.std.specs.List.{list_any}
 use Rattle.gitignore.specs.declared.class.Class.{Class}
@@ -40,7 +41,8 @@ abbrev pub single : Option (ℕ × ℕ) → Option (Item × ℕ)
 single None = None
 single (Some r) = Some (Byte r.0, r.1)
 
--- the item at the front of a text, and how many bytes it has; a `-` ends a range that the byte before it begins
+-- the item at the front of a text, and how many bytes it has; a `-` ends a range that the byte
+-- before it begins
 abbrev pub item_at : Option ℕ → List ℕ → Option (Item × ℕ)
 item_at None bs = single (byte_at bs)
 item_at (Some from) bs = if is_dash bs then ranged from (byte_at (drop 1 bs)) else single (byte_at bs)
@@ -50,7 +52,8 @@ abbrev pub last_of : Item → Option ℕ
 last_of (Byte b) = Some b
 last_of (Range from to) = None
 
--- these items are read one after the other, each before the end of the class but for the first; then this rest is left
+-- these items are read one after the other, each before the end of the class but for the first;
+-- then this rest is left
 abbrev pub ItemsAt : Bool → Option ℕ → List ℕ → List Item → List ℕ → Type 0
 ItemsAt is_first last bs [] rest = bs ≡ rest
 ItemsAt is_first last bs (i ∷ is) rest =
@@ -65,7 +68,8 @@ abbrev pub is_empty_list : List Item → Bool
 is_empty_list [] = true
 is_empty_list (i ∷ is) = false
 
--- the items of a class up to its end, with the number of their bytes and the end's; none if no end comes
+-- the items of a class up to its end, with the number of their bytes and the end's; none if no end
+-- comes
 abbrev pub ItemsUpTo : List ℕ → Option (List Item × ℕ) → Type 0
 ItemsUpTo bs (Some r) =
     (rest : List ℕ) × ItemsAt true None bs r.0 rest × (is_empty_list r.0 ≡ false) × (is_end rest ≡ true) × (r.1 ≡ length bs - length rest + 1)

@@ -1,4 +1,5 @@
--- Which paths fit a glob. (gitignore(5), "PATTERN FORMAT".) A place n of a path is behind its first n bytes; 47 is `/`.
+-- Which paths fit a glob. (gitignore(5), "PATTERN FORMAT".) A place n of a path is behind its first
+-- n bytes; 47 is `/`.
 use Rattle.std.specs.Prelude.{ℕ, zero, suc, ◌==◌, Bool, true, false, not, ◌&&◌, ◌||◌, List, [], ◌∷◌, length, map, slice_index, get_or}
 use Rattle.std.specs.List.{range_with_len}
 use Rattle.gitignore.specs.declared.piece.Piece.{Piece}

@@ -1,4 +1,5 @@
--- A line of an ignore file. (gitignore(5), "PATTERN FORMAT".) 13 is a carriage return, 32 a blank, 33 `!`, 35 `#`, 47 `/`, 92 a backslash.
+-- A line of an ignore file. (gitignore(5), "PATTERN FORMAT".) 13 is a carriage return, 32 a blank,
+-- 33 `!`, 35 `#`, 47 `/`, 92 a backslash.
 use Rattle.std.specs.Prelude.{◌≡◌, ℕ, ◌==◌, ◌+◌, ◌-◌, Bool, true, false, not, ◌&&◌, if◌then◌else◌, List, [], ◌∷◌, length, take, drop, slice_index, Option, Some, None, option_map, position, ◌++◌}
 use Rattle.std.specs.List.{list_any}
 use Rattle.gitignore.specs.declared.piece.Piece.{Piece}
@@ -20,7 +21,8 @@ behind_first b (c ∷ cs) = if c == b then cs else c ∷ cs
 abbrev pub before_last : ℕ → List ℕ → List ℕ
 before_last b cs = if last_is b cs then take (length cs - 1) cs else cs
 
--- how many bytes are kept: up to the last that is no blank, or is behind a backslash. k are kept of the n bytes before these
+-- how many bytes are kept: up to the last that is no blank, or is behind a backslash. k are kept of
+-- the n bytes before these
 abbrev pub kept : ℕ → ℕ → List ℕ → ℕ
 kept k n [] = k
 kept k n (b ∷ []) = if b == 32 then k else n + 1
@@ -48,7 +50,8 @@ pub record IsRuleOf (line : List ℕ) (r : Rule) : Type 0 where
 abbrev pub is_feed : ℕ → Bool
 is_feed b = b == 10
 
--- these rules are those of the first lines of a text, each up to its line feed; then this rest is left
+-- these rules are those of the first lines of a text, each up to its line feed; then this rest is
+-- left
 abbrev pub LinesAt : List ℕ → List Rule → List ℕ → Type 0
 LinesAt text [] rest = text ≡ rest
 LinesAt text (r ∷ rs) rest = (n : ℕ) × (position is_feed text ≡ Some n) × IsRuleOf (take n text) r × LinesAt (drop (n + 1) text) rs rest

@@ -1,4 +1,5 @@
--- Globs as pieces, and how they are written. (gitignore(5), "PATTERN FORMAT".) 42 is `*`, 47 `/`, 63 `?`, 91 `[`, 92 a backslash.
+-- Globs as pieces, and how they are written. (gitignore(5), "PATTERN FORMAT".) 42 is `*`, 47 `/`,
+-- 63 `?`, 91 `[`, 92 a backslash.
 use Rattle.std.specs.Prelude.{◌≡◌, ℕ, ◌==◌, ◌+◌, ◌-◌, ◌<◌, Bool, true, false, not, ◌&&◌, ◌||◌, nat_lt, if◌then◌else◌, List, [], ◌∷◌, length, drop, slice_index, Option, Some, None}
 use Rattle.gitignore.specs.declared.class.Class.{Class}
 use Rattle.gitignore.specs.declared.piece.Piece.{Piece}
@@ -31,7 +32,8 @@ abbrev pub is_nothing : List ℕ → Bool
 is_nothing [] = true
 is_nothing (b ∷ bs) = false
 
--- the piece of some stars before a text: two and more, at the start of a glob or behind a slash, stand for folders or for the rest
+-- the piece of some stars before a text: two and more, at the start of a glob or behind a slash,
+-- stand for folders or for the rest
 abbrev pub piece_of_stars : Bool → ℕ → List ℕ → Piece × ℕ
 piece_of_stars is_start n behind =
     if not is_start || nat_lt n 2 then (Star, n)

@@ -88,7 +88,8 @@ fn byte_at(text: &[u8]) -> Option<(u8, usize)>
     }
 }
 
-// Whether a text begins with a `-` that may end a range: something is behind it, and not the end of the class.
+// Whether a text begins with a `-` that may end a range: something is behind it, and not the end of
+// the class.
 fn is_dash(text: &[u8]) -> bool
     ensures { result ≡ is_dash text.now }
 {
@@ -112,7 +113,8 @@ fn single_at(text: &[u8]) -> Option<(Item, usize)>
     }
 }
 
-// The item at the front of a text, and how many bytes it has. `last`: the byte that a `-` begins a range from.
+// The item at the front of a text, and how many bytes it has. `last`: the byte that a `-` begins a
+// range from.
 fn item_at(last: Option<u8>, text: &[u8]) -> Option<(Item, usize)>
     ensures value { result ≡ item_at last text.now }
     ensures room { IfSome result (λ r. (0 < r.1) × (r.1 ≤ length text.now)) }
@@ -129,9 +131,11 @@ fn item_at(last: Option<u8>, text: &[u8]) -> Option<(Item, usize)>
     }
 }
 
-// The items up to the end of a class, and the number of bytes with the end; none if there is no end.
+// The items up to the end of a class, and the number of bytes with the end; none if there is no
+// end.
 fn items_up_to(alloc: Global, text: &[u8]) -> Result<Option<(Vec<Item>, usize)>, AllocError>
-    ensures value { IfOk result (λ r. ItemsUpTo text.now (option_map (λ it. (it.0.items, it.1)) r)) }
+    ensures value { IfOk result
+        (λ r. ItemsUpTo text.now (option_map (λ it. (it.0.items, it.1)) r)) }
     ensures room { IfOk result (λ r. IfSome r (λ it. it.1 ≤ length text.now)) }
 {
     let mut items = Vec::new(alloc);

@@ -42,8 +42,8 @@ fn are_negated(globs: &[Rule]) -> bool
     globs.iter().all(|glob| glob.is_negated)
 }
 
-/// Whether globs choose the path of a file: the last of them that names it, or a folder around it, has no `!`. If none does, it is chosen
-/// if each of them has a `!`; so no globs choose all files.
+/// Whether globs choose the path of a file: the last of them that names it, or a folder around it,
+/// has no `!`. If none does, it is chosen if each of them has a `!`; so no globs choose all files.
 ///
 /// `src/` and `!src/gen/` choose `src/a.rs`, but neither `src/gen/a.rs` nor `lib.rs`.
 ///

@@ -1,4 +1,5 @@
-//! Ignore files as git reads them: which files and folders the lines of a `.gitignore` name, and which line decides. (gitignore(5).)
+//! Ignore files as git reads them: which files and folders the lines of a `.gitignore` name, and
+//! which line decides. (gitignore(5).)
 #![tactic(auto)]
 
 mod class;

@@ -8,7 +8,8 @@ use std::alloc::{AllocError, Global};
 /// What a line of an ignore file says.
 #[derive(Debug, Drop)]
 pub struct Rule {
-    /// The pieces of its glob; `None` for a line that names nothing, as a comment, and for one with a backslash or a bracket without end.
+    /// The pieces of its glob; `None` for a line that names nothing, as a comment, and for one with
+    /// a backslash or a bracket without end.
     pub glob: Option<Vec<Piece>>,
     /// Whether what it names is kept: it begins with `!`.
     pub is_negated: bool,
@@ -56,7 +57,8 @@ fn before_last(byte: u8, text: &[u8]) -> &[u8]
     }
 }
 
-// How many bytes of a line are kept, without the blanks at its end: a blank behind a backslash stays.
+// How many bytes of a line are kept, without the blanks at its end: a blank behind a backslash
+// stays.
 fn kept(line: &[u8]) -> usize
     ensures value { result ≡ kept 0 0 line.now }
     ensures room { result ≤ length line.now }
@@ -106,9 +108,10 @@ fn rule_by(alloc: Global, pattern: &[u8]) -> Result<Rule, AllocError>
 
 /// What a line of an ignore file says, without its line feed.
 ///
-/// A line that begins with `#` is a comment. Blanks at its end are left out, but for one behind a backslash, and so is one carriage return. `!` in
-/// front takes back what lines before it name. A slash at the end is for folders alone, one elsewhere for paths from the file's folder
-/// on; without one, names at any depth are compared. The rest is a glob (`pieces_of`).
+/// A line that begins with `#` is a comment. Blanks at its end are left out, but for one behind a
+/// backslash, and so is one carriage return. `!` in front takes back what lines before it name. A
+/// slash at the end is for folders alone, one elsewhere for paths from the file's folder on;
+/// without one, names at any depth are compared. The rest is a glob (`pieces_of`).
 ///
 /// Takes time and memory linear in the line.
 ///
@@ -136,7 +139,8 @@ fn feed_at(text: &[u8]) -> Option<usize>
     text.iter().position(|byte| *byte == b'\n')
 }
 
-/// What the lines of an ignore file say: a rule for each, and one for what follows the last line feed.
+/// What the lines of an ignore file say: a rule for each, and one for what follows the last line
+/// feed.
 ///
 /// Takes time and memory linear in the text.
 ///

@@ -6,8 +6,8 @@ ghost use Rattle.gitignore.specs.Fits.{fits, next_mark, first_mark, seen_next, m
 use crate::piece::{Piece, takes};
 use std::alloc::{AllocError, Global};
 
-// Whether a piece may end behind a byte, given whether it may begin before it (`here`) and behind it (`behind`), and whether it may have
-// begun further ahead (`seen`).
+// Whether a piece may end behind a byte, given whether it may begin before it (`here`) and behind
+// it (`behind`), and whether it may have begun further ahead (`seen`).
 fn next_mark(piece: &Piece, byte: u8, here: bool, behind: bool, seen: bool) -> bool
     ensures { result ≡ next_mark piece.now byte here behind seen }
 {
@@ -29,7 +29,8 @@ fn first_mark(piece: &Piece, here: bool) -> bool
     }
 }
 
-// What is kept of the places up to one: for a star, whether it may end there; else, whether a piece may have begun there or before.
+// What is kept of the places up to one: for a star, whether it may end there; else, whether a piece
+// may have begun there or before.
 fn seen_next(piece: &Piece, mark: bool, behind: bool, seen: bool) -> bool
     ensures { result ≡ seen_next piece.now mark behind seen }
 {
@@ -48,7 +49,8 @@ fn row_behind(
     before: &[bool],
 ) -> Result<Vec<bool>, AllocError>
     requires { length before.now ≡ length path.now + 1 }
-    ensures { IfOk result (λ r. r.items ≡ marks_of (step piece.now path.now (mark_in before.now)) (length path.now + 1)) }
+    ensures { IfOk result (λ r. r.items
+        ≡ marks_of (step piece.now path.now (mark_in before.now)) (length path.now + 1)) }
 {
     let mut row = Vec::with_capacity(alloc, before.len())?;
     row.push(first_mark(piece, before[0]))?;
@@ -79,7 +81,8 @@ fn is_any(row: &[bool]) -> bool
     row.iter().any(|mark| *mark)
 }
 
-// Whether a piece may be the first of a glob that the path fits, by the first byte. Most lines of an ignore file begin with another one.
+// Whether a piece may be the first of a glob that the path fits, by the first byte. Most lines of
+// an ignore file begin with another one.
 fn may_begin(piece: &Piece, path: &[u8]) -> bool
     ensures { result ≡ may_begin piece.now path.now }
 {
@@ -94,8 +97,9 @@ fn may_begin(piece: &Piece, path: &[u8]) -> bool
 
 /// Whether a path fits the pieces of a glob, as a whole.
 ///
-/// Takes time proportional to the pieces times the path, at most the square of the path: once none of the pieces so far fits a front of the
-/// path, the others are not tried. Takes memory linear in the path.
+/// Takes time proportional to the pieces times the path, at most the square of the path: once none
+/// of the pieces so far fits a front of the path, the others are not tried. Takes memory linear in
+/// the path.
 ///
 /// # Errors
 ///

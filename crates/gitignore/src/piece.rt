@@ -67,7 +67,8 @@ fn is_escaped_slash(text: &[u8]) -> bool
     }
 }
 
-// The piece of the stars at the front of a text, and how many bytes it has. `is_start`: the text is that of a glob, or is behind a slash.
+// The piece of the stars at the front of a text, and how many bytes it has. `is_start`: the text is
+// that of a glob, or is behind a slash.
 fn stars_at(is_start: bool, text: &[u8]) -> (Piece, usize)
     requires { 0 < stars text.now }
     ensures value { result ≡ stars_at is_start text.now }
@@ -108,7 +109,8 @@ fn one_of(alloc: Global, behind: &[u8]) -> Result<Option<(Piece, usize)>, AllocE
     }
 }
 
-// The piece at the front of a text, and how many bytes it has; none if a backslash or a bracket has no end.
+// The piece at the front of a text, and how many bytes it has; none if a backslash or a bracket has
+// no end.
 fn piece_at(
     alloc: Global,
     is_start: bool,
@@ -129,11 +131,14 @@ fn piece_at(
     }
 }
 
-/// The pieces of a glob; `None` for one that nothing fits, since a backslash or a bracket in it has no end.
+/// The pieces of a glob; `None` for one that nothing fits, since a backslash or a bracket in it has
+/// no end.
 ///
-/// `*` stands for any bytes but slashes, `?` for one byte that is no slash, `[a-z]` for one of these, `[!a-z]` or `[^a-z]` for one of the
-/// others, and a backslash takes its meaning from the byte behind it. `**/` at the start or behind a slash stands for any folders, or none,
-/// and `**` there, at the end, for anything; elsewhere several stars are one. Names of sets, as `[[:alpha:]]`, are not known.
+/// `*` stands for any bytes but slashes, `?` for one byte that is no slash, `[a-z]` for one of
+/// these, `[!a-z]` or `[^a-z]` for one of the others, and a backslash takes its meaning from the
+/// byte behind it. `**/` at the start or behind a slash stands for any folders, or none, and `**`
+/// there, at the end, for anything; elsewhere several stars are one. Names of sets, as
+/// `[[:alpha:]]`, are not known.
 ///
 /// Takes time and memory linear in the glob.
 ///

@@ -20,7 +20,8 @@ pub enum Verdict {
 /// An ignore file.
 #[derive(Debug, Drop)]
 pub struct IgnoreFile {
-    /// How many bytes of a path are those of the file's folder, with the slash behind it: its rules see what follows.
+    /// How many bytes of a path are those of the file's folder, with the slash behind it: its rules
+    /// see what follows.
     pub folder: usize,
     /// What its lines say, in order.
     pub rules: Vec<Rule>,
@@ -71,7 +72,8 @@ pub(crate) fn applies(
     }
 }
 
-/// What the rules of one file say of a path, which is counted from the file's folder on: the last one that names it decides.
+/// What the rules of one file say of a path, which is counted from the file's folder on: the last
+/// one that names it decides.
 ///
 /// Takes the time of a comparison with each rule.
 ///
@@ -122,8 +124,9 @@ fn verdict_in(
     }
 }
 
-/// What several files say of a path, each of a folder that the path is below, outermost first: the last file of which a line names the path
-/// decides. Whether a folder around it is ignored is not looked at.
+/// What several files say of a path, each of a folder that the path is below, outermost first: the
+/// last file of which a line names the path decides. Whether a folder around it is ignored is not
+/// looked at.
 ///
 /// Takes the time of a comparison with each rule.
 ///
@@ -151,7 +154,8 @@ fn is_out(verdict: Verdict) -> bool
     matches!(verdict, Verdict::Ignored)
 }
 
-/// Whether a path is ignored: it, or a folder around it, has the verdict `Ignored`. So what is below an ignored folder can't be kept.
+/// Whether a path is ignored: it, or a folder around it, has the verdict `Ignored`. So what is
+/// below an ignored folder can't be kept.
 ///
 /// Takes the time of a comparison with each rule, for the path and for each folder around it.
 ///

@@ -1,7 +1,8 @@
 //! Answers of `gitignore`, to be compared with those of git.
 //!
-//! Standard input holds, for each case, a line with the length in bytes of an ignore file and the number of paths, the file, and a line for each
-//! path, a folder's with a slash at its end. It prints a line for each case, with a `1` for each path that is ignored and a `0` for another.
+//! Standard input holds, for each case, a line with the length in bytes of an ignore file and the
+//! number of paths, the file, and a line for each path, a folder's with a slash at its end. It
+//! prints a line for each case, with a `1` for each path that is ignored and a `0` for another.
 #![tactic(auto)]
 
 use gitignore::{IgnoreFile, is_ignored, rules_of};

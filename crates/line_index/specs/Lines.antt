@@ -80,7 +80,8 @@ wide_length e s = sum_by (units e) (chars s)
 abbrev pub wide_line_col_at : WideEncoding → List ℕ → ℕ → WideLineCol
 wide_line_col_at e s o = record { line = line_feeds (take o s); col = wide_length e (slice_range s (o - bytes_behind (take o s)) o) }
 
--- a character of the text, or its end, is at this line and column, and w is its wide line and column
+-- a character of the text, or its end, is at this line and column, and w is its wide line and
+-- column
 pub record IsWide (e : WideEncoding) (s : List ℕ) (at : LineCol) (w : WideLineCol) : Type 0 where
   pub offset : ℕ
   pub found : IsOffset s at offset
@@ -91,7 +92,8 @@ pub record IsWide (e : WideEncoding) (s : List ℕ) (at : LineCol) (w : WideLine
 abbrev pub NoChar : List ℕ → LineCol → Type 0
 NoChar s at = (o : ℕ) → IsOffset s at o → IsCharBoundary s o → ⊥
 
--- a character of the text starts at offset o, or the text ends there, and w is its wide line and column
+-- a character of the text starts at offset o, or the text ends there, and w is its wide line and
+-- column
 pub record IsWideAt (e : WideEncoding) (s : List ℕ) (o : ℕ) (w : WideLineCol) : Type 0 where
   pub within : o ≤ length s
   pub boundary : IsCharBoundary s o

@@ -35,7 +35,8 @@ impl<'a> Model for LineIndex<'a> {
 
     ghost view = { λ a. a.text.now };
 
-    ghost invariant = { λ a. IsIndexOf a.text.now a.lines × (length a.text.now < 2 ^ 32) × IsUtf8 a.text.now };
+    ghost invariant = { λ a. IsIndexOf a.text.now a.lines × (length a.text.now < 2 ^ 32)
+        × IsUtf8 a.text.now };
 }
 
 impl<'a> LineIndex<'a> {
@@ -157,7 +158,8 @@ impl<'a> LineIndex<'a> {
     ///
     /// Inverse to `to_wide`. Takes time linear in the column.
     pub fn to_utf8(&self, encoding: WideEncoding, at: WideLineCol) -> Option<LineCol>
-        ensures { MatchOption result (NoWide encoding self.now at) (λ place. IsWide encoding self.now place at) }
+        ensures { MatchOption result (NoWide encoding self.now at)
+            (λ place. IsWide encoding self.now place at) }
     {
         let start = self.start(at.line as usize)? as usize;
         let rest = &self.text[start..];

@@ -45,7 +45,8 @@ impl WideEncoding {
         len
     }
 
-    // The length in bytes of the prefix of a text that has this number of units, or `None` if no prefix has.
+    // The length in bytes of the prefix of a text that has this number of units, or `None` if no
+    // prefix has.
     pub(crate) fn bytes_of(self, units: u32, text: &str) -> Option<u32>
         requires { length text.now < 2 ^ 32 }
         ensures { MatchOption result (NoFront self text.now units) (IsFront self text.now units) }
@@ -66,7 +67,8 @@ impl WideEncoding {
     }
 }
 
-/// A line and a column, both counted from 0. The column is in units of a `WideEncoding`, as language servers count.
+/// A line and a column, both counted from 0. The column is in units of a `WideEncoding`, as
+/// language servers count.
 ///
 /// It has the name, and fields, of the type in the crate `line-index`.
 #[derive(Clone, Copy, Debug, PartialEq, Eq, PartialOrd, Ord, Hash)]

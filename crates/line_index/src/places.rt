@@ -7,8 +7,9 @@ use crate::line_col::{LineCol, WideEncoding, WideLineCol};
 use std::marker::Model;
 use text_size::TextSize;
 
-/// The wide lines and columns of a text's offsets. For offsets in ascending order they take time linear in the text in all, however long its
-/// lines are. A clause sees the encoding of the columns and the bytes of the text.
+/// The wide lines and columns of a text's offsets. For offsets in ascending order they take time
+/// linear in the text in all, however long its lines are. A clause sees the encoding of the columns
+/// and the bytes of the text.
 #[derive(Drop)]
 pub struct WidePlaces<'a> {
     index: LineIndex<'a>,
@@ -51,12 +52,15 @@ impl<'a> WidePlaces<'a> {
         &self.index
     }
 
-    /// The line and the wide column of an offset, or `None` if it is past the end of the text or inside a character.
+    /// The line and the wide column of an offset, or `None` if it is past the end of the text or
+    /// inside a character.
     ///
-    /// Takes time linear in the bytes between the last offset that was moved to and this one if both are in one line in this order, and
-    /// otherwise in the column; beside that, logarithmic in the number of lines.
+    /// Takes time linear in the bytes between the last offset that was moved to and this one if
+    /// both are in one line in this order, and otherwise in the column; beside that, logarithmic in
+    /// the number of lines.
     pub fn wide_line_col(&self, offset: TextSize) -> Option<WideLineCol>
-        ensures { MatchOption result (NoCharAt self.now.1 offset) (IsWideAt self.now.0 self.now.1 offset) }
+        ensures { MatchOption result (NoCharAt self.now.1 offset)
+            (IsWideAt self.now.0 self.now.1 offset) }
     {
         let at = self.index.line_col(offset)?;
         self.index
@@ -65,7 +69,8 @@ impl<'a> WidePlaces<'a> {
 
     /// The same, and moves to the offset. Does not move if the result is `None`.
     pub fn move_to(&mut self, offset: TextSize) -> Option<WideLineCol>
-        ensures wide { MatchOption result (NoCharAt self.old.1 offset) (IsWideAt self.old.0 self.old.1 offset) }
+        ensures wide { MatchOption result (NoCharAt self.old.1 offset)
+            (IsWideAt self.old.0 self.old.1 offset) }
         ensures kept { self.new ≡ self.old }
     {
         let at = self.index.line_col(offset)?;

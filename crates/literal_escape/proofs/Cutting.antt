@@ -122,7 +122,8 @@ pub cut-text : (mode : Mode) (cs : List ℕ) (ps : List Piece) → IsCut mode cs
 cut-text mode cs [] h = sym h
 cut-text mode cs (p ∷ ps) h = ap (λ ds. spelling p ++ ds) (cut-text mode h.0 ps h.3) ∙ sym h.1
 
--- the reports of a continuation before a character that is no blank, by whether it has lines and whether white space follows
+-- the reports of a continuation before a character that is no blank, by whether it has lines and
+-- whether white space follows
 over-reports : (lines white : Bool) (r : Reader) (c m k : ℕ) (cs : List ℕ) → m ≡ r.at + 0 → k ≡ r.at + len_utf8 c → is_blank c ≡ false → is_whitespace c ≡ white
     → ((if lines then (record { start = r.start; end = m; unit = Err MultipleSkippedLinesWarning }) ∷ [] else [])
     ++ (if is_whitespace c then (record { start = r.start; end = k; unit = Err UnskippedWhitespaceWarning }) ∷ [] else [])) ++ reports_of (fresh_of r) (c ∷ cs)

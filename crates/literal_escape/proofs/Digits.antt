@@ -1,4 +1,5 @@
--- The reader's number and count of digits, which stop at what 32 and 8 bits hold, give each \u{..} its meaning.
+-- The reader's number and count of digits, which stop at what 32 and 8 bits hold, give each \u{..}
+-- its meaning.
 use Rattle.std.proofs.Common.{◌≡◌, ℕ, ◌+◌, ◌*◌, ◌^◌, ◌<◌, ◌≤◌, min, Bool, true, false, ◌&&◌, List, [], ◌∷◌, refl, ap, ◌∙◌, length, arith, subst, add-zero, add-one, lit<}
 use Rattle.std.specs.Prelude.{if◌then◌else◌, ◌==◌, nat_lt}
 use Rattle.std.specs.List.{fold, list_all}

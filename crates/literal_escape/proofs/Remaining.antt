@@ -45,7 +45,8 @@ pub before-none : (o : Option Report) (rs : List Report) → is_some o ≡ false
 before-none None rs e = refl
 before-none (Some r) rs e = cc
 
--- of a continuation, by whether the next character is blank, whether there are lines, and whether it is white space
+-- of a continuation, by whether the next character is blank, whether there are lines, and whether
+-- it is white space
 warned_by : (blank lines : Bool) (r : Reader) (c : ℕ) (cs : List ℕ) (w : Report) → is_blank c ≡ blank
     → warning_of (record r { state = states.Continuation lines }) c ≡ Some w
     → reports_of (record r { state = states.Continuation lines }) (c ∷ cs) ≡ w ∷ reports_of (warned_of (record r { state = states.Continuation lines }) c) (c ∷ cs)
@@ -97,7 +98,8 @@ read_in (states.Digits n k) r c cs e = refl
 pub reports-read : (r : Reader) (c : ℕ) (cs : List ℕ) → warning_of r c ≡ None → reports_of r (c ∷ cs) ≡ before (read_report_of (warned_of r c) c) (reports_of (read_of (warned_of r c) c) cs)
 reports-read r c cs e = read_in r.state r c cs e
 
--- the same, with names for the reader past the warnings, the report and the reader after the character
+-- the same, with names for the reader past the warnings, the report and the reader after the
+-- character
 pub reports-taken : (r w n : Reader) (o : Option Report) (c : ℕ) (cs : List ℕ) → warning_of r c ≡ None → w ≡ warned_of r c → o ≡ read_report_of w c → n ≡ read_of w c
     → reports_of r (c ∷ cs) ≡ before o (reports_of n cs)
 reports-taken r w n o c cs e p q s = rw (s, q, p) (reports-read r c cs e)

@@ -1,5 +1,5 @@
--- What one character, escape or code means in each of the five literals. Characters are numbers, their codes.
--- Source: the Rust Reference, "Tokens", on character and string literals.
+-- What one character, escape or code means in each of the five literals. Characters are numbers,
+-- their codes. Source: the Rust Reference, "Tokens", on character and string literals.
 use Rattle.std.specs.Prelude.{ℕ, ◌+◌, ◌*◌, Bool, true, false, not, nat_le, nat_lt, ◌==◌, ◌&&◌, ◌||◌, if◌then◌else◌, Result, Ok, Err, List, length, filter, fold}
 use Rattle.std.specs.Char.{digit_value}
 use Rattle.literal_escape.specs.declared.error.EscapeError.{EscapeError}
@@ -84,7 +84,8 @@ number ds = fold (λ n d. n * 16 + digit_value d) 0 ds
 abbrev pub is_surrogate : ℕ → Bool
 is_surrogate n = nat_le 0xD800 n && nat_le n 0xDFFF
 
--- the meaning of \u{..} with this many digits that write n: the checks at the closing brace, in this order
+-- the meaning of \u{..} with this many digits that write n: the checks at the closing brace, in
+-- this order
 abbrev pub code : Mode → ℕ → ℕ → Result MixedUnit EscapeError
 code mode count n =
     if nat_lt 6 count then Err OverlongUnicodeEscape
@@ -105,7 +106,8 @@ abbrev pub number_of : MixedUnit → ℕ
 number_of (units.Char c) = c
 number_of (units.HighByte b) = b
 
--- the same of a meaning or a fault, as a literal whose units are all characters or all bytes gives it
+-- the same of a meaning or a fault, as a literal whose units are all characters or all bytes gives
+-- it
 abbrev pub numbered : Result MixedUnit EscapeError → Result ℕ EscapeError
 numbered (Ok unit) = Ok (number_of unit)
 numbered (Err e) = Err e

@@ -1,4 +1,5 @@
--- The message of each fault and warning. (Upstream: `rustc_unescape_error_to_string` of rust-analyzer's validation.)
+-- The message of each fault and warning. (Upstream: `rustc_unescape_error_to_string` of
+-- rust-analyzer's validation.)
 use Rattle.std.specs.Prelude.{ℕ, List, ◌∷◌, ◌++◌, codes}
 use Rattle.literal_escape.specs.declared.error.EscapeError.{EscapeError}
 use Rattle.literal_escape.specs.declared.error.EscapeError.TheVariants as faults

@@ -1,5 +1,6 @@
--- The pieces of a content, each by one row of the table of escapes, and what each reports.
--- Source: the Rust Reference, "Tokens", on escapes and string continuations; the faults are those of upstream's `unescape`.
+-- The pieces of a content, each by one row of the table of escapes, and what each reports. Source:
+-- the Rust Reference, "Tokens", on escapes and string continuations; the faults are those of
+-- upstream's `unescape`.
 use Rattle.std.specs.Prelude.{◌≡◌, ℕ, ◌+◌, ◌*◌, ◌<◌, ◌≤◌, Bool, true, false, not, ◌==◌, ◌&&◌, ◌||◌, if◌then◌else◌, Option, Some, None, Result, Ok, Err, List, [], ◌∷◌, ◌++◌, flat_map, sum_by}
 use Rattle.std.specs.List.{list_all, list_any, AllByRecursion, FoldsTo}
 use Rattle.std.specs.declared.ops.Range.{Range}
@@ -11,7 +12,8 @@ use Rattle.literal_escape.specs.declared.mode.MixedUnit.{MixedUnit}
 use Rattle.literal_escape.specs.declared.reader.Report.{Report}
 use Rattle.literal_escape.specs.Literal.{is_warning, is_string, meaning, plain, is_simple, simple, is_hex, hex, unicode, is_blank}
 
--- the prefix of an escape that is not whole: \, \x, \x and a digit, \u, \u{, and \u{ with a digit and what follows it
+-- the prefix of an escape that is not whole: \, \x, \x and a digit, \u, \u{, and \u{ with a digit
+-- and what follows it
 pub data Begun : Type 0 where
   slash : Begun
   slash_x : Begun
@@ -20,8 +22,9 @@ pub data Begun : Type 0 where
   slash_u_brace : Begun
   slash_u_digits : ℕ → List ℕ → Begun
 
--- a character for itself; an escape of two characters; \x with two digits; \u{..}; a prefix of an escape with the character
--- that shows the fault, or without one at the content's end; a continuation with the blanks that it skips
+-- a character for itself; an escape of two characters; \x with two digits; \u{..}; a prefix of an
+-- escape with the character that shows the fault, or without one at the content's end; a
+-- continuation with the blanks that it skips
 pub data Piece : Type 0 where
   character : ℕ → Piece
   letter : ℕ → Piece
@@ -79,8 +82,8 @@ abbrev pub StartsWithNoBlank : List ℕ → Type 0
 StartsWithNoBlank [] = Unit {0}
 StartsWithNoBlank (c ∷ cs) = is_blank c ≡ false
 
--- the row of each piece, before the rest of the content: a fault without a character is at the end, and a continuation
--- skips all blanks
+-- the row of each piece, before the rest of the content: a fault without a character is at the end,
+-- and a continuation skips all blanks
 abbrev pub IsPiece : Mode → Piece → List ℕ → Type 0
 IsPiece mode (character c) rest = (c == 92) ≡ false
 IsPiece mode (letter c) rest = is_simple c ≡ true
@@ -130,7 +133,8 @@ abbrev pub white_warning : ℕ → List ℕ → List ℕ → List Report
 white_warning at blanks [] = []
 white_warning at blanks (c ∷ cs) = if is_whitespace c then unit_at at ((92 ∷ 10 ∷ blanks) ++ c ∷ []) (Err UnskippedWhitespaceWarning) else []
 
--- what a piece that begins at this offset reports, before what follows it: a unit each, but a continuation its warnings
+-- what a piece that begins at this offset reports, before what follows it: a unit each, but a
+-- continuation its warnings
 abbrev pub piece_reports : Mode → ℕ → Piece → List ℕ → List Report
 piece_reports mode at (character c) rest = unit_at at (c ∷ []) (plain mode c)
 piece_reports mode at (letter c) rest = unit_at at (spelling (letter c)) (meaning mode (simple c))
@@ -148,8 +152,8 @@ reports_from mode at (p ∷ ps) = piece_reports mode at p (flat_map spelling ps)
 abbrev pub range_of : Report → Range ℕ
 range_of r = record { start = r.start; end = r.end }
 
--- Calls of a closure, by its step, lead from one state to another: one call for each report, in order, with where it
--- is and with the meaning or fault as view shows it
+-- Calls of a closure, by its step, lead from one state to another: one call for each report, in
+-- order, with where it is and with the meaning or fault as view shows it
 abbrev pub CalledOnEach : {F U : Type 0} → (Result MixedUnit EscapeError → U) → (F → Range ℕ → U → F → Type 0) → F → F → List Report → Type 0
 CalledOnEach view step old new reports = FoldsTo (λ f r g. step f (range_of r) (view r.unit) g) old reports new
 
@@ -157,7 +161,8 @@ CalledOnEach view step old new reports = FoldsTo (λ f r g. step f (range_of r) 
 abbrev pub OfReports : Mode → List ℕ → (List Report → Type 0) → Type 0
 OfReports mode content P = (pieces : List Piece) × IsCut mode content pieces × P (reports_from mode 0 pieces)
 
--- the result for a literal of one unit: the unit's meaning or fault, but a good one must be the last
+-- the result for a literal of one unit: the unit's meaning or fault, but a good one must be the
+-- last
 abbrev pub alone : Result MixedUnit EscapeError → Result MixedUnit EscapeError
 alone (Ok unit) = Err MoreThanOneChar
 alone (Err e) = Err e
@@ -175,7 +180,8 @@ IsOffset content n = (before : List ℕ) × (behind : List ℕ) × (content ≡ 
 abbrev pub IsWithin : ℕ → Report → Type 0
 IsWithin len r = (r.start ≤ len) × (r.end ≤ len)
 
--- where the next report may begin: a unit is over at its end, but a warning covers the reports after it
+-- where the next report may begin: a unit is over at its end, but a warning covers the reports
+-- after it
 abbrev pub is_warned : Result MixedUnit EscapeError → Bool
 is_warned (Ok unit) = false
 is_warned (Err e) = is_warning e
@@ -183,7 +189,8 @@ is_warned (Err e) = is_warning e
 abbrev pub next_start : Report → ℕ
 next_start r = if is_warned r.unit then r.start else r.end
 
--- Reports follow each other from an offset on: none is empty, and none begins within the unit before it.
+-- Reports follow each other from an offset on: none is empty, and none begins within the unit
+-- before it.
 abbrev pub Follow : ℕ → List Report → Type 0
 Follow at [] = Unit {0}
 Follow at (r ∷ rs) = (at ≤ r.start) × (r.start < r.end) × Follow (next_start r) rs

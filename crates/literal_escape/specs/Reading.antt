@@ -1,5 +1,5 @@
--- The results of the reader's private functions, by its state. Public clauses cite only to_come, reports_in and Gives of
--- these: the pieces are in Pieces.
+-- The results of the reader's private functions, by its state. Public clauses cite only to_come,
+-- reports_in and Gives of these: the pieces are in Pieces.
 use Rattle.std.specs.Prelude.{◌≡◌, ℕ, ◌+◌, ◌-◌, ◌*◌, ◌^◌, min, Bool, false, not, ◌==◌, ◌&&◌, ◌||◌, if◌then◌else◌, Option, Some, None, Result, Err, List, [], ◌∷◌}
 use Rattle.std.specs.Char.{digit_value, len_utf8, is_whitespace}
 use Rattle.std.specs.Str.{chars}
@@ -94,7 +94,8 @@ report_of r more unit = record { start = r.start; end = r.at + more; unit = unit
 abbrev pub fresh_of : Reader → Reader
 fresh_of r = record r { start = r.at; state = states.Start }
 
--- before the character c, which is not taken: a continuation that is over gives its warnings one by one
+-- before the character c, which is not taken: a continuation that is over gives its warnings one by
+-- one
 unfoldable pub warning_of : Reader → ℕ → Option Report
 warning_of r c =
     if not (is_over r.state c) then None
@@ -150,7 +151,8 @@ reports_of r (c ∷ cs) =
     before (warning_of r c) (before (if has_lines r.state then warning_of (warned_of r c) c else None)
     (before (read_report_of (left_of r c) c) (reports_of (read_of (left_of r c) c) cs)))
 
--- the reports of a content, read from its start; `laws::read_by_cut` says that they are those of its cut
+-- the reports of a content, read from its start; `laws::read_by_cut` says that they are those of
+-- its cut
 abbrev pub reports_in : Mode → List ℕ → List Report
 reports_in mode content = reports_of (record { mode = mode; start = 0; at = 0; state = states.Start }) content
 

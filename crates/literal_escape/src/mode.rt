@@ -17,7 +17,8 @@ pub enum Mode {
     CStr,
 }
 
-/// The meaning of a unit: `HighByte` for a byte from 80 (hexadecimal) on that is written with `\x`, otherwise `Char`.
+/// The meaning of a unit: `HighByte` for a byte from 80 (hexadecimal) on that is written with `\x`,
+/// otherwise `Char`.
 #[derive(Clone, Copy, Debug, PartialEq, Eq)]
 pub enum MixedUnit {
     /// A character, encoded as UTF-8.

@@ -23,7 +23,8 @@ pub enum State {
     Brace,
     /// `\u{`, digits and underscores: the number so far and how many digits, both saturating.
     Digits { code: u32, count: u8 },
-    /// A backslash, a newline and blanks. `lines`: there is a second newline among them, which needs a warning.
+    /// A backslash, a newline and blanks. `lines`: there is a second newline among them, which
+    /// needs a warning.
     Continuation { lines: bool },
 }
 

@@ -44,7 +44,8 @@ impl Report {
     }
 }
 
-/// The state of the reader: `at` is the offset of the next character, `start` that of the piece that is being read.
+/// The state of the reader: `at` is the offset of the next character, `start` that of the piece
+/// that is being read.
 #[derive(Clone, Copy)]
 pub struct Reader {
     pub mode: Mode,
@@ -119,7 +120,8 @@ impl Reader {
     #[tactic(auto, unfolding(crate::specs::Reading::end_report_of))]
     pub fn end(&mut self) -> Option<Report>
         ensures report { result ≡ end_report_of self.old }
-        ensures reader { MatchOption result (self.new ≡ self.old) (λ _. self.new ≡ fresh_of self.old) }
+        ensures reader { MatchOption result (self.new ≡ self.old)
+            (λ _. self.new ≡ fresh_of self.old) }
         ensures over { end_report_of self.new ≡ None }
         ensures at { self.new.at ≡ self.old.at }
     {

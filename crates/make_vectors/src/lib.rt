@@ -1,4 +1,5 @@
-//! Tests of nodes from text: each constructor, each refusal, and expressions in the places of others.
+//! Tests of nodes from text: each constructor, each refusal, and expressions in the places of
+//! others.
 #![tactic(auto)]
 
 #[cfg(test)]

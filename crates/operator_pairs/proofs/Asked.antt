@@ -1,4 +1,5 @@
--- Every operand below the root of a tree that shows a term, asked with its own parent: the answer is whether it fits.
+-- Every operand below the root of a tree that shows a term, asked with its own parent: the answer
+-- is whether it fits.
 use Rattle.std.proofs.Common.{◌≡◌, ◌++◌, ℕ, zero, suc, List, [], ◌∷◌, Bool, true, false, ◌||◌, cond, Option, Some, None, option_and_then, refl, sym, ap, subst, ◌∙◌, ◌↔◌, arith, append_assoc, append-nil}
 use Rattle.syntax_kind.specs.declared.syntax_kind.token_kind.TokenKind.TheVariants as tok
 use Rattle.tree_model.specs.Tree.{Tree, node, token, Place, subtree, child_at, forest_of_children, kind_of}
@@ -101,7 +102,8 @@ no_angle (Last e) j ts = refl
 no_angle (More e es) zero ts = refl
 no_angle (More e es) (suc j) ts = no_angle es j ts
 
--- an argument: the list of arguments is its parent, any term fits there, and neither `<` nor `<<` follows
+-- an argument: the list of arguments is its parent, any term fits there, and neither `<` nor `<<`
+-- follows
 record Nested (u : Tree) (t : Term) (i : ℕ) (p : Part) : Type 0 where
   list : ℕ
   child : ℕ

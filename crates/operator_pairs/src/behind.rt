@@ -33,8 +33,8 @@ fn kind_in(element: &SyntaxElement) -> Option<SyntaxKind>
     }
 }
 
-// The result of one step, to the next sibling or the parent: the kind that was looked for, where to continue, or that nothing is
-// left.
+// The result of one step, to the next sibling or the parent: the kind that was looked for, where to
+// continue, or that nothing is left.
 #[derive(Drop)]
 enum Step {
     Found(SyntaxKind),
@@ -43,7 +43,8 @@ enum Step {
 }
 
 fn into_next(next: SyntaxElement) -> Step
-    ensures found { answer result ≡ or_else (kind_in (cursor_of next)) (kind_behind (cursor_of next)) }
+    ensures found { answer result
+        ≡ or_else (kind_in (cursor_of next)) (kind_behind (cursor_of next)) }
     ensures fewer { steps_after result ≤ suc (steps_left next) }
 {
     match kind_in(&next) {

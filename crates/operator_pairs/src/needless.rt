@@ -28,7 +28,8 @@ fn may_go_from(inside: &SyntaxNode, parent: &SyntaxNode, pair: &SyntaxNode) -> b
     !is_foreign(form_of(inside.kind())) && !needs_parens_in_place_of(inside, parent, pair)
 }
 
-/// Whether the node is a pair whose inside needs no parentheses in its place, where both are in an operator tree.
+/// Whether the node is a pair whose inside needs no parentheses in its place, where both are in an
+/// operator tree.
 pub fn is_needless(node: &SyntaxNode) -> bool
     ensures { result ≡ is_needless node.now }
 {
@@ -63,24 +64,29 @@ fn needless_below(alloc: Global, root: &SyntaxNode) -> Result<Vec<SyntaxNode>, A
 
 /// Whether the node is a reading of its own tokens, or `None` if it shows no term.
 ///
-/// It is one exactly where no operand below it needs parentheses in its own parent, unless it ends in a cast's name and `<` or `<<`
-/// follows.
+/// It is one exactly where no operand below it needs parentheses in its own parent, unless it ends
+/// in a cast's name and `<` or `<<` follows.
 pub fn reads_back(node: &SyntaxNode) -> Option<bool>
     ensures reads { ReadsBack result (shown (focus node.now)) }
-    ensures tied { IfSome result (λ b. (t : Term) → meaning (focus node.now) ≡ IsTerm t → MayStandBefore (leaves_behind node.now.tree node.now.place) t
+    ensures tied { IfSome result (λ b. (t : Term) → meaning (focus node.now) ≡ IsTerm t
+        → MayStandBefore (leaves_behind node.now.tree node.now.place) t
         → b ≡ true ↔ AskedNowhere node.now t) }
 {
     operator_reading::reads::reads_back(node)
 }
 
-/// The pairs below the root whose inside needs no parentheses in their place, in preorder; `None` unless the tree reads back.
+/// The pairs below the root whose inside needs no parentheses in their place, in preorder; `None`
+/// unless the tree reads back.
 ///
-/// Where neither `<` nor `<<` follows the tree, they are those without which its tokens read as the term without the pair.
+/// Where neither `<` nor `<<` follows the tree, they are those without which its tokens read as the
+/// term without the pair.
 pub fn needless_parens(
     alloc: Global,
     root: &SyntaxNode,
 ) -> Result<Option<Vec<SyntaxNode>>, AllocError>
-    ensures { IfOk result (λ answer. NeedlessOf root.now (option_map (λ found. found.items) answer) (shown (focus root.now))) }
+    ensures { IfOk result (λ answer.
+        NeedlessOf root.now (option_map (λ found. found.items) answer)
+        (shown (focus root.now))) }
 {
     match reads_back(root) {
         None => Ok(None),

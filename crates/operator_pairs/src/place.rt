@@ -37,22 +37,39 @@ fn is_before_angle(node: &SyntaxNode) -> bool
     }
 }
 
-/// Whether an expression of an operator tree needs parentheses in place of the node or token at `place`, whose parent is `parent`.
+/// Whether an expression of an operator tree needs parentheses in place of the node or token at
+/// `place`, whose parent is `parent`.
 ///
-/// If `own` and `parent` show terms, and `place` is a part of `parent`, the result is that of the test over terms. Returns false
-/// if `parent` is not the parent of `place`, if it is a list of arguments, or if `own` has no form of an operator tree.
+/// If `own` and `parent` show terms, and `place` is a part of `parent`, the result is that of the
+/// test over terms. Returns false if `parent` is not the parent of `place`, if it is a list of
+/// arguments, or if `own` has no form of an operator tree.
 pub fn needs_parens_in_place_of(own: &SyntaxNode, parent: &SyntaxNode, place: &SyntaxNode) -> bool
-    ensures everywhere { result ≡ asks_below own.now parent.now place.now (begins_with_angle (leaves_behind place.now.tree place.now.place)) }
-    ensures direct { (s t : Term) (i : ℕ) (p : Part) → meaning (focus own.now) ≡ IsTerm s → meaning (focus parent.now) ≡ IsTerm t
+    ensures everywhere { result
+        ≡ asks_below own.now parent.now place.now
+        (begins_with_angle (leaves_behind place.now.tree place.now.place)) }
+    ensures direct { (s t : Term) (i : ℕ) (p : Part) → meaning (focus own.now) ≡ IsTerm s
+        → meaning (focus parent.now) ≡ IsTerm t
         → part t i ≡ Some p → is_direct t i ≡ true → place.now ≡ kid_place parent.now (part_kid t i)
-        → result ≡ needs_pair_at t i (begins_with_angle (leaves_behind place.now.tree place.now.place)) s }
-    ensures pairs { (t : Term) (q : List ℕ) (i : ℕ) (r : Cursor) (holder held : Part) (e : Term) → meaning (focus r) ≡ IsTerm t
-        → operand t q ≡ Some holder → part holder.term i ≡ Some held → held.term ≡ Paren e → is_direct holder.term i ≡ true
-        → parent.now ≡ at_place r (r.place ++ operand_place q (focus r) t) → place.now ≡ kid_place parent.now (part_kid holder.term i) → own.now ≡ kid_place place.now 1
-        → result ≡ false ↔ FitsPlace held.demand (begins_with_angle (tokens_behind (q ++ i ∷ []) t ++ leaves_behind r.tree r.place)) e }
+        → result
+        ≡ needs_pair_at t i (begins_with_angle (leaves_behind place.now.tree place.now.place))
+        s }
+    ensures pairs { (t : Term) (q : List ℕ) (i : ℕ) (r : Cursor) (holder held : Part) (e : Term)
+        → meaning (focus r) ≡ IsTerm t
+        → operand t q ≡ Some holder → part holder.term i ≡ Some held → held.term ≡ Paren e
+        → is_direct holder.term i ≡ true
+        → parent.now ≡ at_place r (r.place ++ operand_place q (focus r) t)
+        → place.now ≡ kid_place parent.now (part_kid holder.term i)
+        → own.now ≡ kid_place place.now 1
+        → result ≡ false
+        ↔ FitsPlace held.demand
+        (begins_with_angle (tokens_behind (q ++ i ∷ []) t ++ leaves_behind r.tree r.place))
+        e }
     ensures arguments { is_arguments (form_at parent.now) ≡ true → result ≡ false }
-    ensures operators { parent_of place.now ≡ Some parent.now → is_foreign (form_at own.now) ≡ false → is_arguments (form_at parent.now) ≡ false
-        → result ≡ operators_ask own.now parent.now place.now (begins_with_angle (leaves_behind place.now.tree place.now.place)) }
+    ensures operators { parent_of place.now ≡ Some parent.now → is_foreign (form_at own.now) ≡ false
+        → is_arguments (form_at parent.now) ≡ false
+        → result
+        ≡ operators_ask own.now parent.now place.now
+        (begins_with_angle (leaves_behind place.now.tree place.now.place)) }
 {
     let angle = is_before_angle(place);
     needs_parens_before(own, parent, place, angle)

@@ -15,32 +15,45 @@ use lossless_tree::SyntaxNode;
 
 // `place::needs_parens_in_place_of`, and its result for the place's own parent.
 fn is_asked(own: &SyntaxNode, parent: &SyntaxNode, place: &SyntaxNode) -> bool
-    ensures everywhere { result ≡ asks_below own.now parent.now place.now (begins_with_angle (leaves_behind place.now.tree place.now.place)) }
-    ensures asks { parent_of place.now ≡ Some parent.now → is_foreign (form_at own.now) ≡ false → result ≡ asks own.now parent.now place.now }
+    ensures everywhere { result
+        ≡ asks_below own.now parent.now place.now
+        (begins_with_angle (leaves_behind place.now.tree place.now.place)) }
+    ensures asks { parent_of place.now ≡ Some parent.now → is_foreign (form_at own.now) ≡ false
+        → result ≡ asks own.now parent.now place.now }
 {
     place::needs_parens_in_place_of(own, parent, place)
 }
 
-/// Whether an expression of an operator tree needs parentheses in place of the node or token at `place`, whose parent is `parent`.
+/// Whether an expression of an operator tree needs parentheses in place of the node or token at
+/// `place`, whose parent is `parent`.
 ///
-/// For an operand below the root of an operator tree and its own parent node (for an argument, the list of arguments), it returns
-/// false exactly if the expression fits there, before the tokens that follow the operand in the whole tree. For the contents of a
-/// pair in place of the pair, in a tree that reads back and is not followed by `<` or `<<`, it returns false exactly if the tokens
+/// For an operand below the root of an operator tree and its own parent node (for an argument, the
+/// list of arguments), it returns false exactly if the expression fits there, before the tokens
+/// that follow the operand in the whole tree. For the contents of a pair in place of the pair, in a
+/// tree that reads back and is not followed by `<` or `<<`, it returns false exactly if the tokens
 /// without the pair read as the term without it; then they read as no other term.
 ///
-/// Returns false if `parent` is not the parent of `place`, if it is a list of arguments, or if `own` has no form of an operator
-/// tree.
+/// Returns false if `parent` is not the parent of `place`, if it is a list of arguments, or if
+/// `own` has no form of an operator tree.
 pub fn needs_parens_in_place_of(own: &SyntaxNode, parent: &SyntaxNode, place: &SyntaxNode) -> bool
-    ensures everywhere { result ≡ asks_below own.now parent.now place.now (begins_with_angle (leaves_behind place.now.tree place.now.place)) }
-    ensures asks { parent_of place.now ≡ Some parent.now → is_foreign (form_at own.now) ≡ false → result ≡ asks own.now parent.now place.now }
-    ensures fits { (r : Cursor) (t s : Term) (i : ℕ) (q : List ℕ) (held : Part) → meaning (focus r) ≡ IsTerm t → operand t (i ∷ q) ≡ Some held
-        → place.now ≡ operand_cursor r t (i ∷ q) → parent_of place.now ≡ Some parent.now → meaning (focus own.now) ≡ IsTerm s
+    ensures everywhere { result
+        ≡ asks_below own.now parent.now place.now
+        (begins_with_angle (leaves_behind place.now.tree place.now.place)) }
+    ensures asks { parent_of place.now ≡ Some parent.now → is_foreign (form_at own.now) ≡ false
+        → result ≡ asks own.now parent.now place.now }
+    ensures fits { (r : Cursor) (t s : Term) (i : ℕ) (q : List ℕ) (held : Part)
+        → meaning (focus r) ≡ IsTerm t → operand t (i ∷ q) ≡ Some held
+        → place.now ≡ operand_cursor r t (i ∷ q) → parent_of place.now ≡ Some parent.now
+        → meaning (focus own.now) ≡ IsTerm s
         → result ≡ false ↔ FitsPlace held.demand (angle_behind r t (i ∷ q)) s }
-    ensures pairs { (r : Cursor) (t : Term) (i : ℕ) (q : List ℕ) (d : Demand) (e : Term) → meaning (focus r) ≡ IsTerm t → operand t (i ∷ q) ≡ some_part d (Paren e)
-        → place.now ≡ operand_cursor r t (i ∷ q) → parent_of place.now ≡ Some parent.now → meaning (focus own.now) ≡ IsTerm e
+    ensures pairs { (r : Cursor) (t : Term) (i : ℕ) (q : List ℕ) (d : Demand) (e : Term)
+        → meaning (focus r) ≡ IsTerm t → operand t (i ∷ q) ≡ some_part d (Paren e)
+        → place.now ≡ operand_cursor r t (i ∷ q) → parent_of place.now ≡ Some parent.now
+        → meaning (focus own.now) ≡ IsTerm e
         → Reads 0 (tokens t) t → MayGoBefore (leaves_behind r.tree r.place) t (i ∷ q)
         → (result ≡ false ↔ Reads 0 (tokens (without (i ∷ q) t)) (without (i ∷ q) t))
-        × (result ≡ false → (u : Term) → Reads 0 (tokens (without (i ∷ q) t)) u → u ≡ without (i ∷ q) t) }
+        × (result ≡ false → (u : Term) → Reads 0 (tokens (without (i ∷ q) t)) u
+        → u ≡ without (i ∷ q) t) }
 {
     is_asked(own, parent, place)
 }

@@ -1,4 +1,5 @@
--- The rules on powers and starts, asked at an operand of a node that shows a term, are the test over terms.
+-- The rules on powers and starts, asked at an operand of a node that shows a term, are the test
+-- over terms.
 use Rattle.std.proofs.Common.{◌≡◌, ◌≤◌, ◌<◌, ◌-◌, ℕ, zero, suc, List, [], ◌∷◌, Bool, true, false, ◌&&◌, map, length, get_or, Some, IfSome, nat_eq, refl, sym, ap, subst, ◌∙◌, arith}
 use Rattle.tree_model.specs.Tree.{Forest, forest_text}
 use Rattle.operator_terms.specs.Operators.{Operator, Compute, Add, Subtract, Multiply, Divide, Remainder, ShiftLeft, ShiftRight, BitXor, BitOr, BitAnd, Dereference, Not, Negate}
@@ -121,7 +122,8 @@ before_by_side : (before : Bool) (order size from to o : ℕ) → order < size �
 before_by_side true order size from to o h g s = stands_before-side order size from to o h g ∙ (grind arith)
 before_by_side false order size from to o h g s = stands_before-side order size from to o h g ∙ (grind arith)
 
--- The rules, asked of what shows a term in place of the part's kid, are the test over terms. The kid starts at byte `from`.
+-- The rules, asked of what shows a term in place of the part's kid, are the test over terms. The
+-- kid starts at byte `from`.
 pub asks_right : (own : Form) (oc : Forest) (os : ℕ) (s : Term) (parent : Form) (pc : Forest) (ps : ℕ) (t : Term) (i : ℕ) (p : Part) (kid : Kid)
     → means own (meanings oc) ≡ IsTerm s → means parent (meanings pc) ≡ IsTerm t → part t i ≡ Some p → is_direct t i ≡ true
     → kid ≡ get_or (kids 0 ps pc) (part_kid t i) no_kid

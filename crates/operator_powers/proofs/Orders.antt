@@ -297,7 +297,8 @@ call_opens (k ∷ j ∷ ks) e args h =
     let g : meaning k.tree ∷ meaning j.tree ∷ map (λ k. meaning k.tree) ks ≡ IsTerm e ∷ IsArguments args ∷ [] = h in
     subst (OpensIn j) (sym (passed_list k (j ∷ ks) e (cc))) (opens_in j ks args (cc))
 
--- where the operator starts: where the node does, inside the list of arguments, or where the operator's kid does
+-- where the operator starts: where the node does, inside the list of arguments, or where the
+-- operator's kid does
 abbrev pub StartIs : Term → List Kid → ℕ → ℕ → Type 0
 StartIs (Literal k x) ks b o = o ≡ b
 StartIs (Name x) ks b o = o ≡ b

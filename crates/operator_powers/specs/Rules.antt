@@ -166,11 +166,12 @@ abbrev pub is_own_parent : Cursor → Option Cursor → Bool
 is_own_parent parent None = false
 is_own_parent parent (Some above) = is_same_cursor above parent
 
--- Whether `own` needs a pair below a parent: never in a list of arguments, never if it has no form of an operator tree,
--- otherwise by the rules above.
+-- Whether `own` needs a pair below a parent: never in a list of arguments, never if it has no form
+-- of an operator tree, otherwise by the rules above.
 abbrev pub asks_under : (own parent place : Cursor) → (angle : Bool) → Bool
 asks_under own parent place angle = not (is_arguments (form_at parent)) && (not (is_foreign (form_at own)) && operators_ask own parent place angle)
 
--- Whether `own` needs a pair in place of the node or token at `place`: only by the place's own parent.
+-- Whether `own` needs a pair in place of the node or token at `place`: only by the place's own
+-- parent.
 abbrev pub asks_below : (own parent place : Cursor) → (angle : Bool) → Bool
 asks_below own parent place angle = is_own_parent parent (parent_of place) && asks_under own parent place angle

@@ -82,7 +82,8 @@ pub fn is_arguments(form: Form) -> bool
     matches!(form, Form::Arguments)
 }
 
-// It ends in a cast's name, and `<` or `<<` follows. Its last tokens are read only where one of these follows.
+// It ends in a cast's name, and `<` or `<<` follows. Its last tokens are read only where one of
+// these follows.
 fn is_cut_off(own: &SyntaxNode, angle: bool) -> bool
     ensures { result ≡ (ends_in_cast (leaves_of (focus own.now)) && angle) }
 {
@@ -98,8 +99,8 @@ fn operators_ask(own: &SyntaxNode, parent: &SyntaxNode, place: &SyntaxNode, angl
     is_cut_off(own, angle) || asks_at(own, parent, place)
 }
 
-// The test at the place's own parent. An expression that has no form of an operator tree needs no pair here: the rules for other
-// expressions are not part of this test.
+// The test at the place's own parent. An expression that has no form of an operator tree needs no
+// pair here: the rules for other expressions are not part of this test.
 fn needs_parens_below(
     own: &SyntaxNode,
     parent: &SyntaxNode,
@@ -117,11 +118,12 @@ fn needs_parens_below(
     operators_ask(own, parent, place, angle)
 }
 
-/// Whether an expression of an operator tree needs parentheses in place of the node or token at `place`, whose parent is `parent`. `angle`
-/// says whether `<` or `<<` follows the parent's child there.
+/// Whether an expression of an operator tree needs parentheses in place of the node or token at
+/// `place`, whose parent is `parent`. `angle` says whether `<` or `<<` follows the parent's child
+/// there.
 ///
-/// Returns false if `parent` is not the parent of `place`, if it is a list of arguments, or if `own` has no form of an operator
-/// tree.
+/// Returns false if `parent` is not the parent of `place`, if it is a list of arguments, or if
+/// `own` has no form of an operator tree.
 pub fn needs_parens_before(
     own: &SyntaxNode,
     parent: &SyntaxNode,
@@ -129,11 +131,13 @@ pub fn needs_parens_before(
     angle: bool,
 ) -> bool
     ensures everywhere { result ≡ asks_below own.now parent.now place.now angle }
-    ensures direct { (s t : Term) (i : ℕ) (p : Part) → meaning (focus own.now) ≡ IsTerm s → meaning (focus parent.now) ≡ IsTerm t
+    ensures direct { (s t : Term) (i : ℕ) (p : Part) → meaning (focus own.now) ≡ IsTerm s
+        → meaning (focus parent.now) ≡ IsTerm t
         → part t i ≡ Some p → is_direct t i ≡ true → place.now ≡ kid_place parent.now (part_kid t i)
         → result ≡ needs_pair_at t i angle s }
     ensures arguments { is_arguments (form_at parent.now) ≡ true → result ≡ false }
-    ensures operators { parent_of place.now ≡ Some parent.now → is_foreign (form_at own.now) ≡ false → is_arguments (form_at parent.now) ≡ false
+    ensures operators { parent_of place.now ≡ Some parent.now → is_foreign (form_at own.now) ≡ false
+        → is_arguments (form_at parent.now) ≡ false
         → result ≡ operators_ask own.now parent.now place.now angle }
 {
     is_own_parent(parent, place) && needs_parens_below(own, parent, place, angle)

@@ -9,7 +9,8 @@ ghost use Rattle.operator_powers.specs.Edges.{leaf_kind, pass, step, passed, sta
 use lossless_tree::{NodeOrToken, SyntaxElement, SyntaxNode};
 use syntax_kind::SyntaxKind;
 
-/// Facts about a list of tokens: the last is `as`; the last two are `as` and a name; no such two are followed by `<` or `<<`.
+/// Facts about a list of tokens: the last is `as`; the last two are `as` and a name; no such two
+/// are followed by `<` or `<<`.
 #[derive(Clone, Copy)]
 pub struct Edge {
     pub was_as: bool,

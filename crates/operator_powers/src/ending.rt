@@ -15,7 +15,8 @@ use syntax_kind::SyntaxKind;
 
 // The token right before one of a node's, in that node, whose first token is `first`.
 fn token_before(token: &SyntaxToken, first: &Option<SyntaxToken>) -> Option<SyntaxToken>
-    ensures { (c : Cursor) (before after : List Cursor) → IsPlace c.tree c.place → tokens_of c ≡ reverse before ++ token.now ∷ after
+    ensures { (c : Cursor) (before after : List Cursor) → IsPlace c.tree c.place
+        → tokens_of c ≡ reverse before ++ token.now ∷ after
         → first.now ≡ find at_token (descendants_of c) → result ≡ head_of before }
 {
     tokens_stand_together();
@@ -44,8 +45,9 @@ fn is_cast_word(named: bool, kind: SyntaxKind) -> bool
     named && is_as(kind)
 }
 
-/// Whether the last tokens of a node that are not trivia are `as` and a name. Takes time linear in the trivia after the two and
-/// between them, and in the nodes that begin there or at the node's first token.
+/// Whether the last tokens of a node that are not trivia are `as` and a name. Takes time linear in
+/// the trivia after the two and between them, and in the nodes that begin there or at the node's
+/// first token.
 pub fn ends_in_cast(node: &SyntaxNode) -> bool
     ensures { result ≡ ends_in_cast (leaves_of (focus node.now)) }
 {

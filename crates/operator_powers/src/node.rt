@@ -67,7 +67,8 @@ pub fn operator_start(form: Form, trees: &SiblingsLeft<'_>) -> usize
 }
 
 fn binary_powers(trees: &SiblingsLeft<'_>) -> Strength
-    ensures { pow result.left result.right ≡ powers_or (token_start want.Operator trees.now.trees trees.now.start) }
+    ensures { pow result.left result.right
+        ≡ powers_or (token_start want.Operator trees.now.trees trees.now.start) }
 {
     match token_start(trees, Wanted::Operator) {
         Some((_, kind)) => kind_powers(kind),

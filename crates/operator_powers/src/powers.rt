@@ -81,7 +81,9 @@ fn is_excused(own: Strength, parent: Strength, before: bool) -> bool
 }
 
 fn are_of_one_rank(own: Strength, parent: Strength) -> bool
-    ensures { result ≡ ((nat_eq own.left 11 && nat_eq parent.left 11) || (nat_eq own.left 5 && nat_eq parent.left 5)) }
+    ensures { result
+        ≡ ((nat_eq own.left 11 && nat_eq parent.left 11)
+        || (nat_eq own.left 5 && nat_eq parent.left 5)) }
 {
     (own.left == 11 && parent.left == 11) || (own.left == 5 && parent.left == 5)
 }
@@ -109,7 +111,8 @@ pub fn by_power(own: Strength, parent: Strength, before: bool) -> bool
     binds_less(own, parent, before)
 }
 
-/// Whether the operand's operator starts before the parent's, as if the operand were at the tested place.
+/// Whether the operand's operator starts before the parent's, as if the operand were at the tested
+/// place.
 pub fn stands_before(order: usize, size: usize, from: usize, to: usize, parent: usize) -> bool
     ensures { result ≡ stands_before order size from to parent }
 {

@@ -1,4 +1,5 @@
--- Where a tree shows a term, its demands are met exactly where no part at any place asks for a pair.
+-- Where a tree shows a term, its demands are met exactly where no part at any place asks for a
+-- pair.
 use Rattle.std.proofs.Common.{◌≡◌, ℕ, List, [], ◌∷◌, Bool, true, false, not, ◌&&◌, ◌||◌, cond, refl, sym, ap, subst, ◌∙◌, arith}
 use Rattle.syntax_kind.specs.declared.syntax_kind.SyntaxKind.{SyntaxKind}
 use Rattle.syntax_kind.specs.Kinds.{is_trivia}

@@ -29,7 +29,8 @@ fn part_asks(
     parent: Strength,
     before: bool,
 ) -> bool
-    ensures { result ≡ part_asks own own_trees.now.trees form (pow parent.left parent.right) before }
+    ensures { result
+        ≡ part_asks own own_trees.now.trees form (pow parent.left parent.right) before }
 {
     if is_field_form(own) && is_call_form(form) {
         return true;
@@ -39,7 +40,8 @@ fn part_asks(
 
 // The first of the siblings needs a pair.
 fn child_asks(left: &SiblingsLeft<'_>, form: Form, parent: Strength, before: bool) -> bool
-    ensures { result ≡ child_asks form (pow parent.left parent.right) before (first_of left.now.trees) }
+    ensures { result
+        ≡ child_asks form (pow parent.left parent.right) before (first_of left.now.trees) }
 {
     if left.is_token() {
         return false;

@@ -74,7 +74,8 @@ fn shows_term(node: &SyntaxNode) -> bool
 }
 
 fn is_reading(node: &SyntaxNode) -> bool
-    ensures { result ≡ (every node_fits (focus node.now) && no_cast_before_angle (leaves_of (focus node.now))) }
+    ensures { result
+        ≡ (every node_fits (focus node.now) && no_cast_before_angle (leaves_of (focus node.now))) }
 {
     all_fit(node) && edge_of(node).clear
 }

@@ -28,7 +28,8 @@ fn is_range(trees: &SiblingsLeft<'_>) -> bool
 
 // What follows an argument and its comma.
 fn next_argument<'t>(trees: &SiblingsLeft<'t>) -> Option<SiblingsLeft<'t>>
-    ensures { option_map (λ s. assumed s.trees) result ≡ option_and_then (take what.Comma) (take what.ATerm (assumed trees.now.trees)) }
+    ensures { option_map (λ s. assumed s.trees) result
+        ≡ option_and_then (take what.Comma) (take what.ATerm (assumed trees.now.trees)) }
 {
     match take(trees, What::ATerm) {
         Some(rest) => take(&rest, What::Comma),

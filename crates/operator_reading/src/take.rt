@@ -208,7 +208,9 @@ pub fn is_two(trees: &SiblingsLeft<'_>, a: What, b: What) -> bool
 
 /// Whether just these three are left, in this order.
 pub fn is_three(trees: &SiblingsLeft<'_>, a: What, b: What, c: What) -> bool
-    ensures { result ≡ is_end (option_and_then (take c) (option_and_then (take b) (take a (assumed trees.now.trees)))) }
+    ensures { result
+        ≡ is_end (option_and_then (take c)
+        (option_and_then (take b) (take a (assumed trees.now.trees)))) }
 {
     match take(trees, a) {
         Some(rest) => is_two(&rest, b, c),
@@ -218,7 +220,9 @@ pub fn is_three(trees: &SiblingsLeft<'_>, a: What, b: What, c: What) -> bool
 
 /// Whether just these four are left, in this order.
 pub fn is_four(trees: &SiblingsLeft<'_>, a: What, b: What, c: What, d: What) -> bool
-    ensures { result ≡ is_end (option_and_then (take d) (option_and_then (take c) (option_and_then (take b) (take a (assumed trees.now.trees))))) }
+    ensures { result
+        ≡ is_end (option_and_then (take d) (option_and_then (take c)
+        (option_and_then (take b) (take a (assumed trees.now.trees))))) }
 {
     match take(trees, a) {
         Some(rest) => is_three(&rest, b, c, d),

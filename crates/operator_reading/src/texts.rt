@@ -5,8 +5,8 @@ ghost use Rattle.operator_trees.specs.Shown.{text_fits};
 
 use syntax_kind::{SyntaxKind, TokenKind};
 
-/// The text that every token of the kind has, of the kinds that are in operator trees; empty for all other kinds, and where
-/// texts differ, as those of names and numbers do.
+/// The text that every token of the kind has, of the kinds that are in operator trees; empty for
+/// all other kinds, and where texts differ, as those of names and numbers do.
 #[tactic(auto, unfolding(operator_terms::specs::Token::fixed_text))]
 pub fn fixed_text(kind: TokenKind) -> &'static str
     ensures { result.now ≡ fixed_text kind }

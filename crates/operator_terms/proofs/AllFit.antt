@@ -1,5 +1,6 @@
--- The test `all_fit` decides whether every operand fits. Half by half: `demands_met` decides the structural form `PartsFit`
--- (an induction on the term), and the rule on casts is a test of the tokens already.
+-- The test `all_fit` decides whether every operand fits. Half by half: `demands_met` decides the
+-- structural form `PartsFit` (an induction on the term), and the rule on casts is a test of the
+-- tokens already.
 use Rattle.std.proofs.Common.{◌≡◌, ◌↔◌, ℕ, List, true, ◌&&◌, refl, arith}
 use Rattle.operator_terms.specs.Operators.{left_demand, right_demand}
 use Rattle.operator_terms.specs.Term.{Term, Literal, Name, Paren, Field, Await, Try, Cast, Method, Call, Index, Prefix, Borrow, Binary, RangeFull, RangeFrom, RangeTo, Range, Terms, NoTerms, Last, More, tokens}

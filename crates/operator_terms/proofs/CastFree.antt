@@ -1,5 +1,5 @@
--- Terms without casts. Where no token is `as`, the last two can't be `as` and a name, so such a term may precede any
--- tokens; and taking a pair out brings no token in.
+-- Terms without casts. Where no token is `as`, the last two can't be `as` and a name, so such a
+-- term may precede any tokens; and taking a pair out brings no token in.
 use Rattle.std.proofs.Common.{◌≡◌, ℕ, List, [], ◌∷◌, ◌++◌, Bool, true, false, ◌&&◌, ◌||◌, refl, sym, ap, ap₂, ◌∙◌}
 use Rattle.syntax_kind.specs.declared.syntax_kind.token_kind.TokenKind.TheVariants as token
 use Rattle.operator_terms.specs.Token.{Token, fixed}

@@ -1,9 +1,10 @@
 -- The rule on casts, from tokens to terms.
 --
--- `no_cast_before_angle` speaks of neighbours in a token list. `Clear angle t` says the same by the structure of the term: no
--- cast in t precedes `<` or `<<`, where `angle` says whether one of these follows t. The flag goes down the right edge
--- of the term; the left operand of an operator gets the operator itself; inside delimiters it is false. `rule-term` is the
--- equivalence, with any tokens following.
+-- `no_cast_before_angle` speaks of neighbours in a token list. `Clear angle t` says the same by the
+-- structure of the term: no cast in t precedes `<` or `<<`, where `angle` says whether one of these
+-- follows t. The flag goes down the right edge of the term; the left operand of an operator gets
+-- the operator itself; inside delimiters it is false. `rule-term` is the equivalence, with any
+-- tokens following.
 use Rattle.std.proofs.Common.{◌≡◌, ◌↔◌, List, [], ◌∷◌, ◌++◌, Bool, true, false, not, ◌&&◌, refl, ap, subst, append_assoc}
 use Rattle.syntax_kind.specs.declared.syntax_kind.SyntaxKind.TheVariants.{Token as OfToken}
 use Rattle.syntax_kind.specs.declared.syntax_kind.token_kind.TokenKind.TheVariants as token
@@ -99,7 +100,8 @@ regroup = (λ x. ((x.0, x.1.0), x.1.1), λ x. (x.0.0, (x.0.1, x.1)))
 alone : {A : Type 0} → A ↔ (Unit {0} × A)
 alone = (λ a. (tt, a), λ x. x.1)
 
--- The tokens of a term and what follows are as the rule asks where the term is clear and what follows is as the rule asks.
+-- The tokens of a term and what follows are as the rule asks where the term is clear and what
+-- follows is as the rule asks.
 mutual
   unfolding tokens
 

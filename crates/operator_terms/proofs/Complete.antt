@@ -1,8 +1,10 @@
--- The machine reads the tokens of each term that fits, whatever follows. This is the heart of the uniqueness proof.
+-- The machine reads the tokens of each term that fits, whatever follows. This is the heart of the
+-- uniqueness proof.
 --
--- `reading`: where an operand is wanted, at a stack whose top demands no more than k, and the term t has level k at least and
--- fits, going over t's signs leads to the stack with t's right edge pushed on it. By induction on the term. For a form with
--- a left operand: read that operand, let its right edge be taken back by the form's own sign (`Reduce`), and go on.
+-- `reading`: where an operand is wanted, at a stack whose top demands no more than k, and the term
+-- t has level k at least and fits, going over t's signs leads to the stack with t's right edge
+-- pushed on it. By induction on the term. For a form with a left operand: read that operand, let
+-- its right edge be taken back by the form's own sign (`Reduce`), and go on.
 use Rattle.std.proofs.Common.{◌≡◌, ◌≤◌, ℕ, List, ◌∷◌, true, false, cond, refl, ap, ◌∙◌, arith, le_refl}
 use Rattle.operator_terms.specs.Operators.{BitAnd, Compute, Dereference, Multiply, Negate, Not, Subtract, left_demand, operator_level, right_demand}
 use Rattle.operator_terms.specs.Term.{Await, Binary, Borrow, Call, Cast, Field, Index, Last, Literal, Method, More, Name, NoTerms, Paren, Prefix, Range, RangeFrom, RangeFull, RangeTo, Term, Terms, Try, level}
@@ -11,7 +13,8 @@ use Rattle.operator_terms.specs.Sign.{Sign, Lit, Word, Opens, Closes, OpensIndex
 use Rattle.operator_terms.proofs.Machine.{emit, emit_all, Stack, After, Enclosed, Arguments, State, Wants, Has, Borrows, starter, closed, separated, proceed, after_borrow, step, run, has, push}
 use Rattle.operator_terms.proofs.Reduce.{Holds, Holds-more, reduce-push, Edge-zero, step-operator, step-range, step-cast, push-postfix, step-call}
 
--- A term's first sign may begin an operand: so two states that go on alike there go on alike for the term.
+-- A term's first sign may begin an operand: so two states that go on alike there go on alike for
+-- the term.
 begins : (p q : State) → ((c : Sign) → starter c ≡ true → step p c ≡ step q c) → (t : Term) (rest : List Sign) → run p (emit t rest) ≡ run q (emit t rest)
 begins p q same (Literal kind text) rest = ap (λ x. run x rest) (same (Lit kind text) refl)
 begins p q same (Name text) rest = ap (λ x. run x rest) (same (Word text) refl)

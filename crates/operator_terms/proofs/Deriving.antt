@@ -1,8 +1,9 @@
 -- What the grammar derives, and that it derives one term only.
 --
--- A derivation's tokens are the term's (`Derives-tokens`), its parts fit (`Derives-parts`), and where all parts fit there is a
--- derivation (`Derives_of_parts`): three inductions that follow the clauses of `Derives`. So `parse`, the machine run on a
--- token list, ends with any term that the list derives (`parse-Derives`), and two such terms are equal.
+-- A derivation's tokens are the term's (`Derives-tokens`), its parts fit (`Derives-parts`), and
+-- where all parts fit there is a derivation (`Derives_of_parts`): three inductions that follow the
+-- clauses of `Derives`. So `parse`, the machine run on a token list, ends with any term that the
+-- list derives (`parse-Derives`), and two such terms are equal.
 use Rattle.std.proofs.Common.{◌≡◌, ◌≤◌, ℕ, List, [], ◌∷◌, ◌++◌, Option, Some, None, refl, sym, ap, ap₂, ◌∙◌, arith}
 use Rattle.syntax_kind.specs.declared.syntax_kind.token_kind.TokenKind.TheVariants as token
 use Rattle.operator_terms.specs.Token.{Token, fixed}

@@ -1,6 +1,7 @@
--- What a term ends in. Its tokens end with `as` and a name exactly where a cast is at its right edge (`ends-tokens`). A
--- term is `Clear` before `<` exactly where it is clear before nothing and no cast is at its right edge (`clear_end`,
--- `clear_raise`, `clear_lower`), and then its parts are clear before what follows them (`part-clear`).
+-- What a term ends in. Its tokens end with `as` and a name exactly where a cast is at its right
+-- edge (`ends-tokens`). A term is `Clear` before `<` exactly where it is clear before nothing and
+-- no cast is at its right edge (`clear_end`, `clear_raise`, `clear_lower`), and then its parts are
+-- clear before what follows them (`part-clear`).
 use Rattle.std.proofs.Common.{◌≡◌, ℕ, zero, suc, List, [], ◌∷◌, ◌++◌, Bool, true, false, ◌&&◌, ◌||◌, IfSome, refl, sym, ap, ◌∙◌, subst, append_assoc}
 use Rattle.syntax_kind.specs.declared.syntax_kind.token_kind.TokenKind.TheVariants as token
 use Rattle.operator_terms.specs.Token.{Token, fixed}

@@ -1,5 +1,6 @@
--- From structure to places: `PartsFit`, an induction on the term, says the same as "the operand at each place has its level".
--- So tokens derive the term exactly where each operand has the level that its place demands. Casts are not yet looked at.
+-- From structure to places: `PartsFit`, an induction on the term, says the same as "the operand at
+-- each place has its level". So tokens derive the term exactly where each operand has the level
+-- that its place demands. Casts are not yet looked at.
 use Rattle.std.proofs.Common.{◌≡◌, ◌≤◌, ◌↔◌, ℕ, zero, suc, List, [], ◌∷◌, false, Option, Some, None, IfSome, option_and_then, arith}
 use Rattle.operator_terms.specs.Operators.{left_demand, right_demand}
 use Rattle.operator_terms.specs.Term.{Await, Binary, Borrow, Call, Cast, Field, Index, Last, Literal, Method, More, Name, NoTerms, Paren, Prefix, Range, RangeFrom, RangeFull, RangeTo, Term, Terms, Try, is_field, level, tokens}

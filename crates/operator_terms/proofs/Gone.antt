@@ -1,6 +1,7 @@
--- Tokens round an operand. For each part of a form, the form's tokens are some tokens before the part, the part's, and those
--- after it, and they stay when the part is changed (`in_term`). Along a place this gives: without a pair exactly its two
--- tokens are gone, and `tokens_behind` is what follows an operand.
+-- Tokens round an operand. For each part of a form, the form's tokens are some tokens before the
+-- part, the part's, and those after it, and they stay when the part is changed (`in_term`). Along a
+-- place this gives: without a pair exactly its two tokens are gone, and `tokens_behind` is what
+-- follows an operand.
 use Rattle.std.proofs.Common.{◌≡◌, ℕ, zero, suc, List, [], ◌∷◌, ◌++◌, Option, Some, None, IfSome, option_and_then, refl, sym, ◌∙◌, subst, append_assoc, append-nil}
 use Rattle.syntax_kind.specs.declared.syntax_kind.token_kind.TokenKind.TheVariants as token
 use Rattle.operator_terms.specs.Token.{Token, fixed}
@@ -9,8 +10,8 @@ use Rattle.operator_terms.specs.Term.{Await, Binary, Borrow, Call, Cast, Field, 
 use Rattle.operator_terms.specs.Places.{AtLeast, Demand, Part, argument, behind_argument, behind_in, behind_part, operand, part, part_at, some_part, tokens_behind}
 use Rattle.operator_terms.specs.Pairs.{change_argument, change_part, without}
 
--- The inner tokens are in the whole between others, `before` and the given `behind`; in the changed whole new tokens are
--- in their place, and the others stay.
+-- The inner tokens are in the whole between others, `before` and the given `behind`; in the changed
+-- whole new tokens are in their place, and the others stay.
 pub record Between (whole changed inner new behind : List Token) : Type 0 where
   pub before : List Token
   pub was : whole ≡ before ++ (inner ++ behind)

@@ -1,5 +1,6 @@
--- The operator theorem over terms: both halves, from the laws on fitting, on pairs and on the test. What is left to do here
--- is to go from "each part of each operand" to "each place", and to carry along the tokens that follow the whole term.
+-- The operator theorem over terms: both halves, from the laws on fitting, on pairs and on the test.
+-- What is left to do here is to go from "each part of each operand" to "each place", and to carry
+-- along the tokens that follow the whole term.
 use Rattle.std.proofs.Common.{◌≡◌, ◌↔◌, ℕ, List, [], ◌∷◌, ◌++◌, false, Option, Some, None, IfSome, option_and_then, refl, sym, ap, ◌∙◌, arith, subst, append_assoc, append-nil}
 use Rattle.operator_terms.specs.Token.{Token}
 use Rattle.operator_terms.specs.Term.{Term, Paren, tokens}

@@ -1,4 +1,5 @@
--- The order in which to read the proofs, which is that in which they rest on each other. `docs/OPERATORS.md` tells the idea.
+-- The order in which to read the proofs, which is that in which they rest on each other.
+-- `docs/OPERATORS.md` tells the idea.
 
 -- small facts
 pub mod Bools

@@ -1,11 +1,13 @@
--- The machine: a parser by shift and reduce, with which it is proved that tokens read as one term at most.
+-- The machine: a parser by shift and reduce, with which it is proved that tokens read as one term
+-- at most.
 --
--- It goes over the signs of the tokens once, with a stack of what waits for an operand. Each entry of the stack is kept as the
--- function from that operand to the term that will be made, so three kinds of entries serve all forms: after an operator
--- or a prefix (with the level that it demands of the operand), in brackets round one term, in brackets round arguments.
+-- It goes over the signs of the tokens once, with a stack of what waits for an operand. Each entry
+-- of the stack is kept as the function from that operand to the term that will be made, so three
+-- kinds of entries serve all forms: after an operator or a prefix (with the level that it demands
+-- of the operand), in brackets round one term, in brackets round arguments.
 --
--- The machine needn't refuse what isn't in the grammar, and nothing is claimed of it there. `step` is one case a state, and
--- `run` a fold over the list, so there is nothing to show about its end.
+-- The machine needn't refuse what isn't in the grammar, and nothing is claimed of it there. `step`
+-- is one case a state, and `run` a fold over the list, so there is nothing to show about its end.
 use Rattle.std.proofs.Common.{ℕ, suc, List, [], ◌∷◌, Bool, true, false, cond, leb, Option, Some, None}
 use Rattle.operator_terms.specs.Operators.{BitAnd, Compute, Dereference, Multiply, Negate, Not, Operator, PrefixOperator, Subtract, operator_level, right_demand}
 use Rattle.operator_terms.specs.Term.{Await, Binary, Borrow, Call, Cast, Field, Index, Last, Literal, Method, More, Name, NoTerms, Paren, Prefix, Range, RangeFrom, RangeFull, RangeTo, Term, Terms, Try}
@@ -46,15 +48,16 @@ abbrev mutual
   emit_all (Last e) rest = emit e rest
   emit_all (More e es) rest = emit e (Comma ∷ emit_all es rest)
 
--- What waits for an operand: an operator that demands a level, brackets round one term, brackets round arguments.
+-- What waits for an operand: an operator that demands a level, brackets round one term, brackets
+-- round arguments.
 pub data Stack : Type 0 where
   Bottom : Stack
   After : ℕ → (Term → Term) → Stack → Stack
   Enclosed : (Term → Term) → Stack → Stack
   Arguments : (Terms → Term) → Stack → Stack
 
--- An operand is wanted, or one was read, or a dot after one, or a `&` in front of one, or an `as` after one; or no reading
--- goes on from here.
+-- An operand is wanted, or one was read, or a dot after one, or a `&` in front of one, or an `as`
+-- after one; or no reading goes on from here.
 pub data State : Type 0 where
   Wants : Stack → State
   Has : Stack → Term → State

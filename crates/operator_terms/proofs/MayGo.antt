@@ -1,5 +1,6 @@
--- A pair may go exactly where what it holds fits its place: levels (`Without`) and the rule on casts together. What follows the
--- whole term may be any tokens before which it may be, with and without the pair.
+-- A pair may go exactly where what it holds fits its place: levels (`Without`) and the rule on
+-- casts together. What follows the whole term may be any tokens before which it may be, with and
+-- without the pair.
 use Rattle.std.proofs.Common.{◌≡◌, ◌↔◌, ℕ, zero, suc, List, [], ◌∷◌, ◌++◌, true, false, Option, Some, None, IfSome, option_and_then, refl, sym, ◌∙◌, subst, append_assoc, append-nil}
 use Rattle.syntax_kind.specs.declared.syntax_kind.token_kind.TokenKind.TheVariants as token
 use Rattle.operator_terms.specs.Token.{Token, fixed}
@@ -98,8 +99,8 @@ frees_at (i ∷ q) d t rest h = frees_next i q t (behind_part t i) rest (Clear (
 pub clear_before : (following : List Token) (t : Term) → MayStandBefore following t → Clear false t → Clear (begins_with_angle following) t
 clear_before following t stands clear = clear_raise t (begins_with_angle following) clear (λ ends. stands (ends-tokens t ∙ ends))
 
--- In a term that its tokens read as, before tokens that both it and the term without the pair may precede: a pair
--- may go exactly where what it holds fits the pair's place.
+-- In a term that its tokens read as, before tokens that both it and the term without the pair may
+-- precede: a pair may go exactly where what it holds fits the pair's place.
 pub pair_may_go_before : (following : List Token) (t : Term) (q : List ℕ) (d : Demand) (e : Term) → Reads 0 (tokens t) t → operand t q ≡ some_part d (Paren e) → MayStandBefore following t → MayStandBefore following (without q t) → (Meets d e × MayStandBefore (tokens_behind q t ++ following) e) ↔ Reads 0 (tokens (without q t)) (without q t)
 pair_may_go_before following t q d e h at stands stands_without =
     let angle = begins_with_angle following in

@@ -1,6 +1,7 @@
--- The term with a pair round each operand that doesn't fit. It reads: by the flag that `paired_before` hands down, each operand
--- fits or is in a pair, which fits everywhere (levels in `paired-parts`, casts in `paired-clear`). Where all fit, nothing
--- is put in (`kept`). And part by part, a pair is where the operand doesn't fit and nowhere else (`paired_by_parts`).
+-- The term with a pair round each operand that doesn't fit. It reads: by the flag that
+-- `paired_before` hands down, each operand fits or is in a pair, which fits everywhere (levels in
+-- `paired-parts`, casts in `paired-clear`). Where all fit, nothing is put in (`kept`). And part by
+-- part, a pair is where the operand doesn't fit and nowhere else (`paired_by_parts`).
 use Rattle.std.proofs.Common.{◌≡◌, ◌≤◌, ◌↔◌, ℕ, zero, suc, List, [], ◌∷◌, ◌++◌, Bool, true, false, not, ◌&&◌, leb, Option, IfSome, refl, sym, ap, ap₂, subst, ◌∙◌, arith, leb-true}
 use Rattle.syntax_kind.specs.declared.syntax_kind.token_kind.TokenKind.TheVariants as token
 use Rattle.operator_terms.specs.Token.{Token, fixed}

@@ -1,4 +1,5 @@
--- "Every operand has its level" by the structure of the term, and what is used of the operators' numbers.
+-- "Every operand has its level" by the structure of the term, and what is used of the operators'
+-- numbers.
 use Rattle.std.proofs.Common.{◌≡◌, ◌≤◌, suc, false, arith}
 use Rattle.operator_terms.specs.Operators.{Add, And, Arithmetic, Assign, AssignBy, BitAnd, BitOr, BitXor, Compare, Compute, Divide, Multiply, Operator, Or, Remainder, ShiftLeft, ShiftRight, Subtract, arithmetic_level, left_demand, operator_level, right_demand}
 use Rattle.operator_terms.specs.Term.{Await, Binary, Borrow, Call, Cast, Field, Index, Last, Literal, Method, More, Name, NoTerms, Paren, Prefix, Range, RangeFrom, RangeFull, RangeTo, Term, Terms, Try, is_field, level}

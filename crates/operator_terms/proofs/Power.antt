@@ -1,9 +1,10 @@
 -- The test by powers asks for a pair exactly where the operand doesn't fit.
 --
--- The test sees little of a term: of the operand only its shape, of the parent only which place of which form it is. There
--- are seven shapes, one of them with its operator, and eleven kinds of places, two of them with their operator. So the
--- test by powers and the test by levels are compared by computing, one line for each kind of place and operator, and
--- each such line covers all shapes (`tests-agree`). The rest carries this over to terms and adds the rule on casts.
+-- The test sees little of a term: of the operand only its shape, of the parent only which place of
+-- which form it is. There are seven shapes, one of them with its operator, and eleven kinds of
+-- places, two of them with their operator. So the test by powers and the test by levels are
+-- compared by computing, one line for each kind of place and operator, and each such line covers
+-- all shapes (`tests-agree`). The rest carries this over to terms and adds the rule on casts.
 use Rattle.std.proofs.Common.{◌≡◌, ◌↔◌, ℕ, zero, suc, Bool, true, false, not, ◌&&◌, ◌||◌, leb, if◌then◌else◌, IfSome, refl, sym, ap, ◌∙◌, arith, leb-true, le-leb, subst}
 use Rattle.operator_terms.specs.Operators.{Add, And, Assign, AssignBy, BitAnd, BitOr, BitXor, Compare, Compute, Divide, Multiply, Operator, Or, Remainder, ShiftLeft, ShiftRight, Subtract, left_demand, operator_level, right_demand}
 use Rattle.operator_terms.specs.Term.{Await, Binary, Borrow, Call, Cast, Field, Index, Last, Literal, Method, More, Name, NoTerms, Paren, Prefix, Range, RangeFrom, RangeFull, RangeTo, Term, Terms, Try, is_field, level, tokens}

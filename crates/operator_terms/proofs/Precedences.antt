@@ -1,6 +1,6 @@
--- Where the test by precedences asks for no parentheses, the operand has its level, and so the test by powers asks for none: but
--- for a field that is called and a cast's name before `<`. A precedence is one more than the level, since jumps are below
--- all of these forms.
+-- Where the test by precedences asks for no parentheses, the operand has its level, and so the test
+-- by powers asks for none: but for a field that is called and a cast's name before `<`. A
+-- precedence is one more than the level, since jumps are below all of these forms.
 use Rattle.std.proofs.Common.{◌≡◌, ◌≤◌, ◌<◌, ℕ, zero, suc, Bool, true, false, ◌&&◌, nat_lt, nat_le, IfSome, refl, sym, ◌∙◌, arith, subst, ap, lt-ltb, ltb-false, leb-false}
 use Rattle.operator_terms.specs.Operators.{Operator, Or, And, Compare, Compute, Assign, AssignBy, Arithmetic, Add, operator_level, left_demand, right_demand, arithmetic_level}
 use Rattle.operator_terms.specs.Term.{Term, Paren, Field, Await, Try, Cast, Method, Call, Index, Prefix, Borrow, Binary, RangeFrom, RangeTo, Range, Terms, NoTerms, Last, More, level, is_field, tokens}

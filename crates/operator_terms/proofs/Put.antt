@@ -1,5 +1,6 @@
--- A term in the place of an operand reads exactly where it has the level that the place demands, and ends in no cast's name before
--- `<` or `<<`; the proof is that for a pair that goes (`Without`, `MayGo`), but for what stands at the place itself.
+-- A term in the place of an operand reads exactly where it has the level that the place demands,
+-- and ends in no cast's name before `<` or `<<`; the proof is that for a pair that goes (`Without`,
+-- `MayGo`), but for what stands at the place itself.
 use Rattle.std.proofs.Common.{◌≡◌, ◌≤◌, ◌↔◌, ℕ, zero, suc, List, [], ◌∷◌, ◌++◌, true, false, Option, Some, None, IfSome, option_and_then, refl, sym, ◌∙◌, arith, subst, append_assoc, append-nil}
 use Rattle.operator_terms.specs.Token.{Token}
 use Rattle.operator_terms.specs.Term.{Literal, Name, Paren, Field, Await, Try, Cast, Method, Call, Index, Prefix, Borrow, Binary, RangeFull, RangeFrom, RangeTo, Range, Term, level, tokens}
@@ -60,7 +61,8 @@ freed_at s clear (i ∷ q) d t rest h = freed_next s i q t (behind_part t i) res
 
 -- ---- both
 
--- The whole reads as itself with the other term in the operand's place exactly where that term fits there.
+-- The whole reads as itself with the other term in the operand's place exactly where that term fits
+-- there.
 pub put_reads : (t s : Term) (q : List ℕ) (d : Demand) (e : Term) → Reads 0 (tokens t) t → Reads 0 (tokens s) s → operand t q ≡ some_part d e → (Meets d s × MayStandBefore (tokens_behind q t) s) ↔ Reads 0 (tokens (put s q t)) (put s q t)
 unfolding Meant
 put_reads t s q d e h own at =

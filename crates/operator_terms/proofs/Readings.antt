@@ -1,5 +1,6 @@
--- Readings: derivations with the rule on casts. Every operand fits, by places, exactly where the tokens read as the term. The
--- rule goes from the term to its places (`clear-places`) and back (`clear_of_places`) just as levels do in `Fitting`.
+-- Readings: derivations with the rule on casts. Every operand fits, by places, exactly where the
+-- tokens read as the term. The rule goes from the term to its places (`clear-places`) and back
+-- (`clear_of_places`) just as levels do in `Fitting`.
 use Rattle.std.proofs.Common.{◌≡◌, ◌≤◌, ◌↔◌, ℕ, suc, List, [], ◌∷◌, ◌++◌, true, false, Option, Some, None, IfSome, option_and_then, refl, sym, ◌∙◌, subst, append_assoc, append-nil, arith}
 use Rattle.syntax_kind.specs.declared.syntax_kind.token_kind.TokenKind.TheVariants as token
 use Rattle.operator_terms.specs.Token.{Token, fixed}

@@ -1,8 +1,9 @@
 -- What the machine's stack gives back.
 --
--- After a term the stack holds the term's right edge: what it pushed for its last operand, that operand's last operand, and so
--- on. A weaker sign takes all of this back (`reduce-push`), since each demand on the right edge of a term that fits lies
--- above the term's own level (`Edge_of_fit`); and it stops at what waited before (`reduce-stops`). The lemmas `step-..` say
+-- After a term the stack holds the term's right edge: what it pushed for its last operand, that
+-- operand's last operand, and so on. A weaker sign takes all of this back (`reduce-push`), since
+-- each demand on the right edge of a term that fits lies above the term's own level
+-- (`Edge_of_fit`); and it stops at what waited before (`reduce-stops`). The lemmas `step-..` say
 -- what the machine does with the sign after a form's left operand.
 use Rattle.std.proofs.Common.{◌≡◌, ◌≤◌, ◌<◌, ◌⊎◌, inl, inr, ℕ, suc, Bool, true, false, cond, None, refl, ap, ◌∙◌, arith, le-leb, le_refl}
 use Rattle.operator_terms.specs.Operators.{And, Assign, AssignBy, Compare, Compute, Operator, Or, left_demand, operator_level, right_demand}

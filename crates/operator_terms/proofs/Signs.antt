@@ -1,5 +1,5 @@
--- Signs. A term's tokens, taken as signs, are those that `emit` writes for the machine; and a sign and its token determine
--- each other.
+-- Signs. A term's tokens, taken as signs, are those that `emit` writes for the machine; and a sign
+-- and its token determine each other.
 use Rattle.std.proofs.Common.{◌≡◌, ℕ, List, [], ◌∷◌, ◌++◌, Bool, true, false, IfSome, IfNone, refl, sym, ap, ap₂, ◌∙◌}
 use Rattle.syntax_kind.specs.declared.syntax_kind.token_kind.TokenKind.TheVariants as token
 use Rattle.syntax_kind.specs.declared.syntax_kind.SyntaxKind.{SyntaxKind}

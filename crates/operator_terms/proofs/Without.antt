@@ -1,5 +1,6 @@
--- A pair may go exactly where what it holds has the level that the pair's place demands. Taking a pair out keeps the form and
--- the level of every term above it (`level-change`), so nothing changes but the fit at the pair's own place (`free_at`).
+-- A pair may go exactly where what it holds has the level that the pair's place demands. Taking a
+-- pair out keeps the form and the level of every term above it (`level-change`), so nothing changes
+-- but the fit at the pair's own place (`free_at`).
 use Rattle.std.proofs.Common.{◌≡◌, ◌≤◌, ◌↔◌, ℕ, zero, suc, List, [], ◌∷◌, false, Option, Some, None, IfSome, option_and_then, refl, ◌∙◌, arith, subst}
 use Rattle.operator_terms.specs.Term.{Await, Binary, Borrow, Call, Cast, Field, Index, Last, Method, More, NoTerms, Paren, Prefix, Range, RangeFrom, RangeTo, Term, Terms, Try, is_field, level, tokens}
 use Rattle.operator_terms.specs.Reading.{Derives}
@@ -116,7 +117,8 @@ unfolding AtPair
 AtPair-map P Q f None h = tt
 AtPair-map P Q f (Some p) h = IfPair-map P Q f p.demand p.term h
 
--- the term without the pair is good exactly where what the pair holds has what the pair's place demands
+-- the term without the pair is good exactly where what the pair holds has what the pair's place
+-- demands
 Free : List ℕ → Part → Demand → Term → Type 0
 Free q p d e = Meets d e ↔ Good (record { demand = p.demand; term = without q p.term })
 
@@ -139,8 +141,8 @@ free_at : (q : List ℕ) (p : Part) → Good p → AtPair (part_at p.demand p.te
 free_at [] p h = free_here p.demand p.term h.1
 free_at (i ∷ q) p h = free_next i q p h (free_at q) (part p.term i) (Good-part p.term i h.1) (change-parts (without q) p.term i h.1)
 
--- In a term that its tokens read as: the term without a pair is read from its tokens exactly where what the pair
--- holds has what the pair's place demands.
+-- In a term that its tokens read as: the term without a pair is read from its tokens exactly where
+-- what the pair holds has what the pair's place demands.
 pub level_may_go : (t : Term) (q : List ℕ) (d : Demand) (e : Term) → Derives 0 (tokens t) t → operand t q ≡ some_part d (Paren e) → Meets d e ↔ Derives 0 (tokens (without q t)) (without q t)
 unfolding AtPair Free
 level_may_go t q d e reads at =

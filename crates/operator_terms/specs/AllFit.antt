@@ -1,11 +1,13 @@
--- A test of a whole term: does every operand fit? It computes, so worked terms are checked by running it.
+-- A test of a whole term: does every operand fit? It computes, so worked terms are checked by
+-- running it.
 use Rattle.std.specs.Prelude.{Bool, true, ◌&&◌}
 use Rattle.operator_terms.specs.Operators.{left_demand, right_demand}
 use Rattle.operator_terms.specs.Term.{Term, Literal, Name, Paren, Field, Await, Try, Cast, Method, Call, Index, Prefix, Borrow, Binary, RangeFull, RangeFrom, RangeTo, Range, Terms, NoTerms, Last, More, tokens}
 use Rattle.operator_terms.specs.Reading.{no_cast_before_angle}
 use Rattle.operator_terms.specs.Places.{AtLeast, Callee, meets}
 
--- The form's direct parts meet their demands. Arguments, and the contents of parentheses and brackets, may be any terms.
+-- The form's direct parts meet their demands. Arguments, and the contents of parentheses and
+-- brackets, may be any terms.
 abbrev pub parts_meet : Term → Bool
 parts_meet (Field e n) = meets (AtLeast 13) e
 parts_meet (Await e) = meets (AtLeast 13) e

@@ -11,20 +11,20 @@ use Rattle.operator_terms.specs.Powers.{needs_pair_at}
 abbrev pub IsOneReading : Term → Type 0
 IsOneReading t = Reads 0 (tokens t) t × ((u : Term) → Reads 0 (tokens t) u → u ≡ t)
 
--- `<` or `<<` is the first token after part number i of the operand at q. `following` are the tokens after the whole
--- term.
+-- `<` or `<<` is the first token after part number i of the operand at q. `following` are the
+-- tokens after the whole term.
 abbrev pub angle_behind : List Token → Term → List ℕ → ℕ → Bool
 angle_behind following t q i = begins_with_angle (tokens_behind (q ++ (i ∷ [])) t ++ following)
 
--- The test requires a pair nowhere: for each operand `holder` of the term, and each part `held` of it, it is false for
--- `held` in its own place.
+-- The test requires a pair nowhere: for each operand `holder` of the term, and each part `held` of
+-- it, it is false for `held` in its own place.
 abbrev pub AsksNowhere : List Token → Term → Type 0
 AsksNowhere following t =
     (q : List ℕ) (i : ℕ) (holder held : Part) → operand t q ≡ Some holder → part holder.term i ≡ Some held
     → needs_pair_at holder.term i (angle_behind following t q i) held.term ≡ false
 
--- For each pair below the root, the test is false for the contents of the pair, in the pair's place, exactly if the
--- tokens of the term without the pair read as the term without it.
+-- For each pair below the root, the test is false for the contents of the pair, in the pair's
+-- place, exactly if the tokens of the term without the pair read as the term without it.
 abbrev pub FindsNeedless : List Token → Term → Type 0
 FindsNeedless following t =
     (q : List ℕ) (i : ℕ) (holder : Part) (d : Demand) (e : Term) → operand t q ≡ Some holder → part holder.term i ≡ some_part d (Paren e)

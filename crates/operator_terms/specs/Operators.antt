@@ -1,5 +1,5 @@
--- The operators and literals of operator expressions: closed sets, each tied to the kind of its token, with the level
--- of each binary operator and what it demands of its two sides.
+-- The operators and literals of operator expressions: closed sets, each tied to the kind of its
+-- token, with the level of each binary operator and what it demands of its two sides.
 use Rattle.std.specs.Prelude.{ℕ, suc, Bool, true, false}
 use Rattle.syntax_kind.specs.declared.syntax_kind.token_kind.TokenKind.{TokenKind}
 use Rattle.syntax_kind.specs.declared.syntax_kind.token_kind.TokenKind.TheVariants as token
@@ -90,9 +90,10 @@ abbrev pub range_kind : (inclusive : Bool) → TokenKind
 range_kind true = token.DOT2EQ
 range_kind false = token.DOT2
 
--- ---- levels, after the Rust Reference's table in "Expression precedence", from the weakest to the strongest:
---   0 assignment · 1 range · 2 `||` · 3 `&&` · 4 comparison · 5 `|` · 6 `^` · 7 `&` · 8 shift · 9 sum · 10 product
---   11 cast · 12 prefix and borrow · 13 postfix · 14 literal, name, pair
+-- ---- levels, after the Rust Reference's table in "Expression precedence", from the weakest to the
+-- strongest:
+--   0 assignment · 1 range · 2 `||` · 3 `&&` · 4 comparison · 5 `|` · 6 `^` · 7 `&` · 8 shift · 9
+--   sum · 10 product 11 cast · 12 prefix and borrow · 13 postfix · 14 literal, name, pair
 
 abbrev pub arithmetic_level : Arithmetic → ℕ
 arithmetic_level Add = 9
@@ -114,9 +115,9 @@ operator_level (Compute a) = arithmetic_level a
 operator_level Assign = 0
 operator_level (AssignBy a) = 0
 
--- ---- what an operator demands: the least level of each side. Operators group to the left, so the left side may be
--- of the operator's own level and the right side is above it. Comparisons don't group: both sides are above them.
--- Assignments group to the right.
+-- ---- what an operator demands: the least level of each side. Operators group to the left, so the
+-- left side may be of the operator's own level and the right side is above it. Comparisons don't
+-- group: both sides are above them. Assignments group to the right.
 
 abbrev pub left_demand : Operator → ℕ
 left_demand Or = 2

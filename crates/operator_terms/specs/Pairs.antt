@@ -17,10 +17,11 @@ fits_before d angle e = meets d e && not (ends_in_cast (tokens e) && angle)
 abbrev pub is_angle_operator : Operator → Bool
 is_angle_operator op = is_angle (OfToken (operator_kind op))
 
--- The term with a pair round each operand that doesn't fit, at every depth at once. The flag says whether `<` or `<<`
--- follows the term in the original whole term: it is passed on to the last part of a form, and for a left operand it says
--- whether the form's own operator is `<` or `<<`. Each operand is tested in the original term, before any pair is
--- inserted, also inside an operand that gets one.
+-- The term with a pair round each operand that doesn't fit, at every depth at once. The flag says
+-- whether `<` or `<<` follows the term in the original whole term: it is passed on to the last part
+-- of a form, and for a left operand it says whether the form's own operator is `<` or `<<`. Each
+-- operand is tested in the original term, before any pair is inserted, also inside an operand that
+-- gets one.
 abbrev mutual
   pub paired_before : Bool → Term → Term
   paired_before angle (Literal kind text) = Literal kind text

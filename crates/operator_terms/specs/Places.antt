@@ -1,4 +1,5 @@
--- The parts of a term, what each place demands of its part, what follows a part, and which operands fit.
+-- The parts of a term, what each place demands of its part, what follows a part, and which operands
+-- fit.
 use Rattle.std.specs.Prelude.{◌≡◌, ◌≤◌, ℕ, zero, suc, List, [], ◌∷◌, ◌++◌, Bool, true, false, not, ◌&&◌, ◌||◌, leb, Option, Some, None, IfSome, option_and_then}
 use Rattle.syntax_kind.specs.declared.syntax_kind.token_kind.TokenKind.TheVariants as token
 use Rattle.operator_terms.specs.Token.{Token, fixed}
@@ -6,7 +7,8 @@ use Rattle.operator_terms.specs.Operators.{left_demand, right_demand, operator_k
 use Rattle.operator_terms.specs.Term.{Term, Paren, Field, Await, Try, Cast, Method, Call, Index, Prefix, Borrow, Binary, RangeFrom, RangeTo, Range, Terms, NoTerms, Last, More, level, is_field, name, tokens, argument_tokens}
 use Rattle.operator_terms.specs.Reading.{is_as, is_name, begins_with_angle}
 
--- What a place demands of its part: at least some level; a called expression must also not be a field, since `a.f(x)` is a method call.
+-- What a place demands of its part: at least some level; a called expression must also not be a
+-- field, since `a.f(x)` is a method call.
 pub data Demand : Type 0 where
   AtLeast : ℕ → Demand
   Callee : Demand
@@ -35,8 +37,8 @@ argument (Last e) (suc i) = None
 argument (More e es) zero = some_part (AtLeast 0) e
 argument (More e es) (suc i) = argument es i
 
--- The part of this number, counted from 0 as they are in the text; the argument i of a call or method call is its
--- part i + 1.
+-- The part of this number, counted from 0 as they are in the text; the argument i of a call or
+-- method call is its part i + 1.
 abbrev pub part : Term → ℕ → Option Part
 part (Paren e) zero = some_part (AtLeast 0) e
 part (Field e n) zero = some_part (AtLeast 13) e
@@ -59,7 +61,8 @@ part (Range inclusive l r) zero = some_part (AtLeast 2) l
 part (Range inclusive l r) (suc zero) = some_part (AtLeast 2) r
 part _ _ = None
 
--- A place is a list of part numbers from the root down. The empty list is the root, where d is demanded.
+-- A place is a list of part numbers from the root down. The empty list is the root, where d is
+-- demanded.
 abbrev pub part_at : Demand → Term → List ℕ → Option Part
 part_at d t [] = some_part d t
 part_at d t (i ∷ q) = option_and_then (λ p. part_at p.demand p.term q) (part t i)
@@ -115,16 +118,17 @@ abbrev pub ends_in_cast : List Token → Bool
 ends_in_cast [] = false
 ends_in_cast (t ∷ ts) = (is_as t.kind && is_one_name ts) || ends_in_cast ts
 
--- A term fits a place: it meets what is demanded there, and if it ends in a cast's name, neither `<` nor `<<` follows. The
--- flag says whether one of them does.
+-- A term fits a place: it meets what is demanded there, and if it ends in a cast's name, neither
+-- `<` nor `<<` follows. The flag says whether one of them does.
 abbrev pub FitsPlace : Demand → (angle : Bool) → Term → Type 0
 FitsPlace d angle e = Meets d e × (ends_in_cast (tokens e) ≡ true → angle ≡ false)
 
--- The operand at the place q fits, before the tokens that follow it in the whole term. (Nothing is required if
--- q is not a place of the term.)
+-- The operand at the place q fits, before the tokens that follow it in the whole term. (Nothing is
+-- required if q is not a place of the term.)
 abbrev pub Fits : Term → List ℕ → Type 0
 Fits t q = IfSome (operand t q) (λ p. FitsPlace p.demand (begins_with_angle (tokens_behind q t)) p.term)
 
--- a whole term may precede these tokens: if it ends in a cast's name, they don't begin with `<` or `<<`
+-- a whole term may precede these tokens: if it ends in a cast's name, they don't begin with `<` or
+-- `<<`
 abbrev pub MayStandBefore : List Token → Term → Type 0
 MayStandBefore following t = ends_in_cast (tokens t) ≡ true → begins_with_angle following ≡ false

@@ -1,13 +1,14 @@
--- The test for parentheses by binding powers, that of rust-analyzer's `Expr::needs_parens_in` with the three exceptions
--- in docs/DIFFERENCES.md: each form has a left and a right power, and a part is before or after the operator of the form
--- that contains it.
+-- The test for parentheses by binding powers, that of rust-analyzer's `Expr::needs_parens_in` with
+-- the three exceptions in docs/DIFFERENCES.md: each form has a left and a right power, and a part
+-- is before or after the operator of the form that contains it.
 use Rattle.std.specs.Prelude.{ℕ, zero, suc, Bool, true, false, not, ◌&&◌, ◌||◌, nat_eq, nat_lt, if◌then◌else◌}
 use Rattle.operator_terms.specs.Operators.{Arithmetic, Add, Subtract, Multiply, Divide, Remainder, ShiftLeft, ShiftRight, BitXor, BitOr, BitAnd, Operator, Or, And, Compare, Compute, Assign, AssignBy}
 use Rattle.operator_terms.specs.Term.{Term, Literal, Name, Paren, Field, Await, Try, Cast, Method, Call, Index, Prefix, Borrow, Binary, RangeFull, RangeFrom, RangeTo, Range, is_field, tokens}
 use Rattle.operator_terms.specs.Places.{ends_in_cast}
 
--- How strongly a form binds on its left and on its right. A power of 0 marks a side without an operand: a prefix has none
--- on its left, a postfix none on its right. Fields, casts and open ranges are exceptions: both of their powers are nonzero.
+-- How strongly a form binds on its left and on its right. A power of 0 marks a side without an
+-- operand: a prefix has none on its left, a postfix none on its right. Fields, casts and open
+-- ranges are exceptions: both of their powers are nonzero.
 pub record Powers : Type 0 where
   pub left : ℕ
   pub right : ℕ
@@ -84,8 +85,9 @@ like_prefix p = nat_eq p.left 0 && not (nat_eq p.right 0)
 abbrev pub like_postfix : Powers → Bool
 like_postfix p = not (nat_eq p.left 0) && nat_eq p.right 0
 
--- The powers don't matter: one of the two is like a pair; or the operand is like a prefix and the parent's operator is
--- in front of it or is a prefix too; or it is like a postfix and the parent's operator is after it or is a postfix.
+-- The powers don't matter: one of the two is like a pair; or the operand is like a prefix and the
+-- parent's operator is in front of it or is a prefix too; or it is like a postfix and the parent's
+-- operator is after it or is a postfix.
 abbrev pub is_excused : Powers → Powers → Bool → Bool
 is_excused self parent before =
     like_paren self || like_paren parent
@@ -96,9 +98,10 @@ is_excused self parent before =
 abbrev pub binds_less : Powers → Powers → Bool → Bool
 binds_less self parent before = if before then nat_lt self.right parent.left else not (nat_lt parent.right self.left)
 
--- An operand needs a pair in its parent where the first of these rules that applies says so. A field that is called
--- needs one. One whose powers don't matter needs none. A comparison in a comparison and a range in a range need one.
--- Else it needs one where it binds less. `before`: the operand precedes the parent's operator.
+-- An operand needs a pair in its parent where the first of these rules that applies says so. A
+-- field that is called needs one. One whose powers don't matter needs none. A comparison in a
+-- comparison and a range in a range need one. Else it needs one where it binds less. `before`: the
+-- operand precedes the parent's operator.
 abbrev pub needs_pair_by_power : Term → Term → Bool → Bool
 needs_pair_by_power self parent before =
     if is_field self && is_call parent then true
@@ -115,14 +118,15 @@ part_before (RangeTo inclusive r) i = false
 part_before t zero = true
 part_before t (suc i) = false
 
--- The rules on powers for an operand in place of the form's part of this number. An argument's own parent is the list of
--- arguments, which is no expression and requires no pair.
+-- The rules on powers for an operand in place of the form's part of this number. An argument's own
+-- parent is the list of arguments, which is no expression and requires no pair.
 abbrev pub too_weak_at : Term → ℕ → Term → Bool
 too_weak_at (Method e n args) (suc i) self = false
 too_weak_at (Call e args) (suc i) self = false
 too_weak_at t i self = needs_pair_by_power self t (part_before t i)
 
--- The test: whether `self` needs a pair in place of the form's part of this number. The flag says whether `<` or `<<`
--- follows it: if it does, an operand that ends in a cast's name needs a pair, whether or not it is a cast.
+-- The test: whether `self` needs a pair in place of the form's part of this number. The flag says
+-- whether `<` or `<<` follows it: if it does, an operand that ends in a cast's name needs a pair,
+-- whether or not it is a cast.
 abbrev pub needs_pair_at : Term → ℕ → Bool → Term → Bool
 needs_pair_at t i angle self = (ends_in_cast (tokens self) && angle) || too_weak_at t i self

@@ -1,4 +1,5 @@
--- The coarser test by precedences alone, that of `ExprPrecedence::needs_parentheses_in`: sides don't count.
+-- The coarser test by precedences alone, that of `ExprPrecedence::needs_parentheses_in`: sides
+-- don't count.
 use Rattle.std.specs.Prelude.{ℕ, Bool, false, ◌&&◌, nat_lt, nat_le}
 use Rattle.operator_terms.specs.Operators.{Arithmetic, Operator}
 use Rattle.operator_terms.specs.Operators as op
@@ -68,8 +69,9 @@ precedence (term.RangeFrom l) = Range
 precedence (term.RangeTo inclusive r) = Range
 precedence (term.Range inclusive l r) = Range
 
--- Whether an expression of the first precedence needs parentheses in one of the second: never if the second is
--- unambiguous; in a postfix if it binds less; in a prefix likewise, except for a jump; otherwise unless it binds more.
+-- Whether an expression of the first precedence needs parentheses in one of the second: never if
+-- the second is unambiguous; in a postfix if it binds less; in a prefix likewise, except for a
+-- jump; otherwise unless it binds more.
 abbrev pub needs_parentheses_in : Precedence → Precedence → Bool
 needs_parentheses_in self Unambiguous = false
 needs_parentheses_in self Postfix = nat_lt (rank self) (rank Postfix)

@@ -1,5 +1,5 @@
--- How tokens read as a term: the layered grammar of operator expressions, after the Rust Reference's table in
--- "Expression precedence", and one rule on casts.
+-- How tokens read as a term: the layered grammar of operator expressions, after the Rust
+-- Reference's table in "Expression precedence", and one rule on casts.
 use Rattle.std.specs.Prelude.{◌≡◌, ◌≤◌, ℕ, List, [], ◌∷◌, ◌++◌, Bool, true, false, not, ◌&&◌}
 use Rattle.syntax_kind.specs.declared.syntax_kind.SyntaxKind.{SyntaxKind}
 use Rattle.syntax_kind.specs.declared.syntax_kind.SyntaxKind.TheVariants.{Token as OfToken}
@@ -8,10 +8,11 @@ use Rattle.operator_terms.specs.Token.{Token, fixed}
 use Rattle.operator_terms.specs.Operators.{operator_level, left_demand, right_demand, operator_kind, prefix_kind, range_kind}
 use Rattle.operator_terms.specs.Term.{Term, Literal, Name, Paren, Field, Await, Try, Cast, Method, Call, Index, Prefix, Borrow, Binary, RangeFull, RangeFrom, RangeTo, Range, Terms, NoTerms, Last, More, is_field, literal, name, borrow_tokens}
 
--- `Derives k ts t`: where a term of level k at least is wanted, the grammar makes the term t of the tokens ts. The clause
--- of a form says three things: k is at most the form's level; the tokens are cut into the form's own tokens and a
--- piece for each part; each piece makes its part, at the level that its place demands.
--- Only a call demands more of a part than a level: `a.f(x)` is a method call and never a call of the field `a.f`.
+-- `Derives k ts t`: where a term of level k at least is wanted, the grammar makes the term t of the
+-- tokens ts. The clause of a form says three things: k is at most the form's level; the tokens are
+-- cut into the form's own tokens and a piece for each part; each piece makes its part, at the level
+-- that its place demands. Only a call demands more of a part than a level: `a.f(x)` is a method
+-- call and never a call of the field `a.f`.
 unfoldable mutual
   pub Derives : ℕ → List Token → Term → Type 0
   Derives k ts (Literal kind text) = (k ≤ 14) × (ts ≡ literal kind text ∷ [])
@@ -54,8 +55,9 @@ unfoldable mutual
   DerivesAll ts (More e es) =
       (first : List Token) × (others : List Token) × (ts ≡ first ++ (fixed token.COMMA ∷ others)) × Derives 0 first e × DerivesAll others es
 
--- ---- the rule on casts: after `as T` a `<` or `<<` would begin the generic arguments of the type T, so `a as T < b` is
--- no comparison (Rust Reference, "Type cast expressions" and "Paths in types")
+-- ---- the rule on casts: after `as T` a `<` or `<<` would begin the generic arguments of the type
+-- T, so `a as T < b` is no comparison (Rust Reference, "Type cast expressions" and "Paths in
+-- types")
 
 abbrev pub is_as : SyntaxKind → Bool
 is_as (OfToken token.AS_KW) = true
@@ -85,6 +87,7 @@ abbrev pub no_cast_before_angle : List Token → Bool
 no_cast_before_angle [] = true
 no_cast_before_angle (t ∷ ts) = not (is_as t.kind && begins_with_name_and_angle ts) && no_cast_before_angle ts
 
--- `Reads k ts t`: the tokens ts read as the term t where level k at least is wanted. Level 0 is that of an expression.
+-- `Reads k ts t`: the tokens ts read as the term t where level k at least is wanted. Level 0 is
+-- that of an expression.
 unfoldable pub Reads : ℕ → List Token → Term → Type 0
 Reads k ts t = Derives k ts t × (no_cast_before_angle ts ≡ true)

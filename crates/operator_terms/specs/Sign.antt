@@ -1,6 +1,6 @@
--- The signs of tokens. A sign is what the grammar of operator expressions uses of a token, except for the text of fixed
--- kinds, which `CarriesFixedText` states: so code that reads trees or tokens distinguishes a few cases and not all
--- kinds.
+-- The signs of tokens. A sign is what the grammar of operator expressions uses of a token, except
+-- for the text of fixed kinds, which `CarriesFixedText` states: so code that reads trees or tokens
+-- distinguishes a few cases and not all kinds.
 use Rattle.std.specs.Prelude.{◌≡◌, ℕ, List, [], ◌∷◌, Bool, true, false, Option, Some, None}
 use Rattle.syntax_kind.specs.declared.syntax_kind.SyntaxKind.{SyntaxKind}
 use Rattle.syntax_kind.specs.declared.syntax_kind.SyntaxKind.TheVariants.{Token as OfToken}
@@ -9,8 +9,9 @@ use Rattle.operator_terms.specs.Token.{Token, fixed_text, fixed}
 use Rattle.operator_terms.specs.Term.{literal, name}
 use Rattle.operator_terms.specs.Operators.{LiteralKind, Int, Float, Char, Byte, Str, ByteStr, CStr, True, False, Add, Subtract, Multiply, Divide, Remainder, ShiftLeft, ShiftRight, BitXor, BitOr, BitAnd, Equal, NotEqual, Less, LessOrEqual, Greater, GreaterOrEqual, Operator, Or, And, Compare, Compute, Assign, AssignBy, operator_kind, range_kind}
 
--- A literal or a word with its text, a delimiter, a keyword, `..` or `..=`, an operator; `Strange` is any other token. `-`, `*`
--- and `&` are operators here, even as prefixes: the position distinguishes the two.
+-- A literal or a word with its text, a delimiter, a keyword, `..` or `..=`, an operator; `Strange`
+-- is any other token. `-`, `*` and `&` are operators here, even as prefixes: the position
+-- distinguishes the two.
 pub data Sign : Type 0 where
   Lit : LiteralKind → (text : List ℕ) → Sign
   Word : (text : List ℕ) → Sign

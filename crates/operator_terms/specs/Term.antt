@@ -4,10 +4,10 @@ use Rattle.operator_terms.specs.Token.{Token, fixed, free}
 use Rattle.operator_terms.specs.Operators.{LiteralKind, Operator, PrefixOperator, operator_level, literal_kind, operator_kind, prefix_kind, range_kind}
 use Rattle.syntax_kind.specs.declared.syntax_kind.token_kind.TokenKind.TheVariants as token
 
--- The forms. A range has both ends (`Range`), one (`RangeFrom`, `RangeTo`) or none (`RangeFull`): so `..=` always has
--- its end. `Cast` is to a type of one name.
--- Arguments are none (`NoTerms`), a last one (`Last`), or one with a comma after it and then others (`More`): so `f(a)`
--- is `Last a`, `f(a,)` is `More a NoTerms`, and `f(a, b)` is `More a (Last b)`.
+-- The forms. A range has both ends (`Range`), one (`RangeFrom`, `RangeTo`) or none (`RangeFull`):
+-- so `..=` always has its end. `Cast` is to a type of one name. Arguments are none (`NoTerms`), a
+-- last one (`Last`), or one with a comma after it and then others (`More`): so `f(a)` is `Last a`,
+-- `f(a,)` is `More a NoTerms`, and `f(a, b)` is `More a (Last b)`.
 mutual
   pub data Term : Type 0 where
     Literal : LiteralKind → (text : List ℕ) → Term

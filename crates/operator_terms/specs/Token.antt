@@ -10,8 +10,8 @@ pub record Token : Type 0 where
   pub kind : SyntaxKind
   pub text : List ℕ
 
--- The text of a kind that has just one: the punctuation and keywords of operator expressions (Rust Reference,
--- "Punctuation" and "Keywords"). It is empty for all other kinds.
+-- The text of a kind that has just one: the punctuation and keywords of operator expressions (Rust
+-- Reference, "Punctuation" and "Keywords"). It is empty for all other kinds.
 unfoldable pub fixed_text : TokenKind → List ℕ
 fixed_text token.TRUE_KW = codes "true"
 fixed_text token.FALSE_KW = codes "false"

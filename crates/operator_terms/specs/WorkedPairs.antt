@@ -10,7 +10,8 @@ use Rattle.operator_terms.specs.Notation.{a, b, c, f, x, assign, and, less, at_m
 
 -- ---- pairs that may go
 
--- a term, a pair in it (the part number `number` of the operand at the place `above`), and whether this pair may go
+-- a term, a pair in it (the part number `number` of the operand at the place `above`), and whether
+-- this pair may go
 pub record Pair : Type 0 where
   pub term : Term
   pub above : List ℕ
@@ -23,14 +24,16 @@ needless t q i = record { term = t; above = q; number = i; may_go = true }
 abbrev pub needed : Term → List ℕ → ℕ → Pair
 needed t q i = record { term = t; above = q; number = i; may_go = false }
 
--- the test's result for the contents of the pair, in the pair's place; `None` if there is no such part
+-- the test's result for the contents of the pair, in the pair's place; `None` if there is no such
+-- part
 abbrev pub asked : Pair → Option Bool
 asked p =
     option_and_then (λ holder.
     option_map (λ held. needs_pair_at holder.term p.number (angle_behind [] p.term p.above p.number) (inside held.term)) (part holder.term p.number))
     (operand p.term p.above)
 
--- The term reads; the test requires a pair exactly if the pair may not go; and without the pair the term reads exactly if it may.
+-- The term reads; the test requires a pair exactly if the pair may not go; and without the pair the
+-- term reads exactly if it may.
 abbrev pub IsRightPair : Pair → Type 0
 IsRightPair p = (all_fit p.term ≡ true) × (asked p ≡ Some (not p.may_go)) × (all_fit (without (p.above ++ (p.number ∷ [])) p.term) ≡ p.may_go)
 

@@ -1,5 +1,5 @@
--- For each place of an operand, with one operator of each level: which forms need a pair there, and which may be bare, by
--- the test by binding powers. The forms are samples of each level and shape.
+-- For each place of an operand, with one operator of each level: which forms need a pair there, and
+-- which may be bare, by the test by binding powers. The forms are samples of each level and shape.
 use Rattle.std.specs.Prelude.{◌≡◌, ℕ, List, [], ◌∷◌, ◌++◌, Bool, true, false}
 use Rattle.operator_terms.specs.Term.{Term, Paren, Await, Try, Index, RangeFull, RangeFrom}
 use Rattle.operator_terms.specs.Powers.{needs_pair_at}

@@ -1,5 +1,6 @@
--- Worked terms, and whether every operand fits: so whether the tokens read as the term. In the text beside a term, the
--- brackets ⟨ ⟩ are round an operand that doesn't fit. They are no tokens: they only show which term is meant.
+-- Worked terms, and whether every operand fits: so whether the tokens read as the term. In the text
+-- beside a term, the brackets ⟨ ⟩ are round an operand that doesn't fit. They are no tokens: they
+-- only show which term is meant.
 use Rattle.std.specs.Prelude.{◌≡◌, List, [], ◌∷◌, Bool, true, false}
 use Rattle.operator_terms.specs.Term.{Term, Paren, Call, Await, Try, Index, RangeFull, RangeFrom, NoTerms, Last, More}
 use Rattle.operator_terms.specs.AllFit.{all_fit}

@@ -1,5 +1,5 @@
--- Worked tokens: what the tokens of a term are, each written as its kind and its text. Each operator comes once as itself, each
--- literal kind once, and each form of a term.
+-- Worked tokens: what the tokens of a term are, each written as its kind and its text. Each
+-- operator comes once as itself, each literal kind once, and each form of a term.
 use Rattle.std.specs.Prelude.{◌≡◌, ℕ, List, [], ◌∷◌, ◌++◌, codes, true, false}
 use Rattle.syntax_kind.specs.Kinds.{kind_name}
 use Rattle.operator_terms.specs.Token.{Token}

@@ -36,8 +36,8 @@ pub fn one_reading()
     ensures { (j k : ℕ) (ts : List Token) (t u : Term) → Reads j ts t → Reads k ts u → t ≡ u }
 {}
 
-/// A term's tokens read as the term exactly where every operand fits its place; and where a level is
-/// wanted, exactly where the term has that level too.
+/// A term's tokens read as the term exactly where every operand fits its place; and where a level
+/// is wanted, exactly where the term has that level too.
 pub fn reads_where_all_fit()
     ensures anywhere { (t : Term) → Reads 0 (tokens t) t ↔ ((q : List ℕ) → Fits t q) }
     ensures at_level { (k : ℕ) (t : Term)
@@ -98,15 +98,16 @@ pub fn paired_keeps_what_reads()
 
 /// Pairs are where they must and nowhere else.
 ///
-/// `test`: the test that decides where they are put is whether an operand fits. `parts`: a part of the paired
-/// term is the paired part, in a pair unless it fits before the tokens that follow it.
+/// `test`: the test that decides where they are put is whether an operand fits. `parts`: a part of
+/// the paired term is the paired part, in a pair unless it fits before the tokens that follow it.
 pub fn pairs_where_unfit()
     ensures test { (d : Demand) (angle : Bool) (e : Term)
         → fits_before d angle e ≡ true ↔ FitsPlace d angle e }
     ensures parts { (following : List Token) (t : Term) (i : ℕ) (d : Demand) (e : Term)
         → part t i ≡ some_part d e
         → part (paired_before (begins_with_angle following) t) i
-        ≡ some_part d (pair_unless (fits_before d (begins_with_angle (behind_part t i ++ following)) e)
+        ≡ some_part d
+        (pair_unless (fits_before d (begins_with_angle (behind_part t i ++ following)) e)
         (paired_before (begins_with_angle (behind_part t i ++ following)) e)) }
 {}
 
@@ -114,7 +115,10 @@ pub fn pairs_where_unfit()
 pub fn tokens_without_a_pair()
     ensures { (t : Term) (q : List ℕ) (d : Demand) (e : Term) → operand t q ≡ some_part d (Paren e)
         → (before : List Token)
-        × (tokens t ≡ before ++ (fixed token.L_PAREN ∷ (tokens e ++ (fixed token.R_PAREN ∷ tokens_behind q t))))
+        × (tokens t
+        ≡ before
+        ++ (fixed token.L_PAREN
+        ∷ (tokens e ++ (fixed token.R_PAREN ∷ tokens_behind q t))))
         × (tokens (without q t) ≡ before ++ (tokens e ++ tokens_behind q t)) }
 {}
 
@@ -129,8 +133,8 @@ pub fn pair_may_go()
 
 /// A term in the place of an operand of a term that its tokens read as.
 ///
-/// `alone`: the whole reads as itself exactly if the new term fits the place. `in_pair`: with a pair round the new term
-/// it always does.
+/// `alone`: the whole reads as itself exactly if the new term fits the place. `in_pair`: with a
+/// pair round the new term it always does.
 pub fn a_term_in_the_place_of_an_operand()
     ensures alone { (t s : Term) (q : List ℕ) (d : Demand) (e : Term)
         → Reads 0 (tokens t) t → Reads 0 (tokens s) s → operand t q ≡ some_part d e
@@ -154,8 +158,8 @@ pub fn powers_ask_where_unfit()
 
 /// If the test by precedences requires no parentheses, the test by binding powers requires none.
 ///
-/// The exceptions are a field that is called, and an operand that ends in a cast's name before `<` or
-/// `<<`.
+/// The exceptions are a field that is called, and an operand that ends in a cast's name before `<`
+/// or `<<`.
 pub fn precedences_ask_enough()
     ensures { (t : Term) (i : ℕ) (d : Demand) (e : Term) (angle : Bool)
         → part t i ≡ some_part d e
@@ -170,8 +174,8 @@ pub fn precedences_ask_enough()
 /// The operator theorem, over terms.
 ///
 /// `readings`: a term is the one reading of its tokens exactly if the test by binding powers
-/// requires a pair at no operand. `pairs`: in such a term, the test requires none for the contents of
-/// a pair exactly if the tokens without the pair read as the term without it.
+/// requires a pair at no operand. `pairs`: in such a term, the test requires none for the contents
+/// of a pair exactly if the tokens without the pair read as the term without it.
 ///
 /// The term may precede any tokens, `following`; where it, or it without the pair, ends in a
 /// cast's name, these must not begin with `<` or `<<`.
@@ -208,15 +212,17 @@ pub fn worked_terms()
     ensures method { Reads 0 (tokens (calling (dot_f a) x)) (Method a (codes "f") (Last x)) }
 {}
 
-/// Worked tokens: the kinds and the texts of the tokens of terms, with each operator, each literal kind and each form once.
+/// Worked tokens: the kinds and the texts of the tokens of terms, with each operator, each literal
+/// kind and each form once.
 pub fn worked_tokens()
     ensures binary { EachRow HasTokens binary_tokens }
     ensures literals { EachRow HasTokens literal_tokens }
     ensures others { EachRow HasTokens other_tokens }
 {}
 
-/// For each place of an operand, with one operator of each level, and samples of all forms: which of them the test by binding
-/// powers accepts without parentheses, and for which it requires a pair. Also the result of the test by precedences.
+/// For each place of an operand, with one operator of each level, and samples of all forms: which
+/// of them the test by binding powers accepts without parentheses, and for which it requires a
+/// pair. Also the result of the test by precedences.
 pub fn worked_places()
     ensures strong { EachRow IsRightAt strong_places }
     ensures sides { EachRow IsRightAt sides }

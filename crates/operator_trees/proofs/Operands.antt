@@ -117,7 +117,8 @@ part-listed _ i h d = refl
 
 -- ---- one step down
 
--- a kid by its meanings: the child of its number means what the list says, and after it are the tokens of the rest
+-- a kid by its meanings: the child of its number means what the list says, and after it are the
+-- tokens of the rest
 pub record Stands (c : Forest) (ms : List Meaning) (j : ℕ) : Type 0 where
   pub means_it : meaning (child_at c (kid_at c j).number) ≡ get_or ms j IsNothing
   pub is_child : child_at c (kid_at c j).number ≡ (kid_at c j).tree

@@ -1,4 +1,5 @@
--- Children that are no trivia: what they mean, which parts are there, and on which side of the operator.
+-- Children that are no trivia: what they mean, which parts are there, and on which side of the
+-- operator.
 use Rattle.std.proofs.Common.{◌≡◌, ◌≤◌, ◌<◌, ◌+◌, ◌++◌, ℕ, zero, suc, List, [], ◌∷◌, Bool, true, false, ◌&&◌, cond, map, length, get_or, Option, Some, None, IfSome, nat_lt, nat_le, refl, sym, ap, subst, ◌∙◌, arith, length-append}
 use Rattle.syntax_kind.specs.declared.syntax_kind.SyntaxKind.{SyntaxKind}
 use Rattle.syntax_kind.specs.declared.syntax_kind.SyntaxKind.TheVariants.{Token as OfToken, Node as OfNode, OTHER}
@@ -151,7 +152,8 @@ told (Range inclusive l r) zero h d = refl
 told (Range inclusive l r) (suc zero) h d = refl
 told t i h d = absurd (no h)
 
--- A part's kid ends before the operator's starts exactly where the part precedes its form's operator.
+-- A part's kid ends before the operator's starts exactly where the part precedes its form's
+-- operator.
 pub side_by_kids : (n : ℕ) (ks : List Kid) (before : Bool) (i j : ℕ) → From 0 ks → n ≡ length ks → side_right n before i j ≡ true → (get_or ks i no_kid).start < kid_end (get_or ks i no_kid) → nat_le (kid_end (get_or ks i no_kid)) (get_or ks j no_kid).start ≡ before
 side_by_kids n ks true i j w e s h =
     let lt : i < j = grind arith in

@@ -4,8 +4,9 @@ use Rattle.syntax_kind.specs.Kinds.{is_trivia}
 use Rattle.tree_model.specs.Tree.{Tree, node, token, Forest, nil, cons, no_tree, text}
 use Rattle.operator_terms.specs.Term.{Term, Prefix, Borrow, RangeTo, Binary, Index, Paren, Range, RangeFull, Literal, Name, Method, Call}
 
--- The rule on starts of operators, for an expression of `size` bytes, whose operator starts `order` bytes after its own
--- start, in place of the range `from..to`; the parent's operator starts at `parent`.
+-- The rule on starts of operators, for an expression of `size` bytes, whose operator starts `order`
+-- bytes after its own start, in place of the range `from..to`; the parent's operator starts at
+-- `parent`.
 abbrev pub stands_before : (order size from to parent : ℕ) → Bool
 stands_before order size from to parent =
     if nat_le parent from then nat_lt (from + order) parent
@@ -20,7 +21,8 @@ pub record Kid : Type 0 where
 abbrev pub kid_end : Kid → ℕ
 kid_end k = k.start + length (text k.tree)
 
--- the children that are not trivia; the first tree of the forest is child number i and starts at byte b
+-- the children that are not trivia; the first tree of the forest is child number i and starts at
+-- byte b
 abbrev pub kids : ℕ → ℕ → Forest → List Kid
 kids i b nil = []
 kids i b (cons (token k t) r) = cond (is_trivia k) (kids (suc i) (b + length t) r) (record { number = i; start = b; tree = token k t } ∷ kids (suc i) (b + length t) r)

@@ -1,4 +1,5 @@
-//! Plain nested trees for tests: read from words, converted to syntax trees, and searched by slow recursion over the whole tree.
+//! Plain nested trees for tests: read from words, converted to syntax trees, and searched by slow
+//! recursion over the whole tree.
 #![tactic(auto)]
 
 mod plain_tree;

@@ -1,5 +1,5 @@
-//! A plain nested tree: read from words, converted to a syntax tree, and searched by slow recursion over the whole tree.
-//! It shares nothing with the crate under test but kinds.
+//! A plain nested tree: read from words, converted to a syntax tree, and searched by slow recursion
+//! over the whole tree. It shares nothing with the crate under test but kinds.
 use lossless_tree::{SyntaxKind, SyntaxNode, TreeBuilder};
 use std::alloc::Global;
 use std::test::Fail;
@@ -21,8 +21,8 @@ struct Unfinished {
     children: Vec<PlainTree>,
 }
 
-// The kind with a name; where there is no name `OTHER` with the number of the node or token in preorder, so that each
-// has a kind of its own.
+// The kind with a name; where there is no name `OTHER` with the number of the node or token in
+// preorder, so that each has a kind of its own.
 fn kind_of(name: &str, number: u16) -> Result<SyntaxKind, Fail> {
     if name.is_empty() {
         return Ok(SyntaxKind::OTHER(number));
@@ -41,8 +41,8 @@ fn put(open: &mut Vec<Unfinished>, tree: PlainTree) -> Result<Option<PlainTree>,
 }
 
 impl PlainTree {
-    /// Reads a tree. Words are parted by a space: `KIND(` or `(` enters a node, `)` leaves it, and `KIND:text` or `:text`
-    /// is a token. No text has a space; a `~` can be in its place.
+    /// Reads a tree. Words are parted by a space: `KIND(` or `(` enters a node, `)` leaves it, and
+    /// `KIND:text` or `:text` is a token. No text has a space; a `~` can be in its place.
     pub fn read(alloc: Global, words: &'static str) -> Result<PlainTree, Fail> {
         let mut open: Vec<Unfinished> = Vec::new(alloc);
         let mut number: u16 = 0;
@@ -111,8 +111,8 @@ impl PlainTree {
         Ok(())
     }
 
-    /// The kinds of the tokens that have a text and touch the offset, put after those that are found already. The tree
-    /// starts at `start`.
+    /// The kinds of the tokens that have a text and touch the offset, put after those that are
+    /// found already. The tree starts at `start`.
     pub fn tokens_at(
         &self,
         start: usize,

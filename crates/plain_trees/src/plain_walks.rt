@@ -1,4 +1,5 @@
-//! The expected results of walks and steps, by slow recursion over a plain nested tree. A node or token is named by its kind.
+//! The expected results of walks and steps, by slow recursion over a plain nested tree. A node or
+//! token is named by its kind.
 use crate::plain_tree::PlainTree;
 use lossless_tree::{Direction, SyntaxKind};
 use std::test::Fail;

@@ -1,4 +1,5 @@
--- The results of accessors at the kinds of this crate's views: what the crates below define for any kinds.
+-- The results of accessors at the kinds of this crate's views: what the crates below define for any
+-- kinds.
 use Rattle.std.specs.Prelude.{◌≡◌, Bool, ℕ, List, Option, drop, option_map}
 use Rattle.std.specs.List.{find}
 use Rattle.std.specs.Option.{option_and_then}
@@ -44,7 +45,8 @@ IsPathOfMeta meta r = IsMetaPath meta_kinds path_kinds meta (option_map (λ it. 
 abbrev pub IsNameOfMeta : Cursor → Option (List ℕ) → Type 0
 IsNameOfMeta meta name = IsMetaName meta_kinds path_kinds path_segment_kinds meta name
 
--- the text of a path that is only one name; of a meta that is only such a path; of one with arguments, and these
+-- the text of a path that is only one name; of a meta that is only such a path; of one with
+-- arguments, and these
 abbrev pub path_atom : Cursor → Option (List ℕ)
 path_atom path = atom_of path_kinds path_segment_kinds name_ref_kinds path
 
@@ -61,7 +63,8 @@ call_with meta tree = call_in path_kinds path_segment_kinds name_ref_kinds meta 
 abbrev pub lone_name : Cursor → Option Cursor
 lone_name path = shorthand_name path_kinds path_segment_kinds name_ref_kinds path
 
--- the name of a field of a record expression, the field around a name, and the field whose name it is
+-- the name of a field of a record expression, the field around a name, and the field whose name it
+-- is
 abbrev pub expr_field_name : Cursor → Option Cursor
 expr_field_name c = record_field_name expr_kinds path_expr_kinds path_kinds path_segment_kinds name_ref_kinds c
 

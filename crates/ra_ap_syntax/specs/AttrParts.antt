@@ -1,4 +1,5 @@
--- Attributes, their metas, and documentation comments. (Upstream: `ast::node_ext` of rust-analyzer's `syntax`.)
+-- Attributes, their metas, and documentation comments. (Upstream: `ast::node_ext` of
+-- rust-analyzer's `syntax`.)
 use Rattle.std.specs.Prelude.{ℕ, Bool, List, Option, None, option_map, if◌then◌else◌}
 use Rattle.std.specs.List.{find}
 use Rattle.std.specs.Option.{option_and_then}
@@ -18,8 +19,8 @@ use Rattle.ras_node_ext.specs.NodeParts.{if_in, single_name}
 abbrev pub kind_by : Bool → AttrKind
 kind_by inner = if inner then Inner else Outer
 
--- a documentation comment, by the text of its first child: its shape, and the text between its markers, of which the
--- opening one has three bytes; and its first token, if that is a comment
+-- a documentation comment, by the text of its first child: its shape, and the text between its
+-- markers, of which the opening one has three bytes; and its first token, if that is a comment
 abbrev pub doc_shape : Cursor → Option CommentShape
 doc_shape c = option_map shape_of (child_text (focus c) 0)
 

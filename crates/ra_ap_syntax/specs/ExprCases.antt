@@ -1,4 +1,5 @@
--- `Expr`: the node of each variant, that its kind is one of the enum's, and words of clauses. Made by `tools/views` from `views.txt`.
+-- `Expr`: the node of each variant, that its kind is one of the enum's, and words of clauses. Made
+-- by `tools/views` from `views.txt`.
 use Rattle.std.specs.Prelude.{◌≡◌, Bool, true, Option, option_map}
 use Rattle.std.proofs.Common.{refl}
 use Rattle.syntax_kind.specs.declared.syntax_kind.SyntaxKind.{SyntaxKind}

@@ -1,4 +1,5 @@
--- What the clauses of this crate cite of the crates below, so that a crate above names this one alone.
+-- What the clauses of this crate cite of the crates below, so that a crate above names this one
+-- alone.
 pub use Rattle.lossless_tree.specs.TextRange
 pub use Rattle.syntax_kind.specs.Kinds
 pub use Rattle.syntax_kind.specs.KindLaws

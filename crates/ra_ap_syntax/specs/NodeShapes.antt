@@ -1,4 +1,5 @@
--- The variants of the results about items, patterns, types and paths, with cursors in the place of views.
+-- The variants of the results about items, patterns, types and paths, with cursors in the place of
+-- views.
 use Rattle.std.specs.Prelude.{Bool, Option, Some, None, option_map, is_some, if◌then◌else◌}
 use Rattle.std.specs.Option.{option_or, option_map_or}
 use Rattle.syntax_kind.specs.declared.syntax_kind.SyntaxKind.{SyntaxKind}

@@ -1,4 +1,5 @@
-//! Typed views of nodes and tokens, with the names of rust-analyzer's `syntax::ast`. Made by `tools/views` from `views.txt`.
+//! Typed views of nodes and tokens, with the names of rust-analyzer's `syntax::ast`. Made by
+//! `tools/views` from `views.txt`.
 
 mod expr_ext;
 mod node_ext;

@@ -1,9 +1,10 @@
 //! Laws of the definitions that contracts cite. The functions do nothing: the contract is the law.
 //!
-//! [`the_operator_theorem`] is the main law. The other main guarantees are contract clauses. Every parse keeps its text:
-//! clause `text_is` of `parsed` of [`SourceFile::parse`](ast::SourceFile::parse) and [`Expr::parse`](ast::Expr::parse).
-//! Every re-parse, of one piece or of the whole text, has the edited text: clause `same_text` of `incremental_reparse`,
-//! `reparse` and `full_reparse` of [`Parse`](crate::Parse).
+//! [`the_operator_theorem`] is the main law. The other main guarantees are contract clauses. Every
+//! parse keeps its text: clause `text_is` of `parsed` of
+//! [`SourceFile::parse`](ast::SourceFile::parse) and [`Expr::parse`](ast::Expr::parse). Every
+//! re-parse, of one piece or of the whole text, has the edited text: clause `same_text` of
+//! `incremental_reparse`, `reparse` and `full_reparse` of [`Parse`](crate::Parse).
 ghost use Rattle.std.specs.Prelude.{◌≡◌, ◌↔◌, ◌++◌, ◌∷◌, [], ℕ, List};
 ghost use Rattle.syntax_kind.specs.declared.syntax_kind.token_kind.TokenKind.TheVariants as token;
 ghost use Rattle.tree_model.specs.Cursor.{Cursor, focus};
@@ -31,15 +32,18 @@ pub use ras_prec::laws::{
 };
 pub use ras_tokens::laws::names_of_tokens;
 
-/// The operator theorem: what `needs_parens_in` and `needs_parens_in_place_of` mean for an operator tree, that is, the
-/// place `r` in any tree that shows a term `t`, with white space and comments anywhere between.
+/// The operator theorem: what `needs_parens_in` and `needs_parens_in_place_of` mean for an operator
+/// tree, that is, the place `r` in any tree that shows a term `t`, with white space and comments
+/// anywhere between.
 ///
-/// `readings`: the term is the only reading of the tree's tokens in the layered grammar exactly if `needs_parens_in` is
-/// false for every operand and the operand's own parent node. `pairs`: in such a tree, `needs_parens_in_place_of` is false
-/// for the content of a pair of parentheses below the root, in place of the pair, exactly if the tokens without the pair
-/// read as the term without it. `tokens`: these are the tree's tokens, less the pair's two.
+/// `readings`: the term is the only reading of the tree's tokens in the layered grammar exactly if
+/// `needs_parens_in` is false for every operand and the operand's own parent node. `pairs`: in such
+/// a tree, `needs_parens_in_place_of` is false for the content of a pair of parentheses below the
+/// root, in place of the pair, exactly if the tokens without the pair read as the term without it.
+/// `tokens`: these are the tree's tokens, less the pair's two.
 ///
-/// Any tokens may follow the tree, except `<` or `<<` if the term, or the term without the pair, ends in a cast's name.
+/// Any tokens may follow the tree, except `<` or `<<` if the term, or the term without the pair,
+/// ends in a cast's name.
 pub fn the_operator_theorem()
     ensures readings { (r : Cursor) (t : Term)
         → meaning (focus r) ≡ IsTerm t → MayStandBefore (leaves_behind r.tree r.place) t

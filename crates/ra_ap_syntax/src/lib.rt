@@ -25,10 +25,11 @@ pub use ras_parsing::{FileView, OkError, Parse, SyntaxTreeBuilder, utils};
 /// A source file that is edited again and again, and its parse.
 pub type Document<F> = ras_parsing::Document<SourceFile, F>;
 
-/// Matches a node against typed views. The first arm is taken whose view casts and whose guard, if any, is true.
+/// Matches a node against typed views. The first arm is taken whose view casts and whose guard, if
+/// any, is true.
 ///
-/// `match_ast! { match node { ast::CallExpr(it) => a, ast::Item(it) if guard => b, _ => c } }` borrows the node, and
-/// evaluates the expression `node` once.
+/// `match_ast! { match node { ast::CallExpr(it) => a, ast::Item(it) if guard => b, _ => c } }`
+/// borrows the node, and evaluates the expression `node` once.
 #[macro_export]
 macro_rules! match_ast {
     (match $node:ident { $($arms:tt)* }) => { $crate::match_ast!(match ($node) { $($arms)* }) };

@@ -2,9 +2,9 @@
 
 /// Names the kind of a punctuation or a keyword by its text, as a value and as a pattern.
 ///
-/// `T![+]` is `SyntaxKind::PLUS` and `T![match]` is `SyntaxKind::MATCH_KW`; brackets and the dollar sign are quoted, as in
-/// `T!['(']` and `T!['$']`. It is a copy of `lossless_tree`'s macro, for users of this crate alone; `tools/kind_names`
-/// compares the two.
+/// `T![+]` is `SyntaxKind::PLUS` and `T![match]` is `SyntaxKind::MATCH_KW`; brackets and the dollar
+/// sign are quoted, as in `T!['(']` and `T!['$']`. It is a copy of `lossless_tree`'s macro, for
+/// users of this crate alone; `tools/kind_names` compares the two.
 #[macro_export]
 macro_rules! T {
     [;] => { $crate::SyntaxKind::SEMICOLON };

@@ -14,11 +14,12 @@ use std::alloc::Global;
 impl FileView for SourceFile {}
 
 impl SourceFile {
-    /// Parses the text of a file with a front end. The result has a tree of the whole text, whose root is a `SOURCE_FILE`, also
-    /// if the text has syntax errors. Its errors are those of the parser, followed by those of the lexer.
+    /// Parses the text of a file with a front end. The result has a tree of the whole text, whose
+    /// root is a `SOURCE_FILE`, also if the text has syntax errors. Its errors are those of the
+    /// parser, followed by those of the lexer.
     ///
-    /// Returns `TooLong` if the text is longer than 4,294,967,295 bytes; this is checked first. Takes the time of the front
-    /// end, and time linear in the text.
+    /// Returns `TooLong` if the text is longer than 4,294,967,295 bytes; this is checked first.
+    /// Takes the time of the front end, and time linear in the text.
     pub fn parse<F: FrontEnd>(
         alloc: Global,
         text: &str,
@@ -37,12 +38,12 @@ impl SourceFile {
 }
 
 impl Expr {
-    /// Parses the text of an expression with a front end. The result has a tree of the whole text, also if the text has syntax
-    /// errors; its root is an expression, or `ERROR` (and then `tree` returns `None`). Its errors are those of the parser, followed
-    /// by those of the lexer.
+    /// Parses the text of an expression with a front end. The result has a tree of the whole text,
+    /// also if the text has syntax errors; its root is an expression, or `ERROR` (and then `tree`
+    /// returns `None`). Its errors are those of the parser, followed by those of the lexer.
     ///
-    /// Returns `TooLong` if the text is longer than 4,294,967,295 bytes; this is checked first. Takes the time of the front
-    /// end, and time linear in the text.
+    /// Returns `TooLong` if the text is longer than 4,294,967,295 bytes; this is checked first.
+    /// Takes the time of the front end, and time linear in the text.
     pub fn parse<F: FrontEnd>(
         alloc: Global,
         text: &str,

@@ -1,4 +1,5 @@
--- The first common node of two chains of ancestors, from one depth on: it is at the longest common front of the places.
+-- The first common node of two chains of ancestors, from one depth on: it is at the longest common
+-- front of the places.
 use Rattle.std.proofs.Common.{◌≡◌, ℕ, suc, ◌-◌, ◌<◌, ◌≤◌, ◌==◌, ◌&&◌, List, [], ◌∷◌, ◌++◌, length, drop, map, Bool, true, false, cond, not, refl, sym, ap, ◌∙◌, arith}
 use Rattle.std.specs.Prelude.{Some, None, Option, MatchOption, option_map}
 use Rattle.std.specs.Option.{option_or, option_eq}

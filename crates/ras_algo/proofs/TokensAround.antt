@@ -1,4 +1,5 @@
--- The tokens on either side of a token: the next one, those beyond that, and the nearest that is no trivia.
+-- The tokens on either side of a token: the next one, those beyond that, and the nearest that is no
+-- trivia.
 use Rattle.std.proofs.Common.{◌≡◌, List, [], ◌∷◌, ◌++◌, map, Bool, true, false, not, cond, refl, sym, ap, ◌∙◌, subst, append_assoc}
 use Rattle.std.specs.Prelude.{Some, None, Option}
 use Rattle.std.specs.List.{All, filter, find}

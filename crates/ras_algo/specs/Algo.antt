@@ -1,5 +1,6 @@
--- The results of the functions of `algo`: walks and chains of ancestors, filtered.
--- (Upstream: rust-analyzer's `algo`. That the left chain comes first at equal lengths is a rule of this crate.)
+-- The results of the functions of `algo`: walks and chains of ancestors, filtered. (Upstream:
+-- rust-analyzer's `algo`. That the left chain comes first at equal lengths is a rule of this
+-- crate.)
 use Rattle.std.specs.Prelude.{◌≡◌, ◌==◌, ℕ, Contains, List, [], ◌∷◌, ◌++◌, length, take, drop, reverse, Bool, true, false, not, nat_lt, if◌then◌else◌, Option, None, Some}
 use Rattle.std.specs.Option.{option_and_then}
 use Rattle.std.specs.List.{prefix_len, find}
@@ -55,8 +56,8 @@ common_front [] q = []
 common_front (i ∷ p) [] = []
 common_front (i ∷ p) (j ∷ q) = if i == j then i ∷ common_front p q else []
 
--- the deepest node that is an ancestor of two nodes of equal trees, each counted as its own ancestor; there is no such node
--- in unequal trees
+-- the deepest node that is an ancestor of two nodes of equal trees, each counted as its own
+-- ancestor; there is no such node in unequal trees
 abbrev pub common_ancestor : Cursor → Cursor → Option Cursor
 common_ancestor u v = if is_same_tree u.tree v.tree then Some (at_place u (common_front u.place v.place)) else None
 
@@ -88,7 +89,8 @@ abbrev pub merged : List Cursor → List Cursor → List Cursor
 merged [] right = right
 merged (c ∷ left) right = take (shorter_count c right) right ++ c ∷ merged left (drop (shorter_count c right) right)
 
--- the next node is from the right one of two chains: if it is shorter, and if the left one has ended
+-- the next node is from the right one of two chains: if it is shorter, and if the left one has
+-- ended
 abbrev pub takes_right : Option Cursor → Option Cursor → Bool
 takes_right None right = true
 takes_right (Some c) None = false

@@ -19,8 +19,8 @@ use lossless_tree::{
 use ras_node::AstNode;
 use std::marker::Model;
 
-/// The nodes above the tokens at an offset, by the length of their text, the shortest first. A clause sees the cursors
-/// that are left.
+/// The nodes above the tokens at an offset, by the length of their text, the shortest first. A
+/// clause sees the cursors that are left.
 #[derive(Clone, Drop)]
 pub struct AncestorsAtOffset {
     left: Option<SyntaxNode>,
@@ -60,7 +60,8 @@ impl Iterator for AncestorsAtOffset {
     }
 }
 
-// Whether the next node is from the right one of two chains: if it is shorter, and if the left chain has ended.
+// Whether the next node is from the right one of two chains: if it is shorter, and if the left
+// chain has ended.
 fn is_right_next(left: &Option<SyntaxNode>, right: &Option<SyntaxNode>) -> bool
     ensures { result ≡ takes_right left.now right.now }
 {
@@ -73,9 +74,10 @@ fn is_right_next(left: &Option<SyntaxNode>, right: &Option<SyntaxNode>) -> bool
 
 /// The nodes above the tokens at an offset, by the length of their text, the shortest first.
 ///
-/// Between two tokens there are two chains of nodes, and the left one comes first at equal lengths; a node above both
-/// tokens comes twice. The result is empty if no non-empty token touches the offset. The tokens are found in time that
-/// grows with the logarithm of the size of the tree; each node takes constant time.
+/// Between two tokens there are two chains of nodes, and the left one comes first at equal lengths;
+/// a node above both tokens comes twice. The result is empty if no non-empty token touches the
+/// offset. The tokens are found in time that grows with the logarithm of the size of the tree; each
+/// node takes constant time.
 pub fn ancestors_at_offset(node: &SyntaxNode, offset: TextSize) -> AncestorsAtOffset
     ensures { result ≡ ancestors_at node.now offset }
 {
@@ -87,26 +89,31 @@ pub fn ancestors_at_offset(node: &SyntaxNode, offset: TextSize) -> AncestorsAtOf
     AncestorsAtOffset { left, right }
 }
 
-/// The first of the nodes above the tokens at an offset, the shortest first, that can be cast to this view, or `None` if
-/// there is none. It takes the time of `ancestors_at_offset` and of the nodes that it passes.
+/// The first of the nodes above the tokens at an offset, the shortest first, that can be cast to
+/// this view, or `None` if there is none. It takes the time of `ancestors_at_offset` and of the
+/// nodes that it passes.
 pub fn find_node_at_offset<N: AstNode>(syntax: &SyntaxNode, offset: TextSize) -> Option<N>
-    ensures { option_map N.node result ≡ find (has_kind_in N.casts) (ancestors_at syntax.now offset) }
+    ensures { option_map N.node result
+        ≡ find (has_kind_in N.casts) (ancestors_at syntax.now offset) }
 {
     let mut nodes = ancestors_at_offset(syntax, offset);
     N::cast(nodes.find(|node| N::can_cast(node.kind()))?)
 }
 
-/// The element that covers a range, or else the nearest node above it, that can be cast to this view, or `None` if there is
-/// none. It takes the time of `SyntaxNode::covering_element`.
+/// The element that covers a range, or else the nearest node above it, that can be cast to this
+/// view, or `None` if there is none. It takes the time of `SyntaxNode::covering_element`.
 pub fn find_node_at_range<N: AstNode>(syntax: &SyntaxNode, range: TextRange) -> Option<N>
-    ensures { option_map N.node result ≡ find (has_kind_in N.casts) (ancestors_of_element (element_of (covering_of syntax.now range))) }
+    ensures { option_map N.node result
+        ≡ find (has_kind_in N.casts)
+        (ancestors_of_element (element_of (covering_of syntax.now range))) }
 {
     let mut nodes = syntax.covering_element(range).ancestors();
     N::cast(nodes.find(|node| N::can_cast(node.kind()))?)
 }
 
-/// The first token from this one on, itself included, in a direction, that is not trivia (white space or a comment), or
-/// `None` if there is none. It takes time linear in the nodes and tokens that it passes.
+/// The first token from this one on, itself included, in a direction, that is not trivia (white
+/// space or a comment), or `None` if there is none. It takes time linear in the nodes and tokens
+/// that it passes.
 pub fn skip_trivia_token(token: SyntaxToken, direction: Direction) -> Option<SyntaxToken>
     ensures { result ≡ find has_no_trivia_kind (tokens_from direction token) }
 {
@@ -117,8 +124,8 @@ pub fn skip_trivia_token(token: SyntaxToken, direction: Direction) -> Option<Syn
     }
 }
 
-/// The first token from this one on, itself included, in a direction, that is not `WHITESPACE`, or `None` if there is
-/// none. It takes time linear in the nodes and tokens that it passes.
+/// The first token from this one on, itself included, in a direction, that is not `WHITESPACE`, or
+/// `None` if there is none. It takes time linear in the nodes and tokens that it passes.
 pub fn skip_whitespace_token(token: SyntaxToken, direction: Direction) -> Option<SyntaxToken>
     ensures { result ≡ find is_no_whitespace (tokens_from direction token) }
 {
@@ -126,10 +133,13 @@ pub fn skip_whitespace_token(token: SyntaxToken, direction: Direction) -> Option
     tokens.find(|token| token.kind() != SyntaxKind::WHITESPACE)
 }
 
-/// The nearest sibling in a direction, node or token, that is not trivia (white space or a comment), or `None` if there
-/// is none. It passes over the trivia between, forwards in constant time each, backwards in the depth there.
+/// The nearest sibling in a direction, node or token, that is not trivia (white space or a
+/// comment), or `None` if there is none. It passes over the trivia between, forwards in constant
+/// time each, backwards in the depth there.
 pub fn non_trivia_sibling(element: SyntaxElement, direction: Direction) -> Option<SyntaxElement>
-    ensures { result ≡ option_map element_of (find is_no_trivia (siblings_beyond direction (cursor_of element))) }
+    ensures { result
+        ≡ option_map element_of
+        (find is_no_trivia (siblings_beyond direction (cursor_of element))) }
 {
     element
         .siblings_with_tokens(direction)
@@ -137,10 +147,12 @@ pub fn non_trivia_sibling(element: SyntaxElement, direction: Direction) -> Optio
         .find(|sibling| !sibling.is_trivia())
 }
 
-/// The nearest sibling node in a direction that can be cast to the type of `me`, or `None` if there is none. It passes over
-/// the siblings between, forwards in constant time each, backwards in the size of their subtrees.
+/// The nearest sibling node in a direction that can be cast to the type of `me`, or `None` if there
+/// is none. It passes over the siblings between, forwards in constant time each, backwards in the
+/// size of their subtrees.
 pub fn neighbor<T: AstNode>(me: &T, direction: Direction) -> Option<T>
-    ensures { option_map T.node result ≡ find (has_kind_in T.casts) (filter at_node (siblings_beyond direction (T.node me.now))) }
+    ensures { option_map T.node result
+        ≡ find (has_kind_in T.casts) (filter at_node (siblings_beyond direction (T.node me.now))) }
 {
     let node = me.syntax();
     // The iterator starts at the node itself, the first of its sibling nodes.
@@ -149,10 +161,11 @@ pub fn neighbor<T: AstNode>(me: &T, direction: Direction) -> Option<T>
     T::cast(siblings.find(|node| T::can_cast(node.kind()))?)
 }
 
-/// The deepest node that is an ancestor of both, where a node counts as its own ancestor, or `None` if their trees are
-/// unequal.
+/// The deepest node that is an ancestor of both, where a node counts as its own ancestor, or `None`
+/// if their trees are unequal.
 ///
-/// Takes time linear in the depths for nodes of one tree; for nodes of two trees it also compares the trees, at most twice.
+/// Takes time linear in the depths for nodes of one tree; for nodes of two trees it also compares
+/// the trees, at most twice.
 pub fn least_common_ancestor(u: &SyntaxNode, v: &SyntaxNode) -> Option<SyntaxNode>
     ensures { result ≡ common_ancestor u.now v.now }
 {
@@ -164,9 +177,12 @@ pub fn least_common_ancestor(u: &SyntaxNode, v: &SyntaxNode) -> Option<SyntaxNod
     Some(ancestor)
 }
 
-// The ancestors of a node, itself included, from the depth of another node on; all of them where that is deeper.
+// The ancestors of a node, itself included, from the depth of another node on; all of them where
+// that is deeper.
 fn ancestors_from_depth(node: &SyntaxNode, other: &SyntaxNode) -> Ancestors
-    ensures { result ≡ drop (length (ancestors_of node.now) - length (ancestors_of other.now)) (ancestors_of node.now) }
+    ensures { result
+        ≡ drop (length (ancestors_of node.now) - length (ancestors_of other.now))
+        (ancestors_of node.now) }
 {
     let mut ahead = node.ancestors();
     for _node in other.ancestors() {
@@ -179,8 +195,8 @@ fn ancestors_from_depth(node: &SyntaxNode, other: &SyntaxNode) -> Ancestors
     ancestors
 }
 
-/// The deepest node that is an ancestor of both, where a node counts as its own ancestor, or `None` if their trees are
-/// unequal. The nearest ancestor of a token is its parent.
+/// The deepest node that is an ancestor of both, where a node counts as its own ancestor, or `None`
+/// if their trees are unequal. The nearest ancestor of a token is its parent.
 ///
 /// It takes the time of `least_common_ancestor`.
 pub fn least_common_ancestor_element(u: SyntaxElement, v: SyntaxElement) -> Option<SyntaxNode>
@@ -197,19 +213,23 @@ pub fn has_errors(node: &SyntaxNode) -> bool
         .any(|child| child.kind() == SyntaxKind::ERROR)
 }
 
-/// The nearest token before this node or token that is not trivia, or `None` if there is none or the node has no tokens. It
-/// takes time linear in the nodes and tokens that it passes.
+/// The nearest token before this node or token that is not trivia, or `None` if there is none or
+/// the node has no tokens. It takes time linear in the nodes and tokens that it passes.
 pub fn previous_non_trivia_token(element: SyntaxElement) -> Option<SyntaxToken>
-    ensures { result ≡ option_and_then (λ first. find has_no_trivia_kind (tokens_beyond Prev first)) (first_token_of element) }
+    ensures { result
+        ≡ option_and_then (λ first. find has_no_trivia_kind (tokens_beyond Prev first))
+        (first_token_of element) }
 {
     let first = first_token(element)?;
     non_trivia_beyond(&first, Direction::Prev)
 }
 
-/// The nearest token after this node or token that is not trivia, or `None` if there is none or the node has no tokens. It
-/// takes time linear in the nodes and tokens that it passes.
+/// The nearest token after this node or token that is not trivia, or `None` if there is none or the
+/// node has no tokens. It takes time linear in the nodes and tokens that it passes.
 pub fn next_non_trivia_token(element: SyntaxElement) -> Option<SyntaxToken>
-    ensures { result ≡ option_and_then (λ last. find has_no_trivia_kind (tokens_beyond Next last)) (last_token_of element) }
+    ensures { result
+        ≡ option_and_then (λ last. find has_no_trivia_kind (tokens_beyond Next last))
+        (last_token_of element) }
 {
     let last = last_token(element)?;
     non_trivia_beyond(&last, Direction::Next)

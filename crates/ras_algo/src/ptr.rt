@@ -10,7 +10,8 @@ use std::convert::Into;
 use std::fmt;
 use std::marker::{Model, PhantomData};
 
-/// A node's kind and range, by which it is found again as an `N` in its tree or in another tree of the same shape.
+/// A node's kind and range, by which it is found again as an `N` in its tree or in another tree of
+/// the same shape.
 ///
 /// It holds no tree, so it can be copied, compared and kept.
 #[derive_where(Clone, Copy, PartialEq, Eq, Hash)]
@@ -44,10 +45,11 @@ impl<N: AstNode> AstPtr<N> {
         AstPtr::of(SyntaxNodePtr::new(node.syntax()))
     }
 
-    /// The view of the node that `SyntaxNodePtr::to_node` returns, or `None` if that returns `None`, or if a node of this
-    /// kind can't be cast to this view.
+    /// The view of the node that `SyntaxNodePtr::to_node` returns, or `None` if that returns
+    /// `None`, or if a node of this kind can't be cast to this view.
     pub fn to_node(&self, root: &SyntaxNode) -> Option<N>
-        ensures found { IsTrue (N.casts self.now.kind) → Finds self.now root.now (option_map N.node result) }
+        ensures found { IsTrue (N.casts self.now.kind)
+            → Finds self.now root.now (option_map N.node result) }
         ensures other { IsFalse (N.casts self.now.kind) → result ≡ None }
     {
         N::cast(self.raw.to_node(root)?)

@@ -1,4 +1,5 @@
--- The arguments of a call, where one may be missing. The children are seen as elements, each a node or a token.
+-- The arguments of a call, where one may be missing. The children are seen as elements, each a node
+-- or a token.
 use Rattle.std.specs.Prelude.{Bool, false, ◌||◌, ◌&&◌, List, [], ◌∷◌, Option, Some, None, if◌then◌else◌}
 use Rattle.syntax_kind.specs.Kinds.{is_same_kind}
 use Rattle.syntax_kind.specs.declared.syntax_kind.SyntaxKind.TheVariants as kinds
@@ -24,7 +25,8 @@ abbrev pub is_comma : NodeOrToken Cursor Cursor → Bool
 is_comma (Node c) = is_same_kind (kind_at c) (kinds.Token token.ERROR) && begins_with_comma c
 is_comma (Token c) = is_same_kind (kind_at c) (kinds.Token token.COMMA)
 
--- the result for an element that is not a comma: for a node the argument, if it is of the kinds; nothing for a token
+-- the result for an element that is not a comma: for a node the argument, if it is of the kinds;
+-- nothing for a token
 abbrev pub argument : (SyntaxKind → Bool) → NodeOrToken Cursor Cursor → Option (Option Cursor)
 argument args (Node c) = Some (if_of args c)
 argument args (Token c) = None
@@ -45,8 +47,8 @@ abbrev pub given_first : Option (Option Cursor) → List (Option Cursor) → Lis
 given_first None l = l
 given_first (Some a) l = a ∷ l
 
--- the arguments among some elements: a node of the kinds is one, another node is a missing one, and so is a comma with no
--- argument since the comma before it
+-- the arguments among some elements: a node of the kinds is one, another node is a missing one, and
+-- so is a comma with no argument since the comma before it
 abbrev pub arguments : (SyntaxKind → Bool) → Bool → List (NodeOrToken Cursor Cursor) → List (Option Cursor)
 arguments args after [] = []
 arguments args after (e ∷ l) = given_first (given args after e) (arguments args (is_after args after e) l)

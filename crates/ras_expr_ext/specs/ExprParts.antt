@@ -1,6 +1,6 @@
--- The parts of expressions that need more than a search for the first child of a kind: cursors among the children of a
--- node, and above it.
--- (Upstream: `ast::expr_ext` of rust-analyzer's `syntax`.)
+-- The parts of expressions that need more than a search for the first child of a kind: cursors
+-- among the children of a node, and above it. (Upstream: `ast::expr_ext` of rust-analyzer's
+-- `syntax`.)
 use Rattle.std.specs.Prelude.{Bool, true, false, Option, Some, None, option_map, is_some, if◌then◌else◌}
 use Rattle.std.specs.List.{find, slice_get}
 use Rattle.std.specs.Option.{option_and_then, option_or, option_map_or}
@@ -39,7 +39,8 @@ binary_operator c = first_token is_binary_operator (children_of c)
 abbrev pub range_operator : Cursor → Option Cursor
 range_operator c = first_token is_range_operator (children_of c)
 
--- the first bound before the operator, if there is one; all children count as before it if there is no operator
+-- the first bound before the operator, if there is one; all children count as before it if there is
+-- no operator
 abbrev pub bound_before : (SyntaxKind → Bool) → Cursor → Option Cursor
 bound_before bounds c = first_node bounds (before is_range_operator (children_of c))
 
@@ -50,7 +51,8 @@ range_start_of bounds c = option_and_then (λ _. bound_before bounds c) (range_o
 abbrev pub range_end_of : (SyntaxKind → Bool) → Cursor → Option Cursor
 range_end_of bounds c = first_node bounds (behind is_range_operator (children_of c))
 
--- the literal's token: the first child that is not an attribute, documentation comment or trivia, if that is a token
+-- the literal's token: the first child that is not an attribute, documentation comment or trivia,
+-- if that is a token
 abbrev pub literal_token : Cursor → Option Cursor
 literal_token c = option_and_then token_part (option_map element_of (find (has_other_kind is_before_literal) (children_of c)))
 
@@ -58,8 +60,9 @@ literal_token c = option_and_then token_part (option_map element_of (find (has_o
 abbrev pub index_token : Cursor → Option Cursor
 index_token c = option_and_then token_part (option_map element_of (find (has_other_kind is_before_index) (children_of c)))
 
--- a block is not a part of its parent: in a `for` or an `if` it is the first expression, or there is none; it is always a
--- part as the `else` of a `let`, the body of a function or a loop, or a constant pattern
+-- a block is not a part of its parent: in a `for` or an `if` it is the first expression, or there
+-- is none; it is always a part as the `else` of a `let`, the body of a function or a loop, or a
+-- constant pattern
 abbrev pub is_standalone_in : (SyntaxKind → Bool) → Cursor → SyntaxKind → Cursor → Bool
 is_standalone_in exprs c (Node kind.FOR_EXPR) p = option_map_or (λ e. is_same_cursor e c) (typed_child exprs p) true
 is_standalone_in exprs c (Node kind.IF_EXPR) p = option_map_or (λ e. is_same_cursor e c) (typed_child exprs p) true

@@ -1,4 +1,5 @@
--- The modifiers of blocks, with cursors in the place of views. (Upstream: `BlockModifier` of `ast::expr_ext`.)
+-- The modifiers of blocks, with cursors in the place of views. (Upstream: `BlockModifier` of
+-- `ast::expr_ext`.)
 use Rattle.std.specs.Prelude.{Bool, Option, option_map, is_some, if◌then◌else◌}
 use Rattle.std.specs.Option.{option_and_then, option_or}
 use Rattle.syntax_kind.specs.declared.syntax_kind.SyntaxKind.{SyntaxKind}
@@ -33,7 +34,8 @@ modifier_shape types labels (modifier.Label l) = label (labels l)
 abbrev pub try_of : (SyntaxKind → Bool) → Cursor → Option ModifierShape
 try_of types m = option_map (λ t. try t (token_child (Token token.BIKESHED_KW) m) (typed_child types m)) (token_child (Token token.TRY_KW) m)
 
--- the first of these that a block has: `gen`, also after `async`; `async`; `unsafe`; `try`; `const`; a label
+-- the first of these that a block has: `gen`, also after `async`; `async`; `unsafe`; `try`;
+-- `const`; a label
 abbrev pub block_modifier : (SyntaxKind → Bool) → (SyntaxKind → Bool) → (SyntaxKind → Bool) → Cursor → Option ModifierShape
 block_modifier tries types labels c =
     option_or (option_map (λ t. if is_some (token_child (Token token.ASYNC_KW) c) then async_gen t else gen t) (token_child (Token token.GEN_KW) c))

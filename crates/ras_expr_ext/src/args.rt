@@ -40,9 +40,10 @@ fn is_after<N: AstNode>(after: bool, element: &SyntaxElement) -> bool
     }
 }
 
-/// The arguments of a call, in order, with `None` where one is missing. Each child node that can be viewed as an `N` is an
-/// argument; any other node gives `None`, and so does a comma that follows no argument since the last comma or the start.
-/// An `ERROR` whose first token is a comma counts as a comma. A clause sees the arguments that are left.
+/// The arguments of a call, in order, with `None` where one is missing. Each child node that can be
+/// viewed as an `N` is an argument; any other node gives `None`, and so does a comma that follows
+/// no argument since the last comma or the start. An `ERROR` whose first token is a comma counts as
+/// a comma. A clause sees the arguments that are left.
 #[derive(Drop)]
 pub struct ArgsMaybeEmpty<N: AstNode> {
     left: SyntaxElementChildren,

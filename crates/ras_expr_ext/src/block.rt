@@ -25,12 +25,13 @@ pub enum BlockModifier<T, L> {
     Label(L),
 }
 
-/// The first of these that the block has: `gen` with or without `async`, `async`, `unsafe`, `try` (in a child that can be
-/// viewed as an `M`), `const`, a label.
+/// The first of these that the block has: `gen` with or without `async`, `async`, `unsafe`, `try`
+/// (in a child that can be viewed as an `M`), `const`, a label.
 pub fn block_modifier<M: AstNode + Drop, T: AstNode + Drop, L: AstNode + Drop>(
     block: &SyntaxNode,
 ) -> Option<BlockModifier<T, L>>
-    ensures { option_map (modifier_shape T.node L.node) result ≡ block_modifier M.casts T.casts L.casts block.now }
+    ensures { option_map (modifier_shape T.node L.node) result
+        ≡ block_modifier M.casts T.casts L.casts block.now }
 {
     if let Some(token) = support::token(block, SyntaxKind::GEN_KW) {
         return Some(if support::token(block, SyntaxKind::ASYNC_KW).is_some() {
@@ -61,10 +62,10 @@ pub fn block_modifier<M: AstNode + Drop, T: AstNode + Drop, L: AstNode + Drop>(
     Some(BlockModifier::Label(support::child(block)?))
 }
 
-/// Whether a block is an expression of its own, and not a part of its parent as the body of a function is. It is if it has
-/// no parent; if the parent is a `for` or an `if` and the block is the first child that can be viewed as an `N`, or there
-/// is no such child; and if the parent is any node except a `for`, `if`, `let` with `else`, function, `while`, `loop` or
-/// constant pattern.
+/// Whether a block is an expression of its own, and not a part of its parent as the body of a
+/// function is. It is if it has no parent; if the parent is a `for` or an `if` and the block is the
+/// first child that can be viewed as an `N`, or there is no such child; and if the parent is any
+/// node except a `for`, `if`, `let` with `else`, function, `while`, `loop` or constant pattern.
 pub fn is_standalone<N: AstNode + Drop>(block: &SyntaxNode) -> bool
     ensures { result ≡ is_standalone N.casts block.now }
 {
@@ -74,9 +75,11 @@ pub fn is_standalone<N: AstNode + Drop>(block: &SyntaxNode) -> bool
     }
 }
 
-// Whether the block is the first child of the parent that can be viewed as an `N`, or there is no such child.
+// Whether the block is the first child of the parent that can be viewed as an `N`, or there is no
+// such child.
 fn is_first<N: AstNode + Drop>(block: &SyntaxNode, parent: &SyntaxNode) -> bool
-    ensures { result ≡ option_map_or (λ e. is_same_cursor e block.now) (typed_child N.casts parent.now) true }
+    ensures { result
+        ≡ option_map_or (λ e. is_same_cursor e block.now) (typed_child N.casts parent.now) true }
 {
     match support::child::<N>(parent) {
         Some(first) => first.syntax() == block,

@@ -12,7 +12,8 @@ use Rattle.ras_front_end.specs.declared.edition.Entry.TheVariants.{SourceFile, E
 use Rattle.ras_front_end.specs.Fault.{LiesIn}
 use Rattle.ras_front_end.specs.Reading.{Reading, events_from, Cuts, stored_faults}
 
--- the steps cut the whole text and build one tree, whose root has such a kind; the errors are within the text
+-- the steps cut the whole text and build one tree, whose root has such a kind; the errors are
+-- within the text
 pub record Keeps (is_root : SyntaxKind → Type 0) (input : List ℕ) (r : Reading) : Type 0 where
   pub tree : Tree
   pub cuts : Cuts r.steps input
@@ -20,7 +21,8 @@ pub record Keeps (is_root : SyntaxKind → Type 0) (input : List ℕ) (r : Readi
   pub root : is_root (kind_of tree)
   pub in_text : All (LiesIn (length input)) (stored_faults r)
 
--- the kinds that a root may have: a file's own, and those of the views of `Expr`, or ERROR if the text is not an expression
+-- the kinds that a root may have: a file's own, and those of the views of `Expr`, or ERROR if the
+-- text is not an expression
 abbrev pub IsRootOf : Entry → SyntaxKind → Type 0
 IsRootOf SourceFile k = k ≡ Node kind.SOURCE_FILE
 IsRootOf Expr k = IsTrue (is_expr k) ⊎ (k ≡ Token token.ERROR)

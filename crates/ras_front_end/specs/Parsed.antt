@@ -14,8 +14,8 @@ pub record Parsed : Type 0 where
 abbrev pub parsed_code : Coded Parsed
 parsed_code = code_by (Tree × List Fault) (coded× tree_code (coded_list fault_code)) (λ p. (p.tree, p.errors)) (λ p. record { tree = p.0; errors = p.1 }) (λ _. refl)
 
--- the tree is that of the reading's steps, its text is the text that was given, and the errors are those of the steps and
--- then the lexer's
+-- the tree is that of the reading's steps, its text is the text that was given, and the errors are
+-- those of the steps and then the lexer's
 pub record IsParseOf (input : List ℕ) (r : Reading) (p : Parsed) : Type 0 where
   pub builds : BuildsNode (events_from r.steps input) p.tree
   pub text_is : text p.tree ≡ input

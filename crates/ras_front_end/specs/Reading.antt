@@ -1,4 +1,5 @@
--- The results of a front end, without the memory that they take: steps, whose tokens have lengths, and the lexer's errors.
+-- The results of a front end, without the memory that they take: steps, whose tokens have lengths,
+-- and the lexer's errors.
 use Rattle.std.specs.Prelude.{◌≡◌, ℕ, ◌≤◌, List, [], ◌∷◌, ◌++◌, length, take, drop, option_map, IsUtf8, String, string_bytes, Option}
 use Rattle.std.specs.Box.{box_value}
 use Rattle.syntax_kind.specs.declared.syntax_kind.SyntaxKind.{SyntaxKind}

@@ -7,7 +7,8 @@ use syntax_kind::SyntaxKind;
 pub enum Entry {
     /// A file: the root is a `SOURCE_FILE`.
     SourceFile,
-    /// An expression: the root is a node of an expression, or `ERROR` if the text is not an expression.
+    /// An expression: the root is a node of an expression, or `ERROR` if the text is not an
+    /// expression.
     Expr,
 }
 
@@ -29,7 +30,8 @@ impl Edition {
     pub const CURRENT: Edition = Edition::Edition2024;
 }
 
-/// A way to re-parse a node by itself, as returned by [`FrontEnd::reparser`](crate::FrontEnd::reparser).
+/// A way to re-parse a node by itself, as returned by
+/// [`FrontEnd::reparser`](crate::FrontEnd::reparser).
 #[derive(Clone, Copy, Debug, PartialEq, Eq, Hash)]
 pub struct Reparser {
     /// The kind of the node, before and after the re-parse.

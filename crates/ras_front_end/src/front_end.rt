@@ -10,8 +10,9 @@ use syntax_kind::SyntaxKind;
 
 /// A lexer and a parser. Each result, except out of memory, is a function of the arguments.
 ///
-/// An implementation proves the law `kept`: for a text of at most 4,294,967,295 bytes the steps build one tree over the whole
-/// text, whose root is of the entry's kind, and the errors are in the text; the same holds for a piece that is parsed again.
+/// An implementation proves the law `kept`: for a text of at most 4,294,967,295 bytes the steps
+/// build one tree over the whole text, whose root is of the entry's kind, and the errors are in the
+/// text; the same holds for a piece that is parsed again.
 pub trait FrontEnd {
     // The results, as functions of the arguments.
     ghost answers: { Self → Front };
@@ -33,19 +34,23 @@ pub trait FrontEnd {
         text: &str,
         edition: Edition,
     ) -> Result<Output, AllocError>
-        ensures { IfOk result (λ output. reading_of output ≡ (answers self.now).parsed entry edition text.now) };
+        ensures { IfOk result
+            (λ output. reading_of output ≡ (answers self.now).parsed entry edition text.now) };
 
-    /// The kind of a text that is exactly one token, with the lexer's error if there is one; `None` if it is not one token.
+    /// The kind of a text that is exactly one token, with the lexer's error if there is one; `None`
+    /// if it is not one token.
     fn single_token(
         &self,
         alloc: Global,
         text: &str,
         edition: Edition,
     ) -> Result<Option<(SyntaxKind, Option<String>)>, AllocError>
-        ensures { IfOk result (λ token. option_map single_of token ≡ (answers self.now).single edition text.now) };
+        ensures { IfOk result
+            (λ token. option_map single_of token ≡ (answers self.now).single edition text.now) };
 
-    /// The rule by which a node of this kind can be re-parsed by itself, or `None` if it cannot be. `first_child` is the
-    /// kind of its first child, node or token, and `parent` that of its parent.
+    /// The rule by which a node of this kind can be re-parsed by itself, or `None` if it cannot be.
+    /// `first_child` is the kind of its first child, node or token, and `parent` that of its
+    /// parent.
     fn reparser(
         &self,
         kind: SyntaxKind,
@@ -54,8 +59,9 @@ pub trait FrontEnd {
     ) -> Option<Reparser>
         ensures { result ≡ (answers self.now).chosen kind first_child parent };
 
-    /// Parses a piece by a reparser that [`FrontEnd::reparser`] returned. The text begins with `{`, ends with `}`, and the
-    /// braces between balance. The result is arbitrary for any other text, and for one longer than 4,294,967,295 bytes.
+    /// Parses a piece by a reparser that [`FrontEnd::reparser`] returned. The text begins with `{`,
+    /// ends with `}`, and the braces between balance. The result is arbitrary for any other text,
+    /// and for one longer than 4,294,967,295 bytes.
     fn parse_piece(
         &self,
         alloc: Global,
@@ -63,13 +69,15 @@ pub trait FrontEnd {
         text: &str,
         edition: Edition,
     ) -> Result<Output, AllocError>
-        ensures { IfOk result (λ output. reading_of output ≡ (answers self.now).piece reparser edition text.now) };
+        ensures { IfOk result
+            (λ output. reading_of output ≡ (answers self.now).piece reparser edition text.now) };
 
     /// The kind of a text that is a keyword in the edition, or `None` if it is not one.
     fn keyword(&self, text: &str, edition: Edition) -> Option<SyntaxKind>
         ensures { result ≡ (answers self.now).word edition text.now };
 
-    /// Whether a kind is that of a strict keyword: a word that can be an identifier only after `r#`.
+    /// Whether a kind is that of a strict keyword: a word that can be an identifier only after
+    /// `r#`.
     fn is_strict_keyword(&self, kind: SyntaxKind, edition: Edition) -> bool
         ensures { result ≡ (answers self.now).is_strict edition kind };
 

@@ -1,4 +1,5 @@
-//! The interface of a lexer and a parser from which trees are built, and the errors that they report.
+//! The interface of a lexer and a parser from which trees are built, and the errors that they
+//! report.
 #![tactic(auto)]
 
 mod edition;

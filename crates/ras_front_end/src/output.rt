@@ -13,8 +13,8 @@ pub enum Step {
     Token(SyntaxKind, TextSize),
     /// Leaves the node that was entered last and is still open.
     Exit,
-    /// The parser's error at a position of the text, counted in bytes from its start. The message is in a box, so that a step has 16
-    /// bytes.
+    /// The parser's error at a position of the text, counted in bytes from its start. The message
+    /// is in a box, so that a step has 16 bytes.
     Error(TextSize, Box<String>),
 }
 

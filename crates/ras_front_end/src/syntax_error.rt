@@ -8,7 +8,8 @@ use std::hash::{Hash, Hasher};
 use std::marker::Model;
 use text_size::{TextRange, TextSize};
 
-/// An error message and the range of the text that it is about. A clause sees the message's bytes and the range.
+/// An error message and the range of the text that it is about. A clause sees the message's bytes
+/// and the range.
 ///
 /// Two are equal where message and range are. It prints as its message.
 #[derive(Debug, Drop)]

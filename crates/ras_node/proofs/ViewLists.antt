@@ -1,4 +1,5 @@
--- The first and the last of a list of cursors: what a filter keeps, what a search finds, and what comes last.
+-- The first and the last of a list of cursors: what a filter keeps, what a search finds, and what
+-- comes last.
 use Rattle.std.proofs.Common.{◌≡◌, List, [], ◌∷◌, cond, Bool, true, false, refl, sym, ap, ◌∙◌}
 use Rattle.std.specs.Prelude.{Some, None, Option, option_map, map}
 use Rattle.std.specs.Iterator.{Drains, YieldsFirstBy}

@@ -1,5 +1,5 @@
--- The results of lookups: the first, the second or all of a node's children that can be viewed as one type.
--- (Upstream: `support::child` and `support::children` of rust-analyzer's `ast`.)
+-- The results of lookups: the first, the second or all of a node's children that can be viewed as
+-- one type. (Upstream: `support::child` and `support::children` of rust-analyzer's `ast`.)
 use Rattle.std.specs.Prelude.{◌≡◌, Bool, List, [], Option, Some, None, option_map, if◌then◌else◌}
 use Rattle.std.specs.List.{slice_get, last_or}
 use Rattle.std.specs.Option.{option_or, option_and_then, option_map_or}
@@ -34,7 +34,8 @@ typed_child_in outer kinds c = option_and_then (typed_child kinds) (typed_child 
 abbrev pub typed_children_in : (SyntaxKind → Bool) → (SyntaxKind → Bool) → Cursor → List Cursor
 typed_children_in outer kinds c = option_map_or (typed_children kinds) (typed_child outer c) []
 
--- the body of a loop among its blocks: for a `for` or a `while` the second, or else the first; for a `loop` the first
+-- the body of a loop among its blocks: for a `for` or a `while` the second, or else the first; for
+-- a `loop` the first
 abbrev pub loop_body : (SyntaxKind → Bool) → Cursor → Option Cursor
 loop_body blocks c =
     if is_same_kind (kind_at c) (Node LOOP_EXPR) then typed_child blocks c else option_or (second_typed_child blocks c) (typed_child blocks c)

@@ -1,5 +1,5 @@
--- Sets of kinds: operators (Rust Reference, "Operator expressions"), and kinds that may precede a part that is searched
--- for.
+-- Sets of kinds: operators (Rust Reference, "Operator expressions"), and kinds that may precede a
+-- part that is searched for.
 use Rattle.std.specs.Prelude.{Bool, true, false}
 use Rattle.syntax_kind.specs.declared.syntax_kind.SyntaxKind.{SyntaxKind}
 use Rattle.syntax_kind.specs.declared.syntax_kind.SyntaxKind.TheVariants.{Node, Token}

@@ -35,7 +35,8 @@ first_node kinds l = find (has_kind_in kinds) (filter at_node l)
 abbrev pub first_token : (SyntaxKind → Bool) → List Cursor → Option Cursor
 first_token kinds l = find (has_kind_in kinds) (filter at_token l)
 
--- the cursors of a list after the first token with a kind of the set; the empty list if there is no such token
+-- the cursors of a list after the first token with a kind of the set; the empty list if there is no
+-- such token
 abbrev pub behind : (SyntaxKind → Bool) → List Cursor → List Cursor
 behind kinds [] = []
 behind kinds (c ∷ l) = if is_token_in kinds c then l else behind kinds l

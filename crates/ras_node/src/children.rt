@@ -8,7 +8,8 @@ use lossless_tree::{SyntaxNode, SyntaxNodeChildren};
 use std::alloc::AllocError;
 use std::marker::{Model, PhantomData};
 
-/// The child nodes of a node that can be viewed as an `N`, in order. A clause sees the nodes that are left.
+/// The child nodes of a node that can be viewed as an `N`, in order. A clause sees the nodes that
+/// are left.
 #[derive(Drop)]
 pub struct AstChildren<N: AstNode> {
     inner: SyntaxNodeChildren,

@@ -8,7 +8,8 @@ use crate::AstToken;
 use either::Either;
 use lossless_tree::{SyntaxKind, SyntaxToken};
 
-/// A view of the kinds of both types; a token that can be viewed as either is viewed as the left one.
+/// A view of the kinds of both types; a token that can be viewed as either is viewed as the left
+/// one.
 impl<L: AstToken, R: AstToken> AstToken for Either<L, R> {
     ghost casts = { λ kind. L.casts kind || R.casts kind };
 

@@ -8,7 +8,8 @@ use crate::AstNode;
 use either::Either;
 use lossless_tree::{SyntaxKind, SyntaxNode};
 
-/// A view of the kinds of both types; a node that can be viewed as either is viewed as the left one.
+/// A view of the kinds of both types; a node that can be viewed as either is viewed as the left
+/// one.
 impl<L: AstNode, R: AstNode> AstNode for Either<L, R> {
     ghost casts = { λ kind. L.casts kind || R.casts kind };
 

@@ -1,5 +1,5 @@
-//! The traits of typed views of nodes and tokens, sets of kinds, and searches for the children of a node by type or kind.
-//! No call takes memory, but for `AstNode::clone_subtree`.
+//! The traits of typed views of nodes and tokens, sets of kinds, and searches for the children of a
+//! node by type or kind. No call takes memory, but for `AstNode::clone_subtree`.
 #![tactic(auto)]
 
 pub mod children;

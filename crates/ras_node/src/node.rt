@@ -39,7 +39,8 @@ pub trait AstNode: Sized {
     fn syntax(&self) -> &SyntaxNode
         ensures { result.now ≡ node self.now };
 
-    /// The view, as `cast` gives it, of the root of a new tree that equals this node's subtree, with a text of its own.
+    /// The view, as `cast` gives it, of the root of a new tree that equals this node's subtree,
+    /// with a text of its own.
     ///
     /// It takes time and memory linear in the subtree.
     final fn clone_subtree(&self, alloc: Global) -> Result<Self, AllocError>
@@ -55,7 +56,8 @@ pub trait AstNode: Sized {
     ghost castable: { (it : Self) → casts (kind_at (node it)) ≡ true };
 }
 
-/// Like [`AstNode::cast`], but borrows the node: its view, or `None` if it is of another kind. It takes no memory.
+/// Like [`AstNode::cast`], but borrows the node: its view, or `None` if it is of another kind. It
+/// takes no memory.
 pub fn cast_ref<N: AstNode>(syntax: &SyntaxNode) -> Option<N>
     ensures exact { is_some result ≡ N.casts (kind_at syntax.now) }
     ensures same { IfSome result (λ it. N.node it ≡ syntax.now) }

@@ -7,7 +7,8 @@ ghost use Rattle.ras_node.specs.Searches.{is_node_among, is_token_among, is_othe
 use crate::sets::KindSet;
 use lossless_tree::{NodeOrToken, SyntaxElement, SyntaxElementChildren, SyntaxNode, SyntaxToken};
 
-// Whether an element is a node, or a token, with a kind of the set; whether its kind is not in the set.
+// Whether an element is a node, or a token, with a kind of the set; whether its kind is not in the
+// set.
 fn is_node_among<S: KindSet>(element: &SyntaxElement) -> bool
     ensures { result ≡ is_node_among S.kinds element.now }
 {

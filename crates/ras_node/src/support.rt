@@ -88,7 +88,8 @@ pub fn first<N: AstNode>(left: SyntaxElementChildren) -> Option<N>
     N::cast(search::first_node::<KindsOf<N>>(left)?)
 }
 
-/// The first of some children that can be viewed as an `N`, if it is before the first token with a kind of the set.
+/// The first of some children that can be viewed as an `N`, if it is before the first token with a
+/// kind of the set.
 pub fn first_before<N: AstNode, T: KindSet>(left: SyntaxElementChildren) -> Option<N>
     ensures { option_map N.node result ≡ first_node N.casts (before T.kinds left) }
 {
@@ -120,14 +121,16 @@ pub fn view<N: AstNode>(node: Option<SyntaxNode>) -> Option<N>
     N::cast(node?)
 }
 
-/// The parent of a node, viewed as an `N`, or `None` if there is none or if it can't be cast to this view.
+/// The parent of a node, viewed as an `N`, or `None` if there is none or if it can't be cast to
+/// this view.
 pub fn parent_as<N: AstNode>(node: &SyntaxNode) -> Option<N>
     ensures { option_map N.node result ≡ view_in N.casts (parent_of node.now) }
 {
     view(node.parent())
 }
 
-/// The parent's parent, viewed as an `N`, or `None` if there is none or if it can't be cast to this view.
+/// The parent's parent, viewed as an `N`, or `None` if there is none or if it can't be cast to this
+/// view.
 pub fn grandparent_as<N: AstNode>(node: &SyntaxNode) -> Option<N>
     ensures { option_map N.node result ≡ view_in N.casts (grandparent_of node.now) }
 {
@@ -136,7 +139,8 @@ pub fn grandparent_as<N: AstNode>(node: &SyntaxNode) -> Option<N>
 
 /// The nearest node above a node that can be viewed as an `N`, or `None` if there is none.
 pub fn ancestor_as<N: AstNode>(node: &SyntaxNode) -> Option<N>
-    ensures { option_map N.node result ≡ find (has_kind_in N.casts) (drop 1 (ancestors_of node.now)) }
+    ensures { option_map N.node result
+        ≡ find (has_kind_in N.casts) (drop 1 (ancestors_of node.now)) }
 {
     let mut above = node.ancestors();
     let _itself = above.next();

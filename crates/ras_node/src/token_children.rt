@@ -25,7 +25,8 @@ fn token_among<S: KindSet>(element: SyntaxElement) -> Option<SyntaxToken>
     }
 }
 
-/// The children of a node that are tokens with a kind of the set, in order. A clause sees the tokens that are left.
+/// The children of a node that are tokens with a kind of the set, in order. A clause sees the
+/// tokens that are left.
 #[derive(Drop)]
 pub struct TokenChildren<S: KindSet> {
     left: SyntaxElementChildren,

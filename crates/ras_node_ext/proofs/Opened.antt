@@ -1,4 +1,5 @@
--- A walk that passes over what is below each node that is no `cfg_attr` comes to the metas to which the top opens.
+-- A walk that passes over what is below each node that is no `cfg_attr` comes to the metas to which
+-- the top opens.
 use Rattle.std.proofs.Common.{◌≡◌, ℕ, suc, ◌+◌, ◌≤◌, ◌<◌, ◌++◌, Bool, true, false, ◌&&◌, ◌||◌, cond, List, [], ◌∷◌, map, length, Option, Some, None, Decides, refl, sym, ap, subst, ◌∙◌, arith, append_assoc, length-append}
 use Rattle.std.proofs.lemmas.List.{append-nil, map-append}
 use Rattle.std.specs.Prelude.{if◌then◌else◌, option_map, not, drop}
@@ -18,7 +19,8 @@ use Rattle.lossless_tree.specs.WalkEvent.{node_event}
 use Rattle.ras_node.specs.Nodes.{kind_at, has_kind_in}
 use Rattle.ras_node_ext.specs.Metas.{is_cfg_attr, reaches, is_opened, opened}
 
--- what the walk keeps from here on, and the node below which it passes over what is there, if it does
+-- what the walk keeps from here on, and the node below which it passes over what is there, if it
+-- does
 abbrev pub kept : (SyntaxKind → Bool) → Option Cursor → List (WalkEvent Cursor) → List Cursor
 kept metas past [] = []
 kept metas None (Enter c ∷ w) = if is_cfg_attr c then kept metas None w else filter (has_kind_in metas) (c ∷ []) ++ kept metas (Some c) w

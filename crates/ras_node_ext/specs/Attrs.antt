@@ -1,5 +1,6 @@
--- The attributes and documentation comments of a node, and the node that holds its inner ones. (Rust Reference,
--- "Attributes": an inner attribute, `#![..]`, applies to the item that it is in, an outer one to the item that follows it.)
+-- The attributes and documentation comments of a node, and the node that holds its inner ones.
+-- (Rust Reference, "Attributes": an inner attribute, `#![..]`, applies to the item that it is in,
+-- an outer one to the item that follows it.)
 use Rattle.std.specs.Prelude.{◌≡◌, map, option_map, Bool, true, false, not, ◌||◌, List, [], ◌++◌, Option, Some, None, is_some, if◌then◌else◌}
 use Rattle.std.specs.Option.{option_and_then, option_map_or}
 use Rattle.std.specs.List.{filter, find}
@@ -41,9 +42,9 @@ node_child k c = find (is_of_kind k) (filter at_node (children_of c))
 abbrev pub may_carry_attributes : Cursor → Bool
 may_carry_attributes c = option_map_or (λ p. is_of_kind (Node kind.BLOCK_EXPR) p || is_of_kind (Node kind.EXPR_STMT) p) (parent_of c) false
 
--- the node that holds the inner attributes of an owner: a file itself, and a block itself if it can have some; for a
--- function the statement list of its body; for an extern block, a `match`, an implementation, a trait and a module the list
--- in it
+-- the node that holds the inner attributes of an owner: a file itself, and a block itself if it can
+-- have some; for a function the statement list of its body; for an extern block, a `match`, an
+-- implementation, a trait and a module the list in it
 abbrev pub inner_holder_by : SyntaxKind → Cursor → Option Cursor
 inner_holder_by (Node kind.SOURCE_FILE) c = Some c
 inner_holder_by (Node kind.EXTERN_BLOCK) c = node_child (Node kind.EXTERN_ITEM_LIST) c
@@ -62,7 +63,8 @@ inner_holder c = inner_holder_by (kind_at c) c
 abbrev pub attrs_source : {I V : Type 0} → AttrsIter I V → I
 attrs_source s = s.iter
 
--- the source gave some that cannot be viewed so, and then what the call gives: the same node, or its end
+-- the source gave some that cannot be viewed so, and then what the call gives: the same node, or
+-- its end
 abbrev pub GivesAttr : {I V A B : Type 0} → (A → Cursor) → (SyntaxKind → Bool) → (B → Cursor) → (I → Option A → I → Type 0)
     → AttrsIter I V → Option B → AttrsIter I V → Type 0
 GivesAttr {A = A} node casts view steps s r t =

@@ -1,4 +1,5 @@
--- The lifetimes among bounds: `'b` and `'c` of `'a: 'b + 'c`. (Rust Reference, "Trait and lifetime bounds".)
+-- The lifetimes among bounds: `'b` and `'c` of `'a: 'b + 'c`. (Rust Reference, "Trait and lifetime
+-- bounds".)
 use Rattle.std.specs.Prelude.{Bool, List, [], Option}
 use Rattle.std.specs.List.{filter_map}
 use Rattle.std.specs.Option.{option_and_then, option_map_or}

@@ -1,5 +1,5 @@
--- The metas of attributes, through `cfg_attr` and `unsafe`.
--- (Rust Reference, "The `cfg_attr` attribute": it is the attributes that it lists, which may be `cfg_attr`s again.)
+-- The metas of attributes, through `cfg_attr` and `unsafe`. (Rust Reference, "The `cfg_attr`
+-- attribute": it is the attributes that it lists, which may be `cfg_attr`s again.)
 use Rattle.std.specs.Prelude.{◌≡◌, ℕ, Bool, true, false, not, ◌&&◌, ◌||◌, List, [], ◌∷◌, Option, Some, None, option_map, is_some, codes, drop, if◌then◌else◌}
 use Rattle.std.specs.Option.{option_and_then}
 use Rattle.std.specs.List.{filter, find}
@@ -14,7 +14,8 @@ use Rattle.ras_node.specs.Nodes.{kind_at, is_of_kind, typed_child}
 abbrev pub is_cfg_attr : Cursor → Bool
 is_cfg_attr c = is_of_kind (Node kind.CFG_ATTR_META) c
 
--- among the nodes above a node, the innermost first: up to `top`, itself included, all are `cfg_attr`s
+-- among the nodes above a node, the innermost first: up to `top`, itself included, all are
+-- `cfg_attr`s
 abbrev pub reaches : Cursor → List Cursor → Bool
 reaches top [] = false
 reaches top (a ∷ above) = is_cfg_attr a && (is_same_cursor a top || reaches top above)
@@ -31,7 +32,8 @@ opened metas top = filter (is_opened metas top) (filter at_node (descendants_of 
 abbrev pub is_unsafe : Cursor → Bool
 is_unsafe c = is_of_kind (Node kind.UNSAFE_META) c
 
--- d is the meta inside the `unsafe`s around c: c itself if it is not one; None if an `unsafe` has no meta in it
+-- d is the meta inside the `unsafe`s around c: c itself if it is not one; None if an `unsafe` has
+-- no meta in it
 pub data IsInnermost (metas : SyntaxKind → Bool) : Cursor → Option Cursor → Type 0 where
   itself : {c : Cursor} → is_unsafe c ≡ false → IsInnermost metas c (Some c)
   empty : {c : Cursor} → is_unsafe c ≡ true → typed_child metas c ≡ None → IsInnermost metas c None

@@ -1,5 +1,6 @@
--- The parts of items, patterns, types, names and paths that need more than a search for the first child of a kind: cursors
--- among the children of a node, and above it. (Upstream: `ast::node_ext` of rust-analyzer's `syntax`.)
+-- The parts of items, patterns, types, names and paths that need more than a search for the first
+-- child of a kind: cursors among the children of a node, and above it. (Upstream: `ast::node_ext`
+-- of rust-analyzer's `syntax`.)
 use Rattle.std.specs.Prelude.{Bool, true, false, not, ◌&&◌, List, [], ◌∷◌, Option, Some, None, option_map, is_some, nat_lt, nat_eq, drop, if◌then◌else◌}
 use Rattle.std.specs.List.{find, slice_get}
 use Rattle.std.specs.Option.{option_and_then, option_or, option_map_or}
@@ -18,8 +19,8 @@ use Rattle.ras_node.specs.Nodes.{kind_at, is_of_kind, has_kind_in, typed_child, 
 abbrev pub if_kind : SyntaxKind → Cursor → Option Cursor
 if_kind kind c = if is_of_kind kind c then Some c else None
 
--- an impl's trait, by its `for` and its types: the first type if it starts before the `for`; and the type that it is for:
--- the one after the trait, or without a trait the first
+-- an impl's trait, by its `for` and its types: the first type if it starts before the `for`; and
+-- the type that it is for: the one after the trait, or without a trait the first
 abbrev pub impl_trait : Option Cursor → List Cursor → Option Cursor
 impl_trait None types = None
 impl_trait (Some f) [] = None

@@ -1,5 +1,5 @@
--- The patterns in a slice pattern: `a` and `b` before the `..` of `[a, b, rest @ .., c]`, and `c` after it.
--- (Rust Reference, "Slice patterns", "Rest patterns".)
+-- The patterns in a slice pattern: `a` and `b` before the `..` of `[a, b, rest @ .., c]`, and `c`
+-- after it. (Rust Reference, "Slice patterns", "Rest patterns".)
 use Rattle.std.specs.Prelude.{Bool, false, ◌||◌, ◌&&◌, List, [], ◌∷◌, if◌then◌else◌}
 use Rattle.std.specs.Option.{option_map_or}
 use Rattle.syntax_kind.specs.declared.syntax_kind.SyntaxKind.{SyntaxKind}

@@ -37,7 +37,8 @@ abbrev pub inner_part : (trees : SyntaxKind → Bool) → NodeOrToken Cursor Cur
 inner_part trees (Node c) = as_tree trees c
 inner_part trees (Token c) = if is_passed_over (kind_at c) then None else Some (Token c)
 
--- the children of a token tree: all; and without the first, whatever it is, and the elements that are skipped
+-- the children of a token tree: all; and without the first, whatever it is, and the elements that
+-- are skipped
 abbrev pub trees_and_tokens : (trees : SyntaxKind → Bool) → List (NodeOrToken Cursor Cursor) → List (NodeOrToken Cursor Cursor)
 trees_and_tokens trees elements = filter_map (tree_or_token trees) elements
 

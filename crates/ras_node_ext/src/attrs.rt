@@ -10,7 +10,8 @@ use ras_node::{AstChildren, AstNode, support};
 use std::alloc::AllocError;
 use std::marker::{Model, PhantomData};
 
-/// Whether an attribute has a `!`, or a documentation comment an inner comment token; `false` for other nodes.
+/// Whether an attribute has a `!`, or a documentation comment an inner comment token; `false` for
+/// other nodes.
 pub fn is_inner(node: &SyntaxNode) -> bool
     ensures { result ≡ is_inner node.now }
 {
@@ -32,8 +33,8 @@ fn stands(inner: bool, node: &SyntaxNode) -> bool
     }
 }
 
-/// The inner attributes and documentation comments among the children of a node, or the outer ones, in order. A clause sees
-/// the nodes that are left.
+/// The inner attributes and documentation comments among the children of a node, or the outer ones,
+/// in order. A clause sees the nodes that are left.
 #[derive(Drop)]
 pub struct AttrNodes<A: AstNode> {
     left: AstChildren<A>,
@@ -98,8 +99,8 @@ impl<A: AstNode + Drop> Iterator for AttrNodes<A> {
     }
 }
 
-/// The outer attributes and documentation comments of an owner, and then the inner ones, in order. A clause sees the nodes
-/// that are left.
+/// The outer attributes and documentation comments of an owner, and then the inner ones, in order.
+/// A clause sees the nodes that are left.
 #[derive(Drop)]
 pub struct AttrsWithDoc<A: AstNode> {
     outer: AttrNodes<A>,
@@ -119,7 +120,8 @@ impl<A: AstNode> Model for AttrsWithDoc<A> {
 }
 
 impl<A: AstNode> AttrsWithDoc<A> {
-    /// The attributes and documentation comments of an owner, and of the node that holds its inner ones.
+    /// The attributes and documentation comments of an owner, and of the node that holds its inner
+    /// ones.
     pub fn new(owner: &SyntaxNode, holder: Option<SyntaxNode>) -> AttrsWithDoc<A>
         ensures { result ≡ attrs_with_inner A.casts owner.now holder }
     {
@@ -167,8 +169,8 @@ impl<A: AstNode + Drop> Iterator for AttrsWithDoc<A> {
     }
 }
 
-/// The nodes that an iterator of attributes and documentation comments gives, those that can be viewed as a `T`, in order. It ends where
-/// that iterator ends.
+/// The nodes that an iterator of attributes and documentation comments gives, those that can be
+/// viewed as a `T`, in order. It ends where that iterator ends.
 #[derive(Drop)]
 pub struct AttrsIter<I, T> {
     iter: I,

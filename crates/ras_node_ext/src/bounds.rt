@@ -54,7 +54,8 @@ impl<B: AstNode + Drop, L: AstNode + Drop> Iterator for InList<B, L> {
     }
 }
 
-/// The lifetimes among the bounds in a list, in order, as tokens. A clause sees the tokens that are left.
+/// The lifetimes among the bounds in a list, in order, as tokens. A clause sees the tokens that are
+/// left.
 #[derive(Drop)]
 pub struct LifetimeBounds<B: AstNode, L: AstNode> {
     left: Option<InList<B, L>>,

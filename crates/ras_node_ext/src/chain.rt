@@ -8,7 +8,8 @@ ghost use Rattle.ras_node_ext.specs.Path.{IsFirstQualifier, IsQualifierEnd, top_
 use lossless_tree::SyntaxNode;
 use ras_node::{AstNode, support};
 
-/// The end of the chain of qualifiers, first children that are paths; the path itself if it has none.
+/// The end of the chain of qualifiers, first children that are paths; the path itself if it has
+/// none.
 pub fn first_qualifier_or_self<P: AstNode + Drop>(path: P) -> P
     ensures { IsFirstQualifier P.casts (P.node path) (P.node result) }
 {
@@ -29,7 +30,8 @@ pub fn first_qualifier<P: AstNode + Drop>(path: &P) -> Option<P>
     }
 }
 
-/// The outermost path that a path is a qualifier of, directly or not; the path itself if it is not a qualifier.
+/// The outermost path that a path is a qualifier of, directly or not; the path itself if it is not
+/// a qualifier.
 pub fn top_path<P: AstNode + Drop>(path: P) -> P
     ensures { P.node result ≡ top_from P.casts (P.node path) (drop 1 (ancestors_of (P.node path))) }
 {
@@ -47,7 +49,9 @@ pub fn top_path<P: AstNode + Drop>(path: P) -> P
 
 // The use tree that a list belongs to, if its parent is one.
 fn tree_of<L: AstNode, T: AstNode>(list: &SyntaxNode, tree: Option<SyntaxNode>) -> Option<T>
-    ensures { option_map T.node result ≡ option_and_then (λ t. if L.casts (kind_at list.now) && T.casts (kind_at t) then Some t else None) tree }
+    ensures { option_map T.node result
+        ≡ option_and_then
+        (λ t. if L.casts (kind_at list.now) && T.casts (kind_at t) then Some t else None) tree }
 {
     if !L::can_cast(list.kind()) {
         return None;
@@ -55,9 +59,11 @@ fn tree_of<L: AstNode, T: AstNode>(list: &SyntaxNode, tree: Option<SyntaxNode>) 
     support::view(tree)
 }
 
-/// The outermost use tree around a use tree, through lists of use trees; the tree itself if it is not in such a list.
+/// The outermost use tree around a use tree, through lists of use trees; the tree itself if it is
+/// not in such a list.
 pub fn top_use_tree<L: AstNode, T: AstNode + Drop>(tree: T) -> T
-    ensures { T.node result ≡ top_tree_from L.casts T.casts (T.node tree) (drop 1 (ancestors_of (T.node tree))) }
+    ensures { T.node result
+        ≡ top_tree_from L.casts T.casts (T.node tree) (drop 1 (ancestors_of (T.node tree))) }
 {
     let mut above = tree.syntax().ancestors();
     let _itself = above.next();

@@ -26,7 +26,8 @@ fn node_child(parent: &SyntaxNode, kind: SyntaxKind) -> Option<SyntaxNode>
     None
 }
 
-/// Whether a block's parent is a block expression or an expression statement, so that attributes may be in it.
+/// Whether a block's parent is a block expression or an expression statement, so that attributes
+/// may be in it.
 pub fn may_carry_attributes(block: &SyntaxNode) -> bool
     ensures { result ≡ may_carry_attributes block.now }
 {
@@ -39,9 +40,10 @@ pub fn may_carry_attributes(block: &SyntaxNode) -> bool
     }
 }
 
-/// The node that holds the inner attributes of `owner`. A file holds its own, and so does a block that can have some. For a
-/// function it is the statement list of its body; for an extern block, a `match`, an implementation, a trait and a module
-/// it is the list in it. `None` for other nodes, and if that part is missing.
+/// The node that holds the inner attributes of `owner`. A file holds its own, and so does a block
+/// that can have some. For a function it is the statement list of its body; for an extern block, a
+/// `match`, an implementation, a trait and a module it is the list in it. `None` for other nodes,
+/// and if that part is missing.
 pub fn inner_attributes_node(owner: &SyntaxNode) -> Option<SyntaxNode>
     ensures { result ≡ inner_holder owner.now }
 {

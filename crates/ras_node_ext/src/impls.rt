@@ -5,8 +5,8 @@ ghost use Rattle.ras_node_ext.specs.NodeParts.{trait_of, self_type_of};
 use lossless_tree::{SyntaxKind, SyntaxNode};
 use ras_node::{AstNode, support};
 
-/// The trait of an impl: the first child that can be viewed as an `N`, if it starts before the `for`, or `None` if there is no
-/// `for`.
+/// The trait of an impl: the first child that can be viewed as an `N`, if it starts before the
+/// `for`, or `None` if there is no `for`.
 pub fn trait_of<N: AstNode + Drop>(parent: &SyntaxNode) -> Option<N>
     ensures { option_map N.node result ≡ trait_of N.casts parent.now }
 {
@@ -19,8 +19,8 @@ pub fn trait_of<N: AstNode + Drop>(parent: &SyntaxNode) -> Option<N>
     }
 }
 
-/// The type that an impl is for. Among the children that can be viewed as an `N`, it is the second if the first starts
-/// before the `for`, otherwise the first.
+/// The type that an impl is for. Among the children that can be viewed as an `N`, it is the second
+/// if the first starts before the `for`, otherwise the first.
 pub fn self_type_of<N: AstNode + Drop>(parent: &SyntaxNode) -> Option<N>
     ensures { option_map N.node result ≡ self_type_of N.casts parent.now }
 {

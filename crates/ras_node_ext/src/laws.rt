@@ -9,8 +9,8 @@ ghost use Rattle.ras_node_ext.specs.Attrs.{attrs_source, GivesAttr};
 
 use ras_node::AstNode;
 
-/// Where a list says which nodes are left in the source of an [`AttrsIter`](crate::AttrsIter), those that the `AttrsIter` gives are, in
-/// order, those of the list that can be viewed.
+/// Where a list says which nodes are left in the source of an [`AttrsIter`](crate::AttrsIter),
+/// those that the `AttrsIter` gives are, in order, those of the list that can be viewed.
 pub fn attributes_are_those_of_the_source<I, A: AstNode, T: AstNode>()
     ensures { (rest : I → List Cursor) (s t : AttrsIter I T) (r : Option T)
         → GivesAttr A.node T.casts T.node (YieldsFirstBy A.node rest) s r t

@@ -1,6 +1,7 @@
-//! Parts of nodes that need more than a search for the first child of a kind: qualifiers and segments of paths, attributes
-//! and their metas, bounds, slice patterns, token trees. The types of the views are parameters. No call takes memory but
-//! `skip_cfg_attrs`, `meta_name`, `owned` and `slice_components`. (Upstream: `ast::node_ext` of rust-analyzer's `syntax`.)
+//! Parts of nodes that need more than a search for the first child of a kind: qualifiers and
+//! segments of paths, attributes and their metas, bounds, slice patterns, token trees. The types of
+//! the views are parameters. No call takes memory but `skip_cfg_attrs`, `meta_name`, `owned` and
+//! `slice_components`. (Upstream: `ast::node_ext` of rust-analyzer's `syntax`.)
 #![tactic(auto)]
 
 mod attrs;

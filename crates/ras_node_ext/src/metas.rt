@@ -20,7 +20,8 @@ fn is_cfg_attr(node: &SyntaxNode) -> bool
 
 // Appends the view of a node, if it can be cast.
 fn add_view<M: AstNode + Drop>(views: &mut Vec<M>, node: SyntaxNode) -> Result<(), AllocError>
-    ensures { OnOk result (map M.node views.new.items ≡ map M.node views.old.items ++ filter (has_kind_in M.casts) (node ∷ [])) }
+    ensures { OnOk result (map M.node views.new.items
+        ≡ map M.node views.old.items ++ filter (has_kind_in M.casts) (node ∷ [])) }
 {
     if let Some(view) = M::cast(node) {
         views.push(view)?;
@@ -28,15 +29,15 @@ fn add_view<M: AstNode + Drop>(views: &mut Vec<M>, node: SyntaxNode) -> Result<(
     Ok(())
 }
 
-/// The meta itself, unless it is a `cfg_attr`: then the metas in it, in order, with every nested `cfg_attr` replaced by the
-/// metas in it.
+/// The meta itself, unless it is a `cfg_attr`: then the metas in it, in order, with every nested
+/// `cfg_attr` replaced by the metas in it.
 ///
 /// Takes memory for the result only, and time linear in the nodes and tokens of the meta.
 pub fn skip_cfg_attrs<M: AstNode + Drop>(alloc: Global, meta: M) -> Result<Vec<M>, AllocError>
     ensures { IfOk result (λ metas. map M.node metas.items ≡ opened M.casts (M.node meta)) }
 {
-    // The walk visits a node only if all nodes above it, up to the meta, are `cfg_attr`s: the subtrees of other nodes are
-    // skipped.
+    // The walk visits a node only if all nodes above it, up to the meta, are `cfg_attr`s: the
+    // subtrees of other nodes are skipped.
     let mut metas = Vec::new(alloc);
     let mut events = meta.syntax().preorder();
     let mut past: Option<SyntaxNode> = None;
@@ -66,8 +67,8 @@ fn is_unsafe(node: &SyntaxNode) -> bool
     node.kind() == SyntaxKind::UNSAFE_META
 }
 
-/// The meta inside any number of `unsafe(..)`: the meta itself if it is not `unsafe(..)`, or `None` if one of these has no
-/// meta in it. Takes time linear in their number.
+/// The meta inside any number of `unsafe(..)`: the meta itself if it is not `unsafe(..)`, or `None`
+/// if one of these has no meta in it. Takes time linear in their number.
 pub fn innermost_meta<M: AstNode + Drop>(meta: M) -> Option<M>
     ensures { IsInnermost M.casts (M.node meta) (option_map M.node result) }
 {
@@ -96,8 +97,8 @@ fn own_path<P: AstNode>(meta: &SyntaxNode) -> Option<P>
     support::child(meta)
 }
 
-/// The path of a meta, or of the meta inside an `unsafe(..)`; `None` for a `cfg` and a `cfg_attr`. Takes time linear in the
-/// number of `unsafe`s.
+/// The path of a meta, or of the meta inside an `unsafe(..)`; `None` for a `cfg` and a `cfg_attr`.
+/// Takes time linear in the number of `unsafe`s.
 pub fn meta_path<M: AstNode + Drop, P: AstNode>(meta: M) -> Option<P>
     ensures { IsMetaPath M.casts P.casts (M.node meta) (option_map P.node result) }
 {
@@ -109,7 +110,8 @@ pub fn meta_path<M: AstNode + Drop, P: AstNode>(meta: M) -> Option<P>
 
 /// An owned copy of a text, if there is a text.
 pub fn owned(alloc: Global, text: Option<&str>) -> Result<Option<String>, AllocError>
-    ensures { IfOk result (λ copy. option_map (λ t. string_bytes t) copy ≡ option_map (λ s. s.now) text.entry) }
+    ensures { IfOk result
+        (λ copy. option_map (λ t. string_bytes t) copy ≡ option_map (λ s. s.now) text.entry) }
 {
     match text {
         Some(text) => Ok(Some(String::from_str(alloc, text)?)),
@@ -122,7 +124,8 @@ fn path_word<P: AstNode + Drop, S: AstNode + Drop>(
     alloc: Global,
     path: &P,
 ) -> Result<Option<String>, AllocError>
-    ensures { IfOk result (λ word. option_map (λ t. string_bytes t) word ≡ path_word P.casts S.casts (P.node path.now)) }
+    ensures { IfOk result (λ word. option_map (λ t. string_bytes t) word
+        ≡ path_word P.casts S.casts (P.node path.now)) }
 {
     if has_child::<P>(path.syntax()) {
         return Ok(None);
@@ -143,19 +146,23 @@ fn has_child<N: AstNode + Drop>(parent: &SyntaxNode) -> bool
 }
 
 fn first_token_in<N: AstNode + Drop>(parent: &SyntaxNode) -> Option<SyntaxToken>
-    ensures { result ≡ option_and_then (λ s. find at_token (descendants_of s)) (typed_child N.casts parent.now) }
+    ensures { result
+        ≡ option_and_then (λ s. find at_token (descendants_of s)) (typed_child N.casts parent.now) }
 {
     support::child::<N>(parent)?.syntax().first_token()
 }
 
-/// The name of an attribute: `cfg`, `cfg_attr`, or for others the first word of their path, if that has only one segment.
+/// The name of an attribute: `cfg`, `cfg_attr`, or for others the first word of their path, if that
+/// has only one segment.
 ///
 /// Takes memory for the name.
 pub fn meta_name<M: AstNode + Drop, P: AstNode + Drop, S: AstNode + Drop>(
     alloc: Global,
     meta: &M,
 ) -> Result<Option<String>, AllocError>
-    ensures { IfOk result (λ name. IsMetaName M.casts P.casts S.casts (M.node meta.now) (option_map (λ t. string_bytes t) name)) }
+    ensures { IfOk result (λ name.
+        IsMetaName M.casts P.casts S.casts (M.node meta.now)
+        (option_map (λ t. string_bytes t) name)) }
 {
     if is_cfg_attr(meta.syntax()) {
         return owned(alloc, Some("cfg_attr"));

@@ -7,7 +7,8 @@ use ras_node::{AstNode, support};
 use std::alloc::AllocError;
 use std::marker::Model;
 
-/// The qualifiers of a path, the nearest first: `a::b` and `a` of `a::b::c`. A clause sees the qualifiers that are left.
+/// The qualifiers of a path, the nearest first: `a::b` and `a` of `a::b::c`. A clause sees the
+/// qualifiers that are left.
 #[derive(Drop)]
 pub struct Qualifiers<P: AstNode> {
     next: Option<P>,

@@ -41,8 +41,8 @@ impl<P: AstNode, S: AstNode> Model for Segments<P, S> {
 }
 
 impl<P: AstNode + Drop, S: AstNode> Segments<P, S> {
-    /// The segments of this path, from its deepest qualifier's outwards, while the path around is within the range of this
-    /// one.
+    /// The segments of this path, from its deepest qualifier's outwards, while the path around is
+    /// within the range of this one.
     pub fn new(path: P) -> Segments<P, S>
         ensures { AreSegments P.casts S.casts (P.node path) result }
     {

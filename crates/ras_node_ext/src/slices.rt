@@ -8,7 +8,8 @@ use lossless_tree::{SyntaxKind, SyntaxNode};
 use ras_node::{AstChildren, AstNode, support};
 use std::alloc::{AllocError, Global};
 
-/// The patterns in a slice pattern, split at its first rest pattern: `..`, `rest @ ..`, `&..` or `&rest @ ..`.
+/// The patterns in a slice pattern, split at its first rest pattern: `..`, `rest @ ..`, `&..` or
+/// `&rest @ ..`.
 #[derive(Drop)]
 pub struct SliceComponents<P: AstNode> {
     /// The patterns before the rest pattern; all patterns if there is none.
@@ -62,8 +63,10 @@ fn take_through_rest<P: AstNode + Drop>(
     alloc: Global,
     left: &mut AstChildren<P>,
 ) -> Result<(Vec<P>, Option<P>), AllocError>
-    ensures before { IfOk result (λ taken. map P.node taken.0.items ≡ before_rest P.casts left.old) }
-    ensures rest { IfOk result (λ taken. option_map P.node taken.1 ≡ find (is_rest P.casts) left.old) }
+    ensures before { IfOk result
+        (λ taken. map P.node taken.0.items ≡ before_rest P.casts left.old) }
+    ensures rest { IfOk result
+        (λ taken. option_map P.node taken.1 ≡ find (is_rest P.casts) left.old) }
     ensures left { OnOk result (left.new ≡ behind_rest P.casts left.old) }
 {
     let mut before = Vec::new(alloc);
@@ -87,16 +90,20 @@ fn take_all<P: AstNode + Drop>(alloc: Global, left: AstChildren<P>) -> Result<Ve
     Ok(taken)
 }
 
-/// The patterns among the children of a slice pattern: those before the first rest pattern, that one, and those after it.
+/// The patterns among the children of a slice pattern: those before the first rest pattern, that
+/// one, and those after it.
 ///
 /// Takes memory for the two lists.
 pub fn slice_components<P: AstNode + Drop>(
     alloc: Global,
     slice: &SyntaxNode,
 ) -> Result<SliceComponents<P>, AllocError>
-    ensures prefix { IfOk result (λ parts. map P.node parts.prefix.items ≡ before_rest P.casts (typed_children P.casts slice.now)) }
-    ensures slice { IfOk result (λ parts. option_map P.node parts.slice ≡ find (is_rest P.casts) (typed_children P.casts slice.now)) }
-    ensures suffix { IfOk result (λ parts. map P.node parts.suffix.items ≡ behind_rest P.casts (typed_children P.casts slice.now)) }
+    ensures prefix { IfOk result (λ parts. map P.node parts.prefix.items
+        ≡ before_rest P.casts (typed_children P.casts slice.now)) }
+    ensures slice { IfOk result (λ parts. option_map P.node parts.slice
+        ≡ find (is_rest P.casts) (typed_children P.casts slice.now)) }
+    ensures suffix { IfOk result (λ parts. map P.node parts.suffix.items
+        ≡ behind_rest P.casts (typed_children P.casts slice.now)) }
 {
     let mut left = support::children::<P>(slice);
     let (prefix, rest) = take_through_rest(alloc, &mut left)?;

@@ -57,7 +57,8 @@ fn inner_part<T: AstNode>(element: SyntaxElement) -> Option<NodeOrToken<T, Synta
     }
 }
 
-/// The children of a token tree that are token trees or tokens, in order. A clause sees the children that are left.
+/// The children of a token tree that are token trees or tokens, in order. A clause sees the
+/// children that are left.
 #[derive(Drop)]
 pub struct TokenTreesAndTokens<T: AstNode> {
     left: SyntaxElementChildren,
@@ -109,8 +110,9 @@ impl<T: AstNode> Iterator for TokenTreesAndTokens<T> {
     }
 }
 
-/// The contents of a token tree: its children that are token trees or tokens, in order, without the first child, whatever
-/// it is, and without white space, comments and closing delimiters. A clause sees the children that are left.
+/// The contents of a token tree: its children that are token trees or tokens, in order, without the
+/// first child, whatever it is, and without white space, comments and closing delimiters. A clause
+/// sees the children that are left.
 #[derive(Drop)]
 pub struct TokenTreeChildren<T: AstNode> {
     left: SyntaxElementChildren,

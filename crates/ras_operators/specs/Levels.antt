@@ -1,5 +1,6 @@
--- The precedence of an expression node, and other properties that depend on its kind and its first expression.
--- (Rust Reference, "Expression precedence". Upstream: `ast::prec` of rust-analyzer's `syntax`.)
+-- The precedence of an expression node, and other properties that depend on its kind and its first
+-- expression. (Rust Reference, "Expression precedence". Upstream: `ast::prec` of rust-analyzer's
+-- `syntax`.)
 use Rattle.std.specs.Prelude.{Bool, true, false, not, Option, Some, None, is_some}
 use Rattle.syntax_kind.specs.declared.syntax_kind.SyntaxKind.{SyntaxKind}
 use Rattle.syntax_kind.specs.declared.syntax_kind.SyntaxKind.TheVariants.{Node, Token}

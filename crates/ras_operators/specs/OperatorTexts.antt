@@ -1,4 +1,5 @@
--- The operators of the language: their tokens and their texts (Rust Reference, "Operator expressions").
+-- The operators of the language: their tokens and their texts (Rust Reference, "Operator
+-- expressions").
 use Rattle.std.specs.Prelude.{true, false, Option, Some, None, List, ℕ, codes, ◌++◌}
 use Rattle.syntax_kind.specs.declared.syntax_kind.SyntaxKind.{SyntaxKind}
 use Rattle.syntax_kind.specs.declared.syntax_kind.SyntaxKind.TheVariants.{Token}

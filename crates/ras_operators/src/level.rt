@@ -8,7 +8,8 @@ ghost use Rattle.ras_operators.specs.Levels.{as_precedence};
 /// (Rust Reference, "Expression precedence"; upstream's `ast::prec::ExprPrecedence`.)
 #[derive(Debug, Clone, Copy, PartialEq, PartialOrd)]
 pub enum ExprPrecedence {
-    /// `return`, `break`, `continue`, `yield`, `do yeet`, `become`, with or without a value; a closure without a return type.
+    /// `return`, `break`, `continue`, `yield`, `do yeet`, `become`, with or without a value; a
+    /// closure without a return type.
     Jump,
     /// `=`, and an operator with it.
     Assign,
@@ -42,7 +43,8 @@ pub enum ExprPrecedence {
     Unambiguous,
 }
 
-/// The associativity of the operators of one precedence. No call returns it; callers can use it in tests of their own.
+/// The associativity of the operators of one precedence. No call returns it; callers can use it in
+/// tests of their own.
 #[derive(Debug, PartialEq)]
 pub enum Fixity {
     /// `a - b - c` is `(a - b) - c`.
@@ -54,13 +56,15 @@ pub enum Fixity {
 }
 
 impl ExprPrecedence {
-    /// Whether an expression of this precedence needs parentheses in one of precedence `other`, by precedences alone. It
-    /// ignores on which side the expression is, so it often asks for parentheses that are not needed. It knows no context,
-    /// so it asks for none in three cases that need them: a field that is called, a cast's name before `<` or `<<`, and a
-    /// record in a condition.
+    /// Whether an expression of this precedence needs parentheses in one of precedence `other`, by
+    /// precedences alone. It ignores on which side the expression is, so it often asks for
+    /// parentheses that are not needed. It knows no context, so it asks for none in three cases
+    /// that need them: a field that is called, a cast's name before `<` or `<<`, and a record in a
+    /// condition.
     ///
-    /// Parentheses are never needed in an unambiguous expression. They are needed in a postfix expression if this one binds
-    /// less; in a prefix expression if this one binds less and is no jump; in any other unless this one binds more.
+    /// Parentheses are never needed in an unambiguous expression. They are needed in a postfix
+    /// expression if this one binds less; in a prefix expression if this one binds less and is no
+    /// jump; in any other unless this one binds more.
     pub fn needs_parentheses_in(self, other: ExprPrecedence) -> bool
         ensures { result ≡ needs_parentheses_in (as_precedence self) (as_precedence other) }
     {

@@ -1,5 +1,5 @@
-//! The operators of expressions and patterns: their tokens, their texts and their precedences. (Upstream: `ast::operators`
-//! and `ast::prec` of rust-analyzer's `syntax`.)
+//! The operators of expressions and patterns: their tokens, their texts and their precedences.
+//! (Upstream: `ast::operators` and `ast::prec` of rust-analyzer's `syntax`.)
 #![tactic(auto)]
 
 pub mod level;

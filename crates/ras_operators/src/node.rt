@@ -1,4 +1,5 @@
-//! The precedence of an expression node, and other properties that depend on its kind and its first expression.
+//! The precedence of an expression node, and other properties that depend on its kind and its first
+//! expression.
 ghost use Rattle.std.specs.Prelude.{◌≡◌, is_some, ◌&&◌};
 ghost use Rattle.ras_node.specs.Nodes.{typed_child};
 ghost use Rattle.ras_node.specs.Sets.{is_expr};
@@ -143,8 +144,8 @@ fn is_pointing(kind: SyntaxKind) -> bool
     )
 }
 
-/// Whether a type needs parentheses below a parent: a `dyn` or `impl` type in a cast, after `&` or in a pointer type, where
-/// a `+` would not belong to it.
+/// Whether a type needs parentheses below a parent: a `dyn` or `impl` type in a cast, after `&` or
+/// in a pointer type, where a `+` would not belong to it.
 pub fn type_needs_parens_in(own: &SyntaxNode, parent: &SyntaxNode) -> bool
     ensures { result ≡ (is_dyn_or_impl (kind_at own.now) && is_pointing (kind_at parent.now)) }
 {

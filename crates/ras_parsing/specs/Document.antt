@@ -140,8 +140,8 @@ BeginsToken tree at = (at ≡ 0) ⊎ is_at at (covering_of (root_of tree) (byte_
 abbrev pub longest_window : ℕ
 longest_window = 32768
 
--- a window is lexed by itself if it is not too long, begins with a token of the tree, and no error of
--- the lexer is behind it; the first `count` errors are the parser's
+-- a window is lexed by itself if it is not too long, begins with a token of the tree, and no error
+-- of the lexer is behind it; the first `count` errors are the parser's
 pub record StandsAlone (old : Parsed) (count : ℕ) (w : Bounds) : Type 0 where
   pub is_near : w.end - w.start ≤ longest_window
   pub begins : BeginsToken old.tree w.start

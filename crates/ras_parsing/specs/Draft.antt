@@ -16,11 +16,13 @@ pub record Draft : Type 0 where
 abbrev pub draft_code : Coded Draft
 draft_code = code_by (List Event × List Fault) (coded× (coded_list event_code) (coded_list fault_code)) (λ d. (d.events, d.faults)) (λ p. record { events = p.0; faults = p.1 }) (λ _. refl)
 
--- what each error means for a draft: the same as for the events, and for an error past the text that some error ends there
+-- what each error means for a draft: the same as for the events, and for an error past the text
+-- that some error ends there
 abbrev pub DraftHolds : FinishError → Draft → Type 0
 DraftHolds e d = Holds e d.events ⊎ ((e ≡ ErrorPastText) × Any (λ f. text_len d.events < f.range.end) d.faults)
 
--- the error applies to the draft, and none before it: so out of memory is returned only if no other error applies
+-- the error applies to the draft, and none before it: so out of memory is returned only if no other
+-- error applies
 pub record IsFirstDraftRefusal (d : Draft) (e : FinishError) : Type 0 where
   pub holds : DraftHolds e d
   pub first : (x : FinishError) → refusal_number x < refusal_number e → DraftHolds x d → ⊥
@@ -37,8 +39,8 @@ is_past n f = nat_lt n f.range.end
 abbrev pub past_refusal : Bool → Option FinishError
 past_refusal b = if b then Some ErrorPastText else None
 
--- the first error that applies, other than out of memory, as it is computed: those of the events, and then that of the
--- errors
+-- the first error that applies, other than out of memory, as it is computed: those of the events,
+-- and then that of the errors
 abbrev pub draft_refusal : Draft → Option FinishError
 draft_refusal d = option_or (first_refusal d.events) (past_refusal (list_any (is_past (text_len d.events)) d.faults))
 

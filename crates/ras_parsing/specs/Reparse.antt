@@ -1,5 +1,5 @@
--- When one token or one block is re-parsed after an edit, and the tree and the errors of the result.
--- (Upstream: `incremental_reparse` of rust-analyzer's `parsing/reparsing.rs`.)
+-- When one token or one block is re-parsed after an edit, and the tree and the errors of the
+-- result. (Upstream: `incremental_reparse` of rust-analyzer's `parsing/reparsing.rs`.)
 use Rattle.std.specs.Prelude.{◌≡◌, ◌⊎◌, ℕ, ◌+◌, ◌-◌, List, [], ◌∷◌, ◌++◌, map, length, take, drop, Option, Some, None, option_map, Bool, true, false, nat_le, if◌then◌else◌, IsTrue, Contains, codes}
 use Rattle.std.specs.Char.{encode_utf8}
 use Rattle.text_size.specs.TextRange.{Bounds}
@@ -30,8 +30,8 @@ moved by f = record { message = f.message; range = record { start = f.range.star
 abbrev pub shifted : Edit → ℕ → ℕ
 shifted edit at = (at + length edit.insert) - (edit.delete.end - edit.delete.start)
 
--- an old error that ends at or before the replaced range's start stays; of the others, one that starts at or after its end
--- moves with the text; the rest are removed
+-- an old error that ends at or before the replaced range's start stays; of the others, one that
+-- starts at or after its end moves with the text; the rest are removed
 abbrev pub kept_fault : Bounds → Edit → Fault → List Fault
 kept_fault replaced edit f =
     if nat_le f.range.end replaced.start then f ∷ []
@@ -43,7 +43,8 @@ abbrev pub kept_faults : Bounds → Edit → List Fault → List Fault
 kept_faults replaced edit [] = []
 kept_faults replaced edit (f ∷ fs) = kept_fault replaced edit f ++ kept_faults replaced edit fs
 
--- the old errors that are kept, and then the new ones, whose offsets count from the replaced range's start
+-- the old errors that are kept, and then the new ones, whose offsets count from the replaced
+-- range's start
 abbrev pub merged : List Fault → List Fault → Bounds → Edit → List Fault
 merged old new replaced edit = kept_faults replaced edit old ++ map (moved replaced.start) new
 
@@ -59,7 +60,8 @@ is_token_kind (Token kind.BYTE_STRING) = true
 is_token_kind (Token kind.C_STRING) = true
 is_token_kind _ = false
 
--- the token may be re-parsed: it is one, of such a kind, and loses no newline if it is white space or a comment
+-- the token may be re-parsed: it is one, of such a kind, and loses no newline if it is white space
+-- or a comment
 pub record MayBeReread (c : Cursor) (edit : Edit) : Type 0 where
   pub is_token : IsToken (focus c)
   pub kind : IsTrue (is_token_kind (kind_of (focus c)))
@@ -69,8 +71,8 @@ pub record MayBeReread (c : Cursor) (edit : Edit) : Type 0 where
 abbrev pub IsContextualWord : List ℕ → Type 0
 IsContextualWord s = (s ≡ codes "auto") ⊎ ((s ≡ codes "default") ⊎ (s ≡ codes "union"))
 
--- the new text of the token is one token of its kind and no word that is a keyword elsewhere, and it is not one token
--- together with the character that follows it in the whole text
+-- the new text of the token is one token of its kind and no word that is a keyword elsewhere, and
+-- it is not one token together with the character that follows it in the whole text
 pub record StaysOneToken (front : Front) (edition : Edition) (c : Cursor) (edit : Edit) (fault : Option (List ℕ)) : Type 0 where
   pub same_kind : front.single edition (edited_at c edit) ≡ Some (kind_of (focus c), fault)
   pub no_word : kind_of (focus c) ≡ Token kind.IDENT → IsContextualWord (edited_at c edit) → ⊥
@@ -102,7 +104,8 @@ first_reparsable front (c ∷ cs) = or_later c (reparser_of front c) (first_repa
 abbrev pub nodes_around : Tree → Edit → List Cursor
 nodes_around tree edit = ancestors_of_element (element_of (covered tree edit))
 
--- the nearest node around the edit that has a reparser is re-parsed: the braces of its new text balance
+-- the nearest node around the edit that has a reparser is re-parsed: the braces of its new text
+-- balance
 pub record BlockPath (front : Front) (edition : Edition) (tree : Tree) (edit : Edit) (c : Cursor) (r : Reparser) : Type 0 where
   pub is_nearest : first_reparsable front (nodes_around tree edit) ≡ Some (c, r)
   pub balanced : IsBalanced (front.lexed edition (edited_at c edit))

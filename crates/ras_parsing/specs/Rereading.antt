@@ -22,7 +22,8 @@ LosesNewline s r = Contains (take (r.end - r.start) (drop r.start s)) 10
 abbrev pub MayStay : SyntaxKind → List ℕ → Bounds → Type 0
 MayStay k s r = IsTrue (is_token_kind k) × (IsTrue (is_trivia k) → LosesNewline s r → ⊥)
 
--- a text is one token of a kind, with this error, and not one token together with the next character
+-- a text is one token of a kind, with this error, and not one token together with the next
+-- character
 pub record IsOneToken (front : Front) (edition : Edition) (k : SyntaxKind) (new : List ℕ) (next : Option ℕ) (fault : Option (List ℕ)) : Type 0 where
   pub same_kind : front.single edition new ≡ Some (k, fault)
   pub no_word : k ≡ Token kind.IDENT → IsContextualWord new → ⊥

@@ -34,7 +34,8 @@ fn balances(kinds: &[SyntaxKind]) -> bool
     open == 0
 }
 
-/// Whether the kinds begin with an opening brace and end with a closing one, and between these braces balance.
+/// Whether the kinds begin with an opening brace and end with a closing one, and between these
+/// braces balance.
 pub(crate) fn is_balanced(kinds: &[SyntaxKind]) -> bool
     ensures { IsTrue result ↔ IsBalanced kinds.now }
 {

@@ -32,8 +32,11 @@ pub(crate) fn build_output(alloc: Global, text: &str, output: Output) -> Result<
     requires short { length text.now < 2 ^ 32 }
     requires keeps { Keeps (λ root. ⊤) text.now (reading_of output) }
     ensures root { IfOk result (λ b. IsRoot b.root) }
-    ensures parsed { IfOk result (λ b. IsParseOf text.now (reading_of output) (record { tree = b.root.tree; errors = b.errors.items })) }
-    ensures in_text { IfOk result (λ b. ErrorsLieIn (record { tree = b.root.tree; errors = b.errors.items })) }
+    ensures parsed { IfOk result (λ b.
+        IsParseOf text.now (reading_of output)
+        (record { tree = b.root.tree; errors = b.errors.items })) }
+    ensures in_text { IfOk result
+        (λ b. ErrorsLieIn (record { tree = b.root.tree; errors = b.errors.items })) }
 {
     let Output {
         steps,

@@ -16,7 +16,8 @@ use std::marker::Model;
 use syntax_kind::SyntaxKind;
 use text_size::TextSize;
 
-/// Builds a parse: a tree by the calls of `TreeBuilder`, and errors. A clause sees the list of events and that of errors.
+/// Builds a parse: a tree by the calls of `TreeBuilder`, and errors. A clause sees the list of
+/// events and that of errors.
 ///
 /// A call that fails leaves the builder unchanged.
 #[derive(Drop)]
@@ -52,7 +53,9 @@ impl SyntaxTreeBuilder {
 
     /// Enters a node.
     pub fn start_node(&mut self, kind: SyntaxKind) -> Result<(), AllocError>
-        ensures ok { OnOk result (self.new ≡ record { events = self.old.events ++ enter kind ∷ []; faults = self.old.faults }) }
+        ensures ok { OnOk result (self.new
+            ≡ record
+            { events = self.old.events ++ enter kind ∷ []; faults = self.old.faults }) }
         ensures err { OnErr result (self.new ≡ self.old) }
     {
         self.tree.start_node(kind)
@@ -60,7 +63,11 @@ impl SyntaxTreeBuilder {
 
     /// A token; its text may be empty.
     pub fn token(&mut self, kind: SyntaxKind, text: &str) -> Result<(), AllocError>
-        ensures ok { OnOk result (self.new ≡ record { events = self.old.events ++ leaf kind text.now ∷ []; faults = self.old.faults }) }
+        ensures ok { OnOk result (self.new
+            ≡ record {
+              events = self.old.events ++ leaf kind text.now ∷ [];
+              faults = self.old.faults;
+            }) }
         ensures err { OnErr result (self.new ≡ self.old) }
     {
         self.tree.token(kind, text)
@@ -68,16 +75,23 @@ impl SyntaxTreeBuilder {
 
     /// Leaves the node that was entered last and is still open.
     pub fn finish_node(&mut self) -> Result<(), AllocError>
-        ensures ok { OnOk result (self.new ≡ record { events = self.old.events ++ exit ∷ []; faults = self.old.faults }) }
+        ensures ok { OnOk result (self.new
+            ≡ record { events = self.old.events ++ exit ∷ []; faults = self.old.faults }) }
         ensures err { OnErr result (self.new ≡ self.old) }
     {
         self.tree.finish_node()
     }
 
-    /// Adds an error at a position of the text, in bytes from its start. Errors keep the order of these calls; their
-    /// position among the events does not matter. `finish` fails if a position is past the end of the text.
+    /// Adds an error at a position of the text, in bytes from its start. Errors keep the order of
+    /// these calls; their position among the events does not matter. `finish` fails if a position
+    /// is past the end of the text.
     pub fn error(&mut self, message: String, position: TextSize) -> Result<(), AllocError>
-        ensures ok { OnOk result (self.new ≡ record { events = self.old.events; faults = self.old.faults ++ fault_at (string_bytes message) position ∷ [] }) }
+        ensures ok { OnOk result (self.new
+            ≡ record {
+              events = self.old.events;
+              faults = self.old.faults ++ fault_at (string_bytes message) position
+                  ∷ [];
+            }) }
         ensures err { OnErr result (self.new ≡ self.old) }
     {
         self.errors
@@ -85,9 +99,10 @@ impl SyntaxTreeBuilder {
         Ok(())
     }
 
-    /// The parse, or the first error in the order of [`FinishError`]: those of the events, then `ErrorPastText` if the
-    /// position of an error is after the end of the text, then `Memory`. The builder is dropped in each case. All errors
-    /// except `Memory` are found without allocating, so they are also returned if no memory is left.
+    /// The parse, or the first error in the order of [`FinishError`]: those of the events, then
+    /// `ErrorPastText` if the position of an error is after the end of the text, then `Memory`. The
+    /// builder is dropped in each case. All errors except `Memory` are found without allocating, so
+    /// they are also returned if no memory is left.
     #[tactic(auto, using(crate::proofs::DraftRefusals::draft_refusal_is, crate::proofs::DraftRefusals::draft_accepted))]
     pub fn finish(self) -> Result<Parse<SyntaxNode>, FinishError>
         ensures ok { IfOk result (λ p. BuildsNode self.events p.tree × (p.errors ≡ self.faults)) }
@@ -106,8 +121,10 @@ impl SyntaxTreeBuilder {
     // The root and the errors.
     #[tactic(auto, using(tree_model::proofs::Refusals::is_first_refusal, tree_model::proofs::Refusals::accepted_none))]
     fn finish_raw(self) -> Result<Built, FinishError>
-        ensures ok { IfOk result (λ b. IsRoot b.root × BuildsNode self.events b.root.tree × (b.errors.items ≡ self.faults)) }
-        ensures in_text { IfOk result (λ b. ErrorsLieIn (record { tree = b.root.tree; errors = b.errors.items })) }
+        ensures ok { IfOk result (λ b. IsRoot b.root × BuildsNode self.events b.root.tree
+            × (b.errors.items ≡ self.faults)) }
+        ensures in_text { IfOk result
+            (λ b. ErrorsLieIn (record { tree = b.root.tree; errors = b.errors.items })) }
         ensures accepted { OnOk result (draft_refusal self ≡ None) }
         ensures refused { IfErr result (λ e. refusal_of e ≡ draft_refusal self) }
     {

@@ -24,17 +24,17 @@ use std::alloc::{AllocError, Global};
 ///
 /// With the front end for Rust the parse is, after any number of edits, that of the text: the same
 /// tree, and the same errors in the same order, as a parse of the text from the beginning gives.
-/// [`Document::edit`] gives one token another text, or parses one block again, where the front end can
-/// tell that this is enough (see [`ExactFront`]), and otherwise parses the whole text.
+/// [`Document::edit`] gives one token another text, or parses one block again, where the front end
+/// can tell that this is enough (see [`ExactFront`]), and otherwise parses the whole text.
 /// [`Document::edits`] makes several replacements at once.
 ///
 /// This is proved. [`Document::new`] gives the parse of its text. By the clauses `exact` of
-/// [`Document::edit`] and [`Document::edits`], an edit makes the parse of the new text of that of the
-/// old one, if the front end reads the pieces of every text as in the text (`ReadsExactly`): for
-/// `Rust` that is the law `rust_reads_exactly` of `document_laws`, for every text, in every edition.
-/// Another front end's documents rest on the promise of [`ExactFront`], which is no law of the trait.
-/// What is true for each front end is `answer`: which tokens or pieces are read again, and what their
-/// trees and errors replace.
+/// [`Document::edit`] and [`Document::edits`], an edit makes the parse of the new text of that of
+/// the old one, if the front end reads the pieces of every text as in the text (`ReadsExactly`):
+/// for `Rust` that is the law `rust_reads_exactly` of `document_laws`, for every text, in every
+/// edition. Another front end's documents rest on the promise of [`ExactFront`], which is no law of
+/// the trait. What is true for each front end is `answer`: which tokens or pieces are read again,
+/// and what their trees and errors replace.
 ///
 /// A failed edit leaves the document unchanged. [`Parse::reparse`] is for parses that no document
 /// keeps, and makes less sure.
@@ -55,7 +55,8 @@ fn read_counted<T, F: FrontEnd>(
     edition: Edition,
 ) -> Result<Counted<T>, ParseError>
     requires { length text.now < 2 ^ 32 }
-    ensures new { IfOk result (λ n. IsReadOf (F.answers front.now) edition text.now n.parse n.parser_errors) }
+    ensures new { IfOk result
+        (λ n. IsReadOf (F.answers front.now) edition text.now n.parse n.parser_errors) }
     ensures range { IfOk result (λ n. n.range ≡ record { start = 0; end = length text.now }) }
     ensures refused { IfErr result (λ e. (e ≡ TooLong) ↔ (2 ^ 32 ≤ length text.now)) }
 {
@@ -81,7 +82,8 @@ impl<T: FileView, F: ExactFront + Drop> Document<T, F> {
         text: &str,
         edition: Edition,
     ) -> Result<Document<T, F>, ParseError>
-        ensures parsed { IfOk result (λ d. IsReadOf (F.answers front) edition text.now d.parse d.parser_errors) }
+        ensures parsed { IfOk result
+            (λ d. IsReadOf (F.answers front) edition text.now d.parse d.parser_errors) }
         ensures front { IfOk result (λ d. d.front ≡ front) }
         ensures edition { IfOk result (λ d. d.edition ≡ edition) }
         ensures accepted { OnOk result (length text.now < 2 ^ 32) }
@@ -120,8 +122,8 @@ impl<T: FileView, F: ExactFront + Drop> Document<T, F> {
         self.edition
     }
 
-    // The parse after an edit of one token or one block, if that is enough. The first `count` errors of
-    // the old parse are the parser's.
+    // The parse after an edit of one token or one block, if that is enough. The first `count`
+    // errors of the old parse are the parser's.
     fn in_place(
         &self,
         alloc: Global,
@@ -185,8 +187,8 @@ impl<T: FileView, F: ExactFront + Drop> Document<T, F> {
     }
 
     /// Replaces the bytes in `delete` by `insert`. Returns the range of the new text that was read
-    /// again: that of one token or one block, or the whole text. Old parses that were cloned stay as
-    /// they are.
+    /// again: that of one token or one block, or the whole text. Old parses that were cloned stay
+    /// as they are.
     ///
     /// With Rust's front end, `g` for 3..4 of `fn f() { a }` gives the name another text, and
     /// returns 3..4; `b()` for 9..10 parses `{ b() }` and returns 7..14; `enum` for 0..2 parses the
@@ -199,9 +201,9 @@ impl<T: FileView, F: ExactFront + Drop> Document<T, F> {
     /// Where one token gets another text, the nodes are shared with the old tree as in
     /// `SyntaxToken::replace_with`, the text is copied, and what stands between the nearest braces
     /// is lexed with its old and its new text, if the old one has at most 32,768 bytes: in vain if
-    /// more than the token changes. An insertion between two tokens belongs to the one before it, so
-    /// a letter typed before a name does not count as an edit of the name. Otherwise the
-    /// text and the tree are copied once, as by `SyntaxNode::replace_with`; beside that it takes the
+    /// more than the token changes. An insertion between two tokens belongs to the one before it,
+    /// so a letter typed before a name does not count as an edit of the name. Otherwise the text
+    /// and the tree are copied once, as by `SyntaxNode::replace_with`; beside that it takes the
     /// time of the front end for what is parsed again. A block is read with its old text too,
     /// without a tree; and in vain if it turns out to be no exact piece. In a text of more than
     /// [`ExactFront::longest`] bytes, 1,700,000 for Rust, no block is parsed by itself.
@@ -211,19 +213,29 @@ impl<T: FileView, F: ExactFront + Drop> Document<T, F> {
         delete: TextRange,
         insert: &str,
     ) -> Result<TextRange, ParseError>
-        requires { IsEditOf (text self.old.parse.tree) (record { delete = delete; insert = insert.now }) }
-        ensures answer { IfOk result (IsEdited (F.answers self.old.front) (F.exact self.old.front) self.old.edition self.old.parse self.old.parser_errors (record { delete = delete; insert = insert.now }) self.new.parse self.new.parser_errors) }
+        requires { IsEditOf (text self.old.parse.tree)
+            (record { delete = delete; insert = insert.now }) }
+        ensures answer { IfOk result (IsEdited (F.answers self.old.front) (F.exact self.old.front)
+            self.old.edition self.old.parse self.old.parser_errors
+            (record { delete = delete; insert = insert.now }) self.new.parse
+            self.new.parser_errors) }
         ensures exact { ReadsExactly (F.answers self.old.front) (F.exact self.old.front)
             → IsReadOf (F.answers self.old.front) self.old.edition (text self.old.parse.tree)
             self.old.parse self.old.parser_errors
             → OnOk result (IsReadOf (F.answers self.new.front) self.new.edition
             (text self.new.parse.tree) self.new.parse self.new.parser_errors) }
-        ensures same_text { OnOk result (text self.new.parse.tree ≡ edited (text self.old.parse.tree) (record { delete = delete; insert = insert.now })) }
+        ensures same_text { OnOk result (text self.new.parse.tree
+            ≡ edited (text self.old.parse.tree)
+            (record { delete = delete; insert = insert.now })) }
         ensures front { self.new.front ≡ self.old.front }
         ensures edition { self.new.edition ≡ self.old.edition }
         ensures unchanged { OnErr result (self.new ≡ self.old) }
-        ensures accepted { OnOk result (length (edited (text self.old.parse.tree) (record { delete = delete; insert = insert.now })) < 2 ^ 32) }
-        ensures refused { IfErr result (λ e. (e ≡ TooLong) ↔ (2 ^ 32 ≤ length (edited (text self.old.parse.tree) (record { delete = delete; insert = insert.now })))) }
+        ensures accepted { OnOk result (length (edited (text self.old.parse.tree)
+            (record { delete = delete; insert = insert.now })) < 2 ^ 32) }
+        ensures refused { IfErr result (λ e. (e ≡ TooLong)
+            ↔ (2 ^ 32
+            ≤ length (edited (text self.old.parse.tree)
+            (record { delete = delete; insert = insert.now })))) }
     {
         if is_too_long(self.parse.root(), delete, insert) {
             return Err(ParseError::TooLong);

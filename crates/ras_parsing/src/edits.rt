@@ -12,13 +12,16 @@ use std::alloc::Global;
 use text_edit::{ApplyError, TextEdit};
 
 impl<T: FileView> Parse<T> {
-    /// The parse after all replacements of an edit: the new text is parsed as a file, once. The old parse is unchanged.
+    /// The parse after all replacements of an edit: the new text is parsed as a file, once. The old
+    /// parse is unchanged.
     ///
-    /// For one replacement, [`Parse::reparse`] may be faster. Takes the time of the front end, and time linear in both texts.
+    /// For one replacement, [`Parse::reparse`] may be faster. Takes the time of the front end, and
+    /// time linear in both texts.
     ///
     /// # Errors
     ///
-    /// Those of [`TextEdit::apply`] on the old text: `PastEnd`, `InsideCharacter`, `TooLong`, and otherwise `Memory`.
+    /// Those of [`TextEdit::apply`] on the old text: `PastEnd`, `InsideCharacter`, `TooLong`, and
+    /// otherwise `Memory`.
     pub fn reparse_all<F: FrontEnd>(
         &self,
         alloc: Global,
@@ -26,7 +29,9 @@ impl<T: FileView> Parse<T> {
         edit: &TextEdit,
         edition: Edition,
     ) -> Result<Parse<T>, ApplyError>
-        ensures answer { IfOk result (IsParseOf (edited (text self.now.tree) edit.now) ((F.answers front.now).parsed SourceFile edition (edited (text self.now.tree) edit.now))) }
+        ensures answer { IfOk result (IsParseOf (edited (text self.now.tree) edit.now) ((F.answers
+            front.now).parsed SourceFile edition
+            (edited (text self.now.tree) edit.now))) }
         ensures same_text { IfOk result (λ p. text p.tree ≡ edited (text self.now.tree) edit.now) }
         ensures in_text { IfOk result ErrorsLieIn }
         ensures accepted { OnOk result (IsEditOf (text self.now.tree) edit.now) }

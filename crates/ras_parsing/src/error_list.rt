@@ -33,7 +33,8 @@ pub(crate) fn push_violations(
     mut errors: Vec<SyntaxError>,
     root: &SyntaxNode,
 ) -> Result<Vec<SyntaxError>, AllocError>
-    ensures { IfOk result (λ v. v.items ≡ errors.items ++ map violation_fault (violations_of root.now)) }
+    ensures { IfOk result
+        (λ v. v.items ≡ errors.items ++ map violation_fault (violations_of root.now)) }
 {
     let found = violations(alloc, root)?;
     for violation in &found {

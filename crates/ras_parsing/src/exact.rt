@@ -110,8 +110,10 @@ pub(crate) fn is_quiet_from(at: TextSize, errors: &[SyntaxError]) -> bool
 // Whether neither a text nor the text after an edit is longer than so many bytes.
 fn are_short(root: &SyntaxNode, delete: TextRange, insert: &str, longest: usize) -> bool
     requires root { IsRoot root.now }
-    requires edit { IsEditOf (text root.now.tree) (record { delete = delete; insert = insert.now }) }
-    ensures { IsTrue result ↔ AreShort longest (text root.now.tree) (record { delete = delete; insert = insert.now }) }
+    requires edit { IsEditOf (text root.now.tree)
+        (record { delete = delete; insert = insert.now }) }
+    ensures { IsTrue result
+        ↔ AreShort longest (text root.now.tree) (record { delete = delete; insert = insert.now }) }
 {
     let len = root.as_str().len();
     let kept = len - delete.len().raw() as usize;
@@ -125,9 +127,11 @@ fn text_after(
     delete: TextRange,
     insert: &str,
 ) -> Result<String, AllocError>
-    requires edit { IsEditOf (text node.now.tree) (record { delete = delete; insert = insert.now }) }
+    requires edit { IsEditOf (text node.now.tree)
+        (record { delete = delete; insert = insert.now }) }
     requires around { IsAround node.now (record { delete = delete; insert = insert.now }) }
-    ensures { IfOk result (λ s. string_bytes s ≡ edited_at node.now (record { delete = delete; insert = insert.now })) }
+    ensures { IfOk result (λ s. string_bytes s
+        ≡ edited_at node.now (record { delete = delete; insert = insert.now })) }
 {
     let start = node.text_range().start();
     edited_text(alloc, node.as_str(), start, delete, insert)
@@ -145,8 +149,16 @@ pub(crate) fn exact_path<T, F: ExactFront>(
     edition: Edition,
 ) -> Result<Option<ExactPiece>, AllocError>
     requires edit { IsEditOf (text old.now.tree) (record { delete = delete; insert = insert.now }) }
-    requires short { length (edited (text old.now.tree) (record { delete = delete; insert = insert.now })) < 2 ^ 32 }
-    ensures { IfOk result (λ o. MatchOption o (NoExactPath (F.exact front.now) edition old.now count (record { delete = delete; insert = insert.now })) (λ n. IsExactPiece (F.exact front.now) edition old.now count (record { delete = delete; insert = insert.now }) n.node n.reparser (string_bytes n.text) (reading_of n.output))) }
+    requires short { length
+        (edited (text old.now.tree) (record { delete = delete; insert = insert.now }))
+        < 2 ^ 32 }
+    ensures { IfOk result (λ o.
+        MatchOption o
+        (NoExactPath (F.exact front.now) edition old.now count
+        (record { delete = delete; insert = insert.now })) (λ n.
+        IsExactPiece (F.exact front.now) edition old.now count
+        (record { delete = delete; insert = insert.now }) n.node n.reparser
+        (string_bytes n.text) (reading_of n.output))) }
 {
     let root = old.root();
     if front.has_head(root.as_str()) {
@@ -205,14 +217,21 @@ pub(crate) fn with_exact<T>(
     insert: &str,
 ) -> Result<Counted<T>, AllocError>
     requires edit { IsEditOf (text old.now.tree) (record { delete = delete; insert = insert.now }) }
-    requires short { length (edited (text old.now.tree) (record { delete = delete; insert = insert.now })) < 2 ^ 32 }
+    requires short { length
+        (edited (text old.now.tree) (record { delete = delete; insert = insert.now }))
+        < 2 ^ 32 }
     requires same_tree { new.node.tree ≡ old.now.tree }
     requires around { IsAround new.node (record { delete = delete; insert = insert.now }) }
-    requires new_text { string_bytes new.text ≡ edited_at new.node (record { delete = delete; insert = insert.now }) }
+    requires new_text { string_bytes new.text
+        ≡ edited_at new.node (record { delete = delete; insert = insert.now }) }
     requires keeps { Keeps (λ root. ⊤) (string_bytes new.text) (reading_of new.output) }
-    ensures new { IfOk result (λ n. IsPieceOf old.now count (record { delete = delete; insert = insert.now }) new.node (reading_of new.output) n.parse n.parser_errors) }
-    ensures range { IfOk result (λ n. n.range ≡ range_after new.node (record { delete = delete; insert = insert.now })) }
-    ensures same_text { IfOk result (λ n. text n.parse.tree ≡ edited (text old.now.tree) (record { delete = delete; insert = insert.now })) }
+    ensures new { IfOk result (λ n.
+        IsPieceOf old.now count (record { delete = delete; insert = insert.now }) new.node
+        (reading_of new.output) n.parse n.parser_errors) }
+    ensures range { IfOk result
+        (λ n. n.range ≡ range_after new.node (record { delete = delete; insert = insert.now })) }
+    ensures same_text { IfOk result (λ n. text n.parse.tree
+        ≡ edited (text old.now.tree) (record { delete = delete; insert = insert.now })) }
 {
     let ExactPiece {
         node,
@@ -268,12 +287,25 @@ pub(crate) fn spliced<T>(
     insert: &str,
 ) -> Result<Counted<T>, AllocError>
     requires root { IsRoot root }
-    requires text { text root.tree ≡ edited (text old.now.tree) (record { delete = delete; insert = insert.now }) }
+    requires text { text root.tree
+        ≡ edited (text old.now.tree) (record { delete = delete; insert = insert.now }) }
     requires short { length (text root.tree) < 2 ^ 32 }
-    requires around { (replaced.start ≤ delete.start) × (delete.end ≤ replaced.end) × (replaced.end ≤ length (text old.now.tree)) }
-    requires errors { All (LiesIn (((replaced.end - replaced.start) + length insert.now) - (delete.end - delete.start))) errors.items }
-    ensures parse { IfOk result (λ n. n.parse ≡ record { tree = root.tree; errors = all_in_order count more old.now.errors errors.items replaced (record { delete = delete; insert = insert.now }) }) }
-    ensures count { IfOk result (λ n. n.parser_errors ≡ length (in_order (take count old.now.errors) (take more errors.items) replaced (record { delete = delete; insert = insert.now }))) }
+    requires around { (replaced.start ≤ delete.start) × (delete.end ≤ replaced.end)
+        × (replaced.end ≤ length (text old.now.tree)) }
+    requires errors { All
+        (LiesIn
+        (((replaced.end - replaced.start) + length insert.now) - (delete.end - delete.start)))
+        errors.items }
+    ensures parse { IfOk result (λ n. n.parse
+        ≡ record {
+          tree = root.tree;
+          errors
+              = all_in_order count more old.now.errors errors.items replaced
+              (record { delete = delete; insert = insert.now });
+        }) }
+    ensures count { IfOk result (λ n. n.parser_errors
+        ≡ length (in_order (take count old.now.errors) (take more errors.items) replaced
+        (record { delete = delete; insert = insert.now }))) }
     ensures range { IfOk result (λ n. n.range ≡ range) }
 {
     // Opens the range's invariant for the proof: its start isn't past its end.

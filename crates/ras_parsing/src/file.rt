@@ -12,7 +12,8 @@ use std::alloc::{AllocError, Global};
 use std::fmt;
 use std::fmt::{Formatter, Write};
 
-/// Marks the view of a file's root. Parses of it can be dumped and re-parsed. `SourceFile` of `ra_ap_syntax` implements it.
+/// Marks the view of a file's root. Parses of it can be dumped and re-parsed. `SourceFile` of
+/// `ra_ap_syntax` implements it.
 pub trait FileView: AstNode {}
 
 // The dump of a tree, and a line for each error.
@@ -47,7 +48,8 @@ fn write_errors<W: Write>(f: &mut Formatter<W>, errors: &[SyntaxError]) -> fmt::
 }
 
 impl<T: FileView> Parse<T> {
-    /// The dump of the tree, and then a line for each of [`Parse::errors`], with the word `error`, its range and its message.
+    /// The dump of the tree, and then a line for each of [`Parse::errors`], with the word `error`,
+    /// its range and its message.
     pub fn debug_dump(&self, alloc: Global) -> Result<String, AllocError>
         ensures { IfOk result (λ dump. string_bytes dump ≡ debug_dump_of self.now) }
     {

@@ -1,6 +1,6 @@
-//! Parses: trees with the errors of their texts, made by a front end or from events, and their edits. The type of a parse
-//! names the view that its root should be. (Upstream: `Parse`, `SyntaxTreeBuilder`, `parsing` and `utils` of
-//! rust-analyzer's `syntax`.)
+//! Parses: trees with the errors of their texts, made by a front end or from events, and their
+//! edits. The type of a parse names the view that its root should be. (Upstream: `Parse`,
+//! `SyntaxTreeBuilder`, `parsing` and `utils` of rust-analyzer's `syntax`.)
 #![tactic(auto)]
 
 mod balanced;

@@ -25,8 +25,12 @@ fn keep(
     insert: &str,
 ) -> Result<(), AllocError>
     requires within { delete.end ≤ replaced.end }
-    requires short { shifted (record { delete = delete; insert = insert.now }) error.now.range.end < 2 ^ 32 }
-    ensures { OnOk result (kept.new.items ≡ kept.old.items ++ kept_fault replaced (record { delete = delete; insert = insert.now }) error.now) }
+    requires short { shifted (record { delete = delete; insert = insert.now }) error.now.range.end
+        < 2 ^ 32 }
+    ensures { OnOk result (kept.new.items
+        ≡ kept.old.items
+        ++ kept_fault replaced (record { delete = delete; insert = insert.now })
+        error.now) }
 {
     let range = error.range();
     if range.end() <= replaced.start() {
@@ -50,7 +54,8 @@ pub(crate) fn moved(error: SyntaxError, by: TextSize) -> SyntaxError
     error.with_range(TextRange::new(start, end))
 }
 
-// The old errors that are kept after an edit inside of the replaced piece, and then the errors of the new piece.
+// The old errors that are kept after an edit inside of the replaced piece, and then the errors of
+// the new piece.
 pub(crate) fn merge(
     alloc: Global,
     old: &[SyntaxError],
@@ -60,9 +65,12 @@ pub(crate) fn merge(
     insert: &str,
 ) -> Result<Vec<SyntaxError>, AllocError>
     requires within { delete.end ≤ replaced.end }
-    requires old_short { All (λ f. shifted (record { delete = delete; insert = insert.now }) f.range.end < 2 ^ 32) old.now }
+    requires old_short { All
+        (λ f. shifted (record { delete = delete; insert = insert.now }) f.range.end < 2 ^ 32)
+        old.now }
     requires new_short { All (λ f. f.range.end + replaced.start < 2 ^ 32) new.items }
-    ensures { IfOk result (λ errors. errors.items ≡ merged old.now new.items replaced (record { delete = delete; insert = insert.now })) }
+    ensures { IfOk result (λ errors. errors.items
+        ≡ merged old.now new.items replaced (record { delete = delete; insert = insert.now })) }
 {
     let mut errors = Vec::new(alloc);
     for error in old {

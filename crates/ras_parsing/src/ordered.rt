@@ -31,8 +31,12 @@ fn keep_later(
     insert: &str,
 ) -> Result<(), AllocError>
     requires within { delete.end ≤ replaced.end }
-    requires short { shifted (record { delete = delete; insert = insert.now }) error.now.range.end < 2 ^ 32 }
-    ensures { OnOk result (kept.new.items ≡ kept.old.items ++ later_fault replaced (record { delete = delete; insert = insert.now }) error.now) }
+    requires short { shifted (record { delete = delete; insert = insert.now }) error.now.range.end
+        < 2 ^ 32 }
+    ensures { OnOk result (kept.new.items
+        ≡ kept.old.items
+        ++ later_fault replaced (record { delete = delete; insert = insert.now })
+        error.now) }
 {
     let range = error.range();
     if replaced.end() <= range.start() {
@@ -53,9 +57,14 @@ fn push_in_order(
     insert: &str,
 ) -> Result<(), AllocError>
     requires within { delete.end ≤ replaced.end }
-    requires old_short { All (λ f. shifted (record { delete = delete; insert = insert.now }) f.range.end < 2 ^ 32) old.now }
+    requires old_short { All
+        (λ f. shifted (record { delete = delete; insert = insert.now }) f.range.end < 2 ^ 32)
+        old.now }
     requires new_short { All (λ f. f.range.end + replaced.start < 2 ^ 32) new.now }
-    ensures { OnOk result (all.new.items ≡ all.old.items ++ in_order old.now new.now replaced (record { delete = delete; insert = insert.now })) }
+    ensures { OnOk result (all.new.items
+        ≡ all.old.items
+        ++ in_order old.now new.now replaced
+        (record { delete = delete; insert = insert.now })) }
 {
     for error in old {
         keep_earlier(all, error, replaced)?;
@@ -90,8 +99,9 @@ pub(crate) struct CountedErrors {
     pub parser_errors: usize,
 }
 
-/// The errors after a piece was parsed again, in the order of a new parse: the parser's before the piece, in it and behind it, and
-/// then the lexer's. The first `count` of the old errors and the first `more` of the new ones are the parser's.
+/// The errors after a piece was parsed again, in the order of a new parse: the parser's before the
+/// piece, in it and behind it, and then the lexer's. The first `count` of the old errors and the
+/// first `more` of the new ones are the parser's.
 pub(crate) fn ordered(
     alloc: Global,
     old: &[SyntaxError],
@@ -103,10 +113,16 @@ pub(crate) fn ordered(
     insert: &str,
 ) -> Result<CountedErrors, AllocError>
     requires within { delete.end ≤ replaced.end }
-    requires old_short { All (λ f. shifted (record { delete = delete; insert = insert.now }) f.range.end < 2 ^ 32) old.now }
+    requires old_short { All
+        (λ f. shifted (record { delete = delete; insert = insert.now }) f.range.end < 2 ^ 32)
+        old.now }
     requires new_short { All (λ f. f.range.end + replaced.start < 2 ^ 32) new.now }
-    ensures errors { IfOk result (λ o. o.errors.items ≡ all_in_order count more old.now new.now replaced (record { delete = delete; insert = insert.now })) }
-    ensures count { IfOk result (λ o. o.parser_errors ≡ length (in_order (take count old.now) (take more new.now) replaced (record { delete = delete; insert = insert.now }))) }
+    ensures errors { IfOk result (λ o. o.errors.items
+        ≡ all_in_order count more old.now new.now replaced
+        (record { delete = delete; insert = insert.now })) }
+    ensures count { IfOk result (λ o. o.parser_errors
+        ≡ length (in_order (take count old.now) (take more new.now) replaced
+        (record { delete = delete; insert = insert.now }))) }
 {
     let mut errors = Vec::new(alloc);
     push_in_order(

@@ -19,10 +19,11 @@ use shared_pointer::Shared;
 use std::alloc::{AllocError, Global};
 use std::marker::{Model, PhantomData};
 
-/// The result of parsing: a tree, whose root should be a `T`, and the errors that were found as it was made.
+/// The result of parsing: a tree, whose root should be a `T`, and the errors that were found as it
+/// was made.
 ///
-/// There is a tree whatever the text is. Cloning a parse takes no memory and always succeeds. A clause sees the tree and
-/// the stored errors, whose ranges are in its text.
+/// There is a tree whatever the text is. Cloning a parse takes no memory and always succeeds. A
+/// clause sees the tree and the stored errors, whose ranges are in its text.
 #[derive(Drop)]
 pub struct Parse<T> {
     root: SyntaxNode,
@@ -40,7 +41,8 @@ impl<T> Model for Parse<T> {
 
     ghost view = { λ a. record { tree = a.root.tree; errors = a.errors.value.items } };
 
-    ghost invariant = { λ a. IsRoot a.root × ErrorsLieIn (record { tree = a.root.tree; errors = a.errors.value.items }) };
+    ghost invariant = { λ a. IsRoot a.root
+        × ErrorsLieIn (record { tree = a.root.tree; errors = a.errors.value.items }) };
 }
 
 impl<T> Parse<T> {
@@ -103,13 +105,13 @@ impl<T> Parse<T> {
         self.errors.as_ref().as_slice()
     }
 
-    /// All errors: the stored ones in their order, followed by the violations of the tree, in preorder of their nodes. After a
-    /// full parse, and in a [`Document`](crate::Document), the stored errors are those of the parser,
-    /// followed by those of the lexer; after a re-parse by a call of this type, the old errors that
-    /// are kept come first.
+    /// All errors: the stored ones in their order, followed by the violations of the tree, in
+    /// preorder of their nodes. After a full parse, and in a [`Document`](crate::Document), the
+    /// stored errors are those of the parser, followed by those of the lexer; after a re-parse by a
+    /// call of this type, the old errors that are kept come first.
     ///
-    /// It copies the stored errors and walks the tree: the time is that of `violations`. The parse is unchanged, also if
-    /// memory runs out.
+    /// It copies the stored errors and walks the tree: the time is that of `violations`. The parse
+    /// is unchanged, also if memory runs out.
     pub fn errors(&self, alloc: Global) -> Result<Vec<SyntaxError>, AllocError>
         ensures { IfOk result (λ errors. errors.items ≡ all_errors self.now) }
     {
@@ -136,9 +138,9 @@ impl<T: AstNode> Parse<T> {
 
     /// The root as a `T`, if the text has no errors at all.
     ///
-    /// Otherwise the result is [`OkError::Errors`] with all errors, if there are any; then [`OkError::OtherRoot`], if the
-    /// root is of another kind. Each contains the parse, and so does [`OkError::Memory`], which is returned as soon as
-    /// memory runs out.
+    /// Otherwise the result is [`OkError::Errors`] with all errors, if there are any; then
+    /// [`OkError::OtherRoot`], if the root is of another kind. Each contains the parse, and so does
+    /// [`OkError::Memory`], which is returned as soon as memory runs out.
     pub fn ok(self, alloc: Global) -> Result<T, OkError<T>>
         ensures free { OnOk result (all_errors self ≡ []) }
         ensures same { IfOk result (λ it. T.node it ≡ root_of self.tree) }
@@ -159,7 +161,8 @@ impl<T: AstNode> Parse<T> {
 }
 
 impl Parse<SyntaxNode> {
-    /// The same parse, whose root should be an `N`, or `None` if the root is of another kind; the parse is then dropped.
+    /// The same parse, whose root should be an `N`, or `None` if the root is of another kind; the
+    /// parse is then dropped.
     pub fn cast<N: AstNode>(self) -> Option<Parse<N>>
         ensures { result ≡ (if N.casts (kind_of self.tree) then Some self else None) }
     {
@@ -208,8 +211,8 @@ impl<T> Eq for Parse<T> {
 
 /// Parses a text with a front end. The root should be a `T`.
 ///
-/// Returns `TooLong` if the text is longer than 4,294,967,295 bytes; this is checked first. Takes the time of the front
-/// end, and time linear in the text.
+/// Returns `TooLong` if the text is longer than 4,294,967,295 bytes; this is checked first. Takes
+/// the time of the front end, and time linear in the text.
 pub fn read<T, F: FrontEnd>(
     alloc: Global,
     front: &F,
@@ -217,7 +220,8 @@ pub fn read<T, F: FrontEnd>(
     text: &str,
     edition: Edition,
 ) -> Result<Parse<T>, ParseError>
-    ensures parsed { IfOk result (IsParseOf text.now ((F.answers front.now).parsed entry edition text.now)) }
+    ensures parsed { IfOk result
+        (IsParseOf text.now ((F.answers front.now).parsed entry edition text.now)) }
     ensures root { IfOk result (λ p. IsRootOf entry (kind_of p.tree)) }
     ensures in_text { IfOk result ErrorsLieIn }
     ensures accepted { OnOk result (length text.now < 2 ^ 32) }

@@ -25,11 +25,12 @@ use ras_front_end::{Edition, Entry, FrontEnd, ParseError, Reparser, SyntaxError}
 use std::alloc::{AllocError, Global};
 
 impl<T: FileView> Parse<T> {
-    /// The parse after an edit that replaces the bytes in `delete` by `insert`. Only one token or one block is re-parsed if
-    /// that is possible, otherwise the whole text. The old parse is unchanged.
+    /// The parse after an edit that replaces the bytes in `delete` by `insert`. Only one token or
+    /// one block is re-parsed if that is possible, otherwise the whole text. The old parse is
+    /// unchanged.
     ///
-    /// The range must be in the text, on character boundaries. Returns `TooLong` if the new text is longer than 4,294,967,295
-    /// bytes; this is checked first.
+    /// The range must be in the text, on character boundaries. Returns `TooLong` if the new text is
+    /// longer than 4,294,967,295 bytes; this is checked first.
     pub fn reparse<F: FrontEnd>(
         &self,
         alloc: Global,
@@ -39,11 +40,18 @@ impl<T: FileView> Parse<T> {
         edition: Edition,
     ) -> Result<Parse<T>, ParseError>
         requires { IsEditOf (text self.now.tree) (record { delete = delete; insert = insert.now }) }
-        ensures answer { IfOk result (IsReparse (F.answers front.now) edition self.now (record { delete = delete; insert = insert.now })) }
-        ensures same_text { IfOk result (λ p. text p.tree ≡ edited (text self.now.tree) (record { delete = delete; insert = insert.now })) }
+        ensures answer { IfOk result (IsReparse (F.answers front.now) edition self.now
+            (record { delete = delete; insert = insert.now })) }
+        ensures same_text { IfOk result (λ p. text p.tree
+            ≡ edited (text self.now.tree) (record { delete = delete; insert = insert.now })) }
         ensures in_text { IfOk result ErrorsLieIn }
-        ensures accepted { OnOk result (length (edited (text self.now.tree) (record { delete = delete; insert = insert.now })) < 2 ^ 32) }
-        ensures refused { IfErr result (λ e. (e ≡ TooLong) ↔ (2 ^ 32 ≤ length (edited (text self.now.tree) (record { delete = delete; insert = insert.now })))) }
+        ensures accepted { OnOk result (length
+            (edited (text self.now.tree) (record { delete = delete; insert = insert.now }))
+            < 2 ^ 32) }
+        ensures refused { IfErr result (λ e. (e ≡ TooLong)
+            ↔ (2 ^ 32
+            ≤ length (edited (text self.now.tree)
+            (record { delete = delete; insert = insert.now })))) }
     {
         match self.incremental_reparse(alloc, front, delete, insert, edition)? {
             Some((new, _)) => Ok(new),
@@ -51,11 +59,12 @@ impl<T: FileView> Parse<T> {
         }
     }
 
-    /// The parse after an edit, where all of the new text is parsed as a file: the result of [`Parse::reparse`] if
-    /// [`Parse::incremental_reparse`] returns `None`. The old parse is unchanged.
+    /// The parse after an edit, where all of the new text is parsed as a file: the result of
+    /// [`Parse::reparse`] if [`Parse::incremental_reparse`] returns `None`. The old parse is
+    /// unchanged.
     ///
-    /// The range must be in the text, on character boundaries. Returns `TooLong` if the new text is longer than 4,294,967,295
-    /// bytes; this is checked first.
+    /// The range must be in the text, on character boundaries. Returns `TooLong` if the new text is
+    /// longer than 4,294,967,295 bytes; this is checked first.
     pub fn full_reparse<F: FrontEnd>(
         &self,
         alloc: Global,
@@ -65,11 +74,20 @@ impl<T: FileView> Parse<T> {
         edition: Edition,
     ) -> Result<Parse<T>, ParseError>
         requires { IsEditOf (text self.now.tree) (record { delete = delete; insert = insert.now }) }
-        ensures answer { IfOk result (IsParseOf (edited (text self.now.tree) (record { delete = delete; insert = insert.now })) ((F.answers front.now).parsed SourceFile edition (edited (text self.now.tree) (record { delete = delete; insert = insert.now })))) }
-        ensures same_text { IfOk result (λ p. text p.tree ≡ edited (text self.now.tree) (record { delete = delete; insert = insert.now })) }
+        ensures answer { IfOk result (IsParseOf
+            (edited (text self.now.tree) (record { delete = delete; insert = insert.now }))
+            ((F.answers front.now).parsed SourceFile edition (edited (text self.now.tree)
+            (record { delete = delete; insert = insert.now })))) }
+        ensures same_text { IfOk result (λ p. text p.tree
+            ≡ edited (text self.now.tree) (record { delete = delete; insert = insert.now })) }
         ensures in_text { IfOk result ErrorsLieIn }
-        ensures accepted { OnOk result (length (edited (text self.now.tree) (record { delete = delete; insert = insert.now })) < 2 ^ 32) }
-        ensures refused { IfErr result (λ e. (e ≡ TooLong) ↔ (2 ^ 32 ≤ length (edited (text self.now.tree) (record { delete = delete; insert = insert.now })))) }
+        ensures accepted { OnOk result (length
+            (edited (text self.now.tree) (record { delete = delete; insert = insert.now }))
+            < 2 ^ 32) }
+        ensures refused { IfErr result (λ e. (e ≡ TooLong)
+            ↔ (2 ^ 32
+            ≤ length (edited (text self.now.tree)
+            (record { delete = delete; insert = insert.now })))) }
     {
         if is_too_long(self.root(), delete, insert) {
             return Err(ParseError::TooLong);
@@ -84,20 +102,24 @@ impl<T: FileView> Parse<T> {
         read(alloc, front, Entry::SourceFile, text.as_str(), edition)
     }
 
-    /// The parse after an edit, if only one token or one block needs a re-parse, and the range in the old text that was
-    /// replaced; `None` if the whole text has to be re-parsed. The old parse is unchanged.
+    /// The parse after an edit, if only one token or one block needs a re-parse, and the range in
+    /// the old text that was replaced; `None` if the whole text has to be re-parsed. The old parse
+    /// is unchanged.
     ///
-    /// *One token* is re-parsed if the smallest element that covers the deleted range is a token of white space, a comment,
-    /// a name, or a string (plain, byte or C); white space and comments must not lose a newline. The front end must see the
-    /// token's new text as one token of the same kind, and not as one token together with the character after it, and a
-    /// name must not become `auto`, `default` or `union`.
+    /// *One token* is re-parsed if the smallest element that covers the deleted range is a token of
+    /// white space, a comment, a name, or a string (plain, byte or C); white space and comments
+    /// must not lose a newline. The front end must see the token's new text as one token of the
+    /// same kind, and not as one token together with the character after it, and a name must not
+    /// become `auto`, `default` or `union`.
     ///
-    /// *One block* is re-parsed otherwise, if a node around the edit has a reparser; the nearest one is used. The braces of
-    /// its new text must balance: it begins with `{`, and the last token is the `}` that closes it.
+    /// *One block* is re-parsed otherwise, if a node around the edit has a reparser; the nearest
+    /// one is used. The braces of its new text must balance: it begins with `{`, and the last token
+    /// is the `}` that closes it.
     ///
-    /// The range must be in the text, on character boundaries. Returns `TooLong` if the new text is longer than
-    /// 4,294,967,295 bytes; this is checked first. The text is copied once. If one token is re-parsed, the nodes are shared
-    /// with the old tree as in `SyntaxToken::replace_with`; if one block is re-parsed, they are copied.
+    /// The range must be in the text, on character boundaries. Returns `TooLong` if the new text is
+    /// longer than 4,294,967,295 bytes; this is checked first. The text is copied once. If one
+    /// token is re-parsed, the nodes are shared with the old tree as in
+    /// `SyntaxToken::replace_with`; if one block is re-parsed, they are copied.
     pub fn incremental_reparse<F: FrontEnd>(
         &self,
         alloc: Global,
@@ -107,11 +129,20 @@ impl<T: FileView> Parse<T> {
         edition: Edition,
     ) -> Result<Option<(Parse<T>, TextRange)>, ParseError>
         requires { IsEditOf (text self.now.tree) (record { delete = delete; insert = insert.now }) }
-        ensures answer { IfOk result (IsIncremental (F.answers front.now) edition self.now (record { delete = delete; insert = insert.now })) }
-        ensures same_text { IfOk result (λ o. IfSome o (λ p. text p.0.tree ≡ edited (text self.now.tree) (record { delete = delete; insert = insert.now }))) }
+        ensures answer { IfOk result (IsIncremental (F.answers front.now) edition self.now
+            (record { delete = delete; insert = insert.now })) }
+        ensures same_text { IfOk result (λ o.
+            IfSome o (λ p. text p.0.tree
+            ≡ edited (text self.now.tree)
+            (record { delete = delete; insert = insert.now }))) }
         ensures in_text { IfOk result (λ o. IfSome o (λ p. ErrorsLieIn p.0)) }
-        ensures accepted { OnOk result (length (edited (text self.now.tree) (record { delete = delete; insert = insert.now })) < 2 ^ 32) }
-        ensures refused { IfErr result (λ e. (e ≡ TooLong) ↔ (2 ^ 32 ≤ length (edited (text self.now.tree) (record { delete = delete; insert = insert.now })))) }
+        ensures accepted { OnOk result (length
+            (edited (text self.now.tree) (record { delete = delete; insert = insert.now }))
+            < 2 ^ 32) }
+        ensures refused { IfErr result (λ e. (e ≡ TooLong)
+            ↔ (2 ^ 32
+            ≤ length (edited (text self.now.tree)
+            (record { delete = delete; insert = insert.now })))) }
     {
         if is_too_long(self.root(), delete, insert) {
             return Err(ParseError::TooLong);
@@ -141,11 +172,19 @@ fn with_token<T>(
     insert: &str,
 ) -> Result<Parse<T>, AllocError>
     requires edit { IsEditOf (text old.now.tree) (record { delete = delete; insert = insert.now }) }
-    requires short { length (edited (text old.now.tree) (record { delete = delete; insert = insert.now })) < 2 ^ 32 }
-    requires covers { new.token ≡ covered old.now.tree (record { delete = delete; insert = insert.now }) }
-    requires text { string_bytes new.text ≡ edited_at new.token (record { delete = delete; insert = insert.now }) }
-    ensures new { IfOk result (λ p. p ≡ with_piece old.now (record { delete = delete; insert = insert.now }) new.token (token_piece new.token (record { delete = delete; insert = insert.now }) (option_map string_bytes new.error))) }
-    ensures same_text { IfOk result (λ p. text p.tree ≡ edited (text old.now.tree) (record { delete = delete; insert = insert.now })) }
+    requires short { length
+        (edited (text old.now.tree) (record { delete = delete; insert = insert.now }))
+        < 2 ^ 32 }
+    requires covers { new.token
+        ≡ covered old.now.tree (record { delete = delete; insert = insert.now }) }
+    requires text { string_bytes new.text
+        ≡ edited_at new.token (record { delete = delete; insert = insert.now }) }
+    ensures new { IfOk result (λ p. p
+        ≡ with_piece old.now (record { delete = delete; insert = insert.now }) new.token
+        (token_piece new.token (record { delete = delete; insert = insert.now })
+        (option_map string_bytes new.error))) }
+    ensures same_text { IfOk result (λ p. text p.tree
+        ≡ edited (text old.now.tree) (record { delete = delete; insert = insert.now })) }
     ensures in_text { IfOk result ErrorsLieIn }
 {
     let NewToken { token, text, error } = new;
@@ -173,10 +212,16 @@ fn with_block<T, F: FrontEnd>(
     edition: Edition,
 ) -> Result<Parse<T>, AllocError>
     requires edit { IsEditOf (text old.now.tree) (record { delete = delete; insert = insert.now }) }
-    requires short { length (edited (text old.now.tree) (record { delete = delete; insert = insert.now })) < 2 ^ 32 }
-    requires block { IsNewBlock (F.answers front.now) edition old.now.tree (record { delete = delete; insert = insert.now }) new.node new.reparser (string_bytes new.text) }
-    ensures new { IfOk result (IsBlockOf (F.answers front.now) edition old.now (record { delete = delete; insert = insert.now }) new.node new.reparser) }
-    ensures same_text { IfOk result (λ p. text p.tree ≡ edited (text old.now.tree) (record { delete = delete; insert = insert.now })) }
+    requires short { length
+        (edited (text old.now.tree) (record { delete = delete; insert = insert.now }))
+        < 2 ^ 32 }
+    requires block { IsNewBlock (F.answers front.now) edition old.now.tree
+        (record { delete = delete; insert = insert.now }) new.node new.reparser
+        (string_bytes new.text) }
+    ensures new { IfOk result (IsBlockOf (F.answers front.now) edition old.now
+        (record { delete = delete; insert = insert.now }) new.node new.reparser) }
+    ensures same_text { IfOk result (λ p. text p.tree
+        ≡ edited (text old.now.tree) (record { delete = delete; insert = insert.now })) }
     ensures in_text { IfOk result ErrorsLieIn }
 {
     let NewBlock {
@@ -209,11 +254,22 @@ fn spliced<T>(
     insert: &str,
 ) -> Result<Parse<T>, AllocError>
     requires root { IsRoot root }
-    requires text { text root.tree ≡ edited (text old.now.tree) (record { delete = delete; insert = insert.now }) }
+    requires text { text root.tree
+        ≡ edited (text old.now.tree) (record { delete = delete; insert = insert.now }) }
     requires short { length (text root.tree) < 2 ^ 32 }
-    requires around { (replaced.start ≤ delete.start) × (delete.end ≤ replaced.end) × (replaced.end ≤ length (text old.now.tree)) }
-    requires errors { All (LiesIn (((replaced.end - replaced.start) + length insert.now) - (delete.end - delete.start))) errors.items }
-    ensures new { IfOk result (λ p. p ≡ record { tree = root.tree; errors = merged old.now.errors errors.items replaced (record { delete = delete; insert = insert.now }) }) }
+    requires around { (replaced.start ≤ delete.start) × (delete.end ≤ replaced.end)
+        × (replaced.end ≤ length (text old.now.tree)) }
+    requires errors { All
+        (LiesIn
+        (((replaced.end - replaced.start) + length insert.now) - (delete.end - delete.start)))
+        errors.items }
+    ensures new { IfOk result (λ p. p
+        ≡ record {
+          tree = root.tree;
+          errors
+              = merged old.now.errors errors.items replaced
+              (record { delete = delete; insert = insert.now });
+        }) }
     ensures in_text { IfOk result ErrorsLieIn }
 {
     // Opens the range's invariant for the proof: its start isn't past its end.
@@ -240,14 +296,19 @@ struct NewBlock {
 
 pub(crate) fn is_too_long(root: &SyntaxNode, delete: TextRange, insert: &str) -> bool
     requires root { IsRoot root.now }
-    requires edit { IsEditOf (text root.now.tree) (record { delete = delete; insert = insert.now }) }
-    ensures { IsTrue result ↔ (2 ^ 32 ≤ length (edited (text root.now.tree) (record { delete = delete; insert = insert.now }))) }
+    requires edit { IsEditOf (text root.now.tree)
+        (record { delete = delete; insert = insert.now }) }
+    ensures { IsTrue result
+        ↔ (2 ^ 32
+        ≤ length (edited (text root.now.tree)
+        (record { delete = delete; insert = insert.now }))) }
 {
     let kept = root.as_str().len() - delete.len().raw() as usize;
     kept + insert.len() > u32::MAX as usize
 }
 
-// The text of a node or token that starts at a byte of the whole text, after an edit of the whole text inside of it.
+// The text of a node or token that starts at a byte of the whole text, after an edit of the whole
+// text inside of it.
 pub(crate) fn edited_text(
     alloc: Global,
     piece: &str,
@@ -259,7 +320,8 @@ pub(crate) fn edited_text(
     requires ended { delete.end ≤ start + length piece.now }
     requires start_boundary { IsCharBoundary piece.now (delete.start - start) }
     requires end_boundary { IsCharBoundary piece.now (delete.end - start) }
-    ensures { IfOk result (λ s. string_bytes s ≡ splice piece.now (delete.start - start) (delete.end - start) insert.now) }
+    ensures { IfOk result (λ s. string_bytes s
+        ≡ splice piece.now (delete.start - start) (delete.end - start) insert.now) }
 {
     let from = (delete.start().raw() - start.raw()) as usize;
     let to = (delete.end().raw() - start.raw()) as usize;
@@ -283,8 +345,15 @@ fn token_path<F: FrontEnd>(
     edition: Edition,
 ) -> Result<Option<NewToken>, AllocError>
     requires root { IsRoot root.now }
-    requires edit { IsEditOf (text root.now.tree) (record { delete = delete; insert = insert.now }) }
-    ensures { IfOk result (λ o. MatchOption o (NoTokenPath (F.answers front.now) edition root.now.tree (record { delete = delete; insert = insert.now })) (λ n. IsNewToken (F.answers front.now) edition root.now.tree (record { delete = delete; insert = insert.now }) n.token (string_bytes n.text) (option_map string_bytes n.error))) }
+    requires edit { IsEditOf (text root.now.tree)
+        (record { delete = delete; insert = insert.now }) }
+    ensures { IfOk result (λ o.
+        MatchOption o
+        (NoTokenPath (F.answers front.now) edition root.now.tree
+        (record { delete = delete; insert = insert.now })) (λ n.
+        IsNewToken (F.answers front.now) edition root.now.tree
+        (record { delete = delete; insert = insert.now }) n.token
+        (string_bytes n.text) (option_map string_bytes n.error))) }
 {
     let token = match root.covering_element(delete).into_token() {
         Some(token) => token,
@@ -352,8 +421,9 @@ struct OneToken {
     error: Option<String>,
 }
 
-// Whether a text is one token of a kind, is not a word that is a keyword elsewhere, and is not one token together with the
-// next character. The next character is appended to the text and removed again; if memory runs out, it may stay.
+// Whether a text is one token of a kind, is not a word that is a keyword elsewhere, and is not one
+// token together with the next character. The next character is appended to the text and removed
+// again; if memory runs out, it may stay.
 fn one_token<F: FrontEnd>(
     alloc: Global,
     front: &F,
@@ -362,7 +432,11 @@ fn one_token<F: FrontEnd>(
     next: Option<char>,
     edition: Edition,
 ) -> Result<Option<OneToken>, AllocError>
-    ensures answer { IfOk result (λ o. MatchOption o (NoOneToken (F.answers front.now) edition kind (string_bytes text.old) next) (λ e. IsOneToken (F.answers front.now) edition kind (string_bytes text.old) next (option_map string_bytes e.error))) }
+    ensures answer { IfOk result (λ o.
+        MatchOption o
+        (NoOneToken (F.answers front.now) edition kind (string_bytes text.old) next) (λ e.
+        IsOneToken (F.answers front.now) edition kind (string_bytes text.old) next
+        (option_map string_bytes e.error))) }
     ensures text { OnOk result (string_bytes text.new ≡ string_bytes text.old) }
 {
     match front.single_token(alloc, text.as_str(), edition)? {
@@ -395,8 +469,8 @@ fn is_contextual_word(text: &str) -> bool
     *text == *"auto" || *text == *"default" || *text == *"union"
 }
 
-// Whether a text and the character after it are one token. The character is appended to the text and removed again; if
-// memory runs out, it may stay.
+// Whether a text and the character after it are one token. The character is appended to the text
+// and removed again; if memory runs out, it may stay.
 fn is_token_with<F: FrontEnd>(
     alloc: Global,
     front: &F,
@@ -404,7 +478,9 @@ fn is_token_with<F: FrontEnd>(
     next: char,
     edition: Edition,
 ) -> Result<bool, AllocError>
-    ensures answer { IfOk result (λ b. IsFalse b ↔ ((F.answers front.now).single edition (string_bytes text.old ++ encode_utf8 next) ≡ None)) }
+    ensures answer { IfOk result (λ b. IsFalse b
+        ↔ ((F.answers front.now).single edition (string_bytes text.old ++ encode_utf8 next)
+        ≡ None)) }
     ensures text { OnOk result (string_bytes text.new ≡ string_bytes text.old) }
 {
     let length = text.len();
@@ -414,7 +490,8 @@ fn is_token_with<F: FrontEnd>(
     Ok(is_token)
 }
 
-// The nearest node around an edit that has a reparser, with its new text, if the braces in that balance.
+// The nearest node around an edit that has a reparser, with its new text, if the braces in that
+// balance.
 fn block_path<F: FrontEnd>(
     alloc: Global,
     root: &SyntaxNode,
@@ -424,8 +501,15 @@ fn block_path<F: FrontEnd>(
     edition: Edition,
 ) -> Result<Option<NewBlock>, AllocError>
     requires root { IsRoot root.now }
-    requires edit { IsEditOf (text root.now.tree) (record { delete = delete; insert = insert.now }) }
-    ensures { IfOk result (λ o. MatchOption o (NoBlockPath (F.answers front.now) edition root.now.tree (record { delete = delete; insert = insert.now })) (λ n. IsNewBlock (F.answers front.now) edition root.now.tree (record { delete = delete; insert = insert.now }) n.node n.reparser (string_bytes n.text))) }
+    requires edit { IsEditOf (text root.now.tree)
+        (record { delete = delete; insert = insert.now }) }
+    ensures { IfOk result (λ o.
+        MatchOption o
+        (NoBlockPath (F.answers front.now) edition root.now.tree
+        (record { delete = delete; insert = insert.now })) (λ n.
+        IsNewBlock (F.answers front.now) edition root.now.tree
+        (record { delete = delete; insert = insert.now }) n.node n.reparser
+        (string_bytes n.text))) }
 {
     let nodes = root.covering_element(delete).ancestors();
     let (node, reparser) = match first_reparsable(nodes, front) {
@@ -490,7 +574,8 @@ fn token_errors(
     error: Option<String>,
 ) -> Result<Vec<SyntaxError>, AllocError>
     requires { length text.now < 2 ^ 32 }
-    ensures { IfOk result (λ errors. errors.items ≡ token_faults text.now (option_map string_bytes error)) }
+    ensures { IfOk result
+        (λ errors. errors.items ≡ token_faults text.now (option_map string_bytes error)) }
 {
     let mut errors = Vec::new(alloc);
     if let Some(message) = error {

@@ -129,7 +129,8 @@ fn edited_in(
 ) -> Result<String, AllocError>
     requires edit { IsEditOf text.now (record { delete = delete; insert = insert.now }) }
     requires window { FitsAround text.now delete window }
-    ensures { IfOk result (λ s. string_bytes s ≡ edited_in text.now window (record { delete = delete; insert = insert.now })) }
+    ensures { IfOk result (λ s. string_bytes s
+        ≡ edited_in text.now window (record { delete = delete; insert = insert.now })) }
 {
     let piece = &text[window.start().raw() as usize..window.end().raw() as usize];
     edited_text(alloc, piece, window.start(), delete, insert)
@@ -149,7 +150,9 @@ fn is_retold<F: ExactFront>(
     requires edit { IsEditOf text.now (record { delete = delete; insert = insert.now }) }
     requires window { FitsAround text.now token window }
     requires around { (token.start ≤ delete.start) × (delete.end ≤ token.end) }
-    ensures { IfOk result (λ b. b ≡ is_retold_in (F.exact front.now) edition text.now window token (record { delete = delete; insert = insert.now })) }
+    ensures { IfOk result (λ b. b
+        ≡ is_retold_in (F.exact front.now) edition text.now window token
+        (record { delete = delete; insert = insert.now })) }
 {
     let new = edited_in(alloc, text, window, delete, insert)?;
     let start = window.start().raw() as usize;
@@ -178,8 +181,11 @@ pub(crate) fn token_path<T, F: ExactFront>(
 ) -> Result<Option<RetoldToken>, AllocError>
     requires edit { IsEditOf (text old.now.tree) (record { delete = delete; insert = insert.now }) }
     ensures { IfOk result (λ o. MatchOption o
-        (NoTokenPath (F.exact front.now) edition old.now count (record { delete = delete; insert = insert.now }))
-        (λ r. IsRetoldToken (F.exact front.now) edition old.now count (record { delete = delete; insert = insert.now }) r.token (string_bytes r.text))) }
+        (NoTokenPath (F.exact front.now) edition old.now count
+        (record { delete = delete; insert = insert.now }))
+        (λ r.
+        IsRetoldToken (F.exact front.now) edition old.now count
+        (record { delete = delete; insert = insert.now }) r.token (string_bytes r.text))) }
 {
     let root = old.root();
     let token = match root.covering_element(delete).into_token() {
@@ -218,12 +224,20 @@ pub(crate) fn with_retold<T>(
     insert: &str,
 ) -> Result<Counted<T>, AllocError>
     requires edit { IsEditOf (text old.now.tree) (record { delete = delete; insert = insert.now }) }
-    requires short { length (edited (text old.now.tree) (record { delete = delete; insert = insert.now })) < 2 ^ 32 }
-    requires covers { new.token ≡ covered old.now.tree (record { delete = delete; insert = insert.now }) }
-    requires text { string_bytes new.text ≡ edited_at new.token (record { delete = delete; insert = insert.now }) }
-    ensures new { IfOk result (λ n. IsRetoldOf old.now count (record { delete = delete; insert = insert.now }) new.token n.parse n.parser_errors) }
-    ensures range { IfOk result (λ n. n.range ≡ range_after new.token (record { delete = delete; insert = insert.now })) }
-    ensures same_text { IfOk result (λ n. text n.parse.tree ≡ edited (text old.now.tree) (record { delete = delete; insert = insert.now })) }
+    requires short { length
+        (edited (text old.now.tree) (record { delete = delete; insert = insert.now }))
+        < 2 ^ 32 }
+    requires covers { new.token
+        ≡ covered old.now.tree (record { delete = delete; insert = insert.now }) }
+    requires text { string_bytes new.text
+        ≡ edited_at new.token (record { delete = delete; insert = insert.now }) }
+    ensures new { IfOk result (λ n.
+        IsRetoldOf old.now count (record { delete = delete; insert = insert.now }) new.token
+        n.parse n.parser_errors) }
+    ensures range { IfOk result
+        (λ n. n.range ≡ range_after new.token (record { delete = delete; insert = insert.now })) }
+    ensures same_text { IfOk result (λ n. text n.parse.tree
+        ≡ edited (text old.now.tree) (record { delete = delete; insert = insert.now })) }
 {
     let RetoldToken { token, text } = new;
     token_is_placed(&token);

@@ -23,7 +23,8 @@ fn begins_name(text: &str) -> bool
     }
 }
 
-// Whether every character can continue a name. A character that can begin a name can continue one too.
+// Whether every character can continue a name. A character that can begin a name can continue one
+// too.
 fn goes_on(text: &str) -> bool
     ensures { result ≡ list_all is_xid_continue (chars text.now) }
 {
@@ -46,8 +47,8 @@ fn is_strict_word<F: FrontEnd>(text: &str, front: &F, edition: Edition) -> bool
     }
 }
 
-/// Whether a name is an identifier: its first character is XID_Start or `_`, the others are XID_Continue, and it is not a
-/// strict keyword. The empty name is not an identifier; `_` is.
+/// Whether a name is an identifier: its first character is XID_Start or `_`, the others are
+/// XID_Continue, and it is not a strict keyword. The empty name is not an identifier; `_` is.
 pub fn is_identifier<F: FrontEnd>(name: &str, front: &F, edition: Edition) -> bool
     ensures { result ≡ is_identifier_of (F.answers front.now) edition name.now }
 {
@@ -60,7 +61,8 @@ fn is_path_word(text: &str) -> bool
     text == "self" || text == "crate" || text == "super" || text == "Self"
 }
 
-/// Whether a name can be an identifier only after `r#`: it is a keyword other than `self`, `crate`, `super` and `Self`.
+/// Whether a name can be an identifier only after `r#`: it is a keyword other than `self`, `crate`,
+/// `super` and `Self`.
 pub fn is_raw_identifier<F: FrontEnd>(name: &str, front: &F, edition: Edition) -> bool
     ensures { result ≡ is_raw_identifier_of (F.answers front.now) edition name.now }
 {

@@ -1,4 +1,5 @@
--- An operator tree ends in the name of a cast's type exactly where its last two tokens are `as` and a name.
+-- An operator tree ends in the name of a cast's type exactly where its last two tokens are `as` and
+-- a name.
 use Rattle.std.proofs.Common.{◌≡◌, ◌≤◌, ℕ, suc, ◌+◌, List, [], ◌∷◌, ◌++◌, length, Bool, true, false, ◌&&◌, ◌||◌, cond, Option, Some, None, option_map, refl, sym, ap, subst, ◌∙◌, arith, append_assoc, length-append}
 use Rattle.std.specs.Prelude.{if◌then◌else◌}
 use Rattle.std.specs.List.{filter, find}
@@ -42,7 +43,8 @@ use Rattle.ras_prec.proofs.Precedences.{child_cursors}
 abbrev child : Cursor → ℕ → Cursor
 child d i = at_place d (d.place ++ i ∷ [])
 
--- the token at a place below d lies directly in a name, and in the type of a cast from d on (or `passed` says that one was above)
+-- the token at a place below d lies directly in a name, and in the type of a cast from d on (or
+-- `passed` says that one was above)
 abbrev named : Bool → Cursor → Place → Bool
 named passed d [] = false
 named passed d (i ∷ []) = is_name_like (kind_at d) && passed

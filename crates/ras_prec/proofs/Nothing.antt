@@ -1,4 +1,5 @@
--- What an operator tree doesn't hold: a block at the end of a range, a record, a `let`, an `&&` that lacks a side.
+-- What an operator tree doesn't hold: a block at the end of a range, a record, a `let`, an `&&`
+-- that lacks a side.
 use Rattle.std.proofs.Common.{◌≡◌, ℕ, Bool, true, false, not, ◌&&◌, ◌||◌, cond, List, [], ◌∷◌, refl, sym, ap, ◌∙◌, subst}
 use Rattle.std.specs.Prelude.{if◌then◌else◌}
 use Rattle.std.specs.List.{filter, list_all}

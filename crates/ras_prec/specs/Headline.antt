@@ -1,4 +1,5 @@
--- The operator theorem over trees, for the test that `needs_parens_in` and `needs_parens_in_place_of` compute.
+-- The operator theorem over trees, for the test that `needs_parens_in` and
+-- `needs_parens_in_place_of` compute.
 use Rattle.std.specs.Prelude.{◌≡◌, ◌↔◌, ℕ, List, [], ◌∷◌, ◌++◌, Bool, true, false, map, Option, Some, None}
 use Rattle.std.specs.List.{filter}
 use Rattle.tree_model.specs.Cursor.{Cursor, parent_of}
@@ -16,11 +17,13 @@ use Rattle.ras_prec.specs.Rules.{asks}
 abbrev pub IsOneReadingOf : List Token → Term → Type 0
 IsOneReadingOf ts t = Reads 0 ts t × ((u : Term) → Reads 0 ts u → u ≡ t)
 
--- The node or token at the place has a parent, and below that parent `own` needs no parentheses in its place.
+-- The node or token at the place has a parent, and below that parent `own` needs no parentheses in
+-- its place.
 abbrev pub NeedsNone : (own place : Cursor) → Type 0
 NeedsNone own place = (parent : Cursor) × (parent_of place ≡ Some parent) × (asks own parent place ≡ false)
 
--- no operand below the root needs parentheses where it is; the parent of an argument is the list of arguments
+-- no operand below the root needs parentheses where it is; the parent of an argument is the list of
+-- arguments
 abbrev pub NoOperandNeedsAny : Cursor → Term → Type 0
 NoOperandNeedsAny r t =
     (i : ℕ) (q : List ℕ) (held : Part) → operand t (i ∷ q) ≡ Some held → NeedsNone (operand_cursor r t (i ∷ q)) (operand_cursor r t (i ∷ q))
@@ -39,9 +42,9 @@ ReadsWithout t q = Reads 0 (tokens (without q t)) (without q t)
 abbrev pub HasPair : Term → List ℕ → Type 0
 HasPair t q = (d : Demand) × (e : Term) × (operand t q ≡ some_part d (Paren e))
 
--- The pairs are at the places below the root, in the order of the text, for which `picks` is true. It is true exactly if a
--- pair is there whose contents need no parentheses in its place, and also exactly if a pair is there without which the
--- tokens read as the term without it.
+-- The pairs are at the places below the root, in the order of the text, for which `picks` is true.
+-- It is true exactly if a pair is there whose contents need no parentheses in its place, and also
+-- exactly if a pair is there without which the tokens read as the term without it.
 abbrev pub AreNeedless : Cursor → List Cursor → Term → Type 0
 AreNeedless r pairs t =
     Reads 0 (tokens t) t × (picks : List ℕ → Bool) × (pairs ≡ map (operand_cursor r t) (filter picks (below t)))

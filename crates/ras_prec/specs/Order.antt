@@ -1,5 +1,6 @@
--- The operator of an expression and its powers, also outside operator trees.
--- (Upstream: `binding_power` and `is_ordered_before_parent_in_place_of` in `ast::prec` of rust-analyzer's `syntax`.)
+-- The operator of an expression and its powers, also outside operator trees. (Upstream:
+-- `binding_power` and `is_ordered_before_parent_in_place_of` in `ast::prec` of rust-analyzer's
+-- `syntax`.)
 use Rattle.std.specs.Prelude.{ℕ, ◌-◌, Bool, true, false, length, Option, Some, None, if◌then◌else◌}
 use Rattle.std.specs.Option.{option_and_then}
 use Rattle.syntax_kind.specs.declared.syntax_kind.SyntaxKind.{SyntaxKind}

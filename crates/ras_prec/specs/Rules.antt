@@ -1,5 +1,6 @@
--- The rules by which an expression needs parentheses, over cursors: `own` in place of the node or token at `place`, below `parent`.
--- (Upstream: `needs_parens_in_place_of` in `ast::prec` of rust-analyzer's `syntax`; docs/DIFFERENCES.md lists three exceptions.)
+-- The rules by which an expression needs parentheses, over cursors: `own` in place of the node or
+-- token at `place`, below `parent`. (Upstream: `needs_parens_in_place_of` in `ast::prec` of
+-- rust-analyzer's `syntax`; docs/DIFFERENCES.md lists three exceptions.)
 use Rattle.std.specs.Prelude.{Bool, true, false, not, ◌&&◌, ◌||◌, Option, Some, None, is_some, if◌then◌else◌}
 use Rattle.std.specs.List.{find}
 use Rattle.std.specs.Option.{option_and_then}
@@ -38,7 +39,8 @@ is_bare_jump (Node kind.BREAK_EXPR) c = is_valueless c
 is_bare_jump (Node kind.YIELD_EXPR) c = is_valueless c
 is_bare_jump _ c = false
 
--- a block that follows would be parsed as part of it: as its value, its end, or the fields of a record
+-- a block that follows would be parsed as part of it: as its value, its end, or the fields of a
+-- record
 abbrev pub is_cut_by_block : Cursor → Bool
 is_cut_by_block c = is_bare_jump (kind_at c) c || (range_ends_in_block c || has_exterior_record c)
 
@@ -71,10 +73,11 @@ is_before_angle (Some k) = is_angle k
 abbrev pub binds_less : (own parent place : Cursor) → Bool
 binds_less own parent place = by_power (powers_of own) (powers_of parent) (stands_before_in own parent place)
 
--- Where the parent is an expression, the first of these rules that applies decides. A field that is called needs parentheses.
--- Where a block follows, so does an expression that the block would continue. A jump without value needs none below a postfix, and any jump
--- needs them before `&&` and `||`. What ends in a cast's name needs them before `<` and `<<`. A `let` in a chain of `&&` needs none.
--- Otherwise the powers decide.
+-- Where the parent is an expression, the first of these rules that applies decides. A field that is
+-- called needs parentheses. Where a block follows, so does an expression that the block would
+-- continue. A jump without value needs none below a postfix, and any jump needs them before `&&`
+-- and `||`. What ends in a cast's name needs them before `<` and `<<`. A `let` in a chain of `&&`
+-- needs none. Otherwise the powers decide.
 abbrev pub asks_in_expr : (own parent place : Cursor) → Bool
 asks_in_expr own parent place =
     if is_called_field own parent then true
@@ -101,7 +104,8 @@ is_logic_token (Some t) = is_logic (kind_at t)
 abbrev pub is_logic_expr : Cursor → Bool
 is_logic_expr c = is_of_kind (Node kind.BIN_EXPR) c && is_logic_token (first_token is_binary_operator (children_of c))
 
--- In a statement, or as one: what begins with a block would end after it; and no `else` follows `&&`, `||` or a brace.
+-- In a statement, or as one: what begins with a block would end after it; and no `else` follows
+-- `&&`, `||` or a brace.
 abbrev pub asks_in_statement : (own parent : Cursor) → Bool
 asks_in_statement own parent = begins_with_block own || (is_let_else parent && (is_logic_expr own || ends_in_brace own))
 
@@ -109,7 +113,8 @@ abbrev pub is_statement : SyntaxKind → Bool
 is_statement (Node kind.STMT_LIST) = true
 is_statement k = is_stmt k
 
--- The test: false if the parent is neither the place nor above it, or is neither an expression nor a statement.
+-- The test: false if the parent is neither the place nor above it, or is neither an expression nor
+-- a statement.
 abbrev pub asks : (own parent place : Cursor) → Bool
 asks own parent place =
     if not (is_at_or_above parent place) then false

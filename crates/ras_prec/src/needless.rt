@@ -31,7 +31,8 @@ fn needless<N: AstNode>(node: SyntaxNode) -> Option<N>
 
 fn needless_below<N: AstNode + Drop>(alloc: Global, root: &SyntaxNode) -> Result<Vec<N>, AllocError>
     requires { (k : SyntaxKind) → is_paren (form_of k) ≡ true → N.casts k ≡ true }
-    ensures { IfOk result (λ found. map N.node found.items ≡ filter is_needless (nodes_below root.now)) }
+    ensures { IfOk result
+        (λ found. map N.node found.items ≡ filter is_needless (nodes_below root.now)) }
 {
     let mut found = Vec::new(alloc);
     let mut nodes = root.descendants();
@@ -49,27 +50,33 @@ fn needless_below<N: AstNode + Drop>(alloc: Global, root: &SyntaxNode) -> Result
 
 /// Whether the node is a reading of its own tokens, or `None` if it shows no term.
 ///
-/// It is one exactly where every operand fits its place; and, unless it ends in a cast's name and `<` or `<<` follows, exactly
-/// where no operand below it needs parentheses in its own parent, by [`needs_parens_in`](crate::rules::needs_parens_in).
+/// It is one exactly where every operand fits its place; and, unless it ends in a cast's name and
+/// `<` or `<<` follows, exactly where no operand below it needs parentheses in its own parent, by
+/// [`needs_parens_in`](crate::rules::needs_parens_in).
 pub fn reads_back(node: &SyntaxNode) -> Option<bool>
     ensures reads { ReadsBack result (shown (focus node.now)) }
-    ensures fits { IfSome result (λ b. (t : Term) → meaning (focus node.now) ≡ IsTerm t → b ≡ true ↔ ((q : List ℕ) → Fits t q)) }
-    ensures tied { IfSome result (λ b. (t : Term) → meaning (focus node.now) ≡ IsTerm t → MayStandBefore (leaves_behind node.now.tree node.now.place) t
+    ensures fits { IfSome result (λ b. (t : Term) → meaning (focus node.now) ≡ IsTerm t
+        → b ≡ true ↔ ((q : List ℕ) → Fits t q)) }
+    ensures tied { IfSome result (λ b. (t : Term) → meaning (focus node.now) ≡ IsTerm t
+        → MayStandBefore (leaves_behind node.now.tree node.now.place) t
         → b ≡ true ↔ NoOperandNeedsAny node.now t) }
 {
     operator_reading::reads::reads_back(node)
 }
 
-/// The pairs below the root whose inside needs no parentheses in their place, in preorder, as views that every pair can be viewed
-/// as; `None` unless the tree reads back.
+/// The pairs below the root whose inside needs no parentheses in their place, in preorder, as views
+/// that every pair can be viewed as; `None` unless the tree reads back.
 ///
-/// Where neither `<` nor `<<` follows the tree, they are those without which its tokens read as the term without the pair.
+/// Where neither `<` nor `<<` follows the tree, they are those without which its tokens read as the
+/// term without the pair.
 pub fn needless_parens<N: AstNode + Drop>(
     alloc: Global,
     root: &SyntaxNode,
 ) -> Result<Option<Vec<N>>, AllocError>
     requires { (k : SyntaxKind) → is_paren (form_of k) ≡ true → N.casts k ≡ true }
-    ensures { IfOk result (λ answer. NeedlessOf root.now (option_map (λ found. map N.node found.items) answer) (shown (focus root.now))) }
+    ensures { IfOk result (λ answer.
+        NeedlessOf root.now (option_map (λ found. map N.node found.items) answer)
+        (shown (focus root.now))) }
 {
     match reads_back(root) {
         None => Ok(None),

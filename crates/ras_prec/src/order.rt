@@ -106,7 +106,8 @@ pub fn powers_of(node: &SyntaxNode) -> Strength
     form_powers(form, &node.trees())
 }
 
-/// Where the operator of an expression starts in the whole text, in bytes; where the expression does, if it has none.
+/// Where the operator of an expression starts in the whole text, in bytes; where the expression
+/// does, if it has none.
 pub fn order_of(node: &SyntaxNode) -> usize
     ensures { result ≡ order_of node.now }
 {
@@ -117,7 +118,8 @@ pub fn order_of(node: &SyntaxNode) -> usize
     operator_start(form, &node.trees())
 }
 
-/// Whether the operator of an expression would precede that of the parent, in place of the node or token at `place`.
+/// Whether the operator of an expression would precede that of the parent, in place of the node or
+/// token at `place`.
 pub fn stands_before_in(own: &SyntaxNode, parent: &SyntaxNode, place: &SyntaxNode) -> bool
     ensures { result ≡ stands_before_in own.now parent.now place.now }
 {

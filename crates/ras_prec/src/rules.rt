@@ -142,13 +142,15 @@ fn is_jump_before_postfix(own: &SyntaxNode, parent: &SyntaxNode) -> bool
 }
 
 fn is_jump_before_logic(own: &SyntaxNode, parent: &SyntaxNode, place: &SyntaxNode) -> bool
-    ensures { result ≡ (is_jump (precedence_of own.now) && is_before_logic (kind_next parent.now place.now)) }
+    ensures { result
+        ≡ (is_jump (precedence_of own.now) && is_before_logic (kind_next parent.now place.now)) }
 {
     is_jump(precedence_of(own)) && is_before_logic(parent, place)
 }
 
 fn is_cut_by_angle(own: &SyntaxNode, parent: &SyntaxNode, place: &SyntaxNode) -> bool
-    ensures { result ≡ (is_before_angle (kind_next parent.now place.now) && ends_in_cast_name own.now) }
+    ensures { result
+        ≡ (is_before_angle (kind_next parent.now place.now) && ends_in_cast_name own.now) }
 {
     is_before_angle(parent, place) && ends_in_cast_name(own)
 }
@@ -215,7 +217,8 @@ fn is_logic_expr(own: &SyntaxNode) -> bool
         && is_logic_token(ras_node::first_token::<BinaryOperators>(own.children_with_tokens()))
 }
 
-// A statement would end after the block that it begins with; and `else` follows neither `&&`, `||` nor a brace.
+// A statement would end after the block that it begins with; and `else` follows neither `&&`, `||`
+// nor a brace.
 fn asks_in_statement(own: &SyntaxNode, parent: &SyntaxNode) -> bool
     ensures { result ≡ asks_in_statement own.now parent.now }
 {
@@ -242,39 +245,48 @@ fn asks(own: &SyntaxNode, parent: &SyntaxNode, place: &SyntaxNode) -> bool
     is_statement(kind) && asks_in_statement(own, parent)
 }
 
-/// Whether an expression needs parentheses in place of the node or token at `place`, where `parent` is an ancestor of that or
-/// the place itself. Returns false for any other `parent`.
+/// Whether an expression needs parentheses in place of the node or token at `place`, where `parent`
+/// is an ancestor of that or the place itself. Returns false for any other `parent`.
 ///
-/// For an operand below the root of an operator tree and its own parent node (for an argument, the list of arguments), it returns
-/// false exactly if the expression fits there, before the tokens that follow the operand in the whole tree. For the contents of a
-/// pair in place of the pair, in a tree that reads back and is not followed by `<` or `<<`, it returns false exactly if the tokens
+/// For an operand below the root of an operator tree and its own parent node (for an argument, the
+/// list of arguments), it returns false exactly if the expression fits there, before the tokens
+/// that follow the operand in the whole tree. For the contents of a pair in place of the pair, in a
+/// tree that reads back and is not followed by `<` or `<<`, it returns false exactly if the tokens
 /// without the pair read as the term without it; then they read as no other term.
 pub fn needs_parens_in_place_of(own: &SyntaxNode, parent: &SyntaxNode, place: &SyntaxNode) -> bool
     ensures asks { result ≡ asks own.now parent.now place.now }
-    ensures fits { (r : Cursor) (t s : Term) (i : ℕ) (q : List ℕ) (held : Part) → meaning (focus r) ≡ IsTerm t → operand t (i ∷ q) ≡ Some held
-        → place.now ≡ operand_cursor r t (i ∷ q) → parent_of place.now ≡ Some parent.now → meaning (focus own.now) ≡ IsTerm s
+    ensures fits { (r : Cursor) (t s : Term) (i : ℕ) (q : List ℕ) (held : Part)
+        → meaning (focus r) ≡ IsTerm t → operand t (i ∷ q) ≡ Some held
+        → place.now ≡ operand_cursor r t (i ∷ q) → parent_of place.now ≡ Some parent.now
+        → meaning (focus own.now) ≡ IsTerm s
         → result ≡ false ↔ FitsPlace held.demand (angle_behind r t (i ∷ q)) s }
-    ensures pairs { (r : Cursor) (t : Term) (i : ℕ) (q : List ℕ) (d : Demand) (e : Term) → meaning (focus r) ≡ IsTerm t → operand t (i ∷ q) ≡ some_part d (Paren e)
-        → place.now ≡ operand_cursor r t (i ∷ q) → parent_of place.now ≡ Some parent.now → meaning (focus own.now) ≡ IsTerm e
+    ensures pairs { (r : Cursor) (t : Term) (i : ℕ) (q : List ℕ) (d : Demand) (e : Term)
+        → meaning (focus r) ≡ IsTerm t → operand t (i ∷ q) ≡ some_part d (Paren e)
+        → place.now ≡ operand_cursor r t (i ∷ q) → parent_of place.now ≡ Some parent.now
+        → meaning (focus own.now) ≡ IsTerm e
         → Reads 0 (tokens t) t → MayGoBefore (leaves_behind r.tree r.place) t (i ∷ q)
         → (result ≡ false ↔ Reads 0 (tokens (without (i ∷ q) t)) (without (i ∷ q) t))
-        × (result ≡ false → (u : Term) → Reads 0 (tokens (without (i ∷ q) t)) u → u ≡ without (i ∷ q) t) }
+        × (result ≡ false → (u : Term) → Reads 0 (tokens (without (i ∷ q) t)) u
+        → u ≡ without (i ∷ q) t) }
 {
     asks(own, parent, place)
 }
 
 /// [`needs_parens_in_place_of`] with `place = own`.
 ///
-/// For an operand below the root of an operator tree and its own parent node, it returns false exactly if the operand fits, before
-/// the tokens that follow it in the whole tree. If the operator tree is not followed by `<` or `<<`, this is `Fits`, which is about
-/// the term alone.
+/// For an operand below the root of an operator tree and its own parent node, it returns false
+/// exactly if the operand fits, before the tokens that follow it in the whole tree. If the operator
+/// tree is not followed by `<` or `<<`, this is `Fits`, which is about the term alone.
 pub fn needs_parens_in(own: &SyntaxNode, parent: &SyntaxNode) -> bool
     ensures asks { result ≡ asks own.now parent.now own.now }
-    ensures fits { (r : Cursor) (t : Term) (i : ℕ) (q : List ℕ) (held : Part) → meaning (focus r) ≡ IsTerm t → operand t (i ∷ q) ≡ Some held
+    ensures fits { (r : Cursor) (t : Term) (i : ℕ) (q : List ℕ) (held : Part)
+        → meaning (focus r) ≡ IsTerm t → operand t (i ∷ q) ≡ Some held
         → own.now ≡ operand_cursor r t (i ∷ q) → parent_of own.now ≡ Some parent.now
         → result ≡ false ↔ FitsPlace held.demand (angle_behind r t (i ∷ q)) held.term }
-    ensures alone { (r : Cursor) (t : Term) (i : ℕ) (q : List ℕ) (held : Part) → meaning (focus r) ≡ IsTerm t → operand t (i ∷ q) ≡ Some held
-        → own.now ≡ operand_cursor r t (i ∷ q) → parent_of own.now ≡ Some parent.now → begins_with_angle (leaves_behind r.tree r.place) ≡ false
+    ensures alone { (r : Cursor) (t : Term) (i : ℕ) (q : List ℕ) (held : Part)
+        → meaning (focus r) ≡ IsTerm t → operand t (i ∷ q) ≡ Some held
+        → own.now ≡ operand_cursor r t (i ∷ q) → parent_of own.now ≡ Some parent.now
+        → begins_with_angle (leaves_behind r.tree r.place) ≡ false
         → result ≡ false ↔ Fits t (i ∷ q) }
 {
     needs_parens_in_place_of(own, parent, own)

@@ -1,4 +1,5 @@
--- The loop along operands answers what the rules say, and these speak of the children that are meant.
+-- The loop along operands answers what the rules say, and these speak of the children that are
+-- meant.
 use Rattle.std.proofs.Common.{◌≡◌, ℕ, suc, ◌+◌, ◌++◌, Bool, true, false, ◌&&◌, ◌||◌, cond, List, [], ◌∷◌, map, Option, Some, None, refl, sym, ap, ◌∙◌, arith}
 use Rattle.std.specs.Prelude.{if◌then◌else◌, is_some}
 use Rattle.std.specs.List.{filter, find, range_with_len}

@@ -1,4 +1,5 @@
--- A walk that passes over what is below each node that is no step comes to those nodes from which one goes up to the top.
+-- A walk that passes over what is below each node that is no step comes to those nodes from which
+-- one goes up to the top.
 use Rattle.std.proofs.Common.{◌≡◌, ℕ, suc, ◌+◌, ◌≤◌, ◌<◌, ◌++◌, Bool, true, false, ◌&&◌, ◌||◌, cond, List, [], ◌∷◌, map, length, Option, Some, None, Decides, refl, sym, ap, subst, ◌∙◌, arith, append_assoc, length-append}
 use Rattle.std.proofs.lemmas.List.{append-nil, map-append}
 use Rattle.std.specs.Prelude.{if◌then◌else◌, option_map, is_some, not}
@@ -21,7 +22,8 @@ use Rattle.ras_prec_walks.proofs.Operands.{child, Children, first_child, more_ch
 abbrev pub is_come_to : Sought → Cursor → Cursor → Bool
 is_come_to s top c = is_same_cursor c top || is_step s c (parent_of c)
 
--- what the walk finds from here on, and the node below which it passes over what is there, if it does
+-- what the walk finds from here on, and the node below which it passes over what is there, if it
+-- does
 abbrev pub finds : Sought → Cursor → Option Cursor → List (WalkEvent Cursor) → Bool
 finds s top past [] = false
 finds s top None (Enter c ∷ w) = if is_come_to s top c then is_sought s c || finds s top None w else finds s top (Some c) w

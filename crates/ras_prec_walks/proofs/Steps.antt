@@ -4,7 +4,7 @@ use Rattle.std.specs.Prelude.{if◌then◌else◌}
 use Rattle.std.specs.List.{filter, slice_get}
 use Rattle.tree_model.specs.Tree.{node, token, Forest, nil, cons, forest_of_children}
 use Rattle.tree_model.specs.Cursor.{Cursor}
-use Rattle.lossless_tree.specs.Trees.{first_of, is_done}
+use Rattle.lossless_tree.specs.Trees.{first_of, rest_of, is_done}
 use Rattle.ras_node.specs.Nodes.{kind_at, has_kind_in}
 use Rattle.ras_node.specs.Sets.{is_expr}
 use Rattle.ras_prec_walks.specs.declared.along.Toward.{Toward}
@@ -55,3 +55,49 @@ into_step w BehindDots n (cons (node k c) r) e h = by (is_expr k) e
     by : (a : Bool) → Into n ≡ (if a then Past BehindDots else Past BehindDots) → reaches w n c ≡ reaches w BehindDots r
     by false e = absurd (let bad : Into n ≡ Past BehindDots = e in cc)
     by true e = absurd (let bad : Into n ≡ Past BehindDots = e in cc)
+
+-- a step past a child
+pub past_step : (w : Toward) (m n : Meant) (f : Forest) → Past n ≡ turn_at w m (first_of f) → is_done f ≡ false → reaches w n (rest_of f) ≡ reaches w m f
+past_step w m n nil e h = absurd (let bad : true ≡ false = h in cc)
+past_step w m n (cons (token k t) r) e h = ap (λ m. reaches w m r) (let both : Past n ≡ Past (past_token m k) = e in let same : n ≡ past_token m k = cc in same)
+past_step w First n (cons (node k c) r) e h = by (is_expr k) (is_found w k) (goes_on w k) e
+  where
+    by : (a b d : Bool) → Past n ≡ (if a then (if b then Answer true else (if d then Into (operand w k) else Answer false)) else Past First)
+        → reaches w n r ≡ (if a then b || (d && reaches w (operand w k) c) else reaches w First r)
+    by false b d e = ap (λ m. reaches w m r) (let both : Past n ≡ Past First = e in let same : n ≡ First = cc in same)
+    by true true d e = absurd (let bad : Past n ≡ Answer true = e in cc)
+    by true false false e = absurd (let bad : Past n ≡ Answer false = e in cc)
+    by true false true e = absurd (let bad : Past n ≡ Into (operand w k) = e in cc)
+past_step w Second n (cons (node k c) r) e h = by (is_expr k) e
+  where
+    by : (a : Bool) → Past n ≡ (if a then Past First else Past Second) → reaches w n r ≡ (if a then reaches w First r else reaches w Second r)
+    by false e = ap (λ m. reaches w m r) (let both : Past n ≡ Past Second = e in let same : n ≡ Second = cc in same)
+    by true e = ap (λ m. reaches w m r) (let both : Past n ≡ Past First = e in let same : n ≡ First = cc in same)
+past_step w BehindDots n (cons (node k c) r) e h = by (is_expr k) e
+  where
+    by : (a : Bool) → Past n ≡ (if a then Past BehindDots else Past BehindDots) → reaches w n r ≡ reaches w BehindDots r
+    by false e = ap (λ m. reaches w m r) (let both : Past n ≡ Past BehindDots = e in let same : n ≡ BehindDots = cc in same)
+    by true e = ap (λ m. reaches w m r) (let both : Past n ≡ Past BehindDots = e in let same : n ≡ BehindDots = cc in same)
+
+-- the end of a walk
+pub answer_step : (w : Toward) (m : Meant) (u : Bool) (f : Forest) → Answer u ≡ turn_at w m (first_of f) → is_done f ≡ false → u ≡ reaches w m f
+answer_step w m u nil e h = absurd (let bad : true ≡ false = h in cc)
+answer_step w m u (cons (token k t) r) e h = absurd (let bad : Answer u ≡ Past (past_token m k) = e in cc)
+answer_step w First u (cons (node k c) r) e h = by (is_expr k) (is_found w k) (goes_on w k) e
+  where
+    by : (a b d : Bool) → Answer u ≡ (if a then (if b then Answer true else (if d then Into (operand w k) else Answer false)) else Past First)
+        → u ≡ (if a then b || (d && reaches w (operand w k) c) else reaches w First r)
+    by false b d e = absurd (let bad : Answer u ≡ Past First = e in cc)
+    by true true d e = let both : Answer u ≡ Answer true = e in let same : u ≡ true = cc in same
+    by true false false e = let both : Answer u ≡ Answer false = e in let same : u ≡ false = cc in same
+    by true false true e = absurd (let bad : Answer u ≡ Into (operand w k) = e in cc)
+answer_step w Second u (cons (node k c) r) e h = by (is_expr k) e
+  where
+    by : (a : Bool) → Answer u ≡ (if a then Past First else Past Second) → u ≡ (if a then reaches w First r else reaches w Second r)
+    by false e = absurd (let bad : Answer u ≡ Past Second = e in cc)
+    by true e = absurd (let bad : Answer u ≡ Past First = e in cc)
+answer_step w BehindDots u (cons (node k c) r) e h = by (is_expr k) e
+  where
+    by : (a : Bool) → Answer u ≡ (if a then Past BehindDots else Past BehindDots) → u ≡ reaches w BehindDots r
+    by false e = absurd (let bad : Answer u ≡ Past BehindDots = e in cc)
+    by true e = absurd (let bad : Answer u ≡ Past BehindDots = e in cc)

@@ -32,7 +32,8 @@ hands_on (Node kind.YEET_EXPR) = true
 hands_on (Node kind.LET_EXPR) = true
 hands_on _ = false
 
--- among a node and its ancestors, one comes before a block, and what follows each node below that one may follow its child too
+-- among a node and its ancestors, one comes before a block, and what follows each node below that
+-- one may follow its child too
 abbrev pub before_block : List Cursor → Bool
 before_block [] = false
 before_block (c ∷ cs) = comes_before_block (kind_at c) || (hands_on (kind_at c) && before_block cs)

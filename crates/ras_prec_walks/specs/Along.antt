@@ -1,5 +1,6 @@
 -- Along one operand after the other: what an expression begins with, and what it ends with.
--- (Upstream: `needs_parens_in_stmt` and `trailing_brace` in `ast::prec` of rust-analyzer's `syntax`.)
+-- (Upstream: `needs_parens_in_stmt` and `trailing_brace` in `ast::prec` of rust-analyzer's
+-- `syntax`.)
 use Rattle.std.specs.Prelude.{Bool, true, false, ◌&&◌, ◌||◌, Option, None, Some, if◌then◌else◌}
 use Rattle.syntax_kind.specs.declared.syntax_kind.SyntaxKind.{SyntaxKind}
 use Rattle.syntax_kind.specs.declared.syntax_kind.SyntaxKind.TheVariants.{Node}
@@ -60,7 +61,8 @@ last_operand (Node kind.BIN_EXPR) = Second
 last_operand (Node kind.RANGE_EXPR) = BehindDots
 last_operand _ = First
 
--- of a node's children, the expression that is meant: the first, the second, or the first after `..` or `..=`
+-- of a node's children, the expression that is meant: the first, the second, or the first after
+-- `..` or `..=`
 abbrev pub meant_child : Meant → Cursor → Option Cursor
 meant_child First c = typed_child is_expr c
 meant_child Second c = second_typed_child is_expr c
@@ -103,7 +105,8 @@ abbrev mutual
   meant_ends Second (cons u r) = if is_expr_tree u then meant_ends First r else meant_ends Second r
   meant_ends BehindDots (cons u r) = if is_dots u then meant_ends First r else meant_ends BehindDots r
 
--- It begins with an operand that is block-like, or that begins with one in its turn. As a statement it would end there.
+-- It begins with an operand that is block-like, or that begins with one in its turn. As a statement
+-- it would end there.
 abbrev pub begins_with_block : Cursor → Bool
 begins_with_block c = begins_with_operand (kind_at c) && first_begins (forest_of_children (focus c))
 

@@ -1,4 +1,5 @@
--- An expression that ends in the name of a cast's type: `<` and `<<` after it would go on with that type.
+-- An expression that ends in the name of a cast's type: `<` and `<<` after it would go on with that
+-- type.
 use Rattle.std.specs.Prelude.{Bool, false, ◌&&◌, ◌||◌, List, [], ◌∷◌, reverse, Option, Some, None, if◌then◌else◌}
 use Rattle.std.specs.List.{find}
 use Rattle.std.specs.Option.{option_and_then}
@@ -25,7 +26,8 @@ abbrev pub is_cast_type : Cursor → Option Cursor → Bool
 is_cast_type c None = false
 is_cast_type c (Some parent) = is_type_of_cast c parent
 
--- of nodes, each a child of the next: one of those below the top is the type of a cast, or `passed` is true
+-- of nodes, each a child of the next: one of those below the top is the type of a cast, or `passed`
+-- is true
 abbrev pub passes_cast_type : Bool → Cursor → List Cursor → Bool
 passes_cast_type passed top [] = false
 passes_cast_type passed top (c ∷ cs) = if is_same_cursor c top then passed else passes_cast_type (passed || is_cast_type c (parent_of c)) top cs

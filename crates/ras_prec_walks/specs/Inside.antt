@@ -1,5 +1,6 @@
--- What is in an expression outside delimiters: a record, and a `let` in a condition.
--- (Upstream: `contains_exterior_struct_lit` and `contains_let_expr` in `ast::prec` of rust-analyzer's `syntax`.)
+-- What is in an expression outside delimiters: a record, and a `let` in a condition. (Upstream:
+-- `contains_exterior_struct_lit` and `contains_let_expr` in `ast::prec` of rust-analyzer's
+-- `syntax`.)
 use Rattle.std.specs.Prelude.{Bool, false, not, ◌&&◌, ◌||◌, List, [], ◌∷◌, Option, Some, None, is_some}
 use Rattle.std.specs.List.{filter}
 use Rattle.syntax_kind.specs.declared.syntax_kind.SyntaxKind.{SyntaxKind}
@@ -23,8 +24,8 @@ is_base c parent = is_it c (typed_child is_expr parent)
 abbrev pub is_side : Cursor → Cursor → Bool
 is_side c parent = is_base c parent || is_it c (second_typed_child is_expr parent)
 
--- it is an operand that no delimiters of its parent surround: a side of a binary operator, the base of an index, the operand of
--- `.await`, a prefix, a cast or a field, the receiver of a method call
+-- it is an operand that no delimiters of its parent surround: a side of a binary operator, the base
+-- of an index, the operand of `.await`, a prefix, a cast or a field, the receiver of a method call
 abbrev pub is_operand : SyntaxKind → Cursor → Cursor → Bool
 is_operand (Node kind.BIN_EXPR) c parent = is_side c parent
 is_operand (Node kind.INDEX_EXPR) c parent = is_base c parent

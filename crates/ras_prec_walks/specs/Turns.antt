@@ -1,5 +1,6 @@
--- The loop that the walks along operands share, step by step: each child gives the result, or which expression is meant after it or
--- inside it. (Not from upstream. `Along` has the definition of the result.)
+-- The loop that the walks along operands share, step by step: each child gives the result, or which
+-- expression is meant after it or inside it. (Not from upstream. `Along` has the definition of the
+-- result.)
 use Rattle.std.specs.Prelude.{Bool, true, false, ◌&&◌, ◌||◌, if◌then◌else◌}
 use Rattle.syntax_kind.specs.declared.syntax_kind.SyntaxKind.{SyntaxKind}
 use Rattle.tree_model.specs.Tree.{Tree, node, token, Forest, nil, cons}
@@ -46,8 +47,8 @@ abbrev pub turn_at : Toward → Meant → Tree → Turn
 turn_at w m (token k t) = Past (past_token m k)
 turn_at w m (node k c) = if is_expr k then at_expr w m k else Past m
 
--- The operand that is meant among the children is what the walk looks for; or it begins (ends) with an operand in its turn,
--- and the walk from there reaches such a one.
+-- The operand that is meant among the children is what the walk looks for; or it begins (ends) with
+-- an operand in its turn, and the walk from there reaches such a one.
 abbrev pub reaches : Toward → Meant → Forest → Bool
 reaches w m nil = false
 reaches w m (cons (token k t) r) = reaches w (past_token m k) r

@@ -40,8 +40,9 @@ fn hands_on(kind: SyntaxKind) -> bool
     )
 }
 
-/// Whether a block follows the expression's children: it is a `for`, `if`, `match`, `while` or `include_bytes`, or it is a binary
-/// operator, range, prefix, `&`, `let` or jump whose parent has this property.
+/// Whether a block follows the expression's children: it is a `for`, `if`, `match`, `while` or
+/// `include_bytes`, or it is a binary operator, range, prefix, `&`, `let` or jump whose parent has
+/// this property.
 ///
 /// Takes time linear in the number of these ancestors.
 pub fn is_followed_by_block(node: &SyntaxNode) -> bool

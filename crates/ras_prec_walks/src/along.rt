@@ -1,4 +1,5 @@
-//! Walks along one operand after the other: to what an expression begins with, and to what it ends with.
+//! Walks along one operand after the other: to what an expression begins with, and to what it ends
+//! with.
 ghost use Rattle.std.specs.Prelude.{◌≡◌};
 ghost use Rattle.tree_model.specs.Tree.{forest_of_children};
 ghost use Rattle.tree_model.specs.Cursor.{focus};
@@ -9,8 +10,8 @@ ghost use Rattle.ras_prec_walks.specs.Turns.{is_found, goes_on, operand, past_to
 use lossless_tree::{SiblingsLeft, SyntaxKind, SyntaxNode};
 use ras_node::sets::{Exprs, KindSet, RangeOperators};
 
-/// What a walk looks for: a block-like expression at the start, a brace at the end, or, at the first operand to follow only, a
-/// block or any expression.
+/// What a walk looks for: a block-like expression at the start, a brace at the end, or, at the
+/// first operand to follow only, a block or any expression.
 #[derive(Clone, Copy)]
 pub enum Toward {
     Start,
@@ -19,7 +20,8 @@ pub enum Toward {
     Any,
 }
 
-/// Which of the remaining expressions is the operand to follow: the first, the second, or the first after `..` or `..=`.
+/// Which of the remaining expressions is the operand to follow: the first, the second, or the first
+/// after `..` or `..=`.
 #[derive(Clone, Copy)]
 pub enum Meant {
     First,
@@ -27,7 +29,8 @@ pub enum Meant {
     BehindDots,
 }
 
-/// The result of a walk's step at one child: the walk's result, or the operand to follow after the child or inside it.
+/// The result of a walk's step at one child: the walk's result, or the operand to follow after the
+/// child or inside it.
 #[derive(Clone, Copy)]
 pub enum Turn {
     Answer(bool),
@@ -35,8 +38,8 @@ pub enum Turn {
     Into(Meant),
 }
 
-/// Whether an expression of this kind ends in a block, as an `if`, a loop, a block or a `match` does: as a statement it needs no
-/// `;`.
+/// Whether an expression of this kind ends in a block, as an `if`, a loop, a block or a `match`
+/// does: as a statement it needs no `;`.
 pub fn is_block_like(kind: SyntaxKind) -> bool
     ensures { result ≡ is_block_like kind }
 {
@@ -51,7 +54,8 @@ pub fn is_block_like(kind: SyntaxKind) -> bool
     )
 }
 
-// What the walk looks for: toward the start what is a statement without `;`, toward the end what ends in a brace.
+// What the walk looks for: toward the start what is a statement without `;`, toward the end what
+// ends in a brace.
 fn is_found(toward: Toward, kind: SyntaxKind) -> bool
     ensures { result ≡ is_found toward kind }
 {
@@ -156,7 +160,8 @@ fn turn_at(toward: Toward, meant: Meant, left: &SiblingsLeft<'_>) -> Turn
     }
 }
 
-/// Follows first (or last) operands, starting in `trees`; true if it reaches what `toward` looks for.
+/// Follows first (or last) operands, starting in `trees`; true if it reaches what `toward` looks
+/// for.
 ///
 /// It takes time linear in the children of the nodes that it goes through.
 pub fn reaches(toward: Toward, meant: Meant, trees: &SiblingsLeft<'_>) -> bool
@@ -180,8 +185,9 @@ pub fn reaches(toward: Toward, meant: Meant, trees: &SiblingsLeft<'_>) -> bool
     false
 }
 
-/// Whether an expression begins with a block, an `if`, a `match` or a loop that is not the whole of it: with the left side of a
-/// binary operator, what is called, cast or indexed. As a statement it would end there.
+/// Whether an expression begins with a block, an `if`, a `match` or a loop that is not the whole of
+/// it: with the left side of a binary operator, what is called, cast or indexed. As a statement it
+/// would end there.
 ///
 /// It takes time linear in the children of the nodes that it goes through.
 pub fn begins_with_block(node: &SyntaxNode) -> bool
@@ -192,9 +198,9 @@ pub fn begins_with_block(node: &SyntaxNode) -> bool
         && reaches(Toward::Start, operand(Toward::Start, kind), &node.trees())
 }
 
-/// Whether an expression ends in a brace: it is a block, an `if`, a `match`, a loop or a record, or ends with an operand that
-/// does: that of `&`, `let`, a prefix, `return`, `break`, `yield`, a binary operator's right side, the end of a range, the body
-/// of a closure.
+/// Whether an expression ends in a brace: it is a block, an `if`, a `match`, a loop or a record, or
+/// ends with an operand that does: that of `&`, `let`, a prefix, `return`, `break`, `yield`, a
+/// binary operator's right side, the end of a range, the body of a closure.
 ///
 /// It takes time linear in the children of the nodes that it goes through.
 pub fn ends_in_brace(node: &SyntaxNode) -> bool

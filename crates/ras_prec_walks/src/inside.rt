@@ -7,7 +7,7 @@ ghost use Rattle.ras_prec_walks.specs.Parts.{is_it};
 ghost use Rattle.ras_prec_walks.specs.Inside.{is_side, is_base, is_operand, opens, is_step, is_sought, lacks_side, holds, has_exterior_record, has_let};
 
 use crate::along::{Meant, Toward, reaches};
-use crate::parts::{first_expr, is_and, second_expr};
+use crate::parts::{first_expr, is_a, is_and, second_expr};
 use lossless_tree::{SyntaxKind, SyntaxNode, WalkEvent};
 use std::marker::Model;
 
@@ -18,7 +18,8 @@ pub enum Sought {
     Let,
 }
 
-// What the walk uses of a node: its first two expressions, and whether it is an `&&`. It is computed once for all its children.
+// What the walk uses of a node: its first two expressions, and whether it is an `&&`. It is
+// computed once for all its children.
 #[derive(Drop)]
 struct Operands {
     parent: SyntaxNode,
@@ -41,7 +42,8 @@ impl Model for Operands {
 
     ghost view = { λ o. o.parent };
 
-    ghost invariant = { λ o. (o.first ≡ typed_child is_expr o.parent) × (o.second ≡ second_typed_child is_expr o.parent) × (o.is_and ≡ is_and_of o.parent) };
+    ghost invariant = { λ o. (o.first ≡ typed_child is_expr o.parent)
+        × (o.second ≡ second_typed_child is_expr o.parent) × (o.is_and ≡ is_and_of o.parent) };
 }
 
 impl Operands {
@@ -123,8 +125,8 @@ fn is_this(node: &SyntaxNode, found: &Option<SyntaxNode>) -> bool
     }
 }
 
-// The node is such an operand of its parent. `last` has the parts of the last parent that was met, so that they are not computed
-// again for each of its children.
+// The node is such an operand of its parent. `last` has the parts of the last parent that was met,
+// so that they are not computed again for each of its children.
 fn is_step(sought: Sought, node: &SyntaxNode, last: &mut Option<Operands>) -> bool
     ensures { result ≡ is_step sought node.now (parent_of node.now) }
 {
@@ -149,13 +151,13 @@ fn is_sought(sought: Sought, node: &SyntaxNode) -> bool
     ensures { result ≡ is_sought sought node.now }
 {
     match sought {
-        Sought::Record => node.kind() == SyntaxKind::RECORD_EXPR,
-        Sought::Let => { node.kind() == SyntaxKind::LET_EXPR || (is_and(node) && lacks_side(node)) }
+        Sought::Record => is_a(node, SyntaxKind::RECORD_EXPR),
+        Sought::Let => is_a(node, SyntaxKind::LET_EXPR) || (is_and(node) && lacks_side(node)),
     }
 }
 
-// The walk visits the children of a node only if that node and each ancestor, up to the top, is such an operand of the next. The
-// subtree of any other node is skipped.
+// The walk visits the children of a node only if that node and each ancestor, up to the top, is
+// such an operand of the next. The subtree of any other node is skipped.
 fn holds(sought: Sought, top: &SyntaxNode) -> bool
     ensures { result ≡ holds sought top.now (filter at_node (descendants_of top.now)) }
 {
@@ -185,9 +187,9 @@ fn holds(sought: Sought, top: &SyntaxNode) -> bool
     false
 }
 
-/// Whether the expression contains a record outside delimiters. It does if it is one; if it is a binary operator and a side
-/// contains one; or if it is an index, `.await`, field, method call, cast or prefix and its base, receiver or operand contains
-/// one.
+/// Whether the expression contains a record outside delimiters. It does if it is one; if it is a
+/// binary operator and a side contains one; or if it is an index, `.await`, field, method call,
+/// cast or prefix and its base, receiver or operand contains one.
 ///
 /// It walks the expression once, in time linear in it.
 pub fn has_exterior_record(node: &SyntaxNode) -> bool
@@ -196,7 +198,8 @@ pub fn has_exterior_record(node: &SyntaxNode) -> bool
     holds(Sought::Record, node)
 }
 
-/// Whether the expression is a `let`, or an `&&` that lacks a side or one of whose sides is such an expression.
+/// Whether the expression is a `let`, or an `&&` that lacks a side or one of whose sides is such an
+/// expression.
 ///
 /// It walks the expression once, in time linear in it.
 pub fn has_let(node: &SyntaxNode) -> bool

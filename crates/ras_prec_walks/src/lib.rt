@@ -1,4 +1,5 @@
-//! Walks from an expression: to what it begins or ends with, to what is in it outside delimiters, and up from it.
+//! Walks from an expression: to what it begins or ends with, to what is in it outside delimiters,
+//! and up from it.
 #![tactic(auto)]
 
 pub mod above;

@@ -17,7 +17,8 @@ TakesNoMemory borrowed (Ok v) = borrowed v
 TakesNoMemory borrowed (Err (Escape e)) = Unit {0}
 TakesNoMemory borrowed (Err Memory) = ⊥
 
--- the value as a text, or the fault; or out of memory, if the bytes have a value, whether it is a text or not
+-- the value as a text, or the fault; or out of memory, if the bytes have a value, whether it is a
+-- text or not
 abbrev pub IsTextOf : {V : Type 0} → (V → List ℕ) → Result (List ℕ) EscapeError → Result V ValueError → Type 0
 IsTextOf bytes value (Ok v) = value_as_text value ≡ Ok (bytes v)
 IsTextOf bytes value (Err (Escape e)) = value_as_text value ≡ Err e

@@ -1,4 +1,5 @@
--- The contents and values of literals, by their texts. (Upstream: rust-analyzer's `token_ext`; the Rust Reference, "Tokens".)
+-- The contents and values of literals, by their texts. (Upstream: rust-analyzer's `token_ext`; the
+-- Rust Reference, "Tokens".)
 use Rattle.std.specs.Prelude.{ℕ, ◌+◌, ◌-◌, ◌==◌, ◌||◌, not, Bool, false, nat_eq, nat_lt, codes, List, [], ◌∷◌, flat_map, length, encode_utf8, Option, None, Some, Result, Ok, Err, if◌then◌else◌}
 use Rattle.std.specs.List.{list_any, starts_with, ends_with}
 use Rattle.std.specs.Option.{option_and_then, option_map_or}
@@ -67,8 +68,8 @@ last_fault_after last (r ∷ rs) = last_fault_after (newer last (fatal r.unit)) 
 abbrev pub last_fault : Mode → List ℕ → Option EscapeError
 last_fault mode content = last_fault_after None (reports_in mode (chars content))
 
--- the bytes that a unit means: the UTF-8 of a character, a byte from 80 (hexadecimal) on itself, no bytes for a fault or a
--- warning
+-- the bytes that a unit means: the UTF-8 of a character, a byte from 80 (hexadecimal) on itself, no
+-- bytes for a fault or a warning
 abbrev pub unit_bytes : Result MixedUnit EscapeError → List ℕ
 unit_bytes (Ok (units.Char c)) = encode_utf8 c
 unit_bytes (Ok (units.HighByte b)) = b ∷ []
@@ -97,8 +98,8 @@ string_meanings content = flat_map report_text (reports_in modes.Str (chars cont
 abbrev pub has_backslash : List ℕ → Bool
 has_backslash content = list_any (λ b. b == 92) content
 
--- the value of a content that is not raw: its last fatal fault, if it has one; otherwise its meanings joined if it has a
--- backslash, and the content itself if not
+-- the value of a content that is not raw: its last fatal fault, if it has one; otherwise its
+-- meanings joined if it has a backslash, and the content itself if not
 abbrev pub unless_fault : Option EscapeError → List ℕ → Result (List ℕ) EscapeError
 unless_fault (Some e) value = Err e
 unless_fault None value = Ok value

@@ -1,4 +1,5 @@
--- The parts and values of numbers, by their texts. (Upstream: rust-analyzer's `token_ext`; the Rust Reference, "Tokens".)
+-- The parts and values of numbers, by their texts. (Upstream: rust-analyzer's `token_ext`; the Rust
+-- Reference, "Tokens".)
 use Rattle.std.specs.Prelude.{ℕ, ◌+◌, ◌*◌, ◌==◌, ◌^◌, ◌&&◌, ◌||◌, Bool, not, nat_lt, nat_le, List, [], ◌∷◌, take, drop, slice_index, encode_utf8_all, Option, None, Some, Result, Ok, Err, if◌then◌else◌}
 use Rattle.std.specs.List.{filter, position_or_len, list_all, list_any}
 use Rattle.std.specs.Option.{option_and_then}
@@ -29,7 +30,8 @@ abbrev pub prefix_len : Radix → ℕ
 prefix_len Decimal = 0
 prefix_len _ = 2
 
--- the suffix begins at the first ASCII letter after the prefix, in hexadecimal at the first one that is not a digit
+-- the suffix begins at the first ASCII letter after the prefix, in hexadecimal at the first one
+-- that is not a digit
 abbrev pub is_letter_past_f : ℕ → Bool
 is_letter_past_f b = (nat_le 103 b && nat_le b 122) || (nat_le 71 b && nat_le b 90)
 
@@ -60,7 +62,8 @@ without_underscores text = filter is_no_underscore text
 abbrev pub value_text : List ℕ → List ℕ
 value_text text = encode_utf8_all (filter is_no_underscore (chars text))
 
--- the value of digits with underscores: there is a digit, each is one of the radix, and the number has 128 bits
+-- the value of digits with underscores: there is a digit, each is one of the radix, and the number
+-- has 128 bits
 abbrev pub are_digits : ℕ → List ℕ → Bool
 are_digits base ds = list_all (λ d. nat_lt (digit_value d) base) ds
 
@@ -91,7 +94,8 @@ abbrev pub number_after : ℕ → ℕ → List ℕ → Option ℕ
 number_after base n [] = Some n
 number_after base n (b ∷ text) = option_and_then (λ m. number_after base m text) (appended base n b)
 
--- the suffix of a float begins at its first ASCII letter, but after an `e` (101) or `E` (69) at the next one
+-- the suffix of a float begins at its first ASCII letter, but after an `e` (101) or `E` (69) at the
+-- next one
 abbrev pub first_letter : List ℕ → ℕ
 first_letter text = position_or_len is_ascii_alphabetic text
 

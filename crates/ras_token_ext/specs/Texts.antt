@@ -15,7 +15,8 @@ abbrev pub first_place : ℕ → ℕ → List ℕ → Option ℕ
 first_place byte at [] = None
 first_place byte at (b ∷ text) = if b == byte then Some at else first_place byte (suc at) text
 
--- the offset of the last such byte, in a text that starts at an offset, given the last one found before it, if any
+-- the offset of the last such byte, in a text that starts at an offset, given the last one found
+-- before it, if any
 abbrev pub last_place : ℕ → ℕ → Option ℕ → List ℕ → Option ℕ
 last_place byte at found [] = found
 last_place byte at found (b ∷ text) = last_place byte (suc at) (if b == byte then Some at else found) text

@@ -1,4 +1,5 @@
--- The calls of a callback for the units of a string's content. (Upstream: rust-analyzer's `IsString`.)
+-- The calls of a callback for the units of a string's content. (Upstream: rust-analyzer's
+-- `IsString`.)
 use Rattle.std.specs.Prelude.{ℕ, ◌+◌, Bool, List, [], ◌∷◌, map, Option, option_map, Result, Ok, if◌then◌else◌}
 use Rattle.std.specs.Char.{len_utf8}
 use Rattle.std.specs.Option.{option_and_then, option_map_or}
@@ -14,7 +15,8 @@ use Rattle.literal_escape.specs.declared.reader.Report.{Report}
 use Rattle.ras_token_ext.specs.Literals.{quote_places, between}
 use Rattle.ras_token_ext.specs.Quotes.{bounds}
 
--- a unit as a character: a byte as the character with that code; each unit of a C string as `_` (95), also one with a fault
+-- a unit as a character: a byte as the character with that code; each unit of a C string as `_`
+-- (95), also one with a fault
 abbrev pub shown : Mode → Result MixedUnit EscapeError → Result ℕ EscapeError
 shown modes.CStr unit = Ok 95
 shown _ unit = numbered unit

@@ -5,7 +5,8 @@ ghost use Rattle.ras_token_ext.specs.Literals.{unquoted, char_value, byte_value}
 use crate::parts::{begins_with, cut, ends_with};
 use literal_escape::{EscapeError, unescape_byte, unescape_char};
 
-// The text after an opening marker, without a closing quote, if it has one; `None` if the marker is missing.
+// The text after an opening marker, without a closing quote, if it has one; `None` if the marker is
+// missing.
 fn unquoted<'t>(text: &'t str, marker: &str) -> Option<&'t str>
     ensures { option_map (λ s. s.now) result ≡ unquoted marker.now text.now }
 {
@@ -20,8 +21,8 @@ fn unquoted<'t>(text: &'t str, marker: &str) -> Option<&'t str>
     }
 }
 
-/// The character of a character literal. Without the opening `'` it is [`EscapeError::ZeroChars`]; the closing one may be
-/// missing.
+/// The character of a character literal. Without the opening `'` it is [`EscapeError::ZeroChars`];
+/// the closing one may be missing.
 pub fn char_value(text: &str) -> Result<char, EscapeError>
     ensures { result ≡ char_value text.now }
 {
@@ -31,7 +32,8 @@ pub fn char_value(text: &str) -> Result<char, EscapeError>
     }
 }
 
-/// The byte of a byte literal. Without the opening `b'` it is [`EscapeError::ZeroChars`]; the closing quote may be missing.
+/// The byte of a byte literal. Without the opening `b'` it is [`EscapeError::ZeroChars`]; the
+/// closing quote may be missing.
 pub fn byte_value(text: &str) -> Result<u8, EscapeError>
     ensures { result ≡ byte_value text.now }
 {

@@ -88,9 +88,11 @@ impl CommentKind {
     }
 }
 
-/// The text of a comment after an opening marker of `marker_len` bytes; for a block without the closing `*/`, if it has one.
+/// The text of a comment after an opening marker of `marker_len` bytes; for a block without the
+/// closing `*/`, if it has one.
 ///
-/// Returns `None` if the text is shorter than the marker, or if the marker's end is not a character boundary.
+/// Returns `None` if the text is shorter than the marker, or if the marker's end is not a character
+/// boundary.
 pub fn comment_text(text: &str, marker_len: usize) -> Option<&str>
     ensures { option_map (λ s. s.now) result ≡ comment_text marker_len text.now }
 {

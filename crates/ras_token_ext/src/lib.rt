@@ -1,4 +1,5 @@
-//! The parts and values of literals and comments, by their texts alone. All places are byte offsets into a token's text.
+//! The parts and values of literals and comments, by their texts alone. All places are byte offsets
+//! into a token's text.
 #![tactic(auto)]
 
 pub mod chars;

@@ -7,7 +7,8 @@ ghost use Rattle.ras_token_ext.specs.Numbers.{radix_of, base_of, prefix_len, sta
 
 use std::alloc::{AllocError, Global};
 
-/// The base that an integer is written in. An `as` cast to a number gives the base: `Radix::Octal as u32` is 8.
+/// The base that an integer is written in. An `as` cast to a number gives the base:
+/// `Radix::Octal as u32` is 8.
 #[derive(Clone, Copy, Debug, PartialEq, Eq)]
 pub enum Radix {
     Binary = 2,
@@ -95,7 +96,8 @@ fn suffix_place(text: &str, radix: Radix) -> usize
     bytes.len()
 }
 
-/// The prefix of an integer that names its radix, its digits with their underscores, and its suffix; each may be empty.
+/// The prefix of an integer that names its radix, its digits with their underscores, and its
+/// suffix; each may be empty.
 pub fn split_int(text: &str) -> (&str, &str, &str)
     ensures prefix { result.0.now ≡ int_prefix text.now }
     ensures digits { result.1.now ≡ int_digits text.now }
@@ -138,8 +140,9 @@ fn float_len(text: &str) -> usize
     letter
 }
 
-/// The digits of a floating point number, with point, exponent and underscores, and its suffix, which may be empty: it
-/// begins at the first ASCII letter, but after an `e` or `E` at the next one.
+/// The digits of a floating point number, with point, exponent and underscores, and its suffix,
+/// which may be empty: it begins at the first ASCII letter, but after an `e` or `E` at the next
+/// one.
 pub fn split_float(text: &str) -> (&str, &str)
     ensures digits { result.0.now ≡ float_digits text.now }
     ensures suffix { result.1.now ≡ float_suffix text.now }
@@ -250,8 +253,8 @@ fn number(text: &str, base: u32) -> Option<u128>
     Some(number)
 }
 
-/// The value of an integer: the value of its digits between the prefix and the suffix, without the underscores. It takes no
-/// memory.
+/// The value of an integer: the value of its digits between the prefix and the suffix, without the
+/// underscores. It takes no memory.
 pub fn int_value(text: &str) -> Result<u128, IntError>
     ensures { result ≡ int_value text.now }
 {

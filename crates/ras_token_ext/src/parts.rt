@@ -15,8 +15,8 @@ fn is_boundary(text: &str, at: usize) -> bool
     }
 }
 
-/// The text from one offset to another, or `None` if the first is past the second, if one of them is past the text's end,
-/// or if one is not at a character boundary.
+/// The text from one offset to another, or `None` if the first is past the second, if one of them
+/// is past the text's end, or if one is not at a character boundary.
 pub fn cut(text: &str, from: usize, to: usize) -> Option<&str>
     ensures { option_map (λ s. s.now) result ≡ part text.now from to }
 {

@@ -40,8 +40,8 @@ pub fn range_up(contents: TextRange, range: TextRange) -> Option<TextRange>
     }
 }
 
-/// An offset of the whole text as an offset of the content, or `None` if it is before the content. It can be past the
-/// content's end.
+/// An offset of the whole text as an offset of the content, or `None` if it is before the content.
+/// It can be past the content's end.
 pub fn offset_down(contents: TextRange, offset: TextSize) -> Option<TextSize>
     ensures { result ≡ offset_down contents offset }
 {

@@ -32,15 +32,16 @@ fn bytes_text(bytes: CowSlice<'_, u8, Global>) -> Result<CowStr<'_, Global>, Val
 
 /// The value of a byte string or a C string as a text; the rest is as in [`bytes_value`].
 ///
-/// Bytes that are not UTF-8 are `Escape(NonAsciiCharInByte)`; if memory runs out before the bytes are known, the result is
-/// `Memory`.
+/// Bytes that are not UTF-8 are `Escape(NonAsciiCharInByte)`; if memory runs out before the bytes
+/// are known, the result is `Memory`.
 pub fn text_value<'t>(
     alloc: Global,
     mode: Mode,
     prefix: &str,
     text: &'t str,
 ) -> Result<CowStr<'t, Global>, ValueError>
-    ensures value { IsTextOf cow_str_bytes (literal_value (meanings mode) mode prefix.now text.now) result }
+    ensures value { IsTextOf cow_str_bytes (literal_value (meanings mode) mode prefix.now text.now)
+        result }
     ensures borrowed { can_borrow prefix.now text.now ≡ true → TakesNoMemory IsBorrowedStr result }
 {
     let bytes = bytes_value(alloc, mode, prefix, text)?;

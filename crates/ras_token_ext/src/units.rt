@@ -13,7 +13,8 @@ use literal_escape::{EscapeError, MixedUnit, Mode, Units};
 use std::ops::Range;
 use text_size::{TextRange, TextSize};
 
-// A unit as a character: a byte as the character with that code; each unit of a C string as `_`, also a fault.
+// A unit as a character: a byte as the character with that code; each unit of a C string as `_`,
+// also a fault.
 fn shown(mode: Mode, unit: Result<MixedUnit, EscapeError>) -> Result<char, EscapeError>
     ensures { result ≡ shown mode unit }
 {
@@ -27,9 +28,9 @@ fn shown(mode: Mode, unit: Result<MixedUnit, EscapeError>) -> Result<char, Escap
     }
 }
 
-/// Calls `callback` on each unit of a content, in order, with its range in bytes from the content's start, and its
-/// character or fault, warnings too. A byte is passed as the character with that code, and each unit of a C string as `_`,
-/// without faults.
+/// Calls `callback` on each unit of a content, in order, with its range in bytes from the content's
+/// start, and its character or fault, warnings too. A byte is passed as the character with that
+/// code, and each unit of a C string as `_`, without faults.
 ///
 /// Returns the callback in the state that the last call left.
 pub fn unescape<F: FnMut(Range<usize>, Result<char, EscapeError>)>(
@@ -38,7 +39,8 @@ pub fn unescape<F: FnMut(Range<usize>, Result<char, EscapeError>)>(
     mut callback: F,
 ) -> F
     requires { F.IsAlwaysCallable callback }
-    ensures { CalledOnEach (shown mode) (λ f range unit g. F.step f range unit tt g) callback result (reports_in mode (chars content.now)) }
+    ensures { CalledOnEach (shown mode) (λ f range unit g. F.step f range unit tt g) callback result
+        (reports_in mode (chars content.now)) }
 {
     let mut units = Units::new(mode, content);
     while let Some(report) = units.next() {
@@ -56,7 +58,8 @@ fn call_on_units<F: FnMut(TextRange, Result<char, EscapeError>)>(
 ) -> F
     requires size { offset + length content.now < 2 ^ 32 }
     requires call { F.IsAlwaysCallable callback }
-    ensures { FoldsTo (λ f call g. F.step f call.0 call.1 tt g) callback (unit_calls mode offset content.now) result }
+    ensures { FoldsTo (λ f call g. F.step f call.0 call.1 tt g) callback
+        (unit_calls mode offset content.now) result }
 {
     let mut units = Units::new(mode, content);
     while let Some(report) = units.next() {
@@ -75,7 +78,8 @@ fn call_on_chars<F: FnMut(TextRange, Result<char, EscapeError>)>(
 ) -> F
     requires size { offset + length content.now < 2 ^ 32 }
     requires call { F.IsAlwaysCallable callback }
-    ensures { FoldsTo (λ f call g. F.step f call.0 call.1 tt g) callback (char_calls offset (chars content.now)) result }
+    ensures { FoldsTo (λ f call g. F.step f call.0 call.1 tt g) callback
+        (char_calls offset (chars content.now)) result }
 {
     let mut at = offset;
     let mut left = content.chars();
@@ -97,9 +101,9 @@ fn placed_content(text: &str) -> Option<(usize, &str)>
     Some((first + 1, content))
 }
 
-/// Calls `callback` on each unit of a literal's content, like [`unescape`], or on each character of a raw one, with its
-/// range from the start of the literal's text. It makes no call if the text does not have two quotes. A literal that begins
-/// with `prefix` is raw.
+/// Calls `callback` on each unit of a literal's content, like [`unescape`], or on each character of
+/// a raw one, with its range from the start of the literal's text. It makes no call if the text
+/// does not have two quotes. A literal that begins with `prefix` is raw.
 ///
 /// Returns the callback in the state that the last call left.
 pub fn escaped_char_ranges<F: FnMut(TextRange, Result<char, EscapeError>)>(
@@ -110,7 +114,8 @@ pub fn escaped_char_ranges<F: FnMut(TextRange, Result<char, EscapeError>)>(
 ) -> F
     requires size { length text.now < 2 ^ 32 }
     requires call { F.IsAlwaysCallable callback }
-    ensures { FoldsTo (λ f call g. F.step f call.0 call.1 tt g) callback (literal_calls mode (is_raw prefix.now text.now) text.now) result }
+    ensures { FoldsTo (λ f call g. F.step f call.0 call.1 tt g) callback
+        (literal_calls mode (is_raw prefix.now text.now) text.now) result }
 {
     let Some((start, content)) = placed_content(text) else {
         return callback;

@@ -61,7 +61,8 @@ fn content_bytes(
     mode: Mode,
     content: &str,
 ) -> Result<CowSlice<'_, u8, Global>, ValueError>
-    ensures value { IsValueOf cow_slice_items (content_value (meanings mode) mode content.now) result }
+    ensures value { IsValueOf cow_slice_items (content_value (meanings mode) mode content.now)
+        result }
     ensures borrowed { has_backslash content.now ≡ false → TakesNoMemory IsBorrowedSlice result }
 {
     if let Some(fault) = last_fault(mode, content) {
@@ -76,19 +77,22 @@ fn content_bytes(
     }
 }
 
-/// The value of a byte string or a C string: the content if it is raw, that is, begins with `prefix`; otherwise the
-/// meanings of its units, joined.
+/// The value of a byte string or a C string: the content if it is raw, that is, begins with
+/// `prefix`; otherwise the meanings of its units, joined.
 ///
-/// Without two quotes the result is `Escape(LoneSlash)`, otherwise the last fatal fault, if there is one; warnings are
-/// ignored. A content that is raw or has no backslash is borrowed, and takes no memory.
+/// Without two quotes the result is `Escape(LoneSlash)`, otherwise the last fatal fault, if there
+/// is one; warnings are ignored. A content that is raw or has no backslash is borrowed, and takes
+/// no memory.
 pub fn bytes_value<'t>(
     alloc: Global,
     mode: Mode,
     prefix: &str,
     text: &'t str,
 ) -> Result<CowSlice<'t, u8, Global>, ValueError>
-    ensures value { IsValueOf cow_slice_items (literal_value (meanings mode) mode prefix.now text.now) result }
-    ensures borrowed { can_borrow prefix.now text.now ≡ true → TakesNoMemory IsBorrowedSlice result }
+    ensures value { IsValueOf cow_slice_items
+        (literal_value (meanings mode) mode prefix.now text.now) result }
+    ensures borrowed { can_borrow prefix.now text.now ≡ true
+        → TakesNoMemory IsBorrowedSlice result }
 {
     let Some(content) = string_content(text) else {
         return Err(ValueError::Escape(EscapeError::LoneSlash));
@@ -123,7 +127,8 @@ fn string_meanings(alloc: Global, content: &str) -> Result<String, AllocError>
 
 // The value of the content of a string that is not raw.
 fn content_text(alloc: Global, content: &str) -> Result<CowStr<'_, Global>, ValueError>
-    ensures value { IsValueOf cow_str_bytes (content_value string_meanings modes.Str content.now) result }
+    ensures value { IsValueOf cow_str_bytes (content_value string_meanings modes.Str content.now)
+        result }
     ensures borrowed { has_backslash content.now ≡ false → TakesNoMemory IsBorrowedStr result }
 {
     if let Some(fault) = last_fault(Mode::Str, content) {
@@ -140,7 +145,8 @@ fn content_text(alloc: Global, content: &str) -> Result<CowStr<'_, Global>, Valu
 
 /// The value of a string; the rest is as in [`bytes_value`].
 pub fn string_value(alloc: Global, text: &str) -> Result<CowStr<'_, Global>, ValueError>
-    ensures value { IsValueOf cow_str_bytes (literal_value string_meanings modes.Str (codes "r") text.now) result }
+    ensures value { IsValueOf cow_str_bytes
+        (literal_value string_meanings modes.Str (codes "r") text.now) result }
     ensures borrowed { can_borrow (codes "r") text.now ≡ true → TakesNoMemory IsBorrowedStr result }
 {
     let Some(content) = string_content(text) else {

@@ -1,4 +1,5 @@
--- The variants of a literal, with cursors in the place of views. (Rust Reference, "Literal expressions".)
+-- The variants of a literal, with cursors in the place of views. (Rust Reference, "Literal
+-- expressions".)
 use Rattle.std.specs.Prelude.{Bool, true, false, Option, Some, None}
 use Rattle.syntax_kind.specs.declared.syntax_kind.SyntaxKind.{SyntaxKind}
 use Rattle.syntax_kind.specs.declared.syntax_kind.SyntaxKind.TheVariants.{Token}

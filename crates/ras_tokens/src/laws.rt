@@ -13,7 +13,8 @@ pub fn names_of_tokens()
     ensures byte_string { ⟦<tokens::ByteString as AstToken>⟧.casts SyntaxKind.BYTE_STRING ≡ true }
     ensures c_string { ⟦<tokens::CString as AstToken>⟧.casts SyntaxKind.C_STRING ≡ true }
     ensures int_number { ⟦<tokens::IntNumber as AstToken>⟧.casts SyntaxKind.INT_NUMBER ≡ true }
-    ensures float_number { ⟦<tokens::FloatNumber as AstToken>⟧.casts SyntaxKind.FLOAT_NUMBER ≡ true }
+    ensures float_number { ⟦<tokens::FloatNumber as AstToken>⟧.casts SyntaxKind.FLOAT_NUMBER
+        ≡ true }
     ensures char { ⟦<tokens::Char as AstToken>⟧.casts SyntaxKind.CHAR ≡ true }
     ensures byte { ⟦<tokens::Byte as AstToken>⟧.casts SyntaxKind.BYTE ≡ true }
 {}

@@ -16,7 +16,8 @@ use std::alloc::AllocError;
 use std::fmt;
 use std::hash::{Hash, Hasher};
 
-/// A token of the kind with the raw number `K`. The aliases of `ast` name one for each kind of token that has a view.
+/// A token of the kind with the raw number `K`. The aliases of `ast` name one for each kind of
+/// token that has a view.
 #[derive(Drop)]
 pub struct TypedToken<const K: u32> {
     pub(crate) syntax: SyntaxToken,

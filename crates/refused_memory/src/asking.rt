@@ -76,7 +76,8 @@ macro_rules! asked {
     };
 }
 
-/// Prints the line of a call. `stands` states whether its receiver is unchanged since before the first call.
+/// Prints the line of a call. `stands` states whether its receiver is unchanged since before the
+/// first call.
 pub fn say(
     rt: &HostRuntime,
     name: &str,

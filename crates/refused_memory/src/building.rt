@@ -115,7 +115,8 @@ fn filled(
     Ok(builder)
 }
 
-// The parse built from the events of another parse's tree and its errors; `None` if `finish` ran out of memory.
+// The parse built from the events of another parse's tree and its errors; `None` if `finish` ran
+// out of memory.
 fn rebuilt(
     alloc: Global,
     parse: &Parse<SourceFile>,
@@ -166,8 +167,8 @@ fn report(
     say(rt, "finish of a parse", finish, stands, len)
 }
 
-// Builds the tree of a parse once more, with its errors; and once more where the end is refused, since the builder is given up
-// then.
+// Builds the tree of a parse once more, with its errors; and once more where the end is refused,
+// since the builder is given up then.
 fn rebuild(rt: &HostRuntime, parse: &Parse<SourceFile>) -> Result<(), Stopped> {
     let mut calls = Calls {
         start_node: First::Answered,

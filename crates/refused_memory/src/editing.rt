@@ -177,7 +177,8 @@ fn nodes(rt: &HostRuntime, root: &SyntaxNode) -> Result<(), Stopped> {
     node_line(rt, "replace_expr", first, new.as_str())
 }
 
-/// Makes each call that edits a text or a tree or makes a node from a text, and repeats it if memory was refused.
+/// Makes each call that edits a text or a tree or makes a node from a text, and repeats it if
+/// memory was refused.
 pub fn ask(rt: &HostRuntime) -> Result<(), Stopped> {
     texts(rt)?;
     let (file, _) = crate::asked!("parse", SourceFile::parse(rt.alloc(), TEXT, &Rust, NOW));

@@ -1,6 +1,8 @@
-//! Calls that take no memory: each is made when no memory is left, and has the same result as before.
+//! Calls that take no memory: each is made when no memory is left, and has the same result as
+//! before.
 //!
-//! The trees and builders are before the line `built`. Every request for memory after it may be refused.
+//! The trees and builders are before the line `built`. Every request for memory after it may be
+//! refused.
 use crate::asking::Stopped;
 use ra_ap_syntax::{
     AstNode, Edition, FinishError, Parse, SourceFile, SyntaxError, SyntaxKind, SyntaxNode,
@@ -11,8 +13,8 @@ use tiny_front::Tiny;
 
 const NOW: Edition = Edition::CURRENT;
 
-// A builder after these calls, one letter each: `n` begins a node, `e` ends one, `t` adds a token, any other letter adds an error past
-// the end of the text.
+// A builder after these calls, one letter each: `n` begins a node, `e` ends one, `t` adds a token,
+// any other letter adds an error past the end of the text.
 fn builder(alloc: Global, calls: &str) -> Result<SyntaxTreeBuilder, AllocError> {
     let mut builder = SyntaxTreeBuilder::new(alloc);
     for call in calls.chars() {

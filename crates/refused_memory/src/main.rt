@@ -1,8 +1,10 @@
-//! Makes each call that takes memory, and repeats it if memory was refused: its receiver must be unchanged.
+//! Makes each call that takes memory, and repeats it if memory was refused: its receiver must be
+//! unchanged.
 //!
-//! Prints a line for each call: its name and its result, and between them `refused; ` if the first call ran out of memory, or
-//! `changed; ` if something has changed. It is for runs in which any one request for memory is refused. With the argument `free` it
-//! makes the calls that take no memory, for a run in which every request is refused after the line `built`.
+//! Prints a line for each call: its name and its result, and between them `refused; ` if the first
+//! call ran out of memory, or `changed; ` if something has changed. It is for runs in which any one
+//! request for memory is refused. With the argument `free` it makes the calls that take no memory,
+//! for a run in which every request is refused after the line `built`.
 #![tactic(auto)]
 
 mod asking;

@@ -1,5 +1,5 @@
--- How severe a match is, and how it is named. (GitHub: "Workflow commands", `error`, `warning`, `notice`; SARIF 2.1.0, 3.27.10,
--- "level property".)
+-- How severe a match is, and how it is named. (GitHub: "Workflow commands", `error`, `warning`,
+-- `notice`; SARIF 2.1.0, 3.27.10, "level property".)
 use Rattle.std.specs.Prelude.{◌==◌, ℕ, List, codes, Option, Some, None, Bool, if◌then◌else◌}
 use Rattle.std.specs.Cmp.Lexicographic.{pointwise}
 use Rattle.rule_plan.specs.declared.severity.Severity.{Severity}

@@ -19,7 +19,8 @@ pub enum Answer {
     Quit,
 }
 
-/// The answer that a word is: `y`, `n`, `a` or `q`, or `yes`, `no`, `all` or `quit`; `None` if it is none.
+/// The answer that a word is: `y`, `n`, `a` or `q`, or `yes`, `no`, `all` or `quit`; `None` if it
+/// is none.
 pub fn answer_of(word: &str) -> Option<Answer>
     ensures { result ≡ answer_of word.now }
 {
@@ -47,7 +48,8 @@ impl Answer {
         }
     }
 
-    /// Whether nothing more is asked in the file: it is the answer for all further replacements too.
+    /// Whether nothing more is asked in the file: it is the answer for all further replacements
+    /// too.
     pub fn is_last(self) -> bool
         ensures { result ≡ is_last self }
     {
@@ -78,8 +80,9 @@ fn further(answers: &[Answer]) -> &[Answer]
     }
 }
 
-/// Which of so many replacements of a file are taken, by the answers for the first of them. An answer after which nothing more is asked is
-/// that for all further ones; without an answer none is taken.
+/// Which of so many replacements of a file are taken, by the answers for the first of them. An
+/// answer after which nothing more is asked is that for all further ones; without an answer none is
+/// taken.
 ///
 /// # Errors
 ///
@@ -125,8 +128,8 @@ fn behind_first(marks: &[bool]) -> &[bool]
     }
 }
 
-/// The edit with the marked replacements alone: the first mark is that of the first replacement, and one without a mark is left out. Takes
-/// time linear in the edit.
+/// The edit with the marked replacements alone: the first mark is that of the first replacement,
+/// and one without a mark is left out. Takes time linear in the edit.
 ///
 /// # Errors
 ///

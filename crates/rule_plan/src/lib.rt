@@ -1,4 +1,5 @@
-//! What is decided about rules of search and replace without a tree: how severe a match is, and which replacements are taken.
+//! What is decided about rules of search and replace without a tree: how severe a match is, and
+//! which replacements are taken.
 #![tactic(auto)]
 
 mod answer;

@@ -1,4 +1,5 @@
-//! The commands of the program `rust_tree`, their arguments, and the task and the options that a command line asks for.
+//! The commands of the program `rust_tree`, their arguments, and the task and the options that a
+//! command line asks for.
 #![tactic(auto)]
 
 pub mod manual;

@@ -75,7 +75,8 @@ impl Options {
 /// The globs of a command line: which files of a folder are read, and what is left out.
 #[derive(Drop)]
 pub struct Globs {
-    /// Those of `--glob` and then those of `--exclude`, as rules: what they name is left out, or read if the rule is negated.
+    /// Those of `--glob` and then those of `--exclude`, as rules: what they name is left out, or
+    /// read if the rule is negated.
     pub rules: Vec<Rule>,
     /// Whether there is one for files that are read, so that no others are.
     pub has_wanted: bool,
@@ -89,7 +90,8 @@ fn split_glob(glob: &str) -> (&str, bool) {
     }
 }
 
-// Adds the rule of a glob. In an ignore file `!` is before what is kept, on the command line before what is left out.
+// Adds the rule of a glob. In an ignore file `!` is before what is kept, on the command line before
+// what is left out.
 fn push_glob(
     alloc: Global,
     globs: &mut Globs,
@@ -242,7 +244,8 @@ fn address_of(alloc: Global, matches: &ArgMatches) -> Result<Option<String>, All
     }
 }
 
-/// What is shown of the tree of one file, or of several, and how. Returns `None` if a place or a range is invalid.
+/// What is shown of the tree of one file, or of several, and how. Returns `None` if a place or a
+/// range is invalid.
 pub fn showing(
     alloc: Global,
     matches: &ArgMatches,

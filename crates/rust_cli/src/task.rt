@@ -232,7 +232,8 @@ pub fn task_of_rules(
     }
 }
 
-/// The task of a command with its options. `has_several`: whether the command line names more than one file, or a folder.
+/// The task of a command with its options. `has_several`: whether the command line names more than
+/// one file, or a folder.
 pub fn task_of(
     alloc: Global,
     name: &str,

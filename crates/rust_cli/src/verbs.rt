@@ -613,7 +613,8 @@ static MAN_VERB: Verb = Verb {
     rows: &[],
 };
 
-/// The commands, in the order of the help. A new one is a name here, in `NAMES` and in `verb_of`, and its table above.
+/// The commands, in the order of the help. A new one is a name here, in `NAMES` and in `verb_of`,
+/// and its table above.
 #[derive(Clone, Copy)]
 pub(crate) enum Name {
     Tree,
@@ -645,7 +646,8 @@ pub(crate) static NAMES: [Name; 12] = [
     Name::Man,
 ];
 
-// A call for each command: a check writes out the rows of a table that a function names, and those of all commands are too much for one.
+// A call for each command: a check writes out the rows of a table that a function names, and those
+// of all commands are too much for one.
 fn tree() -> &'static Verb {
     &TREE_VERB
 }
@@ -733,8 +735,8 @@ fn texts<'a>(arg: Arg<'a>, name: &'a str, form: &'a str) -> Arg<'a> {
     arg.long(name).value_name(form).action(ArgAction::Append)
 }
 
-// An argument that takes this. Each form is made by a call of its own: a check takes far longer where an argument lives across several calls
-// in one branch.
+// An argument that takes this. Each form is made by a call of its own: a check takes far longer
+// where an argument lives across several calls in one branch.
 fn taking<'a>(arg: Arg<'a>, name: &'static str, takes: Takes) -> Arg<'a> {
     match takes {
         Takes::Words => arg.required(true).num_args(1..),

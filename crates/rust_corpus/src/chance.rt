@@ -79,7 +79,8 @@ impl Chance {
         }
     }
 
-    /// Half of all edits type one of the words, the others delete, paste a piece of the text, or put it in place of another.
+    /// Half of all edits type one of the words, the others delete, paste a piece of the text, or
+    /// put it in place of another.
     pub fn edit(
         &mut self,
         alloc: Global,

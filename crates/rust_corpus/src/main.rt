@@ -1,17 +1,22 @@
-//! The program `rust_corpus`: runs the library over lists of Rust files, and counts the answers that a test of single texts can't show.
+//! The program `rust_corpus`: runs the library over lists of Rust files, and counts the answers
+//! that a test of single texts can't show.
 //!
-//! Standard input lists the files, a line each: an edition, a tab and a path. `edits N SEED` makes N random edits of each file, and
-//! compares the tree of the edited text, of which one token or one block was parsed again, with that of a new parse. `operators` tests
-//! for each operator expression whether it reads back, and which of its parentheses can be removed.
+//! Standard input lists the files, a line each: an edition, a tab and a path. `edits N SEED` makes
+//! N random edits of each file, and compares the tree of the edited text, of which one token or one
+//! block was parsed again, with that of a new parse. `operators` tests for each operator expression
+//! whether it reads back, and which of its parentheses can be removed.
 //!
-//! For `edits` a line may also be `tiny` or `rust`, a tab and a short text, in which `\n` is a newline: every range of it is replaced
-//! by each of six words, and every token too. What differs from a plain model is printed, and then the status is 1. The lines of
-//! `data/texts` take a minute.
+//! For `edits` a line may also be `tiny` or `rust`, a tab and a short text, in which `\n` is a
+//! newline: every range of it is replaced by each of six words, and every token too. What differs
+//! from a plain model is printed, and then the status is 1. The lines of `data/texts` take a
+//! minute.
 //!
-//! `documents N SEED` makes N random edits of each file, each on a new `Document`, N more, one after the other, on one, and N of up to
-//! twelve replacements. Every range of a short text of a line `rust` is replaced by each of thirty words. After each edit the document's
-//! tree and its errors, in their order, have to be those of a new parse; if not, the edit is printed, and the status is 1. `edits` does
-//! the same with its files, and with the text of a line `document`, a tab and a short text.
+//! `documents N SEED` makes N random edits of each file, each on a new `Document`, N more, one
+//! after the other, on one, and N of up to twelve replacements. Every range of a short text of a
+//! line `rust` is replaced by each of thirty words. After each edit the document's tree and its
+//! errors, in their order, have to be those of a new parse; if not, the edit is printed, and the
+//! status is 1. `edits` does the same with its files, and with the text of a line `document`, a tab
+//! and a short text.
 //!
 //! `turns-of-document N SEED` makes N random edits of each file, one after the other, by
 //! `Document::edit`, `turns-of-reparse` by `Parse::reparse`, and `turns-of-none` does neither.

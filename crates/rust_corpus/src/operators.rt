@@ -18,8 +18,8 @@ fn more(count: &mut u64) {
 }
 
 impl Operators {
-    /// Asks of each expression whether it reads back and needs parentheses where it is. Operands of an operator tree are part of it,
-    /// and are not asked once more whether they read back.
+    /// Asks of each expression whether it reads back and needs parentheses where it is. Operands of
+    /// an operator tree are part of it, and are not asked once more whether they read back.
     pub fn ask_file(
         &mut self,
         rt: &HostRuntime,

@@ -1,4 +1,5 @@
-//! Sessions of edits of a document: after each, its tree and its errors are compared with those of a new parse of its text.
+//! Sessions of edits of a document: after each, its tree and its errors are compared with those of
+//! a new parse of its text.
 ghost use Rattle.ra_ap_syntax.specs.Tree.{text};
 ghost use Rattle.ra_ap_syntax.specs.TextEdit.{IsEditOf};
 
@@ -147,8 +148,8 @@ impl Sessions {
         }
     }
 
-    /// Makes so many edits of a text, each of a new document; as many more, one after the other, of one document; and as many of
-    /// several replacements, of another one.
+    /// Makes so many edits of a text, each of a new document; as many more, one after the other, of
+    /// one document; and as many of several replacements, of another one.
     pub fn try_file(
         &mut self,
         rt: &HostRuntime,
@@ -276,7 +277,8 @@ impl Sessions {
         delete: TextRange,
         insert: &str,
     ) -> anyhow::Result<()>
-        requires { IsEditOf (text document.now.parse.tree) (record { delete = delete; insert = insert.now }) }
+        requires { IsEditOf (text document.now.parse.tree)
+            (record { delete = delete; insert = insert.now }) }
     {
         let parse = document.parse();
         let edition = document.edition();

@@ -62,8 +62,8 @@ impl Turns {
         }
     }
 
-    /// Makes so many edits of one file, each of what the one before left. The text is edited beside,
-    /// and a parse and a document are made first, whatever makes the edits.
+    /// Makes so many edits of one file, each of what the one before left. The text is edited
+    /// beside, and a parse and a document are made first, whatever makes the edits.
     pub fn try_file(
         &mut self,
         rt: &HostRuntime,

@@ -1,4 +1,5 @@
-//! The command `highlight`: a text with its tokens coloured by their roles, as a page of HTML or with the colours of a terminal.
+//! The command `highlight`: a text with its tokens coloured by their roles, as a page of HTML or
+//! with the colours of a terminal.
 
 use crate::html::{in_html, write_head};
 use crate::literals::{Cut, Part, call_around, cut_of};
@@ -143,7 +144,8 @@ pub(crate) fn write_anchor<W: Write>(out: &mut W, place: &Place) -> io::Result<(
     )
 }
 
-// Writes a text in the colour of a class, which ends at the end of each line and begins again after it.
+// Writes a text in the colour of a class, which ends at the end of each line and begins again after
+// it.
 fn write_html<W: Write>(
     out: &mut W,
     class: &'static str,
@@ -165,8 +167,8 @@ fn write_html<W: Write>(
     Ok(())
 }
 
-// What ends a line of a token: a line feed, with the carriage return before it. A carriage return that ends a comment is before the line
-// feed of the next token.
+// What ends a line of a token: a line feed, with the carriage return before it. A carriage return
+// that ends a comment is before the line feed of the next token.
 fn line_end(line: &str, is_before_feed: bool) -> &str {
     let end = if line.ends_with("\r\n") {
         2
@@ -178,8 +180,9 @@ fn line_end(line: &str, is_before_feed: bool) -> &str {
     line.get(line.len().saturating_sub(end)..).unwrap_or("")
 }
 
-// Writes a text in the colour that an escape begins, which ends before each line feed and begins again after it. Other control characters
-// are shown as symbols: a file must not move the cursor of a terminal.
+// Writes a text in the colour that an escape begins, which ends before each line feed and begins
+// again after it. Other control characters are shown as symbols: a file must not move the cursor of
+// a terminal.
 fn write_ansi<W: Write>(
     out: &mut W,
     escape: &'static str,
@@ -239,7 +242,8 @@ fn write_literal<W: Write>(
             break;
         }
         let (part, shown, behind) = cut.split(rest);
-        // The last part of a literal that is not terminated, as `'a` before CR LF, ends as its token does.
+        // The last part of a literal that is not terminated, as `'a` before CR LF, ends as its
+        // token does.
         let feeds = behind.starts_with('\n') || (behind.is_empty() && is_before_feed(text, token));
         match ink {
             Ink::Html => write_html(out, class_of_part(part), shown, place)?,
@@ -250,8 +254,9 @@ fn write_literal<W: Write>(
     Ok(())
 }
 
-// How a token is cut, if it is a literal. The first string among the arguments of a macro call is taken for the text of a format: `calls` is
-// where the arguments of the last call began that had one.
+// How a token is cut, if it is a literal. The first string among the arguments of a macro call is
+// taken for the text of a format: `calls` is where the arguments of the last call began that had
+// one.
 fn cut_in(token: &SyntaxToken, calls: &mut Option<TextSize>) -> Option<Cut> {
     let call = call_around(token);
     let is_format = call.is_some() && call != *calls;

@@ -1,4 +1,5 @@
-//! Trees and texts of Rust to look at: a tree as indented lines, JSON, nested lists or a page of HTML, and a text with coloured tokens.
+//! Trees and texts of Rust to look at: a tree as indented lines, JSON, nested lists or a page of
+//! HTML, and a text with coloured tokens.
 #![tactic(auto)]
 
 pub mod highlight;

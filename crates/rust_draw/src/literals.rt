@@ -1,4 +1,5 @@
-//! The parts of literals that have colours of their own: escapes, and in the text of a format the places of its arguments.
+//! The parts of literals that have colours of their own: escapes, and in the text of a format the
+//! places of its arguments.
 
 use literal_escape::{Mode, Units};
 use lossless_tree::{SyntaxKind, SyntaxNode, SyntaxToken, TextSize};
@@ -8,7 +9,8 @@ use lossless_tree::{SyntaxKind, SyntaxNode, SyntaxToken, TextSize};
 pub enum Part {
     /// Its quotes, and what stands for itself.
     Plain,
-    /// An escape, as `\n`, a backslash at the end of a line, or in a format a brace that is written twice.
+    /// An escape, as `\n`, a backslash at the end of a line, or in a format a brace that is written
+    /// twice.
     Escape,
     /// An escape that is none.
     Wrong,
@@ -47,7 +49,8 @@ pub fn cut_of(kind: SyntaxKind, text: &str, is_format: bool) -> Option<Cut> {
     Some(Cut { mode, is_format })
 }
 
-// The length of the escape that a text begins with. A backslash at the end of a line is no unit, and goes up to the next one.
+// The length of the escape that a text begins with. A backslash at the end of a line is no unit,
+// and goes up to the next one.
 fn escape_of(mode: Mode, text: &str) -> (Part, usize) {
     let Some(report) = Units::new(mode, text).next() else {
         return (Part::Escape, text.len());
@@ -85,7 +88,8 @@ fn argument_of(text: &str) -> Option<usize> {
     }
 }
 
-// What a text that begins with a brace begins with, and its length: a brace twice, the place of an argument, or of plain text 0.
+// What a text that begins with a brace begins with, and its length: a brace twice, the place of an
+// argument, or of plain text 0.
 fn place_of(text: &str) -> (Part, usize) {
     if text.starts_with("{{") || text.starts_with("}}") {
         return (Part::Escape, 2);
@@ -145,7 +149,8 @@ fn is_call(node: Option<SyntaxNode>) -> bool {
     }
 }
 
-/// Where the arguments of a macro call begin that a string is one of; `None` if it is in brackets inside of these, or elsewhere.
+/// Where the arguments of a macro call begin that a string is one of; `None` if it is in brackets
+/// inside of these, or elsewhere.
 pub fn call_around(token: &SyntaxToken) -> Option<TextSize> {
     if token.kind() != SyntaxKind::STRING {
         return None;

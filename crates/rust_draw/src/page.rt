@@ -1,9 +1,10 @@
 //! The tree of a text as a self-contained page of HTML: the text and the tree side by side.
 //!
-//! The page has the text once, and its tree as a list of numbers; its script makes the lines that come into view. In that list a node is
-//! `KIND[..]` and a token `KIND=LENGTH`, with the letter of its role: the name of a kind stands where it comes first, and then its number
-//! in the order of these names. `LENGTH` counts units of UTF-16, as the script does, with `/` and the bytes where these are more. What is
-//! not shown in the tree has a `-` before it.
+//! The page has the text once, and its tree as a list of numbers; its script makes the lines that
+//! come into view. In that list a node is `KIND[..]` and a token `KIND=LENGTH`, with the letter of
+//! its role: the name of a kind stands where it comes first, and then its number in the order of
+//! these names. `LENGTH` counts units of UTF-16, as the script does, with `/` and the bytes where
+//! these are more. What is not shown in the tree has a `-` before it.
 
 use crate::html::{in_html, write_head};
 use crate::page_parts::{write_script, write_style};
@@ -105,7 +106,8 @@ fn write_rows<W: Write>(
     Ok(())
 }
 
-// Writes the errors: each message, and behind it the ranges of the errors that have it one after another, in bytes.
+// Writes the errors: each message, and behind it the ranges of the errors that have it one after
+// another, in bytes.
 fn write_errors<W: Write>(out: &mut W, errors: &[SyntaxError]) -> io::Result<()> {
     let mut last = None;
     for error in errors {
@@ -120,7 +122,8 @@ fn write_errors<W: Write>(out: &mut W, errors: &[SyntaxError]) -> io::Result<()>
     Ok(())
 }
 
-/// Writes the page of a node, with the errors of its text. It has some three bytes for each of a usual text.
+/// Writes the page of a node, with the errors of its text. It has some three bytes for each of a
+/// usual text.
 pub fn show<W: Write>(
     alloc: Global,
     out: &mut W,

@@ -111,7 +111,8 @@ class Pane {
     this.pane.addEventListener('scroll', () => this.show());
   }
   get fits() { return this.pane.clientHeight / HIGH; }
-  // Browsers limit how high an element is, so where there are very many lines the bar moves by more than one.
+  // Browsers limit how high an element is, so where there are very many lines the bar moves by more
+  // than one.
   get step() { return Math.max(1, this.count * HIGH / MOST); }
   size(count) { this.count = count; this.room.style.height = `${count * HIGH / this.step}px`; this.show(); }
   show() {

@@ -1,4 +1,5 @@
-//! The differences of two trees as a self-contained page of HTML: both texts side by side with the places marked, and a list of these.
+//! The differences of two trees as a self-contained page of HTML: both texts side by side with the
+//! places marked, and a list of these.
 
 use crate::highlight::{Ink, Place, write_anchor, write_coloured, write_colours};
 use crate::html::{in_html, write_head};
@@ -84,7 +85,8 @@ impl Side {
     }
 }
 
-// The part of a text that is marked: a node or a token, or an empty place where the other tree has more.
+// The part of a text that is marked: a node or a token, or an empty place where the other tree has
+// more.
 fn range_of(event: &Event, end: TextSize) -> TextRange {
     match event {
         None => TextRange::empty(end),
@@ -190,7 +192,8 @@ fn write_text<W: Write>(
     out.write_all(b"</pre>\n</section>\n")
 }
 
-// Writes what a tree has at a difference: a node, a token with its text, or the end of a node or of the text.
+// Writes what a tree has at a difference: a node, a token with its text, or the end of a node or of
+// the text.
 fn write_event<W: Write>(out: &mut W, event: &Event) -> io::Result<()> {
     match event {
         None => out.write_all(b"the end"),
@@ -225,6 +228,42 @@ fn write_link<W: Write>(
     out.write_all(b"</a>")
 }
 
+// Writes an item of the list: a link to a difference in each of the texts, which end there.
+fn write_item<W: Write>(
+    out: &mut W,
+    number: usize,
+    difference: &Difference,
+    olds: &mut Spots<'_>,
+    news: &mut Spots<'_>,
+    old_end: TextSize,
+    new_end: TextSize,
+) -> io::Result<()> {
+    out.write_all(b"<li>")?;
+    write_link(out, number, Side::Old, difference, olds, old_end)?;
+    out.write_all(b" ")?;
+    write_link(out, number, Side::New, difference, news, new_end)?;
+    out.write_all(b"</li>\n")
+}
+
+fn write_items<W: Write>(
+    out: &mut W,
+    found: &[Difference],
+    olds: &mut Spots<'_>,
+    news: &mut Spots<'_>,
+    old_end: TextSize,
+    new_end: TextSize,
+) -> io::Result<()> {
+    out.write_all(b"<ol>\n")?;
+    for (number, difference) in found.iter().enumerate() {
+        write_item(out, number, difference, olds, news, old_end, new_end)?;
+    }
+    out.write_all(b"</ol>\n")
+}
+
+fn end_of(text: &str) -> TextSize {
+    TextSize::of(text).unwrap_or(TextSize::new(0))
+}
+
 // Writes the list of the differences.
 fn write_list<W: Write>(
     alloc: Global,
@@ -233,18 +272,11 @@ fn write_list<W: Write>(
     new: &str,
     found: &[Difference],
 ) -> Result<(), Failure> {
-    let (mut olds, mut news) = (spots(alloc, old)?, spots(alloc, new)?);
-    let old_end = TextSize::of(old).unwrap_or(TextSize::new(0));
-    let new_end = TextSize::of(new).unwrap_or(TextSize::new(0));
-    out.write_all(b"<ol>\n")?;
-    for (number, difference) in found.iter().enumerate() {
-        out.write_all(b"<li>")?;
-        write_link(out, number, Side::Old, difference, &mut olds, old_end)?;
-        out.write_all(b" ")?;
-        write_link(out, number, Side::New, difference, &mut news, new_end)?;
-        out.write_all(b"</li>\n")?;
-    }
-    Ok(out.write_all(b"</ol>\n")?)
+    let mut olds = spots(alloc, old)?;
+    let mut news = spots(alloc, new)?;
+    let (old_end, new_end) = (end_of(old), end_of(new));
+    write_items(out, found, &mut olds, &mut news, old_end, new_end)?;
+    Ok(())
 }
 
 // Writes the page of these differences.
@@ -285,8 +317,8 @@ fn write_differences<W: Write>(
     })
 }
 
-/// Writes a page of two texts in which at most `limit` places are marked where their trees differ by kinds or by the texts of tokens. It has
-/// some thirty bytes for each token of the texts.
+/// Writes a page of two texts in which at most `limit` places are marked where their trees differ
+/// by kinds or by the texts of tokens. It has some thirty bytes for each token of the texts.
 pub fn show<W: Write>(
     alloc: Global,
     out: &mut W,

@@ -57,7 +57,8 @@ pub struct Showing {
     pub ancestors: bool,
     /// Whether a line with the name of the file precedes the tree.
     pub named: bool,
-    /// Where a page with the rules of the grammar is, to which the kinds of a page link: `KIND` to its anchor `#KIND`.
+    /// Where a page with the rules of the grammar is, to which the kinds of a page link: `KIND` to
+    /// its anchor `#KIND`.
     pub grammar: Option<String>,
 }
 
@@ -337,7 +338,8 @@ fn write_ancestors<W: Write>(alloc: Global, out: &mut W, part: &SyntaxElement) -
     Ok(())
 }
 
-// Writes a part of a tree and, if it is the whole tree or the form is JSON or a page, the errors of the text.
+// Writes a part of a tree and, if it is the whole tree or the form is JSON or a page, the errors of
+// the text.
 fn write_drawing<W: Write>(
     alloc: Global,
     out: &mut W,
@@ -401,7 +403,8 @@ fn write_tree<W: Write>(
     Ok(0)
 }
 
-/// Writes the tree of a text and, in the forms of text and JSON, its errors. Returns 0: nothing counts as found.
+/// Writes the tree of a text and, in the forms of text and JSON, its errors. Returns 0: nothing
+/// counts as found.
 pub fn show<W: Write>(
     alloc: Global,
     out: &mut W,

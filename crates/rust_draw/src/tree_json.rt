@@ -9,7 +9,8 @@ use std::alloc::Global;
 use std::io;
 use std::io::Write;
 
-// The keys of a file, without those of its topmost element. The lists of records are empty, since what is in them is written one by one.
+// The keys of a file, without those of its topmost element. The lists of records are empty, since
+// what is in them is written one by one.
 #[derive(Drop, Serialize)]
 struct FileRecord<'a> {
     path: &'a str,
@@ -87,8 +88,8 @@ pub fn write_file<W: Write>(
     out.write_all(b"]")
 }
 
-/// Writes the front of an element's object: that of a node up to its children. The topmost element has no object of its own: its keys are
-/// those of the object of the file.
+/// Writes the front of an element's object: that of a node up to its children. The topmost element
+/// has no object of its own: its keys are those of the object of the file.
 pub fn write_element<W: Write>(
     alloc: Global,
     out: &mut W,

@@ -1,4 +1,5 @@
--- A name is that of one kind: the kinds of the library and the rows of the table have different names.
+-- A name is that of one kind: the kinds of the library and the rows of the table have different
+-- names.
 use Rattle.std.specs.Prelude.{◌≡◌, ◌↔◌, ℕ, List, [], ◌∷◌, Bool, true, false, Option, Some, None, ⊤, bytes_eq, if◌then◌else◌}
 use Rattle.std.proofs.Common.{refl, sym, ap, ◌∙◌, subst}
 use Rattle.syntax_kind.specs.Kinds.{kind_name, IsKind}

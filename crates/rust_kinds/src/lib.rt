@@ -1,4 +1,5 @@
-//! The kinds of Rust's tokens and nodes for which `SyntaxKind` has no constant, as kinds `SyntaxKind::OTHER(n)` with fixed numbers.
+//! The kinds of Rust's tokens and nodes for which `SyntaxKind` has no constant, as kinds
+//! `SyntaxKind::OTHER(n)` with fixed numbers.
 #![tactic(auto)]
 
 ghost use Rattle.std.specs.Prelude.{◌≡◌, ◌↔◌, [], MatchOption, IfSome, Some};
@@ -11,8 +12,8 @@ mod names;
 use names::{other_name, other_number};
 use syntax_kind::SyntaxKind;
 
-/// The name of a kind: the kind's own, and that of this crate's table for a kind `OTHER(n)` that has a constant in [`kinds`];
-/// `None` for another `OTHER(n)`.
+/// The name of a kind: the kind's own, and that of this crate's table for a kind `OTHER(n)` that
+/// has a constant in [`kinds`]; `None` for another `OTHER(n)`.
 pub fn name_of(kind: SyntaxKind) -> Option<&'static str>
     ensures { MatchOption result (rust_name kind ≡ []) (λ s. rust_name kind ≡ s.now) }
 {

@@ -37,7 +37,8 @@ sign_alone e s b at alone =
     (slash_of (drop 1 s)) (string_of modes.Str (drop 1 s)) (character_or_lifetime_of (drop 1 s)) (pound_of e (drop 1 s)) (sign_of b (drop 1 s))
     alone
 
--- i, j, k: the letter is r, b, c; p, q, n: a quote, a # and a name follow; m: r and then a quote or a # do; o: a single quote does
+-- i, j, k: the letter is r, b, c; p, q, n: a quote, a # and a name follow; m: r and then a quote or
+-- a # do; o: a single quote does
 named : {A : Type 0} (i j k p q n m o : Bool) (a b c d e f g z : A)
     → ((i || j || k) && ((p || q) || o || m)) ≡ false
     → (if i then (if q && n then a else (if p || q then b else z)) else (if j then (if m then c else (if p then d else (if o then e else z))) else (if k then (if m then f else (if p then g else z)) else z))) ≡ z

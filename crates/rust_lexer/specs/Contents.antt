@@ -1,4 +1,5 @@
--- What is wrong with the content of a literal that is not raw. Source: the Rust Reference, "Tokens", on escapes.
+-- What is wrong with the content of a literal that is not raw. Source: the Rust Reference,
+-- "Tokens", on escapes.
 use Rattle.std.specs.Prelude.{ℕ, Bool, true, false, ◌==◌, if◌then◌else◌, Option, Some, None, Result, Ok, Err, List, [], ◌∷◌, ◌++◌, length}
 use Rattle.std.specs.Str.{chars}
 use Rattle.literal_escape.specs.declared.error.EscapeError.{EscapeError}

@@ -1,4 +1,5 @@
--- Where a text is cut: before its last n bytes, if a character begins there and it is not the start; otherwise at its end.
+-- Where a text is cut: before its last n bytes, if a character begins there and it is not the
+-- start; otherwise at its end.
 use Rattle.std.specs.Prelude.{ℕ, ◌-◌, Bool, not, nat_lt, nat_le, ◌==◌, ◌&&◌, ◌||◌, if◌then◌else◌, List, length, take, drop, slice_index}
 
 -- a character begins at the position, or the text ends there

@@ -13,11 +13,13 @@ pub record FollowsLongest (test : ℕ → Bool) (s r : List ℕ) : Type 0 where
   pub all_pass : All (λ b. test b ≡ true) front
   pub next_fails : test_on test (slice_get r 0) ≡ false
 
--- white space, the letters of a name, digits, the rest of a line: the longest prefix in their class is read
+-- white space, the letters of a name, digits, the rest of a line: the longest prefix in their class
+-- is read
 abbrev pub LongestFronts : Type 0
 LongestFronts = (c : Class) (s : List ℕ) → FollowsLongest (is_in_of c) s (skip_of c s)
 
--- the content of a string: characters but quotes and backslashes, and backslashes with a character after each
+-- the content of a string: characters but quotes and backslashes, and backslashes with a character
+-- after each
 pub data StringContent : List ℕ → Type 0 where
   nothing : StringContent []
   plain : (b : ℕ) (s : List ℕ) → b ≢ 34 → b ≢ 92 → StringContent s → StringContent (b ∷ s)
@@ -42,7 +44,8 @@ abbrev pub hashes : ℕ → List ℕ
 hashes zero = []
 hashes (suc n) = 35 ∷ hashes n
 
--- what is between the opening quote of a raw string with h signs # and what follows its closing ones
+-- what is between the opening quote of a raw string with h signs # and what follows its closing
+-- ones
 pub record RawRead (h : ℕ) (s r : List ℕ) : Type 0 where
   pub content : List ℕ
   pub parts : s ≡ content ++ 34 ∷ (hashes h ++ r)

@@ -1,4 +1,5 @@
--- A shebang and a front matter at a file's start. Source: the Rust Reference, "Input format", on the shebang, and RFC 3503.
+-- A shebang and a front matter at a file's start. Source: the Rust Reference, "Input format", on
+-- the shebang, and RFC 3503.
 use Rattle.std.specs.Prelude.{ℕ, zero, suc, ◌-◌, Bool, true, false, not, nat_lt, ◌==◌, ◌&&◌, if◌then◌else◌, Option, Some, None, List, length, drop}
 use Rattle.std.specs.Str.{trim_start}
 use Rattle.syntax_kind.specs.declared.syntax_kind.SyntaxKind.{SyntaxKind}
@@ -56,7 +57,8 @@ skip_line_of s = drop 1 (skip_of classes.InLine s)
 abbrev pub last_line_of : List ℕ → List ℕ → List ℕ
 last_line_of p s = if begins_of 10 s then after_char_of s else p
 
--- the rest after the last newline among at most n characters of white space; p is the rest after the last newline before
+-- the rest after the last newline among at most n characters of white space; p is the rest after
+-- the last newline before
 unfoldable pub empty_lines : ℕ → List ℕ → List ℕ → List ℕ
 empty_lines zero p s = p
 empty_lines (suc n) p s = if begins_wide_of wides.Space s then empty_lines n (last_line_of p s) (after_char_of s) else p

@@ -1,4 +1,5 @@
--- Whether a string that precedes a token perhaps ends too late, since the quote that should close it is missing.
+-- Whether a string that precedes a token perhaps ends too late, since the quote that should close
+-- it is missing.
 use Rattle.std.specs.Prelude.{ℕ, zero, suc, ◌-◌, Bool, true, false, not, ◌==◌, ◌&&◌, ◌||◌, List, [], ◌∷◌, length, take, drop}
 use Rattle.syntax_kind.specs.declared.syntax_kind.SyntaxKind.{SyntaxKind}
 use Rattle.syntax_kind.specs.declared.syntax_kind.SyntaxKind.TheVariants.{Token}
@@ -29,7 +30,8 @@ is_string_of _ = false
 abbrev pub is_code_of : SyntaxKind → List ℕ → Bool
 is_code_of k w = is_string_of k && holds_code_of w
 
--- one of the last n tokens is a string with code; ts has the last token first, and s is the text of all of them
+-- one of the last n tokens is a string with code; ts has the last token first, and s is the text of
+-- all of them
 unfoldable pub is_behind_code_of : ℕ → List span.Token → List ℕ → Bool
 is_behind_code_of zero ts s = false
 is_behind_code_of (suc n) [] s = false

@@ -1,4 +1,5 @@
--- Names and keywords. Source: the Rust Reference, "Identifiers", "Keywords" and "Tokens", on reserved prefixes.
+-- Names and keywords. Source: the Rust Reference, "Identifiers", "Keywords" and "Tokens", on
+-- reserved prefixes.
 use Rattle.std.specs.Prelude.{ℕ, Bool, nat_lt, ◌==◌, ◌&&◌, ◌||◌, if◌then◌else◌, Option, Some, None, List, length, slice_get, bytes_eq, codes}
 use Rattle.bstr.specs.Utf8.{decoded}
 use Rattle.syntax_kind.specs.declared.syntax_kind.SyntaxKind.{SyntaxKind}
@@ -45,7 +46,8 @@ word_on (Some k) = k
 abbrev pub word_kind_of : Edition → List ℕ → SyntaxKind
 word_kind_of e w = if bytes_eq w (codes "_") then Token token.UNDERSCORE else word_on (keyword_of e w)
 
--- a name right before a literal is reserved, as its prefix; `builtin` is so before the `#` of a built-in macro
+-- a name right before a literal is reserved, as its prefix; `builtin` is so before the `#` of a
+-- built-in macro
 abbrev pub prefix_of : List ℕ → ℕ → Shape
 prefix_of w n = if bytes_eq w (codes "builtin") then plain_of (Token token.IDENT) n else record { kind = Token token.IDENT; left = n; fault = Prefix }
 

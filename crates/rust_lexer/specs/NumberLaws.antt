@@ -1,4 +1,5 @@
--- Numbers, in terms of their text: a law of the definitions. Source: the Rust Reference, "Tokens", on number literals.
+-- Numbers, in terms of their text: a law of the definitions. Source: the Rust Reference, "Tokens",
+-- on number literals.
 use Rattle.std.specs.Prelude.{◌≡◌, ◌⊎◌, ℕ, true, false, List, [], ◌∷◌, ◌++◌, All, length, slice_get}
 use Rattle.syntax_kind.specs.declared.syntax_kind.SyntaxKind.{SyntaxKind}
 use Rattle.syntax_kind.specs.declared.syntax_kind.SyntaxKind.TheVariants.{Token}
@@ -16,7 +17,8 @@ use Rattle.rust_lexer.specs.Numbers.{number_of}
 abbrev pub AreIn : Class → List ℕ → Type 0
 AreIn c w = All (λ b. is_in_of c b ≡ true) w
 
--- the letter after 0, and the digits that are read after it: decimal digits that the base lacks are read too
+-- the letter after 0, and the digits that are read after it: decimal digits that the base lacks are
+-- read too
 abbrev pub IsBase : ℕ → Class → Type 0
 IsBase letter c = ((letter ≡ 120) × (c ≡ Hexadecimal)) ⊎ (((letter ≡ 98) ⊎ (letter ≡ 111)) × (c ≡ Decimal))
 
@@ -52,7 +54,8 @@ pub data Number : SyntaxKind → Fault → List ℕ → Type 0 where
   exponent : (m e : List ℕ) → Mantissa m → Exponent e → Number (Token token.FLOAT_NUMBER) No (m ++ e)
   no_exponent_digits : (m e : List ℕ) → Mantissa m → BareExponent e → Number (Token token.FLOAT_NUMBER) (Is NoExponentDigits) (m ++ e)
 
--- the text begins with such a number; neither a digit nor `_` follows it, and its token ends after its suffix
+-- the text begins with such a number; neither a digit nor `_` follows it, and its token ends after
+-- its suffix
 pub record NumberRead (text : List ℕ) (x : Shape) : Type 0 where
   pub number : List ℕ
   pub behind : List ℕ

@@ -1,4 +1,5 @@
--- Numbers, by what follows their first digit. Source: the Rust Reference, "Tokens", on number literals.
+-- Numbers, by what follows their first digit. Source: the Rust Reference, "Tokens", on number
+-- literals.
 use Rattle.std.specs.Prelude.{ℕ, Bool, not, ◌==◌, ◌&&◌, ◌||◌, if◌then◌else◌, List, length, drop}
 use Rattle.syntax_kind.specs.declared.syntax_kind.SyntaxKind.TheVariants.{Token}
 use Rattle.syntax_kind.specs.declared.syntax_kind.token_kind.TokenKind.TheVariants as token

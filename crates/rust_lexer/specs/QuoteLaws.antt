@@ -1,10 +1,12 @@
--- Where a character ends, in terms of its text: a law of the definitions. Source: the Rust Reference, "Tokens", on character literals.
+-- Where a character ends, in terms of its text: a law of the definitions. Source: the Rust
+-- Reference, "Tokens", on character literals.
 use Rattle.std.specs.Prelude.{◌≡◌, ◌≢◌, ℕ, List, [], ◌∷◌, ◌++◌}
 use Rattle.rust_lexer.specs.declared.scan.Scan.TheVariants.{Quote, Closed}
 use Rattle.rust_lexer.specs.Scans.{run_of}
 
--- what may be between the quotes of a character: no quote, backslash, slash or newline, except after a backslash, and one newline right
--- before the closing quote; whether it is a single character is checked later
+-- what may be between the quotes of a character: no quote, backslash, slash or newline, except
+-- after a backslash, and one newline right before the closing quote; whether it is a single
+-- character is checked later
 pub data CharacterContent : List ℕ → Type 0 where
   nothing : CharacterContent []
   newline : CharacterContent (10 ∷ [])

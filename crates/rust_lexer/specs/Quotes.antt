@@ -1,4 +1,5 @@
--- Characters, lifetimes, strings and their like, by what follows their opening quote. Source: the Rust Reference, "Tokens".
+-- Characters, lifetimes, strings and their like, by what follows their opening quote. Source: the
+-- Rust Reference, "Tokens".
 use Rattle.std.specs.Prelude.{ℕ, ◌+◌, ◌-◌, ◌^◌, min, Bool, not, ◌&&◌, ◌||◌, if◌then◌else◌, List, length, drop}
 use Rattle.syntax_kind.specs.declared.syntax_kind.SyntaxKind.{SyntaxKind}
 use Rattle.syntax_kind.specs.declared.syntax_kind.SyntaxKind.TheVariants.{Token}
@@ -56,7 +57,8 @@ string_on m _ r = open_of m (length r)
 abbrev pub string_of : Mode → List ℕ → Shape
 string_of m s = string_on m (run_of scans.Text s).0 (run_of scans.Text s).1
 
--- ''' and '/' are characters, although the first has no backslash and a slash otherwise ends the search for the quote
+-- ''' and '/' are characters, although the first has no backslash and a slash otherwise ends the
+-- search for the quote
 abbrev pub is_mark_of : List ℕ → Bool
 is_mark_of s = (begins_of 39 s || begins_of 47 s) && begins_of 39 (drop 1 s)
 
@@ -68,7 +70,8 @@ character_on m _ r = open_of m (length r)
 abbrev pub character_of : Mode → List ℕ → Shape
 character_of m s = if is_mark_of s then closed_of m (drop 2 s) else character_on m (run_of scans.Quote s).0 (run_of scans.Quote s).1
 
--- several letters between quotes are a character with too many; without the second quote they are a lifetime
+-- several letters between quotes are a character with too many; without the second quote they are a
+-- lifetime
 abbrev pub lifetime_of : List ℕ → Shape
 lifetime_of s =
     let r = skip_name_of s in

@@ -1,4 +1,5 @@
--- Raw strings, by what follows their letters. Source: the Rust Reference, "Tokens", on raw string literals.
+-- Raw strings, by what follows their letters. Source: the Rust Reference, "Tokens", on raw string
+-- literals.
 use Rattle.std.specs.Prelude.{ℕ, ◌-◌, nat_lt, if◌then◌else◌, List, length, drop}
 use Rattle.syntax_kind.specs.declared.syntax_kind.SyntaxKind.{SyntaxKind}
 use Rattle.rust_lexer.specs.declared.class.Class.TheVariants as classes

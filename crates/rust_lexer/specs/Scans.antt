@@ -1,5 +1,5 @@
--- Tokens that end with a mark of their own, read byte by byte: block comments, strings, characters, front matters.
--- Source: the Rust Reference, "Comments" and "Tokens".
+-- Tokens that end with a mark of their own, read byte by byte: block comments, strings, characters,
+-- front matters. Source: the Rust Reference, "Comments" and "Tokens".
 use Rattle.std.specs.Prelude.{ℕ, ◌+◌, ◌-◌, ◌^◌, min, not, nat_le, ◌==◌, if◌then◌else◌, Option, Some, None, List, [], ◌∷◌}
 use Rattle.rust_lexer.specs.declared.scan.Scan.{Scan}
 use Rattle.rust_lexer.specs.declared.scan.Scan.TheVariants.{Comment, CommentSlash, CommentStar, Text, TextEscape, Quote, QuoteEscape, QuoteLine, Raw, RawHashes, Matter, Fence, Seek, SeekSecond, Closed}
@@ -18,7 +18,8 @@ comment_star_of d b = if not (b == 47) then comment_of d b else (if d == 0 then 
 abbrev pub text_of : ℕ → Scan
 text_of b = if b == 34 then Closed else (if b == 92 then TextEscape else Text)
 
--- a character ends with the first quote that no backslash precedes; none is sought after a slash or another line
+-- a character ends with the first quote that no backslash precedes; none is sought after a slash or
+-- another line
 abbrev pub quote_of : ℕ → Option Scan
 quote_of b = if b == 39 then Some Closed else (if b == 92 then Some QuoteEscape else (if b == 10 then Some QuoteLine else (if b == 47 then None else Some Quote)))
 

@@ -48,8 +48,9 @@ pub enum Wide {
     Emoji,
 }
 
-// What each byte is: `a` for `_` and a letter, `b` for a letter that may also begin a literal, `d` for a digit, `s` for white space in
-// ASCII, `p` for a byte of ASCII that is a token of its own wherever a token begins, and `x` for all others.
+// What each byte is: `a` for `_` and a letter, `b` for a letter that may also begin a literal, `d`
+// for a digit, `s` for white space in ASCII, `p` for a byte of ASCII that is a token of its own
+// wherever a token begins, and `x` for all others.
 static BYTES: [u8; 256] = *b"\
     pppppppppssssspppppppppppppppppp\
     spxxpppxpppppppxddddddddddpppppp\

@@ -7,7 +7,8 @@ use crate::class::{Class, skip};
 use crate::problem::Problem;
 use literal_escape::{EscapeError, MixedUnit, Mode, unescape_unit};
 
-/// Whether the content has no problem without a closer look: that of a string without escapes and without characters that need one.
+/// Whether the content has no problem without a closer look: that of a string without escapes and
+/// without characters that need one.
 pub fn is_plain(mode: Mode, content: &str) -> bool
     ensures { result ≡ is_plain_of mode content.now }
 {

@@ -49,14 +49,16 @@ fn skip_empty_lines(bytes: &[u8]) -> &[u8]
     behind_line
 }
 
-// Whether a shebang is first. An attribute `#![..]` is not one, even with white space before its bracket.
+// Whether a shebang is first. An attribute `#![..]` is not one, even with white space before its
+// bracket.
 fn has_shebang(text: &str) -> bool
     ensures { result ≡ has_shebang_of text.now }
 {
     begins_shebang(text.as_bytes()) && !begins(b'[', behind_two(text).trim_start().as_bytes())
 }
 
-// The number of bytes after the line of the closing fence, given the text after the fence; `None` if that line has more than blanks.
+// The number of bytes after the line of the closing fence, given the text after the fence; `None`
+// if that line has more than blanks.
 fn closing(bytes: &[u8]) -> Option<usize>
     ensures { result ≡ closing_of bytes.now }
 {
@@ -72,7 +74,8 @@ fn closing(bytes: &[u8]) -> Option<usize>
     }
 }
 
-// The number of bytes after the front matter, given the text after its opening fence of `dashes` dashes.
+// The number of bytes after the front matter, given the text after its opening fence of `dashes`
+// dashes.
 fn body(dashes: usize, bytes: &[u8]) -> Option<usize>
     ensures { result ≡ body_of dashes bytes.now }
 {

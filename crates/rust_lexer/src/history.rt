@@ -45,7 +45,8 @@ fn is_code(kind: SyntaxKind, word: &[u8]) -> bool
     is_string(kind) && holds_code(word)
 }
 
-/// Whether one of the last five tokens is a string with code in it. `read` is the text of the tokens.
+/// Whether one of the last five tokens is a string with code in it. `read` is the text of the
+/// tokens.
 pub fn is_behind_code(tokens: &[Token], read: &[u8]) -> bool
     ensures { result ≡ is_behind_code_of 5 (reverse tokens.now) read.now }
 {

@@ -80,7 +80,9 @@ fn report_units(
     content: &str,
     range: TextRange,
 ) -> Result<(), AllocError>
-    ensures { OnOk result (errors.new.items ≡ faults_at range (report_problems mode (reports_in mode (chars content.now))) errors.old.items) }
+    ensures { OnOk result (errors.new.items
+        ≡ faults_at range (report_problems mode (reports_in mode (chars content.now)))
+        errors.old.items) }
 {
     let mut units = Units::new(mode, content);
     while let Some(unit) = units.next() {
@@ -95,7 +97,8 @@ fn report_content(
     content: &str,
     range: TextRange,
 ) -> Result<(), AllocError>
-    ensures { OnOk result (errors.new.items ≡ faults_at range (content_problems mode content.now) errors.old.items) }
+    ensures { OnOk result
+        (errors.new.items ≡ faults_at range (content_problems mode content.now) errors.old.items) }
 {
     if is_plain(mode, content) {
         Ok(())
@@ -134,7 +137,9 @@ fn report_fault(
     range: TextRange,
 ) -> Result<(), AllocError>
     ensures tokens { OnOk result (lexed.new.tokens ≡ lexed.old.tokens) }
-    ensures errors { OnOk result (lexed.new.errors.items ≡ faults_at range (problems_of lexed.old.tokens.items text.now rest.now fault) lexed.old.errors.items) }
+    ensures errors { OnOk result (lexed.new.errors.items
+        ≡ faults_at range (problems_of lexed.old.tokens.items text.now rest.now fault)
+        lexed.old.errors.items) }
 {
     match fault {
         Fault::No => Ok(()),
@@ -157,7 +162,8 @@ fn take<'a>(
     rest: &'a str,
     shape: Shape,
 ) -> Result<&'a str, AllocError>
-    ensures { IfOk result (λ tail. lexing_of lexed.new tail.now ≡ taken text.now shape (lexing_of lexed.old rest.now)) }
+    ensures { IfOk result (λ tail. lexing_of lexed.new tail.now
+        ≡ taken text.now shape (lexing_of lexed.old rest.now)) }
 {
     let (front, tail) = split(rest, shape.left);
     let range = range(text, rest, tail);
@@ -189,7 +195,9 @@ fn take_plain<'a>(
     kind: SyntaxKind,
     left: usize,
 ) -> Result<&'a str, AllocError>
-    ensures { IfOk result (λ tail. (text : List ℕ) → lexing_of lexed.new tail.now ≡ taken text (plain_of kind left) (lexing_of lexed.old rest.now)) }
+    ensures { IfOk result (λ tail. (text : List ℕ)
+        → lexing_of lexed.new tail.now
+        ≡ taken text (plain_of kind left) (lexing_of lexed.old rest.now)) }
 {
     let (front, tail) = split(rest, left);
     let len = size(front.len());
@@ -205,7 +213,8 @@ fn take_any<'a>(
     rest: &'a str,
     edition: Edition,
 ) -> Result<&'a str, AllocError>
-    ensures { IfOk result (λ tail. lexing_of lexed.new tail.now ≡ taken text.now (token_of edition rest.now) (lexing_of lexed.old rest.now)) }
+    ensures { IfOk result (λ tail. lexing_of lexed.new tail.now
+        ≡ taken text.now (token_of edition rest.now) (lexing_of lexed.old rest.now)) }
 {
     take(lexed, text, rest, token(rest, edition))
 }
@@ -218,7 +227,8 @@ fn take_next<'a>(
     rest: &'a str,
     edition: Edition,
 ) -> Result<&'a str, AllocError>
-    ensures { IfOk result (λ tail. lexing_of lexed.new tail.now ≡ taken text.now (token_of edition rest.now) (lexing_of lexed.old rest.now)) }
+    ensures { IfOk result (λ tail. lexing_of lexed.new tail.now
+        ≡ taken text.now (token_of edition rest.now) (lexing_of lexed.old rest.now)) }
 {
     match plain_token(rest, edition) {
         Some((kind, left)) => {
@@ -229,7 +239,8 @@ fn take_next<'a>(
     }
 }
 
-// Takes a token of this kind that ends `left` bytes before the end, if there is one and something is left.
+// Takes a token of this kind that ends `left` bytes before the end, if there is one and something
+// is left.
 fn take_some<'a>(
     lexed: &mut Lexed,
     text: &str,
@@ -237,7 +248,8 @@ fn take_some<'a>(
     kind: SyntaxKind,
     left: Option<usize>,
 ) -> Result<&'a str, AllocError>
-    ensures { IfOk result (λ tail. lexing_of lexed.new tail.now ≡ taken_some text.now kind left (lexing_of lexed.old rest.now)) }
+    ensures { IfOk result (λ tail. lexing_of lexed.new tail.now
+        ≡ taken_some text.now kind left (lexing_of lexed.old rest.now)) }
 {
     match left {
         None => Ok(rest),
@@ -256,7 +268,8 @@ fn take_prelude<'a>(
     text: &'a str,
     prelude: Prelude,
 ) -> Result<&'a str, AllocError>
-    ensures { IfOk result (λ tail. lexing_of lexed.new tail.now ≡ taken_prelude text.now prelude (lexing_of lexed.old text.now)) }
+    ensures { IfOk result (λ tail. lexing_of lexed.new tail.now
+        ≡ taken_prelude text.now prelude (lexing_of lexed.old text.now)) }
 {
     let rest = take_some(lexed, text, text, kinds::SHEBANG, prelude.shebang)?;
     take_some(lexed, text, rest, kinds::FRONTMATTER, prelude.front_matter)
@@ -265,7 +278,8 @@ fn take_prelude<'a>(
 // Takes what precedes the first token of the file.
 #[tactic(auto, unfolding(crate::specs::Lexing::taken_head))]
 fn take_head<'a>(lexed: &mut Lexed, text: &'a str, edition: Edition) -> Result<&'a str, AllocError>
-    ensures { IfOk result (λ tail. lexing_of lexed.new tail.now ≡ taken_head edition text.now (lexing_of lexed.old text.now)) }
+    ensures { IfOk result (λ tail. lexing_of lexed.new tail.now
+        ≡ taken_head edition text.now (lexing_of lexed.old text.now)) }
 {
     match head(text) {
         Some(prelude) => take_prelude(lexed, text, prelude),
@@ -275,8 +289,10 @@ fn take_head<'a>(lexed: &mut Lexed, text: &'a str, edition: Edition) -> Result<&
 
 // Takes all tokens of the rest.
 fn take_all(lexed: &mut Lexed, text: &str, rest: &str, edition: Edition) -> Result<(), AllocError>
-    ensures tokens { OnOk result (lexed.new.tokens.items ≡ (steps_of (length text.now) edition text.now (lexing_of lexed.old rest.now)).tokens) }
-    ensures errors { OnOk result (lexed.new.errors.items ≡ (steps_of (length text.now) edition text.now (lexing_of lexed.old rest.now)).errors) }
+    ensures tokens { OnOk result (lexed.new.tokens.items
+        ≡ (steps_of (length text.now) edition text.now (lexing_of lexed.old rest.now)).tokens) }
+    ensures errors { OnOk result (lexed.new.errors.items
+        ≡ (steps_of (length text.now) edition text.now (lexing_of lexed.old rest.now)).errors) }
 {
     let mut rest = rest;
     for turn in 0..text.len() {
@@ -303,14 +319,15 @@ fn read(alloc: Global, text: &str, edition: Edition) -> Result<Lexed, AllocError
 
 /// The tokens of a text, and the errors in them.
 ///
-/// The tokens cut every text of at most 4,294,967,295 bytes: each byte is in one of them, in order, and none is empty. It takes time
-/// and memory linear in the text.
+/// The tokens cut every text of at most 4,294,967,295 bytes: each byte is in one of them, in order,
+/// and none is empty. It takes time and memory linear in the text.
 pub fn lex(alloc: Global, text: &str, edition: Edition) -> Result<Lexed, AllocError>
     ensures tokens { IfOk result (λ l. l.tokens.items ≡ tokens_of edition text.now) }
     ensures errors { IfOk result (λ l. l.errors.items ≡ errors_of edition text.now) }
     ensures cut { length text.now < 2 ^ 32 → IfOk result (λ l. IsCut l.tokens.items text.now) }
     ensures none_empty { length text.now < 2 ^ 32 → IfOk result (λ l. All HasBytes l.tokens.items) }
-    ensures lie { length text.now < 2 ^ 32 → IfOk result (λ l. All (ErrorLiesIn (length text.now)) l.errors.items) }
+    ensures lie { length text.now < 2 ^ 32
+        → IfOk result (λ l. All (ErrorLiesIn (length text.now)) l.errors.items) }
 {
     let lexed = read(alloc, text, edition)?;
     Ok(lexed)

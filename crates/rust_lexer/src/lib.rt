@@ -1,7 +1,8 @@
-//! Rust's lexer: cuts a text into raw tokens, white space and comments included, and reports errors in them.
+//! Rust's lexer: cuts a text into raw tokens, white space and comments included, and reports errors
+//! in them.
 //!
-//! Punctuation is cut into single characters. A word is a keyword if it is one everywhere in the edition, and `IDENT` otherwise.
-//! Each byte of the text is in exactly one token.
+//! Punctuation is cut into single characters. A word is a keyword if it is one everywhere in the
+//! edition, and `IDENT` otherwise. Each byte of the text is in exactly one token.
 #![tactic(auto)]
 
 mod class;

@@ -144,8 +144,8 @@ pub fn name(text: &str, edition: Edition) -> Shape
     }
 }
 
-/// The kind of a name and the number of bytes after it, unless something follows it that needs a closer look: a character past ASCII, a
-/// quote or a `#`.
+/// The kind of a name and the number of bytes after it, unless something follows it that needs a
+/// closer look: a character past ASCII, a quote or a `#`.
 #[inline(always)]
 pub fn plain_name(text: &str, edition: Edition) -> Option<(SyntaxKind, usize)>
     ensures { IfSome result (λ r. name_of edition text.now ≡ plain_of r.0 r.1) }

@@ -19,8 +19,8 @@ pub enum Problem {
     LifetimePrefix,
     /// A name right before a quote or a `#`.
     UnknownPrefix,
-    /// The same after a string that perhaps ends too late: one of the five tokens before it is a string with a `(` in it, and
-    /// with `//` or a `;` before a newline.
+    /// The same after a string that perhaps ends too late: one of the five tokens before it is a
+    /// string with a `(` in it, and with `//` or a `;` before a newline.
     UnknownPrefixBehindString,
     /// `0x`, `0b` or `0o` without a digit.
     NoDigits,
@@ -143,7 +143,8 @@ fn message_back(problem: Problem) -> &'static str
 }
 
 impl Problem {
-    /// The message, in two parts: if the second is not empty, the token's text is inserted between them.
+    /// The message, in two parts: if the second is not empty, the token's text is inserted between
+    /// them.
     pub fn message(self) -> (&'static str, &'static str)
         ensures front { result.0.now ≡ message_front_of self }
         ensures back { result.1.now ≡ message_back_of self }

@@ -15,8 +15,8 @@ pub enum Fault {
     Is(Problem),
     /// A prefix that no literal has.
     Prefix,
-    /// The problems of the content of a literal of this mode. The numbers are the bytes of the token before the content, and the bytes
-    /// of the text after it.
+    /// The problems of the content of a literal of this mode. The numbers are the bytes of the
+    /// token before the content, and the bytes of the text after it.
     Content(Mode, usize, usize),
 }
 

@@ -71,8 +71,8 @@ fn line_left(bytes: &[u8]) -> usize
     }
 }
 
-/// The number of bytes after the shebang of a text, or `None` if it has none. An attribute `#![..]` is not a shebang, even if there
-/// are white space and comments before its bracket.
+/// The number of bytes after the shebang of a text, or `None` if it has none. An attribute `#![..]`
+/// is not a shebang, even if there are white space and comments before its bracket.
 pub fn shebang(text: &str, edition: Edition) -> Option<usize>
     ensures { result ≡ shebang_of edition text.now }
 {

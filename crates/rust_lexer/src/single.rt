@@ -60,9 +60,11 @@ fn last_problem(text: &str, fault: Fault) -> Option<Problem>
     }
 }
 
-/// The kind of a text that is one token, and the last problem with it, or `None` if the text is empty or is not one token.
+/// The kind of a text that is one token, and the last problem with it, or `None` if the text is
+/// empty or is not one token.
 ///
-/// A shebang or a front matter is not a token here. It takes time linear in the text, and allocates nothing.
+/// A shebang or a front matter is not a token here. It takes time linear in the text, and allocates
+/// nothing.
 pub fn single_token(text: &str, edition: Edition) -> Option<(SyntaxKind, Option<Problem>)>
     ensures { result ≡ single_token_of edition text.now }
 {

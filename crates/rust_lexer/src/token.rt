@@ -213,7 +213,8 @@ fn plain_space(bytes: &[u8]) -> Option<(SyntaxKind, usize)>
     }
 }
 
-// Whether it is `r`, `b` or `c`, and may begin a literal or a raw name; `rest` is the text after it.
+// Whether it is `r`, `b` or `c`, and may begin a literal or a raw name; `rest` is the text after
+// it.
 #[inline(always)]
 fn opens_literal(first: u8, rest: &[u8]) -> bool
     ensures { result ≡ opens_literal_of first rest.now }
@@ -235,8 +236,9 @@ fn plain_letter(first: u8, text: &str, rest: &[u8], edition: Edition) -> Option<
     plain_name(text, edition)
 }
 
-/// The kind of the first token and the number of bytes after it, if it is ASCII white space, a name or keyword of ASCII, or a sign that
-/// begins no longer token. These are most tokens, and have no problem. `None` says nothing about the token.
+/// The kind of the first token and the number of bytes after it, if it is ASCII white space, a name
+/// or keyword of ASCII, or a sign that begins no longer token. These are most tokens, and have no
+/// problem. `None` says nothing about the token.
 #[tactic(auto, using(crate::proofs::Plain::sign_alone), unfolding(crate::specs::Tokens::token_of))]
 #[inline(always)]
 pub fn plain_token(text: &str, edition: Edition) -> Option<(SyntaxKind, usize)>

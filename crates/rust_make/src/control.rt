@@ -20,7 +20,8 @@ impl<'a, F: FrontEnd> Make<'a, F> {
         pat: &'p ast::Pat,
         expr: &'p ast::Expr,
     ) -> Result<ast::LetExpr, MakeError>
-        ensures { IsMadeOf ⟦<ast::LetExpr as AstNode>⟧ (F.answers self.now.front.now) self.now.edition
+        ensures { IsMadeOf ⟦<ast::LetExpr as AstNode>⟧ (F.answers self.now.front.now)
+            self.now.edition
             (fixed (codes "let ") ∷ part (pat_node pat.now) ∷ fixed (codes " = ") ∷
             left (expr_node expr.now) ∷ [])
             result }
@@ -33,17 +34,20 @@ impl<'a, F: FrontEnd> Make<'a, F> {
         ])
     }
 
-    /// An `if`, with its `else` if there is one: `if a { b } else { c }`. A record as the condition gets a pair.
+    /// An `if`, with its `else` if there is one: `if a { b } else { c }`. A record as the condition
+    /// gets a pair.
     pub fn expr_if<'p>(
         &self,
         condition: &'p ast::Expr,
         then_branch: &'p ast::BlockExpr,
         else_branch: Option<&'p ast::ElseBranch>,
     ) -> Result<ast::IfExpr, MakeError>
-        ensures { IsMadeOf ⟦<ast::IfExpr as AstNode>⟧ (F.answers self.now.front.now) self.now.edition
+        ensures { IsMadeOf ⟦<ast::IfExpr as AstNode>⟧ (F.answers self.now.front.now)
+            self.now.edition
             (fixed (codes "if ") ∷ left (expr_node condition.now) ∷ fixed (codes " ") ∷
             part (⟦<ast::BlockExpr as AstNode>⟧.node then_branch.now) ∷
-            (optional (codes " else ") (option_map (λ it. else_branch_node it.now) else_branch.entry)))
+            (optional (codes " else ")
+            (option_map (λ it. else_branch_node it.now) else_branch.entry)))
             result }
     {
         let mut form = self.pieces();
@@ -61,7 +65,8 @@ impl<'a, F: FrontEnd> Make<'a, F> {
         condition: &'p ast::Expr,
         body: &'p ast::BlockExpr,
     ) -> Result<ast::WhileExpr, MakeError>
-        ensures { IsMadeOf ⟦<ast::WhileExpr as AstNode>⟧ (F.answers self.now.front.now) self.now.edition
+        ensures { IsMadeOf ⟦<ast::WhileExpr as AstNode>⟧ (F.answers self.now.front.now)
+            self.now.edition
             (fixed (codes "while ") ∷ left (expr_node condition.now) ∷ fixed (codes " ") ∷
             part (⟦<ast::BlockExpr as AstNode>⟧.node body.now) ∷ [])
             result }
@@ -81,7 +86,8 @@ impl<'a, F: FrontEnd> Make<'a, F> {
         iterable: &'p ast::Expr,
         body: &'p ast::BlockExpr,
     ) -> Result<ast::ForExpr, MakeError>
-        ensures { IsMadeOf ⟦<ast::ForExpr as AstNode>⟧ (F.answers self.now.front.now) self.now.edition
+        ensures { IsMadeOf ⟦<ast::ForExpr as AstNode>⟧ (F.answers self.now.front.now)
+            self.now.edition
             (fixed (codes "for ") ∷ part (pat_node pat.now) ∷ fixed (codes " in ") ∷
             left (expr_node iterable.now) ∷ fixed (codes " ") ∷
             part (⟦<ast::BlockExpr as AstNode>⟧.node body.now) ∷ [])
@@ -103,7 +109,8 @@ impl<'a, F: FrontEnd> Make<'a, F> {
         expr: &'p ast::Expr,
         arms: &'p ast::MatchArmList,
     ) -> Result<ast::MatchExpr, MakeError>
-        ensures { IsMadeOf ⟦<ast::MatchExpr as AstNode>⟧ (F.answers self.now.front.now) self.now.edition
+        ensures { IsMadeOf ⟦<ast::MatchExpr as AstNode>⟧ (F.answers self.now.front.now)
+            self.now.edition
             (fixed (codes "match ") ∷ left (expr_node expr.now) ∷ fixed (codes " ") ∷
             part (⟦<ast::MatchArmList as AstNode>⟧.node arms.now) ∷ [])
             result }
@@ -118,7 +125,8 @@ impl<'a, F: FrontEnd> Make<'a, F> {
 
     /// A `return`, with its value if there is one.
     pub fn expr_return(&self, expr: Option<&ast::Expr>) -> Result<ast::ReturnExpr, MakeError>
-        ensures { IsMadeOf ⟦<ast::ReturnExpr as AstNode>⟧ (F.answers self.now.front.now) self.now.edition
+        ensures { IsMadeOf ⟦<ast::ReturnExpr as AstNode>⟧ (F.answers self.now.front.now)
+            self.now.edition
             (fixed (codes "return") ∷
             (optional (codes " ") (option_map (λ it. expr_node it.now) expr.entry)))
             result }
@@ -135,9 +143,12 @@ impl<'a, F: FrontEnd> Make<'a, F> {
         label: Option<&'p ast::Lifetime>,
         expr: Option<&'p ast::Expr>,
     ) -> Result<ast::BreakExpr, MakeError>
-        ensures { IsMadeOf ⟦<ast::BreakExpr as AstNode>⟧ (F.answers self.now.front.now) self.now.edition
+        ensures { IsMadeOf ⟦<ast::BreakExpr as AstNode>⟧ (F.answers self.now.front.now)
+            self.now.edition
             (fixed (codes "break") ∷
-            (optional (codes " ") (option_map (λ it. ⟦<ast::Lifetime as AstNode>⟧.node it.now) label.entry) ++ (optional (codes " ") (option_map (λ it. expr_node it.now) expr.entry))))
+            (optional (codes " ")
+            (option_map (λ it. ⟦<ast::Lifetime as AstNode>⟧.node it.now) label.entry)
+            ++ (optional (codes " ") (option_map (λ it. expr_node it.now) expr.entry))))
             result }
     {
         let mut form = self.pieces();
@@ -152,9 +163,11 @@ impl<'a, F: FrontEnd> Make<'a, F> {
         &self,
         label: Option<&ast::Lifetime>,
     ) -> Result<ast::ContinueExpr, MakeError>
-        ensures { IsMadeOf ⟦<ast::ContinueExpr as AstNode>⟧ (F.answers self.now.front.now) self.now.edition
+        ensures { IsMadeOf ⟦<ast::ContinueExpr as AstNode>⟧ (F.answers self.now.front.now)
+            self.now.edition
             (fixed (codes "continue") ∷
-            (optional (codes " ") (option_map (λ it. ⟦<ast::Lifetime as AstNode>⟧.node it.now) label.entry)))
+            (optional (codes " ")
+            (option_map (λ it. ⟦<ast::Lifetime as AstNode>⟧.node it.now) label.entry)))
             result }
     {
         let mut form = self.pieces();
@@ -169,9 +182,11 @@ impl<'a, F: FrontEnd> Make<'a, F> {
         params: &'p [ast::Param],
         body: &'p ast::Expr,
     ) -> Result<ast::ClosureExpr, MakeError>
-        ensures { IsMadeOf ⟦<ast::ClosureExpr as AstNode>⟧ (F.answers self.now.front.now) self.now.edition
+        ensures { IsMadeOf ⟦<ast::ClosureExpr as AstNode>⟧ (F.answers self.now.front.now)
+            self.now.edition
             (fixed (codes "|") ∷
-            (separated (codes ", ") (map ⟦<ast::Param as AstNode>⟧.node params.now) ++ (fixed (codes "| ") ∷
+            (separated (codes ", ") (map ⟦<ast::Param as AstNode>⟧.node params.now)
+            ++ (fixed (codes "| ") ∷
             part (expr_node body.now) ∷ [])))
             result }
     {
@@ -190,9 +205,12 @@ impl<'a, F: FrontEnd> Make<'a, F> {
         guard: Option<&'p ast::MatchGuard>,
         expr: &'p ast::Expr,
     ) -> Result<ast::MatchArm, MakeError>
-        ensures { IsMadeOf ⟦<ast::MatchArm as AstNode>⟧ (F.answers self.now.front.now) self.now.edition
+        ensures { IsMadeOf ⟦<ast::MatchArm as AstNode>⟧ (F.answers self.now.front.now)
+            self.now.edition
             (part (pat_node pat.now) ∷
-            (optional (codes " ") (option_map (λ it. ⟦<ast::MatchGuard as AstNode>⟧.node it.now) guard.entry) ++ (fixed (codes " => ") ∷
+            (optional (codes " ")
+            (option_map (λ it. ⟦<ast::MatchGuard as AstNode>⟧.node it.now) guard.entry)
+            ++ (fixed (codes " => ") ∷
             part (expr_node expr.now) ∷ fixed (codes ",") ∷ [])))
             result }
     {
@@ -207,9 +225,11 @@ impl<'a, F: FrontEnd> Make<'a, F> {
 
     /// Arms, a line for each.
     pub fn match_arm_list(&self, arms: &[ast::MatchArm]) -> Result<ast::MatchArmList, MakeError>
-        ensures { IsMadeOf ⟦<ast::MatchArmList as AstNode>⟧ (F.answers self.now.front.now) self.now.edition
+        ensures { IsMadeOf ⟦<ast::MatchArmList as AstNode>⟧ (F.answers self.now.front.now)
+            self.now.edition
             (fixed (codes "{\n") ∷
-            (each_between (codes "    ") (codes "\n") (map ⟦<ast::MatchArm as AstNode>⟧.node arms.now) ++ (fixed (codes "}") ∷
+            (each_between (codes " ") (codes "\n") (map ⟦<ast::MatchArm as AstNode>⟧.node arms.now)
+            ++ (fixed (codes "}") ∷
             [])))
             result }
     {
@@ -226,9 +246,12 @@ impl<'a, F: FrontEnd> Make<'a, F> {
         stmts: &'p [ast::Stmt],
         tail_expr: Option<&'p ast::Expr>,
     ) -> Result<ast::BlockExpr, MakeError>
-        ensures { IsMadeOf ⟦<ast::BlockExpr as AstNode>⟧ (F.answers self.now.front.now) self.now.edition
+        ensures { IsMadeOf ⟦<ast::BlockExpr as AstNode>⟧ (F.answers self.now.front.now)
+            self.now.edition
             (fixed (codes "{") ∷
-            (each_between (codes "\n    ") (codes "") (map stmt_node stmts.now) ++ (optional (codes "\n    ") (option_map (λ it. expr_node it.now) tail_expr.entry) ++ (fixed (codes "\n}") ∷
+            (each_between (codes "\n ") (codes "") (map stmt_node stmts.now)
+            ++ (optional (codes "\n ") (option_map (λ it. expr_node it.now) tail_expr.entry)
+            ++ (fixed (codes "\n}") ∷
             []))))
             result }
     {
@@ -242,7 +265,8 @@ impl<'a, F: FrontEnd> Make<'a, F> {
 
     /// An expression as a statement: `a;`.
     pub fn expr_stmt(&self, expr: &ast::Expr) -> Result<ast::ExprStmt, MakeError>
-        ensures { IsMadeOf ⟦<ast::ExprStmt as AstNode>⟧ (F.answers self.now.front.now) self.now.edition
+        ensures { IsMadeOf ⟦<ast::ExprStmt as AstNode>⟧ (F.answers self.now.front.now)
+            self.now.edition
             (part (expr_node expr.now) ∷ fixed (codes ";") ∷ [])
             result }
     {
@@ -256,9 +280,12 @@ impl<'a, F: FrontEnd> Make<'a, F> {
         ty: Option<&'p ast::Type>,
         expr: Option<&'p ast::Expr>,
     ) -> Result<ast::LetStmt, MakeError>
-        ensures { IsMadeOf ⟦<ast::LetStmt as AstNode>⟧ (F.answers self.now.front.now) self.now.edition
+        ensures { IsMadeOf ⟦<ast::LetStmt as AstNode>⟧ (F.answers self.now.front.now)
+            self.now.edition
             (fixed (codes "let ") ∷ part (pat_node pat.now) ∷
-            (optional (codes ": ") (option_map (λ it. ty_node it.now) ty.entry) ++ (optional (codes " = ") (option_map (λ it. expr_node it.now) expr.entry) ++ (fixed (codes ";") ∷
+            (optional (codes ": ") (option_map (λ it. ty_node it.now) ty.entry)
+            ++ (optional (codes " = ") (option_map (λ it. expr_node it.now) expr.entry)
+            ++ (fixed (codes ";") ∷
             []))))
             result }
     {
@@ -279,9 +306,11 @@ impl<'a, F: FrontEnd> Make<'a, F> {
         expr: &'p ast::Expr,
         diverging: &'p ast::BlockExpr,
     ) -> Result<ast::LetStmt, MakeError>
-        ensures { IsMadeOf ⟦<ast::LetStmt as AstNode>⟧ (F.answers self.now.front.now) self.now.edition
+        ensures { IsMadeOf ⟦<ast::LetStmt as AstNode>⟧ (F.answers self.now.front.now)
+            self.now.edition
             (fixed (codes "let ") ∷ part (pat_node pat.now) ∷
-            (optional (codes ": ") (option_map (λ it. ty_node it.now) ty.entry) ++ (fixed (codes " = ") ∷
+            (optional (codes ": ") (option_map (λ it. ty_node it.now) ty.entry)
+            ++ (fixed (codes " = ") ∷
             left (expr_node expr.now) ∷ fixed (codes " else ") ∷
             part (⟦<ast::BlockExpr as AstNode>⟧.node diverging.now) ∷ fixed (codes ";") ∷ [])))
             result }

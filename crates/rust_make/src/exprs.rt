@@ -24,7 +24,8 @@ impl<'a, F: FrontEnd> Make<'a, F> {
 
     /// A literal: `1`.
     pub fn expr_literal(&self, text: &str) -> Result<ast::Literal, MakeError>
-        ensures { IsMadeOf ⟦<ast::Literal as AstNode>⟧ (F.answers self.now.front.now) self.now.edition
+        ensures { IsMadeOf ⟦<ast::Literal as AstNode>⟧ (F.answers self.now.front.now)
+            self.now.edition
             (fixed text.now ∷ [])
             result }
     {
@@ -42,7 +43,8 @@ impl<'a, F: FrontEnd> Make<'a, F> {
 
     /// The block `{}`.
     pub fn expr_empty_block(&self) -> Result<ast::BlockExpr, MakeError>
-        ensures { IsMadeOf ⟦<ast::BlockExpr as AstNode>⟧ (F.answers self.now.front.now) self.now.edition
+        ensures { IsMadeOf ⟦<ast::BlockExpr as AstNode>⟧ (F.answers self.now.front.now)
+            self.now.edition
             (fixed (codes "{}") ∷ [])
             result }
     {
@@ -76,7 +78,8 @@ impl<'a, F: FrontEnd> Make<'a, F> {
         lhs: &'p ast::Expr,
         rhs: &'p ast::Expr,
     ) -> Result<ast::BinExpr, MakeError>
-        ensures { IsMadeOf ⟦<ast::BinExpr as AstNode>⟧ (F.answers self.now.front.now) self.now.edition
+        ensures { IsMadeOf ⟦<ast::BinExpr as AstNode>⟧ (F.answers self.now.front.now)
+            self.now.edition
             (left (expr_node lhs.now) ∷ fixed (codes " = ") ∷ right (expr_node rhs.now) ∷ [])
             result }
     {
@@ -93,7 +96,8 @@ impl<'a, F: FrontEnd> Make<'a, F> {
         op: ast::UnaryOp,
         expr: &ast::Expr,
     ) -> Result<ast::PrefixExpr, MakeError>
-        ensures { IsMadeOf ⟦<ast::PrefixExpr as AstNode>⟧ (F.answers self.now.front.now) self.now.edition
+        ensures { IsMadeOf ⟦<ast::PrefixExpr as AstNode>⟧ (F.answers self.now.front.now)
+            self.now.edition
             (fixed (prefix_text op) ∷ left (expr_node expr.now) ∷ [])
             result }
     {
@@ -120,7 +124,8 @@ impl<'a, F: FrontEnd> Make<'a, F> {
 
     /// A pair of parentheses: `(a)`.
     pub fn expr_paren(&self, expr: &ast::Expr) -> Result<ast::ParenExpr, MakeError>
-        ensures { IsMadeOf ⟦<ast::ParenExpr as AstNode>⟧ (F.answers self.now.front.now) self.now.edition
+        ensures { IsMadeOf ⟦<ast::ParenExpr as AstNode>⟧ (F.answers self.now.front.now)
+            self.now.edition
             (fixed (codes "(") ∷ part (expr_node expr.now) ∷ fixed (codes ")") ∷ [])
             result }
     {
@@ -137,7 +142,8 @@ impl<'a, F: FrontEnd> Make<'a, F> {
         callee: &'p ast::Expr,
         args: &'p ast::ArgList,
     ) -> Result<ast::CallExpr, MakeError>
-        ensures { IsMadeOf ⟦<ast::CallExpr as AstNode>⟧ (F.answers self.now.front.now) self.now.edition
+        ensures { IsMadeOf ⟦<ast::CallExpr as AstNode>⟧ (F.answers self.now.front.now)
+            self.now.edition
             (left (expr_node callee.now) ∷ part (⟦<ast::ArgList as AstNode>⟧.node args.now) ∷ [])
             result }
     {
@@ -151,7 +157,8 @@ impl<'a, F: FrontEnd> Make<'a, F> {
         method: &'p ast::NameRef,
         args: &'p ast::ArgList,
     ) -> Result<ast::MethodCallExpr, MakeError>
-        ensures { IsMadeOf ⟦<ast::MethodCallExpr as AstNode>⟧ (F.answers self.now.front.now) self.now.edition
+        ensures { IsMadeOf ⟦<ast::MethodCallExpr as AstNode>⟧ (F.answers self.now.front.now)
+            self.now.edition
             (left (expr_node receiver.now) ∷ fixed (codes ".") ∷
             part (⟦<ast::NameRef as AstNode>⟧.node method.now) ∷
             part (⟦<ast::ArgList as AstNode>⟧.node args.now) ∷ [])
@@ -171,7 +178,8 @@ impl<'a, F: FrontEnd> Make<'a, F> {
         receiver: &'p ast::Expr,
         field: &'p str,
     ) -> Result<ast::FieldExpr, MakeError>
-        ensures { IsMadeOf ⟦<ast::FieldExpr as AstNode>⟧ (F.answers self.now.front.now) self.now.edition
+        ensures { IsMadeOf ⟦<ast::FieldExpr as AstNode>⟧ (F.answers self.now.front.now)
+            self.now.edition
             (left (expr_node receiver.now) ∷ fixed (codes ".") ∷ fixed field.now ∷ [])
             result }
     {
@@ -184,7 +192,8 @@ impl<'a, F: FrontEnd> Make<'a, F> {
 
     /// An expression with `?` behind: `a?`.
     pub fn expr_try(&self, expr: &ast::Expr) -> Result<ast::TryExpr, MakeError>
-        ensures { IsMadeOf ⟦<ast::TryExpr as AstNode>⟧ (F.answers self.now.front.now) self.now.edition
+        ensures { IsMadeOf ⟦<ast::TryExpr as AstNode>⟧ (F.answers self.now.front.now)
+            self.now.edition
             (left (expr_node expr.now) ∷ fixed (codes "?") ∷ [])
             result }
     {
@@ -193,7 +202,8 @@ impl<'a, F: FrontEnd> Make<'a, F> {
 
     /// An expression with `.await` behind: `a.await`.
     pub fn expr_await(&self, expr: &ast::Expr) -> Result<ast::AwaitExpr, MakeError>
-        ensures { IsMadeOf ⟦<ast::AwaitExpr as AstNode>⟧ (F.answers self.now.front.now) self.now.edition
+        ensures { IsMadeOf ⟦<ast::AwaitExpr as AstNode>⟧ (F.answers self.now.front.now)
+            self.now.edition
             (left (expr_node expr.now) ∷ fixed (codes ".await") ∷ [])
             result }
     {
@@ -206,7 +216,8 @@ impl<'a, F: FrontEnd> Make<'a, F> {
         expr: &'p ast::Expr,
         ty: &'p ast::Type,
     ) -> Result<ast::CastExpr, MakeError>
-        ensures { IsMadeOf ⟦<ast::CastExpr as AstNode>⟧ (F.answers self.now.front.now) self.now.edition
+        ensures { IsMadeOf ⟦<ast::CastExpr as AstNode>⟧ (F.answers self.now.front.now)
+            self.now.edition
             (left (expr_node expr.now) ∷ fixed (codes " as ") ∷ part (ty_node ty.now) ∷ [])
             result }
     {
@@ -223,7 +234,8 @@ impl<'a, F: FrontEnd> Make<'a, F> {
         path: &'p ast::Path,
         tokens: &'p ast::TokenTree,
     ) -> Result<ast::MacroExpr, MakeError>
-        ensures { IsMadeOf ⟦<ast::MacroExpr as AstNode>⟧ (F.answers self.now.front.now) self.now.edition
+        ensures { IsMadeOf ⟦<ast::MacroExpr as AstNode>⟧ (F.answers self.now.front.now)
+            self.now.edition
             (part (⟦<ast::Path as AstNode>⟧.node path.now) ∷ fixed (codes "!") ∷
             part (⟦<ast::TokenTree as AstNode>⟧.node tokens.now) ∷ [])
             result }
@@ -237,7 +249,8 @@ impl<'a, F: FrontEnd> Make<'a, F> {
 
     /// Arguments: `(a, b)`.
     pub fn arg_list(&self, args: &[ast::Expr]) -> Result<ast::ArgList, MakeError>
-        ensures { IsMadeOf ⟦<ast::ArgList as AstNode>⟧ (F.answers self.now.front.now) self.now.edition
+        ensures { IsMadeOf ⟦<ast::ArgList as AstNode>⟧ (F.answers self.now.front.now)
+            self.now.edition
             (fixed (codes "(") ∷
             (separated (codes ", ") (map expr_node args.now) ++ (fixed (codes ")") ∷ [])))
             result }
@@ -251,7 +264,8 @@ impl<'a, F: FrontEnd> Make<'a, F> {
 
     /// A tuple of more than one field: `(a, b)`; of none, `()`. For one field it is refused.
     pub fn expr_tuple(&self, fields: &[ast::Expr]) -> Result<ast::TupleExpr, MakeError>
-        ensures { IsMadeOf ⟦<ast::TupleExpr as AstNode>⟧ (F.answers self.now.front.now) self.now.edition
+        ensures { IsMadeOf ⟦<ast::TupleExpr as AstNode>⟧ (F.answers self.now.front.now)
+            self.now.edition
             (fixed (codes "(") ∷
             (separated (codes ", ") (map expr_node fields.now) ++ (fixed (codes ")") ∷ [])))
             result }
@@ -265,7 +279,8 @@ impl<'a, F: FrontEnd> Make<'a, F> {
 
     /// An array: `[a, b]`.
     pub fn expr_array(&self, items: &[ast::Expr]) -> Result<ast::ArrayExpr, MakeError>
-        ensures { IsMadeOf ⟦<ast::ArrayExpr as AstNode>⟧ (F.answers self.now.front.now) self.now.edition
+        ensures { IsMadeOf ⟦<ast::ArrayExpr as AstNode>⟧ (F.answers self.now.front.now)
+            self.now.edition
             (fixed (codes "[") ∷
             (separated (codes ", ") (map expr_node items.now) ++ (fixed (codes "]") ∷ [])))
             result }

@@ -27,7 +27,8 @@ impl<'a, F: FrontEnd> Make<'a, F> {
 
     /// The parameter `&self`.
     pub fn self_param(&self) -> Result<ast::SelfParam, MakeError>
-        ensures { IsMadeOf ⟦<ast::SelfParam as AstNode>⟧ (F.answers self.now.front.now) self.now.edition
+        ensures { IsMadeOf ⟦<ast::SelfParam as AstNode>⟧ (F.answers self.now.front.now)
+            self.now.edition
             (fixed (codes "&self") ∷ [])
             result }
     {
@@ -36,9 +37,11 @@ impl<'a, F: FrontEnd> Make<'a, F> {
 
     /// Parameters: `(p: A, q: B)`.
     pub fn param_list(&self, params: &[ast::Param]) -> Result<ast::ParamList, MakeError>
-        ensures { IsMadeOf ⟦<ast::ParamList as AstNode>⟧ (F.answers self.now.front.now) self.now.edition
+        ensures { IsMadeOf ⟦<ast::ParamList as AstNode>⟧ (F.answers self.now.front.now)
+            self.now.edition
             (fixed (codes "(") ∷
-            (separated (codes ", ") (map ⟦<ast::Param as AstNode>⟧.node params.now) ++ (fixed (codes ")") ∷
+            (separated (codes ", ") (map ⟦<ast::Param as AstNode>⟧.node params.now)
+            ++ (fixed (codes ")") ∷
             [])))
             result }
     {
@@ -51,7 +54,8 @@ impl<'a, F: FrontEnd> Make<'a, F> {
 
     /// The visibility `pub`.
     pub fn visibility_pub(&self) -> Result<ast::Visibility, MakeError>
-        ensures { IsMadeOf ⟦<ast::Visibility as AstNode>⟧ (F.answers self.now.front.now) self.now.edition
+        ensures { IsMadeOf ⟦<ast::Visibility as AstNode>⟧ (F.answers self.now.front.now)
+            self.now.edition
             (fixed (codes "pub") ∷ [])
             result }
     {
@@ -73,7 +77,8 @@ impl<'a, F: FrontEnd> Make<'a, F> {
 
     /// What a `use` names: `a::b`.
     pub fn use_tree(&self, path: &ast::Path) -> Result<ast::UseTree, MakeError>
-        ensures { IsMadeOf ⟦<ast::UseTree as AstNode>⟧ (F.answers self.now.front.now) self.now.edition
+        ensures { IsMadeOf ⟦<ast::UseTree as AstNode>⟧ (F.answers self.now.front.now)
+            self.now.edition
             (part (⟦<ast::Path as AstNode>⟧.node path.now) ∷ [])
             result }
     {
@@ -105,8 +110,12 @@ impl<'a, F: FrontEnd> Make<'a, F> {
     ) -> Result<ast::Fn, MakeError>
         ensures { IsMadeOf ⟦<ast::Fn as AstNode>⟧ (F.answers self.now.front.now) self.now.edition
             (fixed (codes "fn ") ∷ part (⟦<ast::Name as AstNode>⟧.node name.now) ∷
-            (optional (codes "") (option_map (λ it. ⟦<ast::GenericParamList as AstNode>⟧.node it.now) generics.entry) ++ (part (⟦<ast::ParamList as AstNode>⟧.node params.now) ∷
-            (optional (codes " ") (option_map (λ it. ⟦<ast::RetType as AstNode>⟧.node it.now) ret_type.entry) ++ (fixed (codes " ") ∷
+            (optional (codes "") (option_map
+            (λ it. ⟦<ast::GenericParamList as AstNode>⟧.node it.now) generics.entry)
+            ++ (part (⟦<ast::ParamList as AstNode>⟧.node params.now) ∷
+            (optional (codes " ")
+            (option_map (λ it. ⟦<ast::RetType as AstNode>⟧.node it.now) ret_type.entry)
+            ++ (fixed (codes " ") ∷
             part (⟦<ast::BlockExpr as AstNode>⟧.node body.now) ∷ [])))))
             result }
     {

@@ -1,5 +1,5 @@
-//! Nodes of Rust by the names of rust-analyzer's `syntax::ast::make`: each is made of the nodes that it is given, has them as parts, and
-//! puts parentheses round an operand where it needs them.
+//! Nodes of Rust by the names of rust-analyzer's `syntax::ast::make`: each is made of the nodes
+//! that it is given, has them as parts, and puts parentheses round an operand where it needs them.
 #![tactic(auto)]
 
 mod control;

@@ -15,18 +15,20 @@ use syntax_make::{MakeError, Piece, ReplaceExprError, Replaced, form, node, repl
 
 /// Makes nodes: a front end in an edition, and the memory for the nodes.
 ///
-/// Each call writes the text of a node, with the texts of the nodes that it is given, and parses it. The node is returned only if the text
-/// has no errors, is exactly that node, and has each given node as a part where it was put: the same tree, in its place. So a call never
-/// panics, and what it returns reads as it was meant. The given nodes may be of any trees. What is returned is the root of a tree of its
-/// own, which an editor puts into another.
+/// Each call writes the text of a node, with the texts of the nodes that it is given, and parses
+/// it. The node is returned only if the text has no errors, is exactly that node, and has each
+/// given node as a part where it was put: the same tree, in its place. So a call never panics, and
+/// what it returns reads as it was meant. The given nodes may be of any trees. What is returned is
+/// the root of a tree of its own, which an editor puts into another.
 ///
-/// An operand gets a pair of parentheses where it needs one: `expr_bin_op` of `a + b`, `*` and `c` is `(a + b) * c`. A call takes the time
-/// of a parse of the text; with operands that need pairs, of up to four.
+/// An operand gets a pair of parentheses where it needs one: `expr_bin_op` of `a + b`, `*` and `c`
+/// is `(a + b) * c`. A call takes the time of a parse of the text; with operands that need pairs,
+/// of up to four.
 ///
 /// # Errors
 ///
-/// Each call returns `Syntax` or `NotOne` if the text reads otherwise than it was meant, `TooLong` if it is longer than 4,294,967,295 bytes,
-/// and `Memory` if memory runs out.
+/// Each call returns `Syntax` or `NotOne` if the text reads otherwise than it was meant, `TooLong`
+/// if it is longer than 4,294,967,295 bytes, and `Memory` if memory runs out.
 ///
 /// ```text
 /// let make = Make::new(alloc, &Rust, Edition::CURRENT);
@@ -64,15 +66,18 @@ impl<'a, F: FrontEnd> Make<'a, F> {
         node(self.alloc, self.front, text, self.edition)
     }
 
-    /// The tree of `old` with the expression `new` in its place: that of [`syntax_make::replace_expr`].
+    /// The tree of `old` with the expression `new` in its place: that of
+    /// [`syntax_make::replace_expr`].
     pub fn replace_expr(
         &self,
         old: &ast::Expr,
         new: &ast::Expr,
     ) -> Result<Replaced, ReplaceExprError>
-        ensures replaced { IfOk result (λ r. IsReplaced (F.answers self.now.front.now) self.now.edition
+        ensures replaced { IfOk result
+            (λ r. IsReplaced (F.answers self.now.front.now) self.now.edition
             (expr_node old.now) (expr_node new.now) r.in_pair r.root) }
-        ensures refused { IfErr result (IsNotReplaced (F.answers self.now.front.now) self.now.edition
+        ensures refused { IfErr result
+            (IsNotReplaced (F.answers self.now.front.now) self.now.edition
             (expr_node old.now) (expr_node new.now)) }
     {
         replace_expr(
@@ -86,7 +91,8 @@ impl<'a, F: FrontEnd> Make<'a, F> {
 
     // The node of some pieces.
     pub(crate) fn form<N: AstNode + Drop>(&self, pieces: &[Piece]) -> Result<N, MakeError>
-        ensures { IsMadeOf ⟦<N as AstNode>⟧ (F.answers self.now.front.now) self.now.edition (bits_of pieces.now) result }
+        ensures { IsMadeOf ⟦<N as AstNode>⟧ (F.answers self.now.front.now) self.now.edition
+            (bits_of pieces.now) result }
     {
         form(self.alloc, self.front, pieces, self.edition)
     }
@@ -100,7 +106,8 @@ impl<'a, F: FrontEnd> Make<'a, F> {
 
     // The node of some pieces that were collected.
     pub(crate) fn made<N: AstNode + Drop>(&self, pieces: &Pieces) -> Result<N, MakeError>
-        ensures { IsMadeOf ⟦<N as AstNode>⟧ (F.answers self.now.front.now) self.now.edition (bits_of pieces.now.items.items) result }
+        ensures { IsMadeOf ⟦<N as AstNode>⟧ (F.answers self.now.front.now) self.now.edition
+            (bits_of pieces.now.items.items) result }
     {
         self.form(&pieces.items)
     }

@@ -23,7 +23,8 @@ impl<'a, F: FrontEnd> Make<'a, F> {
 
     /// A name that is used: `a`.
     pub fn name_ref(&self, text: &str) -> Result<ast::NameRef, MakeError>
-        ensures { IsMadeOf ⟦<ast::NameRef as AstNode>⟧ (F.answers self.now.front.now) self.now.edition
+        ensures { IsMadeOf ⟦<ast::NameRef as AstNode>⟧ (F.answers self.now.front.now)
+            self.now.edition
             (fixed text.now ∷ [])
             result }
     {
@@ -50,7 +51,8 @@ impl<'a, F: FrontEnd> Make<'a, F> {
 
     /// A segment without generic arguments.
     pub fn path_segment(&self, name_ref: &ast::NameRef) -> Result<ast::PathSegment, MakeError>
-        ensures { IsMadeOf ⟦<ast::PathSegment as AstNode>⟧ (F.answers self.now.front.now) self.now.edition
+        ensures { IsMadeOf ⟦<ast::PathSegment as AstNode>⟧ (F.answers self.now.front.now)
+            self.now.edition
             (part (⟦<ast::NameRef as AstNode>⟧.node name_ref.now) ∷ [])
             result }
     {
@@ -86,7 +88,8 @@ impl<'a, F: FrontEnd> Make<'a, F> {
 
     /// A type as a generic argument.
     pub fn type_arg(&self, ty: &ast::Type) -> Result<ast::TypeArg, MakeError>
-        ensures { IsMadeOf ⟦<ast::TypeArg as AstNode>⟧ (F.answers self.now.front.now) self.now.edition
+        ensures { IsMadeOf ⟦<ast::TypeArg as AstNode>⟧ (F.answers self.now.front.now)
+            self.now.edition
             (part (ty_node ty.now) ∷ [])
             result }
     {
@@ -98,7 +101,8 @@ impl<'a, F: FrontEnd> Make<'a, F> {
         &self,
         args: &[ast::GenericArg],
     ) -> Result<ast::GenericArgList, MakeError>
-        ensures { IsMadeOf ⟦<ast::GenericArgList as AstNode>⟧ (F.answers self.now.front.now) self.now.edition
+        ensures { IsMadeOf ⟦<ast::GenericArgList as AstNode>⟧ (F.answers self.now.front.now)
+            self.now.edition
             (fixed (codes "<") ∷
             (separated (codes ", ") (map generic_arg_node args.now) ++ (fixed (codes ">") ∷ [])))
             result }
@@ -115,7 +119,8 @@ impl<'a, F: FrontEnd> Make<'a, F> {
         &self,
         params: &[ast::GenericParam],
     ) -> Result<ast::GenericParamList, MakeError>
-        ensures { IsMadeOf ⟦<ast::GenericParamList as AstNode>⟧ (F.answers self.now.front.now) self.now.edition
+        ensures { IsMadeOf ⟦<ast::GenericParamList as AstNode>⟧ (F.answers self.now.front.now)
+            self.now.edition
             (fixed (codes "<") ∷
             (separated (codes ", ") (map generic_param_node params.now) ++ (fixed (codes ">") ∷
             [])))

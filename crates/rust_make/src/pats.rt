@@ -12,7 +12,8 @@ use syntax_make::{MakeError, Piece};
 impl<'a, F: FrontEnd> Make<'a, F> {
     /// The pattern `_`.
     pub fn wildcard_pat(&self) -> Result<ast::WildcardPat, MakeError>
-        ensures { IsMadeOf ⟦<ast::WildcardPat as AstNode>⟧ (F.answers self.now.front.now) self.now.edition
+        ensures { IsMadeOf ⟦<ast::WildcardPat as AstNode>⟧ (F.answers self.now.front.now)
+            self.now.edition
             (fixed (codes "_") ∷ [])
             result }
     {
@@ -21,7 +22,8 @@ impl<'a, F: FrontEnd> Make<'a, F> {
 
     /// A name as a pattern: `a`.
     pub fn ident_pat(&self, name: &ast::Name) -> Result<ast::IdentPat, MakeError>
-        ensures { IsMadeOf ⟦<ast::IdentPat as AstNode>⟧ (F.answers self.now.front.now) self.now.edition
+        ensures { IsMadeOf ⟦<ast::IdentPat as AstNode>⟧ (F.answers self.now.front.now)
+            self.now.edition
             (part (⟦<ast::Name as AstNode>⟧.node name.now) ∷ [])
             result }
     {
@@ -30,7 +32,8 @@ impl<'a, F: FrontEnd> Make<'a, F> {
 
     /// A name that may be written: `mut a`.
     pub fn ident_pat_mut(&self, name: &ast::Name) -> Result<ast::IdentPat, MakeError>
-        ensures { IsMadeOf ⟦<ast::IdentPat as AstNode>⟧ (F.answers self.now.front.now) self.now.edition
+        ensures { IsMadeOf ⟦<ast::IdentPat as AstNode>⟧ (F.answers self.now.front.now)
+            self.now.edition
             (fixed (codes "mut ") ∷ part (⟦<ast::Name as AstNode>⟧.node name.now) ∷ [])
             result }
     {
@@ -48,7 +51,8 @@ impl<'a, F: FrontEnd> Make<'a, F> {
 
     /// A tuple of patterns, not of one: `(p, q)`.
     pub fn tuple_pat(&self, pats: &[ast::Pat]) -> Result<ast::TuplePat, MakeError>
-        ensures { IsMadeOf ⟦<ast::TuplePat as AstNode>⟧ (F.answers self.now.front.now) self.now.edition
+        ensures { IsMadeOf ⟦<ast::TuplePat as AstNode>⟧ (F.answers self.now.front.now)
+            self.now.edition
             (fixed (codes "(") ∷
             (separated (codes ", ") (map pat_node pats.now) ++ (fixed (codes ")") ∷ [])))
             result }
@@ -66,7 +70,8 @@ impl<'a, F: FrontEnd> Make<'a, F> {
         path: &'p ast::Path,
         pats: &'p [ast::Pat],
     ) -> Result<ast::TupleStructPat, MakeError>
-        ensures { IsMadeOf ⟦<ast::TupleStructPat as AstNode>⟧ (F.answers self.now.front.now) self.now.edition
+        ensures { IsMadeOf ⟦<ast::TupleStructPat as AstNode>⟧ (F.answers self.now.front.now)
+            self.now.edition
             (part (⟦<ast::Path as AstNode>⟧.node path.now) ∷ fixed (codes "(") ∷
             (separated (codes ", ") (map pat_node pats.now) ++ (fixed (codes ")") ∷ [])))
             result }
@@ -85,9 +90,11 @@ impl<'a, F: FrontEnd> Make<'a, F> {
         path: &'p ast::Path,
         fields: &'p [ast::RecordPatField],
     ) -> Result<ast::RecordPat, MakeError>
-        ensures { IsMadeOf ⟦<ast::RecordPat as AstNode>⟧ (F.answers self.now.front.now) self.now.edition
+        ensures { IsMadeOf ⟦<ast::RecordPat as AstNode>⟧ (F.answers self.now.front.now)
+            self.now.edition
             (part (⟦<ast::Path as AstNode>⟧.node path.now) ∷ fixed (codes " { ") ∷
-            (separated (codes ", ") (map ⟦<ast::RecordPatField as AstNode>⟧.node fields.now) ++ (fixed (codes " }") ∷
+            (separated (codes ", ") (map ⟦<ast::RecordPatField as AstNode>⟧.node fields.now)
+            ++ (fixed (codes " }") ∷
             [])))
             result }
     {

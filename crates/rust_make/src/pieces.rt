@@ -23,21 +23,24 @@ impl<'p> Pieces<'p> {
     }
 
     pub fn text(&mut self, text: &'p str) -> Result<(), AllocError>
-        ensures { OnOk result (bits_of self.new.items.items ≡ bits_of self.old.items.items ++ fixed text.now ∷ []) }
+        ensures { OnOk result
+            (bits_of self.new.items.items ≡ bits_of self.old.items.items ++ fixed text.now ∷ []) }
     {
         self.items.push(Piece::Text(text))?;
         Ok(())
     }
 
     pub fn part<N: AstNode>(&mut self, node: &'p N) -> Result<(), AllocError>
-        ensures { OnOk result (bits_of self.new.items.items ≡ bits_of self.old.items.items ++ part (N.node node.now) ∷ []) }
+        ensures { OnOk result (bits_of self.new.items.items
+            ≡ bits_of self.old.items.items ++ part (N.node node.now) ∷ []) }
     {
         self.items.push(Piece::Part(node.syntax()))?;
         Ok(())
     }
 
     pub fn left<N: AstNode>(&mut self, node: &'p N) -> Result<(), AllocError>
-        ensures { OnOk result (bits_of self.new.items.items ≡ bits_of self.old.items.items ++ left (N.node node.now) ∷ []) }
+        ensures { OnOk result (bits_of self.new.items.items
+            ≡ bits_of self.old.items.items ++ left (N.node node.now) ∷ []) }
     {
         self.items.push(Piece::Left(node.syntax()))?;
         Ok(())
@@ -49,7 +52,9 @@ impl<'p> Pieces<'p> {
         before: &'p str,
         node: Option<&'p N>,
     ) -> Result<(), AllocError>
-        ensures { OnOk result (bits_of self.new.items.items ≡ bits_of self.old.items.items ++ optional before.now (option_map (λ it. N.node it.now) node.entry)) }
+        ensures { OnOk result (bits_of self.new.items.items
+            ≡ bits_of self.old.items.items
+            ++ optional before.now (option_map (λ it. N.node it.now) node.entry)) }
     {
         match node {
             None => Ok(()),
@@ -67,7 +72,9 @@ impl<'p> Pieces<'p> {
         nodes: &'p [N],
         after: &'p str,
     ) -> Result<(), AllocError>
-        ensures { OnOk result (bits_of self.new.items.items ≡ bits_of self.old.items.items ++ each_between before.now after.now (map N.node nodes.now)) }
+        ensures { OnOk result (bits_of self.new.items.items
+            ≡ bits_of self.old.items.items
+            ++ each_between before.now after.now (map N.node nodes.now)) }
     {
         for node in nodes {
             self.text(before)?;
@@ -83,7 +90,8 @@ impl<'p> Pieces<'p> {
         nodes: &'p [N],
         between: &'p str,
     ) -> Result<(), AllocError>
-        ensures { OnOk result (bits_of self.new.items.items ≡ bits_of self.old.items.items ++ separated between.now (map N.node nodes.now)) }
+        ensures { OnOk result (bits_of self.new.items.items
+            ≡ bits_of self.old.items.items ++ separated between.now (map N.node nodes.now)) }
     {
         match nodes {
             [] => Ok(()),
@@ -96,7 +104,8 @@ impl<'p> Pieces<'p> {
 
     // Nodes, each behind a text.
     fn each_behind<N: AstNode>(&mut self, before: &'p str, nodes: &'p [N]) -> Result<(), AllocError>
-        ensures { OnOk result (bits_of self.new.items.items ≡ bits_of self.old.items.items ++ behind before.now (map N.node nodes.now)) }
+        ensures { OnOk result (bits_of self.new.items.items
+            ≡ bits_of self.old.items.items ++ behind before.now (map N.node nodes.now)) }
     {
         for node in nodes {
             self.text(before)?;

@@ -67,7 +67,8 @@ impl<'a, F: FrontEnd> Make<'a, F> {
 
     /// A result type: `-> A`.
     pub fn ret_type(&self, ty: &ast::Type) -> Result<ast::RetType, MakeError>
-        ensures { IsMadeOf ⟦<ast::RetType as AstNode>⟧ (F.answers self.now.front.now) self.now.edition
+        ensures { IsMadeOf ⟦<ast::RetType as AstNode>⟧ (F.answers self.now.front.now)
+            self.now.edition
             (fixed (codes "-> ") ∷ part (ty_node ty.now) ∷ [])
             result }
     {

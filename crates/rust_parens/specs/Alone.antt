@@ -10,7 +10,8 @@ use Rattle.rust_report.specs.declared.same.Trivia.TheVariants.{Aside}
 use Rattle.rust_report.specs.Steps.{steps_of}
 use Rattle.rust_parens.specs.Texts.{marks_of, text_without}
 
--- a parse is an expression without what the marks leave out, white space and comments aside, and has no errors
+-- a parse is an expression without what the marks leave out, white space and comments aside, and
+-- has no errors
 pub record IsAlike (around : Cursor) (marks : List Bool) (new : Parsed) : Type 0 where
   pub steps : steps_of Aside marks around ≡ steps_of Aside [] (root_of new.tree)
   pub errors : length new.errors ≡ 0
@@ -34,7 +35,8 @@ abbrev pub IsReadAlone : Front → Edition → Cursor → List Bool → Bool →
 IsReadAlone front edition around marks true = ReadsAlone front edition around marks
 IsReadAlone front edition around marks false = FailsAlone front edition around marks
 
--- an expression tells two sets of marks apart: without what the first leaves out it reads as its tree, without what the second does not
+-- an expression tells two sets of marks apart: without what the first leaves out it reads as its
+-- tree, without what the second does not
 pub record IsTold (front : Front) (edition : Edition) (around : Cursor) (kept marks : List Bool) : Type 0 where
   pub reads : ReadsAlone front edition around kept
   pub fails : FailsAlone front edition around marks

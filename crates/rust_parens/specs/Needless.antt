@@ -19,7 +19,8 @@ use Rattle.rust_parens.specs.Alone.{StaysAlone}
 abbrev pub fixed : Parsed → List Cursor → List ℕ
 fixed old pairs = text_without (marks_of (length (text old.tree)) pairs) (root_of old.tree)
 
--- a parse is the old one without what the marks leave out, white space and comments aside, with as many errors
+-- a parse is the old one without what the marks leave out, white space and comments aside, with as
+-- many errors
 pub record IsMarkedOut (old : Parsed) (marks : List Bool) (new : Parsed) : Type 0 where
   pub steps : steps_of Aside marks (root_of old.tree) ≡ steps_of Aside [] (root_of new.tree)
   pub errors : length old.errors ≡ length new.errors

@@ -15,7 +15,8 @@ abbrev pub parens_of : Cursor → Option (Bounds × Bounds)
 parens_of c =
     option_and_then (λ first. option_map (λ second. (range_of first, range_of second)) (token_child R_PAREN c)) (token_child L_PAREN c)
 
--- the expression needs no parentheses in place of the pair, below the pair's parent, and is not one that rustc may read otherwise
+-- the expression needs no parentheses in place of the pair, below the pair's parent, and is not one
+-- that rustc may read otherwise
 abbrev pub may_go_from : Option Cursor → Option Cursor → Cursor → Bool
 may_go_from None parent pair = false
 may_go_from (Some inside) None pair = false

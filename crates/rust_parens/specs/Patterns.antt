@@ -1,5 +1,6 @@
--- Pairs of parentheses around patterns that may go. Source: the Rust Reference, "Patterns": a pattern with alternatives stands at the top of
--- an arm, of `let` in a condition and of `for`, and between commas; and a range has no place behind `&`. In a slice, rustc refuses `1..`.
+-- Pairs of parentheses around patterns that may go. Source: the Rust Reference, "Patterns": a
+-- pattern with alternatives stands at the top of an arm, of `let` in a condition and of `for`, and
+-- between commas; and a range has no place behind `&`. In a slice, rustc refuses `1..`.
 use Rattle.std.specs.Prelude.{Bool, true, false, not, ◌&&◌, ◌||◌, Option, Some, None, is_none}
 use Rattle.std.specs.List.{find}
 use Rattle.syntax_kind.specs.declared.syntax_kind.SyntaxKind.{SyntaxKind}

@@ -1,5 +1,7 @@
--- What a pair of parentheses is a part of. Source: rustc's lint `unused_parens` (a value, a condition, an argument, an index, the end of
--- a block, an arm, the body of a closure, the length of an array, a pattern but for a range), and clippy's lint `precedence` (arithmetic below a shift).
+-- What a pair of parentheses is a part of. Source: rustc's lint `unused_parens` (a value, a
+-- condition, an argument, an index, the end of a block, an arm, the body of a closure, the length
+-- of an array, a pattern but for a range), and clippy's lint `precedence` (arithmetic below a
+-- shift).
 use Rattle.std.specs.Prelude.{Bool, true, false, not, ◌&&◌, ◌||◌, if◌then◌else◌, Option, Some, None, option_map}
 use Rattle.syntax_kind.specs.declared.syntax_kind.SyntaxKind.{SyntaxKind}
 use Rattle.syntax_kind.specs.declared.syntax_kind.SyntaxKind.TheVariants.{Token, Node}

@@ -25,7 +25,8 @@ planned [] (p ∷ ps) = []
 planned (true ∷ bs) (p ∷ ps) = planned bs ps
 planned (false ∷ bs) (p ∷ ps) = p ∷ planned bs ps
 
--- the text without the chosen pairs and these, if these can be removed; None if there are no pairs beside the chosen ones
+-- the text without the chosen pairs and these, if these can be removed; None if there are no pairs
+-- beside the chosen ones
 abbrev pub IsText : Front → Entry → Edition → Parsed → List Cursor → List Cursor → Option (List ℕ) → Type 0
 IsText front entry edition old before more None = more ≡ []
 IsText front entry edition old before more (Some s) = (s ≡ fixed old (before ++ more)) × MayGo front entry edition old (before ++ more)
@@ -39,8 +40,8 @@ pub record ArePlan (front : Front) (entry : Entry) (edition : Edition) (old : Pa
 abbrev pub IsPlan : Front → Entry → Edition → Parsed → List Cursor → List Cursor → Plan → Type 0
 IsPlan front entry edition old before rest plan = ArePlan front entry edition old before rest plan.stays.items (option_map string_bytes plan.text)
 
--- the first pairs that are left, in order; each that stays was refused beside the chosen ones and those before it that go; and the text
--- without the chosen ones and all that go
+-- the first pairs that are left, in order; each that stays was refused beside the chosen ones and
+-- those before it that go; and the text without the chosen ones and all that go
 pub record AreRun (front : Front) (entry : Entry) (edition : Edition) (old : Parsed) (before rest : List Cursor) (tried : List Tried) (s : Option (List ℕ)) : Type 0 where
   pub some : 1 ≤ length tried
   pub in_order : map (λ t. t.pair) tried ≡ take (length tried) rest

@@ -1,5 +1,6 @@
--- Pairs that rustc needs, although rust-analyzer's parser reads the same tree without them. Source: the Rust Reference, "Macro
--- invocation expressions", "Closure expressions", "Destructuring assignment", "let statements" and "Expression statements".
+-- Pairs that rustc needs, although rust-analyzer's parser reads the same tree without them. Source:
+-- the Rust Reference, "Macro invocation expressions", "Closure expressions", "Destructuring
+-- assignment", "let statements" and "Expression statements".
 use Rattle.std.specs.Prelude.{ℕ, Bool, true, false, not, ◌&&◌, ◌||◌, if◌then◌else◌, List, [], ◌∷◌, Option, Some, None, is_none, slice_get}
 use Rattle.std.specs.List.{find}
 use Rattle.std.specs.Option.{option_and_then}
@@ -92,8 +93,8 @@ is_before_else inside parent pair = is_else (token_after pair) && not (is_of_kin
 abbrev pub token_before : Cursor → Option Cursor
 token_before pair = option_and_then (λ first. find has_no_trivia_kind (tokens_beyond Prev first)) (first_token_of (element.Node pair))
 
--- an expression with a block, but for a block: as a statement it needs no `;`, so that rustc too ends it at its `}`.
--- Source: the Rust Reference, "Expression statements"
+-- an expression with a block, but for a block: as a statement it needs no `;`, so that rustc too
+-- ends it at its `}`. Source: the Rust Reference, "Expression statements"
 abbrev pub is_with_block : Cursor → Bool
 is_with_block c =
     is_of_kind IF_EXPR c || (is_of_kind MATCH_EXPR c || (is_of_kind FOR_EXPR c

@@ -31,7 +31,8 @@ marks_of n pairs = marked (replicate n false) pairs
 abbrev pub is_taken : ℕ → Bool
 is_taken b = is_word b || (b == 34 || (b == 39 || b == 35))
 
--- two bytes that are one sign, or begin a comment: `..`, `::`, `&&`, `||`, `<<`, `>>`, `->`, `=>`, `<-`, `//`, `/*`, `*/`
+-- two bytes that are one sign, or begin a comment: `..`, `::`, `&&`, `||`, `<<`, `>>`, `->`, `=>`,
+-- `<-`, `//`, `/*`, `*/`
 abbrev pub is_sign : ℕ → ℕ → Bool
 is_sign a b =
     (a == b && (a == 46 || (a == 58 || (a == 38 || (a == 124 || (a == 60 || (a == 62 || a == 47)))))))
@@ -55,11 +56,13 @@ abbrev pub blank : Bool → List ℕ
 blank true = 32 ∷ []
 blank false = []
 
--- a token after a text; where something was left out between, a blank keeps them apart if they would grow together
+-- a token after a text; where something was left out between, a blank keeps them apart if they
+-- would grow together
 abbrev pub put : Bool → List ℕ → List ℕ → List ℕ
 put gap s t = s ++ (blank (gap && grow_at (slice_get s (length s - 1)) (slice_get t 0)) ++ t)
 
--- a node or token after a text: a node adds nothing, and a token that the marks leave out leaves a gap
+-- a node or token after a text: a node adds nothing, and a token that the marks leave out leaves a
+-- gap
 abbrev pub with_element : List Bool → List ℕ × Bool → Element → List ℕ × Bool
 with_element marks st (element.Node c) = st
 with_element marks st (element.Token c) = if is_left_out marks (element.Token c) then (st.0, true) else (put st.1 st.0 (text (focus c)), false)

@@ -20,7 +20,8 @@ fn is_alike(around: &SyntaxNode, marks: &[bool], new: &Parse<SyntaxNode>) -> boo
     new.stored().is_empty() && first_difference(around, marks, new.root(), Trivia::Aside).is_none()
 }
 
-// Whether the text of an expression, without what the marks leave out, parses to its tree without that, and without errors.
+// Whether the text of an expression, without what the marks leave out, parses to its tree without
+// that, and without errors.
 #[tactic(auto, using(crate::proofs::AloneLemmas::answered, crate::proofs::AloneLemmas::too_long))]
 fn reads_alone<F: FrontEnd>(
     alloc: Global,
@@ -39,7 +40,8 @@ fn reads_alone<F: FrontEnd>(
     }
 }
 
-// Whether the text of an expression without what `kept` leaves out parses to its tree, and that without what `marks` leaves out does not.
+// Whether the text of an expression without what `kept` leaves out parses to its tree, and that
+// without what `marks` leaves out does not.
 #[tactic(auto, using(crate::proofs::AloneLemmas::told))]
 fn is_told<F: FrontEnd>(
     alloc: Global,
@@ -49,7 +51,8 @@ fn is_told<F: FrontEnd>(
     kept: &[bool],
     marks: &[bool],
 ) -> Result<bool, AllocError>
-    ensures { IfOk result (λ told. IsTrue told → IsTold (F.answers front.now) edition around.now kept.now marks.now) }
+    ensures { IfOk result
+        (λ told. IsTrue told → IsTold (F.answers front.now) edition around.now kept.now marks.now) }
 {
     if !reads_alone(alloc, front, edition, around, kept)? {
         return Ok(false);
@@ -88,7 +91,8 @@ fn is_told_around<F: FrontEnd>(
     kept: &[bool],
     marks: &[bool],
 ) -> Result<bool, AllocError>
-    ensures { IfOk result (λ told. IsTrue told → IsToldAround (F.answers front.now) edition pair.now kept.now marks.now) }
+    ensures { IfOk result (λ told. IsTrue told
+        → IsToldAround (F.answers front.now) edition pair.now kept.now marks.now) }
 {
     let mut left = TRIED;
     for around in pair.ancestors() {
@@ -106,8 +110,9 @@ fn is_told_around<F: FrontEnd>(
     Ok(false)
 }
 
-/// Whether an expression around a pair, one of the nearest, shows that the pair stays: without the pairs `before`, its text parses
-/// alone to its tree, and without this pair too it does not. `pair` has the pair alone; `len` is the length of the whole text.
+/// Whether an expression around a pair, one of the nearest, shows that the pair stays: without the
+/// pairs `before`, its text parses alone to its tree, and without this pair too it does not. `pair`
+/// has the pair alone; `len` is the length of the whole text.
 ///
 /// Takes time linear in the length of the text and in these expressions.
 #[tactic(auto, using(crate::proofs::AloneLemmas::stays))]
@@ -119,7 +124,8 @@ pub(crate) fn stays_alone<F: FrontEnd>(
     before: &[SyntaxNode],
     pair: &[SyntaxNode],
 ) -> Result<bool, AllocError>
-    ensures { IfOk result (λ stays. IsTrue stays → StaysAlone (F.answers front.now) edition len before.now pair.now) }
+    ensures { IfOk result
+        (λ stays. IsTrue stays → StaysAlone (F.answers front.now) edition len before.now pair.now) }
 {
     if pair.len() != 1 {
         return Ok(false);

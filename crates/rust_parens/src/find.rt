@@ -38,7 +38,8 @@ fn inside_may_go(pair: &SyntaxNode) -> bool
     }
 }
 
-// Whether a pair has both parentheses, and begins with the first: attributes before it would be those of its contents.
+// Whether a pair has both parentheses, and begins with the first: attributes before it would be
+// those of its contents.
 fn is_bare(pair: &SyntaxNode) -> bool
     ensures { result ≡ is_bare pair.now }
 {
@@ -55,20 +56,21 @@ fn contents_may_go(node: &SyntaxNode) -> bool
     (node.kind() == SyntaxKind::PAREN_EXPR && inside_may_go(node)) || pattern_may_go(node)
 }
 
-/// Whether a node is a pair of parentheses, with both parentheses and without attributes, around an expression for which
-/// [`needs_parens_in_place_of`] returns false, and that [`is_needed_by_rustc`] does not keep; or around a pattern, but for alternatives,
-/// ranges and `mut x` in places that do not take them, such as the `A | B` of `let (A | B) = c` and the `mut x` of `&(mut x)`.
+/// Whether a node is a pair of parentheses, with both parentheses and without attributes, around an
+/// expression for which [`needs_parens_in_place_of`] returns false, and that [`is_needed_by_rustc`]
+/// does not keep; or around a pattern, but for alternatives, ranges and `mut x` in places that do
+/// not take them, such as the `A | B` of `let (A | B) = c` and the `mut x` of `&(mut x)`.
 ///
-/// That test covers operators and statements. If the pair is in something else, such as the arm of a `match`, only a parse of the text
-/// without the pair shows that it is needless.
+/// That test covers operators and statements. If the pair is in something else, such as the arm of
+/// a `match`, only a parse of the text without the pair shows that it is needless.
 pub fn may_go(node: &SyntaxNode) -> bool
     ensures { result ≡ may_go node.now }
 {
     is_bare(node) && contents_may_go(node)
 }
 
-// Whether the contents of a pair need parentheses in place of the outermost of the pairs directly around it; false for a pair around
-// another pair. It is used for guesses only.
+// Whether the contents of a pair need parentheses in place of the outermost of the pairs directly
+// around it; false for a pair around another pair. It is used for guesses only.
 pub(crate) fn is_needed_outside(pair: &SyntaxNode) -> bool {
     let Some(inside) = first_expr(pair) else {
         return false;
@@ -86,13 +88,15 @@ pub(crate) fn is_needed_outside(pair: &SyntaxNode) -> bool {
     false
 }
 
-/// The needless pairs of a tree by this test, in preorder. If one of them is in another, possibly only one of the two can be removed.
+/// The needless pairs of a tree by this test, in preorder. If one of them is in another, possibly
+/// only one of the two can be removed.
 ///
 /// # Errors
 ///
 /// `AllocError` if memory runs out.
 pub fn pairs(alloc: Global, root: &SyntaxNode) -> Result<Vec<SyntaxNode>, AllocError>
-    ensures { IfOk result (λ found. found.items ≡ filter may_go (filter at_node (descendants_of root.now))) }
+    ensures { IfOk result
+        (λ found. found.items ≡ filter may_go (filter at_node (descendants_of root.now))) }
 {
     let mut found = Vec::new(alloc);
     for node in root.descendants() {

@@ -1,5 +1,6 @@
-//! Guesses which pairs of a text stay, which parses then confirm. A wrong guess costs parses. It changes the result only where pairs can be
-//! removed together and not one after the other: then they go if all were guessed to go.
+//! Guesses which pairs of a text stay, which parses then confirm. A wrong guess costs parses. It
+//! changes the result only where pairs can be removed together and not one after the other: then
+//! they go if all were guessed to go.
 ghost use Rattle.std.specs.Prelude.{◌≤◌, length, IfOk};
 
 use crate::find::is_needed_outside;
@@ -18,7 +19,8 @@ const BORNE: usize = 8;
 /// Which pairs of a list are guessed to stay.
 #[derive(Drop)]
 pub(crate) struct Guess {
-    // One for each pair: whether its contents need parentheses in place of all pairs directly around it.
+    // One for each pair: whether its contents need parentheses in place of all pairs directly
+    // around it.
     needed: Vec<bool>,
     // One for each pair: whether a difference of two trees led to it.
     seen: Vec<bool>,
@@ -85,8 +87,8 @@ impl Guess {
         self.step.max(1)
     }
 
-    /// Learns from the differences of the trees without the pairs that were guessed to be removable, of the last pairs `rest`. Returns
-    /// whether a further pair is now guessed to stay.
+    /// Learns from the differences of the trees without the pairs that were guessed to be
+    /// removable, of the last pairs `rest`. Returns whether a further pair is now guessed to stay.
     pub(crate) fn learn(&mut self, rest: &[SyntaxNode], apart: &[Difference]) -> bool {
         let first = self.needed.len().saturating_sub(rest.len());
         let mut is_new = false;
@@ -106,8 +108,8 @@ impl Guess {
         is_new
     }
 
-    /// Notes that a plan for `planned` pairs was followed for the first `tried`, of which `stayed` stay. If these are not all, the last of
-    /// them was guessed to stay and could be removed.
+    /// Notes that a plan for `planned` pairs was followed for the first `tried`, of which `stayed`
+    /// stay. If these are not all, the last of them was guessed to stay and could be removed.
     pub(crate) fn was_followed(&mut self, planned: usize, tried: usize, stayed: usize) {
         self.right = self.right.saturating_add(stayed);
         if tried < planned {
@@ -167,8 +169,9 @@ fn start_of(element: &SyntaxElement) -> TextSize {
     }
 }
 
-// The number of the pair that may cause a difference: the one around the expression that the other tree lacks at this place, or the
-// first one after its start; at the end of a node, the last one that starts before.
+// The number of the pair that may cause a difference: the one around the expression that the other
+// tree lacks at this place, or the first one after its start; at the end of a node, the last one
+// that starts before.
 fn suspect(pairs: &[SyntaxNode], difference: &Difference) -> Option<usize> {
     match &difference.old {
         Some(WalkEvent::Enter(element)) => {

@@ -1,5 +1,5 @@
-//! Needless pairs of parentheses of a tree, around expressions and patterns: by the tests of operators and statements, and by the parse of
-//! the text without them.
+//! Needless pairs of parentheses of a tree, around expressions and patterns: by the tests of
+//! operators and statements, and by the parse of the text without them.
 #![tactic(auto)]
 
 mod alone;

@@ -34,16 +34,16 @@ pub struct Needless {
     pub tried: Vec<Tried>,
 }
 
-// Pairs that were tried beside the chosen ones, in order, and the text without the chosen pairs and without those of the tried ones that
-// can be removed; no text if none can.
+// Pairs that were tried beside the chosen ones, in order, and the text without the chosen pairs and
+// without those of the tried ones that can be removed; no text if none can.
 #[derive(Drop)]
 struct Run {
     tried: Vec<Tried>,
     text: Option<String>,
 }
 
-// A guess which of the first pairs of a list stay, and the text without the chosen pairs and without the others, which a parse has
-// confirmed. There is no text if all of them stay.
+// A guess which of the first pairs of a list stay, and the text without the chosen pairs and
+// without the others, which a parse has confirmed. There is no text if all of them stay.
 #[derive(Drop)]
 struct Plan {
     stays: Vec<bool>,
@@ -69,7 +69,8 @@ fn is_same(old: &Parse<SyntaxNode>, marks: &[bool], new: &Parse<SyntaxNode>) -> 
 
 // A run of pairs that can all be removed, or one that stays.
 fn run_of(alloc: Global, pairs: &[SyntaxNode], text: Option<String>) -> Result<Run, AllocError>
-    ensures { IfOk result (λ run. (run.tried.items ≡ map (as_tried (is_some text)) pairs.now) × (run.text ≡ text)) }
+    ensures { IfOk result
+        (λ run. (run.tried.items ≡ map (as_tried (is_some text)) pairs.now) × (run.text ≡ text)) }
 {
     let mut tried = Vec::new(alloc);
     note(&mut tried, pairs, text.is_some())?;
@@ -108,8 +109,8 @@ fn goes_at(stays: &[bool], at: usize) -> bool
 }
 
 impl<'a, F: FrontEnd> Trial<'a, F> {
-    // The text without the pairs of `chosen` and `more`, if it parses to the tree without them. If it does not, the first `wanted` places
-    // where the trees differ are added to `apart`.
+    // The text without the pairs of `chosen` and `more`, if it parses to the tree without them. If
+    // it does not, the first `wanted` places where the trees differ are added to `apart`.
     fn without(
         &self,
         alloc: Global,
@@ -118,7 +119,9 @@ impl<'a, F: FrontEnd> Trial<'a, F> {
         wanted: usize,
         apart: &mut Vec<Difference>,
     ) -> Result<Option<String>, AllocError>
-        ensures { IfOk result (λ o. IsAnswer (F.answers self.now.front.now) self.now.entry self.now.edition self.now.old.now (chosen.now ++ more.now) (option_map string_bytes o)) }
+        ensures { IfOk result (λ o.
+            IsAnswer (F.answers self.now.front.now) self.now.entry self.now.edition
+            self.now.old.now (chosen.now ++ more.now) (option_map string_bytes o)) }
     {
         let len = self.old.root().as_str().len();
         let marks = marks_of(alloc, len, chosen, more)?;
@@ -137,7 +140,8 @@ impl<'a, F: FrontEnd> Trial<'a, F> {
         }
     }
 
-    // The text without the chosen pairs and this one, if this one can be removed beside them. `pair` has it alone.
+    // The text without the chosen pairs and this one, if this one can be removed beside them.
+    // `pair` has it alone.
     #[tactic(auto, using(crate::proofs::AloneLemmas::refused))]
     fn without_one(
         &self,
@@ -146,7 +150,9 @@ impl<'a, F: FrontEnd> Trial<'a, F> {
         pair: &[SyntaxNode],
         apart: &mut Vec<Difference>,
     ) -> Result<Option<String>, AllocError>
-        ensures { IfOk result (λ o. IsAnswer (F.answers self.now.front.now) self.now.entry self.now.edition self.now.old.now (chosen.now ++ pair.now) (option_map string_bytes o)) }
+        ensures { IfOk result (λ o.
+            IsAnswer (F.answers self.now.front.now) self.now.entry self.now.edition
+            self.now.old.now (chosen.now ++ pair.now) (option_map string_bytes o)) }
     {
         let len = self.old.root().as_str().len();
         if stays_alone(alloc, self.front, self.edition, len, chosen, pair)? {
@@ -155,7 +161,8 @@ impl<'a, F: FrontEnd> Trial<'a, F> {
         self.without(alloc, chosen, pair, 0, apart)
     }
 
-    // Tries to remove the first pairs that are left beside the chosen ones: at most `step` of them, then half of these, down to one.
+    // Tries to remove the first pairs that are left beside the chosen ones: at most `step` of them,
+    // then half of these, down to one.
     fn halved_run(
         &self,
         alloc: Global,
@@ -164,7 +171,8 @@ impl<'a, F: FrontEnd> Trial<'a, F> {
         step: usize,
     ) -> Result<Run, AllocError>
         requires { 1 ≤ length rest.now }
-        ensures { IfOk result (IsRun (F.answers self.now.front.now) self.now.entry self.now.edition self.now.old.now chosen.now rest.now) }
+        ensures { IfOk result (IsRun (F.answers self.now.front.now) self.now.entry self.now.edition
+            self.now.old.now chosen.now rest.now) }
     {
         let mut apart = Vec::new(alloc);
         let mut count = step.min(rest.len());
@@ -181,8 +189,9 @@ impl<'a, F: FrontEnd> Trial<'a, F> {
         run_of(alloc, pairs, text)
     }
 
-    // Guesses which of the pairs that are left stay, until the text without the others parses to the tree without them. Returns `None` if
-    // a parse suggests no further pair that may have to stay.
+    // Guesses which of the pairs that are left stay, until the text without the others parses to
+    // the tree without them. Returns `None` if a parse suggests no further pair that may have to
+    // stay.
     fn make_plan(
         &self,
         alloc: Global,
@@ -191,7 +200,9 @@ impl<'a, F: FrontEnd> Trial<'a, F> {
         guess: &mut Guess,
     ) -> Result<Option<Plan>, AllocError>
         requires { 1 ≤ length rest.now }
-        ensures { IfOk result (λ plan. IfSome plan (IsPlan (F.answers self.now.front.now) self.now.entry self.now.edition self.now.old.now chosen.now rest.now)) }
+        ensures { IfOk result (λ plan.
+            IfSome plan (IsPlan (F.answers self.now.front.now) self.now.entry self.now.edition
+            self.now.old.now chosen.now rest.now)) }
     {
         for _turn in 0..=rest.len() {
             let stays = guess.stays_of(alloc, rest.len())?;
@@ -213,8 +224,8 @@ impl<'a, F: FrontEnd> Trial<'a, F> {
         Ok(None)
     }
 
-    // Tries to remove each pair that stays by a plan, beside the chosen ones and those before it that the plan removes, until one can be
-    // removed.
+    // Tries to remove each pair that stays by a plan, beside the chosen ones and those before it
+    // that the plan removes, until one can be removed.
     fn planned_run(
         &self,
         alloc: Global,
@@ -222,8 +233,10 @@ impl<'a, F: FrontEnd> Trial<'a, F> {
         rest: &[SyntaxNode],
         plan: Plan,
     ) -> Result<Run, AllocError>
-        requires { IsPlan (F.answers self.now.front.now) self.now.entry self.now.edition self.now.old.now chosen.now rest.now plan }
-        ensures { IfOk result (IsRun (F.answers self.now.front.now) self.now.entry self.now.edition self.now.old.now chosen.now rest.now) }
+        requires { IsPlan (F.answers self.now.front.now) self.now.entry self.now.edition
+            self.now.old.now chosen.now rest.now plan }
+        ensures { IfOk result (IsRun (F.answers self.now.front.now) self.now.entry self.now.edition
+            self.now.old.now chosen.now rest.now) }
     {
         let mut before = Vec::new(alloc);
         add_going(&mut before, chosen, true)?;
@@ -252,7 +265,8 @@ impl<'a, F: FrontEnd> Trial<'a, F> {
         })
     }
 
-    // Tries the first pairs that are left: by a plan, or by halves if there is no plan, up to a pair that stays.
+    // Tries the first pairs that are left: by a plan, or by halves if there is no plan, up to a
+    // pair that stays.
     fn next_run(
         &self,
         alloc: Global,
@@ -261,7 +275,8 @@ impl<'a, F: FrontEnd> Trial<'a, F> {
         guess: &mut Guess,
     ) -> Result<Run, AllocError>
         requires { 1 ≤ length rest.now }
-        ensures { IfOk result (IsRun (F.answers self.now.front.now) self.now.entry self.now.edition self.now.old.now chosen.now rest.now) }
+        ensures { IfOk result (IsRun (F.answers self.now.front.now) self.now.entry self.now.edition
+            self.now.old.now chosen.now rest.now) }
     {
         if guess.is_trusted() {
             let plan = self.make_plan(alloc, chosen, rest, guess)?;
@@ -345,8 +360,9 @@ fn staying(tried: &[Tried]) -> usize
     count
 }
 
-/// The pairs among these candidates that can be removed together, as [`find_needless`] returns them for all candidates of a text. The
-/// candidates are pairs of the parse, in preorder; other pairs stay.
+/// The pairs among these candidates that can be removed together, as [`find_needless`] returns them
+/// for all candidates of a text. The candidates are pairs of the parse, in preorder; other pairs
+/// stay.
 ///
 /// # Errors
 ///
@@ -359,7 +375,9 @@ pub fn find_needless_among<F: FrontEnd>(
     old: &Parse<SyntaxNode>,
     candidates: Vec<SyntaxNode>,
 ) -> Result<Needless, AllocError>
-    ensures found { IfOk result (λ n. AreTriedAmong (F.answers front.now) entry edition old.now candidates.items n.pairs.items n.tried.items (option_map string_bytes n.text)) }
+    ensures found { IfOk result (λ n.
+        AreTriedAmong (F.answers front.now) entry edition old.now candidates.items n.pairs.items
+        n.tried.items (option_map string_bytes n.text)) }
     ensures all { IfOk result (λ n. length n.tried.items ≡ length candidates.items) }
 {
     let trial = Trial {
@@ -388,15 +406,19 @@ pub fn find_needless_among<F: FrontEnd>(
     })
 }
 
-/// The pairs of parentheses of a text that can be removed together. The pairs that [`pairs`](crate::pairs) returns are decided one after
-/// the other: a pair stays if the text without it, and without those before it that can be removed, parses to another tree than this one
-/// without these pairs, apart from white space and comments, or with another number of errors; or if such an expression around it does
-/// so alone. The text without all that can be removed parses to the tree without them, with as many errors.
+/// The pairs of parentheses of a text that can be removed together. The pairs that
+/// [`pairs`](crate::pairs) returns are decided one after the other: a pair stays if the text
+/// without it, and without those before it that can be removed, parses to another tree than this
+/// one without these pairs, apart from white space and comments, or with another number of errors;
+/// or if such an expression around it does so alone. The text without all that can be removed
+/// parses to the tree without them, with as many errors.
 ///
-/// All pairs are removed at once and the text is parsed. If that fails, the places where the trees differ suggest which pairs stay, and
-/// a further parse confirms that the others go together. A pair that stays is confirmed by two parses of an expression around it, or,
-/// if none of the nearest shows it, by a parse of the text. Without a suggestion, runs of pairs are tried and halved. So it usually takes
-/// a few parses of the text, in linear time; at worst one for each pair that stays.
+/// All pairs are removed at once and the text is parsed. If that fails, the places where the trees
+/// differ suggest which pairs stay, and a further parse confirms that the others go together. A
+/// pair that stays is confirmed by two parses of an expression around it, or, if none of the
+/// nearest shows it, by a parse of the text. Without a suggestion, runs of pairs are tried and
+/// halved. So it usually takes a few parses of the text, in linear time; at worst one for each pair
+/// that stays.
 ///
 /// # Errors
 ///
@@ -408,7 +430,9 @@ pub fn find_needless<F: FrontEnd>(
     edition: Edition,
     old: &Parse<SyntaxNode>,
 ) -> Result<Needless, AllocError>
-    ensures found { IfOk result (λ n. AreTried (F.answers front.now) entry edition old.now n.pairs.items n.tried.items (option_map string_bytes n.text)) }
+    ensures found { IfOk result (λ n.
+        AreTried (F.answers front.now) entry edition old.now n.pairs.items n.tried.items
+        (option_map string_bytes n.text)) }
     ensures all { IfOk result (λ n. length n.tried.items ≡ length (candidates_of old.now)) }
 {
     let candidates = pairs(alloc, old.root())?;

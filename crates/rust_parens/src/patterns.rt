@@ -51,7 +51,8 @@ fn holds_alternatives(kind: SyntaxKind) -> bool
     )
 }
 
-// Whether a pattern directly in a node of the kind may be a range. In a slice, rustc refuses `1..` and `x @ 1..`.
+// Whether a pattern directly in a node of the kind may be a range. In a slice, rustc refuses `1..`
+// and `x @ 1..`.
 fn holds_range(kind: SyntaxKind) -> bool
     ensures { result ≡ holds_range kind }
 {
@@ -115,7 +116,8 @@ fn begins_with_mut(inside: &SyntaxNode) -> bool
     is_mut(inside.first_token())
 }
 
-// `let (A | B) = c`, `&(1..=2)`, `&(mut x)`. Only these climb over the pairs around a pair, so that pairs in pairs take linear time.
+// `let (A | B) = c`, `&(1..=2)`, `&(mut x)`. Only these climb over the pairs around a pair, so that
+// pairs in pairs take linear time.
 fn is_held(inside: &SyntaxNode, pair: &SyntaxNode) -> bool
     ensures { result ≡ is_held inside.now pair.now }
 {
@@ -124,8 +126,9 @@ fn is_held(inside: &SyntaxNode, pair: &SyntaxNode) -> bool
         || (begins_with_mut(inside) && is_shared(holder_of(pair)))
 }
 
-/// Whether a node is a pair around a pattern that needs no parentheses there: alternatives stay in a `let`, a parameter and behind `&`,
-/// `box`, `@` or `|`, a range in a slice and behind `&`, `box` or `@`, and `mut x` behind `&`.
+/// Whether a node is a pair around a pattern that needs no parentheses there: alternatives stay in
+/// a `let`, a parameter and behind `&`, `box`, `@` or `|`, a range in a slice and behind `&`, `box`
+/// or `@`, and `mut x` behind `&`.
 pub(crate) fn pattern_may_go(pair: &SyntaxNode) -> bool
     ensures { result ≡ pattern_may_go pair.now }
 {

@@ -11,8 +11,9 @@ use ras_prec_walks::parts::{first_expr, is_it};
 /// What a pair of parentheses is a part of, by the node around it.
 #[derive(Clone, Copy, Debug, PartialEq, Eq)]
 pub enum PairPlace {
-    /// A whole value, as that of a `let`, of an argument or of a condition; also a pair directly in another one; and every pattern but
-    /// a range. rustc's lint `unused_parens` asks to remove these.
+    /// A whole value, as that of a `let`, of an argument or of a condition; also a pair directly in
+    /// another one; and every pattern but a range. rustc's lint `unused_parens` asks to remove
+    /// these.
     Value,
     /// An operand of an operator, a call, a field or a reference.
     Operand,
@@ -181,9 +182,9 @@ fn place_by_parent(pair: &SyntaxNode) -> PairPlace
     }
 }
 
-/// What a pair of parentheses, a `PAREN_EXPR` or a `PAREN_PAT`, is a part of. Of `(a) + [(b)]`, the first pair is an operand and the
-/// second is of another place; of `f((a))` and `x = (a);` the pair is a value, and of `let (a) = b;` too. Of `let (1..) = a else { c };`
-/// it is of another place.
+/// What a pair of parentheses, a `PAREN_EXPR` or a `PAREN_PAT`, is a part of. Of `(a) + [(b)]`, the
+/// first pair is an operand and the second is of another place; of `f((a))` and `x = (a);` the pair
+/// is a value, and of `let (a) = b;` too. Of `let (1..) = a else { c };` it is of another place.
 pub fn place_of(pair: &SyntaxNode) -> PairPlace
     ensures { result ≡ place_of pair.now }
 {

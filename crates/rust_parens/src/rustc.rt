@@ -37,8 +37,8 @@ fn is_in_statement(pair: &SyntaxNode) -> bool
     false
 }
 
-// `(m! {});` is an expression; `m! {}` as a statement or at the end of a block is the statements that it expands to. Of pairs around the
-// call the innermost stays there, since the others may go.
+// `(m! {});` is an expression; `m! {}` as a statement or at the end of a block is the statements
+// that it expands to. Of pairs around the call the innermost stays there, since the others may go.
 fn is_statement_macro(inside: &SyntaxNode, pair: &SyntaxNode) -> bool
     ensures { result ≡ is_statement_macro inside.now pair.now }
 {
@@ -146,7 +146,8 @@ fn is_closing_brace(token: Option<SyntaxToken>) -> bool
     }
 }
 
-// `let x = (a + b) else {`: what may precede the `else` as the whole value. Of pairs in pairs the outermost stays.
+// `let x = (a + b) else {`: what may precede the `else` as the whole value. Of pairs in pairs the
+// outermost stays.
 fn is_plain_value(inside: &SyntaxNode) -> bool
     ensures { result ≡ is_plain_value inside.now }
 {
@@ -322,7 +323,8 @@ fn is_before_word(pair: &SyntaxNode) -> bool
     is_word_token(token_after(pair))
 }
 
-// In `(continue) as u8`, rustc reads `as` as a label if there are no parentheses. Of pairs in pairs the innermost stays.
+// In `(continue) as u8`, rustc reads `as` as a label if there are no parentheses. Of pairs in pairs
+// the innermost stays.
 fn is_before_label(inside: &SyntaxNode, parent: &SyntaxNode, pair: &SyntaxNode) -> bool
     ensures { result ≡ is_before_label inside.now parent.now pair.now }
 {
@@ -340,12 +342,14 @@ fn is_read_otherwise(inside: &SyntaxNode, parent: &SyntaxNode, pair: &SyntaxNode
         || is_before_label(inside, parent, pair)
 }
 
-/// Whether the contents of a pair are of a kind that rustc may read otherwise without the pair, although rust-analyzer's parser reads the
-/// same tree: a macro call as a statement or at the end of a block, `continue` before a word, `_`, a range without ends, a closure whose
-/// body is not a block (unless a comma, a bracket that is not a pair's, or a semicolon follows the pair), everything before an `else` but
-/// a whole value that is neither `&&` nor `||` nor ends with `}`, and everything after a `}` that does not end a statement for rustc, as
-/// that of `async {}`: it does at the end of a block, an `unsafe` block, an `if`, a `match`, a loop, an item or a macro call. Some of
-/// these pairs can be removed all the same.
+/// Whether the contents of a pair are of a kind that rustc may read otherwise without the pair,
+/// although rust-analyzer's parser reads the same tree: a macro call as a statement or at the end
+/// of a block, `continue` before a word, `_`, a range without ends, a closure whose body is not a
+/// block (unless a comma, a bracket that is not a pair's, or a semicolon follows the pair),
+/// everything before an `else` but a whole value that is neither `&&` nor `||` nor ends with `}`,
+/// and everything after a `}` that does not end a statement for rustc, as that of `async {}`: it
+/// does at the end of a block, an `unsafe` block, an `if`, a `match`, a loop, an item or a macro
+/// call. Some of these pairs can be removed all the same.
 pub fn is_needed_by_rustc(inside: &SyntaxNode, parent: &SyntaxNode, pair: &SyntaxNode) -> bool
     ensures { result ≡ is_needed_by_rustc inside.now parent.now pair.now }
 {

@@ -116,7 +116,8 @@ fn blank(apart: bool) -> &'static str
     if apart { " " } else { "" }
 }
 
-// Appends a token to a text; if something was left out between them, with a blank if they would be joined.
+// Appends a token to a text; if something was left out between them, with a blank if they would be
+// joined.
 #[tactic(auto, using(crate::proofs::MarkLemmas::put_both))]
 fn put(out: &mut String, gap: bool, token: &str) -> Result<(), AllocError>
     ensures { OnOk result (string_bytes out.new ≡ put gap (string_bytes out.old) token.now) }
@@ -127,14 +128,16 @@ fn put(out: &mut String, gap: bool, token: &str) -> Result<(), AllocError>
     out.push_str(token)
 }
 
-// Appends a token to a text, unless the marks leave it out; a node adds nothing. Returns whether something was left out before what follows.
+// Appends a token to a text, unless the marks leave it out; a node adds nothing. Returns whether
+// something was left out before what follows.
 fn push_element(
     out: &mut String,
     gap: bool,
     marks: &[bool],
     element: &SyntaxElement,
 ) -> Result<bool, AllocError>
-    ensures { IfOk result (λ g. (string_bytes out.new, g) ≡ with_element marks.now (string_bytes out.old, gap) element.now) }
+    ensures { IfOk result (λ g. (string_bytes out.new, g)
+        ≡ with_element marks.now (string_bytes out.old, gap) element.now) }
 {
     let NodeOrToken::Token(token) = element else {
         return Ok(gap);
@@ -146,7 +149,8 @@ fn push_element(
     Ok(false)
 }
 
-/// The text of a tree without the parentheses that marks leave out, with a blank in place of those whose neighbours would be joined.
+/// The text of a tree without the parentheses that marks leave out, with a blank in place of those
+/// whose neighbours would be joined.
 ///
 /// Takes time linear in the tree.
 ///

@@ -30,8 +30,8 @@ is_wanted w pair = wants w (place_of pair)
 abbrev pub wanted_of : Wanted → Parsed → List Cursor
 wanted_of w p = filter (is_wanted w) (candidates_of p)
 
--- Each of these was tried: the pairs can all be removed together, the text is the one without them, and each other one was refused
--- beside those before it.
+-- Each of these was tried: the pairs can all be removed together, the text is the one without them,
+-- and each other one was refused beside those before it.
 pub record AreNeedless (r : Reading) (w : Wanted) (s : List ℕ) (pairs : List Cursor) (tried : List Tried)
     (without : Option (List ℕ)) : Type 0 where
   pub parse : Parsed

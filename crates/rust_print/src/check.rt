@@ -13,7 +13,8 @@ use std::alloc::Global;
 use std::io::Write;
 use std::{fmt, io};
 
-// An error in JSON. Lines and columns count from 1, columns in characters; `start` and `end` are offsets in bytes.
+// An error in JSON. Lines and columns count from 1, columns in characters; `start` and `end` are
+// offsets in bytes.
 #[derive(Drop, Serialize)]
 struct ErrorRecord<'a> {
     path: &'a str,
@@ -63,7 +64,8 @@ fn message_of<'e>(error: &'e SyntaxError, asked: Asked) -> &'e str {
     }
 }
 
-// Writes the line that an error is in, or the part of a long line around it, and marks the error in the line below.
+// Writes the line that an error is in, or the part of a long line around it, and marks the error in
+// the line below.
 fn write_text<W: Write>(
     out: &mut W,
     source: Source<'_>,
@@ -193,8 +195,9 @@ fn write_all<W: Write>(
     Ok(errors.len() as u64)
 }
 
-/// Writes the errors of a text, at most `asked.max_errors`, and of several at one place only the first and how many more there are, unless
-/// all are asked for. JSON has all. Returns the number of all of them.
+/// Writes the errors of a text, at most `asked.max_errors`, and of several at one place only the
+/// first and how many more there are, unless all are asked for. JSON has all. Returns the number of
+/// all of them.
 pub fn check<W: Write>(
     alloc: Global,
     out: &mut W,

@@ -24,7 +24,8 @@ fn write_element<W: Write>(alloc: Global, out: &mut W, element: &SyntaxElement) 
     }
 }
 
-// Writes the event of one tree: a node, a token with its text, or the end of a node; the end of the text if the walk has ended.
+// Writes the event of one tree: a node, a token with its text, or the end of a node; the end of the
+// text if the walk has ended.
 fn write_side<W: Write>(
     alloc: Global,
     out: &mut W,
@@ -94,7 +95,8 @@ fn found(
     Ok(differences(alloc, old.root(), &[], new.root(), trivia, count)?)
 }
 
-/// Writes at most `limit` places where two trees differ by kinds or by the texts of tokens: for each place the node or token of each tree.
+/// Writes at most `limit` places where two trees differ by kinds or by the texts of tokens: for
+/// each place the node or token of each tree.
 pub fn show<W: Write>(
     alloc: Global,
     out: &mut W,

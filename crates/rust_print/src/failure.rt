@@ -15,7 +15,8 @@ pub enum Failure {
     Text(ParseError),
     /// The file cannot be written.
     File(io::Error),
-    /// The file was found by a search and leads out of the folder that was searched, so it is not written.
+    /// The file was found by a search and leads out of the folder that was searched, so it is not
+    /// written.
     Outside,
     /// The new file beside this one, with this path, cannot be written.
     Beside(String, io::Error),

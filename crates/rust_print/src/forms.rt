@@ -48,6 +48,7 @@ pub struct Asked {
     pub wanted: Wanted,
     /// Whether `outline` lists what `let` binds.
     pub has_locals: bool,
-    /// Whether nothing was found so far: in SARIF a result has a comma before it unless it is the first.
+    /// Whether nothing was found so far: in SARIF a result has a comma before it unless it is the
+    /// first.
     pub is_first: bool,
 }

@@ -14,8 +14,8 @@ fn text_of<T: Serialize>(alloc: Global, value: &T) -> io::Result<String> {
     }
 }
 
-// Writes a text of JSON. `serde_json` leaves control characters from U+007F on as they are, and characters that turn the direction of a
-// text; they are written as escapes, which mean the same.
+// Writes a text of JSON. `serde_json` leaves control characters from U+007F on as they are, and
+// characters that turn the direction of a text; they are written as escapes, which mean the same.
 fn write_text<W: Write>(out: &mut W, text: &str) -> io::Result<()> {
     if text.bytes().all(|byte| byte < 0x7f) {
         return out.write_all(text.as_bytes());
@@ -36,8 +36,8 @@ pub fn write_line<W: Write, T: Serialize>(alloc: Global, out: &mut W, value: &T)
     out.write_all(b"\n")
 }
 
-/// Writes the keys of an object, without its `{` and without its end: `}`, or `]}` for one whose last key is an empty list, if the items of
-/// that list are written next.
+/// Writes the keys of an object, without its `{` and without its end: `}`, or `]}` for one whose
+/// last key is an empty list, if the items of that list are written next.
 pub fn write_keys<W: Write, T: Serialize>(
     alloc: Global,
     out: &mut W,

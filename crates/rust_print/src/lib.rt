@@ -1,5 +1,6 @@
-//! Reports on texts of Rust as a terminal, a program or a workflow reads them: errors, items, tokens, matches, pairs of parentheses and
-//! differences, as lines of text, objects of JSON or annotations. Each is written while it is made, to any writer.
+//! Reports on texts of Rust as a terminal, a program or a workflow reads them: errors, items,
+//! tokens, matches, pairs of parentheses and differences, as lines of text, objects of JSON or
+//! annotations. Each is written while it is made, to any writer.
 #![tactic(auto)]
 
 pub mod check;

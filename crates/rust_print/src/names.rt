@@ -5,8 +5,8 @@ use serde::{Described, Serialize, Serializer};
 use std::fmt;
 use syntax_kind::SyntaxKind;
 
-/// A kind that prints as its name, also one of the table of rust_kinds; `OTHER(n)` for a kind without a name. In JSON it is that name as a
-/// string.
+/// A kind that prints as its name, also one of the table of rust_kinds; `OTHER(n)` for a kind
+/// without a name. In JSON it is that name as a string.
 #[derive(Clone, Copy)]
 pub struct Named(pub SyntaxKind);
 

@@ -1,4 +1,5 @@
-//! The command `outline`: the items of a text, the variants and fields in them, and regions of comments.
+//! The command `outline`: the items of a text, the variants and fields in them, and regions of
+//! comments.
 
 use crate::failure::Failure;
 use crate::forms::{Asked, Form};
@@ -15,9 +16,10 @@ use std::alloc::Global;
 use std::io;
 use std::io::Write;
 
-// A line in JSON. The line and the column count from 1, the column in characters, and are those of the label, if it has one. `start` and
-// `end` are the offsets in bytes of the whole, with its attributes and documentation. Without a label the name is empty. Of a long name the
-// front is written, and `cut` says so.
+// A line in JSON. The line and the column count from 1, the column in characters, and are those of
+// the label, if it has one. `start` and `end` are the offsets in bytes of the whole, with its
+// attributes and documentation. Without a label the name is empty. Of a long name the front is
+// written, and `cut` says so.
 #[derive(Drop, Serialize)]
 struct ItemRecord<'a> {
     path: &'a str,

@@ -21,8 +21,8 @@ use std::alloc::{AllocError, Global};
 use std::io;
 use std::io::Write;
 
-// A pair in JSON. The line and the column count from 1, the column in characters; `start` and `end` are offsets in bytes. Of a long text the
-// front is written, and `cut` says so.
+// A pair in JSON. The line and the column count from 1, the column in characters; `start` and `end`
+// are offsets in bytes. Of a long text the front is written, and `cut` says so.
 #[derive(Drop, Serialize)]
 struct PairRecord<'a> {
     path: &'a str,

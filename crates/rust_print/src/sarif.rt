@@ -1,4 +1,5 @@
-//! SARIF 2.1.0, the form of results that code scanners exchange: one object with a run, and in it a result for each error, pair or match.
+//! SARIF 2.1.0, the form of results that code scanners exchange: one object with a run, and in it a
+//! result for each error, pair or match.
 
 use crate::json;
 use rust_report::Spot;
@@ -57,8 +58,8 @@ pub struct Region {
     pub end: u32,
 }
 
-/// A path as a reference of a URI: what is neither a letter nor a digit nor one of `-._~/` is percent-encoded. Before an absolute path is
-/// `file://`, without the name of a host.
+/// A path as a reference of a URI: what is neither a letter nor a digit nor one of `-._~/` is
+/// percent-encoded. Before an absolute path is `file://`, without the name of a host.
 #[derive(Clone, Copy)]
 pub struct Uri<'a> {
     /// The path.
@@ -113,7 +114,8 @@ fn write_region<W: Write>(out: &mut W, at: Region) -> io::Result<()> {
     write!(out, "\"byteOffset\":{},\"byteLength\":{length}}}", at.start)
 }
 
-/// Writes a result, with a comma before it unless it is the first. Its level is that of what it is about.
+/// Writes a result, with a comma before it unless it is the first. Its level is that of what it is
+/// about.
 pub fn write_result<W: Write>(
     alloc: Global,
     out: &mut W,

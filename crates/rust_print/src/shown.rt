@@ -7,7 +7,8 @@ use rust_report::{Escaped, Medium, Spot, WIDEST, short_of};
 use std::io;
 use std::io::Write;
 
-/// A text that stays in its line: the name of a file, or a message, which may have characters of the file.
+/// A text that stays in its line: the name of a file, or a message, which may have characters of
+/// the file.
 pub fn name(text: &str) -> Escaped<'_> {
     Escaped {
         text,
@@ -21,8 +22,9 @@ fn write_spot<W: Write>(out: &mut W, source: Source<'_>, at: Spot, style: Style)
     write!(out, "{bold}{}:{at}:{plain}", name(source.name))
 }
 
-/// Writes the front of a line about a place of a file. If the source has a link, it is one to this line of the file: `OSC 8` begins it on a
-/// terminal, and in its URL each character of a path that is not plain is percent-encoded.
+/// Writes the front of a line about a place of a file. If the source has a link, it is one to this
+/// line of the file: `OSC 8` begins it on a terminal, and in its URL each character of a path that
+/// is not plain is percent-encoded.
 pub fn write_place<W: Write>(
     out: &mut W,
     source: Source<'_>,
@@ -45,7 +47,8 @@ pub fn write_short<W: Write>(out: &mut W, text: &str) -> io::Result<()> {
     writeln!(out, "{}", short_of(text))
 }
 
-/// The front of a text, and whether it is not all of it. Many nodes of a tree may have long texts, so none is written as a whole.
+/// The front of a text, and whether it is not all of it. Many nodes of a tree may have long texts,
+/// so none is written as a whole.
 pub fn cut(text: &str) -> (&str, bool) {
     let end = text.floor_char_boundary(WIDEST);
     match text.get(..end) {
@@ -54,7 +57,8 @@ pub fn cut(text: &str) -> (&str, bool) {
     }
 }
 
-/// How many levels are indented. Each level costs two blanks for each of its lines, so of 100,000 levels they would fill a disk.
+/// How many levels are indented. Each level costs two blanks for each of its lines, so of 100,000
+/// levels they would fill a disk.
 pub const DEEPEST: usize = 64;
 
 /// Writes an indentation of two blanks for each level, at most [`DEEPEST`].

@@ -54,8 +54,8 @@ pub fn spots(alloc: Global, text: &str) -> Result<Spots<'_>, ParseError> {
     Ok(Spots::new(lines(alloc, text)?))
 }
 
-/// Moves to an offset, and returns its line and column. Returns those of the text's start if the offset has none; an offset of a tree always
-/// has them.
+/// Moves to an offset, and returns its line and column. Returns those of the text's start if the
+/// offset has none; an offset of a tree always has them.
 pub fn move_to(spots: &mut Spots<'_>, offset: TextSize) -> Spot {
     spots.move_to(offset).unwrap_or(Spot { line: 1, column: 1 })
 }

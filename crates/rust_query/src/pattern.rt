@@ -1,4 +1,5 @@
-//! Patterns, and how they are written: `FN > NAME@name`, `FN|STRUCT//NAME="new"`, `STRING~"^\"http"`.
+//! Patterns, and how they are written: `FN > NAME@name`, `FN|STRUCT//NAME="new"`,
+//! `STRING~"^\"http"`.
 
 use crate::reader::{Reader, unescaped};
 use lossless_tree::SyntaxKind;
@@ -240,8 +241,9 @@ fn parse_texts(alloc: Global, text: &str) -> Result<TextPattern, QueryError> {
     Ok(TextPattern { steps, regexes })
 }
 
-/// Parses a pattern: steps with `>` before a child, or `//` before a descendant. A step is the name of a kind in any case, or `*`, perhaps
-/// with `="text"` or `~"regular expression"`; several are joined by `|`, and `@name` behind it names what fits.
+/// Parses a pattern: steps with `>` before a child, or `//` before a descendant. A step is the name
+/// of a kind in any case, or `*`, perhaps with `="text"` or `~"regular expression"`; several are
+/// joined by `|`, and `@name` behind it names what fits.
 ///
 /// # Errors
 ///

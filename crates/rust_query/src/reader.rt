@@ -14,7 +14,8 @@ fn is_sign(sign: char) -> bool {
     sign.is_whitespace() || matches!(sign, '>' | '/' | '|' | '=' | '~' | '@' | '"')
 }
 
-// How many bytes of a text are before its closing quote; none if it has none. A backslash takes its meaning from the character behind it.
+// How many bytes of a text are before its closing quote; none if it has none. A backslash takes its
+// meaning from the character behind it.
 fn quote_at(text: &str) -> Option<usize> {
     let mut is_escaped = false;
     for (at, sign) in text.char_indices() {
@@ -79,8 +80,8 @@ impl<'a> Reader<'a> {
     }
 }
 
-/// A quoted text without the backslashes before `"` and `\`. Others stay: a regular expression has its own. If `all`, each backslash is one
-/// of a quoted text.
+/// A quoted text without the backslashes before `"` and `\`. Others stay: a regular expression has
+/// its own. If `all`, each backslash is one of a quoted text.
 pub(crate) fn unescaped(alloc: Global, text: &str, all: bool) -> Result<String, AllocError> {
     let mut plain = String::with_capacity(alloc, text.len())?;
     let mut is_escaped = false;

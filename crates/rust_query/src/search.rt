@@ -6,8 +6,8 @@ use regex::Matcher;
 use rust_report::Link;
 use std::alloc::{AllocError, Global};
 
-// A regular expression is tried on a token, and on a node with at most so many bytes: nodes nest, so their texts together may have the square
-// of the tree's bytes.
+// A regular expression is tried on a token, and on a node with at most so many bytes: nodes nest,
+// so their texts together may have the square of the tree's bytes.
 const LONGEST: usize = 1000;
 
 /// A node or token that fits a pattern.
@@ -83,7 +83,8 @@ impl<'p> Search<'p> {
         self.frames.get(start.checked_add(step)?).copied()
     }
 
-    // Where the frames begin of what the step before fits, for an element whose frames begin at `base`; for the first step its own.
+    // Where the frames begin of what the step before fits, for an element whose frames begin at
+    // `base`; for the first step its own.
     fn reached(&self, base: usize, number: usize, link: Link) -> Option<usize> {
         let Some(before) = number.checked_sub(1) else {
             return Some(base);
@@ -169,10 +170,11 @@ impl<'p> Search<'p> {
     }
 }
 
-/// The nodes and tokens of a tree that fit a pattern, in preorder. `//` leads to the nearest node above that the step before fits.
+/// The nodes and tokens of a tree that fit a pattern, in preorder. `//` leads to the nearest node
+/// above that the step before fits.
 ///
-/// Takes time proportional to the tree times the pattern, and for texts that of their comparison. Takes memory proportional to the depth of
-/// the tree times the pattern.
+/// Takes time proportional to the tree times the pattern, and for texts that of their comparison.
+/// Takes memory proportional to the depth of the tree times the pattern.
 ///
 /// # Errors
 ///

@@ -15,8 +15,9 @@ use std::alloc::Global;
 use std::io;
 use std::io::Write;
 
-// A node or token in JSON. The line and the column count from 1, the column in characters; `start` and `end` are offsets in bytes. Of a long
-// text the front is written, and `cut` says so. What fits the named steps is written behind it, one by one.
+// A node or token in JSON. The line and the column count from 1, the column in characters; `start`
+// and `end` are offsets in bytes. Of a long text the front is written, and `cut` says so. What fits
+// the named steps is written behind it, one by one.
 #[derive(Drop, Serialize)]
 struct MatchRecord<'a> {
     path: &'a str,

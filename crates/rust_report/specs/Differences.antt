@@ -11,8 +11,8 @@ past (suc n) [] = []
 past (suc n) (Enter x ∷ es) = past (suc (suc n)) es
 past (suc n) (Leave x ∷ es) = past n es
 
--- how many ends are passed after a difference: where both walks enter a node or token, its own; where only this one does, its own and
--- its parent's, which the other walk leaves or has left
+-- how many ends are passed after a difference: where both walks enter a node or token, its own;
+-- where only this one does, its own and its parent's, which the other walk leaves or has left
 abbrev pub levels : Option Event → Option Event → ℕ
 levels (Some (Enter x)) (Some (Enter y)) = 1
 levels (Some (Enter x)) (Some (Leave y)) = 2
@@ -20,8 +20,8 @@ levels (Some (Enter x)) None = 2
 levels (Some (Leave x)) other = 0
 levels None other = 0
 
--- the first differences of two lists of events, at most n, each after the elements that differed before; where there are fewer, what is
--- left shows the same steps
+-- the first differences of two lists of events, at most n, each after the elements that differed
+-- before; where there are fewer, what is left shows the same steps
 abbrev pub AreDifferences : ℕ → List Event → List Event → List Difference → Type 0
 AreDifferences zero olds news [] = ⊤
 AreDifferences (suc n) olds news [] = map step olds ≡ map step news

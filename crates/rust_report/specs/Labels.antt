@@ -24,7 +24,8 @@ joined false s t = s ++ t
 abbrev pub is_full : List ℕ → Bool
 is_full line = nat_lt widest (length line)
 
--- a line, and whether something was left out after it, with a further token: white space and comments are left out, and a node adds nothing
+-- a line, and whether something was left out after it, with a further token: white space and
+-- comments are left out, and a node adds nothing
 abbrev pub with_token : List ℕ × Bool → Element → List ℕ → List ℕ × Bool
 with_token st x t = if is_trivia_element x then (st.0, true) else (joined st.1 st.0 t, false)
 

@@ -1,4 +1,5 @@
--- What the tokens of Rust are, as highlighting shows them: by their kinds, and by the nodes around them.
+-- What the tokens of Rust are, as highlighting shows them: by their kinds, and by the nodes around
+-- them.
 use Rattle.std.specs.Prelude.{ℕ, ◌==◌, Bool, false, ◌||◌, if◌then◌else◌, List, [], ◌∷◌, take, Option, Some, None}
 use Rattle.std.specs.Char.{is_ascii_alphabetic}
 use Rattle.std.specs.List.{list_any}

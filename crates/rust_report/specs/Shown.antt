@@ -46,7 +46,8 @@ abbrev pub margin : Bool → List ℕ
 margin true = 32 ∷ []
 margin false = []
 
--- the line below an excerpt: white space below what is before the range, and `^` below the range, at least one
+-- the line below an excerpt: white space below what is before the range, and `^` below the range,
+-- at least one
 abbrev pub marks_below : Excerpt → List ℕ
 marks_below e = margin e.is_cut_before ++ (flat_map blanks_below (chars e.before.now) ++ carets e.marked.now)
 
@@ -58,7 +59,8 @@ pub record ShowsRange (s : List ℕ) (range : Bounds) (e : Excerpt) : Type 0 whe
   pub within : range.start ≤ length s → column ≡ (line_col_at s range.start).col
   pub excerpt : IsExcerpt line column (column + (range.end - range.start)) e
 
--- an excerpt of the first line of a text from its start, which tells whether it leaves out anything of the text
+-- an excerpt of the first line of a text from its start, which tells whether it leaves out anything
+-- of the text
 pub record IsShort (s : List ℕ) (e : Excerpt) : Type 0 where
   pub part : Excerpt
   pub excerpt : IsExcerpt (first_line s) 0 (length (first_line s)) part

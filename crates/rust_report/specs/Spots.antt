@@ -7,7 +7,8 @@ use Rattle.line_index.specs.declared.line_col.WideLineCol.{WideLineCol}
 use Rattle.line_index.specs.Lines.{wide_line_col_at}
 use Rattle.rust_report.specs.declared.place.Spot.{Spot}
 
--- a character of the text starts at offset o, or the text ends there, and this is its line and its column in characters, each from 1
+-- a character of the text starts at offset o, or the text ends there, and this is its line and its
+-- column in characters, each from 1
 pub record IsSpot (s : List ℕ) (o : ℕ) (spot : Spot) : Type 0 where
   pub within : o ≤ length s
   pub boundary : IsCharBoundary s o

@@ -10,7 +10,8 @@ use Rattle.rust_report.specs.declared.texts.Excerpt.{Excerpt}
 abbrev pub is_feed : ℕ → Bool
 is_feed b = b == 10
 
--- what is before the first line feed, without a carriage return at its end; all of a text without a line feed
+-- what is before the first line feed, without a carriage return at its end; all of a text without a
+-- line feed
 abbrev pub first_line : List ℕ → List ℕ
 first_line s = if position_or_len is_feed s == length s then s else strip_carriage_return (before_first is_feed s)
 
@@ -36,7 +37,8 @@ pub record IsFloor (s : List ℕ) (o r : ℕ) : Type 0 where
 abbrev pub widest : ℕ
 widest = 240
 
--- the part of a line around a place of it: all of a line that is not too wide, else from 80 bytes before the place to 160 bytes after it
+-- the part of a line around a place of it: all of a line that is not too wide, else from 80 bytes
+-- before the place to 160 bytes after it
 pub record IsWindow (line : List ℕ) (at first last : ℕ) : Type 0 where
   pub short : length line ≤ widest → (first ≡ 0) × (last ≡ length line)
   pub long : widest < length line → IsFloor line (at - 80) first × IsFloor line (at + 160) last

@@ -24,7 +24,8 @@ abbrev pub begin_with : ℕ → List (Link × List ℕ) → List (Link × List �
 begin_with b [] = []
 begin_with b (w ∷ ws) = (w.0, b ∷ w.1) ∷ ws
 
--- the words of a text, each with its link to the word before it, which the sign between them says; that of the first is given
+-- the words of a text, each with its link to the word before it, which the sign between them says;
+-- that of the first is given
 abbrev pub words : Link → List ℕ → List (Link × List ℕ)
 words link [] = (link, []) ∷ []
 words link (b ∷ []) = if b == 62 then (link, []) ∷ (Child, []) ∷ [] else (link, b ∷ []) ∷ []

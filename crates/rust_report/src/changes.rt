@@ -9,7 +9,9 @@ use std::alloc::{AllocError, Global};
 fn first_end(text: &str) -> usize
     ensures within { result ≤ length text.now }
     ensures boundary { IsCharBoundary text.now result }
-    ensures cut { 0 < length text.now → (0 < result) × (lines_of text.now ≡ take result text.now ∷ lines_of (drop result text.now)) }
+    ensures cut { 0 < length text.now
+        → (0 < result)
+        × (lines_of text.now ≡ take result text.now ∷ lines_of (drop result text.now)) }
 {
     match text.split_once('\n') {
         Some((_, behind)) => text.len() - behind.len(),
@@ -17,7 +19,8 @@ fn first_end(text: &str) -> usize
     }
 }
 
-/// The lines of a text, each with the line feed at its end; the last line may have none. Their concatenation is the text.
+/// The lines of a text, each with the line feed at its end; the last line may have none. Their
+/// concatenation is the text.
 ///
 /// Takes time linear in the text.
 ///
@@ -51,7 +54,8 @@ pub fn same_front(old: &[&str], new: &[&str]) -> usize
     count
 }
 
-/// How many lines at the start of both lists differ from the line at the same place of the other list.
+/// How many lines at the start of both lists differ from the line at the same place of the other
+/// list.
 pub fn other_front(old: &[&str], new: &[&str]) -> usize
     ensures { result ≡ common_prefix_len is_other old.now new.now }
 {

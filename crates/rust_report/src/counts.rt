@@ -13,7 +13,8 @@ pub struct Counts {
     pub tokens: u64,
 }
 
-/// Counts the nodes and tokens of a tree, the root included. A number past 2^64 - 1 is returned as 2^64 - 1.
+/// Counts the nodes and tokens of a tree, the root included. A number past 2^64 - 1 is returned as
+/// 2^64 - 1.
 ///
 /// Takes time linear in the tree.
 pub fn count(root: &SyntaxNode) -> Counts

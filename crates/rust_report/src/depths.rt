@@ -36,7 +36,8 @@ fn depth_at(table: &Table, row: usize, above: &[usize]) -> usize
     }
 }
 
-/// For each row of a tree the number of items around it, at most `usize::MAX`. Takes time and memory linear in the tree.
+/// For each row of a tree the number of items around it, at most `usize::MAX`. Takes time and
+/// memory linear in the tree.
 pub(crate) fn depths(alloc: Global, table: &Table) -> Result<Vec<usize>, AllocError>
     ensures { IfOk result (λ depths. depths.items ≡ depths_of table.now (size table.now)) }
 {

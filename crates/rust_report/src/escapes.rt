@@ -1,4 +1,5 @@
-//! Escapes of texts in pages of HTML, in commands of a workflow on GitHub, in JSON, in patches, and on a terminal.
+//! Escapes of texts in pages of HTML, in commands of a workflow on GitHub, in JSON, in patches, and
+//! on a terminal.
 ghost use Rattle.std.specs.Prelude.{◌≡◌, ◌<◌, ◌∷◌, [], ◌+◌};
 ghost use Rattle.std.specs.List.{flat_map, list_any};
 ghost use Rattle.std.specs.Str.{chars};
@@ -10,22 +11,27 @@ use std::fmt::{Formatter, Write};
 
 /// What a text is printed to.
 ///
-/// Unsafe characters are control characters (U+0000 to U+001F, U+007F to U+009F) and those that turn the direction of a text (U+202A to
-/// U+202E, U+2066 to U+2069). The symbol of a control character below U+0080 is its picture, such as `␍`; that of each other one is `�`.
+/// Unsafe characters are control characters (U+0000 to U+001F, U+007F to U+009F) and those that
+/// turn the direction of a text (U+202A to U+202E, U+2066 to U+2069). The symbol of a control
+/// character below U+0080 is its picture, such as `␍`; that of each other one is `�`.
 #[derive(Clone, Copy, Debug)]
 pub enum Medium {
-    /// A page of HTML: `&`, `<`, `>`, `"` and `'` are printed as character references, and unsafe characters other than tabs and line feeds
-    /// as symbols.
+    /// A page of HTML: `&`, `<`, `>`, `"` and `'` are printed as character references, and unsafe
+    /// characters other than tabs and line feeds as symbols.
     Html,
-    /// The value of a parameter of a workflow command: `%`, `:`, `,` and unsafe characters are printed as percent escapes, such as `%0A`.
+    /// The value of a parameter of a workflow command: `%`, `:`, `,` and unsafe characters are
+    /// printed as percent escapes, such as `%0A`.
     Parameter,
     /// The message of a workflow command: `%` and unsafe characters are printed as percent escapes.
     Message,
-    /// A text of several lines on a terminal: unsafe characters other than tabs and line feeds are printed as symbols.
+    /// A text of several lines on a terminal: unsafe characters other than tabs and line feeds are
+    /// printed as symbols.
     Terminal,
-    /// A name, or another text that has to stay within its line: each unsafe character is printed as a symbol.
+    /// A name, or another text that has to stay within its line: each unsafe character is printed
+    /// as a symbol.
     Name,
-    /// A text of JSON: unsafe characters from U+007F on are printed as escapes, such as `\u202E`. JSON has those below as escapes already.
+    /// A text of JSON: unsafe characters from U+007F on are printed as escapes, such as `\u202E`.
+    /// JSON has those below as escapes already.
     Json,
 }
 
@@ -51,8 +57,9 @@ impl<'a> fmt::Display for Escaped<'a> {
     }
 }
 
-/// Prints the name of a file as git does it in a patch: as it is, or, if it has a `"`, a `\` or an unsafe character, between double quotes
-/// with escapes such as `\n` and `\033`. So it is always one line.
+/// Prints the name of a file as git does it in a patch: as it is, or, if it has a `"`, a `\` or an
+/// unsafe character, between double quotes with escapes such as `\n` and `\033`. So it is always
+/// one line.
 #[derive(Clone, Copy, Debug)]
 pub struct Quoted<'a> {
     /// The name.
@@ -89,7 +96,8 @@ fn has_to_be_quoted(name: &str) -> bool
 }
 
 fn write_in_quotes<W: Write>(f: &mut Formatter<W>, name: &str) -> fmt::Result
-    ensures { WritesOnOk W.write_str_gives f.old result (flat_map in_quotes (chars name.now)) f.new }
+    ensures { WritesOnOk W.write_str_gives f.old result (flat_map in_quotes (chars name.now))
+        f.new }
 {
     for c in name.chars() {
         write_char_in_quotes(f, c)?;
@@ -206,7 +214,8 @@ pub(crate) fn write_escaped<W: Write>(
     medium: Medium,
     text: &str,
 ) -> fmt::Result
-    ensures { WritesOnOk W.write_str_gives f.old result (flat_map (escaped medium) (chars text.now)) f.new }
+    ensures { WritesOnOk W.write_str_gives f.old result (flat_map (escaped medium) (chars text.now))
+        f.new }
 {
     for c in text.chars() {
         write_char(f, medium, c)?;
@@ -234,7 +243,8 @@ fn is_turn(c: char) -> bool
     matches!(c, '\u{202a}'..='\u{202e}' | '\u{2066}'..='\u{2069}')
 }
 
-// Whether a terminal does not show a character as itself, or may show others elsewhere because of it.
+// Whether a terminal does not show a character as itself, or may show others elsewhere because of
+// it.
 fn is_unsafe(c: char) -> bool
     ensures { result ≡ is_unsafe c }
 {
@@ -265,7 +275,8 @@ fn in_name(c: char) -> char
     if is_unsafe(c) { symbol(c) } else { c }
 }
 
-// The symbol of an unsafe character other than a tab and a line feed. Other characters are returned as they are.
+// The symbol of an unsafe character other than a tab and a line feed. Other characters are returned
+// as they are.
 pub(crate) fn picture(c: char) -> char
     ensures { result ≡ picture c }
 {

@@ -20,7 +20,8 @@ use std::alloc::{AllocError, Global};
 pub struct Row {
     /// The item.
     pub item: SyntaxNode,
-    /// The node `NAME` of the item; `None` for an `impl`, a `use` and every other item without a name of its own.
+    /// The node `NAME` of the item; `None` for an `impl`, a `use` and every other item without a
+    /// name of its own.
     pub name: Option<SyntaxNode>,
     /// How many items are around it, at most `usize::MAX`.
     pub depth: usize,
@@ -83,7 +84,8 @@ impl KindSet for Abis {
     }
 }
 
-/// The kinds of the children of an `impl` that do not begin its head: those before it and those after it.
+/// The kinds of the children of an `impl` that do not begin its head: those before it and those
+/// after it.
 pub(crate) enum Unheaded {}
 
 impl KindSet for Unheaded {
@@ -107,8 +109,8 @@ impl KindSet for Unheaded {
     }
 }
 
-/// The words that an item of this kind begins with, after its attributes and modifiers, such as `extern crate`. `kind` is one for which
-/// [`is_listed`] returns true.
+/// The words that an item of this kind begins with, after its attributes and modifiers, such as
+/// `extern crate`. `kind` is one for which [`is_listed`] returns true.
 pub fn word_of(kind: SyntaxKind) -> &'static str
     ensures { result.now ≡ word_of kind }
 {
@@ -131,9 +133,10 @@ pub fn word_of(kind: SyntaxKind) -> &'static str
     }
 }
 
-/// The node or token that labels an item: its name; the `_` of a `const _`; the path of an `extern crate`, and the paths of a `use`; the
-/// string of an `extern "C"`; and of an `impl` the first node or token after its parameters, such as a type, or the `!` of a negative one.
-/// Returns `None` if there is none.
+/// The node or token that labels an item: its name; the `_` of a `const _`; the path of an
+/// `extern crate`, and the paths of a `use`; the string of an `extern "C"`; and of an `impl` the
+/// first node or token after its parameters, such as a type, or the `!` of a negative one. Returns
+/// `None` if there is none.
 pub fn label_of(row: &Row) -> Option<SyntaxElement>
     ensures { result ≡ label_of row.now }
 {
@@ -215,7 +218,9 @@ fn row_of(depths: &[usize], root: &SyntaxNode, item: SyntaxNode) -> Row
 ///
 /// `AllocError` if memory runs out.
 pub fn outline(alloc: Global, root: &SyntaxNode) -> Result<Vec<Row>, AllocError>
-    ensures { IfOk result (λ rows. rows.items ≡ map row_of (filter (has_kind_in is_listed) (filter at_node (descendants_of root.now)))) }
+    ensures { IfOk result (λ rows. rows.items
+        ≡ map row_of
+        (filter (has_kind_in is_listed) (filter at_node (descendants_of root.now)))) }
 {
     let depths = depths(alloc, root.table().as_ref())?;
     let mut rows = Vec::new(alloc);

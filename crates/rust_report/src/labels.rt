@@ -28,17 +28,19 @@ fn push_token(line: &mut String, gap: bool, token: &str) -> Result<(), AllocErro
     line.push_str(token)
 }
 
-// Whether a line is longer than what is shown of it. A label may be most of a file, and the labels of items in it as well.
+// Whether a line is longer than what is shown of it. A label may be most of a file, and the labels
+// of items in it as well.
 fn is_full(line: &str) -> bool
     ensures { result ≡ is_full line.now }
 {
     WIDEST < line.len()
 }
 
-// Appends a token to a line, unless it is white space or a comment, or the line is full; a node adds nothing. Returns whether the line is
-// to have a blank before the next token.
+// Appends a token to a line, unless it is white space or a comment, or the line is full; a node
+// adds nothing. Returns whether the line is to have a blank before the next token.
 fn push_element(line: &mut String, gap: bool, element: &SyntaxElement) -> Result<bool, AllocError>
-    ensures { IfOk result (λ g. (string_bytes line.new, g) ≡ with_element (string_bytes line.old, gap) element.now) }
+    ensures { IfOk result
+        (λ g. (string_bytes line.new, g) ≡ with_element (string_bytes line.old, gap) element.now) }
 {
     let NodeOrToken::Token(token) = element else {
         return Ok(gap);
@@ -55,7 +57,8 @@ fn push_element(line: &mut String, gap: bool, element: &SyntaxElement) -> Result
 
 #[tactic(auto, using(crate::proofs::LabelsLemmas::stepped, crate::proofs::LabelsLemmas::ended, crate::proofs::LabelsLemmas::filled))]
 fn push_tokens(line: &mut String, gap: bool, node: &SyntaxNode) -> Result<bool, AllocError>
-    ensures { IfOk result (λ g. (string_bytes line.new, g) ≡ with_elements (string_bytes line.old, gap) (elements_in (Node node.now))) }
+    ensures { IfOk result (λ g. (string_bytes line.new, g)
+        ≡ with_elements (string_bytes line.old, gap) (elements_in (Node node.now))) }
 {
     let mut gap = gap;
     for element in node.descendants_with_tokens() {
@@ -69,7 +72,8 @@ fn push_tokens(line: &mut String, gap: bool, node: &SyntaxNode) -> Result<bool, 
 
 // Appends the tokens of a node, or a token.
 fn push_all(line: &mut String, gap: bool, element: &SyntaxElement) -> Result<bool, AllocError>
-    ensures { IfOk result (λ g. (string_bytes line.new, g) ≡ with_elements (string_bytes line.old, gap) (elements_in element.now)) }
+    ensures { IfOk result (λ g. (string_bytes line.new, g)
+        ≡ with_elements (string_bytes line.old, gap) (elements_in element.now)) }
 {
     match element {
         NodeOrToken::Node(node) => push_tokens(line, gap, node),
@@ -79,7 +83,8 @@ fn push_all(line: &mut String, gap: bool, element: &SyntaxElement) -> Result<boo
 
 // The head of an `impl` in one line.
 fn head_line(alloc: Global, item: &SyntaxNode) -> Result<String, AllocError>
-    ensures { IfOk result (λ line. string_bytes line ≡ (with_children ([], false) (map element_of (children_of item.now))).0) }
+    ensures { IfOk result (λ line. string_bytes line
+        ≡ (with_children ([], false) (map element_of (children_of item.now))).0) }
 {
     let mut line = String::new(alloc);
     let mut gap = false;
@@ -102,9 +107,9 @@ fn own_line(alloc: Global, label: &Option<SyntaxElement>) -> Result<String, Allo
     Ok(line)
 }
 
-/// The label of an item in one line: the tokens of [`label_of`], and of an `impl` all tokens from there to its `where` or its items. Each run
-/// of white space and comments is one blank. The line of an item without a label is empty. No token is added to a line of more than
-/// [`WIDEST`] bytes.
+/// The label of an item in one line: the tokens of [`label_of`], and of an `impl` all tokens from
+/// there to its `where` or its items. Each run of white space and comments is one blank. The line
+/// of an item without a label is empty. No token is added to a line of more than [`WIDEST`] bytes.
 ///
 /// Takes time linear in the line and in the number of children of an `impl`.
 ///

@@ -1,5 +1,5 @@
-//! Reports on a text and its tree, as the program on files of Rust prints them: lines and places, outlines, matches of patterns, roles of
-//! tokens, and differences.
+//! Reports on a text and its tree, as the program on files of Rust prints them: lines and places,
+//! outlines, matches of patterns, roles of tokens, and differences.
 #![tactic(auto)]
 
 mod asked;

@@ -68,8 +68,9 @@ fn other_word(message: &str) -> Option<&'static str>
     }
 }
 
-/// A message of the parser in the signs and words of the language. The parser names kinds in some of its messages, as rust-analyzer's does:
-/// ``expected `)` `` for `expected R_PAREN`, and `expected an expression` for `expected expression`. Any other message stays.
+/// A message of the parser in the signs and words of the language. The parser names kinds in some
+/// of its messages, as rust-analyzer's does: ``expected `)` `` for `expected R_PAREN`, and
+/// `expected an expression` for `expected expression`. Any other message stays.
 ///
 /// Takes time linear in the message.
 pub fn plain_message(message: &str) -> &str

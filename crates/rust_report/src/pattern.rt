@@ -59,7 +59,8 @@ fn marks_up(
     marks: &[bool],
 ) -> Result<Vec<bool>, AllocError>
     requires { marks.now ≡ marks_of (fits_row table.now steps.now) (size table.now) }
-    ensures { IfOk result (λ up. up.items ≡ marks_of (fits_up table.now steps.now) (size table.now)) }
+    ensures { IfOk result
+        (λ up. up.items ≡ marks_of (fits_up table.now steps.now) (size table.now)) }
 {
     let mut up = Vec::with_capacity(alloc, table.len())?;
     while up.len() < table.len() {
@@ -94,7 +95,8 @@ fn matches_by(
     seen: &[bool],
 ) -> Result<Vec<bool>, AllocError>
     requires { seen.now ≡ marks_of (reaches step.link table.now rest.now) (size table.now) }
-    ensures { IfOk result (λ marks. marks.items ≡ marks_of (fits_row table.now (step ∷ rest.now)) (size table.now)) }
+    ensures { IfOk result
+        (λ marks. marks.items ≡ marks_of (fits_row table.now (step ∷ rest.now)) (size table.now)) }
 {
     let mut marks = Vec::with_capacity(alloc, table.len())?;
     while marks.len() < table.len() {
@@ -112,7 +114,8 @@ fn matches_of(
     marks: &[bool],
 ) -> Result<Vec<bool>, AllocError>
     requires { marks.now ≡ marks_of (fits_row table.now rest.now) (size table.now) }
-    ensures { IfOk result (λ all. all.items ≡ marks_of (fits_row table.now (step ∷ rest.now)) (size table.now)) }
+    ensures { IfOk result
+        (λ all. all.items ≡ marks_of (fits_row table.now (step ∷ rest.now)) (size table.now)) }
 {
     match step.link {
         Link::Child => matches_by(alloc, table, step, rest, marks),
@@ -125,7 +128,8 @@ fn matches_of(
 
 // For each row of a table whether it matches the steps of a pattern.
 fn matches(alloc: Global, table: &Table, steps: &[Step]) -> Result<Vec<bool>, AllocError>
-    ensures { IfOk result (λ marks. marks.items ≡ marks_of (fits_row table.now steps.now) (size table.now)) }
+    ensures { IfOk result
+        (λ marks. marks.items ≡ marks_of (fits_row table.now steps.now) (size table.now)) }
 {
     let mut marks = vec![in alloc; true; table.len()]?;
     let mut at = steps.len();
@@ -147,7 +151,8 @@ fn push_marked(
 ) -> Result<(), AllocError>
     requires is_row { row < size root.now.tree }
     requires marked { marks.now ≡ marks_of (fits_row root.now.tree steps.now) (size root.now.tree) }
-    ensures { OnOk result (found.new.items ≡ found.old.items ++ filter (fits_at steps.now) (element_at root.now.tree row ∷ [])) }
+    ensures { OnOk result (found.new.items
+        ≡ found.old.items ++ filter (fits_at steps.now) (element_at root.now.tree row ∷ [])) }
 {
     if marks[row] {
         if let Some(element) = root.element_at_row(row) {
@@ -157,7 +162,8 @@ fn push_marked(
     Ok(())
 }
 
-/// The nodes and tokens of a subtree that match a pattern, in preorder. The steps are given last step first.
+/// The nodes and tokens of a subtree that match a pattern, in preorder. The steps are given last
+/// step first.
 ///
 /// Takes time and memory linear in the whole tree, once for each step.
 ///
@@ -169,7 +175,8 @@ pub fn query(
     root: &SyntaxNode,
     steps: &[Step],
 ) -> Result<Vec<SyntaxElement>, AllocError>
-    ensures { IfOk result (λ found. found.items ≡ filter (fits_at steps.now) (map element_of (descendants_of root.now))) }
+    ensures { IfOk result (λ found. found.items
+        ≡ filter (fits_at steps.now) (map element_of (descendants_of root.now))) }
 {
     let table = root.table().as_ref();
     let marks = matches(alloc, table, steps)?;

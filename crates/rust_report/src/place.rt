@@ -27,8 +27,8 @@ impl fmt::Display for Spot {
     }
 }
 
-/// Lines and columns of offsets of a text. For offsets in ascending order they take time linear in the text in all, however long its lines
-/// are. A clause sees the bytes of the text.
+/// Lines and columns of offsets of a text. For offsets in ascending order they take time linear in
+/// the text in all, however long its lines are. A clause sees the bytes of the text.
 #[derive(Drop)]
 pub struct Spots<'a> {
     // Its columns are in characters.
@@ -63,10 +63,12 @@ impl<'a> Spots<'a> {
         self.places.index()
     }
 
-    /// The line and the column of an offset. Returns `None` if the offset is past the end of the text or inside a character.
+    /// The line and the column of an offset. Returns `None` if the offset is past the end of the
+    /// text or inside a character.
     ///
-    /// Takes time linear in the bytes between the last offset that was moved to and this one if both are in one line in this order, and
-    /// otherwise in the column; beside that, logarithmic in the number of lines.
+    /// Takes time linear in the bytes between the last offset that was moved to and this one if
+    /// both are in one line in this order, and otherwise in the column; beside that, logarithmic in
+    /// the number of lines.
     pub fn spot(&self, offset: TextSize) -> Option<Spot>
         ensures { MatchOption result (NoSpot self.now offset) (IsSpot self.now offset) }
     {
@@ -94,7 +96,8 @@ pub fn spot_of(at: WideLineCol) -> Spot
     }
 }
 
-/// The offset with this line and column, both counted from 0, the column in characters. Returns `None` if the text has no such place.
+/// The offset with this line and column, both counted from 0, the column in characters. Returns
+/// `None` if the text has no such place.
 ///
 /// Takes time linear in the column.
 pub fn offset_of(lines: &LineIndex<'_>, at: WideLineCol) -> Option<TextSize>

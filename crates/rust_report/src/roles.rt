@@ -48,7 +48,8 @@ fn begins_word(text: &str) -> bool
     }
 }
 
-// The role of a token by its kind and text; an identifier is plain. A word is a keyword if it is no identifier and no literal.
+// The role of a token by its kind and text; an identifier is plain. A word is a keyword if it is no
+// identifier and no literal.
 fn role_of_token(kind: SyntaxKind, text: &str) -> Role
     ensures { result ≡ role_of_token kind text.now }
 {
@@ -170,7 +171,8 @@ fn is_attribute(node: &SyntaxNode) -> bool
     node.kind() == SyntaxKind::ATTR
 }
 
-// Whether one of five nodes, this one and its ancestors, is an attribute. A name in the path of an attribute is four nodes below it.
+// Whether one of five nodes, this one and its ancestors, is an attribute. A name in the path of an
+// attribute is four nodes below it.
 fn in_attribute(parent: Option<SyntaxNode>) -> bool
     ensures { result ≡ in_attribute parent }
 {
@@ -189,8 +191,9 @@ fn in_attribute(parent: Option<SyntaxNode>) -> bool
     false
 }
 
-/// The role of a token of a tree: by its kind, and for an identifier by the nodes around it. A token that is plain by this rule, or
-/// a part of a path, has the role `Attribute` if one of the five innermost nodes around it is an attribute.
+/// The role of a token of a tree: by its kind, and for an identifier by the nodes around it. A
+/// token that is plain by this rule, or a part of a path, has the role `Attribute` if one of the
+/// five innermost nodes around it is an attribute.
 pub fn role_of(token: &SyntaxToken) -> Role
     ensures { result ≡ role_of token.now }
 {

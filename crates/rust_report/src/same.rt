@@ -37,15 +37,16 @@ fn is_marked(marks: &[bool], offset: TextSize) -> bool
     }
 }
 
-/// Whether a node is a pair of parentheses around an expression or a pattern: a `PAREN_EXPR` or a `PAREN_PAT`.
+/// Whether a node is a pair of parentheses around an expression or a pattern: a `PAREN_EXPR` or a
+/// `PAREN_PAT`.
 pub fn is_pair(node: &SyntaxNode) -> bool
     ensures { result ≡ is_pair node.now }
 {
     node.kind() == SyntaxKind::PAREN_EXPR || node.kind() == SyntaxKind::PAREN_PAT
 }
 
-/// Whether marks, one for each byte of the text, leave out a node or token: a pair, by [`is_pair`], or a parenthesis that starts at a
-/// marked byte.
+/// Whether marks, one for each byte of the text, leave out a node or token: a pair, by [`is_pair`],
+/// or a parenthesis that starts at a marked byte.
 pub fn is_left_out(marks: &[bool], element: &SyntaxElement) -> bool
     ensures { result ≡ is_left_out marks.now element.now }
 {
@@ -84,7 +85,8 @@ fn next_counted(
     trivia: Trivia,
     marks: &[bool],
 ) -> Option<WalkEvent<SyntaxElement>>
-    ensures { IsNext (counted trivia marks.now walk.old) result (counted trivia marks.now walk.new) }
+    ensures { IsNext (counted trivia marks.now walk.old) result
+        (counted trivia marks.now walk.new) }
 {
     while let Some(event) = walk.next() {
         if counts(trivia, marks, &event) {
@@ -123,16 +125,19 @@ fn is_same_step(a: &WalkEvent<SyntaxElement>, b: &WalkEvent<SyntaxElement>) -> b
     }
 }
 
-// The first difference in the rest of two walks, the first of them without what the marks leave out. Afterwards the walks are behind the
-// events that differ.
+// The first difference in the rest of two walks, the first of them without what the marks leave
+// out. Afterwards the walks are behind the events that differ.
 fn next_difference(
     olds: &mut PreorderWithTokens,
     marks: &[bool],
     news: &mut PreorderWithTokens,
     trivia: Trivia,
 ) -> Option<Difference>
-    ensures same { IsNone result ↔ (map step (counted trivia marks.now olds.old) ≡ map step (counted trivia [] news.old)) }
-    ensures first { IfSome result (λ d. DifferThen (counted trivia marks.now olds.old) (counted trivia [] news.old) d (counted trivia marks.now olds.new) (counted trivia [] news.new)) }
+    ensures same { IsNone result
+        ↔ (map step (counted trivia marks.now olds.old) ≡ map step (counted trivia [] news.old)) }
+    ensures first { IfSome result (λ d.
+        DifferThen (counted trivia marks.now olds.old) (counted trivia [] news.old) d
+        (counted trivia marks.now olds.new) (counted trivia [] news.new)) }
 {
     while let Some(a) = next_counted(olds, trivia, marks) {
         let Some(b) = next_counted(news, trivia, &[]) else {
@@ -158,9 +163,10 @@ fn next_difference(
     }
 }
 
-/// The first place where two trees differ, as walks that enter and leave each node and token. Returns `None` if the trees are the same by
-/// kinds and by the texts of tokens. The nodes and tokens of the first tree for which [`is_left_out`] returns true are skipped; without
-/// marks none is.
+/// The first place where two trees differ, as walks that enter and leave each node and token.
+/// Returns `None` if the trees are the same by kinds and by the texts of tokens. The nodes and
+/// tokens of the first tree for which [`is_left_out`] returns true are skipped; without marks none
+/// is.
 ///
 /// Takes time linear in the two trees up to that place, and no memory.
 pub fn first_difference(
@@ -169,8 +175,10 @@ pub fn first_difference(
     new: &SyntaxNode,
     trivia: Trivia,
 ) -> Option<Difference>
-    ensures same { IsNone result ↔ (steps_of trivia marks.now old.now ≡ steps_of trivia [] new.now) }
-    ensures first { IfSome result (IsFirstDifference (counted trivia marks.now (walk_of old.now)) (counted trivia [] (walk_of new.now))) }
+    ensures same { IsNone result
+        ↔ (steps_of trivia marks.now old.now ≡ steps_of trivia [] new.now) }
+    ensures first { IfSome result (IsFirstDifference (counted trivia marks.now (walk_of old.now))
+        (counted trivia [] (walk_of new.now))) }
 {
     let mut olds = old.preorder_with_tokens();
     let mut news = new.preorder_with_tokens();
@@ -192,14 +200,16 @@ fn levels(own: &Option<WalkEvent<SyntaxElement>>, other: &Option<WalkEvent<Synta
     }
 }
 
-// Skips the ends of this many nodes and tokens that were entered. No tree in memory has 2^64 levels, so it does not fail.
+// Skips the ends of this many nodes and tokens that were entered. No tree in memory has 2^64
+// levels, so it does not fail.
 fn skip(
     walk: &mut PreorderWithTokens,
     marks: &[bool],
     trivia: Trivia,
     levels: usize,
 ) -> Result<(), AllocError>
-    ensures { OnOk result (counted trivia marks.now walk.new ≡ past levels (counted trivia marks.now walk.old)) }
+    ensures { OnOk result
+        (counted trivia marks.now walk.new ≡ past levels (counted trivia marks.now walk.old)) }
 {
     let mut open = levels;
     while open > 0 {
@@ -215,10 +225,11 @@ fn skip(
     Ok(())
 }
 
-/// The first places where two trees differ, at most `limit`, in order; all of them if there are fewer. The first is that of
-/// [`first_difference`]. After a difference the walks continue: after both nodes or tokens if both walks enter one there; after the parents
-/// if one tree has further children and the other has none. So children are compared by their places: after an inserted child, each
-/// later one is compared with the child of the other tree one place before.
+/// The first places where two trees differ, at most `limit`, in order; all of them if there are
+/// fewer. The first is that of [`first_difference`]. After a difference the walks continue: after
+/// both nodes or tokens if both walks enter one there; after the parents if one tree has further
+/// children and the other has none. So children are compared by their places: after an inserted
+/// child, each later one is compared with the child of the other tree one place before.
 ///
 /// Takes time linear in the two trees.
 ///
@@ -233,7 +244,9 @@ pub fn differences(
     trivia: Trivia,
     limit: usize,
 ) -> Result<Vec<Difference>, AllocError>
-    ensures { IfOk result (λ found. AreDifferences limit (counted trivia marks.now (walk_of old.now)) (counted trivia [] (walk_of new.now)) found.items) }
+    ensures { IfOk result (λ found.
+        AreDifferences limit (counted trivia marks.now (walk_of old.now))
+        (counted trivia [] (walk_of new.now)) found.items) }
 {
     let mut olds = old.preorder_with_tokens();
     let mut news = new.preorder_with_tokens();

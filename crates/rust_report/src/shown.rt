@@ -12,7 +12,8 @@ use std::fmt::{Formatter, Write};
 use text_size::TextRange;
 use unicode_width::UnicodeWidthChar;
 
-/// Prints the part as a terminal shows it: control characters as their pictures, and `…` in place of text that is left out.
+/// Prints the part as a terminal shows it: control characters as their pictures, and `…` in place
+/// of text that is left out.
 impl<'a> fmt::Display for Excerpt<'a> {
     ghost use Rattle.std.specs.Prelude.{Some};
     ghost use Rattle.rust_report.specs.Shown.{shown_part};
@@ -28,8 +29,9 @@ impl<'a> fmt::Display for Excerpt<'a> {
     }
 }
 
-/// Prints the line below an [`Excerpt`] on a terminal: blanks below the text before the range, and a `^` below each column of the range, at
-/// least one for each character and for an empty range. A character is as wide as `unicode_width` says; a tab before the range stays a tab.
+/// Prints the line below an [`Excerpt`] on a terminal: blanks below the text before the range, and
+/// a `^` below each column of the range, at least one for each character and for an empty range. A
+/// character is as wide as `unicode_width` says; a tab before the range stays a tab.
 #[derive(Clone, Copy, Debug)]
 pub struct Marks<'a> {
     /// The line above.
@@ -114,7 +116,8 @@ fn carets_below(c: char) -> &'static str
 }
 
 fn write_blanks<W: Write>(f: &mut Formatter<W>, text: &str) -> fmt::Result
-    ensures { WritesOnOk W.write_str_gives f.old result (flat_map blanks_below (chars text.now)) f.new }
+    ensures { WritesOnOk W.write_str_gives f.old result (flat_map blanks_below (chars text.now))
+        f.new }
 {
     for c in text.chars() {
         f.write_str(blanks_below(c))?;
@@ -123,7 +126,8 @@ fn write_blanks<W: Write>(f: &mut Formatter<W>, text: &str) -> fmt::Result
 }
 
 fn write_carets<W: Write>(f: &mut Formatter<W>, text: &str) -> fmt::Result
-    ensures { WritesOnOk W.write_str_gives f.old result (flat_map carets_below (chars text.now)) f.new }
+    ensures { WritesOnOk W.write_str_gives f.old result (flat_map carets_below (chars text.now))
+        f.new }
 {
     for c in text.chars() {
         f.write_str(carets_below(c))?;
@@ -131,7 +135,8 @@ fn write_carets<W: Write>(f: &mut Formatter<W>, text: &str) -> fmt::Result
     Ok(())
 }
 
-/// The part of the line that a range starts in, around the range. An offset past the end of the text has an empty line.
+/// The part of the line that a range starts in, around the range. An offset past the end of the
+/// text has an empty line.
 ///
 /// Takes time logarithmic in the number of lines.
 pub fn excerpt_at<'a>(lines: &LineIndex<'a>, range: TextRange) -> Excerpt<'a>
@@ -145,7 +150,8 @@ pub fn excerpt_at<'a>(lines: &LineIndex<'a>, range: TextRange) -> Excerpt<'a>
     excerpt_of(line, column, column + range.len().raw() as usize)
 }
 
-/// The first line of a text; of a long line only the first part. It is cut after if something of the text is left out.
+/// The first line of a text; of a long line only the first part. It is cut after if something of
+/// the text is left out.
 ///
 /// Takes time linear in the line.
 pub fn short_of(text: &str) -> Excerpt<'_>

@@ -6,7 +6,8 @@ ghost use Rattle.rust_report.specs.Texts.{first_line, is_line_end, shown_line, S
 use line_index::LineIndex;
 use text_size::TextSize;
 
-/// The first line of a text, without its line feed and one carriage return before that. Returns all of a text without a line feed.
+/// The first line of a text, without its line feed and one carriage return before that. Returns all
+/// of a text without a line feed.
 pub fn first_line(text: &str) -> &str
     ensures { result.now ≡ first_line text.now }
 {
@@ -46,8 +47,8 @@ fn shown_line(line: &str) -> &str
     &line[..end]
 }
 
-/// The line of a text that an offset is in, without the line feed and carriage returns at its end. Returns an empty text if the offset is
-/// past the end. `lines` is the index of `text`.
+/// The line of a text that an offset is in, without the line feed and carriage returns at its end.
+/// Returns an empty text if the offset is past the end. `lines` is the index of `text`.
 ///
 /// Takes time logarithmic in the number of lines.
 pub fn line_at<'a>(text: &'a str, lines: &LineIndex<'_>, offset: TextSize) -> &'a str
@@ -103,9 +104,11 @@ fn window(line: &str, at: usize) -> (usize, usize)
     )
 }
 
-/// The part of a line around the range from `start` to `end`, both counted in bytes from the start of the line. It is the whole line if that
-/// has at most [`WIDEST`] bytes; otherwise it starts up to [`BEFORE`] bytes before the range, and ends up to [`AFTER`] bytes after the range's
-/// start. An offset inside a character counts as that of the character, and one past the end of the line as the end.
+/// The part of a line around the range from `start` to `end`, both counted in bytes from the start
+/// of the line. It is the whole line if that has at most [`WIDEST`] bytes; otherwise it starts up
+/// to [`BEFORE`] bytes before the range, and ends up to [`AFTER`] bytes after the range's start. An
+/// offset inside a character counts as that of the character, and one past the end of the line as
+/// the end.
 ///
 /// Takes constant time.
 pub fn excerpt_of(line: &str, start: usize, end: usize) -> Excerpt<'_>

@@ -64,7 +64,8 @@ impl<T: Drop> From<AllocFailed<T>> for PatternError {
     }
 }
 
-/// The kind with this name, also one of the table of `rust_kinds`. Returns `None` if no kind has it.
+/// The kind with this name, also one of the table of `rust_kinds`. Returns `None` if no kind has
+/// it.
 pub fn kind_named(name: &str) -> Option<SyntaxKind>
     ensures exact { (k : SyntaxKind) → IsKind k → (result ≡ Some k) ↔ IsNamed k name.now }
     ensures kind { IfSome result IsKind }
@@ -121,7 +122,8 @@ fn is_slash(text: &[u8]) -> bool
     }
 }
 
-// Where the first word of a text ends, and the link of the sign there. Returns `None` if the text is one word.
+// Where the first word of a text ends, and the link of the sign there. Returns `None` if the text
+// is one word.
 fn first_sign(text: &[u8]) -> Option<(usize, Link)>
     ensures { IsFirstSign text.now result }
 {
@@ -142,24 +144,30 @@ fn push_step(
     link: Link,
     word: &str,
 ) -> Result<(), PatternError>
-    ensures { MatchResult result (λ _. (kind : Option SyntaxKind) × Means word.now kind × (steps.new.items ≡ steps.old.items ++ record { link = link; kind = kind } ∷ [])) (Fails word.now) }
+    ensures { MatchResult result
+        (λ _. (kind : Option SyntaxKind) × Means word.now kind
+        × (steps.new.items ≡ steps.old.items ++ record { link = link; kind = kind } ∷ []))
+        (Fails word.now) }
 {
     let kind = kind_of_word(alloc, word)?;
     steps.push(Step { link, kind })?;
     Ok(())
 }
 
-/// Parses a pattern such as `FN > NAME` or `CALL_EXPR//PAREN_EXPR` into its steps, the last one first: the step of the nodes and tokens that
-/// are searched.
+/// Parses a pattern such as `FN > NAME` or `CALL_EXPR//PAREN_EXPR` into its steps, the last one
+/// first: the step of the nodes and tokens that are searched.
 ///
-/// A step is the name of a kind, or `*` for any kind. `>` is before a child, `//` before a descendant at any depth. White space around a
-/// step is ignored. `///` is `//` and a word that begins with `/`.
+/// A step is the name of a kind, or `*` for any kind. `>` is before a child, `//` before a
+/// descendant at any depth. White space around a step is ignored. `///` is `//` and a word that
+/// begins with `/`.
 ///
 /// # Errors
 ///
-/// The error of the first word that is no step: `NoKind` if it is empty, else `UnknownKind` with the word; `Memory` if memory runs out.
+/// The error of the first word that is no step: `NoKind` if it is empty, else `UnknownKind` with
+/// the word; `Memory` if memory runs out.
 pub fn parse_pattern(alloc: Global, text: &str) -> Result<Vec<Step>, PatternError>
-    ensures { MatchResult result (λ steps. AreSteps (words Child text.now) (reverse steps.items)) (IsRefused (words Child text.now)) }
+    ensures { MatchResult result (λ steps. AreSteps (words Child text.now) (reverse steps.items))
+        (IsRefused (words Child text.now)) }
 {
     let mut steps = Vec::new(alloc);
     let mut link = Link::Child;

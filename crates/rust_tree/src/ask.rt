@@ -26,8 +26,8 @@ fn answer<W: Write>(rt: &HostRuntime, out: &mut W) -> io::Result<Answer> {
     Ok(Answer::Quit)
 }
 
-/// Asks for each replacement of a text whether it is made. Returns a mark for each. Nothing more is asked of a file after `a` and `q`, and with
-/// `q` the run is over.
+/// Asks for each replacement of a text whether it is made. Returns a mark for each. Nothing more is
+/// asked of a file after `a` and `q`, and with `q` the run is over.
 pub fn ask<W: Write>(
     rt: &HostRuntime,
     out: &mut W,

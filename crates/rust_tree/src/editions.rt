@@ -1,4 +1,5 @@
-//! The edition of each file: that of the manifest of Cargo that it belongs to, the nearest one above it.
+//! The edition of each file: that of the manifest of Cargo that it belongs to, the nearest one
+//! above it.
 
 use cargo_editions::{Stated, is_workspace, of_package, of_target, of_workspace};
 use ras_front_end::Edition;
@@ -17,7 +18,8 @@ struct Folder {
     real: String,
 }
 
-/// The manifests that were read, by the real paths of their folders. Each folder is looked into once.
+/// The manifests that were read, by the real paths of their folders. Each folder is looked into
+/// once.
 #[derive(Drop)]
 pub struct Manifests {
     alloc: Global,
@@ -51,7 +53,8 @@ fn path_in(alloc: Global, folder: &str, file: &str) -> io::Result<String> {
     Ok(format!(in alloc; "{folder}{slash}{file}")?)
 }
 
-// The manifest of a folder, if it has one. One that cannot be read is reported; then the next one above counts.
+// The manifest of a folder, if it has one. One that cannot be read is reported; then the next one
+// above counts.
 fn manifest_in(rt: &HostRuntime, folder: &str) -> io::Result<Option<Value>> {
     let path = path_in(rt.alloc(), folder, "Cargo.toml")?;
     let text = match fs::read_to_string(rt, path.as_str()) {
@@ -96,7 +99,8 @@ impl Manifests {
         }
     }
 
-    // Reads the manifest of a folder, unless it was looked for before. Returns whether there is one.
+    // Reads the manifest of a folder, unless it was looked for before. Returns whether there is
+    // one.
     fn look(&mut self, rt: &HostRuntime, folder: &str) -> io::Result<bool> {
         if let Some(known) = self.read.get(folder) {
             return Ok(known.is_some());
@@ -116,7 +120,8 @@ impl Manifests {
         }
     }
 
-    // The nearest folder with a manifest, from this one upwards; if `of_workspace`, with one of a workspace.
+    // The nearest folder with a manifest, from this one upwards; if `of_workspace`, with one of a
+    // workspace.
     fn nearest<'f>(
         &mut self,
         rt: &HostRuntime,
@@ -153,8 +158,8 @@ impl Manifests {
         })
     }
 
-    // What the manifest of a folder says of the edition of a file in it: that of a target at this path, else that of the package, else, if
-    // there is no package, that of the workspace.
+    // What the manifest of a folder says of the edition of a file in it: that of a target at this
+    // path, else that of the package, else, if there is no package, that of the workspace.
     fn stated_in(&self, folder: &str, path: &str) -> Stated {
         let Some(manifest) = self.manifest(folder) else {
             return Stated::Nothing;

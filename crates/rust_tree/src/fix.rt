@@ -12,7 +12,8 @@ use std::io::{ErrorKind, Write};
 use std::{fs, io};
 use text_edit::TextEdit;
 
-// Writes a hunk for each run of lines that differ, without context lines. Both texts have the same number of lines.
+// Writes a hunk for each run of lines that differ, without context lines. Both texts have the same
+// number of lines.
 fn write_changes<W: Write>(out: &mut W, old: &[&str], new: &[&str]) -> io::Result<()> {
     let (mut old, mut new) = (old, new);
     let mut at = 1usize;
@@ -35,12 +36,14 @@ fn write_changes<W: Write>(out: &mut W, old: &[&str], new: &[&str]) -> io::Resul
     Ok(())
 }
 
-// Whether `git apply` and `patch` take a name as it is: it leads down from the folder that they run in.
+// Whether `git apply` and `patch` take a name as it is: it leads down from the folder that they run
+// in.
 fn leads_down(name: &str) -> bool {
     !name.split('/').any(|part| matches!(part, "" | "." | ".."))
 }
 
-// The name of a file from the folder that the program runs in, or `None` if the file is not below it.
+// The name of a file from the folder that the program runs in, or `None` if the file is not below
+// it.
 fn name_below(rt: &HostRuntime, name: &str) -> io::Result<Option<String>> {
     let (folder, path) = (fs::canonicalize(rt, ".")?, fs::canonicalize(rt, name)?);
     match path_below(folder.as_str(), path.as_str()) {
@@ -122,7 +125,8 @@ fn path_beside(alloc: Global, path: &str) -> io::Result<String> {
     Ok(format!(in alloc; "{folder}/.{name}.rust_tree-new")?)
 }
 
-// Takes away the new file that an interrupted run left beside a file. Anything else of that name, such as a link, stays.
+// Takes away the new file that an interrupted run left beside a file. Anything else of that name,
+// such as a link, stays.
 fn remove_beside(rt: &HostRuntime, new: &str) -> io::Result<()> {
     if fs::symlink_metadata(rt, new).is_ok_and(|found| found.is_file()) {
         fs::remove_file(rt, new)?;
@@ -149,7 +153,8 @@ pub fn tidy(rt: &HostRuntime, name: &str) -> Result<(), Failure> {
     }
 }
 
-// Writes the text to a new file, gives it the permissions of the old file, and renames it to the old file's name.
+// Writes the text to a new file, gives it the permissions of the old file, and renames it to the
+// old file's name.
 fn write_new(rt: &HostRuntime, new: &str, old: &str, text: &str) -> io::Result<()> {
     let mut file = File::create_new(rt, new)?;
     file.write_all(text.as_bytes())?;
@@ -158,8 +163,9 @@ fn write_new(rt: &HostRuntime, new: &str, old: &str, text: &str) -> io::Result<(
     fs::rename(rt, new, old)
 }
 
-// Replaces the text of the file at a path without links by writing a new file and renaming it, so that at every moment the file has the old
-// text or the new one. A file that must not be written is not replaced.
+// Replaces the text of the file at a path without links by writing a new file and renaming it, so
+// that at every moment the file has the old text or the new one. A file that must not be written is
+// not replaced.
 fn replace(rt: &HostRuntime, path: &str, text: &str) -> Result<(), Failure> {
     let new = match path_beside(rt.alloc(), path) {
         Ok(new) => new,
@@ -177,7 +183,8 @@ fn replace(rt: &HostRuntime, path: &str, text: &str) -> Result<(), Failure> {
     }
 }
 
-// The path without links of a file that may be written. A file that a search found has to be below the folder that was searched.
+// The path without links of a file that may be written. A file that a search found has to be below
+// the folder that was searched.
 fn path_of(rt: &HostRuntime, name: &str, folder: Option<&str>) -> io::Result<Option<String>> {
     let path = fs::canonicalize(rt, name)?;
     if let Some(folder) = folder {
@@ -216,8 +223,8 @@ pub struct Done {
     pub verb: &'static str,
 }
 
-/// Replaces the text of a file, and writes what was done. For standard input, writes the text to the output. `folder` is the folder whose
-/// search found the file.
+/// Replaces the text of a file, and writes what was done. For standard input, writes the text to
+/// the output. `folder` is the folder whose search found the file.
 pub fn fix<W: Write>(
     rt: &HostRuntime,
     out: &mut W,

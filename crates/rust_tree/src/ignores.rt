@@ -1,15 +1,17 @@
-//! The ignore files of a search: `.gitignore` and `.git/info/exclude` in a repository of git, and `.ignore` anywhere.
+//! The ignore files of a search: `.gitignore` and `.git/info/exclude` in a repository of git, and
+//! `.ignore` anywhere.
 
 use gitignore::{IgnoreFile, Verdict, rules_of, verdict_among};
 use rust_print::shown::name;
 use std::alloc::{AllocError, Global};
 use std::{fs, io};
 
-// The ignore files above a file have at most so many bytes together; a larger one is not read. Each file and folder is compared with each
-// line, so a file of a stranger could take hours.
+// The ignore files above a file have at most so many bytes together; a larger one is not read. Each
+// file and folder is compared with each line, so a file of a stranger could take hours.
 const MOST: u64 = 1 << 18;
 
-/// The ignore files of the folders around what is searched: those of git from `first` to `git`, and those of any other kind up to `own`.
+/// The ignore files of the folders around what is searched: those of git from `first` to `git`, and
+/// those of any other kind up to `own`.
 #[derive(Clone, Copy, Debug, Default)]
 pub struct Level {
     first: usize,
@@ -26,7 +28,8 @@ pub struct Ignores {
     own: Vec<IgnoreFile>,
 }
 
-// The bytes of an ignore file, if there is one. As in git, a link is none; a pipe or a device would be read for ever.
+// The bytes of an ignore file, if there is one. As in git, a link is none; a pipe or a device would
+// be read for ever.
 fn text_of(rt: &HostRuntime, path: &str, bytes: u64) -> io::Result<Option<Vec<u8>>> {
     let Ok(found) = fs::symlink_metadata(rt, path) else {
         return Ok(None);
@@ -90,8 +93,9 @@ impl Ignores {
         }
     }
 
-    /// Reads the ignore files of a folder, whose real path is given without the slash at its end, and forgets those of other folders than the
-    /// ones around it. In a folder that has `.git`, a repository begins, in which those of git around it do not count.
+    /// Reads the ignore files of a folder, whose real path is given without the slash at its end,
+    /// and forgets those of other folders than the ones around it. In a folder that has `.git`, a
+    /// repository begins, in which those of git around it do not count.
     pub fn enter(&mut self, rt: &HostRuntime, folder: &str, around: Level) -> io::Result<Level> {
         self.git.truncate(around.git);
         self.own.truncate(around.own);
@@ -123,7 +127,8 @@ impl Ignores {
         Ok(level)
     }
 
-    /// What the ignore files say of a file or folder, by its real path: `.ignore` goes before those of git.
+    /// What the ignore files say of a file or folder, by its real path: `.ignore` goes before those
+    /// of git.
     pub fn verdict(
         &self,
         alloc: Global,

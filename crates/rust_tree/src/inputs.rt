@@ -28,7 +28,8 @@ fn is_rust(path: Path<'_>) -> bool {
 enum Kind {
     File,
     Folder,
-    // A pipe, a device, a link that leads nowhere or is not followed: to read one may take for ever, or lead out of the folder.
+    // A pipe, a device, a link that leads nowhere or is not followed: to read one may take for
+    // ever, or lead out of the folder.
     Other,
 }
 
@@ -50,7 +51,8 @@ fn target_of(rt: &HostRuntime, path: &str) -> Kind {
     }
 }
 
-// Whether a folder is one that cargo builds in: it is named `target` and has the tag of a folder of caches.
+// Whether a folder is one that cargo builds in: it is named `target` and has the tag of a folder of
+// caches.
 fn is_target(rt: &HostRuntime, path: Path<'_>) -> io::Result<bool> {
     if !path.file_name().is_some_and(|name| name == "target") {
         return Ok(false);
@@ -76,7 +78,8 @@ struct Walk {
     root: String,
     named: usize,
     ignores: Ignores,
-    // The real paths of the folders that were searched, if links are followed: a link may lead to a folder around it.
+    // The real paths of the folders that were searched, if links are followed: a link may lead to a
+    // folder around it.
     seen: BTreeSet<String>,
     // How many names and folders could not be read.
     lost: u64,
@@ -104,7 +107,8 @@ impl Walk {
         Ok(format!(in alloc; "{root}/{inside}")?)
     }
 
-    // Whether an entry of a folder is left out. A glob of the command line goes before an ignore file, and that before what is hidden.
+    // Whether an entry of a folder is left out. A glob of the command line goes before an ignore
+    // file, and that before what is hidden.
     fn is_left_out(
         &self,
         rt: &HostRuntime,
@@ -231,9 +235,10 @@ impl Walk {
     }
 }
 
-/// The `.rs` files below a folder, sorted by their paths, without what the search leaves out. Links are followed only if the search says so;
-/// then each folder is searched once, however many links lead to it. A folder that cannot be read, and a name that is not UTF-8, are
-/// reported on standard error and counted in `lost`.
+/// The `.rs` files below a folder, sorted by their paths, without what the search leaves out. Links
+/// are followed only if the search says so; then each folder is searched once, however many links
+/// lead to it. A folder that cannot be read, and a name that is not UTF-8, are reported on standard
+/// error and counted in `lost`.
 pub fn files_below(
     rt: &HostRuntime,
     folder: &str,
@@ -288,7 +293,8 @@ impl Read {
         }
     }
 
-    /// Whether a file was read before. It is noted. Standard input, and a file that is not there, never were.
+    /// Whether a file was read before. It is noted. Standard input, and a file that is not there,
+    /// never were.
     pub fn was_read(&mut self, rt: &HostRuntime, path: &str) -> io::Result<bool> {
         if path == "-" {
             return Ok(false);

@@ -106,7 +106,8 @@ const MATCHES: Noun = Noun {
     many: "matches",
 };
 
-// Replaces the text of a file, if anything was done in it. The new text of standard input is always written.
+// Replaces the text of a file, if anything was done in it. The new text of standard input is always
+// written.
 fn fix_file<W: Write>(
     rt: &HostRuntime,
     out: &mut W,
@@ -298,7 +299,8 @@ fn replaced(
     }
 }
 
-// Lists or replaces the matches of rules in a text. Returns the number of those that are in no other match.
+// Lists or replaces the matches of rules in a text. Returns the number of those that are in no
+// other match.
 fn rewrite<W: Write>(
     rt: &HostRuntime,
     out: &mut W,
@@ -339,7 +341,8 @@ fn write_summary<W: Write>(
     }
 }
 
-// Whether a path leads up. Behind a link to a folder, `..` is not the folder that the text before it names.
+// Whether a path leads up. Behind a link to a folder, `..` is not the folder that the text before
+// it names.
 fn leads_up(path: &str) -> bool {
     for part in path.split('/') {
         if part == ".." {
@@ -357,7 +360,8 @@ fn whole_path(rt: &HostRuntime, path: &str) -> io::Result<String> {
     }
 }
 
-// The absolute path of a file, if names of files are links; else an empty text. Standard input has none.
+// The absolute path of a file, if names of files are links; else an empty text. Standard input has
+// none.
 fn link_of(rt: &HostRuntime, links: &Option<String>, path: &str) -> io::Result<String> {
     let below = path.strip_prefix("./").unwrap_or(path);
     match links {
@@ -506,7 +510,8 @@ impl Job {
         Ok(())
     }
 
-    /// The exit status after a run. Pairs of parentheses that were removed do not count as found, nor do matches that were replaced.
+    /// The exit status after a run. Pairs of parentheses that were removed do not count as found,
+    /// nor do matches that were replaced.
     pub fn status(&self, session: &Session) -> u8 {
         match &self.task {
             Task::Parens { then: Then::Fix } => session.failed,

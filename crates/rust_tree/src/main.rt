@@ -1,4 +1,5 @@
-//! The program `rust_tree`: parses Rust files and prints errors, items, tokens, trees and differences.
+//! The program `rust_tree`: parses Rust files and prints errors, items, tokens, trees and
+//! differences.
 #![tactic(auto)]
 
 mod ask;
@@ -31,7 +32,8 @@ use std::io::{BufWriter, ErrorKind, IsTerminal, Write};
 use std::process::ExitCode;
 use std::{env, fs, io};
 
-// Whether the environment asks for a terminal without colours: `NO_COLOR` is set to any text but an empty one, or the terminal is `dumb`.
+// Whether the environment asks for a terminal without colours: `NO_COLOR` is set to any text but an
+// empty one, or the terminal is `dumb`.
 fn is_plain_terminal(rt: &HostRuntime) -> bool {
     env::var(rt, "NO_COLOR").is_ok_and(|it| !it.is_empty())
         || env::var(rt, "TERM").is_ok_and(|it| it.as_str() == "dumb")
@@ -46,7 +48,8 @@ fn has_escapes(rt: &HostRuntime, option: Option<&str>) -> bool {
     }
 }
 
-// The path of the folder that the program runs in, if names of files are to be links. A folder without a path has no links.
+// The path of the folder that the program runs in, if names of files are to be links. A folder
+// without a path has no links.
 fn links_of(rt: &HostRuntime, matches: &ArgMatches) -> io::Result<Option<String>> {
     if !has_escapes(rt, matches.get_str("hyperlinks")) {
         return Ok(None);
@@ -88,7 +91,8 @@ fn has_several(rt: &HostRuntime, command: &str, matches: &ArgMatches) -> bool {
     }
 }
 
-// Whether a task asks, and there is nobody who answers: standard input or output is no terminal, or standard input is a file to be read.
+// Whether a task asks, and there is nobody who answers: standard input or output is no terminal, or
+// standard input is a file to be read.
 fn lacks_answers(rt: &HostRuntime, task: &Task, names: &[&str]) -> bool {
     match task {
         Task::Rewrite {
@@ -123,7 +127,8 @@ fn run_task(rt: &HostRuntime, task: Task, command: &str, matches: &ArgMatches) -
     Ok(job.status(&session))
 }
 
-// Runs the task that a command line asks for, or reports why it is refused. Returns the exit status.
+// Runs the task that a command line asks for, or reports why it is refused. Returns the exit
+// status.
 fn run_or_tell(
     rt: &HostRuntime,
     task: Result<Task, Refusal>,
@@ -271,8 +276,9 @@ fn run_manual(rt: &HostRuntime, shell: Option<&str>) -> io::Result<u8> {
     Ok(0)
 }
 
-// Prints the help or the error that a command line ends in. An error repeats words of the command line as they are, and a file may be
-// named `--\u{1b}[2J`. So that of the same words is printed, in which control characters are symbols. Returns the exit status.
+// Prints the help or the error that a command line ends in. An error repeats words of the command
+// line as they are, and a file may be named `--\u{1b}[2J`. So that of the same words is printed, in
+// which control characters are symbols. Returns the exit status.
 fn refuse(rt: &HostRuntime, error: &Error, words: &[String]) -> io::Result<u8> {
     let mut shown = Vec::with_capacity(rt.alloc(), words.len())?;
     for word in words {

@@ -87,7 +87,8 @@ impl Session {
         self.failed = self.failed.max(status);
     }
 
-    /// The exit status. That of a file without a report takes precedence over that of something found.
+    /// The exit status. That of a file without a report takes precedence over that of something
+    /// found.
     pub fn status(&self) -> u8 {
         if self.failed > 0 {
             self.failed

@@ -1,4 +1,5 @@
--- Words of clauses for the views of items and their parts: the kinds of each, and what is one. Made by `tools/views` from `views.txt`.
+-- Words of clauses for the views of items and their parts: the kinds of each, and what is one. Made
+-- by `tools/views` from `views.txt`.
 use Rattle.std.specs.Prelude.{◌≡◌, Bool, Option, nat_eq, option_map}
 use Rattle.syntax_kind.specs.declared.syntax_kind.SyntaxKind.{SyntaxKind}
 use Rattle.syntax_kind.specs.Kinds.{kind_raw}

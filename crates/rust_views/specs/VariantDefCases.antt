@@ -1,4 +1,5 @@
--- `VariantDef`: its kinds by their raw numbers, the node of each variant, and words of clauses. Made by `tools/views` from `views.txt`.
+-- `VariantDef`: its kinds by their raw numbers, the node of each variant, and words of clauses.
+-- Made by `tools/views` from `views.txt`.
 use Rattle.std.specs.Prelude.{◌≡◌, ◌||◌, Bool, true, ℕ, nat_eq, Option, option_map}
 use Rattle.std.proofs.lemmas.Bool.{eq-eqb}
 use Rattle.syntax_kind.specs.declared.syntax_kind.SyntaxKind.{SyntaxKind}

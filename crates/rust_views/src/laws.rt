@@ -1,4 +1,5 @@
-//! The views are of the kinds that they are named for. The function does nothing: the contract is the law. Made by `tools/views` from `views.txt`.
+//! The views are of the kinds that they are named for. The function does nothing: the contract is
+//! the law. Made by `tools/views` from `views.txt`.
 ghost use Rattle.std.specs.Prelude.{◌≡◌};
 ghost use Rattle.ra_ap_syntax.specs.Words.{Views};
 ghost use Rattle.rust_kinds.specs.declared.kinds.TheConstants.{ASM_CLOBBER_ABI, ASM_CONST, ASM_DIR_SPEC, ASM_LABEL, ASM_OPERAND_EXPR, ASM_OPERAND_NAMED, ASM_OPTION, ASM_OPTIONS, ASM_REG_OPERAND, ASM_REG_SPEC, ASM_SYM, FORMAT_ARGS_ARG_NAME, MACRO_ITEMS, PARENTHESIZED_ARG_LIST, RECORD_EXPR_FIELD_LIST, RECORD_PAT_FIELD_LIST, RENAME, RETURN_TYPE_SYNTAX, VARIANT_LIST};

@@ -3,8 +3,8 @@
 //!
 //! All other views are in `ra_ap_syntax`. A lookup is a method of a trait with the name of the view
 //! and `Ext`, because a view is an alias of `ra_ap_syntax`'s `Typed`: after
-//! `use rust_views::EnumExt;`, `it.variant_list()` is rust-analyzer's call. A call takes time linear
-//! in the number of children that it passes, and no memory.
+//! `use rust_views::EnumExt;`, `it.variant_list()` is rust-analyzer's call. A call takes time
+//! linear in the number of children that it passes, and no memory.
 #![tactic(auto)]
 
 pub mod anys;

@@ -1,4 +1,5 @@
-//! The raw numbers of the kinds, as `SyntaxKind::to_raw` gives them. Made by `tools/views` from `views.txt`.
+//! The raw numbers of the kinds, as `SyntaxKind::to_raw` gives them. Made by `tools/views` from
+//! `views.txt`.
 
 // The number of `SyntaxKind::OTHER(0)`.
 const FIRST_OTHER: u32 = 65_536;

@@ -1,5 +1,6 @@
--- The words that are keywords in some places, by their first letter. Source: the Rust Reference, "Keywords", on weak keywords,
--- "Inline assembly" and "Conditional compilation"; the rest are those of macros built into the compiler.
+-- The words that are keywords in some places, by their first letter. Source: the Rust Reference,
+-- "Keywords", on weak keywords, "Inline assembly" and "Conditional compilation"; the rest are those
+-- of macros built into the compiler.
 use Rattle.std.specs.Prelude.{ℕ, ◌&&◌, not, if◌then◌else◌, Option, Some, List, [], ◌∷◌, ◌++◌, bytes_eq, codes}
 use Rattle.syntax_kind.specs.declared.syntax_kind.SyntaxKind.{SyntaxKind}
 use Rattle.syntax_kind.specs.declared.syntax_kind.SyntaxKind.TheVariants.{Token, OTHER}

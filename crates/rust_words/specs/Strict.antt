@@ -6,7 +6,8 @@ use Rattle.syntax_kind.specs.declared.syntax_kind.token_kind.TokenKind.TheVarian
 use Rattle.ras_front_end.specs.declared.edition.Edition.{Edition}
 use Rattle.rust_words.specs.Keywords.{is_2018_of, is_2024_of}
 
--- those reserved words that the table of further kinds has: abstract, box, final, override, priv, typeof, unsized, virtual
+-- those reserved words that the table of further kinds has: abstract, box, final, override, priv,
+-- typeof, unsized, virtual
 abbrev pub is_reserved_kind_of : SyntaxKind → Bool
 is_reserved_kind_of (OTHER n) = n == 2 || n == 3 || n == 4 || n == 5 || n == 6 || n == 7 || n == 8 || n == 9
 is_reserved_kind_of _ = false

@@ -168,8 +168,8 @@ fn name_y(text: &str) -> Option<SyntaxKind>
     }
 }
 
-/// The kind of a word that is a keyword only in some places, such as `union`, or `None` if the text is no such word. The lexer's kind
-/// for these words is `IDENT`.
+/// The kind of a word that is a keyword only in some places, such as `union`, or `None` if the text
+/// is no such word. The lexer's kind for these words is `IDENT`.
 ///
 /// It compares the text with at most six words.
 pub fn contextual_kind(text: &str) -> Option<SyntaxKind>
@@ -199,7 +199,8 @@ pub fn contextual_kind(text: &str) -> Option<SyntaxKind>
     }
 }
 
-/// As [`contextual_kind`]. In 2015 `dyn` is such a word too; from 2018 on it is a keyword everywhere.
+/// As [`contextual_kind`]. In 2015 `dyn` is such a word too; from 2018 on it is a keyword
+/// everywhere.
 pub fn contextual_keyword(text: &str, edition: Edition) -> Option<SyntaxKind>
     ensures { result ≡ contextual_keyword_of edition text.now }
 {

@@ -20,7 +20,8 @@ pub(crate) fn is_2024(edition: Edition) -> bool
     matches!(edition, Edition::Edition2024)
 }
 
-// Whether the text is this word. Most texts differ from most words in their length, which costs no call.
+// Whether the text is this word. Most texts differ from most words in their length, which costs no
+// call.
 #[tactic(auto, using(crate::proofs::Words::lengths_first))]
 #[inline(always)]
 fn is(text: &str, word: &str) -> bool
@@ -293,8 +294,9 @@ fn word_y(text: &str) -> Option<SyntaxKind>
     }
 }
 
-/// The kind of a keyword, or `None` if the text is not a keyword in the edition. Reserved words such as `abstract` are keywords. Words
-/// that are keywords only in some places, such as `union`, are not.
+/// The kind of a keyword, or `None` if the text is not a keyword in the edition. Reserved words
+/// such as `abstract` are keywords. Words that are keywords only in some places, such as `union`,
+/// are not.
 ///
 /// It compares the text with at most five words.
 pub fn keyword(text: &str, edition: Edition) -> Option<SyntaxKind>

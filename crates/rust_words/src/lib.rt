@@ -1,4 +1,5 @@
-//! The words of Rust that are keywords: everywhere in an edition, or only where the grammar asks for them.
+//! The words of Rust that are keywords: everywhere in an edition, or only where the grammar asks
+//! for them.
 #![tactic(auto)]
 
 mod contextual;

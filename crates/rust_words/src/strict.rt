@@ -23,7 +23,8 @@ fn is_reserved_kind(kind: SyntaxKind) -> bool
     }
 }
 
-/// Whether the kind is that of a word that is a keyword everywhere in the edition: one that [`keyword`](crate::keyword) gives.
+/// Whether the kind is that of a word that is a keyword everywhere in the edition: one that
+/// [`keyword`](crate::keyword) gives.
 pub fn is_strict_keyword(kind: SyntaxKind, edition: Edition) -> bool
     ensures { result ≡ is_strict_kind_of edition kind }
 {

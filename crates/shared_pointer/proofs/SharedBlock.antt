@@ -1,8 +1,8 @@
--- The block of a `Shared`: its three fields as cells, and the names of what is in it. Assumes `Logic`.
---     block_filled        a block that was just written is a count of 1 and what the last owner gets
---     contents_lend       what the last owner gets may be lent: it shows the value
---     contents_split      the same, as cells
---     block_joined        the emptied cells are one block again
+-- The block of a `Shared`: its three fields as cells, and the names of what is in it. Assumes
+-- `Logic`.
+--     block_filled a block that was just written is a count of 1 and what the last owner gets
+--     contents_lend what the last owner gets may be lent: it shows the value contents_split the
+--     same, as cells block_joined the emptied cells are one block again
 use mathlib.Core.Path.{◌≡◌, refl}
 use mathlib.Core.Bool.{Bool}
 use Prim.Native.Nat.{ℕ, ◌+◌, ◌^◌}
@@ -144,7 +144,8 @@ module _ (E : Bx) {M : Type 1} {𝓤 : Ura M} (𝓛 : Logic 𝓤) (ν : Sym) (b 
       ‵ (E.al.row.own_val h (hv ∷ [])) ∷ ‵ (own E x (v ∷ [])) ∷ []) ∵
       use1 𝓛 ((‵ (cell b o 1) ⊛ ‵ (allocator_cell E b o hv) ⊛ ‵ (value_cell E b o v) ⊛ ‵ ftrue) ⊛ raw Joins) (cells_apart vs) $
       split ! $ split3 ! $ flt_i ! 1 (2 ^ 64) (lit< tt) $ fjoin ! $ frame ! $
-      -- [the allocator's cell; the value's, and nothing; the way back; the right; what the allocator owns; what the value owns]
+      -- [the allocator's cell; the value's, and nothing; the way back; the right; what the
+      -- allocator owns; what the value owns]
       move ! (1 ∷ []) $ split ! $
       move ! (0 ∷ 6 ∷ []) $ use2 𝓛 (‵ (part_at (R E) full_share x b (o + value_at E))) (el_in E 𝓛 x b (o + value_at E) v) $
       move ! (2 ∷ 5 ∷ []) $
@@ -154,7 +155,8 @@ module _ (E : Bx) {M : Type 1} {𝓤 : Ura M} (𝓛 : Logic 𝓤) (ν : Sym) (b 
       fpack ! E.al.row.Denot (freed_by (P E) (R E) (token E.al) (block_ptr b o)) h $
       keep ! (1 ∷ 0 ∷ []) $ fjoin ! $ done !
 
--- the value's cell, the allocator's, what each owns, the right to free the block, and the way back to it
+-- the value's cell, the allocator's, what each owns, the right to free the block, and the way back
+-- to it
 abbrev pub Apart : (E : Bx) → X E → {M : Type 1} {𝓤 : Ura M} (𝓛 : Logic 𝓤)
     → ℕ → ℕ → Val → E.al.row.Denot → Val → List (Item 𝓤) → List (Item 𝓤)
 Apart E x 𝓛 b o v h hv rest =

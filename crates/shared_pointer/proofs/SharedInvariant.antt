@@ -1,7 +1,8 @@
--- The invariant of a count: opened by any part of the value's lifetime, and shut again. Assumes `Logic`.
---     opens               the invariant gives the count's cell and the vault
---     shut, shut_gone     it is shut with them again, or for good, once the value's lifetime is over
---     same_value          two owners that know one name see one value at one place
+-- The invariant of a count: opened by any part of the value's lifetime, and shut again. Assumes
+-- `Logic`.
+--     opens the invariant gives the count's cell and the vault shut, shut_gone it is shut with them
+--     again, or for good, once the value's lifetime is over same_value two owners that know one
+--     name see one value at one place
 use mathlib.Core.Path.{◌≡◌}
 use mathlib.Core.Bool.{Bool, true, false}
 use Prim.Native.Nat.{ℕ}

@@ -77,7 +77,8 @@ module _ (count : ℕ → Fml) (contents : Fml) (tag : Gv) (view : Lft → Fml) 
         lft_new ! tt (λ j. lft_new ! tt (λ i.
         let a : Marks = record { alive = i; counting = j; name = δ } in
         use1 𝓛 (‵ (rest 64 i 1) ⊛ ‵ (part 64 i)) (cut 64 𝓛 i 0 full_share (lit< tt) (Counts-all 64)) $ split ! $
-        -- [the till's parts; the owner's part; counting; the count; the contents; μ's token; the name's value]
+        -- [the till's parts; the owner's part; counting; the count; the contents; μ's token; the
+        -- name's value]
         move ! (4 ∷ []) $ bor_new ! tt (i ∷ []) $ move ! (2 ∷ 4 ∷ []) $ fjoin ! $ move ! (0 ∷ 2 ∷ []) $ fjoin ! $
         move ! (3 ∷ 0 ∷ []) $ fjoin ! $ fpack ! (Bool × ℕ) (count_and_vault count contents a) (true, 1) $
         fpack ! Bool (state count contents a) true $

@@ -1,9 +1,9 @@
--- What the walks of `Shared` have in common: a step opens something in the walk's context, or puts it back. Assumes `Logic`.
---     count_opened, count_shut           the invariant: the count's cell, what is beside it, and what shuts it again
---     one_more, one_more_at_full         an owner more, below the full count and at it
---     one_less, last_one                 an owner less, and the last one
---     owner_split, owner_joined          an owner by value
---     borrow_opened, borrow_shut         an owner after a `&`
+-- What the walks of `Shared` have in common: a step opens something in the walk's context, or puts
+-- it back. Assumes `Logic`.
+--     count_opened, count_shut the invariant: the count's cell, what is beside it, and what shuts
+--     it again one_more, one_more_at_full an owner more, below the full count and at it one_less,
+--     last_one an owner less, and the last one owner_split, owner_joined an owner by value
+--     borrow_opened, borrow_shut an owner after a `&`
 use mathlib.Core.Path.{◌≡◌, refl, sym}
 use mathlib.Core.Bool.{Bool, true, false}
 use Prim.Native.Nat.{ℕ, ◌+◌, ◌-◌, ◌<◌, ◌^◌}
@@ -49,7 +49,8 @@ module _ (E : Bx) (c : Ptr) (x : X E) where
   abbrev pub Owner : {M : Type 1} {𝓤 : Ura M} (𝓛 : Logic 𝓤) → Marks → List (Item 𝓤) → List (Item 𝓤)
   Owner 𝓛 a rest = ‵ (ticket a) ∷ ‵ (guarded_by E c x a) ∷ ‵ (shown_by E c x a (a.alive ∷ [])) ∷ rest
 
-  -- a `&`, opened: a part and the invariant, its word and the way back, and for a new owner the invariant and what is shown
+  -- a `&`, opened: a part and the invariant, its word and the way back, and for a new owner the
+  -- invariant and what is shown
   abbrev pub Borrowed : {M : Type 1} {𝓤 : Ura M} (𝓛 : Logic 𝓤)
       → Sym → Lft → Share → ℕ → ℕ → Marks → Share → Share → List (Item 𝓤) → List (Item 𝓤)
   Borrowed 𝓛 ν κ q b o a s q' rest =

@@ -1,7 +1,8 @@
--- Tickets: how an owner's part of the value's lifetime comes out of the till, and goes back. Assumes `Logic`.
---     some_out                   some part is out, so the count is not 0
---     issue, issue_at_full       a ticket for one more owner: below the full count, and at it
---     hand_back, last_ticket     a ticket less; the last one, after which the value's lifetime is over
+-- Tickets: how an owner's part of the value's lifetime comes out of the till, and goes back.
+-- Assumes `Logic`.
+--     some_out some part is out, so the count is not 0 issue, issue_at_full a ticket for one more
+--     owner: below the full count, and at it hand_back, last_ticket a ticket less; the last one,
+--     after which the value's lifetime is over
 use mathlib.Core.Path.{◌≡◌, refl}
 use mathlib.Core.Bool.{Bool, true, false}
 use Prim.Native.Nat.{ℕ, ◌+◌, ◌-◌, ◌^◌, ◌<◌}

@@ -1,5 +1,5 @@
--- How a function that opens an invariant of its thread meets its contract: its walk has the thread's token from the start to
--- the end. Assumes `Logic`.
+-- How a function that opens an invariant of its thread meets its contract: its walk has the
+-- thread's token from the start to the end. Assumes `Logic`.
 --     with_turn            the contract with the token beside its `requires` and its `ensures`
 --     tables_with_turn     what the walk's calls are proved to do, where the token is carried along
 --     meets_in_turn        a walk for the contract with the token meets the contract

@@ -1,14 +1,16 @@
 -- What a `Shared` owns, and what a `&` to one lends.
 --
--- The value is in its block as long as a lifetime `alive` lasts. Its token is cut into 2 ^ 64 counted parts.
--- An owner holds one part, its ticket, so `alive` can't end, and the value can't go, while there is an owner.
--- An invariant holds the count's cell and the till: all parts that no owner holds. With the last owner the till is
--- whole again, `alive` ends, and the value and the block come back.
+-- The value is in its block as long as a lifetime `alive` lasts. Its token is cut into 2 ^ 64
+-- counted parts. An owner holds one part, its ticket, so `alive` can't end, and the value can't go,
+-- while there is an owner. An invariant holds the count's cell and the till: all parts that no
+-- owner holds. With the last owner the till is whole again, `alive` ends, and the value and the
+-- block come back.
 --
--- A count of 2 ^ 64 - 1 leaves no part to hand out. So there a second lifetime, `counting`, ends for good, and with it
--- the rule that a ticket is a counted part: any part is a ticket then. The till keeps some part, and for each new owner
--- it is halved, so that there can be owners without end. The parts don't add up again, and the value is never freed.
--- Below the full count the till holds the whole token of `counting`: it shows that each ticket is a counted part.
+-- A count of 2 ^ 64 - 1 leaves no part to hand out. So there a second lifetime, `counting`, ends
+-- for good, and with it the rule that a ticket is a counted part: any part is a ticket then. The
+-- till keeps some part, and for each new owner it is halved, so that there can be owners without
+-- end. The parts don't add up again, and the value is never freed. Below the full count the till
+-- holds the whole token of `counting`: it shows that each ticket is a counted part.
 use Rattle.std.specs.Prelude.{◌≡◌, ℕ, ◌+◌, ◌-◌, ◌^◌, Bool, true, false, [], ◌∷◌}
 use base.Fraction.{full_share}
 use base.FractionLaws.{Counts}
@@ -36,8 +38,8 @@ pub record Marks : Type 0 where
   -- a name for the address of the value together with the value
   pub name : GName
 
--- The invariant's key. It names no place: so two invariants of one place could be open together, which no memory
--- allows, and two owners of one place are found to have one key.
+-- The invariant's key. It names no place: so two invariants of one place could be open together,
+-- which no memory allows, and two owners of one place are found to have one key.
 abbrev pub key : Marks → Key
 key a = (a.alive, a.name)
 
@@ -77,8 +79,8 @@ ticket_of a e = fsep (part_of a e) (stands a e)
 abbrev pub ticket : Marks → Fml
 ticket a = fex Share (ticket_of a)
 
--- The till beside a count of n. While there is counting, it has the parts that are left of 2 ^ 64 when n are out, and
--- then some part.
+-- The till beside a count of n. While there is counting, it has the parts that are left of 2 ^ 64
+-- when n are out, and then some part.
 abbrev pub till : Marks → Bool → ℕ → Fml
 till a true n = fsep (rest 64 a.alive n) (counts a)
 till a false n = fex (n ≡ full_count) (λ _. fsep (full_for_good a) (any_part a))

@@ -13,8 +13,9 @@ mod count;
 
 /// A reference-counted pointer to a value on the heap, for one thread, like `Rc`.
 ///
-/// Cloning takes no memory and always succeeds: a count that has reached `usize::MAX` stays there. Below that, the value is
-/// dropped and its block freed with the last owner; once the count is full, the value is never freed.
+/// Cloning takes no memory and always succeeds: a count that has reached `usize::MAX` stays there.
+/// Below that, the value is dropped and its block freed with the last owner; once the count is
+/// full, the value is never freed.
 pub struct Shared<T, A: Allocator = Global> {
     ptr: *const Block<T, A>,
     pub ghost value: { T },
@@ -34,7 +35,8 @@ impl<T, A: Allocator> Model for Shared<T, A> {
 }
 
 impl<T, A: Allocator> Shared<T, A> {
-    /// Moves `value` to the heap and returns its first owner. If memory runs out, the error contains the value.
+    /// Moves `value` to the heap and returns its first owner. If memory runs out, the error
+    /// contains the value.
     pub fn new(alloc: A, value: T) -> Result<Shared<T, A>, AllocFailed<T>>
         ensures ok { IfOk result (λ s. s.value ≡ value) }
         ensures value_returned { IfErr result (λ e. e.value ≡ value) }
@@ -78,8 +80,9 @@ impl<T: Drop, A: Allocator> Drop for Shared<T, A> {
 }
 
 impl<T: Drop, A: Allocator> Shared<T, A> {
-    // Removes this owner; the last one drops the value and frees the block. Since `drop` calls `is_last` first, the compiler knows
-    // that `remove_owner` returns `None` for the other owners, and writes no `Option` with a value to the stack.
+    // Removes this owner; the last one drops the value and frees the block. Since `drop` calls
+    // `is_last` first, the compiler knows that `remove_owner` returns `None` for the other owners,
+    // and writes no `Option` with a value to the stack.
     #[inline(always)]
     fn leave(self) {
         if let Some((value, block)) = self.remove_owner() {

@@ -1,5 +1,6 @@
--- Elements with annotations, and what an editor holds.
--- (Upstream: rust-analyzer's `SyntaxAnnotation`, whose numbers are counted for the whole program; here each editor counts its own.)
+-- Elements with annotations, and what an editor holds. (Upstream: rust-analyzer's
+-- `SyntaxAnnotation`, whose numbers are counted for the whole program; here each editor counts its
+-- own.)
 use Rattle.std.specs.Prelude.{◌≡◌, ℕ, List, [], ◌∷◌, ⊤, refl}
 use Rattle.std.specs.Coded.{Coded, code_by, coded×, coded_ℕ, coded_list, Coded-set, ×_prop, Unit-prop}
 use Rattle.tree_model.specs.Tree.{Tree}
@@ -16,7 +17,8 @@ pub record Note : Type 0 where
 abbrev pub note_code : Coded Note
 note_code = code_by (ℕ × Cursor) (coded× coded_ℕ cursor_code) (λ n. (n.annotation, n.cursor)) (λ p. record { annotation = p.0; cursor = p.1 }) (λ _. refl)
 
--- the changes of a tree, how many annotations were made, and the elements that have one, in the order of the calls
+-- the changes of a tree, how many annotations were made, and the elements that have one, in the
+-- order of the calls
 pub record Editing : Type 0 where
   pub session : Session
   pub made : ℕ

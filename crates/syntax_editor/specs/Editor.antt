@@ -110,7 +110,8 @@ new_cursor s c = record { tree = result_of s; place = moved (at_of s) s.tree c.p
 abbrev pub new_element : Session → NodeOrToken Cursor Cursor → NodeOrToken Cursor Cursor
 new_element s e = element_of (new_cursor s (cursor_of e))
 
--- of what is at a spot: its row in the new tree, counted from 1, or 0 if it is not kept; the element there; whether it is kept
+-- of what is at a spot: its row in the new tree, counted from 1, or 0 if it is not kept; the
+-- element there; whether it is kept
 abbrev pub row_after : Session → Spot → ℕ
 row_after s p = new_row (at_of s) p.tree (place_at p.tree p.row)
 

@@ -5,8 +5,8 @@ ghost use Rattle.syntax_editor.specs.Spot.{cursor_of_spot};
 use crate::position::Place;
 use std::marker::Model;
 
-/// A mark for elements of a tree that is changed, by which they are found in the new one. [`SyntaxEditor::new_annotation`] makes it,
-/// and no other of that editor equals it.
+/// A mark for elements of a tree that is changed, by which they are found in the new one.
+/// [`SyntaxEditor::new_annotation`] makes it, and no other of that editor equals it.
 ///
 /// [`SyntaxEditor::new_annotation`]: crate::SyntaxEditor::new_annotation
 #[derive(Clone, Copy, Debug, PartialEq, Eq, Hash)]

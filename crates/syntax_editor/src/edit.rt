@@ -42,10 +42,12 @@ impl SyntaxEdit {
         &self.new_root
     }
 
-    /// The elements of the new tree that annotated ones of the old tree have become, in the order of the calls of
-    /// [`SyntaxEditor::add_annotation`]; an element that was annotated twice is there twice. Those that are not kept are left out.
+    /// The elements of the new tree that annotated ones of the old tree have become, in the order
+    /// of the calls of [`SyntaxEditor::add_annotation`]; an element that was annotated twice is
+    /// there twice. Those that are not kept are left out.
     ///
-    /// Takes the time of [`SyntaxEdit::mapping`]; for many annotations, make that once, and call [`SyntaxMapping::find_annotation`].
+    /// Takes the time of [`SyntaxEdit::mapping`]; for many annotations, make that once, and call
+    /// [`SyntaxMapping::find_annotation`].
     ///
     /// # Errors
     ///
@@ -64,7 +66,8 @@ impl SyntaxEdit {
         mapping.find_annotation(alloc, annotation)
     }
 
-    /// Where what was kept is in the new tree. Takes time linear in the old tree and the number of elements that are put in.
+    /// Where what was kept is in the new tree. Takes time linear in the old tree and the number of
+    /// elements that are put in.
     ///
     /// # Errors
     ///
@@ -78,12 +81,13 @@ impl SyntaxEdit {
         })
     }
 
-    /// The edit of the text that the changes are: applied to the text of the old tree, it gives the text of the new one. Each of its
-    /// replacements inserts or deletes something. [`TextEdit::apply`] is refused for memory alone, since its ranges are within that text,
-    /// on character boundaries.
+    /// The edit of the text that the changes are: applied to the text of the old tree, it gives the
+    /// text of the new one. Each of its replacements inserts or deletes something.
+    /// [`TextEdit::apply`] is refused for memory alone, since its ranges are within that text, on
+    /// character boundaries.
     ///
-    /// In the tree of `fn f() {}`, with `g` in the place of the name, it is the one replacement of the bytes `3..4` by `g`. Takes time
-    /// linear in the old tree and in the text that is put in.
+    /// In the tree of `fn f() {}`, with `g` in the place of the name, it is the one replacement of
+    /// the bytes `3..4` by `g`. Takes time linear in the old tree and in the text that is put in.
     ///
     /// # Errors
     ///

@@ -22,15 +22,19 @@ use std::marker::Model;
 use tree_edits::{ChangeError, Changes, Element};
 use tree_rows::Table;
 
-/// A session of changes of a tree: they are collected, and made at once by [`SyntaxEditor::finish`].
+/// A session of changes of a tree: they are collected, and made at once by
+/// [`SyntaxEditor::finish`].
 ///
-/// All positions and elements that are changed are those of the old tree, so no change moves another one. What is put in may be
-/// any node or token: of this tree, of another one, or a new one. Several insertions at one position stay in the order of the calls.
-/// In the tree of `fn f() {}`, `insert(Position::before(&item), &comment)` and then `delete(&item)` gives the comment alone.
+/// All positions and elements that are changed are those of the old tree, so no change moves
+/// another one. What is put in may be any node or token: of this tree, of another one, or a new
+/// one. Several insertions at one position stay in the order of the calls. In the tree of
+/// `fn f() {}`, `insert(Position::before(&item), &comment)` and then `delete(&item)` gives the
+/// comment alone.
 ///
-/// A call takes time linear in the depth of the element, and a deletion or replacement in its number of nodes and tokens too. Where
-/// the element is one of another tree in memory, the call first compares the two trees, and is refused unless they are equal.
-/// A clause sees the old tree, what is changed at each of its rows, and its annotated elements.
+/// A call takes time linear in the depth of the element, and a deletion or replacement in its
+/// number of nodes and tokens too. Where the element is one of another tree in memory, the call
+/// first compares the two trees, and is refused unless they are equal. A clause sees the old tree,
+/// what is changed at each of its rows, and its annotated elements.
 #[derive(Drop)]
 pub struct SyntaxEditor {
     alloc: Global,
@@ -107,8 +111,8 @@ fn one(alloc: Global, element: &SyntaxElement) -> Result<Vec<Element>, AllocErro
 }
 
 impl SyntaxEditor {
-    /// Begins a session of changes of the whole tree of a node: mostly its root; for a part of a tree alone, make
-    /// a [`SyntaxNode::clone_subtree`] first.
+    /// Begins a session of changes of the whole tree of a node: mostly its root; for a part of a
+    /// tree alone, make a [`SyntaxNode::clone_subtree`] first.
     ///
     /// # Errors
     ///
@@ -153,8 +157,9 @@ impl SyntaxEditor {
     ///
     /// # Errors
     ///
-    /// The first of the variants of [`ChangeError`], from `OtherTree` to `ChangedInside`, whose condition holds, and otherwise `Memory`
-    /// if memory runs out; so for the other calls. Nothing is changed then.
+    /// The first of the variants of [`ChangeError`], from `OtherTree` to `ChangedInside`, whose
+    /// condition holds, and otherwise `Memory` if memory runs out; so for the other calls. Nothing
+    /// is changed then.
     pub fn insert(&mut self, position: Position, element: &SyntaxElement) -> Result<(), ChangeError>
         ensures ok { OnOk result
             (self.new ≡ with_trees self.old position (tree_of element.now ∷ [])) }
@@ -255,16 +260,18 @@ impl SyntaxEditor {
             .replace_all(self.alloc, first.row(), last.row(), elements)
     }
 
-    /// Puts new elements, in their order, in the place of the siblings from `first` to `last`, both included.
+    /// Puts new elements, in their order, in the place of the siblings from `first` to `last`, both
+    /// included.
     ///
-    /// In the tree of `fn f() {}`, with the parameters and the block as `first` and `last`, it replaces `() {}`. Takes the time of
-    /// [`SyntaxEditor::replace`] for each of them.
+    /// In the tree of `fn f() {}`, with the parameters and the block as `first` and `last`, it
+    /// replaces `() {}`. Takes the time of [`SyntaxEditor::replace`] for each of them.
     ///
     /// # Errors
     ///
-    /// `OtherTree` if the one or the other is not in the tree; otherwise `NotSiblings` if `last` is neither `first` nor one of its
-    /// later siblings; otherwise the reason for which the first of them that may not be replaced is refused by
-    /// [`SyntaxEditor::replace`]; and `Memory` if memory runs out. Nothing is changed then.
+    /// `OtherTree` if the one or the other is not in the tree; otherwise `NotSiblings` if `last` is
+    /// neither `first` nor one of its later siblings; otherwise the reason for which the first of
+    /// them that may not be replaced is refused by [`SyntaxEditor::replace`]; and `Memory` if
+    /// memory runs out. Nothing is changed then.
     pub fn replace_all(
         &mut self,
         first: &SyntaxElement,
@@ -272,7 +279,8 @@ impl SyntaxEditor {
         new: &[SyntaxElement],
     ) -> Result<(), ChangeError>
         ensures ok { let ts = trees_of new.now in
-            OnOk result (ReplacesRun self.old (cursor_of first.now) (cursor_of last.now) ts self.new) }
+            OnOk result
+            (ReplacesRun self.old (cursor_of first.now) (cursor_of last.now) ts self.new) }
         ensures err { OnErr result (self.new ≡ self.old) }
         ensures refused { IfErr result
             (IsRunRefusedAt self.old (cursor_of first.now) (cursor_of last.now)) }
@@ -283,7 +291,8 @@ impl SyntaxEditor {
         self.put_run(&first, &last, elements)
     }
 
-    /// Deletes the siblings from `first` to `last`, both included, as [`SyntaxEditor::replace_all`] by no element does.
+    /// Deletes the siblings from `first` to `last`, both included, as [`SyntaxEditor::replace_all`]
+    /// by no element does.
     pub fn delete_all(
         &mut self,
         first: &SyntaxElement,
@@ -300,8 +309,8 @@ impl SyntaxEditor {
         self.put_run(&first, &last, Vec::new(self.alloc))
     }
 
-    /// A new annotation, which differs from all others that this editor made. Pass it to this editor alone: another editor takes it for
-    /// its own annotation with the same number.
+    /// A new annotation, which differs from all others that this editor made. Pass it to this
+    /// editor alone: another editor takes it for its own annotation with the same number.
     ///
     /// # Errors
     ///
@@ -317,13 +326,14 @@ impl SyntaxEditor {
         Ok(SyntaxAnnotation { number })
     }
 
-    /// Gives an element of the tree an annotation, by which [`SyntaxEdit::find_annotation`] finds it in the new tree, unless it is
-    /// replaced or deleted, or is inside something that is. An element can have several annotations, and an annotation several elements.
+    /// Gives an element of the tree an annotation, by which [`SyntaxEdit::find_annotation`] finds
+    /// it in the new tree, unless it is replaced or deleted, or is inside something that is. An
+    /// element can have several annotations, and an annotation several elements.
     ///
     /// # Errors
     ///
-    /// `OtherTree` if the element is in a tree that differs from the editor's, as one that is put in mostly is, and otherwise `Memory`
-    /// if memory runs out. Nothing is changed then.
+    /// `OtherTree` if the element is in a tree that differs from the editor's, as one that is put
+    /// in mostly is, and otherwise `Memory` if memory runs out. Nothing is changed then.
     pub fn add_annotation(
         &mut self,
         element: &SyntaxElement,
@@ -345,8 +355,8 @@ impl SyntaxEditor {
         }
     }
 
-    /// Makes the changes. The old tree stays as it is. Takes time linear in the old tree and in what is put in, however many
-    /// changes there are.
+    /// Makes the changes. The old tree stays as it is. Takes time linear in the old tree and in
+    /// what is put in, however many changes there are.
     ///
     /// # Errors
     ///

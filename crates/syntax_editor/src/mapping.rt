@@ -34,7 +34,8 @@ impl<'e> SyntaxMapping<'e> {
         }
     }
 
-    // The element of the new tree that what is at a place of the old tree has become, if it is kept.
+    // The element of the new tree that what is at a place of the old tree has become, if it is
+    // kept.
     fn new_element(&self, place: &Place) -> Option<SyntaxElement>
         ensures some { IfSome result
             (λ new. new ≡ element_after self.now.edit.now.changes place.now) }
@@ -59,8 +60,8 @@ impl<'e> SyntaxMapping<'e> {
         }
     }
 
-    /// The elements of the new tree that annotated ones of the old tree have become, as [`SyntaxEdit::find_annotation`] says. Takes
-    /// time linear in the number of annotated elements.
+    /// The elements of the new tree that annotated ones of the old tree have become, as
+    /// [`SyntaxEdit::find_annotation`] says. Takes time linear in the number of annotated elements.
     ///
     /// # Errors
     ///
@@ -82,12 +83,14 @@ impl<'e> SyntaxMapping<'e> {
         Ok(all)
     }
 
-    /// The element of the new tree that an element of the old tree has become: the same node or token, with the changes inside it
-    /// made. `None` if it was replaced or deleted, or is inside something that was, or is of another tree.
+    /// The element of the new tree that an element of the old tree has become: the same node or
+    /// token, with the changes inside it made. `None` if it was replaced or deleted, or is inside
+    /// something that was, or is of another tree.
     ///
-    /// In the tree of `fn f() {}`, where the name is replaced and an attribute is put before `fn`, it gives the `fn` of the new tree
-    /// for the old one, and `None` for the name. Takes constant time; where the element is one of another tree in memory, the call
-    /// first compares the two trees.
+    /// In the tree of `fn f() {}`, where the name is replaced and an attribute is put before `fn`,
+    /// it gives the `fn` of the new tree for the old one, and `None` for the name. Takes constant
+    /// time; where the element is one of another tree in memory, the call first compares the two
+    /// trees.
     pub fn old_to_new(&self, element: &SyntaxElement) -> Option<SyntaxElement>
         ensures some { IfSome result
             (λ new. new ≡ new_element self.now.edit.now.changes element.now) }

@@ -30,7 +30,8 @@ OnlyBlanksGo = (count left : ℕ) (cs : List ℕ) → filter is_no_blank (withou
 abbrev pub line_of_blanks : ℕ → List ℕ
 line_of_blanks n = 10 ∷ replicate n 32
 
--- blanks that were put at the end of white space are left out again, and no others: the lines before its last one have none
+-- blanks that were put at the end of white space are left out again, and no others: the lines
+-- before its last one have none
 abbrev pub DedentUndoesIndent : Type 0
 DedentUndoesIndent = (more own : ℕ) (lines : List ℕ) → list_all is_no_blank lines ≡ true
     → without_blanks more 0 (lines ++ line_of_blanks (more + own)) ≡ lines ++ line_of_blanks own

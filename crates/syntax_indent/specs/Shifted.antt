@@ -22,7 +22,8 @@ blanks levels = repeat levels (codes "    ")
 abbrev pub is_blank : ℕ → Bool
 is_blank c = c == 32
 
--- what stays of a character where `left` blanks may be left out, and how many may be left out behind it: `count` behind a newline
+-- what stays of a character where `left` blanks may be left out, and how many may be left out
+-- behind it: `count` behind a newline
 abbrev pub kept : ℕ → ℕ → List ℕ
 kept left c = if is_blank c && nat_lt 0 left then [] else (c ∷ [])
 
@@ -34,7 +35,8 @@ abbrev pub without_blanks : ℕ → ℕ → List ℕ → List ℕ
 without_blanks count left [] = []
 without_blanks count left (c ∷ cs) = kept left c ++ without_blanks count (left_after count left c) cs
 
--- the text of white space: with blanks at its end, if it has a newline; and without blanks behind its newlines
+-- the text of white space: with blanks at its end, if it has a newline; and without blanks behind
+-- its newlines
 abbrev pub shifted_space : Shift → List ℕ → List ℕ
 shifted_space (More levels) t = if list_any is_newline (chars t) then t ++ blanks levels else t
 shifted_space (Fewer levels) t = encode_utf8_all (without_blanks (levels * 4) 0 (chars t))

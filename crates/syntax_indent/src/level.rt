@@ -50,7 +50,8 @@ impl IndentLevel {
         self.number == 0
     }
 
-    /// The level of the line that a node or token begins in; that of [`IndentLevel::from_node`] or [`IndentLevel::from_token`].
+    /// The level of the line that a node or token begins in; that of [`IndentLevel::from_node`] or
+    /// [`IndentLevel::from_token`].
     pub fn from_element(element: &SyntaxElement) -> IndentLevel
         ensures { result.number ≡ level_of element.now }
     {
@@ -60,7 +61,8 @@ impl IndentLevel {
         }
     }
 
-    /// The level of the line that a node begins in: that of its first token, and 0 if it has no tokens.
+    /// The level of the line that a node begins in: that of its first token, and 0 if it has no
+    /// tokens.
     pub fn from_node(node: &SyntaxNode) -> IndentLevel
         ensures { result.number ≡ level_in node.now }
     {
@@ -72,12 +74,14 @@ impl IndentLevel {
 
     /// The level of the line that a token begins in.
     ///
-    /// Of the token and the tokens before it, the nearest `WHITESPACE` with a newline tells it: the number of characters behind its last
-    /// newline, divided by 4 and rounded down, and at most 255. Without such a token it is 0. So it is 1 for an
-    /// `x` behind a newline and 4 to 7 blanks, and for the tokens after it in its line. A tab counts as one character. A newline in a
+    /// Of the token and the tokens before it, the nearest `WHITESPACE` with a newline tells it: the
+    /// number of characters behind its last newline, divided by 4 and rounded down, and at most
+    /// 255. Without such a token it is 0. So it is 1 for an `x` behind a newline and 4 to 7 blanks,
+    /// and for the tokens after it in its line. A tab counts as one character. A newline in a
     /// string or a comment does not count.
     ///
-    /// Takes time linear in the nodes and tokens back to that newline, and in the lengths of their white space.
+    /// Takes time linear in the nodes and tokens back to that newline, and in the lengths of their
+    /// white space.
     pub fn from_token(token: &SyntaxToken) -> IndentLevel
         ensures { result.number ≡ level_at token.now }
     {

@@ -1,4 +1,5 @@
-//! White space of what is put into a tree: the level of a line, and nodes whose lines have a few blanks more, or fewer.
+//! White space of what is put into a tree: the level of a line, and nodes whose lines have a few
+//! blanks more, or fewer.
 //!
 //! (Upstream: `syntax::ast::edit`.)
 #![tactic(auto)]

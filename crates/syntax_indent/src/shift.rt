@@ -23,11 +23,13 @@ enum Shift {
     Fewer(u8),
 }
 
-/// The node, as the root of a tree of its own, with its lines indented by this many levels more; its first line stays.
+/// The node, as the root of a tree of its own, with its lines indented by this many levels more;
+/// its first line stays.
 ///
-/// Each `WHITESPACE` token with a newline gets 4 blanks for each level at its end, so behind its last newline: lines that are empty stay
-/// empty. No other token changes, so lines inside a string or a comment stay where they are. With level 1, an `x` in
-/// column 4 is in column 8 then, and a `}` in column 0 is in column 4. With level 0 it is a copy.
+/// Each `WHITESPACE` token with a newline gets 4 blanks for each level at its end, so behind its
+/// last newline: lines that are empty stay empty. No other token changes, so lines inside a string
+/// or a comment stay where they are. With level 1, an `x` in column 4 is in column 8 then, and a
+/// `}` in column 0 is in column 4. With level 0 it is a copy.
 ///
 /// Takes time and memory linear in the node and in what is put in.
 ///
@@ -46,11 +48,13 @@ pub fn indent(
     shifted(alloc, node, Shift::More(level.number))
 }
 
-/// The node, as the root of a tree of its own, with its lines indented by this many levels less; its first line stays.
+/// The node, as the root of a tree of its own, with its lines indented by this many levels less;
+/// its first line stays.
 ///
-/// In each `WHITESPACE` token, of the blanks that are directly behind a newline, the first 4 for each level are left out: all of them, if
-/// there are no more. So `dedent` by any level takes away blanks alone. No other token changes. With level 1, an
-/// `x` in column 6 is in column 2 then, and a `}` in column 1 is in column 0. A tab is no blank.
+/// In each `WHITESPACE` token, of the blanks that are directly behind a newline, the first 4 for
+/// each level are left out: all of them, if there are no more. So `dedent` by any level takes away
+/// blanks alone. No other token changes. With level 1, an `x` in column 6 is in column 2 then, and
+/// a `}` in column 1 is in column 0. A tab is no blank.
 ///
 /// Takes time and memory linear in the node.
 ///
@@ -69,14 +73,15 @@ pub fn dedent(
     shifted(alloc, node, Shift::Fewer(level.number))
 }
 
-/// The node, as the root of a tree of its own, as if the line that it begins in were not indented: [`dedent`] by its own level,
-/// [`IndentLevel::from_node`]. Takes the time of these two.
+/// The node, as the root of a tree of its own, as if the line that it begins in were not indented:
+/// [`dedent`] by its own level, [`IndentLevel::from_node`]. Takes the time of these two.
 ///
 /// # Errors
 ///
 /// Those of [`dedent`].
 pub fn reset_indent(alloc: Global, node: &SyntaxNode) -> Result<SyntaxNode, FinishError>
-    ensures ok { IfOk result (λ new. new ≡ root_of (dedented (level_in node.now) (focus node.now))) }
+    ensures ok { IfOk result
+        (λ new. new ≡ root_of (dedented (level_in node.now) (focus node.now))) }
     ensures short { OnOk result (IsShort (dedented (level_in node.now) (focus node.now))) }
     ensures refused { IfErr result (IsNotMade (dedented (level_in node.now) (focus node.now))) }
 {
@@ -96,7 +101,8 @@ fn left_after(count: usize, left: usize, c: char) -> usize
 
 // Appends a character, unless it is a blank that is left out.
 fn push_kept(out: &mut String, left: usize, c: char) -> Result<(), AllocError>
-    ensures { OnOk result (string_bytes out.new ≡ string_bytes out.old ++ encode_utf8_all (kept left c)) }
+    ensures { OnOk result
+        (string_bytes out.new ≡ string_bytes out.old ++ encode_utf8_all (kept left c)) }
 {
     if c == ' ' && left > 0 {
         Ok(())
@@ -164,7 +170,8 @@ fn push_step(
 ) -> Result<(), AllocError>
     requires { row < size table.now }
     ensures { OnOk result
-        (out.new ≡ out.old ++ map (shifted_event shift) (step_events (tree_at table.now row) enters)) }
+        (out.new
+        ≡ out.old ++ map (shifted_event shift) (step_events (tree_at table.now row) enters)) }
 {
     let is_token = table.is_token_at(row);
     if enters {

@@ -16,7 +16,8 @@ is_trivia (Token token.WHITESPACE) = true
 is_trivia (Token token.COMMENT) = true
 is_trivia _ = false
 
--- the raw number of a kind: tokens, then nodes, in the order of their declarations, and `OTHER` past all of these
+-- the raw number of a kind: tokens, then nodes, in the order of their declarations, and `OTHER`
+-- past all of these
 abbrev pub kind_raw : SyntaxKind → ℕ
 kind_raw (Token token.WHITESPACE) = 0
 kind_raw (Token token.COMMENT) = 1

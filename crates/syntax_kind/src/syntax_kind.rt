@@ -64,7 +64,8 @@ impl SyntaxKind {
 
     /// The kind's name, as `"PLUS"`; `None` for `OTHER`, which prints its number too.
     pub fn name(self) -> Option<&'static str>
-        ensures { MatchOption result ((n : ℕ) × (self ≡ SyntaxKind.OTHER n)) (λ s. s.now ≡ kind_name self) }
+        ensures { MatchOption result ((n : ℕ) × (self ≡ SyntaxKind.OTHER n))
+            (λ s. s.now ≡ kind_name self) }
     {
         match self {
             SyntaxKind::Token(token) => Some(token.name()),
@@ -75,8 +76,8 @@ impl SyntaxKind {
 
     /// The kind that prints as `name`, if there is one.
     ///
-    /// The name must match exactly. The number of `OTHER(n)` is decimal, from 0 to 65535, with no sign and no leading zero.
-    /// Takes time linear in `name`, whatever the kind.
+    /// The name must match exactly. The number of `OTHER(n)` is decimal, from 0 to 65535, with no
+    /// sign and no leading zero. Takes time linear in `name`, whatever the kind.
     pub fn from_name(name: &str) -> Option<SyntaxKind>
         ensures exact { (k : SyntaxKind) → IsKind k → (result ≡ Some k) ↔ (kind_name k ≡ name.now) }
         ensures kind { IfSome result IsKind }

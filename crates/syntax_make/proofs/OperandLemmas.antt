@@ -1,4 +1,5 @@
--- An expression in the place of an operand: the new tree, and whether a pair is asked for, by the operator theorem.
+-- An expression in the place of an operand: the new tree, and whether a pair is asked for, by the
+-- operator theorem.
 use Rattle.std.proofs.Common.{◌≡◌, ◌↔◌, ◌++◌, ℕ, List, [], ◌∷◌, Bool, true, false, Option, Some, None, refl, sym, ap, subst, ◌∙◌}
 use Rattle.tree_model.specs.Tree.{Tree, node, token, Place, subtree}
 use Rattle.tree_model.specs.Cursor.{Cursor, focus, parent_of}

@@ -22,7 +22,8 @@ use Rattle.syntax_make.specs.declared.from_parts.Pairs.TheVariants.{Neither, Rig
 use Rattle.syntax_make.specs.Places.{place_of}
 use Rattle.syntax_make.specs.Made.{IsMadeAt, IsRefusedAt}
 
--- a fixed text; a node by its text; and an operand, which may get a pair of parentheses: the first or the only one, or the second
+-- a fixed text; a node by its text; and an operand, which may get a pair of parentheses: the first
+-- or the only one, or the second
 pub data Bit : Type 0 where
   fixed : List ℕ → Bit
   part : Cursor → Bit
@@ -157,8 +158,8 @@ NeedsPairs front edition casts bits Right = IsMisread front edition casts bits N
 NeedsPairs front edition casts bits Both =
     IsMisread front edition casts bits Neither × IsMisread front edition casts bits Left × IsMisread front edition casts bits Right
 
--- made with the first pairs with which the text reads as what is meant and needs no further ones; so no pair is put where the text
--- without it does
+-- made with the first pairs with which the text reads as what is meant and needs no further ones;
+-- so no pair is put where the text without it does
 pub record IsFormOf (front : Front) (edition : Edition) (casts : SyntaxKind → Bool) (bits : List Bit) (made : Cursor) : Type 0 where
   pub pairs : Pairs
   pub form : IsFormWith front edition casts pairs bits made

@@ -44,8 +44,8 @@ is_there casts start s c = casts (kind_at c) && is_at start s c
 abbrev pub node_there : (SyntaxKind → Bool) → ℕ → List ℕ → Cursor → Option Cursor
 node_there casts start s root = find (is_there casts start s) (filter at_node (descendants_of root))
 
--- the text stands at this place in a file without errors, and is this node there: the outermost of such a kind; it is given as a tree
--- of its own
+-- the text stands at this place in a file without errors, and is this node there: the outermost of
+-- such a kind; it is given as a tree of its own
 pub record IsMadeIn (front : Front) (edition : Edition) (place : Place) (casts : SyntaxKind → Bool) (s : List ℕ) (made : Cursor) : Type 0 where
   pub file : Parsed
   pub clean : IsCleanOf front edition (in_place place s) file

@@ -10,8 +10,8 @@ use Rattle.operator_trees.specs.Leaves.{leaves_behind}
 use Rattle.operator_trees.specs.Shown.{meaning, IsTerm}
 use Rattle.operator_pairs.specs.Pairs.{operand_cursor}
 
--- `old` is the operand at a place of the term t, which the node at `r` shows and its tokens read as, not before `<` or `<<`; the
--- tokens of `new` read as the term s, which it shows
+-- `old` is the operand at a place of the term t, which the node at `r` shows and its tokens read
+-- as, not before `<` or `<<`; the tokens of `new` read as the term s, which it shows
 pub record IsOperand (old new r : Cursor) (t s : Term) (i : ℕ) (q : List ℕ) : Type 0 where
   pub is_place : IsPlace r.tree r.place
   pub shows : meaning (focus r) ≡ IsTerm t

@@ -7,10 +7,12 @@ use std::alloc::AllocError;
 /// Why no node is made of a text.
 #[derive(Debug, Drop, thiserror::Error)]
 pub enum MakeError {
-    /// The text has errors where it stands: the first of them. Its range is that in the surroundings.
+    /// The text has errors where it stands: the first of them. Its range is that in the
+    /// surroundings.
     #[error("{0}")]
     Syntax(SyntaxError),
-    /// There are no errors, but the text is not exactly one such node, or does not hold the nodes that were put into it.
+    /// There are no errors, but the text is not exactly one such node, or does not hold the nodes
+    /// that were put into it.
     #[error("the text is not the node that was meant")]
     NotOne,
     /// No place is known where such a node stands: see [`PLACES`](crate::PLACES).
@@ -52,7 +54,8 @@ impl From<ParseError> for MakeError {
 /// Why an expression is not put in the place of another.
 #[derive(Clone, Copy, Debug, PartialEq, Eq, Drop, thiserror::Error)]
 pub enum ReplaceExprError {
-    /// Neither with nor without a pair of parentheses does the new text parse to the tree that is meant.
+    /// Neither with nor without a pair of parentheses does the new text parse to the tree that is
+    /// meant.
     #[error("the new text reads otherwise")]
     ReadsOtherwise,
     /// The new text is longer than 4,294,967,295 bytes.

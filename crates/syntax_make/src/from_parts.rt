@@ -20,7 +20,8 @@ pub enum Piece<'a> {
     Text(&'a str),
     /// A node, by its text.
     Part(&'a SyntaxNode),
-    /// An operand, by its text, in a pair of parentheses where it needs one: the first, or the only one.
+    /// An operand, by its text, in a pair of parentheses where it needs one: the first, or the only
+    /// one.
     Left(&'a SyntaxNode),
     /// The second such operand.
     Right(&'a SyntaxNode),
@@ -88,7 +89,8 @@ impl Draft {
     }
 
     fn push_part(&mut self, is_operand: bool, node: &SyntaxNode) -> Result<(), AllocError>
-        ensures { OnOk result (drafted self.new ≡ with_part is_operand (drafted self.old) node.now) }
+        ensures { OnOk result
+            (drafted self.new ≡ with_part is_operand (drafted self.old) node.now) }
     {
         let part = Part {
             start: self.text.len(),
@@ -108,7 +110,8 @@ impl Draft {
     }
 
     fn push(&mut self, pairs: Pairs, piece: Piece) -> Result<(), AllocError>
-        ensures { OnOk result (drafted self.new ≡ with_bit pairs (drafted self.old) (bit_of piece.entry)) }
+        ensures { OnOk result
+            (drafted self.new ≡ with_bit pairs (drafted self.old) (bit_of piece.entry)) }
     {
         match piece {
             Piece::Text(text) => self.push_text(text),
@@ -143,7 +146,8 @@ fn is_same_tree(alloc: Global, a: &SyntaxNode, b: &SyntaxNode) -> Result<bool, A
     Ok(a == b)
 }
 
-// Whether a node is a part. Only a node of the part's kind and text, at its place, is compared as a tree.
+// Whether a node is a part. Only a node of the part's kind and text, at its place, is compared as a
+// tree.
 fn is_part(alloc: Global, part: &Part, node: &SyntaxNode) -> Result<bool, AllocError>
     ensures { IfOk result (λ is. is ≡ is_part part.now node.now) }
 {
@@ -195,12 +199,13 @@ fn are_parts(alloc: Global, parts: &[Part], made: &SyntaxNode) -> Result<bool, A
     Ok(left.is_empty())
 }
 
-/// The node of the pieces' texts with these pairs, if it has each part where it was put. The node is that of [`node`].
+/// The node of the pieces' texts with these pairs, if it has each part where it was put. The node
+/// is that of [`node`].
 ///
 /// # Errors
 ///
-/// Those of [`node`] for the text; `NotOne` too if a part is no node there, or another tree, or is an operand that needs parentheses
-/// there by [`needs_parens_in`].
+/// Those of [`node`] for the text; `NotOne` too if a part is no node there, or another tree, or is
+/// an operand that needs parentheses there by [`needs_parens_in`].
 pub fn form_with<N: AstNode + Drop, F: FrontEnd>(
     alloc: Global,
     front: &F,
@@ -208,8 +213,11 @@ pub fn form_with<N: AstNode + Drop, F: FrontEnd>(
     pieces: &[Piece],
     edition: Edition,
 ) -> Result<N, MakeError>
-    ensures made { IfOk result (λ n. IsFormWith (F.answers front.now) edition N.casts pairs (bits_of pieces.now) (N.node n)) }
-    ensures refused { IfErr result (IsRefusedWith (F.answers front.now) edition N.casts pairs (bits_of pieces.now)) }
+    ensures made { IfOk result (λ n.
+        IsFormWith (F.answers front.now) edition N.casts pairs (bits_of pieces.now)
+        (N.node n)) }
+    ensures refused { IfErr result
+        (IsRefusedWith (F.answers front.now) edition N.casts pairs (bits_of pieces.now)) }
 {
     let draft = draft_of(alloc, pairs, pieces)?;
     let made: N = node(alloc, front, draft.text.as_str(), edition)?;
@@ -227,15 +235,17 @@ fn is_misread(error: &MakeError) -> bool
     matches!(error, MakeError::Syntax(_) | MakeError::NotOne)
 }
 
-/// The node of the pieces' texts, with a pair of parentheses round an operand only where it needs one, or where the text without it reads
-/// otherwise: the first of `Neither`, `Left`, `Right` and `Both` with which [`form_with`] makes the node.
+/// The node of the pieces' texts, with a pair of parentheses round an operand only where it needs
+/// one, or where the text without it reads otherwise: the first of `Neither`, `Left`, `Right` and
+/// `Both` with which [`form_with`] makes the node.
 ///
-/// `[Left(a), Text(" * "), Right(b)]` with `x + y` and `z` is `(x + y) * z`. Takes at most the time of four parses of the
-/// text, and mostly that of one.
+/// `[Left(a), Text(" * "), Right(b)]` with `x + y` and `z` is `(x + y) * z`. Takes at most the time
+/// of four parses of the text, and mostly that of one.
 ///
 /// # Errors
 ///
-/// `Syntax` or `NotOne`, that of the text without pairs, if the text reads otherwise with any pairs; otherwise the first other error.
+/// `Syntax` or `NotOne`, that of the text without pairs, if the text reads otherwise with any
+/// pairs; otherwise the first other error.
 #[tactic(auto, using(crate::proofs::FormLemmas::stopped, crate::proofs::FormLemmas::misread))]
 pub fn form<N: AstNode + Drop, F: FrontEnd>(
     alloc: Global,
@@ -243,8 +253,10 @@ pub fn form<N: AstNode + Drop, F: FrontEnd>(
     pieces: &[Piece],
     edition: Edition,
 ) -> Result<N, MakeError>
-    ensures made { IfOk result (λ n. IsFormOf (F.answers front.now) edition N.casts (bits_of pieces.now) (N.node n)) }
-    ensures refused { IfErr result (IsNoFormOf (F.answers front.now) edition N.casts (bits_of pieces.now)) }
+    ensures made { IfOk result
+        (λ n. IsFormOf (F.answers front.now) edition N.casts (bits_of pieces.now) (N.node n)) }
+    ensures refused { IfErr result
+        (IsNoFormOf (F.answers front.now) edition N.casts (bits_of pieces.now)) }
 {
     let first = match form_with(alloc, front, Pairs::Neither, pieces, edition) {
         Ok(made) => return Ok(made),

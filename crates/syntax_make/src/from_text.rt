@@ -69,15 +69,17 @@ fn node_there<N: AstNode>(root: &SyntaxNode, start: usize, text: &str) -> Option
     None
 }
 
-/// The node of a text at a place: the outermost node there that is exactly the text and can be an `N`, as the root of a tree of its own.
+/// The node of a text at a place: the outermost node there that is exactly the text and can be an
+/// `N`, as the root of a tree of its own.
 ///
-/// The text must have no white space or comments at its ends, unless they are parts of the node, as the comments before an item are.
-/// Takes the time of the front end for the text and its surroundings, and memory for two trees.
+/// The text must have no white space or comments at its ends, unless they are parts of the node, as
+/// the comments before an item are. Takes the time of the front end for the text and its
+/// surroundings, and memory for two trees.
 ///
 /// # Errors
 ///
-/// `TooLong` if the text with its surroundings is; `Syntax` if they have errors, those of [`Parse::errors`]; `NotOne` if there is no such
-/// node; `Memory` at any time.
+/// `TooLong` if the text with its surroundings is; `Syntax` if they have errors, those of
+/// [`Parse::errors`]; `NotOne` if there is no such node; `Memory` at any time.
 pub fn node_in<N: AstNode + Drop, F: FrontEnd>(
     alloc: Global,
     front: &F,
@@ -85,8 +87,10 @@ pub fn node_in<N: AstNode + Drop, F: FrontEnd>(
     text: &str,
     edition: Edition,
 ) -> Result<N, MakeError>
-    ensures made { IfOk result (λ n. IsMadeIn (F.answers front.now) edition place N.casts text.now (N.node n)) }
-    ensures refused { IfErr result (IsRefusedIn (F.answers front.now) edition place N.casts text.now) }
+    ensures made { IfOk result
+        (λ n. IsMadeIn (F.answers front.now) edition place N.casts text.now (N.node n)) }
+    ensures refused { IfErr result
+        (IsRefusedIn (F.answers front.now) edition place N.casts text.now) }
 {
     let whole = in_place(alloc, place, text)?;
     let file = clean_file(alloc, front, whole.as_str(), edition)?;
@@ -96,10 +100,13 @@ pub fn node_in<N: AstNode + Drop, F: FrontEnd>(
     }
 }
 
-/// The node of a text, as the root of a tree of its own: that of [`node_in`] at the place of an `N` by [`place_of`].
+/// The node of a text, as the root of a tree of its own: that of [`node_in`] at the place of an `N`
+/// by [`place_of`].
 ///
-/// `node::<ast::Expr, _>(alloc, &Rust, "a + b", edition)` is a `BIN_EXPR`; `node::<ast::Type, _>(.., "a + b", ..)` is refused with
-/// `Syntax`, `node::<ast::CallExpr, _>(.., "a + b", ..)` and `node::<ast::Expr, _>(.., "a ", ..)` with `NotOne`.
+/// `node::<ast::Expr, _>(alloc, &Rust, "a + b", edition)` is a `BIN_EXPR`;
+/// `node::<ast::Type, _>(.., "a + b", ..)` is refused with `Syntax`,
+/// `node::<ast::CallExpr, _>(.., "a + b", ..)` and `node::<ast::Expr, _>(.., "a ", ..)` with
+/// `NotOne`.
 ///
 /// # Errors
 ///
@@ -110,8 +117,10 @@ pub fn node<N: AstNode + Drop, F: FrontEnd>(
     text: &str,
     edition: Edition,
 ) -> Result<N, MakeError>
-    ensures made { IfOk result (λ n. IsMadeAt (F.answers front.now) edition (place_of N.casts) N.casts text.now (N.node n)) }
-    ensures refused { IfErr result (IsRefusedAt (F.answers front.now) edition (place_of N.casts) N.casts text.now) }
+    ensures made { IfOk result (λ n.
+        IsMadeAt (F.answers front.now) edition (place_of N.casts) N.casts text.now (N.node n)) }
+    ensures refused { IfErr result
+        (IsRefusedAt (F.answers front.now) edition (place_of N.casts) N.casts text.now) }
 {
     match place_of::<N>() {
         None => Err(MakeError::NoPlace),

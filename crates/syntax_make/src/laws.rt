@@ -1,5 +1,5 @@
-//! What is proved of an expression in another's place where both are of operator trees. The functions do nothing: the contract
-//! is the law.
+//! What is proved of an expression in another's place where both are of operator trees. The
+//! functions do nothing: the contract is the law.
 ghost use Rattle.std.specs.Prelude.{◌≡◌, ◌↔◌, ◌∷◌, ℕ, List, Bool, true, false};
 ghost use Rattle.tree_model.specs.Tree.{subtree};
 ghost use Rattle.tree_model.specs.Cursor.{Cursor};
@@ -10,12 +10,13 @@ ghost use Rattle.operator_trees.specs.Shown.{meaning, IsTerm};
 ghost use Rattle.syntax_make.specs.Replaced.{meant, needs_pair_at};
 ghost use Rattle.syntax_make.specs.Operands.{IsOperand, put_piece};
 
-/// An operand of an operator tree gets a pair from [`replace_expr`](crate::replace_expr) where it needs one, by the operator
-/// theorem.
+/// An operand of an operator tree gets a pair from [`replace_expr`](crate::replace_expr) where it
+/// needs one, by the operator theorem.
 ///
-/// `old` is an operand of the term `t`, which the node at `r` shows, and `new` shows the term `s` (`IsOperand`). `shown`: the
-/// new tree shows `t` with `s`, or `(s)`, in the operand's place. `bare`: no pair is asked for exactly if the tokens
-/// read as `t` with `s` there. `paired`: with a pair they always read as `t` with `(s)` there.
+/// `old` is an operand of the term `t`, which the node at `r` shows, and `new` shows the term `s`
+/// (`IsOperand`). `shown`: the new tree shows `t` with `s`, or `(s)`, in the operand's place.
+/// `bare`: no pair is asked for exactly if the tokens read as `t` with `s` there. `paired`: with a
+/// pair they always read as `t` with `(s)` there.
 pub fn an_operand_gets_a_pair_where_it_needs_one()
     ensures shown { (pair : Bool) (old new r : Cursor) (t s : Term) (i : ℕ) (q : List ℕ)
         → IsOperand old new r t s i q

@@ -1,7 +1,7 @@
 //! Nodes from text, from texts with nodes in them, and an expression in the place of another.
 //!
-//! Nothing here panics on a wrong text: a node is returned only where the text is exactly that node, without errors, and has the nodes
-//! that were put into it. (Upstream: `syntax::ast::make`.)
+//! Nothing here panics on a wrong text: a node is returned only where the text is exactly that
+//! node, without errors, and has the nodes that were put into it. (Upstream: `syntax::ast::make`.)
 #![tactic(auto)]
 
 mod error;

@@ -12,7 +12,8 @@ pub enum Place {
     Stmt,
     /// A whole file, or its one item. Its text stands in `…`.
     File,
-    /// An expression, but for a `let`: the value of a constant. Also the name or the block that it is. Its text stands in `const C: () = …;`.
+    /// An expression, but for a `let`: the value of a constant. Also the name or the block that it
+    /// is. Its text stands in `const C: () = …;`.
     Expr,
     /// A condition: a `let` too. Its text stands in `fn f() { while … {} }`.
     Condition,
@@ -54,7 +55,8 @@ pub enum Place {
     TupleField,
     /// A variant of an enum. Its text stands in `enum E { … }`.
     Variant,
-    /// What stands before a function's `fn`: an attribute, a visibility, an ABI. Its text stands in `… fn f() {}`.
+    /// What stands before a function's `fn`: an attribute, a visibility, an ABI. Its text stands in
+    /// `… fn f() {}`.
     Head,
     /// The contents of an attribute. Its text stands in `#[…] fn f() {}`.
     Meta,
@@ -184,8 +186,8 @@ impl Place {
     }
 }
 
-/// The kinds of nodes that can be made from a text, and where the text of each stands. For a view of several kinds the first row with
-/// one of them counts.
+/// The kinds of nodes that can be made from a text, and where the text of each stands. For a view
+/// of several kinds the first row with one of them counts.
 pub static PLACES: [(SyntaxKind, Place); 140] = [
     (SyntaxKind::EXPR_STMT, Place::Stmt),
     (SyntaxKind::LET_STMT, Place::Stmt),
@@ -341,8 +343,8 @@ fn place_in<N: AstNode>(rows: &[(SyntaxKind, Place)]) -> Option<Place>
     None
 }
 
-/// Where the text of an `N` stands: the place of the first row of [`PLACES`] whose kind an `N` can be. Returns `None` if there is no such
-/// row; then no `N` can be made from a text.
+/// Where the text of an `N` stands: the place of the first row of [`PLACES`] whose kind an `N` can
+/// be. Returns `None` if there is no such row; then no `N` can be made from a text.
 #[tactic(auto, unfolding(crate::specs::Places::place_of))]
 pub fn place_of<N: AstNode>() -> Option<Place>
     ensures { result ≡ place_of N.casts }

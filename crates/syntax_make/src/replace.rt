@@ -40,7 +40,8 @@ fn empty_pair(alloc: Global) -> Result<SyntaxNode, AllocError>
     }
 }
 
-/// A pair of parentheses round an expression, as the root of a tree of its own. Takes time and memory linear in the expression.
+/// A pair of parentheses round an expression, as the root of a tree of its own. Takes time and
+/// memory linear in the expression.
 ///
 /// # Errors
 ///
@@ -107,8 +108,10 @@ fn placed(
     old: &SyntaxNode,
     piece: &SyntaxNode,
 ) -> Result<SyntaxNode, ReplaceExprError>
-    ensures root { IfOk result (λ root. root ≡ root_of (replace old.now.tree old.now.place (focus piece.now))) }
-    ensures refused { IfErr result (IsTooLong (replace old.now.tree old.now.place (focus piece.now))) }
+    ensures root { IfOk result
+        (λ root. root ≡ root_of (replace old.now.tree old.now.place (focus piece.now))) }
+    ensures refused { IfErr result
+        (IsTooLong (replace old.now.tree old.now.place (focus piece.now))) }
 {
     Ok(old.replace_with(alloc, piece)?)
 }
@@ -135,21 +138,25 @@ fn bare<F: FrontEnd>(
     }
 }
 
-/// The tree of `old` with the expression `new` in its place, in a pair of parentheses where it needs one by [`needs_parens_in_place_of`],
-/// or where the text would otherwise read as another tree.
+/// The tree of `old` with the expression `new` in its place, in a pair of parentheses where it
+/// needs one by [`needs_parens_in_place_of`], or where the text would otherwise read as another
+/// tree.
 ///
-/// That test is exact for operands of operator trees ([`crate::laws`]). For all else the new text decides: it is parsed, as a file if the root is
-/// a `SOURCE_FILE` and otherwise as an expression, and a tree is returned only where it is the parse of its text. Errors of the texts are
-/// not compared, so both trees may have some. `new` may be of any tree.
+/// That test is exact for operands of operator trees ([`crate::laws`]). For all else the new text
+/// decides: it is parsed, as a file if the root is a `SOURCE_FILE` and otherwise as an expression,
+/// and a tree is returned only where it is the parse of its text. Errors of the texts are not
+/// compared, so both trees may have some. `new` may be of any tree.
 ///
-/// With `a + b` for the `x` of `x * 2`, the text is `(a + b) * 2`; for the `x` of `f(x)`, `f(a + b)`.
+/// With `a + b` for the `x` of `x * 2`, the text is `(a + b) * 2`; for the `x` of `f(x)`,
+/// `f(a + b)`.
 ///
 /// Takes the time of at most two parses of the new text, and memory for two trees.
 ///
 /// # Errors
 ///
-/// `ReadsOtherwise` if the text parses to another tree with the pair too, as where the place is of no expression; `TooLong` if the new
-/// text is longer than 4,294,967,295 bytes; `Memory` at any time.
+/// `ReadsOtherwise` if the text parses to another tree with the pair too, as where the place is of
+/// no expression; `TooLong` if the new text is longer than 4,294,967,295 bytes; `Memory` at any
+/// time.
 #[tactic(auto, using(crate::proofs::PairLemmas::put_bare, crate::proofs::PairLemmas::put_paired, crate::proofs::PairLemmas::pair_too_long, crate::proofs::PairLemmas::paired_too_long))]
 pub fn replace_expr<F: FrontEnd>(
     alloc: Global,
@@ -158,8 +165,10 @@ pub fn replace_expr<F: FrontEnd>(
     new: &SyntaxNode,
     edition: Edition,
 ) -> Result<Replaced, ReplaceExprError>
-    ensures replaced { IfOk result (λ r. IsReplaced (F.answers front.now) edition old.now new.now r.in_pair r.root) }
-    ensures text { IfOk result (λ r. IsTextWith old.now (piece_of r.in_pair new.now) (text r.root.tree)) }
+    ensures replaced { IfOk result
+        (λ r. IsReplaced (F.answers front.now) edition old.now new.now r.in_pair r.root) }
+    ensures text { IfOk result
+        (λ r. IsTextWith old.now (piece_of r.in_pair new.now) (text r.root.tree)) }
     ensures refused { IfErr result (IsNotReplaced (F.answers front.now) edition old.now new.now) }
 {
     // For the proof: the place of the expression is one of its tree.

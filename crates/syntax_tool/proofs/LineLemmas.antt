@@ -44,7 +44,8 @@ kind_not_entered name word unknown = inr (refl, (enters name, (refl, word), none
 
 -- ---- `token KIND TEXT`
 
--- a line that begins `token ` has a form only by the word before the next space, and by what is meant by the text after it
+-- a line that begins `token ` has a form only by the word before the next space, and by what is
+-- meant by the text after it
 pub token_form : (rest name raw : List ℕ) (f : Form) → IsCut 32 rest name raw → IsForm (codes "token " ++ rest) f → (t : List ℕ) × (f ≡ has_token name t) × (unescaped raw ≡ Some t) × IsWord name
 token_form rest name raw (enters kind) cut h = absurd (omega (arith, heads h.0))
 token_form rest name raw (has_token kind t) cut (inl whole, word) =

@@ -28,7 +28,8 @@ abbrev pub HasNo : ℕ → List ℕ → Type 0
 HasNo c [] = ⊤
 HasNo c (b ∷ bs) = (b ≢ c) × HasNo c bs
 
--- the text, cut at the first c: the text before it and after it; if there is none, the whole text and an empty one
+-- the text, cut at the first c: the text before it and after it; if there is none, the whole text
+-- and an empty one
 abbrev pub IsCut : ℕ → List ℕ → List ℕ → List ℕ → Type 0
 IsCut c text before after = HasNo c before × ((text ≡ before ++ c ∷ after) ⊎ ((text ≡ before) × (after ≡ [])))
 
@@ -41,8 +42,8 @@ pub record IsWord (bytes : List ℕ) : Type 0 where
   pub some : 0 < length bytes
   pub no_space : HasNo 32 bytes
 
--- `token KIND`, with or without one space after it, stands for the empty text; `token KIND TEXT` for that text, in which
--- a backslash begins an escape
+-- `token KIND`, with or without one space after it, stands for the empty text; `token KIND TEXT`
+-- for that text, in which a backslash begins an escape
 abbrev pub IsTokenLine : List ℕ → List ℕ → List ℕ → Type 0
 IsTokenLine line kind t =
     ((line ≡ codes "token " ++ kind) × (t ≡ []))

@@ -30,7 +30,8 @@ abbrev pub lines_of_found : Option (List Cursor) → List ℕ
 lines_of_found None = []
 lines_of_found (Some pairs) = pair_lines pairs
 
--- the answer for a tree: whether the term that it shows is a reading of its tokens, and which of its pairs may go
+-- the answer for a tree: whether the term that it shows is a reading of its tokens, and which of
+-- its pairs may go
 pub record IsReport (tree : Cursor) (out : List ℕ) : Type 0 where
   pub verdict : Option Bool
   pub found : Option (List Cursor)
@@ -44,7 +45,8 @@ AnswersTree t r =
     ((is_expr (kind_of t) ≡ false) × (r ≡ Err OtherRoot))
     ⊎ ((is_expr (kind_of t) ≡ true) × ((out : List ℕ) × IsReport (root_of t) out × (r ≡ Ok out)))
 
--- first it is checked that the text is not too long; then the small front end reads it as an expression of the newest edition
+-- first it is checked that the text is not too long; then the small front end reads it as an
+-- expression of the newest edition
 abbrev pub AnswersParens : List ℕ → Result (List ℕ) Refusal → Type 0
 AnswersParens text r =
     ((2 ^ 32 ≤ length text) × (r ≡ Err TooLong))

@@ -58,7 +58,8 @@ refusal_of_parse parse.Memory = Memory
 abbrev pub command_of : List ℕ → Option Command
 command_of word = if bytes_eq word (codes "events") then Some Events else (if bytes_eq word (codes "dump") then Some Dump else (if bytes_eq word (codes "parens") then Some Parens else (if bytes_eq word (codes "reparse") then Some Reparse else None)))
 
--- accepted events build a tree, which is dumped; otherwise the result is the first refusal of `finish` that holds
+-- accepted events build a tree, which is dumped; otherwise the result is the first refusal of
+-- `finish` that holds
 abbrev pub DumpsEvents : List Event → Result (List ℕ) Refusal → Type 0
 DumpsEvents es r =
     (IsAccepted es × ((t : Tree) × BuildsNode es t × (r ≡ Ok (dump_of (record { tree = t; place = [] })))))
@@ -72,8 +73,8 @@ AnswersRead (Err x) r = r ≡ Err x
 abbrev pub AnswersEvents : List ℕ → Result (List ℕ) Refusal → Type 0
 AnswersEvents text r = (es : Result (List Event) Refusal) × ReadsLines (lines_of text) es × AnswersRead es r
 
--- `dump`: first it is checked that the text is not too long; then the small front end reads it as a file of the newest
--- edition, and its parse is dumped
+-- `dump`: first it is checked that the text is not too long; then the small front end reads it as a
+-- file of the newest edition, and its parse is dumped
 abbrev pub AnswersText : List ℕ → Result (List ℕ) Refusal → Type 0
 AnswersText text r =
     ((2 ^ 32 ≤ length text) × (r ≡ Err TooLong))
@@ -130,7 +131,8 @@ IsEarly r = (r ≡ Read) ⊎ (r ≡ Memory)
 abbrev pub AnswersReader : Command → Option (List ℕ) → Result (List ℕ) Refusal → Type 0
 AnswersReader command left r = (input : List ℕ) × WasLeft left input × AnswersInput command input r
 
--- what a run leaves: the bytes that a reader was known to have left were read, and their output was written
+-- what a run leaves: the bytes that a reader was known to have left were read, and their output was
+-- written
 pub record IsRun (word : List ℕ) (left before after : Option (List ℕ)) (status : ℕ) : Type 0 where
   pub input : List ℕ
   pub read_whole : WasLeft left input

@@ -1,4 +1,5 @@
--- The input and the output of the command `reparse`. The input is a line of two numbers, a line of text, and the text to edit.
+-- The input and the output of the command `reparse`. The input is a line of two numbers, a line of
+-- text, and the text to edit.
 use Rattle.std.specs.Prelude.{◌≡◌, ℕ, ◌+◌, ◌-◌, ◌*◌, ◌<◌, ◌≤◌, ◌^◌, ◌⊎◌, min, Bool, ◌&&◌, not, ◌==◌, ◌||◌, nat_le, if◌then◌else◌, length, List, [], ◌∷◌, ◌++◌, IsCharBoundary, Option, Some, None, Result, Ok, Err, codes}
 use Rattle.std.specs.List.{list_all}
 use Rattle.text_size.specs.TextRange.{Bounds, range_text}
@@ -18,7 +19,8 @@ use Rattle.syntax_tool.specs.Lines.{HasNo, IsCut, IsLine}
 abbrev pub is_digit : ℕ → Bool
 is_digit b = nat_le 48 b && nat_le b 57
 
--- the number with the digits of n and then these digits, saturating at 2^64 - 1, which is greater than the length of any text
+-- the number with the digits of n and then these digits, saturating at 2^64 - 1, which is greater
+-- than the length of any text
 abbrev pub value_from : ℕ → List ℕ → ℕ
 value_from n [] = n
 value_from n (b ∷ bs) = value_from (min (10 * n + (b - 48)) (2 ^ 64 - 1)) bs
@@ -44,7 +46,8 @@ abbrev pub IsReread : Parsed → Edit → Option Bounds → Parsed → Type 0
 IsReread old edit (Some range) new = IsIncremental tiny_front Edition2024 old edit (Some (new, range))
 IsReread old edit None new = IsIncremental tiny_front Edition2024 old edit None × IsParseOf (edited (text old.tree) edit) (tiny_front.parsed SourceFile Edition2024 (edited (text old.tree) edit)) new
 
--- the answer to an edit of a parse: where the new text is not too long, how it was read, and the dump
+-- the answer to an edit of a parse: where the new text is not too long, how it was read, and the
+-- dump
 abbrev pub AnswersEdit : Parsed → Edit → Result (List ℕ) Refusal → Type 0
 AnswersEdit old edit r =
     ((2 ^ 32 ≤ length (edited (text old.tree) edit)) × (r ≡ Err TooLong))
@@ -76,7 +79,8 @@ AreLines text first second whole = (behind : List ℕ) × IsLine text first behi
 abbrev pub LacksLine : List ℕ → Type 0
 LacksLine text = HasNo 10 text ⊎ ((first behind : List ℕ) × IsLine text first behind × HasNo 10 behind)
 
--- the answer to a line `START END`, a line with the inserted text, in which a backslash begins an escape, and the text
+-- the answer to a line `START END`, a line with the inserted text, in which a backslash begins an
+-- escape, and the text
 pub record AnswersLines (first second whole : List ℕ) (r : Result (List ℕ) Refusal) : Type 0 where
   pub start : List ℕ
   pub end : List ℕ

@@ -9,7 +9,8 @@ use tiny_front::Tiny;
 
 // The dump of the tree of a file's text, and its errors.
 pub(crate) fn dump(alloc: Global, text: &str) -> Result<String, Refusal>
-    ensures { MatchResult result (λ out. AnswersText text.now (Ok (string_bytes out))) (λ e. (e ≡ Refusal.Memory) ⊎ AnswersText text.now (Err e)) }
+    ensures { MatchResult result (λ out. AnswersText text.now (Ok (string_bytes out)))
+        (λ e. (e ≡ Refusal.Memory) ⊎ AnswersText text.now (Err e)) }
 {
     let parse = match SourceFile::parse(alloc, text, &Tiny, Edition::CURRENT) {
         Ok(parse) => parse,

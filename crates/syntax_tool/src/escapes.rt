@@ -20,7 +20,8 @@ fn escape_of(letter: u8) -> Option<char>
 // Puts the text that is meant into `out`, in place of what it held.
 pub(crate) fn unescape(out: &mut String, raw: &str) -> Result<(), Refusal>
     ensures ok { OnOk result (unescaped raw.now ≡ Some (string_bytes out.new)) }
-    ensures err { IfErr result (λ e. (e ≡ Refusal.Memory) ⊎ ((e ≡ Refusal.BadLine) × (unescaped raw.now ≡ None))) }
+    ensures err { IfErr result
+        (λ e. (e ≡ Refusal.Memory) ⊎ ((e ≡ Refusal.BadLine) × (unescaped raw.now ≡ None))) }
 {
     out.clear();
     let mut rest = raw;

@@ -8,8 +8,8 @@ use std::io::Read;
 // How many bytes one read requests.
 const CHUNK: usize = 65536;
 
-// Reads up to the reader's end. Every error of the reader counts, and so does a reader that is not at its end after
-// `u64::MAX` reads.
+// Reads up to the reader's end. Every error of the reader counts, and so does a reader that is not
+// at its end after `u64::MAX` reads.
 pub(crate) fn read_all<R: Read>(alloc: Global, reader: &mut R) -> Result<Vec<u8>, Refusal>
     ensures ok { IfOk result (λ bytes. IfSome (R.remaining reader.old) (λ xs. bytes.items ≡ xs)) }
     ensures err { IfErr result (λ e. (e ≡ Refusal.Read) ⊎ (e ≡ Refusal.Memory)) }

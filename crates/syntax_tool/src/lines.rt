@@ -8,7 +8,8 @@ use crate::escapes::unescape;
 use crate::refusal::Refusal;
 use ra_ap_syntax::{SyntaxKind, SyntaxTreeBuilder};
 
-// The text before the first `at`, and the text after it; if there is none, the whole text and an empty text.
+// The text before the first `at`, and the text after it; if there is none, the whole text and an
+// empty text.
 pub(crate) fn cut(text: &str, at: char) -> (&str, &str)
     requires { at < 128 }
     ensures { IsCut at text.now result.0.now result.1.now }
@@ -29,7 +30,8 @@ fn is_word(text: &str) -> bool
 // The kind that a word names.
 fn kind_named(word: &str) -> Result<SyntaxKind, Refusal>
     ensures ok { IfOk result (λ k. IsKind k × (kind_name k ≡ word.now)) }
-    ensures err { IfErr result (λ e. (e ≡ Refusal.BadKind) × ((k : SyntaxKind) → IsKind k → kind_name k ≡ word.now → ⊥)) }
+    ensures err { IfErr result
+        (λ e. (e ≡ Refusal.BadKind) × ((k : SyntaxKind) → IsKind k → kind_name k ≡ word.now → ⊥)) }
 {
     match SyntaxKind::from_name(word) {
         Some(kind) => Ok(kind),

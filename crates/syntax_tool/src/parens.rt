@@ -1,4 +1,5 @@
-//! The command `parens`: an expression's text to whether its tree reads back, and the pairs of parentheses that may go.
+//! The command `parens`: an expression's text to whether its tree reads back, and the pairs of
+//! parentheses that may go.
 ghost use Rattle.std.specs.Prelude.{◌≡◌, ◌⊎◌, ◌++◌, Ok, Err, IfOk, OnOk, MatchResult, string_bytes};
 ghost use Rattle.syntax_tool.specs.Needless.{verdict_line, pair_lines, IsReport, AnswersParens};
 
@@ -44,7 +45,8 @@ fn report(alloc: Global, tree: &SyntaxNode) -> Result<String, AllocError>
 
 // The answer for an expression's text.
 pub(crate) fn parens(alloc: Global, text: &str) -> Result<String, Refusal>
-    ensures { MatchResult result (λ out. AnswersParens text.now (Ok (string_bytes out))) (λ e. (e ≡ Refusal.Memory) ⊎ AnswersParens text.now (Err e)) }
+    ensures { MatchResult result (λ out. AnswersParens text.now (Ok (string_bytes out)))
+        (λ e. (e ≡ Refusal.Memory) ⊎ AnswersParens text.now (Err e)) }
 {
     let parse = Expr::parse(alloc, text, &Tiny, Edition::CURRENT)?;
     let root = parse.syntax_node();

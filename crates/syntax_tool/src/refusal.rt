@@ -11,12 +11,13 @@ pub enum Refusal {
     Read,
     /// The input is not UTF-8. This is checked first.
     NotUtf8,
-    /// A line has none of the forms of an event; for `reparse`: the first line is not two numbers, or the second has a backslash
-    /// that begins no escape.
+    /// A line has none of the forms of an event; for `reparse`: the first line is not two numbers,
+    /// or the second has a backslash that begins no escape.
     BadLine,
     /// A line has the form of an event, but names no kind.
     BadKind,
-    /// A range ends before it starts, does not lie in the text on character boundaries, or ends at 2^32 or later.
+    /// A range ends before it starts, does not lie in the text on character boundaries, or ends at
+    /// 2^32 or later.
     BadRange,
     /// The root of the tree of an expression's text is not an expression.
     OtherRoot,

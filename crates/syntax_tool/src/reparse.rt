@@ -85,9 +85,15 @@ fn edit_parse(
     insert: &str,
 ) -> Result<(Option<TextRange>, Parse<SourceFile>), ParseError>
     requires { IsEditOf (text old.now.tree) (record { delete = delete; insert = insert.now }) }
-    ensures read { IfOk result (λ p. IsReread old.now (record { delete = delete; insert = insert.now }) p.0 p.1) }
-    ensures accepted { OnOk result (length (edited (text old.now.tree) (record { delete = delete; insert = insert.now })) < 2 ^ 32) }
-    ensures refused { IfErr result (λ e. (e ≡ TooLong) ↔ (2 ^ 32 ≤ length (edited (text old.now.tree) (record { delete = delete; insert = insert.now })))) }
+    ensures read { IfOk result
+        (λ p. IsReread old.now (record { delete = delete; insert = insert.now }) p.0 p.1) }
+    ensures accepted { OnOk result (length
+        (edited (text old.now.tree) (record { delete = delete; insert = insert.now }))
+        < 2 ^ 32) }
+    ensures refused { IfErr result (λ e. (e ≡ TooLong)
+        ↔ (2 ^ 32
+        ≤ length (edited (text old.now.tree)
+        (record { delete = delete; insert = insert.now })))) }
 {
     match old.incremental_reparse(alloc, &Tiny, delete, insert, Edition::CURRENT)? {
         Some((new, range)) => Ok((Some(range), new)),
@@ -107,8 +113,11 @@ fn edit_answer(
 ) -> Result<String, Refusal>
     requires { IsEditOf (text old.now.tree) (record { delete = delete; insert = insert.now }) }
     ensures { MatchResult result
-        (λ out. AnswersEdit old.now (record { delete = delete; insert = insert.now }) (Ok (string_bytes out)))
-        (λ e. (e ≡ Refusal.Memory) ⊎ AnswersEdit old.now (record { delete = delete; insert = insert.now }) (Err e)) }
+        (λ out.
+        AnswersEdit old.now (record { delete = delete; insert = insert.now })
+        (Ok (string_bytes out)))
+        (λ e. (e ≡ Refusal.Memory)
+        ⊎ AnswersEdit old.now (record { delete = delete; insert = insert.now }) (Err e)) }
 {
     let (piece, new) = edit_parse(alloc, old, delete, insert)?;
     Ok(report(alloc, piece, &new)?)

@@ -5,8 +5,8 @@ use std::process::ExitCode;
 use std::{env, io};
 use syntax_tool::run;
 
-// The command: the one argument, `events` without one. More arguments, or ones that can't be read, are the empty word,
-// which is no command.
+// The command: the one argument, `events` without one. More arguments, or ones that can't be read,
+// are the empty word, which is no command.
 fn main(rt: HostRuntime) -> ExitCode {
     let mut reader = rt.reader();
     let mut writer = io::writer(&rt);

@@ -1,5 +1,6 @@
-//! Edits of trees, texts of nodes, and siblings left to read: the results when memory suffices. That a replacement refuses
-//! a text that is too long is not tested, since that takes a text of 4 GiB.
+//! Edits of trees, texts of nodes, and siblings left to read: the results when memory suffices.
+//! That a replacement refuses a text that is too long is not tested, since that takes a text of 4
+//! GiB.
 use crate::ensure::ensure;
 use lossless_tree::{
     NodeOrToken, SyntaxElement, SyntaxKind, SyntaxNode, SyntaxToken, TextSize, TreeBuilder,

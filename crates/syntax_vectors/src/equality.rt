@@ -74,7 +74,8 @@ fn copies_of_iterators_go_their_own_way(rt: HostRuntime) -> Result<(), Fail> {
     Ok(())
 }
 
-// `repeat` requires a copy that can't fail: that these calls compile shows that each iterator, and an element, has one.
+// `repeat` requires a copy that can't fail: that these calls compile shows that each iterator, and
+// an element, has one.
 fn node_iterators_are_copied(root: &SyntaxNode) -> [bool; 5] {
     [
         repeat(root.ancestors()).next().is_some(),

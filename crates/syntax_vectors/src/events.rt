@@ -1,4 +1,5 @@
-//! The command `events`: lines to a dump or a refusal, and what becomes of readers and writers that fail.
+//! The command `events`: lines to a dump or a refusal, and what becomes of readers and writers that
+//! fail.
 use crate::streams::{Sink, Source};
 use std::alloc::Global;
 use std::fmt::Write;
@@ -85,7 +86,8 @@ fn texts_in_dumps(rt: HostRuntime) -> Result<(), Fail> {
         b"enter NAME\ntoken STRING \\r\\t\\\\\x00\x01\x1f\x7f\nexit\n",
         b"NAME@0..7\n  STRING@0..7 \"\\r\\t\\\\\\0\\u{1}\\u{1f}\\u{7f}\"\n",
     )?;
-    // The boundary from byte 21 on is after a character of two, three and four bytes; such characters are as they are.
+    // The boundary from byte 21 on is after a character of two, three and four bytes; such
+    // characters are as they are.
     expect_dump(
         &rt,
         b"enter NAME\ntoken COMMENT aaaaaaaaaaaaaaaaaaaa\xc3\xa9bbbb\nexit\n",

@@ -1,4 +1,5 @@
-//! Tests of what no contract of the crates below says, stored runs, and the examples of their documentation.
+//! Tests of what no contract of the crates below says, stored runs, and the examples of their
+//! documentation.
 #![tactic(auto)]
 
 #[cfg(test)]

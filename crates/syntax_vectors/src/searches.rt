@@ -1,11 +1,12 @@
-//! Searches of a tree by offset: worked rows, and every offset from every node of three small trees, compared with a plain slow
-//! program.
+//! Searches of a tree by offset: worked rows, and every offset from every node of three small
+//! trees, compared with a plain slow program.
 use crate::ensure::ensure_text;
 use lossless_tree::{SyntaxKind, SyntaxNode, SyntaxNodePtr, SyntaxToken, TextRange, TextSize};
 use plain_trees::{PlainTree, SUM};
 use std::test::Fail;
 
-// Trees with empty tokens and empty nodes at each end and in between; each node and token has a kind of its own.
+// Trees with empty tokens and empty nodes at each end and in between; each node and token has a
+// kind of its own.
 const TREES: [&str; 3] = [
     "( : ( ) ( ( ) :a : ( :bc ( : ) ) :d ) ( : ( ) ) :e ( ) : )",
     "( ( ( :ab ) ) ( ( ) ( ) ) ( ( ( : ) ) ) ( ( :c ) ( :d ( ) ) ) )",

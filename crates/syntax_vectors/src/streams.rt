@@ -1,8 +1,8 @@
 //! Readers and writers over memory that go in small steps and fail.
 use std::io::{self, ErrorKind, Read, Write};
 
-/// Gives some bytes, at most `step` at a time. One read fails, and a reader that then reads on gets the
-/// bytes that are left. It counts its reads, those at its end too.
+/// Gives some bytes, at most `step` at a time. One read fails, and a reader that then reads on gets
+/// the bytes that are left. It counts its reads, those at its end too.
 #[derive(Drop)]
 pub struct Source<'a> {
     rest: &'a [u8],

@@ -1,4 +1,5 @@
-//! Walks and steps among nodes and tokens: each call at each place of three small trees, compared with a plain slow program.
+//! Walks and steps among nodes and tokens: each call at each place of three small trees, compared
+//! with a plain slow program.
 use crate::ensure::ensure;
 use lossless_tree::{
     Direction, NodeOrToken, SyntaxElement, SyntaxKind, SyntaxNode, SyntaxToken, WalkEvent,
@@ -6,7 +7,8 @@ use lossless_tree::{
 use plain_trees::{Among, PlainTree, before, behind};
 use std::test::Fail;
 
-// Trees with empty tokens and empty nodes at each end and in between; each node and token has a kind of its own.
+// Trees with empty tokens and empty nodes at each end and in between; each node and token has a
+// kind of its own.
 const TREES: [&str; 3] = [
     "( : ( ) ( ( ) :a : ( :bc ( : ) ) :d ) ( : ( ) ) :e ( ) : )",
     "( ( ( :ab ) ) ( ( ) ( ) ) ( ( ( : ) ) ) ( ( :c ) ( :d ( ) ) ) )",

@@ -7,7 +7,8 @@ use Rattle.text_edit.specs.Replacements.{Replacement, InOrder, IsRangeOf, edited
 abbrev pub between : List ℕ → ℕ → ℕ → List ℕ
 between s a b = take (b - a) (drop a s)
 
--- byte n of the new text on is the new text of a replacement, which is replaced by the old text of its range
+-- byte n of the new text on is the new text of a replacement, which is replaced by the old text of
+-- its range
 abbrev pub inverse_at : List ℕ → ℕ → Replacement → Replacement
 inverse_at s n e = record { insert = between s e.delete.start e.delete.end; delete = record { start = n; end = n + length e.insert } }
 

@@ -24,7 +24,8 @@ insertion n s = record { insert = s; delete = record { start = n; end = n } }
 abbrev pub replaced : List ℕ → Replacement → List ℕ
 replaced s e = take e.delete.start s ++ (e.insert ++ drop e.delete.end s)
 
--- the text with each range replaced; the last one first, so that no range has moved when its turn comes
+-- the text with each range replaced; the last one first, so that no range has moved when its turn
+-- comes
 abbrev pub edited : List ℕ → List Replacement → List ℕ
 edited s [] = s
 edited s (e ∷ es) = replaced (edited s es) e
@@ -34,7 +35,8 @@ abbrev pub InOrder : ℕ → List Replacement → Type 0
 InOrder n [] = ⊤
 InOrder n (e ∷ es) = (n ≤ e.delete.start) × (e.delete.start ≤ e.delete.end) × InOrder e.delete.end es
 
--- two ranges overlap if each starts before the other ends; ranges that touch do not, nor two insertions at one place
+-- two ranges overlap if each starts before the other ends; ranges that touch do not, nor two
+-- insertions at one place
 abbrev pub Overlaps : Replacement → Replacement → Type 0
 Overlaps d e = (d.delete.start < e.delete.end) × (e.delete.start < d.delete.end)
 
@@ -75,20 +77,23 @@ pub record IsRangeOf (s : List ℕ) (e : Replacement) : Type 0 where
   pub start_boundary : IsCharBoundary s e.delete.start
   pub end_boundary : IsCharBoundary s e.delete.end
 
--- the replacements can be made: they are of ranges of the text, and the new text is shorter than 4 GiB
+-- the replacements can be made: they are of ranges of the text, and the new text is shorter than 4
+-- GiB
 pub record IsEditOf (s : List ℕ) (es : List Replacement) : Type 0 where
   pub ranges : All (IsRangeOf s) es
   pub short : length (edited s es) < 2 ^ 32
 
--- why they cannot be made. Each case excludes the others; memory is named only where nothing else is wrong
+-- why they cannot be made. Each case excludes the others; memory is named only where nothing else
+-- is wrong
 abbrev pub IsRefused : List ℕ → List Replacement → ApplyError → Type 0
 IsRefused s es PastEnd = Any (IsPastEnd s) es
 IsRefused s es InsideCharacter = All (λ e. e.delete.end ≤ length s) es × Any (IsInsideCharacter s) es
 IsRefused s es TooLong = All (IsRangeOf s) es × (2 ^ 32 ≤ length (edited s es))
 IsRefused s es Memory = IsEditOf s es
 
--- where byte n of the text is after the edit, if byte `at` has become byte `new` and the replacements come after it; none if what
--- stood there is replaced. At the start of a range, and where a text is inserted, an offset stays before it
+-- where byte n of the text is after the edit, if byte `at` has become byte `new` and the
+-- replacements come after it; none if what stood there is replaced. At the start of a range, and
+-- where a text is inserted, an offset stays before it
 abbrev pub moved_from : ℕ → ℕ → List Replacement → ℕ → Option ℕ
 moved_from at new [] n = Some (new + (n - at))
 moved_from at new (e ∷ es) n =

@@ -13,7 +13,8 @@ use std::collections::VecDeque;
 pub(crate) fn place_for(indels: &[Indel], start: usize) -> usize
     ensures within { result ≤ length indels.now }
     ensures before { (d : Replacement) → 0 < result → end_at indels.now (result - 1) d ≤ start }
-    ensures after { (d : Replacement) → result < length indels.now → start < end_at indels.now result d }
+    ensures after { (d : Replacement) → result < length indels.now
+        → start < end_at indels.now result d }
 {
     let mut at = indels.len();
     while at > 0 {
@@ -27,8 +28,10 @@ pub(crate) fn place_for(indels: &[Indel], start: usize) -> usize
 
 // Whether there is a range of this number that starts before an offset.
 pub(crate) fn starts_before(indels: &[Indel], at: usize, end: usize) -> bool
-    ensures yes { (d : Replacement) → IsTrue result → (at < length indels.now) × (begin_at indels.now at d < end) }
-    ensures no { (d : Replacement) → IsFalse result → at < length indels.now → end ≤ begin_at indels.now at d }
+    ensures yes { (d : Replacement) → IsTrue result
+        → (at < length indels.now) × (begin_at indels.now at d < end) }
+    ensures no { (d : Replacement) → IsFalse result → at < length indels.now
+        → end ≤ begin_at indels.now at d }
 {
     if at < indels.len() {
         indels[at].start() < end
@@ -96,7 +99,8 @@ fn is_mine_first(mine: &VecDeque<Indel>, theirs: &VecDeque<Indel>) -> bool
 fn pop_first(mine: &mut VecDeque<Indel>, theirs: &mut VecDeque<Indel>) -> Option<Indel>
     requires { InOrder 0 theirs.old.items }
     ensures order { InOrder 0 theirs.new.items }
-    ensures first { IsPopped mine.old.items theirs.old.items result mine.new.items theirs.new.items }
+    ensures first { IsPopped mine.old.items theirs.old.items result mine.new.items
+        theirs.new.items }
 {
     if is_mine_first(mine, theirs) {
         mine.pop_front()

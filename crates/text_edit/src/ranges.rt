@@ -34,7 +34,8 @@ fn are_between_characters(indels: &[Indel], text: &str) -> bool
     true
 }
 
-// What a pass from the left has written after it copies some bytes and inserts others, if that fits in 64 bits.
+// What a pass from the left has written after it copies some bytes and inserts others, if that fits
+// in 64 bits.
 pub(crate) fn written(len: usize, copied: usize, inserted: usize) -> Option<usize>
     ensures { SomeIff result (len + copied + inserted < 2 ^ 64) (len + copied + inserted) }
 {
@@ -45,7 +46,8 @@ pub(crate) fn written(len: usize, copied: usize, inserted: usize) -> Option<usiz
 fn len_of_new(indels: &[Indel], text: &str) -> Option<usize>
     requires order { InOrder 0 indels.now }
     requires ranges { All (IsRangeOf text.now) indels.now }
-    ensures { SomeIff result (length (edited text.now indels.now) < 2 ^ 32) (length (edited text.now indels.now)) }
+    ensures { SomeIff result (length (edited text.now indels.now) < 2 ^ 32)
+        (length (edited text.now indels.now)) }
 {
     let mut at: usize = 0;
     let mut len: usize = 0;

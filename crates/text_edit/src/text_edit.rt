@@ -17,7 +17,8 @@ use std::mem;
 use std::slice::Iter;
 use text_size::{TextRange, TextSize};
 
-/// A set of disjoint replacements of a text, in the order of the text. A clause sees the list of them.
+/// A set of disjoint replacements of a text, in the order of the text. A clause sees the list of
+/// them.
 ///
 /// All ranges refer to the old text.
 #[derive(Drop)]
@@ -65,8 +66,8 @@ impl TextEdit {
         }
     }
 
-    /// The edit of replacements that are in the order of the text and do not overlap; [`TextEdit::add`] takes them in any order. Takes
-    /// constant time.
+    /// The edit of replacements that are in the order of the text and do not overlap;
+    /// [`TextEdit::add`] takes them in any order. Takes constant time.
     pub fn from_ordered(indels: Vec<Indel>) -> TextEdit
         requires { InOrder 0 indels.items }
         ensures { result ≡ indels.items }
@@ -91,7 +92,8 @@ impl TextEdit {
     ///
     /// `AllocError` if memory runs out; so for `insert` and `delete`.
     pub fn replace(alloc: Global, range: TextRange, text: String) -> Result<TextEdit, AllocError>
-        ensures { IfOk result (λ edit. edit ≡ record { insert = string_bytes text; delete = range } ∷ []) }
+        ensures { IfOk result
+            (λ edit. edit ≡ record { insert = string_bytes text; delete = range } ∷ []) }
     {
         TextEdit::of(alloc, Indel::replace(range, text))
     }
@@ -139,15 +141,16 @@ impl TextEdit {
         self.indels.as_slice()
     }
 
-    /// Adds a replacement, in any order; its range refers to the old text. Ranges may touch, and insertions at one place stay in
-    /// the order of the calls.
+    /// Adds a replacement, in any order; its range refers to the old text. Ranges may touch, and
+    /// insertions at one place stay in the order of the calls.
     ///
-    /// Takes constant time (amortized) for a range after all others, and otherwise time linear in the number of ranges after it.
+    /// Takes constant time (amortized) for a range after all others, and otherwise time linear in
+    /// the number of ranges after it.
     ///
     /// # Errors
     ///
-    /// `Overlap` if its range overlaps one that is replaced already, and otherwise `Memory` if memory runs out. The edit is unchanged
-    /// then.
+    /// `Overlap` if its range overlaps one that is replaced already, and otherwise `Memory` if
+    /// memory runs out. The edit is unchanged then.
     pub fn add(&mut self, indel: Indel) -> Result<(), OverlapError>
         ensures ok { OnOk result (self.new ≡ with_one self.old indel) }
         ensures err { OnErr result (self.new ≡ self.old) }
@@ -162,13 +165,13 @@ impl TextEdit {
         insert_at(&mut self.indels, at, indel)
     }
 
-    /// Adds all replacements of another edit of the same text; where both insert at one place, its insertions go after. Takes time
-    /// linear in both edits.
+    /// Adds all replacements of another edit of the same text; where both insert at one place, its
+    /// insertions go after. Takes time linear in both edits.
     ///
     /// # Errors
     ///
-    /// `Overlap` if a range of the one overlaps a range of the other, and otherwise `Memory` if memory runs out. The edit is unchanged
-    /// then.
+    /// `Overlap` if a range of the one overlaps a range of the other, and otherwise `Memory` if
+    /// memory runs out. The edit is unchanged then.
     pub fn union(&mut self, alloc: Global, other: TextEdit) -> Result<(), OverlapError>
         ensures ok { OnOk result (self.new ≡ with_all self.old other) }
         ensures err { OnErr result (self.new ≡ self.old) }
@@ -187,8 +190,9 @@ impl TextEdit {
     ///
     /// # Errors
     ///
-    /// `PastEnd` if a range ends after the text, otherwise `InsideCharacter` if a range starts or ends inside a character, otherwise
-    /// `TooLong` if the new text would have 2^32 bytes or more, and otherwise `Memory` if memory runs out.
+    /// `PastEnd` if a range ends after the text, otherwise `InsideCharacter` if a range starts or
+    /// ends inside a character, otherwise `TooLong` if the new text would have 2^32 bytes or more,
+    /// and otherwise `Memory` if memory runs out.
     pub fn apply(&self, alloc: Global, text: &str) -> Result<String, ApplyError>
         ensures ok { IfOk result (λ new. string_bytes new ≡ edited text.now self.now) }
         ensures fits { OnOk result (IsEditOf text.now self.now) }
@@ -206,8 +210,8 @@ impl TextEdit {
         Ok(out)
     }
 
-    /// The edit of the new text that gives the old text back: it replaces each new text by what stood in its range. Takes time
-    /// linear in the text and the edit.
+    /// The edit of the new text that gives the old text back: it replaces each new text by what
+    /// stood in its range. Takes time linear in the text and the edit.
     ///
     /// # Errors
     ///
@@ -236,8 +240,9 @@ impl TextEdit {
         Ok(TextEdit { indels })
     }
 
-    /// Where an offset of the old text is after the edit, or `None` if it is inside a replaced range, or at 2^32 or later after the
-    /// edit. At the start of a range, or where a text is inserted, an offset stays before it.
+    /// Where an offset of the old text is after the edit, or `None` if it is inside a replaced
+    /// range, or at 2^32 or later after the edit. At the start of a range, or where a text is
+    /// inserted, an offset stays before it.
     pub fn apply_to_offset(&self, offset: TextSize) -> Option<TextSize>
         ensures { result ≡ fitting (moved_offset self.now offset) }
     {

@@ -105,7 +105,8 @@ impl TextRange {
 
     /// The range `offset` bytes later, or `None` if it would end past 32 bits.
     pub fn checked_add(self, offset: TextSize) -> Option<TextRange>
-        ensures { SomeIff result (self.end + offset < 2 ^ 32) (record { start = self.start + offset; end = self.end + offset }) }
+        ensures { SomeIff result (self.end + offset < 2 ^ 32)
+            (record { start = self.start + offset; end = self.end + offset }) }
     {
         let end = self.end.raw().checked_add(offset.raw())?;
         Some(TextRange {
@@ -116,7 +117,8 @@ impl TextRange {
 
     /// The range `offset` bytes earlier, or `None` if it would start before the text.
     pub fn checked_sub(self, offset: TextSize) -> Option<TextRange>
-        ensures { SomeIff result (offset ≤ self.start) (record { start = self.start - offset; end = self.end - offset }) }
+        ensures { SomeIff result (offset ≤ self.start)
+            (record { start = self.start - offset; end = self.end - offset }) }
     {
         let start = self.start.raw().checked_sub(offset.raw())?;
         Some(TextRange {

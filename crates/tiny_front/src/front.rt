@@ -12,9 +12,10 @@ use syntax_kind::SyntaxKind;
 use tiny_lexer::TinyLexer;
 use token_layout::{Outline, Parser, Span, SpanFront, Target, Token};
 
-/// A front end for a small part of Rust: functions without parameters, whose bodies are the only blocks; `let` bindings,
-/// statements; and expressions of literals, names, operators, references, parentheses, calls, method calls, fields, indexes, `?`,
-/// `.await`, ranges and casts. It takes time linear in the text, and no recursion.
+/// A front end for a small part of Rust: functions without parameters, whose bodies are the only
+/// blocks; `let` bindings, statements; and expressions of literals, names, operators, references,
+/// parentheses, calls, method calls, fields, indexes, `?`, `.await`, ranges and casts. It takes
+/// time linear in the text, and no recursion.
 pub const Tiny: SpanFront<TinyLexer, TinyParser> = SpanFront {
     lexer: TinyLexer,
     parser: TinyParser,

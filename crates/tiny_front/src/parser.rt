@@ -1,5 +1,5 @@
-//! The parser keeps a stack of goals. Each goal looks at the next token that is not trivia and makes one move. Nodes
-//! are reported as they end, inner ones before outer ones.
+//! The parser keeps a stack of goals. Each goal looks at the next token that is not trivia and
+//! makes one move. Nodes are reported as they end, inner ones before outer ones.
 ghost use Rattle.std.specs.Prelude.{◌≡◌, ◌↔◌, IsTrue, [], ◌+◌, ◌<◌, ◌≤◌, ◌*◌, ◌^◌, OnOk, IfOk, length, slice_get, option_map};
 ghost use Rattle.tiny_front.specs.Parsing.{class_at, len_at, complain_of, take_of, close_of, next_of, fail_of, apply_of, chosen_of, advance_of, meet_of, skip_of, is_trivia_of, first_state, outline_of, fuel_of, state_of};
 ghost use Rattle.tiny_front.specs.declared.goal.Next.TheVariants.{One};

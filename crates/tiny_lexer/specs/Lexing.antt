@@ -20,7 +20,8 @@ size_of w = if nat_lt (length w) (2 ^ 32) then length w else 0
 abbrev pub later_of : ℕ → ℕ → ℕ
 later_of a n = min (a + n) (2 ^ 32 - 1)
 
--- what the lexer holds: what it has read, and of the token that it reads the scan, the text and the start
+-- what the lexer holds: what it has read, and of the token that it reads the scan, the text and the
+-- start
 pub record Lexing : Type 0 where
   pub tokens : List Token
   pub complaints : List Complaint

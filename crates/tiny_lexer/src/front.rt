@@ -39,8 +39,8 @@ fn errors(alloc: Global, complaints: &[Complaint]) -> Result<Vec<SyntaxError>, A
 
 /// The lexer of the small front end.
 ///
-/// Its tokens cut every text of at most 4,294,967,295 bytes: each byte is in one of them, in order. Block comments don't nest. It takes
-/// time linear in the text.
+/// Its tokens cut every text of at most 4,294,967,295 bytes: each byte is in one of them, in order.
+/// Block comments don't nest. It takes time linear in the text.
 #[derive(Clone, Copy, Debug, Drop)]
 pub struct TinyLexer;
 

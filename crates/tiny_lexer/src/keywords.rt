@@ -14,7 +14,8 @@ fn has_await(edition: Edition) -> bool
     }
 }
 
-/// The kind of the keyword that the text is, or `None` if it is not one. `await` is one from 2018 on.
+/// The kind of the keyword that the text is, or `None` if it is not one. `await` is one from 2018
+/// on.
 pub fn keyword(text: &str, edition: Edition) -> Option<SyntaxKind>
     ensures { result ≡ keyword_of edition text.now }
 {

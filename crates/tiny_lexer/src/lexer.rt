@@ -173,7 +173,8 @@ pub fn lex(alloc: Global, text: &str, edition: Edition) -> Result<Lexed, AllocEr
     ensures tokens { IfOk result (λ l. l.tokens.items ≡ tokens_of edition text.now) }
     ensures complaints { IfOk result (λ l. l.complaints.items ≡ complaints_of edition text.now) }
     ensures cut { length text.now < 2 ^ 32 → IfOk result (λ l. IsCut l.tokens.items text.now) }
-    ensures lie { length text.now < 2 ^ 32 → IfOk result (λ l. All (ComplaintLiesIn (length text.now)) l.complaints.items) }
+    ensures lie { length text.now < 2 ^ 32
+        → IfOk result (λ l. All (ComplaintLiesIn (length text.now)) l.complaints.items) }
 {
     let lexed = finished(alloc, text, edition)?;
     Ok(lexed)

@@ -1,5 +1,5 @@
-//! What the characters of a token so far make of it. No token gives characters back, so the longest match is the one
-//! that goes on for as long as it can.
+//! What the characters of a token so far make of it. No token gives characters back, so the longest
+//! match is the one that goes on for as long as it can.
 ghost use Rattle.std.specs.Prelude.{◌≡◌};
 ghost use Rattle.tiny_lexer.specs.Scans.{is_space_of, is_digit_of, begin_mark_of, begin_of, goes_on_of, word_kind_of, scan_kind_of, problem_of};
 

@@ -1,13 +1,13 @@
--- A tree with many changes made at once: nodes and tokens put before, in the place of, after and inside its nodes and tokens.
--- (Upstream: the changes of rust-analyzer's `SyntaxEditor`.)
+-- A tree with many changes made at once: nodes and tokens put before, in the place of, after and
+-- inside its nodes and tokens. (Upstream: the changes of rust-analyzer's `SyntaxEditor`.)
 use Rattle.std.specs.Prelude.{ℕ, zero, suc, ◌<◌, ◌≤◌, length, get_or, List, [], ◌∷◌, Bool, false, if◌then◌else◌, Option, None, Some, refl}
 use Rattle.std.specs.Coded.{Coded, code_by, coded×, coded_bool, coded_list}
 use Rattle.tree_model.specs.Tree.{Tree, node, token, Forest, nil, cons, Place}
 use Rattle.tree_model.specs.Events.{append_forest}
 use Rattle.tree_model.specs.TreeCode.{tree_code}
 
--- what is done at one node or token: elements stand before it, in its place if it is replaced, and after it; and inside a node
--- that is not replaced, before its first child and after its last
+-- what is done at one node or token: elements stand before it, in its place if it is replaced, and
+-- after it; and inside a node that is not replaced, before its first child and after its last
 pub record Change : Type 0 where
   pub before : List Tree
   pub replaced : Bool

@@ -38,6 +38,7 @@ text_edit_of at t = nonempty (edits_of at t)
 abbrev pub ChangedText : Type 0
 ChangedText = (at : Place → Change) (t : Tree) → InOrder 0 (edits_of at t) × (text (changed at t) ≡ edited (text t) (edits_of at t))
 
--- where each token's text is UTF-8, the ranges are within the text of the tree, on character boundaries
+-- where each token's text is UTF-8, the ranges are within the text of the tree, on character
+-- boundaries
 abbrev pub EditsAreOfText : Type 0
 EditsAreOfText = (at : Place → Change) (t : Tree) → TextsAreUtf8 (cons t nil) → All (IsRangeOf (text t)) (text_edit_of at t)

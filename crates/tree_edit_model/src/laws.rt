@@ -3,8 +3,8 @@ ghost use Rattle.tree_edit_model.specs.Texts.{ChangedText, EditsAreOfText};
 ghost use Rattle.tree_edit_model.specs.Moved.{KeptPlacesMove, UnchangedStays};
 ghost use Rattle.tree_edit_model.specs.Single.{OneChangeReplaces};
 
-/// The text of a tree with changes is the old text with the edit that the changes are: its ranges are in order and do not overlap. So
-/// each byte outside of them stays.
+/// The text of a tree with changes is the old text with the edit that the changes are: its ranges
+/// are in order and do not overlap. So each byte outside of them stays.
 pub fn changed_text()
     ensures { ChangedText }
 {}
@@ -14,8 +14,8 @@ pub fn edits_are_of_text()
     ensures { EditsAreOfText }
 {}
 
-/// What is not replaced, nor inside something that is, is found at its new place: the same node or token, with the changes inside it
-/// made. So a subtree without changes is unchanged.
+/// What is not replaced, nor inside something that is, is found at its new place: the same node or
+/// token, with the changes inside it made. So a subtree without changes is unchanged.
 pub fn kept_places_move()
     ensures { KeptPlacesMove }
 {}
@@ -25,7 +25,8 @@ pub fn unchanged_stays()
     ensures { UnchangedStays }
 {}
 
-/// One element in the place of another, not the root, is the tree with that place replaced: what `SyntaxNode::replace_with` returns.
+/// One element in the place of another, not the root, is the tree with that place replaced: what
+/// `SyntaxNode::replace_with` returns.
 pub fn one_change_replaces()
     ensures { OneChangeReplaces }
 {}

@@ -18,7 +18,8 @@ use Rattle.tree_edits.specs.Walked.{skip_after, AreChangesOf}
 use Rattle.tree_edits.specs.Edited.{edits_within, edits_entered, edits_left, edits_after, edits_walked, IsEditedStep}
 use Rattle.tree_edits.proofs.WalkLemmas.{lifted, parts, map-lifted, cursor}
 
--- the trees and starts of the places from child number i on are those of the forest, which starts at byte b
+-- the trees and starts of the places from child number i on are those of the forest, which starts
+-- at byte b
 record Stands (g : Place → Tree) (st : Place → ℕ) (i b : ℕ) (f : Forest) : Type 0 where
   tree : (j : ℕ) (p : Place) → g ((i + j) ∷ p) ≡ subtree (child_at f j) p
   begin : (j : ℕ) (p : Place) → st ((i + j) ∷ p) ≡ b + (bytes_before f j + start (child_at f j) p)

@@ -20,7 +20,8 @@ new_row at t p = if is_kept at p then suc (row_of (cons (changed at t) nil) (0 �
 abbrev pub new_rows_of : (Place → Change) → Tree → List ℕ
 new_rows_of at t = map (new_row at t) (places t)
 
--- how many rows trees have; so where they are put into a place; and what entering and leaving a place adds
+-- how many rows trees have; so where they are put into a place; and what entering and leaving a
+-- place adds
 abbrev pub rows_in : List Tree → ℕ
 rows_in ts = forest_size (forest_from ts)
 
@@ -38,7 +39,8 @@ rows_left c t = rows_within t c.last + rows_in c.after
 abbrev pub row_entered : Change → ℕ → ℕ
 row_entered c n = if c.replaced then 0 else suc (n + rows_in c.before)
 
--- `row` is what the rest of a walk gives, where n rows are made, and s levels are open below a place that is replaced
+-- `row` is what the rest of a walk gives, where n rows are made, and s levels are open below a
+-- place that is replaced
 abbrev pub IsCounted : (Place → Change) → (Place → ℕ) → ℕ → ℕ → List (Bool × Cursor) → Type 0
 IsCounted at row s n [] = ⊤
 IsCounted at row zero n ((true, d) ∷ w) = (row d.place ≡ row_entered (at d.place) n) × IsCounted at row (skip_after (at d.place)) (n + rows_entered (at d.place) (focus d)) w

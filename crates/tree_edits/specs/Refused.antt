@@ -73,7 +73,8 @@ pub record IsTaken (s : Session) (n : ℕ) (slot : Slot) : Type 0 where
   pub in_replaced : IsInReplaced s n → ⊥
   pub changed_inside : IsOverChange s n slot → ⊥
 
--- why it is not: the first reason that holds. Each case excludes the others; memory is named only where no reason holds
+-- why it is not: the first reason that holds. Each case excludes the others; memory is named only
+-- where no reason holds
 abbrev pub IsRefused : Session → ℕ → Slot → ChangeError → Type 0
 IsRefused s n slot Root = IsBesideRoot n slot
 IsRefused s n slot Token = (IsBesideRoot n slot → ⊥) × IsIntoToken s n slot

@@ -1,4 +1,5 @@
--- Rows without changes between others: their steps, and where the texts of their tokens are in the text of the tree.
+-- Rows without changes between others: their steps, and where the texts of their tokens are in the
+-- text of the tree.
 use Rattle.std.specs.Prelude.{◌≡◌, ◌≤◌, ◌-◌, ℕ, true, List, [], ◌∷◌, ◌++◌, take, drop, map, length, Option, None, Some, if◌then◌else◌, nat_lt, ⊤, IsUtf8}
 use Rattle.tree_model.specs.Tree.{Tree, node, token, Place, size, text}
 use Rattle.tree_model.specs.Rows.{tree_at, start_at, end_at}
@@ -36,8 +37,8 @@ AreTexts (enter k ∷ es) = AreTexts es
 AreTexts (leaf k t ∷ es) = IsUtf8 t × AreTexts es
 AreTexts (exit ∷ es) = AreTexts es
 
--- a walk over rows without changes goes on from one state to another; its steps are appended, and the texts of its tokens are
--- those of the tree between where it was and where it is
+-- a walk over rows without changes goes on from one state to another; its steps are appended, and
+-- the texts of its tokens are those of the tree between where it was and where it is
 pub record AreUnchanged (at : Place → Change) (tree : Tree) (old new : List BuilderEvent) (next inner : ℕ) (to : Reached) : Type 0 where
   pub events : List Event
   pub steps : new ≡ old ++ map step_of events

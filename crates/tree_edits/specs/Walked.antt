@@ -41,7 +41,8 @@ walked at (suc s) ((true, d) ∷ w) = walked at (suc (suc s)) w
 walked at (suc zero) ((false, d) ∷ w) = events_from_all (at d.place).after ++ walked at 0 w
 walked at (suc (suc s)) ((false, d) ∷ w) = walked at (suc s) w
 
--- the changes of the rows are those at their places; there is none before, after or in the place of the root
+-- the changes of the rows are those at their places; there is none before, after or in the place of
+-- the root
 pub record AreChangesOf (at : Place → Change) (tree : Tree) (marks : List ℕ) (changes : List Change) : Type 0 where
   pub long : length marks ≡ size tree
   pub each : (n : ℕ) → n < size tree → at (place_at tree n) ≡ change_at marks changes n
@@ -59,7 +60,8 @@ pub record IsOneNode (es : List Event) : Type 0 where
 pub record Stepped (at : Place → Change) (out new : List Event) (enters : Bool) (d : Cursor) (s t : ℕ) : Type 0 where
   pub made : (rest : List (Bool × Cursor)) → new ++ walked at t rest ≡ out ++ walked at s ((enters, d) ∷ rest)
 
--- a walk with s levels open in a place that is replaced goes on from one state to another, and what its steps between add is appended
+-- a walk with s levels open in a place that is replaced goes on from one state to another, and what
+-- its steps between add is appended
 pub record IsWalkedOn (at : Place → Change) (tree : Tree) (out new : List Event) (s next : ℕ) (o : Option ℕ) (after : ℕ) (o' : Option ℕ) : Type 0 where
   pub walks : IsWalk tree 0 after o'
   pub made : new ++ walked at s (walk_left tree 0 after o') ≡ out ++ walked at s (walk_left tree 0 next o)

@@ -35,7 +35,15 @@ impl Model for RowChange {
 
     ghost coded = { change_code };
 
-    ghost view = { λ c. record { before = c.before.items; replaced = c.replaced; instead = c.instead.items; first = c.first.items; last = c.last.items; after = c.after.items } };
+    ghost view = { λ c.
+        record {
+          before = c.before.items;
+          replaced = c.replaced;
+          instead = c.instead.items;
+          first = c.first.items;
+          last = c.last.items;
+          after = c.after.items;
+        } };
 }
 
 impl RowChange {
@@ -147,7 +155,8 @@ pub(crate) struct RowChanges {
 impl RowChanges {
     // No changes of so many rows.
     pub fn new(alloc: Global, count: usize) -> Result<RowChanges, AllocError>
-        ensures { IfOk result (λ all. (length all.marks.items ≡ count) × (length all.changes.items ≡ 0)) }
+        ensures { IfOk result
+            (λ all. (length all.marks.items ≡ count) × (length all.changes.items ≡ 0)) }
     {
         let mut marks = Vec::with_capacity(alloc, count)?;
         for _row in 0..count {
@@ -162,7 +171,8 @@ impl RowChanges {
     // The change of a row, if it has one.
     pub(crate) fn at(&self, row: usize) -> Option<&RowChange>
         requires { row < length self.now.marks.items }
-        ensures { change_or_none (option_copied result) ≡ change_at self.now.marks.items self.now.changes.items row }
+        ensures { change_or_none (option_copied result)
+            ≡ change_at self.now.marks.items self.now.changes.items row }
     {
         let mark = self.marks[row];
         if mark == 0 {
@@ -175,7 +185,8 @@ impl RowChanges {
     // Whether something is changed at a row.
     pub fn is_changed(&self, row: usize) -> bool
         requires { row < length self.now.marks.items }
-        ensures { IsFalse result ↔ (change_at self.now.marks.items self.now.changes.items row ≡ no_change) }
+        ensures { IsFalse result
+            ↔ (change_at self.now.marks.items self.now.changes.items row ≡ no_change) }
     {
         match self.at(row) {
             Some(change) => !change.is_none(),
@@ -186,7 +197,8 @@ impl RowChanges {
     // Whether a child is put into the element at a row.
     pub fn has_new_child(&self, row: usize) -> bool
         requires { row < length self.now.marks.items }
-        ensures { IsFalse result ↔ HasNoNewChild (change_at self.now.marks.items self.now.changes.items row) }
+        ensures { IsFalse result
+            ↔ HasNoNewChild (change_at self.now.marks.items self.now.changes.items row) }
     {
         match self.at(row) {
             Some(change) => !change.has_no_new_child(),
@@ -209,7 +221,8 @@ impl RowChanges {
     fn number(&mut self, alloc: Global, row: usize) -> Result<usize, AllocError>
         requires { row < length self.old.marks.items }
         ensures ok { IfOk result (HasNumber self.new.marks.items self.new.changes.items row) }
-        ensures same { SameChanges self.old.marks.items self.old.changes.items self.new.marks.items self.new.changes.items }
+        ensures same { SameChanges self.old.marks.items self.old.changes.items self.new.marks.items
+            self.new.changes.items }
         ensures long { length self.new.marks.items ≡ length self.old.marks.items }
         ensures marked { KeepsMarks self.old.marks.items self.new.marks.items }
     {
@@ -232,8 +245,10 @@ impl RowChanges {
         elements: Vec<Element>,
     ) -> Result<(), AllocError>
         requires { HasNumber self.old.marks.items self.old.changes.items row number }
-        ensures ok { OnOk result (IsAdded self.old.marks.items self.old.changes.items row slot elements.items self.new.marks.items self.new.changes.items) }
-        ensures err { OnErr result (SameChanges self.old.marks.items self.old.changes.items self.new.marks.items self.new.changes.items) }
+        ensures ok { OnOk result (IsAdded self.old.marks.items self.old.changes.items row slot
+            elements.items self.new.marks.items self.new.changes.items) }
+        ensures err { OnErr result (SameChanges self.old.marks.items self.old.changes.items
+            self.new.marks.items self.new.changes.items) }
         ensures long { length self.new.marks.items ≡ length self.old.marks.items }
         ensures marked { KeepsMarks self.old.marks.items self.new.marks.items }
     {
@@ -244,7 +259,8 @@ impl RowChanges {
     fn delete(&mut self, row: usize)
         requires is_row { row < length self.old.marks.items }
         requires marked { IsMarked self.old.marks.items row }
-        ensures ok { IsAdded self.old.marks.items self.old.changes.items row Instead [] self.new.marks.items self.new.changes.items }
+        ensures ok { IsAdded self.old.marks.items self.old.changes.items row Instead []
+            self.new.marks.items self.new.changes.items }
         ensures long { length self.new.marks.items ≡ length self.old.marks.items }
         ensures marked { KeepsMarks self.old.marks.items self.new.marks.items }
     {
@@ -256,7 +272,8 @@ impl RowChanges {
     fn number_all(&mut self, alloc: Global, rows: &[usize]) -> Result<(), AllocError>
         requires { AreBelow (length self.old.marks.items) rows.now }
         ensures ok { OnOk result (AreMarked self.new.marks.items rows.now) }
-        ensures same { SameChanges self.old.marks.items self.old.changes.items self.new.marks.items self.new.changes.items }
+        ensures same { SameChanges self.old.marks.items self.old.changes.items self.new.marks.items
+            self.new.changes.items }
         ensures long { length self.new.marks.items ≡ length self.old.marks.items }
     {
         for row in rows {
@@ -269,7 +286,8 @@ impl RowChanges {
     fn delete_all(&mut self, rows: &[usize])
         requires are_rows { AreBelow (length self.old.marks.items) rows.now }
         requires marked { AreMarked self.old.marks.items rows.now }
-        ensures ok { rows_of self.new.marks.items self.new.changes.items ≡ deleted (rows_of self.old.marks.items self.old.changes.items) rows.now }
+        ensures ok { rows_of self.new.marks.items self.new.changes.items
+            ≡ deleted (rows_of self.old.marks.items self.old.changes.items) rows.now }
         ensures long { length self.new.marks.items ≡ length self.old.marks.items }
     {
         for row in rows {
@@ -277,8 +295,8 @@ impl RowChanges {
         }
     }
 
-    // Puts elements in the place of the element at a row, and deletes those at others; if memory runs out, each row has the change that
-    // it had.
+    // Puts elements in the place of the element at a row, and deletes those at others; if memory
+    // runs out, each row has the change that it had.
     pub fn replace_run(
         &mut self,
         alloc: Global,
@@ -288,8 +306,11 @@ impl RowChanges {
     ) -> Result<(), AllocError>
         requires is_row { first < length self.old.marks.items }
         requires are_rows { AreBelow (length self.old.marks.items) others.now }
-        ensures ok { OnOk result (rows_of self.new.marks.items self.new.changes.items ≡ run_replaced (rows_of self.old.marks.items self.old.changes.items) first others.now elements.items) }
-        ensures err { OnErr result (SameChanges self.old.marks.items self.old.changes.items self.new.marks.items self.new.changes.items) }
+        ensures ok { OnOk result (rows_of self.new.marks.items self.new.changes.items
+            ≡ run_replaced (rows_of self.old.marks.items self.old.changes.items) first
+            others.now elements.items) }
+        ensures err { OnErr result (SameChanges self.old.marks.items self.old.changes.items
+            self.new.marks.items self.new.changes.items) }
         ensures long { length self.new.marks.items ≡ length self.old.marks.items }
     {
         self.number_all(alloc, others)?;
@@ -308,8 +329,10 @@ impl RowChanges {
         elements: Vec<Element>,
     ) -> Result<(), AllocError>
         requires { row < length self.old.marks.items }
-        ensures ok { OnOk result (IsAdded self.old.marks.items self.old.changes.items row slot elements.items self.new.marks.items self.new.changes.items) }
-        ensures err { OnErr result (SameChanges self.old.marks.items self.old.changes.items self.new.marks.items self.new.changes.items) }
+        ensures ok { OnOk result (IsAdded self.old.marks.items self.old.changes.items row slot
+            elements.items self.new.marks.items self.new.changes.items) }
+        ensures err { OnErr result (SameChanges self.old.marks.items self.old.changes.items
+            self.new.marks.items self.new.changes.items) }
         ensures long { length self.new.marks.items ≡ length self.old.marks.items }
     {
         let number = self.number(alloc, row)?;
@@ -325,8 +348,12 @@ impl RowChanges {
     ) -> Result<bool, AllocError>
         requires is_row { row < size table.now }
         requires has_row { row < length self.now.marks.items }
-        ensures events { OnOk result (out.new ≡ out.old ++ entered (change_at self.now.marks.items self.now.changes.items row) (tree_at table.now row)) }
-        ensures replaced { IfOk result (λ yes. yes ≡ (change_at self.now.marks.items self.now.changes.items row).replaced) }
+        ensures events { OnOk result (out.new
+            ≡ out.old
+            ++ entered (change_at self.now.marks.items self.now.changes.items row)
+            (tree_at table.now row)) }
+        ensures replaced { IfOk result
+            (λ yes. yes ≡ (change_at self.now.marks.items self.now.changes.items row).replaced) }
     {
         match self.at(row) {
             Some(change) => {
@@ -349,7 +376,10 @@ impl RowChanges {
     ) -> Result<(), AllocError>
         requires is_row { row < size table.now }
         requires has_row { row < length self.now.marks.items }
-        ensures { OnOk result (out.new ≡ out.old ++ left (change_at self.now.marks.items self.now.changes.items row) (tree_at table.now row)) }
+        ensures { OnOk result (out.new
+            ≡ out.old
+            ++ left (change_at self.now.marks.items self.now.changes.items row)
+            (tree_at table.now row)) }
     {
         match self.at(row) {
             Some(change) => change.push_left(out, table, row),
@@ -360,7 +390,10 @@ impl RowChanges {
     // Appends what stands after a row that is replaced.
     pub(crate) fn push_after(&self, out: &mut Steps, row: usize) -> Result<(), AllocError>
         requires { row < length self.now.marks.items }
-        ensures { OnOk result (out.new ≡ out.old ++ events_from_all (change_at self.now.marks.items self.now.changes.items row).after) }
+        ensures { OnOk result (out.new
+            ≡ out.old
+            ++ events_from_all
+            (change_at self.now.marks.items self.now.changes.items row).after) }
     {
         match self.at(row) {
             Some(change) => push_all(out, change.after.as_slice()),

@@ -36,7 +36,8 @@ impl Model for Changes {
 
     ghost coded = { session_code };
 
-    ghost view = { λ c. record { tree = c.table.value; rows = rows_of c.rows.marks.items c.rows.changes.items } };
+    ghost view = { λ c.
+        record { tree = c.table.value; rows = rows_of c.rows.marks.items c.rows.changes.items } };
 
     ghost invariant = { λ c. AreRowsOf c.table.value c.rows.marks.items c.rows.changes.items };
 }
@@ -177,12 +178,13 @@ impl Changes {
         }
     }
 
-    /// Whether a change at a row is taken. Takes time linear in the depth of the row, and for `Instead` in the number of rows inside
-    /// it too.
+    /// Whether a change at a row is taken. Takes time linear in the depth of the row, and for
+    /// `Instead` in the number of rows inside it too.
     ///
     /// # Errors
     ///
-    /// The first of the variants of `ChangeError`, from `Root` to `ChangedInside`, whose condition holds.
+    /// The first of the variants of `ChangeError`, from `Root` to `ChangedInside`, whose condition
+    /// holds.
     pub fn check(&self, row: usize, slot: Slot) -> Result<(), ChangeError>
         requires { row < size self.now.tree }
         ensures ok { OnOk result (IsTaken self.now row slot) }
@@ -206,12 +208,13 @@ impl Changes {
         Ok(())
     }
 
-    /// Adds elements at a row, after those that were added there before; `Instead` with none deletes it. Takes the time of
-    /// [`Changes::check`].
+    /// Adds elements at a row, after those that were added there before; `Instead` with none
+    /// deletes it. Takes the time of [`Changes::check`].
     ///
     /// # Errors
     ///
-    /// Those of [`Changes::check`], and otherwise `Memory` if memory runs out. Nothing is changed then.
+    /// Those of [`Changes::check`], and otherwise `Memory` if memory runs out. Nothing is changed
+    /// then.
     pub fn add(
         &mut self,
         alloc: Global,
@@ -281,13 +284,15 @@ impl Changes {
         Ok(())
     }
 
-    /// Puts elements in the place of the run of siblings from one row to another, both included; with none, it deletes them. Takes the
-    /// time of [`Changes::check`] for each of them, and constant time for each sibling after the first.
+    /// Puts elements in the place of the run of siblings from one row to another, both included;
+    /// with none, it deletes them. Takes the time of [`Changes::check`] for each of them, and
+    /// constant time for each sibling after the first.
     ///
     /// # Errors
     ///
-    /// `NotSiblings` if the last row is neither the first nor one of its later siblings; otherwise the reason of the first element of
-    /// the run that may not be replaced; and `Memory` if memory runs out. Nothing is changed then.
+    /// `NotSiblings` if the last row is neither the first nor one of its later siblings; otherwise
+    /// the reason of the first element of the run that may not be replaced; and `Memory` if memory
+    /// runs out. Nothing is changed then.
     pub fn replace_all(
         &mut self,
         alloc: Global,
@@ -306,8 +311,9 @@ impl Changes {
         self.put_run(alloc, first, others.as_slice(), elements)
     }
 
-    /// The edit of the text that the changes are, without replacements that change nothing; its ranges are within the text of the tree,
-    /// on character boundaries. Takes time linear in the tree and the texts of the elements.
+    /// The edit of the text that the changes are, without replacements that change nothing; its
+    /// ranges are within the text of the tree, on character boundaries. Takes time linear in the
+    /// tree and the texts of the elements.
     ///
     /// # Errors
     ///
@@ -323,8 +329,8 @@ impl Changes {
         Ok(TextEdit::from_ordered(indels))
     }
 
-    /// The number of each row in the new tree, counted from 1, or 0 for a row that is replaced or inside one that is. Takes time
-    /// linear in the tree and the number of elements.
+    /// The number of each row in the new tree, counted from 1, or 0 for a row that is replaced or
+    /// inside one that is. Takes time linear in the tree and the number of elements.
     ///
     /// # Errors
     ///
@@ -335,7 +341,8 @@ impl Changes {
         new_rows(alloc, self.table.as_ref(), &self.rows)
     }
 
-    /// The table of the tree with the changes made. Takes time linear in the old tree and the elements.
+    /// The table of the tree with the changes made. Takes time linear in the old tree and the
+    /// elements.
     ///
     /// # Errors
     ///

@@ -33,7 +33,8 @@ fn push_edit(
     range: TextRange,
     elements: &[Element],
 ) -> Result<(), AllocError>
-    ensures { OnOk result (out.new.items ≡ out.old.items ++ nonempty (put range.start range.end elements.now ∷ [])) }
+    ensures { OnOk result
+        (out.new.items ≡ out.old.items ++ nonempty (put range.start range.end elements.now ∷ [])) }
 {
     let indel = Indel::replace(range, text_of(alloc, elements)?);
     if indel.is_empty() {
@@ -53,7 +54,9 @@ fn push_within(
     elements: &[Element],
 ) -> Result<(), AllocError>
     requires { row < size table.now }
-    ensures { OnOk result (out.new.items ≡ out.old.items ++ nonempty (edits_within (tree_at table.now row) offset elements.now)) }
+    ensures { OnOk result (out.new.items
+        ≡ out.old.items
+        ++ nonempty (edits_within (tree_at table.now row) offset elements.now)) }
 {
     if table.is_token_at(row) {
         Ok(())
@@ -72,7 +75,10 @@ impl RowChange {
         row: usize,
     ) -> Result<(), AllocError>
         requires { row < size table.now }
-        ensures { OnOk result (out.new.items ≡ out.old.items ++ nonempty (edits_entered self.now (tree_at table.now row) (start_at table.now row))) }
+        ensures { OnOk result (out.new.items
+            ≡ out.old.items
+            ++ nonempty
+            (edits_entered self.now (tree_at table.now row) (start_at table.now row))) }
     {
         let range = table.range_at(row);
         let start = range.start();
@@ -92,7 +98,10 @@ impl RowChange {
         row: usize,
     ) -> Result<(), AllocError>
         requires { row < size table.now }
-        ensures { OnOk result (out.new.items ≡ out.old.items ++ nonempty (edits_left self.now (tree_at table.now row) (start_at table.now row))) }
+        ensures { OnOk result (out.new.items
+            ≡ out.old.items
+            ++ nonempty
+            (edits_left self.now (tree_at table.now row) (start_at table.now row))) }
     {
         let end = table.range_at(row).end();
         push_within(alloc, out, table, row, end, self.last.as_slice())?;
@@ -108,7 +117,10 @@ impl RowChange {
         row: usize,
     ) -> Result<(), AllocError>
         requires { row < size table.now }
-        ensures { OnOk result (out.new.items ≡ out.old.items ++ nonempty (edits_after self.now (tree_at table.now row) (start_at table.now row))) }
+        ensures { OnOk result (out.new.items
+            ≡ out.old.items
+            ++ nonempty
+            (edits_after self.now (tree_at table.now row) (start_at table.now row))) }
     {
         let end = TextRange::empty(table.range_at(row).end());
         push_edit(alloc, out, end, self.after.as_slice())
@@ -126,8 +138,13 @@ impl RowChanges {
     ) -> Result<bool, AllocError>
         requires is_row { row < size table.now }
         requires has_row { row < length self.now.marks.items }
-        ensures edits { OnOk result (out.new.items ≡ out.old.items ++ nonempty (edits_entered (change_at self.now.marks.items self.now.changes.items row) (tree_at table.now row) (start_at table.now row))) }
-        ensures replaced { IfOk result (λ yes. yes ≡ (change_at self.now.marks.items self.now.changes.items row).replaced) }
+        ensures edits { OnOk result (out.new.items
+            ≡ out.old.items
+            ++ nonempty (edits_entered
+            (change_at self.now.marks.items self.now.changes.items row)
+            (tree_at table.now row) (start_at table.now row))) }
+        ensures replaced { IfOk result
+            (λ yes. yes ≡ (change_at self.now.marks.items self.now.changes.items row).replaced) }
     {
         match self.at(row) {
             Some(change) => {
@@ -148,7 +165,11 @@ impl RowChanges {
     ) -> Result<(), AllocError>
         requires is_row { row < size table.now }
         requires has_row { row < length self.now.marks.items }
-        ensures { OnOk result (out.new.items ≡ out.old.items ++ nonempty (edits_left (change_at self.now.marks.items self.now.changes.items row) (tree_at table.now row) (start_at table.now row))) }
+        ensures { OnOk result (out.new.items
+            ≡ out.old.items
+            ++ nonempty (edits_left
+            (change_at self.now.marks.items self.now.changes.items row)
+            (tree_at table.now row) (start_at table.now row))) }
     {
         match self.at(row) {
             Some(change) => change.push_edits_left(alloc, out, table, row),
@@ -166,7 +187,11 @@ impl RowChanges {
     ) -> Result<(), AllocError>
         requires is_row { row < size table.now }
         requires has_row { row < length self.now.marks.items }
-        ensures { OnOk result (out.new.items ≡ out.old.items ++ nonempty (edits_after (change_at self.now.marks.items self.now.changes.items row) (tree_at table.now row) (start_at table.now row))) }
+        ensures { OnOk result (out.new.items
+            ≡ out.old.items
+            ++ nonempty (edits_after
+            (change_at self.now.marks.items self.now.changes.items row)
+            (tree_at table.now row) (start_at table.now row))) }
     {
         match self.at(row) {
             Some(change) => change.push_edits_after(alloc, out, table, row),
@@ -175,7 +200,8 @@ impl RowChanges {
     }
 }
 
-// Appends what one step of a walk adds, where `skip` levels are open in a place that is replaced. Returns how many are open after.
+// Appends what one step of a walk adds, where `skip` levels are open in a place that is replaced.
+// Returns how many are open after.
 fn push_walked(
     alloc: Global,
     out: &mut Vec<Indel>,
@@ -185,10 +211,12 @@ fn push_walked(
     skip: usize,
 ) -> Result<usize, AllocError>
     ghost at: { Place → Change }
-    requires are_changes { AreChangesOf at table.now changes.now.marks.items changes.now.changes.items }
+    requires are_changes { AreChangesOf at table.now changes.now.marks.items
+        changes.now.changes.items }
     requires is_row { step.row < size table.now }
     requires fits { step.enters ≡ true → skip + 1 < 2 ^ 64 }
-    ensures made { IfOk result (IsEditedStep at out.old.items out.new.items step.enters (cursor_at table.now step.row) skip) }
+    ensures made { IfOk result (IsEditedStep at out.old.items out.new.items step.enters
+        (cursor_at table.now step.row) skip) }
     ensures level { IfOk result (λ after. after ≤ (if step.enters then skip + 1 else (skip - 1))) }
 {
     if step.enters {
@@ -216,7 +244,8 @@ pub(crate) fn edits(
     changes: &RowChanges,
 ) -> Result<Vec<Indel>, AllocError>
     ghost at: { Place → Change }
-    requires are_changes { AreChangesOf at table.now changes.now.marks.items changes.now.changes.items }
+    requires are_changes { AreChangesOf at table.now changes.now.marks.items
+        changes.now.changes.items }
     requires is_node { IsNode table.now }
     ensures { IfOk result (λ indels. indels.items ≡ text_edit_of at table.now) }
 {

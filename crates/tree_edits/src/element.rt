@@ -138,7 +138,8 @@ pub(crate) fn push_inside(
     elements: &[Element],
 ) -> Result<(), AllocError>
     requires { row < size table.now }
-    ensures { OnOk result (out.new ≡ out.old ++ events_inside (tree_at table.now row) elements.now) }
+    ensures { OnOk result
+        (out.new ≡ out.old ++ events_inside (tree_at table.now row) elements.now) }
 {
     if table.is_token_at(row) {
         Ok(())

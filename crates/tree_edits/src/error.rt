@@ -4,10 +4,12 @@ ghost use Rattle.tree_edits.specs.declared.error.ChangeError.TheVariants.{Memory
 
 use std::alloc::AllocError;
 
-/// Why a change is not taken, or the new tree not made. Of several reasons, the first of this list is named.
+/// Why a change is not taken, or the new tree not made. Of several reasons, the first of this list
+/// is named.
 #[derive(Clone, Copy, Debug, PartialEq, Eq, Drop, thiserror::Error)]
 pub enum ChangeError {
-    /// The position is one in another tree. Only a caller that knows positions of several trees says so.
+    /// The position is one in another tree. Only a caller that knows positions of several trees
+    /// says so.
     #[error("the position is in another tree")]
     OtherTree,
     /// The last element of a run is not the first one, nor a sibling after it.

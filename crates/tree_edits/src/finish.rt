@@ -15,7 +15,8 @@ use crate::steps::Steps;
 use std::alloc::{AllocError, Global};
 use tree_rows::Table;
 
-// Appends what one step of a walk adds, where `skip` levels are open in a place that is replaced. Returns how many are open after.
+// Appends what one step of a walk adds, where `skip` levels are open in a place that is replaced.
+// Returns how many are open after.
 fn push_walked(
     out: &mut Steps,
     table: &Table,
@@ -25,7 +26,8 @@ fn push_walked(
     skip: usize,
 ) -> Result<usize, AllocError>
     ghost at: { Place → Change }
-    requires are_changes { AreChangesOf at table.now changes.now.marks.items changes.now.changes.items }
+    requires are_changes { AreChangesOf at table.now changes.now.marks.items
+        changes.now.changes.items }
     requires is_row { row < size table.now }
     requires fits { enters ≡ true → skip + 1 < 2 ^ 64 }
     ensures made { IfOk result (Stepped at out.old out.new enters (cursor_at table.now row) skip) }
@@ -61,7 +63,8 @@ fn push_unchanged(
     skip: usize,
 ) -> Result<(usize, Option<usize>), AllocError>
     ghost at: { Place → Change }
-    requires are_changes { AreChangesOf at table.now changes.now.marks.items changes.now.changes.items }
+    requires are_changes { AreChangesOf at table.now changes.now.marks.items
+        changes.now.changes.items }
     requires walks { IsWalk table.now 0 next innermost }
     requires utf8 { TextsAreUtf8 (cons table.now nil) }
     ensures { IfOk result (λ after.
@@ -80,7 +83,8 @@ fn push_unchanged(
 // Appends the steps of the tree with its changes made.
 fn push_changed(out: &mut Steps, table: &Table, changes: &RowChanges) -> Result<(), AllocError>
     ghost at: { Place → Change }
-    requires are_changes { AreChangesOf at table.now changes.now.marks.items changes.now.changes.items }
+    requires are_changes { AreChangesOf at table.now changes.now.marks.items
+        changes.now.changes.items }
     requires is_node { IsNode table.now }
     requires utf8 { TextsAreUtf8 (cons table.now nil) }
     ensures { OnOk result (out.new ≡ out.old ++ events_of (changed_whole at table.now)) }
@@ -106,7 +110,8 @@ pub(crate) fn changed_table(
     changes: &RowChanges,
 ) -> Result<Table, ChangeError>
     ghost at: { Place → Change }
-    requires are_changes { AreChangesOf at table.now changes.now.marks.items changes.now.changes.items }
+    requires are_changes { AreChangesOf at table.now changes.now.marks.items
+        changes.now.changes.items }
     requires is_node { IsNode table.now }
     ensures ok { IfOk result (λ t. t ≡ changed at table.now) }
     ensures too_long { IsErrOf result TooLong → 2 ^ 32 ≤ length (text (changed at table.now)) }

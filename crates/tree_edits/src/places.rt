@@ -57,7 +57,8 @@ fn with_one(rows: usize) -> Result<usize, AllocError>
 impl RowChange {
     // How many rows are made once the row is entered, if it is replaced.
     fn count_instead(&self, rows: usize) -> Result<usize, AllocError>
-        ensures { IfOk result (λ n. n ≡ rows + (rows_in self.now.before + rows_in self.now.instead)) }
+        ensures { IfOk result
+            (λ n. n ≡ rows + (rows_in self.now.before + rows_in self.now.instead)) }
     {
         let rows = with_rows(rows, self.before.as_slice())?;
         with_rows(rows, self.instead.as_slice())
@@ -82,7 +83,8 @@ impl RowChange {
 }
 
 impl RowChange {
-    // Appends the row's number in the new tree, from 1, or 0 if it is replaced, and counts what entering it makes.
+    // Appends the row's number in the new tree, from 1, or 0 if it is replaced, and counts what
+    // entering it makes.
     fn push_row(
         &self,
         out: &mut Vec<usize>,
@@ -91,8 +93,10 @@ impl RowChange {
         row: usize,
     ) -> Result<Count, AllocError>
         requires { row < size table.now }
-        ensures number { OnOk result (out.new.items ≡ out.old.items ++ row_entered self.now rows ∷ []) }
-        ensures rows { IfOk result (λ after. after.rows ≡ rows + rows_entered self.now (tree_at table.now row)) }
+        ensures number { OnOk result
+            (out.new.items ≡ out.old.items ++ row_entered self.now rows ∷ []) }
+        ensures rows { IfOk result
+            (λ after. after.rows ≡ rows + rows_entered self.now (tree_at table.now row)) }
         ensures skip { IfOk result (λ after. after.skip ≡ skip_after self.now) }
     {
         if self.replaced {
@@ -118,9 +122,16 @@ impl RowChanges {
     ) -> Result<Count, AllocError>
         requires is_row { row < size table.now }
         requires has_row { row < length self.now.marks.items }
-        ensures number { OnOk result (out.new.items ≡ out.old.items ++ row_entered (change_at self.now.marks.items self.now.changes.items row) rows ∷ []) }
-        ensures rows { IfOk result (λ after. after.rows ≡ rows + rows_entered (change_at self.now.marks.items self.now.changes.items row) (tree_at table.now row)) }
-        ensures skip { IfOk result (λ after. after.skip ≡ skip_after (change_at self.now.marks.items self.now.changes.items row)) }
+        ensures number { OnOk result (out.new.items
+            ≡ out.old.items
+            ++ row_entered (change_at self.now.marks.items self.now.changes.items row) rows
+            ∷ []) }
+        ensures rows { IfOk result (λ after. after.rows
+            ≡ rows
+            + rows_entered (change_at self.now.marks.items self.now.changes.items row)
+            (tree_at table.now row)) }
+        ensures skip { IfOk result (λ after. after.skip
+            ≡ skip_after (change_at self.now.marks.items self.now.changes.items row)) }
     {
         match self.at(row) {
             Some(change) => change.push_row(out, rows, table, row),
@@ -139,7 +150,10 @@ impl RowChanges {
     fn count_left(&self, rows: usize, table: &Table, row: usize) -> Result<usize, AllocError>
         requires is_row { row < size table.now }
         requires has_row { row < length self.now.marks.items }
-        ensures { IfOk result (λ n. n ≡ rows + rows_left (change_at self.now.marks.items self.now.changes.items row) (tree_at table.now row)) }
+        ensures { IfOk result (λ n. n
+            ≡ rows
+            + rows_left (change_at self.now.marks.items self.now.changes.items row)
+            (tree_at table.now row)) }
     {
         match self.at(row) {
             Some(change) => change.count_left(rows, table, row),
@@ -150,7 +164,9 @@ impl RowChanges {
     // The same, if it is replaced.
     fn count_after(&self, rows: usize, row: usize) -> Result<usize, AllocError>
         requires { row < length self.now.marks.items }
-        ensures { IfOk result (λ n. n ≡ rows + rows_in (change_at self.now.marks.items self.now.changes.items row).after) }
+        ensures { IfOk result (λ n. n
+            ≡ rows
+            + rows_in (change_at self.now.marks.items self.now.changes.items row).after) }
     {
         match self.at(row) {
             Some(change) => with_rows(rows, change.after.as_slice()),
@@ -168,11 +184,15 @@ fn push_counted(
     count: Count,
 ) -> Result<Count, AllocError>
     ghost at: { Place → Change }
-    requires are_changes { AreChangesOf at table.now changes.now.marks.items changes.now.changes.items }
+    requires are_changes { AreChangesOf at table.now changes.now.marks.items
+        changes.now.changes.items }
     requires is_row { step.row < size table.now }
     requires fits { step.enters ≡ true → count.skip + 1 < 2 ^ 64 }
-    ensures made { IfOk result (λ after. IsCountedStep at (new_row at table.now) out.old.items out.new.items step.enters (cursor_at table.now step.row) count.skip count.rows after.skip after.rows) }
-    ensures level { IfOk result (λ after. after.skip ≤ (if step.enters then count.skip + 1 else (count.skip - 1))) }
+    ensures made { IfOk result (λ after.
+        IsCountedStep at (new_row at table.now) out.old.items out.new.items step.enters
+        (cursor_at table.now step.row) count.skip count.rows after.skip after.rows) }
+    ensures level { IfOk result
+        (λ after. after.skip ≤ (if step.enters then count.skip + 1 else (count.skip - 1))) }
 {
     if step.enters {
         if count.skip > 0 {
@@ -205,7 +225,8 @@ pub(crate) fn new_rows(
     changes: &RowChanges,
 ) -> Result<Vec<usize>, AllocError>
     ghost at: { Place → Change }
-    requires are_changes { AreChangesOf at table.now changes.now.marks.items changes.now.changes.items }
+    requires are_changes { AreChangesOf at table.now changes.now.marks.items
+        changes.now.changes.items }
     requires is_node { IsNode table.now }
     ensures { IfOk result (λ rows. rows.items ≡ new_rows_of at table.now) }
 {

@@ -80,7 +80,8 @@ impl Steps {
         Ok(())
     }
 
-    /// Appends the steps of a walk over rows of a table up to the next one with a change. Returns where it has come to.
+    /// Appends the steps of a walk over rows of a table up to the next one with a change. Returns
+    /// where it has come to.
     ///
     /// The texts of its tokens are appended at once: each by itself takes a third of the time.
     pub fn push_unchanged(
@@ -91,12 +92,14 @@ impl Steps {
         innermost: usize,
     ) -> Result<Reached, AllocError>
         ghost at: { Place → Change }
-        requires are_changes { AreChangesOf at table.now changes.now.marks.items changes.now.changes.items }
+        requires are_changes { AreChangesOf at table.now changes.now.marks.items
+            changes.now.changes.items }
         requires walks { IsWalk table.now 0 next (Some innermost) }
         requires is_node { IsNode (tree_at table.now innermost) }
         requires utf8 { TextsAreUtf8 (cons table.now nil) }
         ensures { IfOk result (λ to.
-            IsWalkedOn at table.now self.old self.new 0 next (Some innermost) to.next (Some to.innermost)) }
+            IsWalkedOn at table.now self.old self.new 0 next (Some innermost) to.next
+            (Some to.innermost)) }
     {
         let kept = self.steps.len();
         let start = offset_of(table, next);

@@ -11,8 +11,8 @@ use crate::change::RowChanges;
 use std::alloc::AllocError;
 use tree_rows::{BuilderEvent, Table};
 
-/// Where a walk has come to: the first row that is not entered yet, the innermost one that is not left, and the byte where the
-/// text of the tokens that were entered ends.
+/// Where a walk has come to: the first row that is not entered yet, the innermost one that is not
+/// left, and the byte where the text of the tokens that were entered ends.
 #[derive(Clone, Copy, Drop)]
 pub(crate) struct Reached {
     pub next: usize,
@@ -31,7 +31,8 @@ pub(crate) fn offset_of(table: &Table, row: usize) -> usize
     }
 }
 
-// Appends the step of entering a row, but not its text. Returns where the token's text ends; `None` for a node.
+// Appends the step of entering a row, but not its text. Returns where the token's text ends; `None`
+// for a node.
 #[inline(always)]
 fn push_row(
     steps: &mut Vec<BuilderEvent>,
@@ -56,8 +57,9 @@ fn push_row(
     }
 }
 
-/// Appends the steps of a walk up to the next row with a change, but not the texts of its tokens: these are one part of the text of
-/// the table, from where the first row starts to where the walk has come to.
+/// Appends the steps of a walk up to the next row with a change, but not the texts of its tokens:
+/// these are one part of the text of the table, from where the first row starts to where the walk
+/// has come to.
 // In a caller that is long, its variables would not stay in registers.
 #[inline(never)]
 pub(crate) fn push_rows(
@@ -68,11 +70,13 @@ pub(crate) fn push_rows(
     innermost: usize,
 ) -> Result<Reached, AllocError>
     ghost at: { Place → Change }
-    requires are_changes { AreChangesOf at table.now changes.now.marks.items changes.now.changes.items }
+    requires are_changes { AreChangesOf at table.now changes.now.marks.items
+        changes.now.changes.items }
     requires walks { IsWalk table.now 0 next (Some innermost) }
     requires is_node { IsNode (tree_at table.now innermost) }
     requires utf8 { TextsAreUtf8 (cons table.now nil) }
-    ensures ok { IfOk result (AreUnchanged at table.now steps.old.items steps.new.items next innermost) }
+    ensures ok { IfOk result
+        (AreUnchanged at table.now steps.old.items steps.new.items next innermost) }
     ensures kept { take (length steps.old.items) steps.new.items ≡ steps.old.items }
 {
     let mut row = next;

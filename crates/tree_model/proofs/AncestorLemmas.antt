@@ -15,7 +15,8 @@ at-step tree (i ∷ p) = ap (map (at_place (record { tree = tree; place = i ∷ 
 pub ancestors_of-step : (c : Cursor) → ancestors_of c ≡ c ∷ ancestors_from (parent_of c)
 ancestors_of-step c = at-step c.tree c.place
 
--- A step up: where a cursor is next, what is left is that cursor, and what is left from its parent on.
+-- A step up: where a cursor is next, what is left is that cursor, and what is left from its parent
+-- on.
 pub ancestors_from-step : (left : List Cursor) (next : Option Cursor) (c : Cursor) (up : Option Cursor) → ancestors_from next ≡ left → next ≡ Some c → up ≡ parent_of c → left ≡ c ∷ ancestors_from up
 ancestors_from-step left next c up is_left is_next is_up =
     sym is_left ∙ ap ancestors_from is_next ∙ ancestors_of-step c ∙ ap (λ p. c ∷ ancestors_from p) (sym is_up)

@@ -1,4 +1,5 @@
--- Each refusal in its own words: counts of enters and exits over fronts of the events, and what the events build.
+-- Each refusal in its own words: counts of enters and exits over fronts of the events, and what the
+-- events build.
 use Rattle.std.proofs.Common.{◌≡◌, ℕ, zero, suc, ◌+◌, ◌<◌, ◌≤◌, ◌^◌, List, [], ◌∷◌, ◌++◌, refl, sym, ap, subst, ◌∙◌, arith}
 use Rattle.std.specs.Prelude.{Option, None, Some, nat_lt, if◌then◌else◌, MatchOption}
 use Rattle.std.proofs.lemmas.Bool.Decides.{nat_tests}

@@ -33,7 +33,8 @@ pub length-spliced : (whole : Tree) (n : ℕ) (new : List ℕ) → n < size whol
     → length (splice (text whole) (start_at whole n) (end_at whole n) new) ≡ (length (text whole) - length (text (tree_at whole n))) + length new
 length-spliced whole n new h = omega (arith, length-splice (text whole) new (start_at whole n) (end_at whole n) (omega arith) (within_text whole n h), within_text whole n h)
 
--- a tree with a piece replaced has a node at its root, where the old piece was a token or the new one is a node
+-- a tree with a piece replaced has a node at its root, where the old piece was a token or the new
+-- one is a node
 pub root_after_token : (t : Tree) (p : Place) (u : Tree) → IsNode t → IsToken (subtree t p) → IsNode (replace t p u)
 root_after_token (token k x) p u h j = absurd h
 root_after_token (node k c) [] u h j = absurd j

@@ -157,7 +157,8 @@ unfolding Answered
 named_first es None e is w f = answered_none es w e f
 named_first es (Some d) e is w f = subst (λ x. refusal_of x ≡ Some d) (one_refusal es d e w f) (refusal_named es d is)
 
--- the first refusal that holds is the one that `first_refusal` finds; it finds none where want of memory alone is left
+-- the first refusal that holds is the one that `first_refusal` finds; it finds none where want of
+-- memory alone is left
 pub is_first_refusal : (es : List Event) (e : FinishError) → IsFirstRefusal es e → refusal_of e ≡ first_refusal es
 unfolding Answered
 is_first_refusal es e f = named_first es (first_refusal es) e refl (refusals_hold es) f

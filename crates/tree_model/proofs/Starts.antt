@@ -1,4 +1,5 @@
--- The starts of rows: they don't decrease with the row number, and a subtree's rows lie within its text.
+-- The starts of rows: they don't decrease with the row number, and a subtree's rows lie within its
+-- text.
 use Rattle.std.proofs.Common.{◌≡◌, ℕ, ◌+◌, ◌<◌, ◌≤◌, length, ap, arith, length-append, true, false}
 use Rattle.std.specs.Prelude.{nat_lt}
 use Rattle.std.proofs.lemmas.Bool.Decides.{nat_tests}

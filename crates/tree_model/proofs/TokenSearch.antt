@@ -1,4 +1,5 @@
--- The tokens at an offset, by rows: at most one that starts before it, and at most one that starts at it.
+-- The tokens at an offset, by rows: at most one that starts before it, and at most one that starts
+-- at it.
 use Rattle.std.proofs.Common.{◌≡◌, ℕ, zero, suc, ◌+◌, ◌-◌, ◌<◌, ◌≤◌, inl, inr, List, ◌∷◌, ◌++◌, length, map, refl, ap, ◌∙◌, arith, Bool, true, false, cond, []}
 use Rattle.std.specs.Prelude.{Option, Some, None, ◌&&◌, nat_lt, nat_le}
 use Rattle.std.specs.List.{filter}

@@ -1,5 +1,6 @@
--- The node or token that covers a range. (Upstream: `rowan`'s `SyntaxNode::covering_element`, which goes down while a
--- child's range contains the range. What covers an empty range is a rule of this crate.)
+-- The node or token that covers a range. (Upstream: `rowan`'s `SyntaxNode::covering_element`, which
+-- goes down while a child's range contains the range. What covers an empty range is a rule of this
+-- crate.)
 use Rattle.std.specs.Prelude.{ℕ, suc, ◌+◌, List, [], ◌∷◌, ◌++◌, length, Bool, ◌&&◌, nat_lt, nat_le, if◌then◌else◌, Option, Some, None, option_map, slice_index_or, ◌≤◌, Contains}
 use Rattle.std.specs.Option.{option_or}
 use Rattle.text_size.specs.TextRange.{Bounds}
@@ -27,14 +28,15 @@ abbrev pub first_number : List Bounds → Option ℕ
 first_number [] = None
 first_number (r ∷ rs) = Some 0
 
--- the child to go down to, by the children's ranges: the one that holds the range. Where none holds an empty range it is
--- the last that ends at or before it, or the first if there is none
+-- the child to go down to, by the children's ranges: the one that holds the range. Where none holds
+-- an empty range it is the last that ends at or before it, or the first if there is none
 abbrev pub child_towards : Bounds → List Bounds → Option ℕ
 child_towards asked ranges =
     option_or (last_with (holds asked) ranges)
     (if nat_lt asked.start asked.end then None else option_or (last_with (λ r. nat_le r.end asked.start) ranges) (first_number ranges))
 
--- down from a place while there is a child to go to: the places that are reached in each child are given
+-- down from a place while there is a child to go to: the places that are reached in each child are
+-- given
 abbrev pub below : Option ℕ → List Place → Place
 below None reached = []
 below (Some i) reached = i ∷ slice_index_or reached i []
@@ -54,8 +56,8 @@ covering_place asked (node k c) b = below (child_towards asked (child_ranges c b
 abbrev pub covering_of : Cursor → Bounds → Cursor
 covering_of c asked = at_place c (c.place ++ covering_place asked (focus c) (range_start c))
 
--- the element that covers a range is a place of the tree; if the range of the cursor that the search starts from contains
--- the range, so do the ranges of that element and of each node above it
+-- the element that covers a range is a place of the tree; if the range of the cursor that the
+-- search starts from contains the range, so do the ranges of that element and of each node above it
 abbrev pub CoveringHolds : Type 0
 CoveringHolds =
     (c : Cursor) (asked : Bounds) → IsPlace c.tree c.place → asked.start ≤ asked.end

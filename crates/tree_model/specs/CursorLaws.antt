@@ -13,7 +13,8 @@ FollowEachOther a b (c ∷ cs) = (range_start c ≡ a) × FollowEachOther (range
 abbrev pub ChildrenFillNodes : Type 0
 ChildrenFillNodes = (c : Cursor) → IsNode (focus c) → FollowEachOther (range_start c) (range_end c) (children_of c)
 
--- the test of equality is true of cursors at one place in equal trees, and of no others: so it is an equivalence
+-- the test of equality is true of cursors at one place in equal trees, and of no others: so it is
+-- an equivalence
 abbrev pub EqualityIsSameness : Type 0
 EqualityIsSameness = (c d : Cursor) → IsTrue (is_same_cursor c d) ↔ (c ≡ d)
 

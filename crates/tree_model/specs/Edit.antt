@@ -1,5 +1,5 @@
--- Texts and trees with one piece in the place of another.
--- (Upstream: `replace_with` of `rowan`'s `SyntaxNode` and `SyntaxToken`, and rust-analyzer's text edit `Indel`.)
+-- Texts and trees with one piece in the place of another. (Upstream: `replace_with` of `rowan`'s
+-- `SyntaxNode` and `SyntaxToken`, and rust-analyzer's text edit `Indel`.)
 use Rattle.std.specs.Prelude.{◌≡◌, ◌↔◌, ℕ, zero, suc, ◌+◌, ◌-◌, ◌≤◌, List, [], ◌∷◌, ◌++◌, length, take, drop, ⊤, ◌<◌}
 use Rattle.tree_model.specs.Cursor.{Cursor}
 use Rattle.tree_model.specs.Tree.{Tree, node, token, Forest, nil, cons, text, forest_of_children, child_at, child_count, Place, IsPlace, subtree, start}
@@ -47,7 +47,8 @@ text_behind t p = drop (end t p) (text t)
 abbrev pub PlacesAreReached : Type 0
 PlacesAreReached = (t : Tree) (p : Place) → IsPlace t p ↔ Within t p
 
--- the whole text is what precedes a place, at it and after it, and the place starts where the first part ends
+-- the whole text is what precedes a place, at it and after it, and the place starts where the first
+-- part ends
 abbrev pub TextAround : Type 0
 TextAround =
     (t : Tree) (p : Place) → IsPlace t p
@@ -67,7 +68,8 @@ ReplacedText =
     (t : Tree) (p : Place) (u : Tree) → IsPlace t p
     → (text (replace t p u) ≡ splice (text t) (start t p) (end t p) (text u)) × (subtree (replace t p u) p ≡ u) × (start (replace t p u) p ≡ start t p)
 
--- where the new piece's text is the old one's with bytes a to b of the whole text replaced, so is the new tree's
+-- where the new piece's text is the old one's with bytes a to b of the whole text replaced, so is
+-- the new tree's
 abbrev pub EditedInside : Type 0
 EditedInside =
     (t : Tree) (p : Place) (u : Tree) (a b : ℕ) (new : List ℕ) → IsPlace t p

@@ -1,5 +1,5 @@
--- Whether two trees, and two cursors, are the same.
--- (Upstream: `rowan`'s `SyntaxNode: PartialEq`; there two cursors are equal where they are at the same node of one tree in memory.)
+-- Whether two trees, and two cursors, are the same. (Upstream: `rowan`'s `SyntaxNode: PartialEq`;
+-- there two cursors are equal where they are at the same node of one tree in memory.)
 use Rattle.std.specs.Prelude.{ℕ, Bool, true, false, ◌==◌, ◌&&◌, List, ◌++◌}
 use Rattle.std.specs.Cmp.Lexicographic.{pointwise}
 use Rattle.std.specs.Hash as fed

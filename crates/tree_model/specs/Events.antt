@@ -11,8 +11,8 @@ pub data Event : Type 0 where
   leaf : SyntaxKind → List ℕ → Event
   exit : Event
 
--- the forest that events build, by cases: no events build no trees; a token event builds a token; the events between
--- entering a node and leaving it build the node's children
+-- the forest that events build, by cases: no events build no trees; a token event builds a token;
+-- the events between entering a node and leaving it build the node's children
 pub data Builds : List Event → Forest → Type 0 where
   nothing : Builds [] nil
   token_then : {k : SyntaxKind} {t : List ℕ} {rest : List Event} {f : Forest} → Builds rest f → Builds (leaf k t ∷ rest) (cons (token k t) f)
@@ -38,7 +38,8 @@ texts (enter k ∷ es) = texts es
 texts (leaf k t ∷ es) = t ++ texts es
 texts (exit ∷ es) = texts es
 
--- how many nodes are open after the events, if d are open before them; None if some prefix has more exits than that
+-- how many nodes are open after the events, if d are open before them; None if some prefix has more
+-- exits than that
 abbrev pub open_after : ℕ → List Event → Option ℕ
 open_after d [] = Some d
 open_after d (enter k ∷ es) = open_after (suc d) es
@@ -133,8 +134,8 @@ pub record BuildsToken (es : List Event) : Type 0 where
   pub its_text : List ℕ
   pub builds : Builds es (cons (token kind its_text) nil)
 
--- what each error means for the events: an error past the text never applies to events alone, and memory can run out with
--- any
+-- what each error means for the events: an error past the text never applies to events alone, and
+-- memory can run out with any
 abbrev pub Holds : FinishError → List Event → Type 0
 Holds TooLong es = 2 ^ 32 ≤ text_len es
 Holds OverClosed es = HasOverClosedFront 0 es
@@ -156,7 +157,8 @@ refusal_number TokenRoot = 6
 refusal_number ErrorPastText = 7
 refusal_number Memory = 8
 
--- the error applies, and none before it: so out of memory is returned only if no other error applies
+-- the error applies, and none before it: so out of memory is returned only if no other error
+-- applies
 pub record IsFirstRefusal (es : List Event) (e : FinishError) : Type 0 where
   pub holds : Holds e es
   pub first : (d : FinishError) → refusal_number d < refusal_number e → Holds d es → ⊥
@@ -167,8 +169,9 @@ pub record IsAccepted (es : List Event) : Type 0 where
   pub root : Tree
   pub builds : BuildsNode es root
 
--- what `first_refusal` computes is the first error that applies: over-closed and unclosed events are defined by counts of
--- enters and exits in prefixes of the list, the others by what the events build
+-- what `first_refusal` computes is the first error that applies: over-closed and unclosed events
+-- are defined by counts of enters and exits in prefixes of the list, the others by what the events
+-- build
 abbrev pub RefusalsHold : Type 0
 RefusalsHold = (es : List Event) → MatchOption (first_refusal es) (IsAccepted es) (IsFirstRefusal es)
 

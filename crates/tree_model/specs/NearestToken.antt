@@ -1,5 +1,5 @@
--- The tokens on one side of a token in its whole tree, and trivia, which a search among them may pass over.
--- (Trivia are rust-analyzer's: white space and comments.)
+-- The tokens on one side of a token in its whole tree, and trivia, which a search among them may
+-- pass over. (Trivia are rust-analyzer's: white space and comments.)
 use Rattle.std.specs.Prelude.{List, reverse, Bool, false, not}
 use Rattle.std.specs.List.{after_first, before_first}
 use Rattle.syntax_kind.specs.Kinds.{is_trivia}

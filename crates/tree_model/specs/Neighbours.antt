@@ -1,4 +1,5 @@
--- The parent and the next sibling of a place, and the tokens of a node among all tokens, by preorder.
+-- The parent and the next sibling of a place, and the tokens of a node among all tokens, by
+-- preorder.
 use Rattle.std.specs.Prelude.{◌≡◌, ◌↔◌, ℕ, ◌+◌, ◌<◌, ◌≤◌, List, ◌++◌, None, Some, nat_lt, if◌then◌else◌}
 use Rattle.std.specs.List.{filter}
 use Rattle.tree_model.specs.Tree.{Tree, IsPlace, size}

@@ -4,8 +4,8 @@ use Rattle.tree_model.specs.Tree.{text, IsPlace, IsNode}
 use Rattle.tree_model.specs.Cursor.{Cursor}
 use Rattle.tree_model.specs.Edit.{Within}
 
--- the place is one of the tree's, in the list and step by step; the root is a node; the whole text is UTF-8 of fewer than
--- 2^32 bytes
+-- the place is one of the tree's, in the list and step by step; the root is a node; the whole text
+-- is UTF-8 of fewer than 2^32 bytes
 pub record IsPlaced (c : Cursor) : Type 0 where
   pub is_place : IsPlace c.tree c.place
   pub within : Within c.tree c.place

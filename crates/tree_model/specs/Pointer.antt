@@ -25,13 +25,14 @@ pub data IsFirst (P : Cursor → Type 0) : List Cursor → Option Cursor → Typ
   here : {x : Cursor} {xs : List Cursor} → P x → IsFirst P (x ∷ xs) (Some x)
   later : {x : Cursor} {xs : List Cursor} {r : Option Cursor} → (P x → ⊥) → IsFirst P xs r → IsFirst P (x ∷ xs) r
 
--- from the root of a tree a pointer finds the first node in preorder with its kind and range; from any other node nothing
+-- from the root of a tree a pointer finds the first node in preorder with its kind and range; from
+-- any other node nothing
 pub record Finds (p : Pointer) (from : Cursor) (found : Option Cursor) : Type 0 where
   pub from_root : IsRoot from → IsFirst (PointsTo p) (descendants_of from) found
   pub from_below : (IsRoot from → ⊥) → found ≡ None
 
--- a pointer to a node that has a text, and that is the only one of its ancestors with its kind and range, finds that node
--- from the root
+-- a pointer to a node that has a text, and that is the only one of its ancestors with its kind and
+-- range, finds that node from the root
 abbrev pub PointersResolve : Type 0
 PointersResolve =
     (c : Cursor) (found : Option Cursor) → IsPlace c.tree c.place → IsNode (focus c) → 0 < length (text (focus c))

@@ -1,4 +1,5 @@
--- The places of a tree by their numbers in preorder, from 0: the numbers of their rows where a tree is kept as rows.
+-- The places of a tree by their numbers in preorder, from 0: the numbers of their rows where a tree
+-- is kept as rows.
 use Rattle.std.specs.Prelude.{ℕ, ◌+◌, length, ⊤, ◌<◌, ◌≤◌, get_or, IsUtf8, []}
 use Rattle.tree_model.specs.Tree.{Tree, node, token, Forest, nil, cons, no_tree, size, text, subtree, places, Place, start}
 

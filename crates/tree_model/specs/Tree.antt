@@ -1,5 +1,6 @@
--- The nested tree that every contract speaks of: trees, places, texts, starts, and the preorder list of places.
--- (Upstream: the tree that `rowan`'s `SyntaxNode` shows; here it is plain data, without sharing, offsets or parents.)
+-- The nested tree that every contract speaks of: trees, places, texts, starts, and the preorder
+-- list of places. (Upstream: the tree that `rowan`'s `SyntaxNode` shows; here it is plain data,
+-- without sharing, offsets or parents.)
 use Rattle.std.specs.Prelude.{ℕ, zero, suc, ◌+◌, ◌-◌, List, [], ◌∷◌, ◌++◌, length, map, reverse, Contains, Option, None, Some, nat_lt, if◌then◌else◌, ⊤, Bool, true, false}
 use Rattle.std.specs.List.{range_with_len}
 use Rattle.tree_model.specs.declared.direction.Direction.{Direction}
@@ -185,7 +186,8 @@ walk_from i nil = []
 walk_from i (cons (token k t) r) = (true, i ∷ []) ∷ ((false, i ∷ []) ∷ walk_from (suc i) r)
 walk_from i (cons (node k c) r) = (true, i ∷ []) ∷ (map (under i) (walk_from 0 c) ++ (false, i ∷ []) ∷ walk_from (suc i) r)
 
--- the walk of a tree in preorder: each place is entered (true), then its children are walked, then it is left (false)
+-- the walk of a tree in preorder: each place is entered (true), then its children are walked, then
+-- it is left (false)
 abbrev pub walk : Tree → List (Bool × Place)
 walk (node k c) = (true, []) ∷ (walk_from 0 c ++ (false, []) ∷ [])
 walk (token k t) = (true, []) ∷ ((false, []) ∷ [])

@@ -4,7 +4,8 @@ ghost use Rattle.tree_model.specs.declared.error.ReplaceError.TheVariants.{Memor
 
 use std::alloc::AllocError;
 
-/// Why a builder's events do not build a tree. If several variants apply, `finish` returns the first of them.
+/// Why a builder's events do not build a tree. If several variants apply, `finish` returns the
+/// first of them.
 #[derive(Clone, Copy, Debug, PartialEq, Eq, Hash, thiserror::Error)]
 pub enum FinishError {
     /// The text is longer than 4,294,967,295 bytes.
@@ -25,8 +26,8 @@ pub enum FinishError {
     /// The one top element is a token.
     #[error("the root is a token")]
     TokenRoot,
-    /// The position of an error is past the end of the text. Only a builder that takes errors returns this; `TreeBuilder`
-    /// never does.
+    /// The position of an error is past the end of the text. Only a builder that takes errors
+    /// returns this; `TreeBuilder` never does.
     #[error("an error is past the text")]
     ErrorPastText,
     /// Out of memory. All other variants take precedence.

@@ -1,12 +1,14 @@
-//! Laws of the definitions that contracts on trees cite. The functions do nothing: the contract is the law.
+//! Laws of the definitions that contracts on trees cite. The functions do nothing: the contract is
+//! the law.
 ghost use Rattle.tree_model.specs.CursorLaws.{ChildrenFillNodes, EqualityIsSameness, EqualCursorsHashAlike};
 ghost use Rattle.tree_model.specs.Edit.{PlacesAreReached, PlacesEndWithin, RootIsPlace, TextAround, ReplacedText, EditedInside};
 ghost use Rattle.tree_model.specs.Every.{EveryIsDescendants};
 ghost use Rattle.tree_model.specs.Events.{RefusalsHold, TextsAreBuilt, NodesAreAccepted};
 
-/// The error that a scan of the events from left to right finds is the first that applies: the text is too long, then some
-/// prefix of the events has more exits than enters, then there are more enters than exits in all, then the errors of the
-/// trees that balanced events build. If it finds none, the events build one node whose text is not too long.
+/// The error that a scan of the events from left to right finds is the first that applies: the text
+/// is too long, then some prefix of the events has more exits than enters, then there are more
+/// enters than exits in all, then the errors of the trees that balanced events build. If it finds
+/// none, the events build one node whose text is not too long.
 pub fn refusals_hold()
     ensures { RefusalsHold }
 {}
@@ -21,7 +23,8 @@ pub fn nodes_are_accepted()
     ensures { NodesAreAccepted }
 {}
 
-/// A place of a tree's list of places is one that can be reached from the root, one child after another.
+/// A place of a tree's list of places is one that can be reached from the root, one child after
+/// another.
 pub fn places_are_reached()
     ensures { PlacesAreReached }
 {}
@@ -41,13 +44,14 @@ pub fn text_around_a_place()
     ensures { TextAround }
 {}
 
-/// The text of a tree with a piece replaced is the spliced text, and the new piece is where the old one was.
+/// The text of a tree with a piece replaced is the spliced text, and the new piece is where the old
+/// one was.
 pub fn replaced_text()
     ensures { ReplacedText }
 {}
 
-/// Where the new piece's text is the old one's with some bytes replaced, the new tree's text is the old one's with the
-/// same bytes replaced.
+/// Where the new piece's text is the old one's with some bytes replaced, the new tree's text is the
+/// old one's with the same bytes replaced.
 pub fn edited_inside_a_piece()
     ensures { EditedInside }
 {}
@@ -57,7 +61,8 @@ pub fn children_fill_nodes()
     ensures { ChildrenFillNodes }
 {}
 
-/// Two cursors are equal exactly where both are at the same place in equal trees; so equality is an equivalence.
+/// Two cursors are equal exactly where both are at the same place in equal trees; so equality is an
+/// equivalence.
 pub fn equality_is_sameness()
     ensures { EqualityIsSameness }
 {}
@@ -67,7 +72,8 @@ pub fn equal_cursors_hash_alike()
     ensures { EqualCursorsHashAlike }
 {}
 
-/// A test of every node and token of a subtree is a test of each item of its `descendants_with_tokens`.
+/// A test of every node and token of a subtree is a test of each item of its
+/// `descendants_with_tokens`.
 pub fn every_is_descendants()
     ensures { EveryIsDescendants }
 {}

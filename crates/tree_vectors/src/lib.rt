@@ -45,9 +45,11 @@ pub fn is_same_element(a: &SyntaxElement, b: &SyntaxElement) -> bool
     *a == *b
 }
 
-/// The tokens of a node follow one another among those of its tree: a caller has the law from two calls.
+/// The tokens of a node follow one another among those of its tree: a caller has the law from two
+/// calls.
 pub fn tokens_of_node(node: &SyntaxNode)
-    ensures { (front : List Cursor) × (back : List Cursor) × (all_tokens node.now ≡ front ++ (filter at_token (descendants_of node.now) ++ back)) }
+    ensures { (front : List Cursor) × (back : List Cursor)
+        × (all_tokens node.now ≡ front ++ (filter at_token (descendants_of node.now) ++ back)) }
 {
     node_is_placed(node);
     tokens_stand_together();

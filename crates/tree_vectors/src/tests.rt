@@ -1,5 +1,5 @@
-//! How nodes, tokens and elements print, conversions of elements, the tokens at an offset, and the nearest token that is not
-//! trivia.
+//! How nodes, tokens and elements print, conversions of elements, the tokens at an offset, and the
+//! nearest token that is not trivia.
 use crate::name_tree;
 use lossless_tree::{
     SyntaxElement, SyntaxKind, SyntaxNode, SyntaxToken, TextSize, TokenAtOffset, TreeBuilder,

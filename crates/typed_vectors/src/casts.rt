@@ -1,4 +1,5 @@
-//! Which kinds each type of the typed layer can be cast from: a table over all kinds and `OTHER(0)`.
+//! Which kinds each type of the typed layer can be cast from: a table over all kinds and
+//! `OTHER(0)`.
 use either::Either;
 use lossless_tree::KINDS;
 use ra_ap_syntax::ast::{self, AstNode, AstToken};
@@ -119,7 +120,8 @@ fn is_cast_from_tokens<T: AstToken + Drop>(root: &SyntaxNode, names: &str) -> bo
     are_kinds(names)
 }
 
-// Tests of casts from all children of a root; `wrong` has the kinds of a type whose casts were not as expected.
+// Tests of casts from all children of a root; `wrong` has the kinds of a type whose casts were not
+// as expected.
 #[derive(Drop)]
 struct Casts<'r> {
     root: &'r SyntaxNode,

@@ -15,7 +15,8 @@ const PRODUCT: &str = "BIN_EXPR( PATH_EXPR( IDENT:a ) STAR:* PATH_EXPR( IDENT:b 
 
 const NAME: &str = "PATH_EXPR( IDENT:a )";
 
-// The operators are those of the expression that is put there; the side is that of the operand in whose place it is put.
+// The operators are those of the expression that is put there; the side is that of the operand in
+// whose place it is put.
 #[test]
 fn the_place_has_the_side_and_the_expression_its_operators(rt: HostRuntime) -> Result<(), Fail> {
     let (sum, product, name) = (expr(&rt, SUM)?, expr(&rt, PRODUCT)?, expr(&rt, NAME)?);

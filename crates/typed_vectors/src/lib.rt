@@ -1,5 +1,5 @@
-//! Tests of the typed layer: casts, searches, pointers, literals, typed tokens, lookups by each of their shapes, and the README's
-//! tour. `answers_views` tests every call of every view.
+//! Tests of the typed layer: casts, searches, pointers, literals, typed tokens, lookups by each of
+//! their shapes, and the README's tour. `answers_views` tests every call of every view.
 #![tactic(auto)]
 
 #[cfg(test)]

@@ -1,5 +1,5 @@
-//! Lookups in typed nodes: each shape, each trait that types share on one of its types, and rust-analyzer's tests of where
-//! predicates.
+//! Lookups in typed nodes: each shape, each trait that types share on one of its types, and
+//! rust-analyzer's tests of where predicates.
 use crate::rows::all_hold;
 use plain_trees::PlainTree;
 use ra_ap_syntax::ast::{
@@ -381,7 +381,8 @@ fn the_last_child_of_a_type(rt: HostRuntime) -> Result<(), Fail> {
     ])
 }
 
-// The texts of the attributes among some of these, from the last to the first: an iterator that is none of this library's.
+// The texts of the attributes among some of these, from the last to the first: an iterator that is
+// none of this library's.
 fn attributes_from_the_end(rt: &HostRuntime, owner: &ast::Struct) -> Option<String> {
     let mut all = Vec::new(rt.alloc());
     for it in owner.attrs_with_doc() {

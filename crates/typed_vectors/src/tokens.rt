@@ -1,4 +1,5 @@
-//! Typed tokens: each method on texts for which it has a result, and on texts for which it has none.
+//! Typed tokens: each method on texts for which it has a result, and on texts for which it has
+//! none.
 mod comments;
 mod numbers;
 mod quotes;

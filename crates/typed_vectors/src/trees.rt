@@ -20,7 +20,8 @@ fn spaced(alloc: Global, text: &str) -> Result<String, Fail> {
     Ok(spaced)
 }
 
-// Builds a tree. Words are parted by a space: `KIND(` enters a node, `)` leaves it, and `KIND:text` is a token.
+// Builds a tree. Words are parted by a space: `KIND(` enters a node, `)` leaves it, and `KIND:text`
+// is a token.
 pub fn build(alloc: Global, words: &str) -> Result<SyntaxNode, Fail> {
     let mut builder = TreeBuilder::new(alloc);
     for word in words.split(' ') {

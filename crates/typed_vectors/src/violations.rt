@@ -1,4 +1,5 @@
-//! Faults of strings over several lines; all else that is wrong with trees is in `tests/answer_cases`, whose trees are a line each.
+//! Faults of strings over several lines; all else that is wrong with trees is in
+//! `tests/answer_cases`, whose trees are a line each.
 use crate::trees::build;
 use ras_validation::violations;
 use std::alloc::Global;

@@ -40,7 +40,8 @@ pub fn is_literal_node(node: &SyntaxNode) -> bool
 
 /// The shortest operator expression around an offset.
 pub fn operator_at(root: &SyntaxNode, offset: TextSize) -> Option<ast::BinExpr>
-    ensures { option_map ⟦<ast::BinExpr as AstNode>⟧.node result ≡ find (has_kind_in ⟦<ast::BinExpr as AstNode>⟧.casts) (ancestors_at root.now offset) }
+    ensures { option_map ⟦<ast::BinExpr as AstNode>⟧.node result
+        ≡ find (has_kind_in ⟦<ast::BinExpr as AstNode>⟧.casts) (ancestors_at root.now offset) }
 {
     algo::find_node_at_offset::<ast::BinExpr>(root, offset)
 }

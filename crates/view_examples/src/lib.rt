@@ -1,5 +1,5 @@
-//! Tests of the lookups: each returns, on the example that its documentation shows, the part that is
-//! written there.
+//! Tests of the lookups: each returns, on the example that its documentation shows, the part that
+//! is written there.
 //!
 //! `tools/views` makes the tests from the tables of the views.
 #![tactic(auto)]

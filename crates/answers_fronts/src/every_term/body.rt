@@ -13,7 +13,8 @@ const PLACES: [SyntaxKind; 3] = [
     SyntaxKind::EXPR_STMT,
 ];
 
-/// Whether the text is read as the tree of these words after `let`, as a statement and as a body's tail, without errors.
+/// Whether the text is read as the tree of these words after `let`, as a statement and as a body's
+/// tail, without errors.
 pub fn stands_in_a_body(alloc: Global, text: &str, words: &str) -> Result<bool, Stopped> {
     let file = format!(in alloc; "fn f() {{ let a = {text}; {text}; {text} }}")?;
     let parse = SourceFile::parse(alloc, file.as_str(), &Tiny, Edition::CURRENT)?;

@@ -2,8 +2,8 @@
 
 use std::alloc::{AllocError, Global};
 
-// The name `a`, as words. Words are parted by a space: `KIND(` enters a node, `)` leaves it, `KIND:text` is a token; `1` and
-// `2` stand for the parts.
+// The name `a`, as words. Words are parted by a space: `KIND(` enters a node, `)` leaves it,
+// `KIND:text` is a token; `1` and `2` stand for the parts.
 const NAME: &str = "PATH_EXPR( PATH( PATH_SEGMENT( NAME_REF( IDENT:a ) ) ) )";
 
 const FULL_RANGE: &str = "RANGE_EXPR( DOT2:.. )";

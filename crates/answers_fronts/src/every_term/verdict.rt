@@ -34,7 +34,8 @@ fn has_words(alloc: Global, node: &SyntaxNode, words: &str) -> Result<bool, Stop
     Ok(words_of(alloc, node)?.as_str() == words)
 }
 
-// The result for a text whose built tree reads back: it has to be parsed as these words, without errors and in a body too.
+// The result for a text whose built tree reads back: it has to be parsed as these words, without
+// errors and in a body too.
 fn read_back(
     alloc: Global,
     text: &str,
@@ -51,7 +52,8 @@ fn read_back(
     })
 }
 
-// The result for a text whose built tree doesn't read back: it has errors, or is parsed as other words, whose tree does.
+// The result for a text whose built tree doesn't read back: it has errors, or is parsed as other
+// words, whose tree does.
 fn read_otherwise(
     alloc: Global,
     parse: &Parse<ast::Expr>,

@@ -21,7 +21,8 @@ fn leave(words: &mut String, element: &SyntaxElement) -> Result<(), AllocError> 
     }
 }
 
-/// A node's tree as words, white space left out: `KIND(` enters a node, `)` leaves it, `KIND:text` is a token.
+/// A node's tree as words, white space left out: `KIND(` enters a node, `)` leaves it, `KIND:text`
+/// is a token.
 pub fn words_of(alloc: Global, node: &SyntaxNode) -> Result<String, AllocError> {
     let mut words = String::new(alloc);
     for event in node.preorder_with_tokens() {

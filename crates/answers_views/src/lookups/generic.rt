@@ -1,10 +1,12 @@
-// Plain lookups in generic parameters and arguments, bounds and where clauses. Made by `tools/views` from `views.txt`.
+// Plain lookups in generic parameters and arguments, bounds and where clauses. Made by
+// `tools/views` from `views.txt`.
 use crate::sheet::Sheet;
 use ra_ap_syntax::SyntaxNode;
 use ra_ap_syntax::ast::{self, AstNode, cast_ref};
 use std::alloc::AllocError;
 
-/// Prints the results, for a node, of the plain lookups in generic parameters and arguments, bounds and where clauses.
+/// Prints the results, for a node, of the plain lookups in generic parameters and arguments, bounds
+/// and where clauses.
 pub fn answers(sheet: &mut Sheet, node: &SyntaxNode) -> Result<(), AllocError> {
     of_assoc_type_arg(sheet, node)?;
     of_const_arg(sheet, node)?;

@@ -1,4 +1,5 @@
-// Plain lookups in paths, generic arguments and bounds, of `rust_views`. Made by `tools/views` from `views.txt`.
+// Plain lookups in paths, generic arguments and bounds, of `rust_views`. Made by `tools/views` from
+// `views.txt`.
 use crate::sheet::Sheet;
 use ra_ap_syntax::SyntaxNode;
 use ra_ap_syntax::ast::{self, AstNode, cast_ref};
@@ -8,7 +9,8 @@ use rust_views::{
 };
 use std::alloc::AllocError;
 
-/// Prints the results, for a node, of the plain lookups in paths, generic arguments and bounds, of `rust_views`.
+/// Prints the results, for a node, of the plain lookups in paths, generic arguments and bounds, of
+/// `rust_views`.
 pub fn answers(sheet: &mut Sheet, node: &SyntaxNode) -> Result<(), AllocError> {
     of_assoc_type_arg(sheet, node)?;
     of_parenthesized_arg_list(sheet, node)?;

@@ -64,7 +64,8 @@ fn replaced(alloc: Global, token: &SyntaxToken) -> Result<SyntaxNode, Stopped> {
     }
 }
 
-// A copy of the tree's text, one of its text and rows, and a tree with another text of the token at an offset.
+// A copy of the tree's text, one of its text and rows, and a tree with another text of the token at
+// an offset.
 fn time_copies(
     rt: &HostRuntime,
     input: Input,
@@ -84,8 +85,8 @@ fn time_copies(
     print(rt, "replace", input, text, new)
 }
 
-/// Times copies of a tree's text and rows, and edits of it: another text of a token, and edits that parse one token, one block and all
-/// again.
+/// Times copies of a tree's text and rows, and edits of it: another text of a token, and edits that
+/// parse one token, one block and all again.
 pub fn time_edits(rt: &HostRuntime, input: Input, runs: u32) -> Result<(), Stopped> {
     let text = input.text(rt.alloc())?;
     let old = SourceFile::parse(rt.alloc(), text.as_str(), &Tiny, NOW)?;

@@ -25,7 +25,8 @@ impl Shape {
         }
     }
 
-    // The text that is repeated before the name `a`, that after it, and the number of operators in each repetition.
+    // The text that is repeated before the name `a`, that after it, and the number of operators in
+    // each repetition.
     fn around(self) -> (&'static str, &'static str, u32) {
         match self {
             Shape::Flat => ("", " + a", 1),

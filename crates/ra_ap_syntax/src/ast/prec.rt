@@ -21,8 +21,8 @@ use lossless_tree::SyntaxNode;
 pub use ras_operators::{ExprPrecedence, Fixity};
 use std::alloc::{AllocError, Global};
 
-/// The precedence of an expression. That of a binary expression depends on its operator's token; a closure without a return
-/// type has that of a jump. Takes time linear in the children.
+/// The precedence of an expression. That of a binary expression depends on its operator's token; a
+/// closure without a return type has that of a jump. Takes time linear in the children.
 pub fn precedence(expr: &ast::Expr) -> ExprPrecedence
     ensures { result ≡ precedence_of (expr_node expr.now) }
 {
@@ -44,14 +44,16 @@ impl ast::Expr {
         ras_operators::node::is_ret_like_with_no_value(self.syntax())
     }
 
-    /// Whether the expression needs parentheses below `parent`, which is its parent, another ancestor, or the expression itself.
-    /// For any other node the answer is false. Outside operator trees the rules are upstream's: for expressions that are followed
-    /// by a block, jumps without a value, records, chains of `let`, statements, and `let` with `else`.
+    /// Whether the expression needs parentheses below `parent`, which is its parent, another
+    /// ancestor, or the expression itself. For any other node the answer is false. Outside operator
+    /// trees the rules are upstream's: for expressions that are followed by a block, jumps without
+    /// a value, records, chains of `let`, statements, and `let` with `else`.
     ///
-    /// For an operand of an operator tree and its own parent node (for an argument, the list of arguments), the answer is false
-    /// exactly if the operand fits, given the tokens that follow it in the whole tree. If neither `<` nor `<<` follows the operator
-    /// tree, that is `Fits`, which depends on the term alone. Takes time linear in the expression, at any depth, if a block follows
-    /// it or it is below `&&`.
+    /// For an operand of an operator tree and its own parent node (for an argument, the list of
+    /// arguments), the answer is false exactly if the operand fits, given the tokens that follow it
+    /// in the whole tree. If neither `<` nor `<<` follows the operator tree, that is `Fits`, which
+    /// depends on the term alone. Takes time linear in the expression, at any depth, if a block
+    /// follows it or it is below `&&`.
     pub fn needs_parens_in(&self, parent: &SyntaxNode) -> bool
         ensures asks { result ≡ asks (expr_node self.now) parent.now (expr_node self.now) }
         ensures fits { (r : Cursor) (t : Term) (i : ℕ) (q : List ℕ) (held : Part)
@@ -69,12 +71,14 @@ impl ast::Expr {
         ras_prec::rules::needs_parens_in(self.syntax(), parent)
     }
 
-    /// Whether the expression would need parentheses if it replaced the node or token at `place`, below `parent`, which is the parent
-    /// of `place`, another ancestor, or `place` itself. For any other node the answer is false.
+    /// Whether the expression would need parentheses if it replaced the node or token at `place`,
+    /// below `parent`, which is the parent of `place`, another ancestor, or `place` itself. For any
+    /// other node the answer is false.
     ///
-    /// Let the expression be the content of a pair of parentheses, and `place` that pair, below the root of an operator tree that
-    /// reads back and is not followed by `<` or `<<`. Then the answer is false exactly if the tokens without the pair read as the
-    /// term without it; and that term is then their only reading.
+    /// Let the expression be the content of a pair of parentheses, and `place` that pair, below the
+    /// root of an operator tree that reads back and is not followed by `<` or `<<`. Then the answer
+    /// is false exactly if the tokens without the pair read as the term without it; and that term
+    /// is then their only reading.
     pub fn needs_parens_in_place_of(&self, parent: &SyntaxNode, place: &SyntaxNode) -> bool
         ensures asks { result ≡ asks (expr_node self.now) parent.now place.now }
         ensures fits { (r : Cursor) (t s : Term) (i : ℕ) (q : List ℕ) (held : Part)
@@ -96,7 +100,8 @@ impl ast::Expr {
 }
 
 impl ast::Type {
-    /// Whether the type needs parentheses below a parent: a `dyn` or `impl` type in a cast, after `&` or in a pointer type.
+    /// Whether the type needs parentheses below a parent: a `dyn` or `impl` type in a cast, after
+    /// `&` or in a pointer type.
     pub fn needs_parens_in(&self, parent: &SyntaxNode) -> bool
         ensures { result
             ≡ (is_dyn_or_impl (kind_at (ty_node self.now)) && is_pointing (kind_at parent.now)) }
@@ -107,9 +112,10 @@ impl ast::Type {
 
 /// Whether the expression's tokens read as the term that it shows; `None` if it shows no term.
 ///
-/// This is true exactly if every operand fits its place. If the expression does not end in a cast's name that `<` or `<<`
-/// follows, it is also true exactly if no operand below it needs parentheses in its own parent, by
-/// [`ast::Expr::needs_parens_in`]. Takes no memory, and time linear in the expression.
+/// This is true exactly if every operand fits its place. If the expression does not end in a cast's
+/// name that `<` or `<<` follows, it is also true exactly if no operand below it needs parentheses
+/// in its own parent, by [`ast::Expr::needs_parens_in`]. Takes no memory, and time linear in the
+/// expression.
 pub fn reads_back(expr: &ast::Expr) -> Option<bool>
     ensures reads { ReadsBack result (shown (focus (expr_node expr.now))) }
     ensures fits { IfSome result (λ b. (t : Term) → meaning (focus (expr_node expr.now)) ≡ IsTerm t
@@ -121,12 +127,13 @@ pub fn reads_back(expr: &ast::Expr) -> Option<bool>
     ras_prec::needless::reads_back(expr.syntax())
 }
 
-/// The pairs of parentheses below the expression that can be removed, in preorder: those whose content needs no parentheses in
-/// their place. Returns `None` unless the expression reads back. Each pair can be removed alone; removing several at once may
-/// change the tree.
+/// The pairs of parentheses below the expression that can be removed, in preorder: those whose
+/// content needs no parentheses in their place. Returns `None` unless the expression reads back.
+/// Each pair can be removed alone; removing several at once may change the tree.
 ///
-/// If neither `<` nor `<<` follows the expression, they are exactly the pairs without which its tokens read as the term without
-/// the pair. Takes time linear in the expression, and memory for the result.
+/// If neither `<` nor `<<` follows the expression, they are exactly the pairs without which its
+/// tokens read as the term without the pair. Takes time linear in the expression, and memory for
+/// the result.
 pub fn needless_parens(
     alloc: Global,
     expr: &ast::Expr,

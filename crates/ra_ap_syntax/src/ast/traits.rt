@@ -1,5 +1,5 @@
-//! The shared traits that need more than lookups. Each call takes time linear in the number of children that it passes, and
-//! no memory.
+//! The shared traits that need more than lookups. Each call takes time linear in the number of
+//! children that it passes, and no memory.
 ghost use Rattle.std.specs.Prelude.{◌≡◌};
 ghost use Rattle.ras_node.specs.Lookups.{loop_body};
 ghost use Rattle.ras_node.specs.Nodes.{typed_children};
@@ -15,8 +15,9 @@ use lossless_tree::SyntaxNode;
 
 /// A loop.
 pub trait HasLoopBody: AstNode {
-    /// The body. For a `loop` it is the first block among the children. The first block of a `for` or a `while` may be its
-    /// iterator or condition, so there the body is the second block, or the first if there is only one.
+    /// The body. For a `loop` it is the first block among the children. The first block of a `for`
+    /// or a `while` may be its iterator or condition, so there the body is the second block, or the
+    /// first if there is only one.
     final fn loop_body(&self) -> Option<ast::BlockExpr>
         ensures { IsBlockExpr (loop_body block_expr_kinds (Self.node self.now)) result }
     {
@@ -58,9 +59,10 @@ pub trait HasAttrs: AstNode {
         support::children(self.syntax())
     }
 
-    /// The node that holds its inner attributes. A file holds its own, and so does a block that can have some. For a
-    /// function it is the statement list of its body; for an extern block, a `match`, an implementation, a trait and a
-    /// module it is the list in it. `None` for other nodes, and if that part is missing.
+    /// The node that holds its inner attributes. A file holds its own, and so does a block that can
+    /// have some. For a function it is the statement list of its body; for an extern block, a
+    /// `match`, an implementation, a trait and a module it is the list in it. `None` for other
+    /// nodes, and if that part is missing.
     final fn inner_attributes_node(&self) -> Option<SyntaxNode>
         ensures { result ≡ inner_holder (Self.node self.now) }
     {
@@ -75,7 +77,8 @@ pub fn attrs_with_doc_including_inner<H: HasAttrs>(owner: &H) -> AttrsWithDoc
     AttrsWithDoc::new(owner.syntax(), owner.inner_attributes_node())
 }
 
-/// The outer attributes of an owner, and then the inner ones, in order, without documentation comments.
+/// The outer attributes of an owner, and then the inner ones, in order, without documentation
+/// comments.
 pub fn attrs_including_inner<H: HasAttrs>(owner: &H) -> AttrsIter<AttrsWithDoc>
     ensures { attrs_source result ≡ all_attrs (H.node owner.now) }
 {

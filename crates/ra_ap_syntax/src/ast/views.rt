@@ -1,4 +1,5 @@
-//! The kinds of nodes by their names, the enums over them, their lookups and shared traits. Made by `tools/views` from `views.txt`.
+//! The kinds of nodes by their names, the enums over them, their lookups and shared traits. Made by
+//! `tools/views` from `views.txt`.
 pub mod adt;
 pub mod any_attr;
 pub mod any_has_attrs;

@@ -1,4 +1,5 @@
-//! Sets of kinds that no enum has: operators, and kinds that may precede a part that is searched for.
+//! Sets of kinds that no enum has: operators, and kinds that may precede a part that is searched
+//! for.
 ghost use Rattle.ras_node.specs.PartSets.{is_range_operator, is_binary_operator, is_before_literal, is_before_index, is_path, is_path_segment, is_bang, is_inner_doc, is_comma};
 
 use crate::sets::KindSet;
@@ -57,7 +58,8 @@ impl KindSet for BinaryOperators {
     }
 }
 
-/// The kinds that may precede the token of a literal: attributes, documentation comments, white space and comments.
+/// The kinds that may precede the token of a literal: attributes, documentation comments, white
+/// space and comments.
 pub enum BeforeLiteral {}
 
 impl KindSet for BeforeLiteral {

@@ -15,13 +15,13 @@ use lossless_tree::laws::node_is_placed;
 use std::alloc::{AllocError, Global};
 use text_edit::{ApplyError, Indel, TextEdit};
 
-/// So many replacements are made one after another. Each copies the text, so where there are more, all
-/// of the new text is parsed once.
+/// So many replacements are made one after another. Each copies the text, so where there are more,
+/// all of the new text is parsed once.
 const MOST_STEPS: usize = 8;
 
 impl<T: FileView, F: ExactFront + Drop> Document<T, F> {
-    // The parse after some replacements, the last one first, if each is of one token or one block; and
-    // the number of its errors that are the parser's.
+    // The parse after some replacements, the last one first, if each is of one token or one block;
+    // and the number of its errors that are the parser's.
     fn in_steps(
         &self,
         alloc: Global,
@@ -69,20 +69,20 @@ impl<T: FileView, F: ExactFront + Drop> Document<T, F> {
 
     /// Makes all replacements of an edit, whose ranges are of the text as it is.
     ///
-    /// At most eight are made as by [`Document::edit`], one after another, the last one first. If there
-    /// are more, or one of them is of no single token or block, all of the new text is parsed, once. With
-    /// Rust's front end the parse is that of the new text either way.
+    /// At most eight are made as by [`Document::edit`], one after another, the last one first. If
+    /// there are more, or one of them is of no single token or block, all of the new text is
+    /// parsed, once. With Rust's front end the parse is that of the new text either way.
     ///
-    /// In `fn f() { a }`, `g` for 3..4 and `b` for 9..10 give two tokens another text; with `enum` for
-    /// 0..2 in place of the first, all of `enum f() { b }` is parsed.
+    /// In `fn f() { a }`, `g` for 3..4 and `b` for 9..10 give two tokens another text; with `enum`
+    /// for 0..2 in place of the first, all of `enum f() { b }` is parsed.
     ///
-    /// Takes the time of each step as [`Document::edit`] does, or that of the front end for the new text,
-    /// and time linear in both texts.
+    /// Takes the time of each step as [`Document::edit`] does, or that of the front end for the new
+    /// text, and time linear in both texts.
     ///
     /// # Errors
     ///
-    /// Those of [`TextEdit::apply`] on the text: `PastEnd`, `InsideCharacter`, `TooLong`, and otherwise
-    /// `Memory`. The document is unchanged then.
+    /// Those of [`TextEdit::apply`] on the text: `PastEnd`, `InsideCharacter`, `TooLong`, and
+    /// otherwise `Memory`. The document is unchanged then.
     pub fn edits(&mut self, alloc: Global, edits: &TextEdit) -> Result<(), ApplyError>
         ensures answer { OnOk result (AreEdited (F.answers self.old.front)
             (F.exact self.old.front) self.old.edition self.old.parse self.old.parser_errors

@@ -19,8 +19,9 @@ impl tokens::Comment {
         CommentShape::from_text(self.syntax.text())
     }
 
-    /// The text without the markers `//`, or `/*` and `*/`, of which the last may be missing. Returns `None` if the text is shorter
-    /// than two bytes, or if byte 2 is not a character boundary.
+    /// The text without the markers `//`, or `/*` and `*/`, of which the last may be missing.
+    /// Returns `None` if the text is shorter than two bytes, or if byte 2 is not a character
+    /// boundary.
     pub fn text_without_markers(&self) -> Option<&str>
         ensures { option_map (λ s. s.now) result ≡ comment_text 2 (text (focus self.now.syntax)) }
     {
@@ -60,14 +61,17 @@ impl AnyComment {
 
     /// The opening marker of such a comment.
     pub fn prefix(&self) -> &'static str
-        ensures { result.now ≡ prefix_of (shape_of (text (focus self.now.syntax))) (doc_kind_of (kind_at self.now.syntax)) }
+        ensures { result.now
+            ≡ prefix_of (shape_of (text (focus self.now.syntax)))
+            (doc_kind_of (kind_at self.now.syntax)) }
     {
         self.kind().prefix()
     }
 
     /// Whether it documents the item that it is inside.
     pub fn is_inner(&self) -> bool
-        ensures { result ≡ option_map_or is_inner_kind (doc_kind_of (kind_at self.now.syntax)) false }
+        ensures { result
+            ≡ option_map_or is_inner_kind (doc_kind_of (kind_at self.now.syntax)) false }
     {
         match self.doc_kind() {
             Some(kind) => kind.is_inner(),
@@ -77,7 +81,8 @@ impl AnyComment {
 
     /// Whether it documents the item that follows.
     pub fn is_outer(&self) -> bool
-        ensures { result ≡ option_map_or is_outer_kind (doc_kind_of (kind_at self.now.syntax)) false }
+        ensures { result
+            ≡ option_map_or is_outer_kind (doc_kind_of (kind_at self.now.syntax)) false }
     {
         match self.doc_kind() {
             Some(kind) => kind.is_outer(),
@@ -92,10 +97,13 @@ impl AnyComment {
         self.syntax.text()
     }
 
-    /// The text without the markers, of which the closing one may be missing. Returns `None` if the text is shorter than
-    /// its opening marker, or if that marker's end is not a character boundary.
+    /// The text without the markers, of which the closing one may be missing. Returns `None` if the
+    /// text is shorter than its opening marker, or if that marker's end is not a character
+    /// boundary.
     pub fn text(&self) -> Option<&str>
-        ensures { option_map (λ s. s.now) result ≡ comment_text (marker_len (doc_kind_of (kind_at self.now.syntax))) (text (focus self.now.syntax)) }
+        ensures { option_map (λ s. s.now) result
+            ≡ comment_text (marker_len (doc_kind_of (kind_at self.now.syntax)))
+            (text (focus self.now.syntax)) }
     {
         let marker_len = match self.doc_kind() {
             None => 2,

@@ -18,7 +18,8 @@ impl tokens::IntNumber {
         Radix::of(self.syntax.text())
     }
 
-    /// The prefix that names the radix, the digits with their underscores, and the suffix; each may be empty.
+    /// The prefix that names the radix, the digits with their underscores, and the suffix; each may
+    /// be empty.
     pub fn split_into_parts(&self) -> (&str, &str, &str)
         ensures prefix { result.0.now ≡ int_prefix (text (focus self.now.syntax)) }
         ensures digits { result.1.now ≡ int_digits (text (focus self.now.syntax)) }
@@ -29,14 +30,16 @@ impl tokens::IntNumber {
 
     /// The suffix, or `None` if there is none.
     pub fn suffix(&self) -> Option<&str>
-        ensures { option_map (λ s. s.now) result ≡ if_any (int_suffix (text (focus self.now.syntax))) }
+        ensures { option_map (λ s. s.now) result
+            ≡ if_any (int_suffix (text (focus self.now.syntax))) }
     {
         ras_token_ext::int_suffix(self.syntax.text())
     }
 
     /// The digits without the underscores.
     pub fn value_string(&self, alloc: Global) -> Result<String, AllocError>
-        ensures { IfOk result (λ value. string_bytes value ≡ value_text (int_digits (text (focus self.now.syntax)))) }
+        ensures { IfOk result
+            (λ value. string_bytes value ≡ value_text (int_digits (text (focus self.now.syntax)))) }
     {
         ras_token_ext::int_value_string(alloc, self.syntax.text())
     }
@@ -60,21 +63,24 @@ impl tokens::FloatNumber {
 
     /// The suffix, or `None` if there is none.
     pub fn suffix(&self) -> Option<&str>
-        ensures { option_map (λ s. s.now) result ≡ if_any (float_suffix (text (focus self.now.syntax))) }
+        ensures { option_map (λ s. s.now) result
+            ≡ if_any (float_suffix (text (focus self.now.syntax))) }
     {
         ras_token_ext::float_suffix(self.syntax.text())
     }
 
     /// The digits with point and exponent, without the underscores.
     pub fn value_string(&self, alloc: Global) -> Result<String, AllocError>
-        ensures { IfOk result (λ value. string_bytes value ≡ value_text (float_digits (text (focus self.now.syntax)))) }
+        ensures { IfOk result (λ value. string_bytes value
+            ≡ value_text (float_digits (text (focus self.now.syntax)))) }
     {
         ras_token_ext::float_value_string(alloc, self.syntax.text())
     }
 }
 
 impl tokens::Char {
-    /// The character. Without the opening `'` it is [`EscapeError::ZeroChars`]; the closing one may be missing.
+    /// The character. Without the opening `'` it is [`EscapeError::ZeroChars`]; the closing one may
+    /// be missing.
     pub fn value(&self) -> Result<char, EscapeError>
         ensures { result ≡ char_value (text (focus self.now.syntax)) }
     {
@@ -83,7 +89,8 @@ impl tokens::Char {
 }
 
 impl tokens::Byte {
-    /// The byte. Without the opening `b'` it is [`EscapeError::ZeroChars`]; the closing quote may be missing.
+    /// The byte. Without the opening `b'` it is [`EscapeError::ZeroChars`]; the closing quote may
+    /// be missing.
     pub fn value(&self) -> Result<u8, EscapeError>
         ensures { result ≡ byte_value (text (focus self.now.syntax)) }
     {

@@ -1,4 +1,5 @@
-//! A node that can have a visibility: of a kind that has `HasVisibility`. Made by `tools/views` from `views.txt`.
+//! A node that can have a visibility: of a kind that has `HasVisibility`. Made by `tools/views`
+//! from `views.txt`.
 ghost use Rattle.std.specs.Prelude.{◌≡◌, Some, true, ⊤, option_map};
 ghost use Rattle.tree_model.specs.Tree.{text};
 ghost use Rattle.tree_model.specs.Cursor.{focus};

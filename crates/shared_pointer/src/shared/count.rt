@@ -45,8 +45,8 @@ impl<T, A: Allocator> Shared<T, A> {
         Shared { ptr }
     }
 
-    /// Whether this is the only owner. It has no contract: its caller is right for either result, and only faster for the right
-    /// one.
+    /// Whether this is the only owner. It has no contract: its caller is right for either result,
+    /// and only faster for the right one.
     pub(super) fn is_last(&self) -> bool {
         let ptr = self.ptr.cast_mut();
         unsafe {
@@ -76,10 +76,10 @@ impl<T, A: Allocator> Shared<T, A> {
         }
     }
 
-    // Pointers into two different blocks may not be compared. So this decrements the count through the first owner for a
-    // moment, and checks whether the second one sees that.
-    /// Whether both point to the same value, like `Rc::ptr_eq`. Takes constant time, so it is a fast first test of
-    /// equality.
+    // Pointers into two different blocks may not be compared. So this decrements the count through
+    // the first owner for a moment, and checks whether the second one sees that.
+    /// Whether both point to the same value, like `Rc::ptr_eq`. Takes constant time, so it is a
+    /// fast first test of equality.
     pub fn ptr_eq(this: &Shared<T, A>, other: &Shared<T, A>) -> bool
         ensures place { IsTrue result ↔ (place_of this.now ≡ place_of other.now) }
         ensures value { IsTrue result → (this.now.value ≡ other.now.value) }

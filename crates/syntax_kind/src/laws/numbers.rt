@@ -17,8 +17,8 @@ impl<const K: u32> Numbered for OfKind<K> {
     ghost number = { K };
 }
 
-/// The constants in `raw` of the kinds of nodes that no enum of views has are the raw numbers of the kinds that they are
-/// named after. Laws of the enums state the same for the other kinds.
+/// The constants in `raw` of the kinds of nodes that no enum of views has are the raw numbers of
+/// the kinds that they are named after. Laws of the enums state the same for the other kinds.
 pub fn numbers_of_nodes()
     ensures source_file { ⟦<OfKind<{ raw::SOURCE_FILE }> as Numbered>⟧.number ≡ kind_raw SyntaxKind.SOURCE_FILE }
     ensures name { ⟦<OfKind<{ raw::NAME }> as Numbered>⟧.number ≡ kind_raw SyntaxKind.NAME }
@@ -70,8 +70,8 @@ pub fn numbers_of_nodes()
     ensures macro_stmts { ⟦<OfKind<{ raw::MACRO_STMTS }> as Numbered>⟧.number ≡ kind_raw SyntaxKind.MACRO_STMTS }
 {}
 
-/// The constants in `raw` of the kinds of tokens that have a view are the raw numbers of the kinds that they are named
-/// after.
+/// The constants in `raw` of the kinds of tokens that have a view are the raw numbers of the kinds
+/// that they are named after.
 pub fn numbers_of_tokens()
     ensures whitespace { ⟦<OfKind<{ raw::WHITESPACE }> as Numbered>⟧.number ≡ kind_raw SyntaxKind.WHITESPACE }
     ensures comment { ⟦<OfKind<{ raw::COMMENT }> as Numbered>⟧.number ≡ kind_raw SyntaxKind.COMMENT }

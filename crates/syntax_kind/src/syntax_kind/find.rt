@@ -8,7 +8,8 @@ use super::name_table::{NUMBERS, SHIFTS};
 
 /// The kind of this name, `OTHER` apart.
 pub(super) fn find(name: &str) -> Option<SyntaxKind>
-    ensures { MatchOption result ((k : SyntaxKind) → ¬ (IsNamedAs k name.now)) (λ k. IsNamedAs k name.now) }
+    ensures { MatchOption result ((k : SyntaxKind) → ¬ (IsNamedAs k name.now))
+        (λ k. IsNamedAs k name.now) }
 {
     let kind = candidate(name)?;
     if is_named(kind, name) {
@@ -52,12 +53,14 @@ fn is_named(kind: SyntaxKind, name: &str) -> bool
 
 /// The number `n` if `name` is `OTHER(n)`, otherwise `None`.
 pub(super) fn other_number(name: &str) -> Option<u16>
-    ensures { (n : ℕ) → n < 65536 → (result ≡ Some n) ↔ (kind_name (SyntaxKind.OTHER n) ≡ name.now) }
+    ensures { (n : ℕ) → n < 65536
+        → (result ≡ Some n) ↔ (kind_name (SyntaxKind.OTHER n) ≡ name.now) }
 {
     decimal_number(name.strip_prefix("OTHER(")?.strip_suffix(')')?)
 }
 
-/// The value of `text` as a decimal number without a sign or leading zeros, or `None` if it is not such a number.
+/// The value of `text` as a decimal number without a sign or leading zeros, or `None` if it is not
+/// such a number.
 fn decimal_number(text: &str) -> Option<u16>
     ensures { (n : ℕ) → n < 65536 → (result ≡ Some n) ↔ (decimal n ≡ text.now) }
 {

@@ -108,8 +108,8 @@ pub(super) fn operator(class: Class) -> Option<Binary>
     }
 }
 
-// Whether an operator of level `own`, which demands at least level `left` of its left operand, may follow an operand
-// of level `level` in an expression of at least level `demand`.
+// Whether an operator of level `own`, which demands at least level `left` of its left operand, may
+// follow an operand of level `level` in an expression of at least level `demand`.
 pub(super) fn fits(own: u8, left: u8, demand: u8, level: u8) -> bool
     ensures { result ≡ fits_of own left demand level }
 {

@@ -1,4 +1,5 @@
-//! Lookups in generic parameters and arguments, bounds and where clauses. Made by `tools/views` from `views.txt`.
+//! Lookups in generic parameters and arguments, bounds and where clauses. Made by `tools/views`
+//! from `views.txt`.
 use crate::{find, is_node, is_nodes, is_token};
 use ra_ap_syntax::ast;
 use std::test::Fail;

@@ -1,4 +1,5 @@
-//! Lookups of `rust_views` in paths, generic arguments and bounds. Made by `tools/views` from `views.txt`.
+//! Lookups of `rust_views` in paths, generic arguments and bounds. Made by `tools/views` from
+//! `views.txt`.
 use crate::{find, is_node, is_nodes, is_token};
 use ra_ap_syntax::ast;
 use rust_views::{

@@ -11,8 +11,9 @@ use crate::ast::{self, AstNode};
 pub type ArgsMaybeEmpty = ras_expr_ext::ArgsMaybeEmpty<ast::Expr>;
 
 impl ast::ArgList {
-    /// The arguments, in order, with `None` for each child node that is not an expression and for each comma that follows no
-    /// argument, as between `(` and `,`. An `ERROR` node that begins with a comma counts as one.
+    /// The arguments, in order, with `None` for each child node that is not an expression and for
+    /// each comma that follows no argument, as between `(` and `,`. An `ERROR` node that begins
+    /// with a comma counts as one.
     pub fn args_maybe_empty(&self) -> ArgsMaybeEmpty
         ensures { result
             ≡ arguments expr_kinds false (map element_of (children_of self.now.syntax)) }

@@ -19,8 +19,8 @@ pub enum ArrayExprKind {
 }
 
 impl ast::ArrayExpr {
-    /// If a `;` is a child, the repeated value and the number, which are the first and the second expression; otherwise the
-    /// list of the expressions.
+    /// If a `;` is a child, the repeated value and the number, which are the first and the second
+    /// expression; otherwise the list of the expressions.
     pub fn kind(&self) -> ArrayExprKind
         ensures { array_shape result ≡ array_kind expr_kinds self.now.syntax }
     {

@@ -13,7 +13,8 @@ use crate::ast::{self, AstNode};
 pub type BlockModifier = ras_expr_ext::BlockModifier<ast::Type, ast::Label>;
 
 impl ast::BlockExpr {
-    /// The first of these that the block has: `gen` with or without `async`, `async`, `unsafe`, `try`, `const`, a label.
+    /// The first of these that the block has: `gen` with or without `async`, `async`, `unsafe`,
+    /// `try`, `const`, a label.
     pub fn modifier(&self) -> Option<BlockModifier>
         ensures { option_map (modifier_shape ty_node (λ it. it.syntax)) result
             ≡ block_modifier try_block_modifier_kinds type_kinds label_kinds self.now.syntax }
@@ -21,17 +22,18 @@ impl ast::BlockExpr {
         ras_expr_ext::block_modifier::<ast::TryBlockModifier, ast::Type, ast::Label>(&self.syntax)
     }
 
-    /// Whether the block is an expression of its own, and not a part of its parent as the body of a function is. It is if it
-    /// has no parent; if the parent is a `for` or an `if` and no other expression is first there; and if the parent is any
-    /// node except a `for`, `if`, `let` with `else`, function, `while`, `loop` or constant pattern.
+    /// Whether the block is an expression of its own, and not a part of its parent as the body of a
+    /// function is. It is if it has no parent; if the parent is a `for` or an `if` and no other
+    /// expression is first there; and if the parent is any node except a `for`, `if`, `let` with
+    /// `else`, function, `while`, `loop` or constant pattern.
     pub fn is_standalone(&self) -> bool
         ensures { result ≡ is_standalone expr_kinds self.now.syntax }
     {
         ras_expr_ext::is_standalone::<ast::Expr>(&self.syntax)
     }
 
-    /// Whether its parent is a block expression or an expression statement, so that attributes may be in it. The last
-    /// expression of a block has its list of statements as parent.
+    /// Whether its parent is a block expression or an expression statement, so that attributes may
+    /// be in it. The last expression of a block has its list of statements as parent.
     pub fn may_carry_attributes(&self) -> bool
         ensures { result ≡ may_carry_attributes self.now.syntax }
     {

@@ -11,7 +11,8 @@ ghost use Rattle.ra_ap_syntax.specs.ElseBranchCases.{IsElseBranch, else_branch_k
 use crate::ast::{self, AstNode, ElseBranch, support};
 
 impl ast::Expr {
-    /// Whether it ends in a block, as an `if`, a loop, a block or a `match` does: as a statement it needs no `;`.
+    /// Whether it ends in a block, as an `if`, a loop, a block or a `match` does: as a statement it
+    /// needs no `;`.
     pub fn is_block_like(&self) -> bool
         ensures { result ≡ is_block_like (kind_at (expr_node self.now)) }
     {
@@ -52,7 +53,8 @@ impl ast::WhileExpr {
 }
 
 impl ast::ForExpr {
-    /// The iterated expression of the loop: the first expression; if that is a block, only if there is another one.
+    /// The iterated expression of the loop: the first expression; if that is a block, only if there
+    /// is another one.
     pub fn iterable(&self) -> Option<ast::Expr>
         ensures { IsExpr (unless_lone_block expr_kinds self.now.syntax) result }
     {

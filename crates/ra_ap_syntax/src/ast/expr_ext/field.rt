@@ -65,7 +65,8 @@ impl ast::RecordExprField {
         shorthand_name(&value.path()?)
     }
 
-    /// The field around a name: the name's parent, otherwise the fourth node above it, if that is one.
+    /// The field around a name: the name's parent, otherwise the fourth node above it, if that is
+    /// one.
     pub fn for_name_ref(name_ref: &ast::NameRef) -> Option<ast::RecordExprField>
         ensures { IsRecordExprField (expr_field_around name_ref.now.syntax) result }
     {

@@ -89,7 +89,8 @@ pub trait RangeItem {
     /// The node of the range.
     ghost range: { Self → Cursor };
 
-    /// The end before the operator, by the kinds of the ends: the rule depends on the kind of range.
+    /// The end before the operator, by the kinds of the ends: the rule depends on the kind of
+    /// range.
     ghost start_by: { (SyntaxKind → Bool) → Cursor → Option Cursor };
 
     /// The end before the operator, if there is one.

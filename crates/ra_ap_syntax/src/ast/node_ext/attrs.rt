@@ -19,18 +19,20 @@ use crate::ast::{self, AnyAttr, AnyComment, AstNode, AstToken, support};
 use lossless_tree::{SyntaxKind, SyntaxToken};
 use ras_token_ext::{AttrKind, CommentShape};
 
-/// The attributes and documentation comments of a node that can have some, inner ones too, in order.
+/// The attributes and documentation comments of a node that can have some, inner ones too, in
+/// order.
 pub type AttrsWithDoc = ras_node_ext::AttrsWithDoc<AnyAttr>;
 
-/// The attributes among those that an iterator of attributes and documentation comments gives, in order: `AttrsIter::new(iter)` takes any
-/// iterator of [`AnyAttr`], and ends where that ends.
+/// The attributes among those that an iterator of attributes and documentation comments gives, in
+/// order: `AttrsIter::new(iter)` takes any iterator of [`AnyAttr`], and ends where that ends.
 ///
-/// Which attributes come is a law where a list says what is left in `iter`, as for [`AttrsWithDoc`]:
+/// Which attributes come is a law where a list says what is left in `iter`, as for
+/// [`AttrsWithDoc`]:
 /// [`attributes_are_those_of_the_source`](crate::laws::attributes_are_those_of_the_source).
 pub type AttrsIter<I> = ras_node_ext::AttrsIter<I, ast::Attr>;
 
-/// The token trees and tokens in a token tree, in order, without its first child, whatever it is, closing delimiters, white
-/// space and comments.
+/// The token trees and tokens in a token tree, in order, without its first child, whatever it is,
+/// closing delimiters, white space and comments.
 pub type TokenTreeChildren = ras_node_ext::TokenTreeChildren<ast::TokenTree>;
 
 /// All token trees and tokens among the children of a token tree, in order.
@@ -73,7 +75,8 @@ impl ast::DocComment {
         AnyComment::cast(self.syntax.first_token()?)
     }
 
-    /// Whether the text ends with its line or with its closing marker, or `None` if the first child is not a token.
+    /// Whether the text ends with its line or with its closing marker, or `None` if the first child
+    /// is not a token.
     pub fn shape(&self) -> Option<CommentShape>
         ensures { result ≡ doc_shape self.now.syntax }
     {
@@ -87,8 +90,9 @@ impl ast::DocComment {
         self.syntax.child_text(0)
     }
 
-    /// The text of the first child without the markers, of which the closing one may be missing. Returns `None` if that is
-    /// not a token, is shorter than three bytes, or if byte 3 is not a character boundary.
+    /// The text of the first child without the markers, of which the closing one may be missing.
+    /// Returns `None` if that is not a token, is shorter than three bytes, or if byte 3 is not a
+    /// character boundary.
     pub fn text(&self) -> Option<&str>
         ensures { option_map (λ s. s.now) result ≡ doc_text self.now.syntax }
     {

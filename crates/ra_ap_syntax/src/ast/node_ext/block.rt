@@ -54,7 +54,8 @@ impl ast::BlockExpr {
         Statements { left }
     }
 
-    /// The first child of its list that is an expression: in a well-formed block its value. Statements are in nodes of their own.
+    /// The first child of its list that is an expression: in a well-formed block its value.
+    /// Statements are in nodes of their own.
     pub fn tail_expr(&self) -> Option<ast::Expr>
         ensures { IsExpr (typed_child_in stmt_list_kinds expr_kinds self.now.syntax) result }
     {

@@ -180,7 +180,8 @@ pub enum SelfParamKind {
 }
 
 impl ast::SelfParam {
-    /// Owned if there is no `&`; otherwise a mutable borrow if there is a `mut`, or else a shared one.
+    /// Owned if there is no `&`; otherwise a mutable borrow if there is a `mut`, or else a shared
+    /// one.
     pub fn kind(&self) -> SelfParamKind
         ensures { result ≡ self_param_kind self.now.syntax }
     {
@@ -242,7 +243,8 @@ fn seen_in_path(path: ast::Path) -> VisibilityKind
 }
 
 impl ast::VisibilityInner {
-    /// `crate`, `super` or `self` if the path is that one segment without `::`; any other path; public if there is no path.
+    /// `crate`, `super` or `self` if the path is that one segment without `::`; any other path;
+    /// public if there is no path.
     pub fn kind(&self) -> VisibilityKind
         ensures { visibility_shape result
             ≡ inner_visibility path_kinds path_segment_kinds name_ref_kinds self.now.syntax }

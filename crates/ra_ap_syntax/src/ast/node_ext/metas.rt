@@ -61,7 +61,8 @@ fn call_in(
 }
 
 impl Meta {
-    /// Its path, or the path of the meta inside an `unsafe(..)`; `None` for a `cfg` and a `cfg_attr`.
+    /// Its path, or the path of the meta inside an `unsafe(..)`; `None` for a `cfg` and a
+    /// `cfg_attr`.
     pub fn path(&self) -> Option<ast::Path>
         ensures { IsPathOfMeta (meta_node self.now) result }
     {
@@ -86,8 +87,8 @@ impl Meta {
         atom_of(alloc, self.as_simple_path())
     }
 
-    /// The name and the arguments of a meta that is one name with arguments, as `a(..)`; `None` for others. Takes memory
-    /// for the name.
+    /// The name and the arguments of a meta that is one name with arguments, as `a(..)`; `None` for
+    /// others. Takes memory for the name.
     pub fn as_simple_call(
         &self,
         alloc: Global,
@@ -104,8 +105,8 @@ impl Meta {
         call_in(alloc, self.syntax(), tree)
     }
 
-    /// The name of the attribute: `cfg`, `cfg_attr`, or for others the first token of their path, if that has only one
-    /// segment. Takes memory for the name.
+    /// The name of the attribute: `cfg`, `cfg_attr`, or for others the first token of their path,
+    /// if that has only one segment. Takes memory for the name.
     pub fn simple_name(&self, alloc: Global) -> Result<Option<String>, AllocError>
         ensures { IfOk result (λ name.
             IsNameOfMeta (meta_node self.now) (option_map (λ t. string_bytes t) name)) }
@@ -113,8 +114,8 @@ impl Meta {
         ras_node_ext::meta_name::<Meta, ast::Path, ast::PathSegment>(alloc, self)
     }
 
-    /// Replaces a `cfg_attr` by the metas in it, in order and at any depth of nested `cfg_attr`s, whatever the predicates are.
-    /// Any other meta is returned unchanged.
+    /// Replaces a `cfg_attr` by the metas in it, in order and at any depth of nested `cfg_attr`s,
+    /// whatever the predicates are. Any other meta is returned unchanged.
     ///
     /// Takes memory for the result, and time linear in the nodes and tokens below it.
     pub fn skip_cfg_attrs(self, alloc: Global) -> Result<Vec<Meta>, AllocError>
@@ -161,7 +162,8 @@ impl ast::Attr {
         }
     }
 
-    /// The name and the arguments of its meta, if that is one name with arguments. Takes memory for the name.
+    /// The name and the arguments of its meta, if that is one name with arguments. Takes memory for
+    /// the name.
     pub fn as_simple_call(
         &self,
         alloc: Global,
@@ -187,8 +189,8 @@ impl ast::Attr {
         }
     }
 
-    /// Its meta, as a list; for a `cfg_attr` the metas in it, as in `Meta::skip_cfg_attrs`. The list is empty without a
-    /// meta.
+    /// Its meta, as a list; for a `cfg_attr` the metas in it, as in `Meta::skip_cfg_attrs`. The
+    /// list is empty without a meta.
     ///
     /// Takes memory for the result, and time linear in the nodes and tokens of the meta.
     pub fn skip_cfg_attrs(&self, alloc: Global) -> Result<Vec<Meta>, AllocError>

@@ -35,8 +35,8 @@ fn end_of(path: ast::Path) -> ast::Path
 }
 
 impl ast::Path {
-    /// The segments, from that of the deepest qualifier outwards to its own, through the paths that are within this one's
-    /// range. They end at a path without a segment.
+    /// The segments, from that of the deepest qualifier outwards to its own, through the paths that
+    /// are within this one's range. They end at a path without a segment.
     pub fn segments(&self) -> Segments
         ensures { AreSegments path_kinds path_segment_kinds self.now.syntax result }
     {
@@ -50,15 +50,16 @@ impl ast::Path {
         Qualifiers::new(self)
     }
 
-    /// The end of the chain of qualifiers: `a` of `a::b::c`. Returns `None` if the path has no qualifier. Takes time linear
-    /// in their number.
+    /// The end of the chain of qualifiers: `a` of `a::b::c`. Returns `None` if the path has no
+    /// qualifier. Takes time linear in their number.
     pub fn first_qualifier(&self) -> Option<ast::Path>
         ensures { IsQualifierEnd path_kinds self.now.syntax (option_map (λ it. it.syntax) result) }
     {
         ras_node_ext::first_qualifier(self)
     }
 
-    /// The end of the chain of qualifiers; this path if it has none. Takes time linear in their number.
+    /// The end of the chain of qualifiers; this path if it has none. Takes time linear in their
+    /// number.
     pub fn first_qualifier_or_self(&self) -> ast::Path
         ensures { IsFirstQualifier path_kinds self.now.syntax result.syntax }
     {
@@ -73,8 +74,8 @@ impl ast::Path {
         self.first_qualifier_or_self().segment()
     }
 
-    /// The outermost path that this path is a qualifier of, directly or not; the path itself if it is not a qualifier. Takes
-    /// time linear in the number of paths between.
+    /// The outermost path that this path is a qualifier of, directly or not; the path itself if it
+    /// is not a qualifier. Takes time linear in the number of paths between.
     pub fn top_path(&self) -> ast::Path
         ensures { result.syntax
             ≡ top_from path_kinds self.now.syntax (drop 1 (ancestors_of self.now.syntax)) }
@@ -153,8 +154,8 @@ fn anchored(anchor: &SyntaxNode) -> PathSegmentKind
 }
 
 impl ast::PathSegment {
-    /// The kind of segment, by the first token of its name; without a name, by its anchor `<T as U>`. `None` if it has
-    /// neither.
+    /// The kind of segment, by the first token of its name; without a name, by its anchor
+    /// `<T as U>`. `None` if it has neither.
     pub fn kind(&self) -> Option<PathSegmentKind>
         ensures { option_map segment_shape result
             ≡ segment_kind name_ref_kinds type_anchor_kinds type_kinds path_type_kinds

@@ -31,12 +31,13 @@ impl ast::OrPat {
     }
 }
 
-/// The patterns in a slice pattern: those before the first rest pattern, that one, and those after it.
+/// The patterns in a slice pattern: those before the first rest pattern, that one, and those after
+/// it.
 pub type SlicePatComponents = ras_node_ext::SliceComponents<ast::Pat>;
 
 impl ast::SlicePat {
-    /// The patterns before the first rest pattern, that one, and those after it. A rest pattern is `..`, also bound by a name
-    /// or after `&`.
+    /// The patterns before the first rest pattern, that one, and those after it. A rest pattern is
+    /// `..`, also bound by a name or after `&`.
     ///
     /// It takes memory for the two lists.
     pub fn components(&self, alloc: Global) -> Result<SlicePatComponents, AllocError>

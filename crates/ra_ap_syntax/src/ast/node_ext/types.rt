@@ -46,9 +46,10 @@ fn bound_without_path(bound: &ast::TypeBound) -> Option<TypeBoundKind>
 }
 
 impl ast::TypeBound {
-    /// A path type with the bound's binder, the path type in a `for` type with the binder of that type, the captured arguments
-    /// of `use<..>`, or a lifetime: the first of these that the bound has. Returns `None` if it has none of them, or if the
-    /// type in a `for` type is not a path type.
+    /// A path type with the bound's binder, the path type in a `for` type with the binder of that
+    /// type, the captured arguments of `use<..>`, or a lifetime: the first of these that the bound
+    /// has. Returns `None` if it has none of them, or if the type in a `for` type is not a path
+    /// type.
     pub fn kind(&self) -> Option<TypeBoundKind>
         ensures { option_map bound_shape result
             ≡ bound_kind path_type_kinds for_type_kinds type_kinds for_binder_kinds
@@ -72,7 +73,8 @@ fn first_path(parent: &SyntaxNode) -> Option<ast::Path>
 }
 
 impl ast::Type {
-    /// The generic arguments of a path type: those of the segment of its path; `None` for other types.
+    /// The generic arguments of a path type: those of the segment of its path; `None` for other
+    /// types.
     pub fn generic_arg_list(&self) -> Option<ast::GenericArgList>
         ensures { IsGenericArgList (type_generic_args (ty_node self.now)) result }
     {
@@ -83,8 +85,8 @@ impl ast::Type {
         path.segment()?.generic_arg_list()
     }
 
-    /// Whether the type needs angle brackets where it begins a path, as in `<[T]>::len`: it is not a path type, or it has
-    /// generic arguments.
+    /// Whether the type needs angle brackets where it begins a path, as in `<[T]>::len`: it is not
+    /// a path type, or it has generic arguments.
     pub fn needs_angles_in_path(&self) -> bool
         ensures { result
             ≡ (not (path_type_kinds (kind_at (ty_node self.now)))

@@ -65,8 +65,8 @@ impl ast::UseTree {
         self.star_token().is_none()
     }
 
-    /// The outermost use tree around it, through lists of use trees; this tree if it is not in such a list. Takes time
-    /// linear in the number of trees between.
+    /// The outermost use tree around it, through lists of use trees; this tree if it is not in such
+    /// a list. Takes time linear in the number of trees between.
     pub fn top_use_tree(&self) -> ast::UseTree
         ensures { result.syntax
             ≡ top_tree_from use_tree_list_kinds use_tree_kinds self.now.syntax

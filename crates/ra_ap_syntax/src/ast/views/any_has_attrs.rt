@@ -1,4 +1,5 @@
-//! A node that can have attributes: of a kind that has `HasAttrs`. Made by `tools/views` from `views.txt`.
+//! A node that can have attributes: of a kind that has `HasAttrs`. Made by `tools/views` from
+//! `views.txt`.
 ghost use Rattle.std.specs.Prelude.{◌≡◌, Some, true, ⊤, option_map};
 ghost use Rattle.std.specs.Cmp.{partial_equiv_from_equiv, on_equiv};
 ghost use Rattle.tree_model.specs.Tree.{text};

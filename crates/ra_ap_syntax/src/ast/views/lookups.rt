@@ -1,4 +1,5 @@
-//! Lookups of children by their kinds, in the nodes of each kind. Made by `tools/views` from `views.txt`.
+//! Lookups of children by their kinds, in the nodes of each kind. Made by `tools/views` from
+//! `views.txt`.
 mod attr;
 mod control;
 mod expr;

@@ -1,4 +1,4 @@
-use Rattle.std.proofs.Common.{rules, ◌≡◌, ◌&&◌, true, sym, ap, ◌∙◌}
+use Rattle.std.proofs.Common.{◌≡◌, ◌&&◌, true, sym, ap, ◌∙◌}
 use Rattle.syntax_kind.specs.declared.syntax_kind.SyntaxKind.TheVariants.{Node}
 use Rattle.syntax_kind.specs.declared.syntax_kind.node_kind.NodeKind.TheVariants as kind
 use Rattle.ras_node.specs.Nodes.{is_of_kind}
@@ -10,9 +10,9 @@ use Rattle.ras_prec_walks.specs.Turns.{reaches}
 use Rattle.ras_prec_walks.proofs.Operands.{block_behind_dots}
 use Rattle.ras_prec_walks.proofs.parts.range_ends_in_block.Goals as goal
 
-pub returns-then-eq : goal.returns-then-eq
-returns-then-eq c =
-    let range : is_of_kind (Node kind.RANGE_EXPR) c.args.node.now ≡ true = search rules in
+pub returns-then-is_a : goal.returns-then-is_a
+returns-then-is_a c =
+    let range : is_of_kind (Node kind.RANGE_EXPR) c.args.node.now ≡ true = sym c.is_a.ensures ∙ c.if-is_a.true in
     c.reaches.ensures
     ∙ ap (λ s. reaches Block BehindDots s.trees) c.trees.ensures
     ∙ block_behind_dots c.args.node.now

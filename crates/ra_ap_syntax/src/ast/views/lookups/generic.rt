@@ -1,4 +1,5 @@
-//! Lookups in generic parameters and arguments, bounds and where clauses. Made by `tools/views` from `views.txt`.
+//! Lookups in generic parameters and arguments, bounds and where clauses. Made by `tools/views`
+//! from `views.txt`.
 //! Each call takes time linear in the number of children that it passes, and no memory.
 //! The names are those of rust-analyzer.
 ghost use Rattle.std.specs.Prelude.{◌≡◌};

@@ -1,4 +1,5 @@
--- A `&` to a `Shared` holds a share of its owner's part, and may be copied and kept for less long. Assumes `Logic`.
+-- A `&` to a `Shared` holds a share of its owner's part, and may be copied and kept for less long.
+-- Assumes `Logic`.
 use denote.RattleType.{RattleType}
 use denote.Param.Laws.{Laws}
 use denote.Param.Shared.{copy_shared}

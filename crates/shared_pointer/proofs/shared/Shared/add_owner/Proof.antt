@@ -1,4 +1,5 @@
--- `add_owner` opens the invariant, adds 1 to the count unless it is full, and shuts it: the till gives a ticket either way.
+-- `add_owner` opens the invariant, adds 1 to the count unless it is full, and shuts it: the till
+-- gives a ticket either way.
 use mathlib.Core.Path.{◌≡◌, refl, sym, ap}
 use mathlib.Core.Bool.{true, false}
 use mathlib.Core.List.{List, [], ◌∷◌}
@@ -123,8 +124,8 @@ module _ (E : Bx) {M : Type 1} {𝓤 : Ura M} (𝓛 : Logic 𝓤) (at_mem : Memo
         let En : Env 𝓤 H = env (fn' E).locals l in
         borrow_opened E c x (ν E) κ q b o ! tt (λ a s q'. move ! (1 ∷ 0 ∷ 6 ∷ []) $
         count_opened E c x a ! tt every refl s (λ y n cb co e fits some_n.
-        -- [the count; the vault; what shuts; the part; the word; the way back; the invariant; what is shown; the other tokens]
-        -- `let ptr = self.ptr.cast_mut();`
+        -- [the count; the vault; what shuts; the part; the word; the way back; the invariant; what
+        -- is shown; the other tokens] `let ptr = self.ptr.cast_mut();`
         sets ! (is ! (of_opd ! (load ! (through ! refl (fld ! refl (stop !))) (look_in ! 4 (sub ! 0 refl (whole !)))))
         (ap ptr_val e)) refl (tt, tt) $
         sets ! (of_opd ! (get ! refl)) refl (tt, tt) $ first ! $ blocks ! $
@@ -141,7 +142,8 @@ module _ (E : Bx) {M : Type 1} {𝓤 : Ura M} (𝓛 : Logic 𝓤) (at_mem : Memo
         sets ! (is ! (agg ! (and_then ! (get ! refl) (no_more !))) (ap word (sym e))) refl (word-Good (ν E) c) $
         move ! (1 ∷ []) $ one_more E c x a ! y n fits₁ $
         move ! (2 ∷ 0 ∷ 3 ∷ []) $ count_shut E c x a ! tt every refl true (n + 1) cb co e fits₁ $
-        -- [the thread's token; the ticket; the part; the word; the way back; the invariant; what is shown; the other tokens]
+        -- [the thread's token; the ticket; the part; the word; the way back; the invariant; what is
+        -- shown; the other tokens]
         move ! (2 ∷ 3 ∷ 4 ∷ []) $ borrow_shut E c x (ν E) κ q b o ! tt a s q' $
         move ! (2 ∷ 3 ∷ 4 ∷ []) $ owner_joined E c x ! a $ word_made E (ν E) c ! $ fjoin ! $
         returns ! (look_at ! 0 refl) $ free_all ! refl $ keep ! (0 ∷ 1 ∷ 3 ∷ 2 ∷ []) $ by ! exits)

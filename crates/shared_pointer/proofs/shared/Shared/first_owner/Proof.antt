@@ -124,7 +124,8 @@ module _ (E : Bx) {M : Type 1} {𝓤 : Ura M} (𝓛 : Logic 𝓤) (at_mem : Memo
         exec ! C Λ En (after 3 (fn' E).body) (at_ret En Post) $
         -- `Shared { ptr }`
         sets ! (agg ! (and_then ! (get ! refl) (no_more !))) refl (word-Good (ν E) c) $
-        -- [the block; the token; what the allocator owns; what the value owns; κ's token; the other tokens]
+        -- [the block; the token; what the allocator owns; what the value owns; κ's token; the other
+        -- tokens]
         group ! 4 $
         use1 𝓛 (‵ (counter E c x 1) ⊛ ‵ (contents E c x)) (block_filled E 𝓛 (BL.the_type (R E) (P E)).name b o h x hv v) $
         split ! $ group ! 3 $

@@ -118,8 +118,8 @@ module _ (E : Bx) {M : Type 1} {𝓤 : Ura M} (𝓛 : Logic 𝓤) (at_mem : Memo
         let En : Env 𝓤 H = env (fn' E).locals l in
         borrow_opened E c x (ν E) κ q b o ! tt (λ a s q'. move ! (1 ∷ 0 ∷ 6 ∷ []) $
         count_opened E c x a ! tt every refl s (λ y n cb co e fits some_n.
-        -- [the count; the vault; what shuts; the part; the word; the way back; the invariant; what is shown; the other tokens]
-        -- `let ptr = self.ptr.cast_mut();`
+        -- [the count; the vault; what shuts; the part; the word; the way back; the invariant; what
+        -- is shown; the other tokens] `let ptr = self.ptr.cast_mut();`
         sets ! (is ! (of_opd ! (load ! (through ! refl (fld ! refl (stop !))) (look_in ! 4 (sub ! 0 refl (whole !)))))
         (ap ptr_val e)) refl (tt, tt) $
         sets ! (of_opd ! (get ! refl)) refl (tt, tt) $ first ! $ blocks ! $

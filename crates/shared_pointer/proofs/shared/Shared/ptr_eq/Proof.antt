@@ -1,6 +1,7 @@
--- `ptr_eq` lowers the count through the first owner, and sees it through the second just where both lead to one block.
--- Two owners with one key know one name, so they have one place and one value. With two keys both invariants can be open at
--- once, and two cells at one place are never both there: so the places are two.
+-- `ptr_eq` lowers the count through the first owner, and sees it through the second just where both
+-- lead to one block. Two owners with one key know one name, so they have one place and one value.
+-- With two keys both invariants can be open at once, and two cells at one place are never both
+-- there: so the places are two.
 use mathlib.Core.Path.{◌≡◌, refl, sym, subst, ap, ◌∙◌}
 use mathlib.Core.Bool.{Bool, true, false, not}
 use mathlib.Core.List.{List, [], ◌∷◌, ◌++◌}
@@ -186,9 +187,11 @@ module _ (E : Bx) {M : Type 1} {𝓤 : Ura M} (𝓛 : Logic 𝓤) (𝓜 : Model 
         use1 𝓛 (‵ (hidden_shr (Word E (ν E)) μ (d, tt) b₂ o₂) ⊛ ‵ (fhide (Lent E d w μ))) (id⊢ 𝓤 _) $ split ! $
         move ! (0 ∷ 1 ∷ 8 ∷ []) $
         borrow_opened E d w (ν E) μ r b₂ o₂ ! tt (λ a₂ s₂ q₂.
-        -- [the second's part; invariant; word; way back; invariant; what is shown; the first's six; the other tokens; the thread's token]
+        -- [the second's part; invariant; word; way back; invariant; what is shown; the first's six;
+        -- the other tokens; the thread's token]
         by_keys (Key-Dec (key a) (key a₂)) !
-        -- One key: the name tells one place and one value, and the count that is lowered is the count that is read.
+        -- One key: the name tells one place and one value, and the count that is lowered is the
+        -- count that is read.
         (λ same. move ! (11 ∷ 5 ∷ []) $ fsplit ! $ move ! (2 ∷ []) $ fsplit ! $
         rewrite ! 0 (λ (γ : ℕ). ‵ (fres γ (tag E d w))) (sym (ap (λ (k : Key). k.1) same)) refl $
         move ! (2 ∷ 0 ∷ []) $
@@ -200,8 +203,8 @@ module _ (E : Bx) {M : Type 1} {𝓤 : Ura M} (𝓛 : Logic 𝓤) (𝓜 : Model 
         move ! (6 ∷ 5 ∷ 11 ∷ []) $
         count_opened E c x a ! tt every refl s (λ y n cb co e fits some_n.
         let fits₁ : n - 1 < 2 ^ 64 = omega arith in
-        -- [the count; the vault; what shuts; the first's part; the second's part; invariant; word; way back; invariant;
-        -- the first's word; way back; invariant; the other tokens]
+        -- [the count; the vault; what shuts; the first's part; the second's part; invariant; word;
+        -- way back; invariant; the first's word; way back; invariant; the other tokens]
         -- `let here = this.ptr.cast_mut();`
         sets ! (is ! (of_opd ! (load ! (through ! refl (fld ! refl (stop !))) (look_in ! 9 (sub ! 0 refl (whole !)))))
         (ap ptr_val e)) refl (tt, tt) $
@@ -235,9 +238,9 @@ module _ (E : Bx) {M : Type 1} {𝓤 : Ura M} (𝓛 : Logic 𝓤) (𝓜 : Model 
         move ! (2 ∷ []) $ use1 𝓛 (raw (Way E 𝓛 c x a) ⊛ ‵ (ftok (less every (key a)))) (id⊢ 𝓤 _) $ split ! $
         move ! (6 ∷ 5 ∷ 1 ∷ []) $
         count_opened E d w a₂ ! tt (less every (key a)) has s₂ (λ y₂ m db dp e₂ fm some_m.
-        -- [the second's count; the vault; what shuts; the part; what shuts the first's; its count; the vault; the part;
-        -- the second's word; way back; invariant; what is shown; the first's word; way back; invariant; what is shown;
-        -- the other tokens]
+        -- [the second's count; the vault; what shuts; the part; what shuts the first's; its count;
+        -- the vault; the part; the second's word; way back; invariant; what is shown; the first's
+        -- word; way back; invariant; what is shown; the other tokens]
         by_keys (Key-Dec (cb, co) (db, dp)) !
         (λ one_place. move ! (5 ∷ 0 ∷ []) $ rewrite ! 0 (λ (k : Key). ‵ (cell k.0 k.1 n)) one_place refl $
         use2 𝓛 (given ⊥ (raw (emp 𝓤))) (via 𝓤 (never 𝓤) (cell_once 𝓛 𝓜 db dp n m) (never_e 𝓤 (guard 𝓤 ⊥ (emp 𝓤)))) $

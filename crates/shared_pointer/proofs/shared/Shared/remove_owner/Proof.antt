@@ -1,5 +1,5 @@
--- `remove_owner` opens the invariant and takes 1 from the count. The last owner gets the value and the block, and at the full
--- count no one does.
+-- `remove_owner` opens the invariant and takes 1 from the count. The last owner gets the value and
+-- the block, and at the full count no one does.
 use mathlib.Core.Path.{refl, sym, subst, ap}
 use mathlib.Core.Bool.{true}
 use mathlib.Core.List.{List, [], ◌∷◌, ◌++◌}
@@ -158,15 +158,16 @@ module _ (E : Bx) {M : Type 1} {𝓤 : Ura M} (𝓛 : Logic 𝓤) (at_mem : Memo
         skips ! $ exec ! C Λ En (after 5 (inside (head (after 2 (fn' E).body)))) Within $
         move ! (1 ∷ 3 ∷ 2 ∷ []) $ last_one E c x a ! tt every refl y n (is_so n 1 last) $
         contents_split E c x ! cb co e (λ v h hv good fa.
-        -- [the value's cell; the allocator's; what each owns; the right to free; the way back; the thread's token; the
-        -- count; what is shown; the tokens]
+        -- [the value's cell; the allocator's; what each owns; the right to free; the way back; the
+        -- thread's token; the count; what is shown; the tokens]
         let freed : (Room E).Denot = record { ptr = block_ptr cb co; alloc = h } in
         let room_val : Val = vacant_val hv cb co in
         let room_typed = vacant_typed E.al (Block E) hv cb co fa in
         let both : Val = pair_val v room_val in
         let typed : Good (lone (Pair E).mir) both = pair_Typed (τ E) (vacant_ty E.al (Block E)) v room_val good room_typed in
         let some_typed = some_Good (lone (Pair E).mir) both typed in
-        -- `let value = (&raw const (*ptr).value).read();  let alloc = (&raw const (*ptr).alloc).read();`
+        -- `let value = (&raw const (*ptr).value).read();`
+        -- `let alloc = (&raw const (*ptr).alloc).read();`
         sets ! (addr ! (through ! refl (fld ! refl (stop !)))) refl (tt, tt) $
         sets ! (of_opd ! (load ! (through ! refl (stop !)) (look ! 0 refl))) refl good $
         sets ! (addr ! (through ! refl (fld ! refl (stop !)))) refl (tt, tt) $

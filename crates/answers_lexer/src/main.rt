@@ -1,8 +1,9 @@
 //! Answers of the lexer, to be compared with another's.
 //!
-//! Standard input holds, for each text, a line with the edition and the length in bytes, and then the text. It prints a number made
-//! of the tokens and errors of each, and where the edition follows a `=`, the tokens and errors, the one token that the text is, if it
-//! is one, and a line `.`. With an argument, standard input is one text, and it prints how long the lexer takes.
+//! Standard input holds, for each text, a line with the edition and the length in bytes, and then
+//! the text. It prints a number made of the tokens and errors of each, and where the edition
+//! follows a `=`, the tokens and errors, the one token that the text is, if it is one, and a line
+//! `.`. With an argument, standard input is one text, and it prints how long the lexer takes.
 #![tactic(auto)]
 
 use ras_front_end::Edition;
