@@ -228,8 +228,8 @@ impl<'a, F: FrontEnd> Make<'a, F> {
         ensures { IsMadeOf ⟦<ast::MatchArmList as AstNode>⟧ (F.answers self.now.front.now)
             self.now.edition
             (fixed (codes "{\n") ∷
-            (each_between (codes " ") (codes "\n") (map ⟦<ast::MatchArm as AstNode>⟧.node arms.now)
-            ++ (fixed (codes "}") ∷
+            (each_between (codes "    ") (codes "\n")
+            (map ⟦<ast::MatchArm as AstNode>⟧.node arms.now) ++ (fixed (codes "}") ∷
             [])))
             result }
     {
@@ -249,8 +249,8 @@ impl<'a, F: FrontEnd> Make<'a, F> {
         ensures { IsMadeOf ⟦<ast::BlockExpr as AstNode>⟧ (F.answers self.now.front.now)
             self.now.edition
             (fixed (codes "{") ∷
-            (each_between (codes "\n ") (codes "") (map stmt_node stmts.now)
-            ++ (optional (codes "\n ") (option_map (λ it. expr_node it.now) tail_expr.entry)
+            (each_between (codes "\n    ") (codes "") (map stmt_node stmts.now)
+            ++ (optional (codes "\n    ") (option_map (λ it. expr_node it.now) tail_expr.entry)
             ++ (fixed (codes "\n}") ∷
             []))))
             result }
