@@ -9,7 +9,7 @@ use Rattle.ras_node.specs.Sets.{is_expr}
 use Rattle.ras_front_end.specs.declared.edition.Edition.{Edition}
 use Rattle.ras_front_end.specs.declared.edition.Entry.{Entry}
 use Rattle.ras_front_end.specs.declared.edition.Entry.TheVariants.{SourceFile, Expr}
-use Rattle.ras_front_end.specs.Fault.{Fault as StoredFault}
+use Rattle.ras_front_end.specs.ErrorModel.{ErrorModel}
 use Rattle.ras_front_end.specs.Reading.{Reading, FrontStep}
 use Rattle.ras_front_end.specs.Front.{Front}
 use Rattle.token_layout.specs.declared.span.Token.{Token as LexedToken}
@@ -19,7 +19,7 @@ use Rattle.tiny_lexer.specs.Front.{tiny_lexer}
 use Rattle.grammar_machine.specs.declared.event.Event.{Event}
 use Rattle.grammar_machine.specs.declared.grammar.Sight.{Sight}
 use Rattle.grammar_machine.specs.Running.{events_of}
-use Rattle.event_layout.specs.declared.layout.Fault.{Fault}
+use Rattle.event_layout.specs.declared.layout.ParserError.{ParserError}
 use Rattle.event_layout.specs.Layout.{Laying, laid_of, outermost_of}
 use Rattle.example_grammar.specs.declared.tables.kind_table.TheConstants.{TOKENS}
 use Rattle.example_grammar.specs.declared.tables.rules.Rule.{Rule}
@@ -64,7 +64,7 @@ root_for SourceFile top = Node node.SOURCE_FILE
 root_for Expr None = Token token.ERROR
 root_for Expr (Some k) = if is_expr k then k else Token token.ERROR
 
-abbrev pub say_of : Fault → List ℕ × ℕ
+abbrev pub say_of : ParserError → List ℕ × ℕ
 say_of f = (message_of f.message, f.position)
 
 abbrev pub steps_on : Laying → List FrontStep
@@ -74,7 +74,7 @@ steps_on s = s.steps ++ map (report_by say_of) s.faults
 unfoldable pub steps_of : Entry → List ℕ → List LexedToken → List Event → List FrontStep
 steps_of entry text ts es = steps_on (laid_of (root_for entry (outermost_of es)) [] text ts es)
 
-abbrev pub reading_over : Entry → List ℕ → List LexedToken → List StoredFault → Reading
+abbrev pub reading_over : Entry → List ℕ → List LexedToken → List ErrorModel → Reading
 reading_over entry text ts errors = record { steps = steps_of entry text ts (made_of entry ts); errors = errors }
 
 abbrev pub parsed_of : Entry → Edition → List ℕ → Reading

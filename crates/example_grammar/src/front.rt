@@ -8,7 +8,7 @@ ghost use Rattle.example_grammar.specs.Front.{number_or_0, number_in, number_of,
 
 use crate::tables::kind_table::TOKENS;
 use crate::tables::{Rule, grammar, message, rule_of};
-use event_layout::{Fault, lay_out, outermost};
+use event_layout::{ParserError, lay_out, outermost};
 use grammar_machine::{Event, Sight, run};
 use ras_front_end::{Edition, Entry, FrontEnd, Output, Reparser, Step, SyntaxError};
 use ras_node::KindSet;
@@ -96,7 +96,7 @@ fn root_for(entry: Entry, top: Option<SyntaxKind>) -> SyntaxKind
     }
 }
 
-fn report(alloc: Global, fault: Fault) -> Result<Step, AllocError>
+fn report(alloc: Global, fault: ParserError) -> Result<Step, AllocError>
     ensures { IfOk result (λ s. front_step s ≡ report_by say_of fault) }
 {
     let text = String::from_str(alloc, message(fault.message))?;
@@ -113,7 +113,11 @@ fn add(steps: &mut Vec<Step>, step: Step) -> Result<(), AllocError>
 }
 
 // The steps, and after them the grammar's errors.
-fn reported(alloc: Global, mut steps: Vec<Step>, faults: &[Fault]) -> Result<Vec<Step>, AllocError>
+fn reported(
+    alloc: Global,
+    mut steps: Vec<Step>,
+    faults: &[ParserError],
+) -> Result<Vec<Step>, AllocError>
     ensures { IfOk result
         (λ v. front_steps v.items ≡ front_steps steps.items ++ map (report_by say_of) faults.now) }
 {

@@ -278,7 +278,7 @@ impl Sessions {
         insert: &str,
     ) -> anyhow::Result<()>
         requires { IsEditOf (text document.now.parse.tree)
-            (record { delete = delete; insert = insert.now }) }
+            (replacing delete insert.now) }
     {
         let parse = document.parse();
         let edition = document.edition();

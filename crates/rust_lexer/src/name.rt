@@ -8,7 +8,7 @@ use crate::class::{
 };
 use crate::cut::split;
 use crate::problem::Problem;
-use crate::shape::{Fault, Shape};
+use crate::shape::{Check, Shape};
 use bstr::decode_utf8;
 use ras_front_end::Edition;
 use rust_words::keyword;
@@ -108,7 +108,7 @@ fn prefix(word: &str, left: usize) -> Shape
         Shape {
             kind: SyntaxKind::IDENT,
             left,
-            fault: Fault::Prefix,
+            check: Check::Prefix,
         }
     }
 }

@@ -5,7 +5,7 @@ use Rattle.syntax_kind.specs.declared.syntax_kind.SyntaxKind.TheVariants.{Token,
 use Rattle.syntax_kind.specs.declared.syntax_kind.token_kind.TokenKind.TheVariants as token
 use Rattle.syntax_kind.specs.declared.syntax_kind.node_kind.NodeKind.TheVariants as node
 use Rattle.ras_front_end.specs.declared.edition.Entry.TheVariants.{SourceFile, Expr}
-use Rattle.ras_front_end.specs.Fault.{Fault}
+use Rattle.ras_front_end.specs.ErrorModel.{ErrorModel}
 use Rattle.ras_front_end.specs.Front.{Front}
 use Rattle.token_layout.specs.declared.parser.Target.{Target}
 use Rattle.token_layout.specs.declared.parser.Target.TheVariants.{Whole, Piece as PieceTarget}
@@ -24,11 +24,11 @@ goal_of (Whole Expr) = WholeExpression
 goal_of (PieceTarget r) = Piece
 
 -- the last node, of the nodes from the last to the first, is the root
-abbrev pub topped : List Span → List Fault → Outlined
+abbrev pub topped : List Span → List ErrorModel → Outlined
 topped [] errors = record { root = Token token.ERROR; spans = []; errors = errors }
 topped (s ∷ ss) errors = record { root = s.kind; spans = reverse ss; errors = errors }
 
-abbrev pub outline_with : Target → List Span → List Fault → Outlined
+abbrev pub outline_with : Target → List Span → List ErrorModel → Outlined
 outline_with (Whole Expr) spans errors = topped (reverse spans) errors
 outline_with _ spans errors = record { root = Token token.ERROR; spans = spans; errors = errors }
 

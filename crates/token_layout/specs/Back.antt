@@ -12,7 +12,7 @@ use Rattle.syntax_kind.specs.declared.syntax_kind.SyntaxKind.{SyntaxKind}
 use Rattle.tree_model.specs.Tree.{node, cons, nil}
 use Rattle.tree_model.specs.Events.{Event, enter, leaf, exit, Builds, nothing, node_then, open_after, forest_of}
 use Rattle.tree_model.proofs.Balance.{events_of-forest_of, builds-events_of}
-use Rattle.ras_front_end.specs.Fault.{fault_at}
+use Rattle.ras_front_end.specs.ErrorModel.{fault_at}
 use Rattle.ras_front_end.specs.Reading.{FrontStep, begins, takes, ends, reports, events_from, Cuts, step_faults}
 
 abbrev pub at : ℕ → List Span → List Span → List FrontStep → Laying

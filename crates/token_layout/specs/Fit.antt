@@ -3,7 +3,7 @@ use Rattle.std.specs.Prelude.{ℕ, ◌-◌, ◌^◌, min, nat_le, Bool, ◌&&◌
 use Rattle.std.specs.Str.{is_utf8}
 use Rattle.syntax_kind.specs.declared.syntax_kind.SyntaxKind.TheVariants.{Token}
 use Rattle.syntax_kind.specs.declared.syntax_kind.token_kind.TokenKind.TheVariants as token
-use Rattle.ras_front_end.specs.Fault.{Fault}
+use Rattle.ras_front_end.specs.ErrorModel.{ErrorModel}
 use Rattle.token_layout.specs.declared.span.Token.{Token as LexedToken}
 
 -- the length of a text, where that has 32 bits
@@ -34,5 +34,5 @@ fitted_of [] s = error_over s
 fitted_of (t ∷ ts) s = kept_of t s ++ fitted_of ts (left_of t s)
 
 -- the error with its range cut off at the end of a text of n bytes
-abbrev pub within : ℕ → Fault → Fault
+abbrev pub within : ℕ → ErrorModel → ErrorModel
 within n f = record { message = f.message; range = record { start = min f.range.start (min f.range.end n); end = min f.range.end n } }

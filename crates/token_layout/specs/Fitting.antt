@@ -7,7 +7,7 @@ use Rattle.std.proofs.Math.Seq.{drop-length, take-length}
 use Rattle.std.proofs.lemmas.Bool.Decides.{nat_tests}
 use Rattle.std.proofs.lemmas.List.Elements.{All-cons, All-nil}
 use Rattle.std.proofs.lemmas.Str.{IsUtf8-drop, IsCharBoundary-from_take, IsUtf8-from_is_utf8, is_utf8-from_IsUtf8}
-use Rattle.ras_front_end.specs.Fault.{Fault, LiesIn}
+use Rattle.ras_front_end.specs.ErrorModel.{ErrorModel, LiesIn}
 use Rattle.token_layout.specs.declared.span.Token.{Token}
 use Rattle.token_layout.specs.Laid.{IsCut}
 use Rattle.token_layout.specs.Fit.{size_of, begins_text, error_over, fitted_of, within}
@@ -48,9 +48,9 @@ fitted_cut (t ∷ ts) s u l =
     (λ q. ((begins t s q).0, (begins t s q).1, fitted_cut ts (drop t.len s) (behind_text t s u q) (behind_short t.len s l)))
     (fitted_cut ts s u l)
 
-within_lies : (n : ℕ) (f : Fault) → LiesIn n (within n f)
+within_lies : (n : ℕ) (f : ErrorModel) → LiesIn n (within n f)
 within_lies n f = record { forwards = min-le_right f.range.start (min f.range.end n); within = min-le_right f.range.end n }
 
-pub all_lie : (n : ℕ) (fs : List Fault) → All (LiesIn n) (map (within n) fs)
+pub all_lie : (n : ℕ) (fs : List ErrorModel) → All (LiesIn n) (map (within n) fs)
 all_lie n [] = All-nil (LiesIn n)
 all_lie n (f ∷ fs) = All-cons (LiesIn n) (within n f) (map (within n) fs) (within_lies n f) (all_lie n fs)

@@ -8,7 +8,7 @@ use Rattle.ras_node.specs.Sets.{is_expr}
 use Rattle.ras_front_end.specs.declared.edition.Entry.TheVariants.{SourceFile, Expr}
 use Rattle.ras_front_end.specs.declared.edition.Edition.{Edition}
 use Rattle.ras_front_end.specs.declared.edition.Reparser.{Reparser}
-use Rattle.ras_front_end.specs.Fault.{Fault}
+use Rattle.ras_front_end.specs.ErrorModel.{ErrorModel}
 use Rattle.ras_front_end.specs.Reading.{Reading}
 use Rattle.ras_front_end.specs.Front.{Front}
 use Rattle.token_layout.specs.declared.parser.Target.{Target}
@@ -28,7 +28,7 @@ abbrev pub tokens_of : LexerAnswers → Edition → List ℕ → List LexedToken
 tokens_of lexer e text = fitted_of (lexer.tokens e text) text
 
 -- the steps of the nodes over the tokens, and the errors, the parser's first, in a text of n bytes
-abbrev pub reading_over : Target → ℕ → List LexedToken → List Fault → Outlined → Reading
+abbrev pub reading_over : Target → ℕ → List LexedToken → List ErrorModel → Outlined → Reading
 reading_over target n ts errors o = record { steps = steps_of (root_of target o.root) ts o.spans; errors = map (within n) o.errors ++ map (within n) errors }
 
 abbrev pub reading_with : LexerAnswers → ParserAnswers → Target → Edition → List ℕ → Reading
@@ -37,12 +37,12 @@ reading_with lexer parser target e text = reading_over target (size_of text) (to
 abbrev pub kinds_of : List LexedToken → List SyntaxKind
 kinds_of ts = map (λ t. t.kind) ts
 
-abbrev pub message_with : List Fault → Option (List ℕ)
+abbrev pub message_with : List ErrorModel → Option (List ℕ)
 message_with [] = None
 message_with (f ∷ fs) = Some f.message
 
 -- one token, and the first error
-abbrev pub single_with : List LexedToken → List Fault → Option (SyntaxKind × Option (List ℕ))
+abbrev pub single_with : List LexedToken → List ErrorModel → Option (SyntaxKind × Option (List ℕ))
 single_with (t ∷ []) errors = Some (t.kind, message_with errors)
 single_with _ errors = None
 
