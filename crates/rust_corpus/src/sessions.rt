@@ -278,7 +278,7 @@ impl Sessions {
         insert: &str,
     ) -> anyhow::Result<()>
         requires { IsEditOf (text document.now.parse.tree)
-            (replacing delete insert.now) }
+            (record { delete = delete; insert = insert.now }) }
     {
         let parse = document.parse();
         let edition = document.edition();
