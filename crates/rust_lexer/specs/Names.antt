@@ -6,7 +6,7 @@ use Rattle.syntax_kind.specs.declared.syntax_kind.SyntaxKind.{SyntaxKind}
 use Rattle.syntax_kind.specs.declared.syntax_kind.SyntaxKind.TheVariants.{Token}
 use Rattle.syntax_kind.specs.declared.syntax_kind.token_kind.TokenKind.TheVariants as token
 use Rattle.ras_front_end.specs.declared.edition.Edition.{Edition}
-use Rattle.rust_words.specs.Keywords.{keyword_of}
+use Rattle.rust_kinds.specs.Keywords.{keyword_of}
 use Rattle.rust_lexer.specs.declared.class.Class.TheVariants as classes
 use Rattle.rust_lexer.specs.declared.class.Wide.TheVariants as wides
 use Rattle.rust_lexer.specs.declared.problem.Problem.TheVariants.{InvalidIdent}

@@ -11,7 +11,7 @@ use crate::problem::Problem;
 use crate::shape::{Check, Shape};
 use bstr::decode_utf8;
 use ras_front_end::Edition;
-use rust_words::keyword;
+use rust_kinds::keyword;
 use syntax_kind::SyntaxKind;
 
 fn begins_wide_name(bytes: &[u8]) -> bool
