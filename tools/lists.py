@@ -23,14 +23,25 @@ class Files:
     def text(self, path):
         return self.texts.setdefault(path, source(path))
 
-    def put(self, path, before, lines, behind):
-        """Puts lines between the first lines that are `before` and the next that are `behind`, both of which stay."""
+    def span(self, path, before, behind):
+        """Where the lines between the first lines that are `before` and the next that are `behind` begin and end. No line is behind a list
+        that the file ends with, as before an empty one."""
         text = self.text(path)
         at = text.find(f"{before}\n")
         start = at + len(before) + 1
-        end = text.find(f"{behind}\n", start)
-        if at < 0 or end < 0:
+        end = f"{text}\n".find(f"\n{behind}\n", start - 1) + 1
+        if at < 0 or not end:
             raise Lost(f"{path} has no list between `{before.strip()}` and `{behind.strip()}`")
+        return start, end
+
+    def between(self, path, before, behind):
+        start, end = self.span(path, before, behind)
+        return self.text(path)[start:end]
+
+    def put(self, path, before, lines, behind):
+        """Puts lines between those that `span` finds, which stay."""
+        start, end = self.span(path, before, behind)
+        text = self.text(path)
         self.texts[path] = text[:start] + "".join(f"{line}\n" for line in lines) + text[end:]
 
     def count(self, path, pattern, number):
