@@ -2,6 +2,7 @@
 //! command line asks for.
 #![tactic(auto)]
 
+mod arguments;
 pub mod manual;
 pub mod options;
 mod rows;

@@ -79,6 +79,8 @@ fn fish(text: &'static str) -> Quoted {
 struct Form {
     // Whether it has its place, and no name.
     is_placed: bool,
+    // Whether it takes more than one word there.
+    is_list: bool,
     letter: Option<char>,
     // The words that it takes, if these are all.
     words: &'static [&'static str],
@@ -88,6 +90,7 @@ struct Form {
 
 const FLAG: Form = Form {
     is_placed: false,
+    is_list: false,
     letter: None,
     words: &[],
     value: None,
@@ -95,7 +98,12 @@ const FLAG: Form = Form {
 
 fn form_of(row: &Row) -> Form {
     match row.takes {
-        Takes::Words | Takes::Word => Form {
+        Takes::Words => Form {
+            is_placed: true,
+            is_list: true,
+            ..FLAG
+        },
+        Takes::Word => Form {
             is_placed: true,
             ..FLAG
         },
@@ -270,6 +278,9 @@ fn write_bash<W: Write>(out: &mut W) -> io::Result<()> {
         b"' -- \"$word\"))
         return
     fi
+    # In `--format=json` the sign is a word by itself.
+    [ \"$word\" = = ] && word=
+    [ \"$before\" = = ] && before=${COMP_WORDS[COMP_CWORD-2]}
     case $command:$before in
 ",
     )?;
@@ -316,7 +327,9 @@ fn write_zsh_row<W: Write>(out: &mut W, row: &Row) -> io::Result<()> {
     out.write_all(b" \\\n                ")?;
     if form.is_placed {
         if form.words.is_empty() {
-            return write!(out, "'*:{}:_files'", row.name);
+            // A word in its place has no star: there is one `*:` at most.
+            let more = if form.is_list { "*" } else { "" };
+            return write!(out, "'{more}:{}:_files'", row.name);
         }
         write!(out, "'1:{}:(", row.name)?;
         write_words(out, form.words, " ")?;

@@ -236,12 +236,17 @@ fn part_of(matches: &ArgMatches) -> Option<Part> {
     }
 }
 
-// The address that an option gives.
-fn address_of(alloc: Global, matches: &ArgMatches) -> Result<Option<String>, AllocError> {
-    match matches.get_str("grammar") {
+// The text that an option gives.
+fn text_of(alloc: Global, matches: &ArgMatches, name: &str) -> Result<Option<String>, AllocError> {
+    match matches.get_str(name) {
         Some(text) => Ok(Some(String::from_str(alloc, text)?)),
         None => Ok(None),
     }
+}
+
+/// The path that standard input is taken for; `None` if the command line gives none.
+pub fn input_name_of(alloc: Global, matches: &ArgMatches) -> Result<Option<String>, AllocError> {
+    text_of(alloc, matches, "stdin-filename")
 }
 
 /// What is shown of the tree of one file, or of several, and how. Returns `None` if a place or a
@@ -273,6 +278,6 @@ pub fn showing(
         ancestors: matches.get_flag("ancestors"),
         // An object of JSON has the name of its file.
         named: has_several && !matches!(drawing, TreeFormat::Json),
-        grammar: address_of(alloc, matches)?,
+        grammar: text_of(alloc, matches, "grammar")?,
     }))
 }

@@ -1,399 +1,15 @@
 //! The commands and their arguments, as `clap` reads them.
 
+use crate::arguments::{
+    ALL, ALL_ERRORS, ANCESTORS, AT, CHECK_FORMAT, COLOR, COUNT, DEPTH, DIFF, DIFF_FORMAT, EDITION,
+    ENTRY, EXCLUDE, FILE, FILES, FILES_WITH_MATCHES, FIX, FOLLOW, FORMAT, GLOB, GRAMMAR, HIDDEN,
+    HYPERLINKS, IGNORE_TRIVIA, INK, INTERACTIVE, LIMIT, LOCALS, MACROS, MAX_ERRORS, MESSAGES,
+    MIXED, NEW, NO_IGNORE, NO_TRIVIA, NO_VALIDATION, OLD, ONLY, PAIR_FORMAT, PATTERN, QUIET, RANGE,
+    REPLACE, RULE_AND_FILES, RULES, SHELL, STATS, STDIN_FILENAME, TREE_FORMAT,
+};
 use crate::rows::{Row, Takes, Verb};
 use clap::{Arg, ArgAction, Command, value_parser};
 use std::alloc::{AllocError, Global};
-
-const FILES: Row = Row {
-    name: "FILE",
-    takes: Takes::Words,
-    default: None,
-    conflicts: &[],
-    help: "Rust files, and folders, which are searched for `.rs` files; `-` is standard input",
-};
-
-const FILE: Row = Row {
-    name: "FILE",
-    takes: Takes::Word,
-    default: None,
-    conflicts: &[],
-    help: "A Rust file; `-` is standard input",
-};
-
-const OLD: Row = Row {
-    name: "A",
-    takes: Takes::Word,
-    default: None,
-    conflicts: &[],
-    help: "A Rust file; `-` is standard input",
-};
-
-const NEW: Row = Row {
-    name: "B",
-    takes: Takes::Word,
-    default: None,
-    conflicts: &[],
-    help: "A Rust file; `-` is standard input",
-};
-
-const PATTERN: Row = Row {
-    name: "PATTERN",
-    takes: Takes::Word,
-    default: None,
-    conflicts: &[],
-    help: "Kinds, such as `FN > NAME`; `>` precedes a child, `//` a descendant; `A|B`, `*`, `=\"text\"`, `~\"regex\"`, `@name`",
-};
-
-const RULE_AND_FILES: Row = Row {
-    name: "FILE",
-    takes: Takes::Words,
-    default: None,
-    conflicts: &[],
-    help: "The rule, unless `--rules` is given, and then Rust files, and folders, which are searched for `.rs` files; `-` is standard input",
-};
-
-const RULES: Row = Row {
-    name: "rules",
-    takes: Takes::Text("FILE"),
-    default: None,
-    conflicts: &[],
-    help: "The rules of this file: one a line, or TOML if its name ends with `.toml`",
-};
-
-const SHELL: Row = Row {
-    name: "SHELL",
-    takes: Takes::Choice(&["bash", "zsh", "fish"]),
-    default: None,
-    conflicts: &[],
-    help: "The shell",
-};
-
-const EDITION: Row = Row {
-    name: "edition",
-    takes: Takes::OneOf(&["auto", "2015", "2018", "2021", "2024"]),
-    default: Some("auto"),
-    conflicts: &[],
-    help: "The Rust edition; `auto`: that of the nearest Cargo.toml above each file, or 2024",
-};
-
-const ENTRY: Row = Row {
-    name: "entry",
-    takes: Takes::OneOf(&["file", "expr"]),
-    default: Some("file"),
-    conflicts: &[],
-    help: "Whether a text is a file or an expression",
-};
-
-const NO_VALIDATION: Row = Row {
-    name: "no-validation",
-    takes: Takes::Nothing,
-    default: None,
-    conflicts: &[],
-    help: "Reports only the errors of the lexer and the parser",
-};
-
-const QUIET: Row = Row {
-    name: "quiet",
-    takes: Takes::Letter('q'),
-    default: None,
-    conflicts: &[],
-    help: "Suppresses standard output; the exit status is the result",
-};
-
-const COLOR: Row = Row {
-    name: "color",
-    takes: Takes::OneOf(&["auto", "always", "never"]),
-    default: Some("auto"),
-    conflicts: &[],
-    help: "Whether check, outline, parens, query, search and rewrite use colours; `auto`: on a terminal",
-};
-
-const HYPERLINKS: Row = Row {
-    name: "hyperlinks",
-    takes: Takes::OneOf(&["auto", "always", "never"]),
-    default: Some("auto"),
-    conflicts: &[],
-    help: "Whether names of files in results are links on a terminal; `auto`: as `--color auto` does",
-};
-
-const FOLLOW: Row = Row {
-    name: "follow",
-    takes: Takes::Nothing,
-    default: None,
-    conflicts: &[],
-    help: "Follows links that are found in a folder; `--fix` then writes only below that folder",
-};
-
-const HIDDEN: Row = Row {
-    name: "hidden",
-    takes: Takes::Nothing,
-    default: None,
-    conflicts: &[],
-    help: "Reads files and folders that are found in a folder and whose names begin with a dot",
-};
-
-const NO_IGNORE: Row = Row {
-    name: "no-ignore",
-    takes: Takes::Nothing,
-    default: None,
-    conflicts: &[],
-    help: "Reads what `.gitignore` and `.ignore` name, and the folders `target` in which cargo builds",
-};
-
-const GLOB: Row = Row {
-    name: "glob",
-    takes: Takes::LetterTexts('g', "GLOB"),
-    default: None,
-    conflicts: &[],
-    help: "Reads only the files of a folder that fit one of these; leaves out what fits one with `!` in front",
-};
-
-const EXCLUDE: Row = Row {
-    name: "exclude",
-    takes: Takes::Texts("GLOB"),
-    default: None,
-    conflicts: &[],
-    help: "Leaves out the files and folders of a folder that fit one of these",
-};
-
-const MAX_ERRORS: Row = Row {
-    name: "max-errors",
-    takes: Takes::Number,
-    default: None,
-    conflicts: &[],
-    help: "The number of errors of each file that are listed",
-};
-
-const ALL_ERRORS: Row = Row {
-    name: "all-errors",
-    takes: Takes::Nothing,
-    default: None,
-    conflicts: &[],
-    help: "Gives each error a line, also further ones at the place of another",
-};
-
-const COUNT: Row = Row {
-    name: "count",
-    takes: Takes::Letter('c'),
-    default: None,
-    conflicts: &[],
-    help: "Prints only how much was found in each file, if anything was",
-};
-
-const FILES_WITH_MATCHES: Row = Row {
-    name: "files-with-matches",
-    takes: Takes::Letter('l'),
-    default: None,
-    conflicts: &["count"],
-    help: "Prints only the names of the files in which something was found",
-};
-
-const MESSAGES: Row = Row {
-    name: "messages",
-    takes: Takes::OneOf(&["plain", "upstream"]),
-    default: Some("plain"),
-    conflicts: &[],
-    help: "The words of messages: `plain`, or those of rust-analyzer's parser, which names kinds",
-};
-
-const FORMAT: Row = Row {
-    name: "format",
-    takes: Takes::OneOf(&["text", "json"]),
-    default: Some("text"),
-    conflicts: &[],
-    help: "The form of the output; `json` is one object on each line",
-};
-
-const CHECK_FORMAT: Row = Row {
-    name: "format",
-    takes: Takes::OneOf(&["text", "json", "github", "sarif"]),
-    default: Some("text"),
-    conflicts: &[],
-    help: "The form of the output; `json` is one object on each line, `sarif` one object for all",
-};
-
-const PAIR_FORMAT: Row = Row {
-    name: "format",
-    takes: Takes::OneOf(&["text", "json", "sarif"]),
-    default: Some("text"),
-    conflicts: &[],
-    help: "The form of the output; `json` is one object on each line, `sarif` one object for all",
-};
-
-const TREE_FORMAT: Row = Row {
-    name: "format",
-    takes: Takes::OneOf(&["text", "json", "sexp", "html"]),
-    default: Some("text"),
-    conflicts: &[],
-    help: "The form of the output; `json` is one object on each line",
-};
-
-const DIFF_FORMAT: Row = Row {
-    name: "format",
-    takes: Takes::OneOf(&["text", "html"]),
-    default: Some("text"),
-    conflicts: &[],
-    help: "The form of the output; `html` is a page with both texts side by side",
-};
-
-const INK: Row = Row {
-    name: "format",
-    takes: Takes::OneOf(&["html", "ansi"]),
-    default: Some("ansi"),
-    conflicts: &[],
-    help: "A page of HTML, or terminal colours",
-};
-
-const AT: Row = Row {
-    name: "at",
-    takes: Takes::Text("LINE:COLUMN"),
-    default: None,
-    conflicts: &[],
-    help: "Shows only the token at this place; both count from 1",
-};
-
-const RANGE: Row = Row {
-    name: "range",
-    takes: Takes::Text("START..END"),
-    default: None,
-    conflicts: &["at"],
-    help: "Shows only the deepest node or token around this range of bytes",
-};
-
-const ANCESTORS: Row = Row {
-    name: "ancestors",
-    takes: Takes::Nothing,
-    default: None,
-    conflicts: &["format", "stats"],
-    help: "Shows the nodes around the token of `--at` or the range of `--range`, outermost first",
-};
-
-const GRAMMAR: Row = Row {
-    name: "grammar",
-    takes: Takes::Text("URL"),
-    default: None,
-    conflicts: &["stats", "ancestors"],
-    help: "In a page, kinds link to their rules in the page that is at this URL",
-};
-
-const DEPTH: Row = Row {
-    name: "depth",
-    takes: Takes::Number,
-    default: None,
-    conflicts: &[],
-    help: "The number of levels that are shown",
-};
-
-const NO_TRIVIA: Row = Row {
-    name: "no-trivia",
-    takes: Takes::Nothing,
-    default: None,
-    conflicts: &[],
-    help: "Omits white space and comments",
-};
-
-const STATS: Row = Row {
-    name: "stats",
-    takes: Takes::Nothing,
-    default: None,
-    conflicts: &["at", "range"],
-    help: "Shows the numbers of nodes, tokens, levels and errors instead of the tree",
-};
-
-const LOCALS: Row = Row {
-    name: "locals",
-    takes: Takes::Nothing,
-    default: None,
-    conflicts: &[],
-    help: "Lists what `let` binds too",
-};
-
-const DIFF: Row = Row {
-    name: "diff",
-    takes: Takes::Nothing,
-    default: None,
-    conflicts: &["format"],
-    help: "Prints a patch, without context lines",
-};
-
-const FIX: Row = Row {
-    name: "fix",
-    takes: Takes::Nothing,
-    default: None,
-    conflicts: &["diff", "format"],
-    help: "Removes the pairs from each file; the exit status is 0 then",
-};
-
-const REPLACE: Row = Row {
-    name: "fix",
-    takes: Takes::Nothing,
-    default: None,
-    conflicts: &["diff", "format"],
-    help: "Replaces the matches in each file; the exit status is 0 then",
-};
-
-const MACROS: Row = Row {
-    name: "macros",
-    takes: Takes::Nothing,
-    default: None,
-    conflicts: &[],
-    help: "Looks into the arguments of macros too, where they are a list of expressions",
-};
-
-const INTERACTIVE: Row = Row {
-    name: "interactive",
-    takes: Takes::Nothing,
-    default: None,
-    conflicts: &[
-        "diff",
-        "fix",
-        "format",
-        "count",
-        "files-with-matches",
-        "quiet",
-    ],
-    help: "Asks on a terminal for each replacement whether it is made",
-};
-
-const ALL: Row = Row {
-    name: "all",
-    takes: Takes::Nothing,
-    default: None,
-    conflicts: &[],
-    help: "Finds operands too, and pairs in all other places, but for those of `--mixed`",
-};
-
-const MIXED: Row = Row {
-    name: "mixed",
-    takes: Takes::Nothing,
-    default: None,
-    conflicts: &[],
-    help: "Finds arithmetic below a shift too, where clippy's `precedence` asks for the pair",
-};
-
-const ONLY: Row = Row {
-    name: "only",
-    takes: Takes::OneOf(&["values", "operands", "others"]),
-    default: None,
-    conflicts: &["all"],
-    help: "Finds the pairs in these places alone; without `--all` it is `values`",
-};
-
-const LIMIT: Row = Row {
-    name: "limit",
-    takes: Takes::Number,
-    default: None,
-    conflicts: &[],
-    help: "The number of places that are printed, 10 if it is not given; of a page all are",
-};
-
-const IGNORE_TRIVIA: Row = Row {
-    name: "no-trivia",
-    takes: Takes::Nothing,
-    default: None,
-    conflicts: &[],
-    help: "Ignores white space and comments",
-};
 
 static TREE_VERB: Verb = Verb {
     name: "tree",
@@ -416,6 +32,7 @@ static TREE_VERB: Verb = Verb {
         GLOB,
         EXCLUDE,
         EDITION,
+        STDIN_FILENAME,
         COLOR,
         QUIET,
         FILES,
@@ -441,6 +58,7 @@ static CHECK_VERB: Verb = Verb {
         GLOB,
         EXCLUDE,
         EDITION,
+        STDIN_FILENAME,
         COLOR,
         HYPERLINKS,
         QUIET,
@@ -463,6 +81,7 @@ static OUTLINE_VERB: Verb = Verb {
         GLOB,
         EXCLUDE,
         EDITION,
+        STDIN_FILENAME,
         COLOR,
         HYPERLINKS,
         QUIET,
@@ -489,6 +108,7 @@ static PARENS_VERB: Verb = Verb {
         GLOB,
         EXCLUDE,
         EDITION,
+        STDIN_FILENAME,
         COLOR,
         HYPERLINKS,
         QUIET,
@@ -501,7 +121,17 @@ static TOKENS_VERB: Verb = Verb {
     about: "Lists the lexer's tokens of each file, and its errors",
     example: "Example: rust_tree tokens src/main.rs",
     rows: &[
-        FORMAT, FOLLOW, HIDDEN, NO_IGNORE, GLOB, EXCLUDE, EDITION, COLOR, QUIET, FILES,
+        FORMAT,
+        FOLLOW,
+        HIDDEN,
+        NO_IGNORE,
+        GLOB,
+        EXCLUDE,
+        EDITION,
+        STDIN_FILENAME,
+        COLOR,
+        QUIET,
+        FILES,
     ],
 };
 
@@ -520,6 +150,7 @@ static QUERY_VERB: Verb = Verb {
         GLOB,
         EXCLUDE,
         EDITION,
+        STDIN_FILENAME,
         COLOR,
         HYPERLINKS,
         QUIET,
@@ -529,7 +160,7 @@ static QUERY_VERB: Verb = Verb {
 
 static SEARCH_VERB: Verb = Verb {
     name: "search",
-    about: "Finds expressions by code with placeholders; the exit status is 1 if there is one",
+    about: "Finds code by code with placeholders; the exit status is 1 if there is one",
     example: "Example: rust_tree search '$a + $a' src",
     rows: &[
         RULES,
@@ -543,6 +174,7 @@ static SEARCH_VERB: Verb = Verb {
         GLOB,
         EXCLUDE,
         EDITION,
+        STDIN_FILENAME,
         COLOR,
         HYPERLINKS,
         QUIET,
@@ -552,7 +184,7 @@ static SEARCH_VERB: Verb = Verb {
 
 static REWRITE_VERB: Verb = Verb {
     name: "rewrite",
-    about: "Replaces expressions by code with placeholders; the exit status is 1 if there is one",
+    about: "Replaces code by code with placeholders; the exit status is 1 if there is one",
     example: "Example: rust_tree rewrite '$a.clone() ==>> *$a' --diff src",
     rows: &[
         RULES,
@@ -569,6 +201,7 @@ static REWRITE_VERB: Verb = Verb {
         GLOB,
         EXCLUDE,
         EDITION,
+        STDIN_FILENAME,
         COLOR,
         HYPERLINKS,
         QUIET,
@@ -580,7 +213,7 @@ static HIGHLIGHT_VERB: Verb = Verb {
     name: "highlight",
     about: "Prints a file with syntax highlighting",
     example: "Example: rust_tree highlight --format html src/main.rs > main.html",
-    rows: &[INK, EDITION, ENTRY, QUIET, FILE],
+    rows: &[INK, EDITION, STDIN_FILENAME, ENTRY, QUIET, FILE],
 };
 
 static DIFF_VERB: Verb = Verb {

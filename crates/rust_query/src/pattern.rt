@@ -2,12 +2,16 @@
 //! `STRING~"^\"http"`.
 
 use crate::reader::{Reader, unescaped};
-use lossless_tree::SyntaxKind;
+use lossless_tree::{KINDS, SyntaxKind};
 use regex::Regex;
-use rust_kinds::from_name;
+use rust_kinds::{from_name, name_of};
 use rust_report::{Link, PatternError};
 use std::alloc::{AllocError, AllocFailed, Global};
 use std::fmt;
+use strsim::levenshtein;
+
+// The longest word, in bytes, for which a near name is looked for.
+const LONGEST: usize = 64;
 
 /// What the text of a node or token has to be.
 #[derive(Drop)]
@@ -63,8 +67,8 @@ pub struct TextPattern {
 pub enum QueryError {
     /// A kind is missing.
     NoKind,
-    /// No kind has this name.
-    UnknownKind(String),
+    /// No kind has this name; and a name that is near, if there is one.
+    UnknownKind(String, Option<&'static str>),
     /// A text in double quotes is missing, or has no end.
     NoQuote,
     /// A name is missing behind `@`.
@@ -75,16 +79,6 @@ pub enum QueryError {
     Regex(regex::Error),
     /// Out of memory.
     Memory,
-}
-
-impl From<PatternError> for QueryError {
-    fn from(error: PatternError) -> QueryError {
-        match error {
-            PatternError::NoKind => QueryError::NoKind,
-            PatternError::UnknownKind(word) => QueryError::UnknownKind(word),
-            PatternError::Memory => QueryError::Memory,
-        }
-    }
 }
 
 impl From<AllocError> for QueryError {
@@ -103,10 +97,16 @@ impl fmt::Display for QueryError {
     fn fmt<W: fmt::Write>(&self, f: &mut fmt::Formatter<W>) -> fmt::Result {
         match self {
             QueryError::NoKind => f.write_str("a kind is missing"),
-            QueryError::UnknownKind(word) => {
+            QueryError::UnknownKind(word, None) => {
                 write!(
                     f,
                     "no kind is named `{word}`; `tree` shows the kinds of a text"
+                )
+            }
+            QueryError::UnknownKind(word, Some(near)) => {
+                write!(
+                    f,
+                    "no kind is named `{word}`, but `{near}` is one; `tree` shows the kinds of a text"
                 )
             }
             QueryError::NoQuote => f.write_str("a text in double quotes is missing, or has no end"),
@@ -116,6 +116,70 @@ impl fmt::Display for QueryError {
             QueryError::Memory => f.write_str("out of memory"),
         }
     }
+}
+
+// A name of a kind that is near, and how many signs have to be put in, left out or replaced to make
+// it of a word.
+#[derive(Clone, Copy)]
+struct Near {
+    name: Option<&'static str>,
+    distance: usize,
+}
+
+impl Near {
+    // Takes a name, if it is nearer.
+    fn try_name(
+        &mut self,
+        alloc: Global,
+        word: &str,
+        name: &'static str,
+    ) -> Result<(), AllocError> {
+        let distance = levenshtein(alloc, word, name)?;
+        if distance < self.distance {
+            *self = Near {
+                name: Some(name),
+                distance,
+            };
+        }
+        Ok(())
+    }
+}
+
+// The name of a kind that is nearest to a word in capitals. At most a third of the signs differ.
+fn nearest(alloc: Global, word: &str) -> Result<Option<&'static str>, AllocError> {
+    let mut near = Near {
+        name: None,
+        distance: (word.len() / 3).saturating_add(1),
+    };
+    if word.len() > LONGEST {
+        return Ok(None);
+    }
+    for &kind in &KINDS {
+        if let Some(name) = name_of(kind) {
+            near.try_name(alloc, word, name)?;
+        }
+    }
+    for number in 0..=u16::MAX {
+        let Some(name) = name_of(SyntaxKind::OTHER(number)) else {
+            break;
+        };
+        near.try_name(alloc, word, name)?;
+    }
+    Ok(near.name)
+}
+
+// The error of a word that names no kind.
+fn unknown(alloc: Global, word: &str) -> QueryError {
+    match unknown_kind(alloc, word) {
+        Ok(error) => error,
+        Err(_) => QueryError::Memory,
+    }
+}
+
+fn unknown_kind(alloc: Global, word: &str) -> Result<QueryError, AllocError> {
+    let upper = word.to_ascii_uppercase(alloc)?;
+    let near = nearest(alloc, upper.as_str())?;
+    Ok(QueryError::UnknownKind(String::from_str(alloc, word)?, near))
 }
 
 // The kind that a word names, in any case; `None` for any kind.
@@ -129,7 +193,7 @@ fn kind_of(alloc: Global, word: &str) -> Result<Option<SyntaxKind>, QueryError> 
     let name = word.to_ascii_uppercase(alloc)?;
     match from_name(name.as_str()) {
         Some(kind) => Ok(Some(kind)),
-        None => Err(QueryError::UnknownKind(String::from_str(alloc, word)?)),
+        None => Err(unknown(alloc, word)),
     }
 }
 
@@ -256,6 +320,8 @@ pub fn parse_pattern(alloc: Global, text: &str) -> Result<Pattern, QueryError> {
     let upper = text.to_ascii_uppercase(alloc)?;
     match rust_report::parse_pattern(alloc, upper.as_str()) {
         Ok(steps) => Ok(Pattern::Kinds(steps)),
-        Err(error) => Err(QueryError::from(error)),
+        Err(PatternError::NoKind) => Err(QueryError::NoKind),
+        Err(PatternError::UnknownKind(word)) => Err(unknown(alloc, word.as_str())),
+        Err(PatternError::Memory) => Err(QueryError::Memory),
     }
 }

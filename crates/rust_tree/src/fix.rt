@@ -45,7 +45,11 @@ fn leads_down(name: &str) -> bool {
 // The name of a file from the folder that the program runs in, or `None` if the file is not below
 // it.
 fn name_below(rt: &HostRuntime, name: &str) -> io::Result<Option<String>> {
-    let (folder, path) = (fs::canonicalize(rt, ".")?, fs::canonicalize(rt, name)?);
+    let folder = fs::canonicalize(rt, ".")?;
+    // Standard input may have the path of a file that is not there.
+    let Ok(path) = fs::canonicalize(rt, name) else {
+        return Ok(None);
+    };
     match path_below(folder.as_str(), path.as_str()) {
         Some(rest) => Ok(Some(String::from_str(rt.alloc(), rest)?)),
         None => Ok(None),
@@ -223,8 +227,8 @@ pub struct Done {
     pub verb: &'static str,
 }
 
-/// Replaces the text of a file, and writes what was done. For standard input, writes the text to
-/// the output. `folder` is the folder whose search found the file.
+/// Replaces the text of a file, and writes what was done. `folder` is the folder whose search found
+/// the file.
 pub fn fix<W: Write>(
     rt: &HostRuntime,
     out: &mut W,
@@ -233,9 +237,6 @@ pub fn fix<W: Write>(
     text: &str,
     done: Done,
 ) -> Result<(), Failure> {
-    if name == "-" {
-        return Ok(out.write_all(text.as_bytes())?);
-    }
     write_over(rt, name, folder, text)?;
     let Done { count, noun, verb } = done;
     let things = noun_for(count as u64, noun.one, noun.many);

@@ -39,6 +39,8 @@ pub struct Job {
     pub globs: Globs,
     /// The path of the folder that the program runs in if names of files are links; else `None`.
     pub links: Option<String>,
+    /// The path that standard input is taken for; `None` if it has none.
+    pub input_name: Option<String>,
 }
 
 // What a run keeps from file to file.
@@ -51,13 +53,21 @@ struct Progress {
     kept: Kept,
 }
 
-// What a run with rules keeps from file to file.
+// What is known while a file is read.
+#[derive(Clone, Copy)]
+struct State {
+    // Whether it is standard input.
+    is_input: bool,
+    // Whether somebody who was asked ended the run.
+    is_over: bool,
+}
+
+// What a run keeps from file to file.
 #[derive(Drop)]
 struct Kept {
     // The rules for the file that is read.
     chosen: Chosen,
-    // Whether somebody who was asked ended the run.
-    is_over: bool,
+    state: State,
 }
 
 impl Progress {
@@ -72,7 +82,10 @@ impl Progress {
             },
             kept: Kept {
                 chosen: Chosen::new(rt.alloc()),
-                is_over: false,
+                state: State {
+                    is_input: false,
+                    is_over: false,
+                },
             },
         }
     }
@@ -107,18 +120,20 @@ const MATCHES: Noun = Noun {
 };
 
 // Replaces the text of a file, if anything was done in it. The new text of standard input is always
-// written.
+// written to the output.
 fn fix_file<W: Write>(
     rt: &HostRuntime,
     out: &mut W,
     source: Source<'_>,
     new: &str,
     done: Done,
+    state: State,
 ) -> Result<(), Failure> {
-    if source.name != "-" {
-        fix::tidy(rt, source.name)?;
+    if state.is_input {
+        return Ok(out.write_all(new.as_bytes())?);
     }
-    if done.count > 0 || source.name == "-" {
+    fix::tidy(rt, source.name)?;
+    if done.count > 0 {
         fix::fix(rt, out, source.name, source.folder, new, done)?;
     }
     Ok(())
@@ -132,6 +147,7 @@ fn write_pairs<W: Write>(
     found: &Needless,
     options: ReportOptions,
     then: Then,
+    state: State,
 ) -> Result<u64, Failure> {
     let (alloc, pairs) = (rt.alloc(), found.pairs.as_slice());
     let new = match &found.text {
@@ -151,7 +167,7 @@ fn write_pairs<W: Write>(
                 noun: PAIRS,
                 verb: "removed",
             };
-            fix_file(rt, out, source, new, done)?;
+            fix_file(rt, out, source, new, done, state)?;
         }
     }
     Ok(pairs.len() as u64)
@@ -164,9 +180,10 @@ fn parens<W: Write>(
     source: Source<'_>,
     options: ReportOptions,
     then: Then,
+    state: State,
 ) -> Result<u64, Failure> {
     let found = parens::needless(rt.alloc(), source.text, options.reading, options.wanted)?;
-    write_pairs(rt, out, source, &found, options, then)
+    write_pairs(rt, out, source, &found, options, then, state)
 }
 
 // Writes what is done with a text in which nothing matches.
@@ -175,6 +192,7 @@ fn write_unchanged<W: Write>(
     out: &mut W,
     source: Source<'_>,
     then: Then,
+    state: State,
 ) -> Result<(), Failure> {
     match then {
         Then::List | Then::Diff | Then::Ask => Ok(()),
@@ -184,7 +202,7 @@ fn write_unchanged<W: Write>(
                 noun: MATCHES,
                 verb: "replaced",
             };
-            fix_file(rt, out, source, source.text, done)
+            fix_file(rt, out, source, source.text, done, state)
         }
     }
 }
@@ -205,9 +223,9 @@ fn ask_and_fix<W: Write>(
     set: &RuleSet,
     done: &Replaced,
     options: ReportOptions,
-    is_over: &mut bool,
+    state: &mut State,
 ) -> Result<(), Failure> {
-    let marks = ask(rt, out, source, set, done, options, is_over)?;
+    let marks = ask(rt, out, source, set, done, options, &mut state.is_over)?;
     let count = marks.iter().filter(|mark| **mark).count();
     if count == 0 {
         return Ok(());
@@ -221,7 +239,7 @@ fn ask_and_fix<W: Write>(
         noun: MATCHES,
         verb: "replaced",
     };
-    fix_file(rt, out, source, taken.text.as_str(), told)
+    fix_file(rt, out, source, taken.text.as_str(), told, *state)
 }
 
 // Writes what is done with the matches of a text.
@@ -233,10 +251,10 @@ fn write_rewritten<W: Write>(
     done: &Replaced,
     options: ReportOptions,
     then: Then,
-    is_over: &mut bool,
+    state: &mut State,
 ) -> Result<(), Failure> {
     match then {
-        Then::Ask => ask_and_fix(rt, out, source, set, done, options, is_over),
+        Then::Ask => ask_and_fix(rt, out, source, set, done, options, state),
         Then::List => rules::list(rt.alloc(), out, source, set, done, options),
         Then::Diff => fix::diff_of(rt, out, source, &done.edit),
         Then::Fix => {
@@ -245,7 +263,7 @@ fn write_rewritten<W: Write>(
                 noun: MATCHES,
                 verb: "replaced",
             };
-            fix_file(rt, out, source, done.text.as_str(), told)
+            fix_file(rt, out, source, done.text.as_str(), told, *state)
         }
     }
 }
@@ -314,20 +332,11 @@ fn rewrite<W: Write>(
     let set = rules_for(rt, &mut kept.chosen, set, source)?;
     match replaced(rt.alloc(), source, set, options, in_macros)? {
         None => {
-            write_unchanged(rt, out, source, then)?;
+            write_unchanged(rt, out, source, then, kept.state)?;
             Ok(0)
         }
         Some(done) => {
-            write_rewritten(
-                rt,
-                out,
-                source,
-                set,
-                &done,
-                options,
-                then,
-                &mut kept.is_over,
-            )?;
+            write_rewritten(rt, out, source, set, &done, options, then, &mut kept.state)?;
             Ok(done.edit.len() as u64)
         }
     }
@@ -410,7 +419,7 @@ impl Job {
             Task::Tree { showing } => tree::show(alloc, out, source, options.reading, showing),
             Task::Check => check(alloc, out, source, options),
             Task::Outline => outline::show(alloc, out, source, options),
-            Task::Parens { then } => parens(rt, out, source, options, *then),
+            Task::Parens { then } => parens(rt, out, source, options, *then, kept.state),
             Task::Highlight { ink } => highlight::show(alloc, out, source, options.reading, *ink),
             Task::Tokens => tokens::show(alloc, out, source, options),
             Task::Query { pattern } => query::show(alloc, out, source, pattern, options),
@@ -466,25 +475,31 @@ impl Job {
         folder: Option<&str>,
         progress: &mut Progress,
     ) -> io::Result<()> {
-        if progress.kept.is_over || progress.was_read(rt, path)? {
+        if progress.kept.state.is_over || progress.was_read(rt, path)? {
             return Ok(());
         }
-        let link = link_of(rt, &self.links, path)?;
+        let is_input = path == "-";
+        progress.kept.state.is_input = is_input;
+        let shown = match &self.input_name {
+            Some(input_name) if is_input => input_name.as_str(),
+            _ => path,
+        };
+        let link = link_of(rt, &self.links, shown)?;
         match text_of(rt, path) {
             Ok(text) => {
                 let source = Source {
-                    name: &*path,
+                    name: shown,
                     folder,
                     link: link.as_str(),
                     text: text.as_str(),
                 };
-                let edition = progress.manifests.edition_of(rt, path)?;
+                let edition = progress.manifests.edition_of(rt, shown)?;
                 let Progress { session, kept, .. } = progress;
                 self.reported(rt, out, source, edition, session, kept)
             }
             Err(error) => {
                 progress.session.fail(UNREAD);
-                eprintln!(rt; "rust_tree: {}: {error}", name(path))
+                eprintln!(rt; "rust_tree: {}: {error}", name(shown))
             }
         }
     }

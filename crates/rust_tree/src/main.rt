@@ -17,7 +17,7 @@ use failure::tell;
 use inputs::{is_folder, text_of};
 use job::Job;
 use rust_cli::manual::{write_completions, write_manual};
-use rust_cli::options::{Options, edition, globs_of, is_page, limit, reading};
+use rust_cli::options::{Options, edition, globs_of, input_name_of, is_page, limit, reading};
 use rust_cli::task::{Refusal, Task, Then, files_of, task_of, task_of_rules};
 use rust_cli::verbs;
 use rust_draw::sides;
@@ -122,6 +122,7 @@ fn run_task(rt: &HostRuntime, task: Task, command: &str, matches: &ArgMatches) -
         options,
         globs,
         links: links_of(rt, matches)?,
+        input_name: input_name_of(rt.alloc(), matches)?,
     };
     let session = run_job(rt, &job, command, matches)?;
     Ok(job.status(&session))
