@@ -22,19 +22,27 @@
 //!
 //! The constructors have rust-analyzer's names. Texts are read in the newest edition.
 mod control;
+mod defs;
 mod exprs;
+mod forms;
+mod generics;
 mod items;
 mod names;
 mod pats;
 mod places;
+mod records;
 mod types;
 
 pub use control::*;
+pub use defs::*;
 pub use exprs::*;
+pub use forms::*;
+pub use generics::*;
 pub use items::*;
 pub use names::*;
 pub use pats::*;
 pub use places::Place;
+pub use records::*;
 pub use types::*;
 
 use crate::ast::{self, AstNode, UnaryOp};
@@ -244,9 +252,28 @@ impl<'p> Pieces<'p> {
         }
     }
 
+    // A visibility, with a blank behind it.
+    fn visibility(&mut self, visibility: Option<&'p ast::Visibility>) {
+        self.optional("", visibility);
+        self.text(if visibility.is_some() { " " } else { "" });
+    }
+
+    // Items between braces, a line for each.
+    fn braced(&mut self, items: &'p [impl AstNode]) {
+        self.text("{");
+        self.each("\n    ", items, "");
+        self.text(if items.is_empty() { "}" } else { "\n}" });
+    }
+
     fn made<N: AstNode>(&self) -> Result<N, MakeError> {
         form(&self.0)
     }
+}
+
+// A part of a node that was made, as the root of a tree of its own.
+fn part_of<N: AstNode>(part: Option<N>) -> Result<N, MakeError> {
+    let part = part.ok_or(MakeError::NotOne)?;
+    N::cast(part.syntax().clone_subtree()).ok_or(MakeError::NotOne)
 }
 
 fn prefix_text(op: UnaryOp) -> &'static str {

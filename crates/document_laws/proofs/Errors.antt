@@ -6,7 +6,7 @@ use Rattle.syntax_kind.specs.declared.syntax_kind.SyntaxKind.{SyntaxKind}
 use Rattle.text_size.specs.TextRange.{Bounds}
 use Rattle.ras_front_end.specs.declared.edition.Edition.{Edition}
 use Rattle.ras_front_end.specs.declared.edition.Entry.TheVariants.{SourceFile}
-use Rattle.ras_front_end.specs.Fault.{Fault}
+use Rattle.ras_front_end.specs.ErrorModel.{ErrorModel}
 use Rattle.ras_front_end.specs.Reading.{Reading, step_faults, stored_faults}
 use Rattle.token_layout.specs.declared.span.Token.{Token as RawToken}
 use Rattle.grammar_machine.specs.declared.event.Event.{Event}
@@ -79,14 +79,14 @@ all_replaced e a w q c ts us k r was now edit i x y d chosen few few_new shift q
     parsed_errors e (a ++ (q ++ c)) j.short
     ∙ stored_replaced e a w q c ts (tokens_of e w) us edit (two_parts e a w q c ts us i j) y.late
     (sym (ap (is_quiet_from (length (a ++ w))) old_is) ∙ quiet)
-    ∙ sym (ap₂ (λ (l m : List Fault). in_order l m b edit) old_is now_is) in
-    let os : List Fault = step_faults old.steps in
-    let ns : List Fault = step_faults now.steps in
+    ∙ sym (ap₂ (λ (l m : List ErrorModel). in_order l m b edit) old_is now_is) in
+    let os : List ErrorModel = step_faults old.steps in
+    let ns : List ErrorModel = step_faults now.steps in
     let front : in_order (take (length os) (stored_faults old)) (take (length ns) (stored_faults now)) b edit ≡ in_order os ns b edit =
-    ap₂ (λ (l m : List Fault). in_order l m b edit) (take-append_seam os old.errors) (take-append_seam ns now.errors) in
+    ap₂ (λ (l m : List ErrorModel). in_order l m b edit) (take-append_seam os old.errors) (take-append_seam ns now.errors) in
     let back : in_order (drop (length os) (stored_faults old)) (drop (length ns) (stored_faults now)) b edit ≡ in_order old.errors now.errors b edit =
-    ap₂ (λ (l m : List Fault). in_order l m b edit) (drop-append_seam os old.errors) (drop-append_seam ns now.errors) in
+    ap₂ (λ (l m : List ErrorModel). in_order l m b edit) (drop-append_seam os old.errors) (drop-append_seam ns now.errors) in
     record {
-      all = ap₂ (λ (l m : List Fault). l ++ m) (parser ∙ sym front) (lexer ∙ sym back);
+      all = ap₂ (λ (l m : List ErrorModel). l ++ m) (parser ∙ sym front) (lexer ∙ sym back);
       count = ap length (parser ∙ sym front);
     }

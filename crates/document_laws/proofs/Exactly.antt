@@ -15,7 +15,7 @@ use Rattle.tree_model.specs.Events.{BuildsNode}
 use Rattle.ras_front_end.specs.declared.edition.Edition.{Edition}
 use Rattle.ras_front_end.specs.declared.edition.Entry.TheVariants.{SourceFile}
 use Rattle.ras_front_end.specs.declared.edition.Reparser.{Reparser}
-use Rattle.ras_front_end.specs.Fault.{Fault}
+use Rattle.ras_front_end.specs.ErrorModel.{ErrorModel}
 use Rattle.ras_front_end.specs.Parsed.{Parsed}
 use Rattle.ras_front_end.specs.Reading.{Reading, events_from, step_faults, stored_faults}
 use Rattle.exact_front.specs.Exact.{is_piece}
@@ -295,16 +295,16 @@ by_piece own leave plain heads e old new before count edit u v is_edit short was
         errors_are =
             is.errors_are
             ∙ ap (λ (z : ℕ). all_in_order z n old.errors is.piece.errors (range_of c) edit) counted
-            ∙ ap (λ (z : List Fault). all_in_order m n z is.piece.errors (range_of c) edit) olds
-            ∙ ap (λ (z : List Fault). all_in_order m n (stored_faults (parsed_of SourceFile e T)) z (range_of c) edit) news
+            ∙ ap (λ (z : List ErrorModel). all_in_order m n z is.piece.errors (range_of c) edit) olds
+            ∙ ap (λ (z : List ErrorModel). all_in_order m n (stored_faults (parsed_of SourceFile e T)) z (range_of c) edit) news
             ∙ ap (λ (z : Bounds). all_in_order m n (stored_faults (parsed_of SourceFile e T)) (stored_faults now) z edit) ranges
             ∙ sym made.errors.all;
       };
       count_is =
           is.count_is
           ∙ ap (λ (z : ℕ). length (in_order (take z old.errors) (take n is.piece.errors) (range_of c) edit)) counted
-          ∙ ap (λ (z : List Fault). length (in_order (take m z) (take n is.piece.errors) (range_of c) edit)) olds
-          ∙ ap (λ (z : List Fault). length (in_order (take m (stored_faults (parsed_of SourceFile e T))) (take n z) (range_of c) edit)) news
+          ∙ ap (λ (z : List ErrorModel). length (in_order (take m z) (take n is.piece.errors) (range_of c) edit)) olds
+          ∙ ap (λ (z : List ErrorModel). length (in_order (take m (stored_faults (parsed_of SourceFile e T))) (take n z) (range_of c) edit)) news
           ∙ ap (λ (z : Bounds). length (in_order (take m (stored_faults (parsed_of SourceFile e T))) (take n (stored_faults now)) z edit)) ranges
           ∙ sym made.errors.count;
     }

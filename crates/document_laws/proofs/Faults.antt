@@ -16,14 +16,14 @@ use Rattle.syntax_kind.specs.declared.syntax_kind.token_kind.TokenKind.TheVarian
 use Rattle.text_size.specs.TextRange.{Bounds}
 use Rattle.ras_front_end.specs.declared.edition.Edition.{Edition}
 use Rattle.ras_front_end.specs.declared.edition.Entry.TheVariants.{SourceFile}
-use Rattle.ras_front_end.specs.Fault.{Fault, fault_at}
+use Rattle.ras_front_end.specs.ErrorModel.{ErrorModel, fault_at}
 use Rattle.ras_front_end.specs.Reading.{FrontStep, begins, takes, ends, reports, Reading, step_faults}
 use Rattle.token_layout.specs.declared.span.Token.{Token as RawToken}
 use Rattle.token_layout.specs.Laid.{IsCut}
 use Rattle.token_layout.specs.Report.{report_by}
 use Rattle.grammar_machine.specs.declared.event.Event.{Event}
 use Rattle.grammar_machine.specs.declared.event.Event.TheVariants as event
-use Rattle.event_layout.specs.declared.layout.Fault.{Fault as LaidFault}
+use Rattle.event_layout.specs.declared.layout.ParserError.{ParserError}
 use Rattle.event_layout.specs.Amid.{fault_amid, faults_amid}
 use Rattle.event_layout.specs.Layout.{Laying, laid_of}
 use Rattle.event_layout.specs.Replaced.{sights_in, LaidIn}
@@ -52,7 +52,7 @@ use Rattle.document_laws.proofs.Inside.{EndsClosed}
 -- ---- the errors of a reading
 
 -- what a reading says of an error of the layout
-abbrev pub said_of : List RawToken → LaidFault → Fault
+abbrev pub said_of : List RawToken → ParserError → ErrorModel
 said_of ts f = fault_at (parser_message_of f.message (last_of ts f.left)) f.position
 
 faults_both : (es ds : List FrontStep) → step_faults (es ++ ds) ≡ step_faults es ++ step_faults ds
@@ -62,9 +62,9 @@ faults_both (takes k n ∷ es) ds = faults_both es ds
 faults_both (ends ∷ es) ds = faults_both es ds
 faults_both (reports m p ∷ es) ds = ap (λ l. fault_at m p ∷ l) (faults_both es ds)
 
-reported : (ts : List RawToken) (fs : List LaidFault) → step_faults (map (report_by (say_of ts)) fs) ≡ map (said_of ts) fs
+reported : (ts : List RawToken) (fs : List ParserError) → step_faults (map (report_by (say_of ts)) fs) ≡ map (said_of ts) fs
 reported ts [] = refl
-reported ts (f ∷ fs) = ap (λ (l : List Fault). said_of ts f ∷ l) (reported ts fs)
+reported ts (f ∷ fs) = ap (λ (l : List ErrorModel). said_of ts f ∷ l) (reported ts fs)
 
 pub reading_faults : (root : SyntaxKind) (text : List ℕ) (ts : List RawToken) (errors : List LexError) (es : List Event) → length text < 2 ^ 32 → IsCut ts text
     → step_faults (reading_with root text ts errors es).steps ≡ map (said_of ts) (laid_of root attaching_kinds text ts es).faults
@@ -72,7 +72,7 @@ unfolding reading_with
 reading_faults root text ts errors es small cut =
     let s : Laying = laid_of root attaching_kinds text ts es in
     faults_both s.steps (map (report_by (say_of ts)) s.faults)
-    ∙ ap (λ (l : List Fault). l ++ step_faults (map (report_by (say_of ts)) s.faults)) (laid_tree root attaching_kinds text ts es small cut).no_faults
+    ∙ ap (λ (l : List ErrorModel). l ++ step_faults (map (report_by (say_of ts)) s.faults)) (laid_tree root attaching_kinds text ts es small cut).no_faults
     ∙ reported ts s.faults
 
 pub parsed_is : (e : Edition) (text : List ℕ) → length text < 2 ^ 32
@@ -168,49 +168,49 @@ at_most m n h = grind (arith, nat_tests, h)
 pub more_than : (m n : ℕ) → n < m → nat_le m n ≡ false
 more_than m n h = grind (arith, nat_tests, h)
 
-abbrev pub by_edit : Edit → Fault → Fault
+abbrev pub by_edit : Edit → ErrorModel → ErrorModel
 by_edit edit f = record { message = f.message; range = record { start = shifted edit f.range.start; end = shifted edit f.range.end } }
 
-pub is_earlier : (b : Bounds) (f : Fault) → f.range.end ≤ b.start → earlier_fault b f ≡ f ∷ []
+pub is_earlier : (b : Bounds) (f : ErrorModel) → f.range.end ≤ b.start → earlier_fault b f ≡ f ∷ []
 is_earlier b f h = ap (λ (x : Bool). if x then f ∷ [] else []) (at_most f.range.end b.start h)
 
-pub not_earlier : (b : Bounds) (f : Fault) → b.start < f.range.end → earlier_fault b f ≡ []
+pub not_earlier : (b : Bounds) (f : ErrorModel) → b.start < f.range.end → earlier_fault b f ≡ []
 not_earlier b f h = ap (λ (x : Bool). if x then f ∷ [] else []) (more_than f.range.end b.start h)
 
-pub is_later : (b : Bounds) (edit : Edit) (f : Fault) → b.end ≤ f.range.start → later_fault b edit f ≡ by_edit edit f ∷ []
+pub is_later : (b : Bounds) (edit : Edit) (f : ErrorModel) → b.end ≤ f.range.start → later_fault b edit f ≡ by_edit edit f ∷ []
 is_later b edit f h = ap (λ (x : Bool). if x then by_edit edit f ∷ [] else []) (at_most b.end f.range.start h)
 
-pub not_later : (b : Bounds) (edit : Edit) (f : Fault) → f.range.start < b.end → later_fault b edit f ≡ []
+pub not_later : (b : Bounds) (edit : Edit) (f : ErrorModel) → f.range.start < b.end → later_fault b edit f ≡ []
 not_later b edit f h = ap (λ (x : Bool). if x then by_edit edit f ∷ [] else []) (more_than b.end f.range.start h)
 
 -- each of the errors becomes one, or none
-pub all_one : (P : LaidFault → Type 0) (g : Fault → List Fault) (x y : LaidFault → Fault) → ((f : LaidFault) → P f → g (x f) ≡ y f ∷ [])
-    → (fs : List LaidFault) → All P fs → flat_map g (map x fs) ≡ map y fs
+pub all_one : (P : ParserError → Type 0) (g : ErrorModel → List ErrorModel) (x y : ParserError → ErrorModel) → ((f : ParserError) → P f → g (x f) ≡ y f ∷ [])
+    → (fs : List ParserError) → All P fs → flat_map g (map x fs) ≡ map y fs
 all_one P g x y h [] p = refl
 all_one P g x y h (f ∷ fs) p =
     flat_map-cons g (x f) (map x fs)
-    ∙ ap₂ (λ (xs ys : List Fault). xs ++ ys) (h f (All-head P f fs p)) (all_one P g x y h fs (All-tail P f fs p))
+    ∙ ap₂ (λ (xs ys : List ErrorModel). xs ++ ys) (h f (All-head P f fs p)) (all_one P g x y h fs (All-tail P f fs p))
 
-pub all_none : (P : LaidFault → Type 0) (g : Fault → List Fault) (x : LaidFault → Fault) → ((f : LaidFault) → P f → g (x f) ≡ [])
-    → (fs : List LaidFault) → All P fs → flat_map g (map x fs) ≡ []
+pub all_none : (P : ParserError → Type 0) (g : ErrorModel → List ErrorModel) (x : ParserError → ErrorModel) → ((f : ParserError) → P f → g (x f) ≡ [])
+    → (fs : List ParserError) → All P fs → flat_map g (map x fs) ≡ []
 all_none P g x h [] p = refl
 all_none P g x h (f ∷ fs) p =
     flat_map-cons g (x f) (map x fs)
-    ∙ ap₂ (λ (xs ys : List Fault). xs ++ ys) (h f (All-head P f fs p)) (all_none P g x h fs (All-tail P f fs p))
+    ∙ ap₂ (λ (xs ys : List ErrorModel). xs ++ ys) (h f (All-head P f fs p)) (all_none P g x h fs (All-tail P f fs p))
 
-all_same : (P : LaidFault → Type 0) (x y : LaidFault → Fault) → ((f : LaidFault) → P f → x f ≡ y f)
-    → (fs : List LaidFault) → All P fs → map x fs ≡ map y fs
+all_same : (P : ParserError → Type 0) (x y : ParserError → ErrorModel) → ((f : ParserError) → P f → x f ≡ y f)
+    → (fs : List ParserError) → All P fs → map x fs ≡ map y fs
 all_same P x y h [] p = refl
 all_same P x y h (f ∷ fs) p =
-    ap₂ (λ (z : Fault) (zs : List Fault). z ∷ zs) (h f (All-head P f fs p)) (all_same P x y h fs (All-tail P f fs p))
+    ap₂ (λ (z : ErrorModel) (zs : List ErrorModel). z ∷ zs) (h f (All-head P f fs p)) (all_same P x y h fs (All-tail P f fs p))
 
-map_map : (x : LaidFault → Fault) (y : LaidFault → LaidFault) (fs : List LaidFault) → map x (map y fs) ≡ map (λ f. x (y f)) fs
+map_map : (x : ParserError → ErrorModel) (y : ParserError → ParserError) (fs : List ParserError) → map x (map y fs) ≡ map (λ f. x (y f)) fs
 map_map x y [] = refl
-map_map x y (f ∷ fs) = ap (λ (zs : List Fault). x (y f) ∷ zs) (map_map x y fs)
+map_map x y (f ∷ fs) = ap (λ (zs : List ErrorModel). x (y f) ∷ zs) (map_map x y fs)
 
-moved_map : (n : ℕ) (x : LaidFault → Fault) (fs : List LaidFault) → map (moved n) (map x fs) ≡ map (λ f. moved n (x f)) fs
+moved_map : (n : ℕ) (x : ParserError → ErrorModel) (fs : List ParserError) → map (moved n) (map x fs) ≡ map (λ f. moved n (x f)) fs
 moved_map n x [] = refl
-moved_map n x (f ∷ fs) = ap (λ (zs : List Fault). moved n (x f) ∷ zs) (moved_map n x fs)
+moved_map n x (f ∷ fs) = ap (λ (zs : List ErrorModel). moved n (x f) ∷ zs) (moved_map n x fs)
 
 fault_same : (m n : List ℕ) (p q : ℕ) → m ≡ n → p ≡ q → fault_at m p ≡ fault_at n q
 fault_same m n p q e f = ap₂ (λ (l : List ℕ) (i : ℕ). fault_at l i) e f
@@ -218,33 +218,33 @@ fault_same m n p q e f = ap₂ (λ (l : List ℕ) (i : ℕ). fault_at l i) e f
 -- ---- the law
 
 -- the errors of the layout, as those of the whole text say them
-abbrev said_amid : List RawToken → ℕ → ℕ → LaidFault → Fault
+abbrev said_amid : List RawToken → ℕ → ℕ → ParserError → ErrorModel
 said_amid ts bytes tokens f = said_of ts (fault_amid bytes tokens f)
 
-three_said : (ts : List RawToken) (n b m d o : ℕ) (fs gs hs : List LaidFault)
+three_said : (ts : List RawToken) (n b m d o : ℕ) (fs gs hs : List ParserError)
     → map (said_of ts) (faults_amid 0 n fs ++ (faults_amid b m gs ++ faults_amid d o hs))
     ≡ map (said_amid ts 0 n) fs ++ (map (said_amid ts b m) gs ++ map (said_amid ts d o) hs)
 three_said ts n b m d o fs gs hs =
     map-append (said_of ts) (faults_amid 0 n fs) (faults_amid b m gs ++ faults_amid d o hs)
-    ∙ ap₂ (λ (xs ys : List Fault). xs ++ ys) (map_map (said_of ts) (fault_amid 0 n) fs)
+    ∙ ap₂ (λ (xs ys : List ErrorModel). xs ++ ys) (map_map (said_of ts) (fault_amid 0 n) fs)
     (map-append (said_of ts) (faults_amid b m gs) (faults_amid d o hs)
-    ∙ ap₂ (λ (xs ys : List Fault). xs ++ ys) (map_map (said_of ts) (fault_amid b m) gs) (map_map (said_of ts) (fault_amid d o) hs))
+    ∙ ap₂ (λ (xs ys : List ErrorModel). xs ++ ys) (map_map (said_of ts) (fault_amid b m) gs) (map_map (said_of ts) (fault_amid d o) hs))
 
-three_flat : (g : Fault → List Fault) (xs ys zs : List Fault) → flat_map g (xs ++ (ys ++ zs)) ≡ flat_map g xs ++ (flat_map g ys ++ flat_map g zs)
-three_flat g xs ys zs = flat_map-append g xs (ys ++ zs) ∙ ap (λ (l : List Fault). flat_map g xs ++ l) (flat_map-append g ys zs)
+three_flat : (g : ErrorModel → List ErrorModel) (xs ys zs : List ErrorModel) → flat_map g (xs ++ (ys ++ zs)) ≡ flat_map g xs ++ (flat_map g ys ++ flat_map g zs)
+three_flat g xs ys zs = flat_map-append g xs (ys ++ zs) ∙ ap (λ (l : List ErrorModel). flat_map g xs ++ l) (flat_map-append g ys zs)
 
-none_behind : (xs ys zs : List Fault) → ys ≡ [] → zs ≡ [] → xs ++ (ys ++ zs) ≡ xs
-none_behind xs ys zs e f = ap₂ (λ (k l : List Fault). xs ++ (k ++ l)) e f ∙ append_none xs
+none_behind : (xs ys zs : List ErrorModel) → ys ≡ [] → zs ≡ [] → xs ++ (ys ++ zs) ≡ xs
+none_behind xs ys zs e f = ap₂ (λ (k l : List ErrorModel). xs ++ (k ++ l)) e f ∙ append_none xs
   where
-    append_none : (xs : List Fault) → xs ++ [] ≡ xs
+    append_none : (xs : List ErrorModel) → xs ++ [] ≡ xs
     append_none [] = refl
-    append_none (x ∷ xs) = ap (λ (l : List Fault). x ∷ l) (append_none xs)
+    append_none (x ∷ xs) = ap (λ (l : List ErrorModel). x ∷ l) (append_none xs)
 
-none_before : (xs ys zs : List Fault) → xs ≡ [] → ys ≡ [] → xs ++ (ys ++ zs) ≡ zs
-none_before xs ys zs e f = ap₂ (λ (k l : List Fault). k ++ (l ++ zs)) e f
+none_before : (xs ys zs : List ErrorModel) → xs ≡ [] → ys ≡ [] → xs ++ (ys ++ zs) ≡ zs
+none_before xs ys zs e f = ap₂ (λ (k l : List ErrorModel). k ++ (l ++ zs)) e f
 
 -- the errors of a text that is laid around a piece
-whole_faults : (e : Edition) (a w c : List ℕ) (ts us : List RawToken) (k : SyntaxKind) (es : List Event) (before behind : List FrontStep) (fs hs : List LaidFault)
+whole_faults : (e : Edition) (a w c : List ℕ) (ts us : List RawToken) (k : SyntaxKind) (es : List Event) (before behind : List FrontStep) (fs hs : List ParserError)
     → IsInParts e a w c ts us
     → sights_of e (a ++ (w ++ c)) (tokens_of e (a ++ (w ++ c))) ≡ sights_in (with_tokens e a ts) (with_tokens e w (tokens_of e w)) (with_tokens e c us)
     → LaidIn (kinds.Node node.SOURCE_FILE) k attaching_kinds rust_tables (first_op rule.SourceFile) (with_tokens e a ts) (with_tokens e w (tokens_of e w)) (with_tokens e c us) es before behind fs hs
@@ -269,10 +269,10 @@ errors_replaced e a w q c ts us k r was now edit i x y d chosen few few_new shif
     let tq : List RawToken = tokens_of e q in
     let old_all : List RawToken = ts ++ (tw ++ us) in
     let new_all : List RawToken = ts ++ (tq ++ us) in
-    let fs : List LaidFault = d.laid.faults_before in
-    let hs : List LaidFault = d.laid.faults_behind in
-    let own : List LaidFault = (laid_of k attaching_kinds w tw (x.own ++ event.Node k 0 ∷ [])).faults in
-    let new_own : List LaidFault = (laid_of k attaching_kinds q tq (y.own ++ event.Node k 0 ∷ [])).faults in
+    let fs : List ParserError = d.laid.faults_before in
+    let hs : List ParserError = d.laid.faults_behind in
+    let own : List ParserError = (laid_of k attaching_kinds w tw (x.own ++ event.Node k 0 ∷ [])).faults in
+    let new_own : List ParserError = (laid_of k attaching_kinds q tq (y.own ++ event.Node k 0 ∷ [])).faults in
     let b : Bounds = record { start = length a; end = length (a ++ w) } in
     let z : EndsClosed w tw = closed_part e a w c ts us i in
     let some : 0 < length w = omega (arith, ap length z.parts, length-append z.before (125 ∷ [])) in
@@ -281,17 +281,17 @@ errors_replaced e a w q c ts us k r was now edit i x y d chosen few few_new shif
     let new_inside : All (IsInside (length q) (length tq)) new_own = errs_inside e a q c ts us k r now j y chosen few_new in
     let was_laid = d.laid.was in
     let now_laid = d.laid.now in
-    let old : List Fault = step_faults (parsed_of SourceFile e (a ++ (w ++ c))).steps in
-    let one : List Fault = map (said_amid old_all 0 (length (tw ++ us))) fs in
-    let two : List Fault = map (said_amid old_all (length a) (length us)) own in
-    let three : List Fault = map (said_amid old_all (length (a ++ w)) 0) hs in
+    let old : List ErrorModel = step_faults (parsed_of SourceFile e (a ++ (w ++ c))).steps in
+    let one : List ErrorModel = map (said_amid old_all 0 (length (tw ++ us))) fs in
+    let two : List ErrorModel = map (said_amid old_all (length a) (length us)) own in
+    let three : List ErrorModel = map (said_amid old_all (length (a ++ w)) 0) hs in
     let old_is : old ≡ one ++ (two ++ three) =
     whole_faults e a w c ts us k x.own d.laid.before d.laid.behind fs hs i d.sights was_laid in
     let new_is : step_faults (parsed_of SourceFile e (a ++ (q ++ c))).steps
     ≡ map (said_amid new_all 0 (length (tq ++ us))) fs ++ (map (said_amid new_all (length a) (length us)) new_own ++ map (said_amid new_all (length (a ++ q)) 0) hs) =
     whole_faults e a q c ts us k y.own d.laid.before d.laid.behind fs hs j d.new_sights now_laid in
     -- before
-    let P : LaidFault → Type 0 = λ f. f.position ≤ length a in
+    let P : ParserError → Type 0 = λ f. f.position ≤ length a in
     let before : flat_map (earlier_fault b) one ≡ map (said_amid new_all 0 (length (tq ++ us))) fs =
     all_one P (earlier_fault b) (said_amid old_all 0 (length (tw ++ us))) (said_amid new_all 0 (length (tq ++ us)))
     (λ f p. is_earlier b (said_amid old_all 0 (length (tw ++ us)) f) (omega (arith, p))
@@ -301,7 +301,7 @@ errors_replaced e a w q c ts us k r was now edit i x y d chosen few few_new shif
     let not_before : flat_map (earlier_fault b) two ≡ [] =
     all_none (IsInside (length w) (length tw)) (earlier_fault b) (said_amid old_all (length a) (length us))
     (λ f p. let low = p.low in not_earlier b (said_amid old_all (length a) (length us) f) (omega (arith, low))) own inside in
-    let L : LaidFault → Type 0 = λ f. f.left ≤ length us in
+    let L : ParserError → Type 0 = λ f. f.left ≤ length us in
     let not_first : flat_map (earlier_fault b) three ≡ [] =
     all_none L (earlier_fault b) (said_amid old_all (length (a ++ w)) 0)
     (λ f p. not_earlier b (said_amid old_all (length (a ++ w)) 0 f) (omega (arith, long, some))) hs was_laid.lie_behind in
@@ -318,7 +318,7 @@ errors_replaced e a w q c ts us k r was now edit i x y d chosen few few_new shif
     let at : shifted edit (f.position + length (a ++ w)) ≡ f.position + length (a ++ q) =
     ap (shifted edit) (swap f.position (length (a ++ w))) ∙ shift f.position ∙ swap (length (a ++ q)) f.position in
     is_later b edit (said_amid old_all (length (a ++ w)) 0 f) (omega arith)
-    ∙ ap (λ (g : Fault). g ∷ [])
+    ∙ ap (λ (g : ErrorModel). g ∷ [])
     (fault_same (parser_message_of f.message (last_of old_all (f.left + 0))) (parser_message_of f.message (last_of new_all (f.left + 0)))
     (shifted edit (f.position + length (a ++ w))) (f.position + length (a ++ q))
     (ap (parser_message_of f.message) (left_behind ts tw us f.left p ∙ sym (left_behind ts tq us f.left p))) at))
@@ -341,7 +341,7 @@ errors_replaced e a w q c ts us k r was now edit i x y d chosen few few_new shif
     let last : flat_map (later_fault b edit) old ≡ map (said_amid new_all (length (a ++ q)) 0) hs =
     ap (flat_map (later_fault b edit)) old_is ∙ three_flat (later_fault b edit) one two three
     ∙ none_before (flat_map (later_fault b edit) one) (flat_map (later_fault b edit) two) (flat_map (later_fault b edit) three) not_last not_behind ∙ behind in
-    new_is ∙ sym (ap₂ (λ (l m : List Fault). l ++ m) first (ap₂ (λ (l m : List Fault). l ++ m) here last))
+    new_is ∙ sym (ap₂ (λ (l m : List ErrorModel). l ++ m) first (ap₂ (λ (l m : List ErrorModel). l ++ m) here last))
   where
     swap : (m n : ℕ) → m + n ≡ n + m
     swap m n = omega arith

@@ -11,7 +11,7 @@ use Rattle.token_layout.specs.Laid.{IsCut}
 use Rattle.grammar_machine.specs.declared.event.Event.{Event}
 use Rattle.grammar_machine.specs.declared.event.Event.TheVariants.{Token, Node}
 use Rattle.grammar_machine.specs.declared.event.Part.{Part}
-use Rattle.event_layout.specs.declared.layout.Fault.{Fault}
+use Rattle.event_layout.specs.declared.layout.ParserError.{ParserError}
 use Rattle.event_layout.specs.Amid.{Around, Fits, sum_len, first_len}
 use Rattle.event_layout.specs.Filled.{past_lead, left_by, left_after}
 use Rattle.event_layout.proofs.Cutting.{no_dot_in}
@@ -361,7 +361,7 @@ module _ (k : SyntaxKind) (attaching : List SyntaxKind) (text : List ℕ) (ts : 
       record { low = omega (arith, p, at); high = omega (arith, q, low); few = omega (arith, m, some); many = omega (arith, n, count) })
       said.added said.between in
       subst (All (IsInside (length text) (length ts)))
-      (sym (laid_faults ∙ walked_faults body kind signs is ∙ said.faults ∙ ap (λ (fs : List Fault). fs ++ said.added) none)) inside
+      (sym (laid_faults ∙ walked_faults body kind signs is ∙ said.faults ∙ ap (λ (fs : List ParserError). fs ++ said.added) none)) inside
 
   only_last : (kind : SyntaxKind) (signs : ℕ) → es ≡ Token kind signs ∷ [] → All (IsInside (length text) (length ts)) (laid_of k attaching text ts (es ++ Node k 0 ∷ [])).faults
   only_last kind signs is =

@@ -11,7 +11,7 @@ use Rattle.literal_escape.specs.declared.mode.Mode.{Mode}
 use Rattle.literal_escape.specs.declared.mode.Mode.TheVariants as modes
 use Rattle.ras_front_end.specs.declared.edition.Edition.{Edition}
 use Rattle.ras_front_end.specs.declared.edition.Edition.TheVariants.{Edition2015, Edition2018, Edition2021, Edition2024}
-use Rattle.rust_words.specs.Keywords.{Words, keywords, keyword_of}
+use Rattle.rust_kinds.specs.Keywords.{Words, keywords, keyword_of}
 use Rattle.rust_lexer.specs.declared.class.Class.{Class}
 use Rattle.rust_lexer.specs.declared.class.Class.TheVariants as classes
 use Rattle.rust_lexer.specs.declared.class.Wide.TheVariants as wides

@@ -11,10 +11,10 @@ use Rattle.std.proofs.lemmas.List.Elements.{All-head, All-tail, All-cons, All-ni
 use Rattle.syntax_kind.specs.Kinds.{is_trivia}
 use Rattle.syntax_kind.specs.declared.syntax_kind.SyntaxKind.{SyntaxKind}
 use Rattle.text_size.specs.TextRange.{Bounds}
-use Rattle.ras_front_end.specs.Fault.{Fault, fault_at}
+use Rattle.ras_front_end.specs.ErrorModel.{ErrorModel, fault_at}
 use Rattle.ras_front_end.specs.Reading.{Reading, step_faults, stored_faults}
 use Rattle.token_layout.specs.declared.span.Token.{Token as RawToken}
-use Rattle.event_layout.specs.declared.layout.Fault.{Fault as LaidFault}
+use Rattle.event_layout.specs.declared.layout.ParserError.{ParserError}
 use Rattle.event_layout.specs.Retold.{fault_retold}
 use Rattle.lexer_laws.specs.Quiet.{ended_by}
 use Rattle.rust_lexer.specs.declared.lexer.LexError.{LexError}
@@ -53,31 +53,31 @@ said_alike m l front back k i j =
 
 -- ---- the parser's errors
 
-stays : (at old new : ℕ) (f : LaidFault) → f.position ≤ at → fault_retold at old new f ≡ f
+stays : (at old new : ℕ) (f : ParserError) → f.position ≤ at → fault_retold at old new f ≡ f
 stays at old new f h = ap (λ (b : Bool). if b then f else record f { position = (f.position - old) + new }) (at_most f.position at h)
 
-moves : (at old new : ℕ) (f : LaidFault) → at < f.position → fault_retold at old new f ≡ record f { position = (f.position - old) + new }
+moves : (at old new : ℕ) (f : ParserError) → at < f.position → fault_retold at old new f ≡ record f { position = (f.position - old) + new }
 moves at old new f h = ap (λ (b : Bool). if b then f else record f { position = (f.position - old) + new }) (more_than f.position at h)
 
-all_mapped : (x : LaidFault → Fault) (y : LaidFault → LaidFault) (fs : List LaidFault) → map (λ f. x (y f)) fs ≡ map x (map y fs)
+all_mapped : (x : ParserError → ErrorModel) (y : ParserError → ParserError) (fs : List ParserError) → map (λ f. x (y f)) fs ≡ map x (map y fs)
 all_mapped x y [] = refl
-all_mapped x y (f ∷ fs) = ap (λ (l : List Fault). x (y f) ∷ l) (all_mapped x y fs)
+all_mapped x y (f ∷ fs) = ap (λ (l : List ErrorModel). x (y f) ∷ l) (all_mapped x y fs)
 
 -- those before the token stay, those behind it move with the text
-pub parser_retold : (front back : List RawToken) (k : SyntaxKind) (at i j : ℕ) (edit : Edit) (early late : List LaidFault)
+pub parser_retold : (front back : List RawToken) (k : SyntaxKind) (at i j : ℕ) (edit : Edit) (early late : List ParserError)
     → 0 < i → ((p : ℕ) → at + i ≤ p → shifted edit p ≡ (p - i) + j)
     → All (λ f. f.position ≤ at) early → All (λ f. at + i ≤ f.position) late
     → map (said_of (front ++ with_len k j ∷ back)) (map (fault_retold at i j) (early ++ late))
     ≡ in_order (map (said_of (front ++ with_len k i ∷ back)) (early ++ late)) [] (record { start = at; end = at + i }) edit
 parser_retold front back k at i j edit early late some shift first last =
     let b : Bounds = record { start = at; end = at + i } in
-    let old : LaidFault → Fault = said_of (front ++ with_len k i ∷ back) in
-    let new : LaidFault → Fault = λ f. said_of (front ++ with_len k j ∷ back) (fault_retold at i j f) in
+    let old : ParserError → ErrorModel = said_of (front ++ with_len k i ∷ back) in
+    let new : ParserError → ErrorModel = λ f. said_of (front ++ with_len k j ∷ back) (fault_retold at i j f) in
     let kept : flat_map (earlier_fault b) (map old early) ≡ map new early =
     all_one (λ f. f.position ≤ at) (earlier_fault b) old new
     (λ f h. is_earlier b (old f) h
     ∙ ap (λ (m : List ℕ). fault_at m f.position ∷ []) (said_alike f.message f.left front back k i j)
-    ∙ ap (λ (g : LaidFault). said_of (front ++ with_len k j ∷ back) g ∷ []) (sym (stays at i j f h)))
+    ∙ ap (λ (g : ParserError). said_of (front ++ with_len k j ∷ back) g ∷ []) (sym (stays at i j f h)))
     early first in
     let none_late : flat_map (earlier_fault b) (map old late) ≡ [] =
     all_none (λ f. at + i ≤ f.position) (earlier_fault b) old (λ f h. not_earlier b (old f) (omega (arith, h, some))) late last in
@@ -87,16 +87,16 @@ parser_retold front back k at i j edit early late some shift first last =
     all_one (λ f. at + i ≤ f.position) (later_fault b edit) old new
     (λ f h. is_later b edit (old f) h
     ∙ ap₂ (λ (m : List ℕ) (p : ℕ). fault_at m p ∷ []) (said_alike f.message f.left front back k i j) (shift f.position h)
-    ∙ ap (λ (g : LaidFault). said_of (front ++ with_len k j ∷ back) g ∷ []) (sym (moves at i j f (omega (arith, h, some)))))
+    ∙ ap (λ (g : ParserError). said_of (front ++ with_len k j ∷ back) g ∷ []) (sym (moves at i j f (omega (arith, h, some)))))
     late last in
     let earlier : flat_map (earlier_fault b) (map old (early ++ late)) ≡ map new early =
     ap (flat_map (earlier_fault b)) (map-append old early late) ∙ flat_map-append (earlier_fault b) (map old early) (map old late)
-    ∙ ap₂ (λ (xs ys : List Fault). xs ++ ys) kept none_late ∙ append-nil (map new early) in
+    ∙ ap₂ (λ (xs ys : List ErrorModel). xs ++ ys) kept none_late ∙ append-nil (map new early) in
     let later : flat_map (later_fault b edit) (map old (early ++ late)) ≡ map new late =
     ap (flat_map (later_fault b edit)) (map-append old early late) ∙ flat_map-append (later_fault b edit) (map old early) (map old late)
-    ∙ ap₂ (λ (xs ys : List Fault). xs ++ ys) none_early moved in
+    ∙ ap₂ (λ (xs ys : List ErrorModel). xs ++ ys) none_early moved in
     sym (all_mapped (said_of (front ++ with_len k j ∷ back)) (fault_retold at i j) (early ++ late)) ∙ map-append new early late
-    ∙ sym (ap₂ (λ (xs ys : List Fault). xs ++ ys) earlier later)
+    ∙ sym (ap₂ (λ (xs ys : List ErrorModel). xs ++ ys) earlier later)
 
 -- ---- the lexer's errors
 
@@ -143,15 +143,15 @@ pub lexer_kept : (s z : List ℕ) (l n : ℕ) (b : Bounds) (edit : Edit) (fs : L
     → l ≤ b.start → b.start < b.end → ((f : LexError) → f.range.end ≤ l → lexer_error_of s f ≡ lexer_error_of z f)
     → All (EndsBy l) fs → All (ErrorLiesIn n) fs
     → map (lexer_error_of z) fs ≡ in_order (map (lexer_error_of s) fs) [] b edit
-lexer_kept s z l n b edit fs from some same ends lie = sym (ap₂ (λ (xs ys : List Fault). xs ++ ys) (stay fs ends) (none fs ends lie) ∙ append-nil (map (lexer_error_of z) fs))
+lexer_kept s z l n b edit fs from some same ends lie = sym (ap₂ (λ (xs ys : List ErrorModel). xs ++ ys) (stay fs ends) (none fs ends lie) ∙ append-nil (map (lexer_error_of z) fs))
   where
     stay : (es : List LexError) → All (EndsBy l) es → flat_map (earlier_fault b) (map (lexer_error_of s) es) ≡ map (lexer_error_of z) es
     stay [] h = refl
     stay (f ∷ es) h =
         let own : f.range.end ≤ l = All-head (EndsBy l) f es h in
         flat_map-cons (earlier_fault b) (lexer_error_of s f) (map (lexer_error_of s) es)
-        ∙ ap₂ (λ (xs ys : List Fault). xs ++ ys)
-        (is_earlier b (lexer_error_of s f) (omega (arith, own, from)) ∙ ap (λ (g : Fault). g ∷ []) (same f own))
+        ∙ ap₂ (λ (xs ys : List ErrorModel). xs ++ ys)
+        (is_earlier b (lexer_error_of s f) (omega (arith, own, from)) ∙ ap (λ (g : ErrorModel). g ∷ []) (same f own))
         (stay es (All-tail (EndsBy l) f es h))
 
     none : (es : List LexError) → All (EndsBy l) es → All (ErrorLiesIn n) es → flat_map (later_fault b edit) (map (lexer_error_of s) es) ≡ []
@@ -160,7 +160,7 @@ lexer_kept s z l n b edit fs from some same ends lie = sym (ap₂ (λ (xs ys : L
         let own : f.range.end ≤ l = All-head (EndsBy l) f es h in
         let lies = (All-head (ErrorLiesIn n) f es k).0 in
         flat_map-cons (later_fault b edit) (lexer_error_of s f) (map (lexer_error_of s) es)
-        ∙ ap₂ (λ (xs ys : List Fault). xs ++ ys)
+        ∙ ap₂ (λ (xs ys : List ErrorModel). xs ++ ys)
         (not_later b edit (lexer_error_of s f) (omega (arith, own, from, some, lies)))
         (none es (All-tail (EndsBy l) f es h) (All-tail (ErrorLiesIn n) f es k))
 
@@ -170,12 +170,12 @@ pub all_kept : (old new : Reading) (b : Bounds) (edit : Edit)
     → step_faults new.steps ≡ in_order (step_faults old.steps) [] b edit → new.errors ≡ in_order old.errors [] b edit
     → AreKept old new b edit
 all_kept old new b edit parser lexer =
-    let os : List Fault = step_faults old.steps in
+    let os : List ErrorModel = step_faults old.steps in
     let front : in_order (take (length os) (stored_faults old)) [] b edit ≡ in_order os [] b edit =
-    ap (λ (l : List Fault). in_order l [] b edit) (take-append_seam os old.errors) in
+    ap (λ (l : List ErrorModel). in_order l [] b edit) (take-append_seam os old.errors) in
     let back : in_order (drop (length os) (stored_faults old)) [] b edit ≡ in_order old.errors [] b edit =
-    ap (λ (l : List Fault). in_order l [] b edit) (drop-append_seam os old.errors) in
+    ap (λ (l : List ErrorModel). in_order l [] b edit) (drop-append_seam os old.errors) in
     record {
-      all = ap₂ (λ (l m : List Fault). l ++ m) (parser ∙ sym front) (lexer ∙ sym back);
+      all = ap₂ (λ (l m : List ErrorModel). l ++ m) (parser ∙ sym front) (lexer ∙ sym back);
       count = ap length (parser ∙ sym front);
     }

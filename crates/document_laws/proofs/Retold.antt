@@ -20,13 +20,13 @@ use Rattle.tree_model.proofs.PlaceLemmas.{places_are_reached}
 use Rattle.lossless_tree.proofs.CoveringLaws.{covering_holds}
 use Rattle.ras_front_end.specs.declared.edition.Edition.{Edition}
 use Rattle.ras_front_end.specs.declared.edition.Entry.TheVariants.{SourceFile}
-use Rattle.ras_front_end.specs.Fault.{Fault}
+use Rattle.ras_front_end.specs.ErrorModel.{ErrorModel}
 use Rattle.ras_front_end.specs.Parsed.{Parsed}
 use Rattle.ras_front_end.specs.Reading.{Reading, events_from, Cuts, step_faults, stored_faults}
 use Rattle.token_layout.specs.declared.span.Token.{Token}
 use Rattle.token_layout.specs.Laid.{IsCut}
 use Rattle.grammar_machine.specs.declared.event.Event.{Event}
-use Rattle.event_layout.specs.declared.layout.Fault.{Fault as LaidFault}
+use Rattle.event_layout.specs.declared.layout.ParserError.{ParserError}
 use Rattle.event_layout.specs.Filled.{bytes_taken}
 use Rattle.event_layout.specs.Layout.{laid_of}
 use Rattle.event_layout.specs.Retold.{fault_retold, IsRetold, LaidAlike, RetoldTokensAreLaid, AreCutAt, LeavesBeginInTokens}
@@ -152,7 +152,7 @@ three : (x m y c : List ℕ) → (x ++ (m ++ y)) ++ c ≡ x ++ (m ++ (y ++ c))
 three x m y c = simp append_assoc
 
 -- the lexer's errors are those behind the parser's
-pub behind_steps : (s : Reading) (errors : List Fault) (n : ℕ) → errors ≡ stored_faults s → n ≡ length (step_faults s.steps) → drop n errors ≡ s.errors
+pub behind_steps : (s : Reading) (errors : List ErrorModel) (n : ℕ) → errors ≡ stored_faults s → n ≡ length (step_faults s.steps) → drop n errors ≡ s.errors
 behind_steps s errors n e count = ap₂ drop count e ∙ drop-append_seam (step_faults s.steps) s.errors
 
 -- what an edit of one token is about: its place, the texts around it in the window and around that,
@@ -207,14 +207,14 @@ new_faults e s z x old new y edit u v small short al la shift =
     let ts : List Token = al.front ++ with_len al.kind (length old) ∷ al.back in
     let us : List Token = al.front ++ with_len al.kind (length new) ∷ al.back in
     let olds : step_faults (parsed_of SourceFile e s).steps ≡ map (said_of ts) (la.early ++ la.late) =
-    parsed_faults e s u small ∙ ap₂ (λ (l : List Token) (fs : List LaidFault). map (said_of l) fs) al.tokens la.faults_are in
+    parsed_faults e s u small ∙ ap₂ (λ (l : List Token) (fs : List ParserError). map (said_of l) fs) al.tokens la.faults_are in
     let news : step_faults (parsed_of SourceFile e z).steps ≡ map (said_of us) (map (fault_retold (length x) (length old) (length new)) (la.early ++ la.late)) =
     parsed_faults e z v short
-    ∙ ap₂ (λ (l : List Token) (fs : List LaidFault). map (said_of l) fs) al.new_tokens
+    ∙ ap₂ (λ (l : List Token) (fs : List ParserError). map (said_of l) fs) al.new_tokens
     (la.new_faults ∙ ap (map (fault_retold (length x) (length old) (length new))) la.faults_are) in
     news
     ∙ parser_retold al.front al.back al.kind (length x) (length old) (length new) edit la.early la.late al.retold.some shift la.are_early la.are_late
-    ∙ ap (λ (l : List Fault). in_order l [] b edit) (sym olds)
+    ∙ ap (λ (l : List ErrorModel). in_order l [] b edit) (sym olds)
 
 new_errors : (e : Edition) (s z : List ℕ) (l : ℕ) (b : Bounds) (edit : Edit) → IsUtf8 s → length s < 2 ^ 32 → length z < 2 ^ 32
     → errors_of e z ≡ errors_of e s → flat_map (ended_by l) (errors_of e s) ≡ errors_of e s
@@ -223,7 +223,7 @@ new_errors : (e : Edition) (s z : List ℕ) (l : ℕ) (b : Bounds) (edit : Edit)
 new_errors e s z l b edit u small short same early from some message =
     parsed_errors e z short ∙ ap (map (lexer_error_of z)) same
     ∙ lexer_kept s z l (length s) b edit (errors_of e s) from some message (all_end l (errors_of e s) early) (lexed e s u small).lie
-    ∙ ap (λ (fs : List Fault). in_order fs [] b edit) (sym (parsed_errors e s small))
+    ∙ ap (λ (fs : List ErrorModel). in_order fs [] b edit) (sym (parsed_errors e s small))
 
 -- ---- the window of the edit
 
@@ -358,14 +358,14 @@ by_covered heads leaves laid_law windows front e old new before count edit u ins
         errors_are =
             is.errors_are
             ∙ ap (λ (n : ℕ). all_in_order n 0 old.errors [] (range_of c) edit) was.count_is
-            ∙ ap (λ (l : List Fault). all_in_order m 0 l [] (range_of c) edit) was.is_parse.errors_are
+            ∙ ap (λ (l : List ErrorModel). all_in_order m 0 l [] (range_of c) edit) was.is_parse.errors_are
             ∙ ap (λ (r : Bounds). all_in_order m 0 (stored_faults (parsed_of SourceFile e s)) [] r edit) range
             ∙ sym kept.all;
       };
       count_is =
           is.count_is
           ∙ ap (λ (n : ℕ). length (in_order (take n old.errors) [] (range_of c) edit)) was.count_is
-          ∙ ap (λ (l : List Fault). length (in_order (take m l) [] (range_of c) edit)) was.is_parse.errors_are
+          ∙ ap (λ (l : List ErrorModel). length (in_order (take m l) [] (range_of c) edit)) was.is_parse.errors_are
           ∙ ap (λ (r : Bounds). length (in_order (take m (stored_faults (parsed_of SourceFile e s))) [] r edit)) range
           ∙ sym kept.count;
     }

@@ -2,7 +2,7 @@
 use Rattle.std.proofs.Common.{◌≡◌, ◌∙◌, List, ap, ap₂, sym}
 use Rattle.tree_model.specs.Tree.{Tree, Forest, nil, cons}
 use Rattle.tree_model.proofs.Balance.{builds_one}
-use Rattle.ras_front_end.specs.Fault.{Fault}
+use Rattle.ras_front_end.specs.ErrorModel.{ErrorModel}
 use Rattle.document_laws.specs.Exactly.{TextsHaveOneParse}
 
 first_tree : Tree → Forest → Tree
@@ -15,5 +15,5 @@ one_parse front edition s p q m n was now =
     let forest : cons p.tree nil ≡ cons q.tree nil = builds_one was.is_parse.builds.0 now.is_parse.builds.0 in
     let tree : p.tree ≡ q.tree = ap (first_tree p.tree) forest in
     let errors : p.errors ≡ q.errors = was.is_parse.errors_are ∙ sym now.is_parse.errors_are in
-    let parse : p ≡ q = ap₂ (λ (t : Tree) (fs : List Fault). record { tree = t; errors = fs }) tree errors in
+    let parse : p ≡ q = ap₂ (λ (t : Tree) (fs : List ErrorModel). record { tree = t; errors = fs }) tree errors in
     (parse, was.count_is ∙ sym now.count_is)

@@ -9,7 +9,7 @@ use Rattle.std.proofs.lemmas.List.{map-append, take-append-le, get_or_append_lef
 use Rattle.std.proofs.lemmas.List.Concat.{flat_map-cons}
 use Rattle.std.proofs.lemmas.List.Elements.{All-head, All-tail}
 use Rattle.std.proofs.lemmas.Str.{IsCharBoundary-at_seam}
-use Rattle.ras_front_end.specs.Fault.{Fault}
+use Rattle.ras_front_end.specs.ErrorModel.{ErrorModel}
 use Rattle.token_layout.specs.declared.span.Token.{Token}
 use Rattle.rust_lexer.specs.declared.lexer.LexError.{LexError}
 use Rattle.rust_lexer.specs.Laws.{ErrorLiesIn}
@@ -138,8 +138,8 @@ error_moved a p c f u h =
 
 -- ---- all errors
 
-earlier_on : (b : Bool) (x y : Fault) (f : LexError) (g : LexError → Fault) → (b ≡ true → x ≡ g f) → (if b then x ∷ [] else []) ≡ map g (if b then f ∷ [] else [])
-earlier_on true x y f g h = ap (λ (z : Fault). z ∷ []) (h refl)
+earlier_on : (b : Bool) (x y : ErrorModel) (f : LexError) (g : LexError → ErrorModel) → (b ≡ true → x ≡ g f) → (if b then x ∷ [] else []) ≡ map g (if b then f ∷ [] else [])
+earlier_on true x y f g h = ap (λ (z : ErrorModel). z ∷ []) (h refl)
 earlier_on false x y f g h = refl
 
 is_at_most : (m n : ℕ) → nat_le m n ≡ true → m ≤ n
@@ -149,10 +149,10 @@ earlier_all : (a y z : List ℕ) (b n : ℕ) (fs : Errors)
     → flat_map (earlier_fault (record { start = length a; end = n })) (map (lexer_error_of (a ++ b ∷ y)) fs) ≡ map (lexer_error_of (a ++ b ∷ z)) (flat_map (ended_by (length a)) fs)
 earlier_all a y z b n [] = refl
 earlier_all a y z b n (f ∷ fs) =
-    let old : LexError → Fault = lexer_error_of (a ++ b ∷ y) in
-    let new : LexError → Fault = lexer_error_of (a ++ b ∷ z) in
+    let old : LexError → ErrorModel = lexer_error_of (a ++ b ∷ y) in
+    let new : LexError → ErrorModel = lexer_error_of (a ++ b ∷ z) in
     flat_map-cons (earlier_fault (record { start = length a; end = n })) (old f) (map old fs)
-    ∙ ap₂ (λ (es gs : List Fault). es ++ gs)
+    ∙ ap₂ (λ (es gs : List ErrorModel). es ++ gs)
     (earlier_on (nat_le f.range.end (length a)) (old f) (old f) f new (λ h. error_before a y z b f (is_at_most f.range.end (length a) h)))
     (earlier_all a y z b n fs)
     ∙ sym (ap (map new) (flat_map-cons (ended_by (length a)) f fs) ∙ map-append new (ended_by (length a) f) (flat_map (ended_by (length a)) fs))
@@ -169,21 +169,21 @@ not_at_most : (m n : ℕ) → nat_lt m n ≡ true → nat_le n m ≡ false
 not_at_most m n h = grind (arith, nat_tests, h)
 
 -- none is behind the part
-none_later : (start n : ℕ) (edit : Edit) (fs : List Fault) → is_quiet_from n fs ≡ true → flat_map (later_fault (record { start = start; end = n }) edit) fs ≡ []
+none_later : (start n : ℕ) (edit : Edit) (fs : List ErrorModel) → is_quiet_from n fs ≡ true → flat_map (later_fault (record { start = start; end = n }) edit) fs ≡ []
 none_later start n edit [] h = refl
 none_later start n edit (f ∷ fs) h =
     let later : nat_le n f.range.start ≡ false = not_at_most f.range.start n (left_true (nat_lt f.range.start n) (is_quiet_from n fs) h) in
     flat_map-cons (later_fault (record { start = start; end = n }) edit) f fs
-    ∙ ap₂ (λ (b : Bool) (gs : List Fault). (if b then shifted_fault edit f ∷ [] else []) ++ gs) later
+    ∙ ap₂ (λ (b : Bool) (gs : List ErrorModel). (if b then shifted_fault edit f ∷ [] else []) ++ gs) later
     (none_later start n edit fs (right_true (nat_lt f.range.start n) (is_quiet_from n fs) h))
   where
-    shifted_fault : Edit → Fault → Fault
+    shifted_fault : Edit → ErrorModel → ErrorModel
     shifted_fault edit f = record { message = f.message; range = record { start = shifted edit f.range.start; end = shifted edit f.range.end } }
 
 all_moved : (a p c : List ℕ) (fs : Errors) → IsUtf8 c → All (ErrorLiesIn (length p)) fs → map (lexer_error_of (a ++ (p ++ c))) (map (moved_by (length a)) fs) ≡ map (moved (length a)) (map (lexer_error_of p) fs)
 all_moved a p c [] u h = refl
 all_moved a p c (f ∷ fs) u h =
-    ap₂ (λ (g : Fault) (gs : List Fault). g ∷ gs) (error_moved a p c f u (All-head (ErrorLiesIn (length p)) f fs h).1) (all_moved a p c fs u (All-tail (ErrorLiesIn (length p)) f fs h))
+    ap₂ (λ (g : ErrorModel) (gs : List ErrorModel). g ∷ gs) (error_moved a p c f u (All-head (ErrorLiesIn (length p)) f fs h).1) (all_moved a p c fs u (All-tail (ErrorLiesIn (length p)) f fs h))
 
 -- ---- the tests are the same
 
@@ -218,6 +218,6 @@ stored_replaced e a part piece c ts ps us edit r early quiet =
     let here : map (lexer_error_of (a ++ (piece ++ c))) own ≡ map (moved (length a)) (stored e piece) =
     all_moved a piece c (errors_of e piece) r.is_rest_text (lexed e piece r.is_piece_text few).lie in
     ap (map (lexer_error_of (a ++ (piece ++ c)))) new ∙ map-append (lexer_error_of (a ++ (piece ++ c))) kept own
-    ∙ ap₂ (λ (es fs : List Fault). es ++ fs) before
+    ∙ ap₂ (λ (es fs : List ErrorModel). es ++ fs) before
     (here ∙ sym (append-nil (map (moved (length a)) (stored e piece)))
-    ∙ ap (λ (fs : List Fault). map (moved (length a)) (stored e piece) ++ fs) (sym (none_later (length a) n edit (stored e (a ++ (part ++ c))) quiet)))
+    ∙ ap (λ (fs : List ErrorModel). map (moved (length a)) (stored e piece) ++ fs) (sym (none_later (length a) n edit (stored e (a ++ (part ++ c))) quiet)))

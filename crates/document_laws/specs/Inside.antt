@@ -6,7 +6,7 @@ use Rattle.ras_front_end.specs.declared.edition.Reparser.{Reparser}
 use Rattle.ras_front_end.specs.Reading.{Reading}
 use Rattle.token_layout.specs.declared.span.Token.{Token}
 use Rattle.grammar_machine.specs.declared.event.Event.TheVariants as event
-use Rattle.event_layout.specs.declared.layout.Fault.{Fault}
+use Rattle.event_layout.specs.declared.layout.ParserError.{ParserError}
 use Rattle.event_layout.specs.Layout.{laid_of}
 use Rattle.rust_lexer.specs.Lexing.{tokens_of}
 use Rattle.rust_front.specs.Front.{made_of}
@@ -16,7 +16,7 @@ use Rattle.document_laws.specs.Alone.{IsExactPiece}
 use Rattle.document_laws.specs.Parts.{IsInParts}
 
 -- an error behind the first of n bytes and before the last one, where some of m tokens are left
-pub record IsInside (n m : ℕ) (f : Fault) : Type 0 where
+pub record IsInside (n m : ℕ) (f : ParserError) : Type 0 where
   pub low : 0 < f.position
   pub high : f.position < n
   pub few : 0 < f.left

@@ -1,7 +1,7 @@
 -- The lexer's errors that a parse of Rust stores, where a piece of the text was replaced.
 use Rattle.std.specs.Prelude.{◌≡◌, ℕ, true, false, List, ◌++◌, map, length}
 use Rattle.ras_front_end.specs.declared.edition.Edition.{Edition}
-use Rattle.ras_front_end.specs.Fault.{Fault}
+use Rattle.ras_front_end.specs.ErrorModel.{ErrorModel}
 use Rattle.token_layout.specs.declared.span.Token.{Token}
 use Rattle.rust_lexer.specs.Lexing.{tokens_of, errors_of}
 use Rattle.lexer_laws.specs.Pieces.{IsReplaced}
@@ -11,7 +11,7 @@ use Rattle.ras_parsing.specs.Edit.{Edit}
 use Rattle.ras_parsing.specs.Document.{in_order, is_quiet_from}
 
 -- the errors of `Rust`'s readings of a text
-abbrev pub stored : Edition → List ℕ → List Fault
+abbrev pub stored : Edition → List ℕ → List ErrorModel
 stored e text = map (lexer_error_of text) (errors_of e text)
 
 -- on the conditions that `Document::edit` tests, the errors that it puts in order are those of the

@@ -1,5 +1,5 @@
 -- Orders that meet nothing of what is around a part of a text lay the same there.
-use Rattle.std.proofs.Common.{◌≡◌, ◌⊎◌, inl, inr, ℕ, zero, suc, ◌+◌, ◌-◌, ◌≤◌, ◌<◌, ◌^◌, List, [], ◌∷◌, ◌++◌, length, take, drop, fold, ap, ap₂, sym, ◌∙◌, refl, arith, subst, Option, Some, None, Bool, true, false, if◌then◌else◌, nat_lt, nat_eq, add-one, append_assoc, append-nil}
+use Rattle.std.proofs.Common.{◌≡◌, ◌⊎◌, inl, inr, ℕ, zero, suc, ◌+◌, ◌-◌, ◌≤◌, ◌<◌, ◌^◌, List, [], ◌∷◌, ◌++◌, length, take, drop, fold, ap, ap₂, sym, ◌∙◌, refl, arith, subst, Option, Some, None, Bool, true, false, if◌then◌else◌, nat_lt, add-one, append_assoc, append-nil}
 use Rattle.std.specs.Prelude.{◌&&◌, position}
 use Rattle.std.proofs.lemmas.Bool.{lt-ltb, ltb-true, ltb-false}
 use Rattle.std.proofs.lemmas.List.{drop-take, drop-drop, length-append, length-drop, length-take, take-append-le, drop-append-le, map-append}
@@ -9,7 +9,7 @@ use Rattle.ras_front_end.specs.Reading.{begins, takes, ends}
 use Rattle.token_layout.specs.declared.span.Token.{Token as RawToken}
 use Rattle.grammar_machine.specs.declared.event.Part.{Part}
 use Rattle.grammar_machine.specs.declared.event.Part.TheVariants.{Whole, Dot, Fraction}
-use Rattle.event_layout.specs.declared.layout.Fault.{Fault}
+use Rattle.event_layout.specs.declared.layout.ParserError.{ParserError}
 use Rattle.event_layout.specs.declared.trivia.Keep.{Keep}
 use Rattle.event_layout.specs.Trivia.{lead, later_of, part_of, kept_of, attached_after, attached, attaches_of, outside_of}
 use Rattle.event_layout.specs.Layout.{Laying, leaf_of, pass_on, pass_of, pass_all_of, pass_trivia_of, joined_len, join_on, join_of, kind_of_part, len_of_part, cut_at, piece_on, piece_of, enter_of, exit_of, exit_all_of, fault_of, added, finish_of, dot_of}
@@ -398,9 +398,9 @@ module _ (text whole : List ℕ) (attaching : List SyntaxKind) (a : Around) (ins
 
   pub say_in : (m : ℕ) (s : Laying) → fault_of m (amid a s) ≡ amid a (fault_of m s)
   say_in m s =
-      let f : Fault = record { message = m; position = s.position; left = length s.rest } in
+      let f : ParserError = record { message = m; position = s.position; left = length s.rest } in
       let more = length a.behind in
-      let here : ℕ → Fault = λ left. record { message = m; position = s.position + a.bytes; left = left } in
+      let here : ℕ → ParserError = λ left. record { message = m; position = s.position + a.bytes; left = left } in
       ap (λ fs. record (amid a s) { faults = fs })
       (ap (λ n. (a.faults ++ faults_amid a.bytes more s.faults) ++ here n ∷ []) (length-append s.rest a.behind)
       ∙ append_assoc a.faults (faults_amid a.bytes more s.faults) (fault_amid a.bytes more f ∷ [])

@@ -2,7 +2,7 @@
 use Rattle.std.proofs.Common.{◌≡◌, ℕ, ◌-◌, List, [], ◌∷◌, take, ap, ◌∙◌, refl, Bool, true, false, not, ◌&&◌, if◌then◌else◌, nat_lt}
 use Rattle.syntax_kind.specs.declared.syntax_kind.SyntaxKind.{SyntaxKind}
 use Rattle.token_layout.specs.declared.span.Token.{Token}
-use Rattle.event_layout.specs.Trivia.{lead, attached, attaches_of, is_blank_on, is_comment, later_of, kept_of, part_of, outside_of}
+use Rattle.event_layout.specs.Trivia.{lead, attached, attaches_of, is_blank_on, is_comment, kept_of, part_of, outside_of}
 use Rattle.event_layout.specs.Layout.{Given, Laying, begin_of, begin_with, enter_of, pass_of, pass_all_of}
 use Rattle.event_layout.proofs.Moves.{pass_all_none, pass_all_more}
 

@@ -1,11 +1,11 @@
 -- Moves behind the last event.
-use Rattle.std.proofs.Common.{◌≡◌, ℕ, zero, suc, ◌+◌, ◌-◌, ◌≤◌, ◌<◌, ◌^◌, List, [], ◌∷◌, length, ap, sym, ◌∙◌, refl, arith, subst, Option, Some, None, Bool, true, false, if◌then◌else◌, nat_lt, slice_get}
+use Rattle.std.proofs.Common.{◌≡◌, ℕ, zero, suc, ◌+◌, ◌-◌, ◌≤◌, List, [], ◌∷◌, length, ap, sym, ◌∙◌, refl, arith, subst, Some, None, Bool, true, false, if◌then◌else◌, nat_lt, slice_get}
 use Rattle.token_layout.specs.declared.span.Token.{Token}
 use Rattle.ras_front_end.specs.Reading.{ends}
 use Rattle.grammar_machine.specs.declared.event.Event.{Event}
 use Rattle.event_layout.specs.Starts.{number_at}
 use Rattle.event_layout.specs.Layout.{Given, Laying, IsOver, anywhere, added, pass_on, pass_of, pass_all_of, exit_of, exit_all_of, closed_of, finish_of, plus_of, advance_of, entering_of, going_of, obey_at_of, moves}
-use Rattle.event_layout.proofs.Moves.{pass_all_none, pass_all_more, exit_all_none, exit_all_more, moves_none, moves_more}
+use Rattle.event_layout.proofs.Moves.{moves_none, moves_more}
 use Rattle.event_layout.proofs.Chains.{past_last}
 
 -- the state with another next event

@@ -12,7 +12,7 @@ use Rattle.token_layout.specs.Balance.{balance}
 use Rattle.grammar_machine.specs.declared.event.Event.{Event}
 use Rattle.grammar_machine.specs.declared.event.Event.TheVariants.{Token, Piece, Node, Error}
 use Rattle.grammar_machine.specs.declared.event.Part.{Part}
-use Rattle.event_layout.specs.declared.layout.Fault.{Fault}
+use Rattle.event_layout.specs.declared.layout.ParserError.{ParserError}
 use Rattle.event_layout.specs.Trivia.{lead, later_of, part_of, outside_of}
 use Rattle.event_layout.specs.Starts.{number_at}
 use Rattle.event_layout.specs.Layout.{Given, Laying, leaf_of, pass_on, pass_of, pass_all_of, pass_trivia_of, joined_len, join_on, join_of, kind_of_part, len_of_part, cut_at, piece_on, piece_of, enter_of, exit_of, exit_all_of, begin_of, begin_at_of, fault_of, obey_of, obey_at_of, entering_of, going_of, advance_of, moves, plus_of, dot_of}
@@ -51,7 +51,7 @@ ends_no_fault (ends ∷ xs) h = ends_no_fault xs h
 ends_no_fault (reports m p ∷ xs) h = (let bad : _ ∷ step_faults xs ≡ [] = h in cc)
 
 -- the steps are in one root, cut the text so far, and the tokens that are left cut the rest of it
-pub record Held (root : SyntaxKind) (text : List ℕ) (rest : List RawToken) (cut : ℕ) (position : ℕ) (depth : ℕ) (steps : List FrontStep) (faults : List Fault) : Type 0 where
+pub record Held (root : SyntaxKind) (text : List ℕ) (rest : List RawToken) (cut : ℕ) (position : ℕ) (depth : ℕ) (steps : List FrontStep) (faults : List ParserError) : Type 0 where
   pub inner : List FrontStep
   pub steps_are : steps ≡ begins root ∷ inner
   pub closed : balance 0 inner ≡ Some depth
@@ -209,7 +209,7 @@ begin_at_kept root text g (Some (Error m)) s l h = h
 
 fault_kept : (root : SyntaxKind) (text : List ℕ) (m : ℕ) (s : Laying) → Kept root text s → Kept root text (fault_of m s)
 fault_kept root text m s h =
-    let f : Fault = record { message = m; position = s.position; left = length s.rest } in
+    let f : ParserError = record { message = m; position = s.position; left = length s.rest } in
     record {
       inner = h.inner;
       steps_are = h.steps_are;

@@ -4,7 +4,7 @@ use Rattle.std.specs.Prelude.{All}
 use Rattle.std.proofs.lemmas.List.Elements.{All-append, All-cons, All-nil, All-head, All-tail}
 use Rattle.syntax_kind.specs.declared.syntax_kind.SyntaxKind.{SyntaxKind}
 use Rattle.tree_model.specs.Events.{BuildsNode, enter, leaf, exit}
-use Rattle.ras_front_end.specs.Fault.{Fault, LiesIn, fault_at}
+use Rattle.ras_front_end.specs.ErrorModel.{ErrorModel, LiesIn, fault_at}
 use Rattle.ras_front_end.specs.Reading.{FrontStep, begins, takes, ends, reports, events_from, Cuts, step_faults}
 use Rattle.ras_front_end.specs.Keeps.{Keeps}
 use Rattle.token_layout.specs.Laid.{Laid}
@@ -48,7 +48,7 @@ reports_lie say n (f ∷ fs) h =
 
 -- the steps of one tree, after them the parser's errors, and the lexer's errors: if all lie in the
 -- text, and the root is a right one
-pub kept : {A : Type 0} (say : A → List ℕ × ℕ) (is_root : SyntaxKind → Type 0) (root : SyntaxKind) (fs : List A) (errors : List Fault) (text : List ℕ) (es : List FrontStep)
+pub kept : {A : Type 0} (say : A → List ℕ × ℕ) (is_root : SyntaxKind → Type 0) (root : SyntaxKind) (fs : List A) (errors : List ErrorModel) (text : List ℕ) (es : List FrontStep)
     → is_root root → Laid root text es → All (λ f. (say f).1 ≤ length text) fs → All (LiesIn (length text)) errors → Keeps is_root text (record { steps = es ++ map (report_by say) fs; errors = errors })
 kept say is_root root fs errors text es h y lie inside =
     let faults_are : step_faults (es ++ map (report_by say) fs) ≡ step_faults (map (report_by say) fs) = faults_both es (map (report_by say) fs) ∙ ap (λ l. l ++ step_faults (map (report_by say) fs)) y.no_faults in

@@ -12,7 +12,7 @@ use Rattle.syntax_kind.specs.Kinds.{is_trivia}
 use Rattle.ras_front_end.specs.Reading.{FrontStep, takes}
 use Rattle.token_layout.specs.declared.span.Token.{Token as RawToken}
 use Rattle.grammar_machine.specs.declared.event.Part.{Part}
-use Rattle.event_layout.specs.declared.layout.Fault.{Fault}
+use Rattle.event_layout.specs.declared.layout.ParserError.{ParserError}
 use Rattle.event_layout.specs.declared.trivia.Keep.{Keep}
 use Rattle.event_layout.specs.Trivia.{lead, later_of, part_of, has_blank_line, is_comment, one_more, kept_of, attached_after, attached, attaches_of, outside_of}
 use Rattle.event_layout.specs.Layout.{Laying, leaf_of, pass_on, joined_len, join_on, is_number, dot_of, cut_at, piece_on, fault_of}
@@ -70,7 +70,7 @@ pub record Leaf : Type 0 where
   pub kind : SyntaxKind
   pub ahead : ℕ
   pub after : ℕ
-  pub faults : List Fault
+  pub faults : List ParserError
 
 abbrev pub steps_with : Leaf → ℕ → List FrontStep
 steps_with l n = l.before ++ takes l.kind (l.ahead + (n + l.after)) ∷ []
@@ -365,9 +365,9 @@ module _ (e : Retelling) (ok : Retells e) where
 
   pub say_before : (m : ℕ) (front : List RawToken) (s : Laying) → Before e front s → Both e (fault_of m s) (fault_of m (retold e front s))
   say_before m front s h =
-      let P : Fault → Type 0 = λ f. f.position ≤ length e.x in
+      let P : ParserError → Type 0 = λ f. f.position ≤ length e.x in
       let t = fault_of m s in
-      let one : ℕ → Fault = λ n. record { message = m; position = s.position; left = n } in
+      let one : ℕ → ParserError = λ n. record { message = m; position = s.position; left = n } in
       let same : length (front ++ new_token e ∷ e.back) ≡ length s.rest = length_both_ways front e.back (new_token e) (old_token e) ∙ sym (ap length h.rest) in
       both_is e t t (fault_of m (retold e front s)) (retold e front t)
       refl (ap (λ n. record s { rest = front ++ new_token e ∷ e.back; faults = s.faults ++ one n ∷ [] }) same)

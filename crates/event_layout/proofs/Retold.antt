@@ -11,7 +11,7 @@ use Rattle.token_layout.specs.Laid.{IsCut}
 use Rattle.grammar_machine.specs.declared.event.Event.{Event}
 use Rattle.grammar_machine.specs.declared.event.Event.TheVariants.{Token, Piece, Node, Error}
 use Rattle.grammar_machine.specs.declared.event.Part.{Part}
-use Rattle.event_layout.specs.declared.layout.Fault.{Fault}
+use Rattle.event_layout.specs.declared.layout.ParserError.{ParserError}
 use Rattle.event_layout.specs.Starts.{number_at}
 use Rattle.event_layout.specs.Trivia.{lead, outside_of}
 use Rattle.event_layout.specs.Layout.{Given, Laying, given, added, pass_on, pass_of, pass_all_of, pass_trivia_of, join_on, join_of, kind_of_part, piece_on, piece_of, enter_of, exit_of, exit_all_of, fault_of, begin_with, begin_at_of, obey_at_of, plus_of, entering_of, going_of, advance_of, moves, moves_of, start_of, finish_of, laid_of}
@@ -284,17 +284,17 @@ module _ (attaching : List SyntaxKind) (e : Retelling) (ok : Retells e) where
   is_behind u v (ahead_of front s h) none = absurd (none_before front s h none)
   is_behind u v (past s t b) none = b
 
-  abbrev turned : Fault → Fault
+  abbrev turned : ParserError → ParserError
   turned = fault_retold (length e.x) (length e.old) (length e.new)
 
-  low_stay : (fs : List Fault) → All (λ f. f.position ≤ length e.x) fs → map turned fs ≡ fs
+  low_stay : (fs : List ParserError) → All (λ f. f.position ≤ length e.x) fs → map turned fs ≡ fs
   low_stay [] low = refl
   low_stay (f ∷ fs) low =
-      let P : Fault → Type 0 = λ f. f.position ≤ length e.x in
+      let P : ParserError → Type 0 = λ f. f.position ≤ length e.x in
       let one : turned f ≡ f = ap (λ b. if b then f else record f { position = (f.position - length e.old) + length e.new }) (le-leb f.position (length e.x) (All-head P f fs low)) in
       ap₂ (λ f fs. f ∷ fs) one (low_stay fs (All-tail P f fs low))
 
-  high_turn : (fs : List Fault) → map turned (faults_amid (length e.x + length e.old) 0 fs) ≡ faults_amid (length e.x + length e.new) 0 fs
+  high_turn : (fs : List ParserError) → map turned (faults_amid (length e.x + length e.old) 0 fs) ≡ faults_amid (length e.x + length e.new) 0 fs
   high_turn [] = refl
   high_turn (f ∷ fs) =
       let g = fault_amid (length e.x + length e.old) 0 f in
@@ -304,7 +304,7 @@ module _ (attaching : List SyntaxKind) (e : Retelling) (ok : Retells e) where
       ap (λ b. if b then g else record g { position = (g.position - length e.old) + length e.new }) high ∙ ap (λ n. record g { position = n }) at in
       ap₂ (λ f fs. f ∷ fs) one (high_turn fs)
 
-  high_late : (fs : List Fault) → All (λ f. length e.x + length e.old ≤ f.position) (faults_amid (length e.x + length e.old) 0 fs)
+  high_late : (fs : List ParserError) → All (λ f. length e.x + length e.old ≤ f.position) (faults_amid (length e.x + length e.old) 0 fs)
   high_late [] = All-nil (λ f. length e.x + length e.old ≤ f.position)
   high_late (f ∷ fs) =
       All-cons (λ f. length e.x + length e.old ≤ f.position) (fault_amid (length e.x + length e.old) 0 f) (faults_amid (length e.x + length e.old) 0 fs) (omega arith) (high_late fs)

@@ -1,5 +1,5 @@
 -- Where the errors of orders are: between the bytes and the tokens where the orders begin and end.
-use Rattle.std.proofs.Common.{◌≡◌, ℕ, zero, suc, ◌+◌, ◌-◌, ◌≤◌, ◌<◌, ◌^◌, Bool, true, false, nat_lt, nat_eq, if◌then◌else◌, List, [], ◌∷◌, ◌++◌, length, ap, ◌∙◌, refl, arith, subst, sym, Option, Some, None, append_assoc, append-nil}
+use Rattle.std.proofs.Common.{◌≡◌, ℕ, zero, suc, ◌+◌, ◌-◌, ◌≤◌, ◌<◌, ◌^◌, Bool, true, false, nat_lt, if◌then◌else◌, List, [], ◌∷◌, ◌++◌, length, ap, ◌∙◌, refl, arith, subst, sym, Option, Some, None, append_assoc, append-nil}
 use Rattle.std.specs.Prelude.{All, position}
 use Rattle.std.proofs.lemmas.List.{length-drop}
 use Rattle.std.proofs.lemmas.List.Elements.{All-head, All-tail, All-append, All-cons, All-nil}
@@ -7,7 +7,7 @@ use Rattle.syntax_kind.specs.declared.syntax_kind.SyntaxKind.{SyntaxKind}
 use Rattle.ras_front_end.specs.Reading.{begins, ends}
 use Rattle.token_layout.specs.declared.span.Token.{Token as RawToken}
 use Rattle.grammar_machine.specs.declared.event.Part.{Part}
-use Rattle.event_layout.specs.declared.layout.Fault.{Fault}
+use Rattle.event_layout.specs.declared.layout.ParserError.{ParserError}
 use Rattle.event_layout.specs.Trivia.{lead, part_of, outside_of}
 use Rattle.event_layout.specs.Layout.{Laying, pass_on, pass_of, pass_all_of, pass_trivia_of, join_on, cut_at, piece_on, enter_of, exit_of, exit_all_of, finish_of, dot_of}
 use Rattle.event_layout.specs.Orders.{Order, begin_node, take_joined, take_part, end_node, say, nothing, ordered, walked}
@@ -17,19 +17,19 @@ use Rattle.event_layout.proofs.Amid.{pass_all_fits, ordered_fits}
 -- ---- errors
 
 -- at the bytes from p to q, where m to n tokens are left
-pub record Between (p q m n : ℕ) (f : Fault) : Type 0 where
+pub record Between (p q m n : ℕ) (f : ParserError) : Type 0 where
   pub low : p ≤ f.position
   pub high : f.position ≤ q
   pub few : m ≤ f.left
   pub many : f.left ≤ n
 
-pub all_too : (P Q : Fault → Type 0) → ((f : Fault) → P f → Q f) → (fs : List Fault) → All P fs → All Q fs
+pub all_too : (P Q : ParserError → Type 0) → ((f : ParserError) → P f → Q f) → (fs : List ParserError) → All P fs → All Q fs
 all_too P Q h [] a = All-nil Q
 all_too P Q h (f ∷ fs) a = All-cons Q f fs (h f (All-head P f fs a)) (all_too P Q h fs (All-tail P f fs a))
 
 -- from one state to a later one, errors are added that are between them
 pub record Said (s t : Laying) : Type 0 where
-  pub added : List Fault
+  pub added : List ParserError
   pub faults : t.faults ≡ s.faults ++ added
   pub between : All (Between s.position t.position (length t.rest) (length s.rest)) added
   pub position : s.position ≤ t.position
@@ -43,7 +43,7 @@ said_twice s t u a b =
     let z = b.rest in
     record {
       added = a.added ++ b.added;
-      faults = b.faults ∙ ap (λ (fs : List Fault). fs ++ b.added) a.faults ∙ append_assoc s.faults a.added b.added;
+      faults = b.faults ∙ ap (λ (fs : List ParserError). fs ++ b.added) a.faults ∙ append_assoc s.faults a.added b.added;
       between =
           All-append (Between s.position u.position (length u.rest) (length s.rest)) a.added b.added
           (all_too (Between s.position t.position (length t.rest) (length s.rest)) (Between s.position u.position (length u.rest) (length s.rest))
@@ -147,8 +147,8 @@ module _ (text : List ℕ) (small : length text < 2 ^ 32) where
       said_twice s t (piece_on text p t.rest t) (pass_all_said (lead s.rest) s h) (piece_on_said p t.rest t (pass_all_fits text small (lead s.rest) s h))
   ordered_said attaching end_node s h = exit_said s
   ordered_said attaching (say m) s h =
-      let f : Fault = record { message = m; position = s.position; left = length s.rest } in
-      let P : Fault → Type 0 = Between s.position s.position (length s.rest) (length s.rest) in
+      let f : ParserError = record { message = m; position = s.position; left = length s.rest } in
+      let P : ParserError → Type 0 = Between s.position s.position (length s.rest) (length s.rest) in
       record {
         added = f ∷ [];
         faults = refl;
@@ -177,11 +177,11 @@ module _ (text : List ℕ) (small : length text < 2 ^ 32) where
 -- the errors of states that begin without any
 pub said_before : (s t : Laying) (high : ℕ) → s.faults ≡ [] → Said s t → t.position ≤ high → All (λ f. f.position ≤ high) t.faults
 said_before s t high none w h =
-    subst (All (λ f. f.position ≤ high)) (sym (w.faults ∙ ap (λ (fs : List Fault). fs ++ w.added) none))
+    subst (All (λ f. f.position ≤ high)) (sym (w.faults ∙ ap (λ (fs : List ParserError). fs ++ w.added) none))
     (all_too (Between s.position t.position (length t.rest) (length s.rest)) (λ f. f.position ≤ high)
     (λ f b. let g = b.high in omega (arith, g, h)) w.added w.between)
 
 pub said_behind : (s t : Laying) → s.faults ≡ [] → Said s t → All (λ f. f.left ≤ length s.rest) t.faults
 said_behind s t none w =
-    subst (All (λ f. f.left ≤ length s.rest)) (sym (w.faults ∙ ap (λ (fs : List Fault). fs ++ w.added) none))
+    subst (All (λ f. f.left ≤ length s.rest)) (sym (w.faults ∙ ap (λ (fs : List ParserError). fs ++ w.added) none))
     (all_too (Between s.position t.position (length t.rest) (length s.rest)) (λ f. f.left ≤ length s.rest) (λ f b. b.many) w.added w.between)

@@ -3,7 +3,7 @@ use Rattle.std.specs.Prelude.{◌≡◌, ℕ, ◌+◌, ◌-◌, ◌<◌, ◌≤�
 use Rattle.syntax_kind.specs.declared.syntax_kind.SyntaxKind.{SyntaxKind}
 use Rattle.ras_front_end.specs.Reading.{FrontStep}
 use Rattle.token_layout.specs.declared.span.Token.{Token as RawToken}
-use Rattle.event_layout.specs.declared.layout.Fault.{Fault}
+use Rattle.event_layout.specs.declared.layout.ParserError.{ParserError}
 use Rattle.event_layout.specs.Trivia.{lead, part_of}
 use Rattle.event_layout.specs.Layout.{Laying}
 use Rattle.event_layout.specs.Orders.{Order, begin_node, take_joined, take_part, end_node, say, nothing, ordered, walked}
@@ -15,13 +15,13 @@ pub record Around : Type 0 where
   pub behind : List RawToken
   pub open_nodes : ℕ
   pub steps : List FrontStep
-  pub faults : List Fault
+  pub faults : List ParserError
 
-abbrev pub fault_amid : ℕ → ℕ → Fault → Fault
+abbrev pub fault_amid : ℕ → ℕ → ParserError → ParserError
 fault_amid bytes tokens f = record f { position = f.position + bytes; left = f.left + tokens }
 
 -- the errors of a part, with so many bytes before it and so many tokens behind it
-abbrev pub faults_amid : ℕ → ℕ → List Fault → List Fault
+abbrev pub faults_amid : ℕ → ℕ → List ParserError → List ParserError
 faults_amid bytes tokens fs = map (fault_amid bytes tokens) fs
 
 -- a state of the part's layout, as it is with all that is around

@@ -9,7 +9,7 @@ use Rattle.grammar_machine.specs.declared.event.Event.{Event}
 use Rattle.grammar_machine.specs.declared.event.Event.TheVariants.{Token, Piece, Node, Error}
 use Rattle.grammar_machine.specs.Framing.{moved_events}
 use Rattle.grammar_machine.specs.Filling.{event_later, inserted}
-use Rattle.event_layout.specs.declared.layout.Fault.{Fault}
+use Rattle.event_layout.specs.declared.layout.ParserError.{ParserError}
 use Rattle.event_layout.specs.Trivia.{lead, attaches_of}
 use Rattle.event_layout.specs.Layout.{Laying, root_of, laid_of}
 use Rattle.event_layout.specs.Amid.{faults_amid}
@@ -119,8 +119,8 @@ bytes_taken (reports m p ∷ es) = bytes_taken es
 pub record LaidAround (root : SyntaxKind) (attaching : List SyntaxKind) (s : Setting) : Type 0 where
   pub before : List FrontStep
   pub behind : List FrontStep
-  pub faults_before : List Fault
-  pub faults_behind : List Fault
+  pub faults_before : List ParserError
+  pub faults_behind : List ParserError
   -- what is laid before it takes the text before it
   pub bytes : (p : Stretch) → IsPiece p → IsShort (set_in s p) → length s.before.text < 2 ^ 32 - 1 → bytes_taken before ≡ length s.before.text
   pub steps : (p : Stretch) → IsPiece p → IsShort (set_in s p)

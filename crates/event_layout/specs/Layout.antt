@@ -9,7 +9,7 @@ use Rattle.grammar_machine.specs.declared.event.Event.{Event}
 use Rattle.grammar_machine.specs.declared.event.Event.TheVariants.{Token, Piece, Node, Error}
 use Rattle.grammar_machine.specs.declared.event.Part.{Part}
 use Rattle.grammar_machine.specs.declared.event.Part.TheVariants.{Whole, Dot, Fraction}
-use Rattle.event_layout.specs.declared.layout.Fault.{Fault}
+use Rattle.event_layout.specs.declared.layout.ParserError.{ParserError}
 use Rattle.event_layout.specs.declared.layout.Layout.{Layout}
 use Rattle.event_layout.specs.declared.layout.Plan.{Plan}
 use Rattle.event_layout.specs.Starts.{Links, links_of, number_at, starts_of}
@@ -36,7 +36,7 @@ pub record Laying : Type 0 where
   -- how many nodes are open in the root
   pub depth : ℕ
   pub steps : List FrontStep
-  pub faults : List Fault
+  pub faults : List ParserError
 
 abbrev pub given_of : Plan → Given
 given_of p = record { bytes = p.bytes.now; events = p.events.now; attaching = p.attaching.now; root = p.root; links = links_of p.starts }

@@ -12,7 +12,7 @@ use Rattle.grammar_machine.specs.Running.{Tables, is_among, run_of, events_of}
 use Rattle.grammar_machine.specs.Filling.{LooksAreShort, Fits}
 use Rattle.grammar_machine.specs.Reading.{IsSealedRule}
 use Rattle.grammar_machine.specs.Exchanging.{ComesToCall, EndAlike, ReadsAlone}
-use Rattle.event_layout.specs.declared.layout.Fault.{Fault}
+use Rattle.event_layout.specs.declared.layout.ParserError.{ParserError}
 use Rattle.event_layout.specs.Trivia.{lead, attaches_of}
 use Rattle.event_layout.specs.Amid.{faults_amid}
 use Rattle.event_layout.specs.Filled.{Stretch, laid, bytes_taken}
@@ -82,7 +82,7 @@ pub record IsSmall
 -- what is laid before and behind is the same, and the piece is laid as by itself
 pub record LaidIn
     (root k : SyntaxKind) (attaching : List SyntaxKind) (g : Tables) (rule : ℕ) (a p c : Part)
-    (es : List Event) (before behind : List FrontStep) (faults_before faults_behind : List Fault)
+    (es : List Event) (before behind : List FrontStep) (faults_before faults_behind : List ParserError)
     : Type 0 where
   pub steps : (laid root attaching (whole_of g rule a p c)).steps
       ≡ before ++ ((laid k attaching (piece_of k p es)).steps ++ behind)
@@ -102,8 +102,8 @@ pub record LaidAround
     (es fs : List Event) : Type 0 where
   pub before : List FrontStep
   pub behind : List FrontStep
-  pub faults_before : List Fault
-  pub faults_behind : List Fault
+  pub faults_before : List ParserError
+  pub faults_behind : List ParserError
   pub was : LaidIn root k attaching g rule a p c es before behind faults_before faults_behind
   pub now : LaidIn root k attaching g rule a q c fs before behind faults_before faults_behind
 

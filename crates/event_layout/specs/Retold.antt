@@ -7,7 +7,7 @@ use Rattle.ras_front_end.specs.Reading.{FrontStep, takes}
 use Rattle.token_layout.specs.declared.span.Token.{Token as RawToken}
 use Rattle.token_layout.specs.Laid.{IsCut}
 use Rattle.grammar_machine.specs.declared.event.Event.{Event}
-use Rattle.event_layout.specs.declared.layout.Fault.{Fault}
+use Rattle.event_layout.specs.declared.layout.ParserError.{ParserError}
 use Rattle.event_layout.specs.Amid.{sum_len}
 use Rattle.event_layout.specs.Filled.{bytes_taken}
 use Rattle.event_layout.specs.Layout.{Laying, laid_of, is_number}
@@ -37,7 +37,7 @@ pub record IsRetold (s z : List ℕ) (ts us : List RawToken) (x old new y : List
   pub no_dots : is_number kind ≡ true → (has_dot old ≡ false) × (has_dot new ≡ false)
 
 -- a fault behind the token moves with the text
-abbrev pub fault_retold : ℕ → ℕ → ℕ → Fault → Fault
+abbrev pub fault_retold : ℕ → ℕ → ℕ → ParserError → ParserError
 fault_retold at old new f =
     if nat_le f.position at then f else record f { position = (f.position - old) + new }
 
@@ -56,8 +56,8 @@ pub record LaidAlike (laid laid_new : Laying) (x old new : List ℕ) : Type 0 wh
   pub new_faults : laid_new.faults
       ≡ map (fault_retold (length x) (length old) (length new)) laid.faults
   -- the faults before the token come first
-  pub early : List Fault
-  pub late : List Fault
+  pub early : List ParserError
+  pub late : List ParserError
   pub faults_are : laid.faults ≡ early ++ late
   pub are_early : All (λ f. f.position ≤ length x) early
   pub are_late : All (λ f. length x + length old ≤ f.position) late

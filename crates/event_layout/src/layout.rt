@@ -1,9 +1,9 @@
 //! The walk over the events.
-ghost use Rattle.std.specs.Prelude.{false, position, nat_eq, ◌≡◌, ◌-◌, ◌≤◌, ◌<◌, ◌^◌, ◌++◌, ◌∷◌, [], OnOk, IfOk, All, length, slice_get, option_map};
+ghost use Rattle.std.specs.Prelude.{false, position, nat_eq, ◌≡◌, ◌-◌, ◌≤◌, ◌<◌, ◌^◌, [], OnOk, IfOk, All, length, slice_get};
 ghost use Rattle.ras_front_end.specs.Reading.{front_step, front_steps};
 ghost use Rattle.token_layout.specs.Laid.{IsCut, Laid};
 ghost use Rattle.event_layout.specs.Layout.{laying_of, given_of, kind_of_part, len_of_part, dot_of, cut_at, is_node_of, is_node_at, added, leaf_of, pass_of, pass_all_of, pass_trivia_of, join_of, joined_len, piece_of, enter_of, exit_of, exit_all_of, begin_with, begin_of, begin_at_of, fault_of, obey_of, advance_of, IsOver, anywhere, finish_of, root_of, outermost_of, moves, moves_of, start_of, laid_with, laid_of};
-ghost use Rattle.event_layout.specs.Trivia.{outside_of, is_blank_on};
+ghost use Rattle.event_layout.specs.Trivia.{outside_of};
 ghost use Rattle.event_layout.specs.Made.{without_trivia, only_tokens, made_of};
 
 use crate::starts::{Starts, find_starts};
@@ -17,7 +17,7 @@ use token_layout::Token;
 
 /// An error of a parser.
 #[derive(Clone, Copy, Debug, PartialEq, Eq)]
-pub struct Fault {
+pub struct ParserError {
     /// The number of its message.
     pub message: u16,
     /// Its position in the text, in bytes.
@@ -32,7 +32,7 @@ pub struct LaidOut {
     /// The steps of one node over the whole text.
     pub steps: Vec<Step>,
     /// The errors, in order.
-    pub faults: Vec<Fault>,
+    pub faults: Vec<ParserError>,
 }
 
 // What stays the same.
@@ -60,7 +60,7 @@ struct Layout<'a> {
     // how many nodes are open in the root
     depth: usize,
     steps: Vec<Step>,
-    faults: Vec<Fault>,
+    faults: Vec<ParserError>,
 }
 
 fn event_at(events: &[Event], i: usize) -> Option<Event>
@@ -380,7 +380,7 @@ impl<'a> Layout<'a> {
     fn fault(&mut self, message: u16) -> Result<(), AllocError>
         ensures { OnOk result (laying_of self.new ≡ fault_of message (laying_of self.old)) }
     {
-        self.faults.push(Fault {
+        self.faults.push(ParserError {
             message,
             position: self.position,
             left: self.rest.len(),

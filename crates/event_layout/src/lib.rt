@@ -12,4 +12,4 @@ mod starts;
 mod trivia;
 
 pub use ending::ends_in_token;
-pub use layout::{Fault, LaidOut, lay_out, outermost};
+pub use layout::{LaidOut, ParserError, lay_out, outermost};

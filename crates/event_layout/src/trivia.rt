@@ -1,5 +1,5 @@
 //! White space and comments: how many come next, and which of them go into the next node.
-ghost use Rattle.std.specs.Prelude.{◌≡◌, ◌+◌, ◌-◌, fold, take, drop, length, slice_get};
+ghost use Rattle.std.specs.Prelude.{◌≡◌, ◌-◌, take, drop};
 ghost use Rattle.event_layout.specs.Trivia.{lead, later_of, part_of, newlines_after, has_blank_line, attached_after, attached, attaches_of, is_blank_on, kept_of, outside_of};
 
 use syntax_kind::SyntaxKind;

@@ -8,7 +8,7 @@ use Rattle.ras_node.specs.Sets.{is_expr}
 use Rattle.ras_front_end.specs.declared.edition.Entry.TheVariants.{SourceFile, Expr}
 use Rattle.ras_front_end.specs.declared.edition.Edition.{Edition}
 use Rattle.ras_front_end.specs.declared.edition.Reparser.{Reparser}
-use Rattle.ras_front_end.specs.Fault.{Fault}
+use Rattle.ras_front_end.specs.ErrorModel.{ErrorModel}
 use Rattle.ras_front_end.specs.Reading.{Reading}
 use Rattle.ras_front_end.specs.Front.{Front}
 use Rattle.token_layout.specs.declared.span.Token.{Token as LexedToken}
@@ -41,14 +41,14 @@ abbrev pub made_of : LanguageAnswers → Target → Edition → List ℕ → Lis
 made_of language target e text ts = events_of language.tables (language.rule target) (language.sights e text ts)
 
 -- the steps of one tree, after them the grammar's errors, and the lexer's errors
-abbrev pub reading_on : LanguageAnswers → List ℕ → List LexedToken → List Fault → Laying → Reading
+abbrev pub reading_on : LanguageAnswers → List ℕ → List LexedToken → List ErrorModel → Laying → Reading
 reading_on language text ts errors s = record { steps = s.steps ++ map (report_by (say_of language (size_of text) ts)) s.faults; errors = errors }
 
-unfoldable pub reading_with : LanguageAnswers → Target → List ℕ → List LexedToken → List Fault → List Event → Reading
+unfoldable pub reading_with : LanguageAnswers → Target → List ℕ → List LexedToken → List ErrorModel → List Event → Reading
 reading_with language target text ts errors events =
     reading_on language text ts errors (laid_of (root_of target (outermost_of events)) language.attaching text ts events)
 
-abbrev pub reading_by : LanguageAnswers → Target → Edition → List ℕ → List LexedToken → List Fault → Reading
+abbrev pub reading_by : LanguageAnswers → Target → Edition → List ℕ → List LexedToken → List ErrorModel → Reading
 reading_by language target e text ts errors = reading_with language target text ts errors (made_of language target e text ts)
 
 abbrev pub whole_of : LexerAnswers → LanguageAnswers → Target → Edition → List ℕ → Reading
@@ -64,12 +64,12 @@ read_of lexer language target e text = if nat_lt (length text) (2 ^ 32) then who
 abbrev pub kinds_of : List LexedToken → List SyntaxKind
 kinds_of ts = map (λ t. t.kind) ts
 
-abbrev pub message_with : List Fault → Option (List ℕ)
+abbrev pub message_with : List ErrorModel → Option (List ℕ)
 message_with [] = None
 message_with (f ∷ fs) = Some f.message
 
 -- one token, and the first error
-abbrev pub single_with : List LexedToken → List Fault → Option (SyntaxKind × Option (List ℕ))
+abbrev pub single_with : List LexedToken → List ErrorModel → Option (SyntaxKind × Option (List ℕ))
 single_with (t ∷ []) errors = Some (t.kind, message_with errors)
 single_with _ errors = None
 

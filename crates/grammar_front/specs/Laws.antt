@@ -17,7 +17,7 @@ use Rattle.ras_front_end.specs.Keeps.{Keeps, IsRootOf}
 use Rattle.ras_front_end.specs.Reading.{Reading}
 use Rattle.token_layout.specs.declared.span.Token.{Token as LexedToken}
 use Rattle.token_layout.specs.Answers.{LexerAnswers, LexerKeeps}
-use Rattle.event_layout.specs.declared.layout.Fault.{Fault}
+use Rattle.event_layout.specs.declared.layout.ParserError.{ParserError}
 use Rattle.event_layout.specs.Layout.{laid_of, outermost_of}
 use Rattle.event_layout.proofs.Laying.{laid, lie}
 use Rattle.event_layout.proofs.Kept.{kept}
@@ -34,7 +34,7 @@ placed_lies : (place : ErrorPlace) (text : List ℕ) (p : ℕ) (ts : List LexedT
 placed_lies BehindLast text p ts h = h
 placed_lies AtNext text p ts h = omega arith
 
-all_lie : (language : LanguageAnswers) (text : List ℕ) (ts : List LexedToken) (fs : List Fault) → All (λ f. f.position ≤ length text) fs → All (λ f. (say_of language (size_of text) ts f).1 ≤ length text) fs
+all_lie : (language : LanguageAnswers) (text : List ℕ) (ts : List LexedToken) (fs : List ParserError) → All (λ f. f.position ≤ length text) fs → All (λ f. (say_of language (size_of text) ts f).1 ≤ length text) fs
 all_lie language text ts [] h = All-nil (λ f. (say_of language (size_of text) ts f).1 ≤ length text)
 all_lie language text ts (f ∷ fs) h =
     let own = All-head (λ f. f.position ≤ length text) f fs h in

@@ -5,7 +5,7 @@ ghost use Rattle.token_layout.specs.Report.{report_by};
 ghost use Rattle.grammar_front.specs.Reports.{next_from, placed_of, last_of, say_of};
 
 use crate::language::{ErrorPlace, Language};
-use event_layout::Fault;
+use event_layout::ParserError;
 use ras_front_end::Step;
 use std::alloc::{AllocError, Global};
 use text_size::TextSize;
@@ -47,7 +47,7 @@ fn report<G: Language>(
     language: &G,
     end: TextSize,
     tokens: &[Token],
-    fault: Fault,
+    fault: ParserError,
 ) -> Result<Step, AllocError>
     ensures { IfOk result (λ step. front_step step
         ≡ report_by (say_of (G.speaks language.now) end tokens.now) fault) }
@@ -74,7 +74,7 @@ pub fn reported<G: Language>(
     end: TextSize,
     tokens: &[Token],
     mut steps: Vec<Step>,
-    faults: &[Fault],
+    faults: &[ParserError],
 ) -> Result<Vec<Step>, AllocError>
     ensures { IfOk result (λ v. front_steps v.items ≡ front_steps steps.items
         ++ map (report_by (say_of (G.speaks language.now) end tokens.now)) faults.now) }

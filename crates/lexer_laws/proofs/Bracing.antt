@@ -14,7 +14,7 @@ use Rattle.rust_lexer.specs.Lexing.{size_of}
 use Rattle.rust_lexer.specs.Shapes.{plain_of}
 use Rattle.rust_lexer.specs.Signs.{sign_kind_of}
 use Rattle.rust_lexer.specs.Tokens.{token_of}
-use Rattle.lexer_laws.specs.Behind.{IsBrace, fault_before, before}
+use Rattle.lexer_laws.specs.Behind.{IsBrace, check_before, before}
 use Rattle.lexer_laws.specs.Cuts.{tokens_within, bytes_of}
 use Rattle.lexer_laws.proofs.Tests.{longer}
 use Rattle.lexer_laws.proofs.Firsts.{token_ends}
@@ -45,7 +45,7 @@ pub record Inside (e : Edition) (s : List ℕ) (b : ℕ) : Type 0 where
   pub few : bytes ≤ length s
   pub is_long : token.len ≡ bytes
   pub is_first : (y : List ℕ) → length s + length y < 2 ^ 32 - 1 → token_at e (s ++ b ∷ y) ≡ token
-  pub is_fault : (y : List ℕ) → length s + length y < 2 ^ 32 - 1 → (token_of e (s ++ b ∷ y)).fault ≡ fault_before (suc (length y)) (token_of e s).fault
+  pub is_fault : (y : List ℕ) → length s + length y < 2 ^ 32 - 1 → (token_of e (s ++ b ∷ y)).check ≡ check_before (suc (length y)) (token_of e s).check
   pub is_cut : (y : List ℕ) → length s + length y < 2 ^ 32 - 1 → cut_of (token_of e (s ++ b ∷ y)).left (s ++ b ∷ y) ≡ bytes
   pub is_rest : (y : List ℕ) → length s + length y < 2 ^ 32 - 1 → back_of (token_of e (s ++ b ∷ y)).left (s ++ b ∷ y) ≡ drop bytes s ++ b ∷ y
 
@@ -82,7 +82,7 @@ inside e s b h l f w =
           ap size_of (front_length (token_of e (s ++ b ∷ y)).left (s ++ b ∷ y) ∙ cut y m) ∙ omega (arith, l) in
           ap₂ (λ (c : SyntaxKind) (j : ℕ). record { kind = c; len = j }) (ap (λ (t : Shape). t.kind) (f y (omega (arith, m)))) len;
       is_cut = cut;
-      is_fault = λ y m. ap (λ (t : Shape). t.fault) (f y (omega (arith, m)));
+      is_fault = λ y m. ap (λ (t : Shape). t.check) (f y (omega (arith, m)));
       is_rest = λ y m. ap (λ (j : ℕ). drop j (s ++ b ∷ y)) (cut y m) ∙ drop-append-le i s (b ∷ y) (omega arith);
     }
 

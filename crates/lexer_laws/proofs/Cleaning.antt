@@ -9,8 +9,8 @@ use Rattle.ras_front_end.specs.declared.edition.Edition.{Edition}
 use Rattle.token_layout.specs.declared.span.Token as span
 use Rattle.rust_lexer.specs.declared.lexer.LexError.{LexError}
 use Rattle.rust_lexer.specs.declared.problem.Problem.{Problem}
-use Rattle.rust_lexer.specs.declared.shape.Fault.{Fault}
-use Rattle.rust_lexer.specs.declared.shape.Fault.TheVariants.{No, Is, Prefix, Content}
+use Rattle.rust_lexer.specs.declared.shape.Check.{Check}
+use Rattle.rust_lexer.specs.declared.shape.Check.TheVariants.{No, Is, Prefix, Content}
 use Rattle.rust_lexer.specs.declared.shape.Shape.{Shape}
 use Rattle.rust_lexer.specs.Contents.{content_problems}
 use Rattle.rust_lexer.specs.Cuts.{cut_of, back_of}
@@ -19,7 +19,7 @@ use Rattle.rust_lexer.specs.Shapes.{plain_of}
 use Rattle.rust_lexer.specs.Signs.{sign_kind_of}
 use Rattle.rust_lexer.specs.Tokens.{token_of}
 use Rattle.rust_lexer.proofs.Steps.{steps-one, steps-stop, steps-end}
-use Rattle.lexer_laws.specs.Behind.{IsBrace, fault_before}
+use Rattle.lexer_laws.specs.Behind.{IsBrace, check_before}
 use Rattle.lexer_laws.specs.Cuts.{tokens_within, bytes_of}
 use Rattle.lexer_laws.specs.Heads.{HasNoHead}
 use Rattle.lexer_laws.specs.Pieces.{IsReplaced}
@@ -41,20 +41,20 @@ tail_same t r ts rs h = cc
 
 -- ---- tokens without a problem
 
--- nothing is wrong with a token at the front of s that has the fault
-abbrev Fine : List ℕ → Fault → Type 0
+-- nothing is wrong with a token at the front of s that has the check
+abbrev Fine : List ℕ → Check → Type 0
 Fine s No = Unit {0}
 Fine s (Is p) = ⊥
 Fine s Prefix = ⊥
 Fine s (Content m before behind) = content_problems m (content_of before behind s) ≡ []
 
-fine_problems : (ts : Tokens) (text s : List ℕ) (f : Fault) → Fine s f → problems_of ts text s f ≡ []
+fine_problems : (ts : Tokens) (text s : List ℕ) (f : Check) → Fine s f → problems_of ts text s f ≡ []
 fine_problems ts text s No h = refl
 fine_problems ts text s (Is p) h = absurd h
 fine_problems ts text s Prefix h = absurd h
 fine_problems ts text s (Content m before behind) h = h
 
-problems_fine : (ts : Tokens) (text s : List ℕ) (f : Fault) → problems_of ts text s f ≡ [] → Fine s f
+problems_fine : (ts : Tokens) (text s : List ℕ) (f : Check) → problems_of ts text s f ≡ [] → Fine s f
 problems_fine ts text s No h = tt
 problems_fine ts text s (Is p) h = absurd (cc)
 problems_fine ts text s Prefix h = absurd (cc)
@@ -63,13 +63,13 @@ problems_fine ts text s (Content m before behind) h = h
 pub content_same : (k j b : ℕ) → IsBrace b → (s y : List ℕ) → is_whole j s ≡ false → content_of k (j + suc (length y)) (s ++ b ∷ y) ≡ content_of k j s
 content_same k j b h s y w = ap (λ (z : List ℕ). back_of (length z - k) z) (front_same j b h s y w)
 
-fine_without : (b : ℕ) → IsBrace b → (s y : List ℕ) (f : Fault) → FitsIn s f → Fine (s ++ b ∷ y) (fault_before (suc (length y)) f) → Fine s f
+fine_without : (b : ℕ) → IsBrace b → (s y : List ℕ) (f : Check) → FitsIn s f → Fine (s ++ b ∷ y) (check_before (suc (length y)) f) → Fine s f
 fine_without b h s y No w k = tt
 fine_without b h s y (Is p) w k = k
 fine_without b h s y Prefix w k = k
 fine_without b h s y (Content m n j) w k = ap (content_problems m) (sym (content_same n j b h s y w)) ∙ k
 
-fine_with : (b : ℕ) → IsBrace b → (s y : List ℕ) (f : Fault) → FitsIn s f → Fine s f → Fine (s ++ b ∷ y) (fault_before (suc (length y)) f)
+fine_with : (b : ℕ) → IsBrace b → (s y : List ℕ) (f : Check) → FitsIn s f → Fine s f → Fine (s ++ b ∷ y) (check_before (suc (length y)) f)
 fine_with b h s y No w k = tt
 fine_with b h s y (Is p) w k = k
 fine_with b h s y Prefix w k = k
@@ -78,9 +78,9 @@ fine_with b h s y (Content m n j) w k = ap (content_problems m) (content_same n 
 -- no token of the text has a problem
 data Clean : Edition → List ℕ → Type 0 where
   none : (e : Edition) → Clean e []
-  more : (e : Edition) (x : ℕ) (s : List ℕ) → Fine (x ∷ s) (token_of e (x ∷ s)).fault → Clean e (back_of (token_of e (x ∷ s)).left (x ∷ s)) → Clean e (x ∷ s)
+  more : (e : Edition) (x : ℕ) (s : List ℕ) → Fine (x ∷ s) (token_of e (x ∷ s)).check → Clean e (back_of (token_of e (x ∷ s)).left (x ∷ s)) → Clean e (x ∷ s)
 
-first_fine : (e : Edition) (x : ℕ) (s : List ℕ) → Clean e (x ∷ s) → Fine (x ∷ s) (token_of e (x ∷ s)).fault
+first_fine : (e : Edition) (x : ℕ) (s : List ℕ) → Clean e (x ∷ s) → Fine (x ∷ s) (token_of e (x ∷ s)).check
 first_fine _ _ _ (more e x s h k) = h
 
 rest_clean : (e : Edition) (x : ℕ) (s : List ℕ) → Clean e (x ∷ s) → Clean e (back_of (token_of e (x ∷ s)).left (x ∷ s))
@@ -123,7 +123,7 @@ step_grown n e text l f (inl h) = record { more = []; is = ap (λ (k : Lexing). 
 step_grown n e text l f (inr h) =
     let t : Shape = token_of e l.rest in
     let r : TextRange = range_of (length text) (length l.rest) (length (back_of t.left l.rest)) in
-    let ps : List Problem = problems_of l.tokens text l.rest t.fault in
+    let ps : List Problem = problems_of l.tokens text l.rest t.check in
     let g = f (taken text t l) in
     record {
       more = faults_at r ps [] ++ g.more;
@@ -148,12 +148,12 @@ errors_clean (suc n) e text ts es (x ∷ s) m h =
     let l : Lexing = record { tokens = ts; errors = es; rest = x ∷ s } in
     let t : Shape = token_of e (x ∷ s) in
     let r : TextRange = range_of (length text) (length (x ∷ s)) (length (back_of t.left (x ∷ s))) in
-    let ps : List Problem = problems_of ts text (x ∷ s) t.fault in
+    let ps : List Problem = problems_of ts text (x ∷ s) t.check in
     let next : Lexing = taken text t l in
     let later : (steps_of n e text next).errors ≡ [] = sym (ap (λ (k : Lexing). k.errors) (steps-one n e text l (not_empty x s))) ∙ h in
     let g = grown n e text next in
     let now : faults_at r ps es ≡ [] = left_none (faults_at r ps es) g.more (sym g.is ∙ later) in
-    more e x s (problems_fine ts text (x ∷ s) t.fault (no_problem r ps es now))
+    more e x s (problems_fine ts text (x ∷ s) t.check (no_problem r ps es now))
     (errors_clean n e text next.tokens next.errors (back_of t.left (x ∷ s)) (omega (arith, back_short t.left x s, m)) later)
 
 -- a clean text gives no error
@@ -168,7 +168,7 @@ clean_errors (suc n) e text ts es (x ∷ s) m c =
     let next : Lexing = taken text t l in
     ap (λ (k : Lexing). k.errors) (steps-one n e text l (not_empty x s))
     ∙ clean_errors n e text next.tokens next.errors (back_of t.left (x ∷ s)) (omega (arith, back_short t.left x s, m)) (rest_clean e x s c)
-    ∙ ap (λ (ps : List Problem). faults_at r ps es) (fine_problems ts text (x ∷ s) t.fault (first_fine e x s c))
+    ∙ ap (λ (ps : List Problem). faults_at r ps es) (fine_problems ts text (x ∷ s) t.check (first_fine e x s c))
 
 -- ---- a cut at a brace
 
@@ -185,10 +185,10 @@ clean_inside e x s b u v t ts us n h i l lu lv is k c next =
     let first : i.token ≡ t = sym (i.is_first u lu) ∙ head_same _ t _ (ts ++ us) both in
     let same_len : t.len ≡ i.bytes = sym (ap (λ (z : span.Token). z.len) first) ∙ i.is_long in
     let behind : tokens_within e (r ++ b ∷ u) ≡ ts ++ us = ap (tokens_within e) (sym (i.is_rest u lu)) ∙ tail_same _ t _ (ts ++ us) both in
-    let f : Fault = (token_of e (x ∷ s)).fault in
+    let f : Check = (token_of e (x ∷ s)).check in
     let fits : FitsIn (x ∷ s) f = token_fits e x s (omega (arith, lu)) in
-    let old : Fine (x ∷ (s ++ b ∷ u)) (fault_before (suc (length u)) f) = subst (Fine (x ∷ (s ++ b ∷ u))) (i.is_fault u lu) (first_fine e x (s ++ b ∷ u) c) in
-    let new : Fine (x ∷ (s ++ b ∷ v)) (fault_before (suc (length v)) f) = fine_with b h (x ∷ s) v f fits (fine_without b h (x ∷ s) u f fits old) in
+    let old : Fine (x ∷ (s ++ b ∷ u)) (check_before (suc (length u)) f) = subst (Fine (x ∷ (s ++ b ∷ u))) (i.is_fault u lu) (first_fine e x (s ++ b ∷ u) c) in
+    let new : Fine (x ∷ (s ++ b ∷ v)) (check_before (suc (length v)) f) = fine_with b h (x ∷ s) v f fits (fine_without b h (x ∷ s) u f fits old) in
     let rest : Clean e (r ++ b ∷ v) =
     next r (omega (arith, len, i.some, i.few, l)) (omega (arith, len, lu)) (omega (arith, len, lv)) behind (omega (arith, len, same_len, k, i.few))
     (subst (Clean e) (i.is_rest u lu) (rest_clean e x (s ++ b ∷ u) c)) in
@@ -241,7 +241,7 @@ brace_clean : (e : Edition) (b : ℕ) (s : List ℕ) → IsBrace b → IsUtf8 s 
 brace_clean e b s h u c =
     let sign : token_of e (b ∷ s) ≡ plain_of (sign_kind_of b) (length s) = brace_token e b s h in
     let cut : cut_of (token_of e (b ∷ s)).left (b ∷ s) ≡ 1 = ap (λ (t : Shape). cut_of t.left (b ∷ s)) sign ∙ cut_one b s u in
-    more e b s (subst (λ (t : Shape). Fine (b ∷ s) t.fault) (sym sign) tt) (subst (λ (j : ℕ). Clean e (drop j (b ∷ s))) (sym cut) c)
+    more e b s (subst (λ (t : Shape). Fine (b ∷ s) t.check) (sym sign) tt) (subst (λ (j : ℕ). Clean e (drop j (b ∷ s))) (sym cut) c)
 
 -- ---- replaced pieces
 

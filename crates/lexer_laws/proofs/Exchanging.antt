@@ -11,8 +11,8 @@ use Rattle.token_layout.specs.declared.span.Token as span
 use Rattle.rust_lexer.specs.declared.lexer.LexError.{LexError}
 use Rattle.rust_lexer.specs.declared.problem.Problem.{Problem}
 use Rattle.rust_lexer.specs.declared.problem.Problem.TheVariants.{UnknownPrefix, UnknownPrefixBehindString}
-use Rattle.rust_lexer.specs.declared.shape.Fault.{Fault}
-use Rattle.rust_lexer.specs.declared.shape.Fault.TheVariants.{No, Is, Prefix, Content}
+use Rattle.rust_lexer.specs.declared.shape.Check.{Check}
+use Rattle.rust_lexer.specs.declared.shape.Check.TheVariants.{No, Is, Prefix, Content}
 use Rattle.rust_lexer.specs.declared.shape.Shape.{Shape}
 use Rattle.rust_lexer.specs.Contents.{content_problems}
 use Rattle.rust_lexer.specs.Cuts.{cut_of, front_of, back_of}
@@ -23,7 +23,7 @@ use Rattle.rust_lexer.specs.Signs.{sign_kind_of}
 use Rattle.rust_lexer.specs.Tokens.{token_of}
 use Rattle.rust_lexer.proofs.Cutting.{cut-boundary}
 use Rattle.rust_lexer.proofs.Steps.{steps-one, steps-stop}
-use Rattle.lexer_laws.specs.Behind.{IsBrace, fault_before}
+use Rattle.lexer_laws.specs.Behind.{IsBrace, check_before}
 use Rattle.lexer_laws.specs.Cuts.{tokens_within, bytes_of}
 use Rattle.lexer_laws.specs.Errors.{one_message, with_one, moved_by, shown, shown_within, ErrorsExchanged}
 use Rattle.lexer_laws.specs.Heads.{HasNoHead}
@@ -53,7 +53,7 @@ abbrev at_range : TextRange → Problem → LexError
 at_range r p = record { problem = p; range = r }
 
 -- what is wrong with a token, whatever precedes it
-abbrev wrong : List ℕ → Fault → List Problem
+abbrev wrong : List ℕ → Check → List Problem
 wrong s No = []
 wrong s (Is p) = one_message p ∷ []
 wrong s Prefix = UnknownPrefix ∷ []
@@ -63,13 +63,13 @@ prefix_on : (b : Bool) → one_message (if b then UnknownPrefixBehindString else
 prefix_on true = refl
 prefix_on false = refl
 
-wrong_is : (ts : Tokens) (text s : List ℕ) (f : Fault) → map one_message (problems_of ts text s f) ≡ wrong s f
+wrong_is : (ts : Tokens) (text s : List ℕ) (f : Check) → map one_message (problems_of ts text s f) ≡ wrong s f
 wrong_is ts text s No = refl
 wrong_is ts text s (Is p) = refl
 wrong_is ts text s Prefix = prefix_on (is_behind_code_of 5 (reverse ts) (front_of (length s) text))
 wrong_is ts text s (Content m before behind) = refl
 
-wrong_same : (b : ℕ) → IsBrace b → (s y : List ℕ) (f : Fault) → FitsIn s f → wrong (s ++ b ∷ y) (fault_before (suc (length y)) f) ≡ wrong s f
+wrong_same : (b : ℕ) → IsBrace b → (s y : List ℕ) (f : Check) → FitsIn s f → wrong (s ++ b ∷ y) (check_before (suc (length y)) f) ≡ wrong s f
 wrong_same b h s y No w = refl
 wrong_same b h s y (Is p) w = refl
 wrong_same b h s y Prefix w = refl
@@ -88,7 +88,7 @@ between p k = record { start = p; end = p + k }
 
 -- the errors of the first token of s, which is at the position p
 abbrev here : Edition → ℕ → List ℕ → Errors
-here e p s = map (at_range (between p (cut_of (token_of e s).left s))) (wrong s (token_of e s).fault)
+here e p s = map (at_range (between p (cut_of (token_of e s).left s))) (wrong s (token_of e s).check)
 
 -- ---- the errors of a text
 
@@ -149,7 +149,7 @@ found_moved (suc n) e p m (x ∷ s) =
     ap (map (moved_by m)) (found_more n e p x s)
     ∙ map-append (moved_by m) (here e p (x ∷ s)) (found n e (p + k) rest)
     ∙ ap₂ (λ (es fs : Errors). es ++ fs)
-    (moved_list m (between p k) (between (p + m) k) (wrong (x ∷ s) t.fault) (ap (λ (j : ℕ). record { start = p + m; end = j }) end))
+    (moved_list m (between p k) (between (p + m) k) (wrong (x ∷ s) t.check) (ap (λ (j : ℕ). record { start = p + m; end = j }) end))
     (found_moved n e (p + k) m rest ∙ ap (λ (j : ℕ). found n e j rest) end)
     ∙ sym (found_more n e (p + m) x s)
 
@@ -172,7 +172,7 @@ steps_found (suc n) e text ts es (x ∷ s) m l few =
     let fit : k ≤ length (x ∷ s) = (cut-boundary t.left (x ∷ s)).0 in
     let left : length rest ≡ length (x ∷ s) - k = back_length t.left (x ∷ s) in
     let r : TextRange = range_of (length text) (length (x ∷ s)) (length rest) in
-    let ps : List Problem = problems_of ts text (x ∷ s) t.fault in
+    let ps : List Problem = problems_of ts text (x ∷ s) t.check in
     let next : Lexing = taken text t i in
     let later : length text - length rest ≡ p + k = omega (arith, left, fit, l) in
     let start : size_of (length text - length (x ∷ s)) ≡ p = omega (arith, few) in
@@ -180,7 +180,7 @@ steps_found (suc n) e text ts es (x ∷ s) m l few =
     let range : r ≡ between p k = ap₂ (λ (y z : ℕ). record { start = y; end = z }) start end in
     let now : map with_one (faults_at r ps es) ≡ map with_one es ++ here e p (x ∷ s) =
     ap (map with_one) (faults_list r ps es) ∙ map-append with_one es (map (at_range r) ps)
-    ∙ ap (λ (fs : Errors). map with_one es ++ fs) (with_ones r ps ∙ ap₂ (λ (z : TextRange) (qs : List Problem). map (at_range z) qs) range (wrong_is ts text (x ∷ s) t.fault)) in
+    ∙ ap (λ (fs : Errors). map with_one es ++ fs) (with_ones r ps ∙ ap₂ (λ (z : TextRange) (qs : List Problem). map (at_range z) qs) range (wrong_is ts text (x ∷ s) t.check)) in
     ap (λ (j : Lexing). map with_one j.errors) (steps-one n e text i (not_empty x s))
     ∙ steps_found n e text next.tokens next.errors rest (omega (arith, back_short t.left x s, m)) (omega (arith, left, l)) few
     ∙ ap₂ (λ (fs gs : Errors). fs ++ gs) now (ap (λ (j : ℕ). found n e j rest) later)
@@ -208,12 +208,12 @@ record Before (e : Edition) (p : ℕ) (s : List ℕ) (b : ℕ) (u v : List ℕ) 
 
 one_side : (e : Edition) (p x : ℕ) (s : List ℕ) (b : ℕ) (y : List ℕ) → IsBrace b → (i : Inside e (x ∷ s) b) → length (x ∷ s) + length y < 2 ^ 32 - 1 → (es : Errors)
     → all e (p + i.bytes) (drop i.bytes (x ∷ s) ++ b ∷ y) ≡ es ++ all e (p + i.bytes + length (drop i.bytes (x ∷ s))) (b ∷ y)
-    → all e p (x ∷ (s ++ b ∷ y)) ≡ (map (at_range (between p i.bytes)) (wrong (x ∷ s) (token_of e (x ∷ s)).fault) ++ es) ++ all e (p + length (x ∷ s)) (b ∷ y)
+    → all e p (x ∷ (s ++ b ∷ y)) ≡ (map (at_range (between p i.bytes)) (wrong (x ∷ s) (token_of e (x ∷ s)).check) ++ es) ++ all e (p + length (x ∷ s)) (b ∷ y)
 one_side e p x s b y h i l es k =
-    let f : Fault = (token_of e (x ∷ s)).fault in
+    let f : Check = (token_of e (x ∷ s)).check in
     let cut = i.is_cut y l in
     let fits : FitsIn (x ∷ s) f = token_fits e x s (omega (arith, l)) in
-    let same : wrong (x ∷ (s ++ b ∷ y)) (token_of e (x ∷ (s ++ b ∷ y))).fault ≡ wrong (x ∷ s) f =
+    let same : wrong (x ∷ (s ++ b ∷ y)) (token_of e (x ∷ (s ++ b ∷ y))).check ≡ wrong (x ∷ s) f =
     ap (wrong (x ∷ (s ++ b ∷ y))) (i.is_fault y l) ∙ wrong_same b h (x ∷ s) y f fits in
     let first : Errors = map (at_range (between p i.bytes)) (wrong (x ∷ s) f) in
     let end : p + i.bytes + length (drop i.bytes (x ∷ s)) ≡ p + length (x ∷ s) = omega (arith, length-drop i.bytes (x ∷ s), i.few) in
@@ -242,7 +242,7 @@ before_one e p x s b u v t ts us n h (inl i) l lu lv is k next =
     let w : Before e (p + i.bytes) r b u v =
     next (p + i.bytes) r (omega (arith, len, i.some, i.few, l)) (omega (arith, len, lu)) (omega (arith, len, lv)) behind (omega (arith, len, same_len, k, i.few)) in
     record {
-      errors = map (at_range (between p i.bytes)) (wrong (x ∷ s) (token_of e (x ∷ s)).fault) ++ w.errors;
+      errors = map (at_range (between p i.bytes)) (wrong (x ∷ s) (token_of e (x ∷ s)).check) ++ w.errors;
       first = one_side e p x s b u h i lu w.errors w.first;
       second = one_side e p x s b v h i lv w.errors w.second;
     }
@@ -301,8 +301,8 @@ behind_closing e p b s h u =
     let sign : token_of e (b ∷ s) ≡ plain_of (sign_kind_of b) (length s) = brace_token e b s h in
     let cut : cut_of (token_of e (b ∷ s)).left (b ∷ s) ≡ 1 = ap (λ (t : Shape). cut_of t.left (b ∷ s)) sign ∙ cut_one b s u in
     all_more e p b s
-    ∙ ap (λ (f : Fault). map (at_range (between p (cut_of (token_of e (b ∷ s)).left (b ∷ s)))) (wrong (b ∷ s) f)
-    ++ all e (p + cut_of (token_of e (b ∷ s)).left (b ∷ s)) (back_of (token_of e (b ∷ s)).left (b ∷ s))) (ap (λ (t : Shape). t.fault) sign)
+    ∙ ap (λ (f : Check). map (at_range (between p (cut_of (token_of e (b ∷ s)).left (b ∷ s)))) (wrong (b ∷ s) f)
+    ++ all e (p + cut_of (token_of e (b ∷ s)).left (b ∷ s)) (back_of (token_of e (b ∷ s)).left (b ∷ s))) (ap (λ (t : Shape). t.check) sign)
     ∙ ap (λ (j : ℕ). all e (p + j) (drop j (b ∷ s))) cut
 
 piece_errors : (e : Edition) (p : ℕ) (piece c : List ℕ) (ts : Tokens) → IsPiece e piece ts → IsUtf8 [] → IsUtf8 c → length piece + length c < 2 ^ 32

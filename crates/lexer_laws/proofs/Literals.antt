@@ -9,7 +9,7 @@ use Rattle.rust_lexer.specs.declared.problem.Problem.TheVariants as problems
 use Rattle.rust_lexer.specs.declared.scan.Scan.{Scan}
 use Rattle.rust_lexer.specs.declared.scan.Scan.TheVariants.{Text, Quote, QuoteLine, Closed}
 use Rattle.rust_lexer.specs.declared.shape.Shape.{Shape}
-use Rattle.rust_lexer.specs.declared.shape.Fault.TheVariants.{Content}
+use Rattle.rust_lexer.specs.declared.shape.Check.TheVariants.{Content}
 use Rattle.rust_lexer.specs.Classes.{begins_of, begins_digit_of, after_char_of}
 use Rattle.rust_lexer.specs.Names.{begins_name_of, skip_name_of, skip_suffix_of}
 use Rattle.rust_lexer.specs.Quotes.{kind_of, opening_of, one_more, closed_of, open_of, string_on, string_of, is_mark_of, character_on, character_of, lifetime_of, is_raw_lifetime_of, may_be_lifetime_of, character_or_lifetime_of}
@@ -32,7 +32,7 @@ one_more_later n k h = omega (arith, h)
 
 closed_later : (m : Mode) (r y : List ℕ) (b : ℕ) → IsBrace b → length r + length y < 2 ^ 32 → closed_of m (r ++ b ∷ y) ≡ before (suc (length y)) (closed_of m r)
 closed_later m r y b h l =
-    let F : ℕ → ℕ → Shape = λ n k. record { kind = kind_of m; left = n; fault = Content m (opening_of m) k } in
+    let F : ℕ → ℕ → Shape = λ n k. record { kind = kind_of m; left = n; check = Content m (opening_of m) k } in
     let left : length (skip_suffix_of (r ++ b ∷ y)) ≡ length (skip_suffix_of r) + suc (length y) = ap length (skip_suffix_same b h r y) ∙ longer (skip_suffix_of r) y b in
     let more : one_more (length (r ++ b ∷ y)) ≡ one_more (length r) + suc (length y) =
     ap one_more (longer r y b) ∙ one_more_later (length r) (suc (length y)) (omega (arith, l)) in
@@ -154,7 +154,7 @@ may_be_same b h (x ∷ q) y =
 lifetime_ends : (b : ℕ) (text q : List ℕ) → IsBrace b → Ends lifetime_of b text q
 lifetime_ends b text q h =
     choose (λ s. begins_of 39 (skip_name_of s))
-    (λ s. record { kind = Token token.CHAR; left = length (drop 1 (skip_name_of s)); fault = Content modes.Char 1 (length (skip_name_of s)) })
+    (λ s. record { kind = Token token.CHAR; left = length (drop 1 (skip_name_of s)); check = Content modes.Char 1 (length (skip_name_of s)) })
     (λ s. if begins_digit_of s then with_of (Token token.LIFETIME_IDENT) (length (skip_name_of s)) problems.NumberedLifetime
     else (if begins_of 35 (skip_name_of s) then with_of (Token token.LIFETIME_IDENT) (length (skip_name_of s)) problems.LifetimePrefix
     else plain_of (Token token.LIFETIME_IDENT) (length (skip_name_of s))))
@@ -162,7 +162,7 @@ lifetime_ends b text q h =
     (λ y. ap (begins_of 39) (skip_name_same b h q y) ∙ begins 39 b h refl refl (skip_name_of q) y)
     (λ e. ended _ b text q (λ y l.
     let r : List ℕ = skip_name_of q in
-    let F : ℕ → ℕ → Shape = λ n k. record { kind = Token token.CHAR; left = n; fault = Content modes.Char 1 k } in
+    let F : ℕ → ℕ → Shape = λ n k. record { kind = Token token.CHAR; left = n; check = Content modes.Char 1 k } in
     let behind : drop 1 (skip_name_of (q ++ b ∷ y)) ≡ drop 1 r ++ b ∷ y = ap (drop 1) (skip_name_same b h q y) ∙ tail_same (λ (x : ℕ). x == 39) b r y e in
     ap₂ F (ap length behind ∙ longer (drop 1 r) y b) (ap length (skip_name_same b h q y) ∙ longer r y b)))
     (λ e. choose begins_digit_of (λ s. with_of (Token token.LIFETIME_IDENT) (length (skip_name_of s)) problems.NumberedLifetime)

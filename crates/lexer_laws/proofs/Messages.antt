@@ -13,8 +13,8 @@ use Rattle.ras_front_end.specs.declared.edition.Edition.{Edition}
 use Rattle.token_layout.specs.declared.span.Token as span
 use Rattle.rust_lexer.specs.declared.lexer.LexError.{LexError}
 use Rattle.rust_lexer.specs.declared.problem.Problem.{Problem}
-use Rattle.rust_lexer.specs.declared.shape.Fault.{Fault}
-use Rattle.rust_lexer.specs.declared.shape.Fault.TheVariants.{No, Is, Prefix, Content}
+use Rattle.rust_lexer.specs.declared.shape.Check.{Check}
+use Rattle.rust_lexer.specs.declared.shape.Check.TheVariants.{No, Is, Prefix, Content}
 use Rattle.rust_lexer.specs.declared.shape.Shape.{Shape}
 use Rattle.rust_lexer.specs.Cuts.{cut_of}
 use Rattle.rust_lexer.specs.History.{is_code_of, is_behind_code_of}
@@ -74,7 +74,7 @@ far_code ts xs d r h k =
     ap (λ (z : Tokens). is_behind_code_of 5 z (d ++ r)) (reverse-append ts xs)
     ∙ code_local 5 (reverse xs) (reverse ts) d r (omega (arith, length-reverse xs, h)) (omega (arith, bytes_reverse xs, k))
 
-far_wrong : (ts xs : Tokens) (d r s : List ℕ) (f : Fault) → 5 ≤ length xs → bytes_of xs ≡ length r → wrong (ts ++ xs) (d ++ r) s f ≡ wrong xs r s f
+far_wrong : (ts xs : Tokens) (d r s : List ℕ) (f : Check) → 5 ≤ length xs → bytes_of xs ≡ length r → wrong (ts ++ xs) (d ++ r) s f ≡ wrong xs r s f
 far_wrong ts xs d r s No h k = refl
 far_wrong ts xs d r s (Is p) h k = refl
 far_wrong ts xs d r s Prefix h k = ap (λ (b : Bool). message b ∷ []) (far_code ts xs d r h k)
@@ -122,7 +122,7 @@ abbrev MovesFrom : ℕ → Edition → Tokens → List ℕ → Tokens → List �
 MovesFrom n e ts d xs r s = told n e (ts ++ xs) (d ++ r) s ≡ map (moved_by (length d)) (told n e xs r s)
 
 one_moved : (n : ℕ) (e : Edition) (ts : Tokens) (d : List ℕ) (xs : Tokens) (r : List ℕ) (x : ℕ) (s : List ℕ)
-    → wrong (ts ++ xs) (d ++ r) (x ∷ s) (token_of e (x ∷ s)).fault ≡ wrong xs r (x ∷ s) (token_of e (x ∷ s)).fault
+    → wrong (ts ++ xs) (d ++ r) (x ∷ s) (token_of e (x ∷ s)).check ≡ wrong xs r (x ∷ s) (token_of e (x ∷ s)).check
     → MovesFrom n e ts d (xs ++ token_at e (x ∷ s) ∷ []) (r ++ take (size e (x ∷ s)) (x ∷ s)) (rest_of e (x ∷ s))
     → MovesFrom (suc n) e ts d xs r (x ∷ s)
 one_moved n e ts d xs r x s same later =
@@ -130,7 +130,7 @@ one_moved n e ts d xs r x s same later =
     let k : ℕ = size e (x ∷ s) in
     let w : List ℕ = take k (x ∷ s) in
     let rest : List ℕ = rest_of e (x ∷ s) in
-    let ps : List Problem = wrong xs r (x ∷ s) (token_of e (x ∷ s)).fault in
+    let ps : List Problem = wrong xs r (x ∷ s) (token_of e (x ∷ s)).check in
     let start : length r + length d ≡ length (d ++ r) = omega (arith, length-append d r) in
     let end : length r + k + length d ≡ length (d ++ r) + k = omega (arith, start) in
     told_more n e (ts ++ xs) (d ++ r) x s
@@ -154,7 +154,7 @@ moves_from (suc n) zero e ts d xs r (x ∷ s) h few k five l =
     let rest : List ℕ = rest_of e (x ∷ s) in
     let bytes : bytes_of (xs ++ t ∷ []) ≡ length (r ++ take j (x ∷ s)) =
     omega (arith, bytes_append xs (t ∷ []), first_bytes e x s few, length-append r (take j (x ∷ s)), take_long j (x ∷ s) (size_few e (x ∷ s)), k) in
-    one_moved n e ts d xs r x s (far_wrong ts xs d r (x ∷ s) (token_of e (x ∷ s)).fault (omega (arith, five)) k)
+    one_moved n e ts d xs r x s (far_wrong ts xs d r (x ∷ s) (token_of e (x ∷ s)).check (omega (arith, five)) k)
     (moves_from n zero e ts d (xs ++ t ∷ []) (r ++ take j (x ∷ s)) rest (omega (arith, back_short (token_of e (x ∷ s)).left x s, h))
     (omega (arith, back_short (token_of e (x ∷ s)).left x s, few)) bytes (omega (arith, five, length-append xs (t ∷ [])))
     (late_none (length (r ++ take j (x ∷ s))) (tokens_within e rest) (told n e (xs ++ t ∷ []) (r ++ take j (x ∷ s)) rest)))
@@ -162,7 +162,7 @@ moves_from (suc n) (suc m) e ts d xs r (x ∷ s) h few k five l =
     let t : span.Token = token_at e (x ∷ s) in
     let j : ℕ = size e (x ∷ s) in
     let rest : List ℕ = rest_of e (x ∷ s) in
-    let f : Fault = (token_of e (x ∷ s)).fault in
+    let f : Check = (token_of e (x ∷ s)).check in
     let ps : List Problem = wrong xs r (x ∷ s) f in
     let later : Errors = told n e (xs ++ t ∷ []) (r ++ take j (x ∷ s)) rest in
     let bytes : bytes_of (xs ++ t ∷ []) ≡ length (r ++ take j (x ∷ s)) =
@@ -245,8 +245,8 @@ closing_silent e ts xs d r b s h u is =
     let cut : size e (b ∷ s) ≡ 1 = ap (λ (t : Shape). cut_of t.left (b ∷ s)) sign ∙ cut_one b s u in
     let rest : rest_of e (b ∷ s) ≡ s = ap (λ (j : ℕ). drop j (b ∷ s)) cut in
     all_more e ts d b s
-    ∙ ap₂ (λ (f : Fault) (w : List ℕ). map (at_range (between (length d) (size e (b ∷ s)))) (wrong ts d (b ∷ s) f) ++ all e (ts ++ token_at e (b ∷ s) ∷ []) (d ++ take (size e (b ∷ s)) (b ∷ s)) w)
-    (ap (λ (t : Shape). t.fault) sign) rest
+    ∙ ap₂ (λ (f : Check) (w : List ℕ). map (at_range (between (length d) (size e (b ∷ s)))) (wrong ts d (b ∷ s) f) ++ all e (ts ++ token_at e (b ∷ s) ∷ []) (d ++ take (size e (b ∷ s)) (b ∷ s)) w)
+    (ap (λ (t : Shape). t.check) sign) rest
     ∙ silent e (ts ++ token_at e (b ∷ s) ∷ []) xs (d ++ take (size e (b ∷ s)) (b ∷ s)) r s is
 
 pub no_text : (e : Edition) (ts : Tokens) (d : List ℕ) → all e ts d [] ≡ []

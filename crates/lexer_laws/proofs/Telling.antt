@@ -12,8 +12,8 @@ use Rattle.token_layout.specs.declared.span.Token as span
 use Rattle.rust_lexer.specs.declared.lexer.LexError.{LexError}
 use Rattle.rust_lexer.specs.declared.problem.Problem.{Problem}
 use Rattle.rust_lexer.specs.declared.problem.Problem.TheVariants.{UnknownPrefix, UnknownPrefixBehindString}
-use Rattle.rust_lexer.specs.declared.shape.Fault.{Fault}
-use Rattle.rust_lexer.specs.declared.shape.Fault.TheVariants.{No, Is, Prefix, Content}
+use Rattle.rust_lexer.specs.declared.shape.Check.{Check}
+use Rattle.rust_lexer.specs.declared.shape.Check.TheVariants.{No, Is, Prefix, Content}
 use Rattle.rust_lexer.specs.declared.shape.Shape.{Shape}
 use Rattle.rust_lexer.specs.Contents.{content_problems}
 use Rattle.rust_lexer.specs.Cuts.{is_boundary_of, cut_of, front_of, back_of}
@@ -22,7 +22,7 @@ use Rattle.rust_lexer.specs.Lexing.{Lexing, size_of, range_of, faults_at, conten
 use Rattle.rust_lexer.specs.Tokens.{token_of}
 use Rattle.rust_lexer.proofs.Cutting.{cut-boundary, cut-some, back-utf8}
 use Rattle.rust_lexer.proofs.Steps.{steps-one, steps-stop}
-use Rattle.lexer_laws.specs.Behind.{IsBrace, fault_before}
+use Rattle.lexer_laws.specs.Behind.{IsBrace, check_before}
 use Rattle.lexer_laws.specs.Cuts.{tokens_within, bytes_of}
 use Rattle.lexer_laws.proofs.Bracing.{Inside, Beyond, first_token}
 use Rattle.lexer_laws.proofs.Cleaning.{content_same}
@@ -52,7 +52,7 @@ abbrev pub message : Bool → Problem
 message b = if b then UnknownPrefixBehindString else UnknownPrefix
 
 -- what is wrong with a token at the front of s, behind the tokens ts of the text d
-abbrev pub wrong : Tokens → List ℕ → List ℕ → Fault → List Problem
+abbrev pub wrong : Tokens → List ℕ → List ℕ → Check → List Problem
 wrong ts d s No = []
 wrong ts d s (Is p) = p ∷ []
 wrong ts d s Prefix = message (is_behind_code_of 5 (reverse ts) d) ∷ []
@@ -93,20 +93,20 @@ seam_code ts d s u h =
       | inr l ↦ ap (is_behind_code_of 5 (reverse ts)) (seam_front d s u l)
     ]
 
-wrong_is : (ts : Tokens) (d s : List ℕ) (f : Fault) → IsUtf8 s → IsBehind ts d → problems_of ts (d ++ s) s f ≡ wrong ts d s f
+wrong_is : (ts : Tokens) (d s : List ℕ) (f : Check) → IsUtf8 s → IsBehind ts d → problems_of ts (d ++ s) s f ≡ wrong ts d s f
 wrong_is ts d s No u h = refl
 wrong_is ts d s (Is p) u h = refl
 wrong_is ts d s Prefix u h = ap (λ (b : Bool). message b ∷ []) (seam_code ts d s u h)
 wrong_is ts d s (Content m before behind) u h = refl
 
-pub wrong_same : (b : ℕ) → IsBrace b → (ts : Tokens) (d s y : List ℕ) (f : Fault) → FitsIn s f → wrong ts d (s ++ b ∷ y) (fault_before (suc (length y)) f) ≡ wrong ts d s f
+pub wrong_same : (b : ℕ) → IsBrace b → (ts : Tokens) (d s y : List ℕ) (f : Check) → FitsIn s f → wrong ts d (s ++ b ∷ y) (check_before (suc (length y)) f) ≡ wrong ts d s f
 wrong_same b h ts d s y No w = refl
 wrong_same b h ts d s y (Is p) w = refl
 wrong_same b h ts d s y Prefix w = refl
 wrong_same b h ts d s y (Content m n j) w = ap (λ (z : List ℕ). content_problems m z) (content_same n j b h s y w)
 
 -- nothing is wrong, whatever is before
-pub wrong_none : (ts xs : Tokens) (d r s : List ℕ) (f : Fault) → wrong xs r s f ≡ [] → wrong ts d s f ≡ []
+pub wrong_none : (ts xs : Tokens) (d r s : List ℕ) (f : Check) → wrong xs r s f ≡ [] → wrong ts d s f ≡ []
 wrong_none ts xs d r s No h = refl
 wrong_none ts xs d r s (Is p) h = absurd (cc)
 wrong_none ts xs d r s Prefix h = absurd (cc)
@@ -127,7 +127,7 @@ rest_of e s = back_of (token_of e s).left s
 
 -- the errors of the first token of s
 abbrev pub here : Edition → Tokens → List ℕ → List ℕ → Errors
-here e ts d s = map (at_range (between (length d) (size e s))) (wrong ts d s (token_of e s).fault)
+here e ts d s = map (at_range (between (length d) (size e s))) (wrong ts d s (token_of e s).check)
 
 -- ---- the errors of a text
 
@@ -202,7 +202,7 @@ steps_told (suc n) e text ts es d (x ∷ s) is m few u h =
     let left : length rest ≡ length (x ∷ s) - k = back_length t.left (x ∷ s) in
     let total : length text ≡ length d + length (x ∷ s) = ap length is ∙ length-append d (x ∷ s) in
     let r : TextRange = range_of (length text) (length (x ∷ s)) (length rest) in
-    let ps : List Problem = problems_of ts text (x ∷ s) t.fault in
+    let ps : List Problem = problems_of ts text (x ∷ s) t.check in
     let next : Lexing = taken text t i in
     let start : size_of (length text - length (x ∷ s)) ≡ length d = omega (arith, total, few) in
     let end : size_of (length text - length rest) ≡ length d + k = omega (arith, total, left, fit, few) in
@@ -210,7 +210,7 @@ steps_told (suc n) e text ts es d (x ∷ s) is m few u h =
     let now : faults_at r ps es ≡ es ++ here e ts d (x ∷ s) =
     faults_list r ps es
     ∙ ap₂ (λ (z : TextRange) (qs : List Problem). es ++ map (at_range z) qs) range
-    (ap (λ (z : List ℕ). problems_of ts z (x ∷ s) t.fault) is ∙ wrong_is ts d (x ∷ s) t.fault u h) in
+    (ap (λ (z : List ℕ). problems_of ts z (x ∷ s) t.check) is ∙ wrong_is ts d (x ∷ s) t.check u h) in
     let more : text ≡ (d ++ take k (x ∷ s)) ++ rest =
     is ∙ ap (λ (z : List ℕ). d ++ z) (sym (take-append-drop k (x ∷ s))) ∙ sym (append_assoc d (take k (x ∷ s)) rest) in
     ap (λ (j : Lexing). j.errors) (steps-one n e text i (not_empty x s))
@@ -243,11 +243,11 @@ silent_from (suc n) e ts xs d r (x ∷ s) h =
     let k : ℕ = size e (x ∷ s) in
     let both = sym (told_more n e xs r x s) ∙ h in
     let later : Errors = told n e (xs ++ t ∷ []) (r ++ take k (x ∷ s)) (rest_of e (x ∷ s)) in
-    let first : wrong xs r (x ∷ s) (token_of e (x ∷ s)).fault ≡ [] =
-    none_at (between (length r) k) (wrong xs r (x ∷ s) (token_of e (x ∷ s)).fault) (left_none (here e xs r (x ∷ s)) later both) in
+    let first : wrong xs r (x ∷ s) (token_of e (x ∷ s)).check ≡ [] =
+    none_at (between (length r) k) (wrong xs r (x ∷ s) (token_of e (x ∷ s)).check) (left_none (here e xs r (x ∷ s)) later both) in
     told_more n e ts d x s
     ∙ ap₂ (λ (ps : List Problem) (es : Errors). map (at_range (between (length d) k)) ps ++ es)
-    (wrong_none ts xs d r (x ∷ s) (token_of e (x ∷ s)).fault first)
+    (wrong_none ts xs d r (x ∷ s) (token_of e (x ∷ s)).check first)
     (silent_from n e (ts ++ t ∷ []) (xs ++ t ∷ []) (d ++ take k (x ∷ s)) (r ++ take k (x ∷ s)) (rest_of e (x ∷ s)) (right_none (here e xs r (x ∷ s)) later both))
 
 -- a text has no error, whatever is before it
@@ -287,7 +287,7 @@ told_from (suc n) e ts d (x ∷ s) =
     let later : Errors = told n e (ts ++ token_at e (x ∷ s) ∷ []) next (rest_of e (x ∷ s)) in
     let longer : length d ≤ length next = omega (arith, length-append d (take k (x ∷ s))) in
     each_append (IsFrom (length d)) (here e ts d (x ∷ s)) later
-    (each_at (length d) k (wrong ts d (x ∷ s) (token_of e (x ∷ s)).fault) (size_some e x s))
+    (each_at (length d) k (wrong ts d (x ∷ s) (token_of e (x ∷ s)).check) (size_some e x s))
     (each_more (IsFrom (length next)) (IsFrom (length d)) later (λ f h. record { begins = omega (arith, h.begins, longer); goes_on = omega (arith, h.goes_on, longer) })
     (told_from n e (ts ++ token_at e (x ∷ s) ∷ []) next (rest_of e (x ∷ s))))
 
@@ -315,12 +315,12 @@ one_side : (e : Edition) (ts : Tokens) (d : List ℕ) (x : ℕ) (s : List ℕ) (
     → all e (ts ++ i.token ∷ []) (d ++ take i.bytes (x ∷ s)) (drop i.bytes (x ∷ s) ++ b ∷ y)
     ≡ es ++ all e ((ts ++ i.token ∷ []) ++ ps) ((d ++ take i.bytes (x ∷ s)) ++ drop i.bytes (x ∷ s)) (b ∷ y)
     → all e ts d (x ∷ (s ++ b ∷ y))
-    ≡ (map (at_range (between (length d) i.bytes)) (wrong ts d (x ∷ s) (token_of e (x ∷ s)).fault) ++ es) ++ all e (ts ++ i.token ∷ ps) (d ++ x ∷ s) (b ∷ y)
+    ≡ (map (at_range (between (length d) i.bytes)) (wrong ts d (x ∷ s) (token_of e (x ∷ s)).check) ++ es) ++ all e (ts ++ i.token ∷ ps) (d ++ x ∷ s) (b ∷ y)
 one_side e ts d x s b y ps h i l es k =
-    let f : Fault = (token_of e (x ∷ s)).fault in
+    let f : Check = (token_of e (x ∷ s)).check in
     let cut = i.is_cut y l in
     let fits : FitsIn (x ∷ s) f = token_fits e x s (omega (arith, l)) in
-    let same : wrong ts d (x ∷ (s ++ b ∷ y)) (token_of e (x ∷ (s ++ b ∷ y))).fault ≡ wrong ts d (x ∷ s) f =
+    let same : wrong ts d (x ∷ (s ++ b ∷ y)) (token_of e (x ∷ (s ++ b ∷ y))).check ≡ wrong ts d (x ∷ s) f =
     ap (wrong ts d (x ∷ (s ++ b ∷ y))) (i.is_fault y l) ∙ wrong_same b h ts d (x ∷ s) y f fits in
     let first : Errors = map (at_range (between (length d) i.bytes)) (wrong ts d (x ∷ s) f) in
     let front : take (size e (x ∷ (s ++ b ∷ y))) (x ∷ (s ++ b ∷ y)) ≡ take i.bytes (x ∷ s) =
@@ -355,7 +355,7 @@ before_one e ts d x s b u v t ps us n h (inl i) l lu lv is k next =
     let behind : tokens_within e (r ++ b ∷ u) ≡ ps ++ us = ap (tokens_within e) (sym (i.is_rest u lu)) ∙ tail_same _ t _ (ps ++ us) both in
     let w : Before e (ts ++ i.token ∷ []) q r b u v ps =
     next (ts ++ i.token ∷ []) q r (omega (arith, len, i.some, i.few, l)) (omega (arith, len, lu)) (omega (arith, len, lv)) behind (omega (arith, len, same_len, k, i.few)) in
-    let own : List Problem = wrong ts d (x ∷ s) (token_of e (x ∷ s)).fault in
+    let own : List Problem = wrong ts d (x ∷ s) (token_of e (x ∷ s)).check in
     let total : length q + length r ≡ length d + length (x ∷ s) = omega (arith, q_len, len, i.few) in
     subst (λ (z : span.Token). Before e ts d (x ∷ s) b u v (z ∷ ps)) first (record {
       errors = map (at_range (between (length d) i.bytes)) own ++ w.errors;

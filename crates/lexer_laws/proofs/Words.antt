@@ -11,7 +11,7 @@ use Rattle.ras_front_end.specs.declared.edition.Edition.{Edition}
 use Rattle.rust_lexer.specs.declared.class.Wide.TheVariants as wides
 use Rattle.rust_lexer.specs.declared.problem.Problem.TheVariants.{InvalidIdent}
 use Rattle.rust_lexer.specs.declared.shape.Shape.{Shape}
-use Rattle.rust_lexer.specs.declared.shape.Fault.TheVariants.{Prefix}
+use Rattle.rust_lexer.specs.declared.shape.Check.TheVariants.{Prefix}
 use Rattle.rust_lexer.specs.Classes.{skip_wide_of}
 use Rattle.rust_lexer.specs.Cuts.{is_boundary_of, cut_of, front_of}
 use Rattle.rust_lexer.specs.Names.{emoji_name_of, word_kind_of, prefix_of, is_literal_mark_of, begins_wide_emoji_of, skip_name_of, name_of}
@@ -132,12 +132,12 @@ made_ends : (f : List ℕ → ℕ → Shape) (g : List ℕ → List ℕ) (b : �
 made_ends f g b q h k m r = made_on f g b q h k m r (either_true (is_whole (length (g q)) q))
 
 prefix_on : (p : Bool) (n k : ℕ)
-    → (if p then plain_of (Token token.IDENT) (n + k) else record { kind = Token token.IDENT; left = n + k; fault = Prefix })
-    ≡ before k (if p then plain_of (Token token.IDENT) n else record { kind = Token token.IDENT; left = n; fault = Prefix })
+    → (if p then plain_of (Token token.IDENT) (n + k) else record { kind = Token token.IDENT; left = n + k; check = Prefix })
+    ≡ before k (if p then plain_of (Token token.IDENT) n else record { kind = Token token.IDENT; left = n; check = Prefix })
 prefix_on true n k = refl
 prefix_on false n k = refl
 
-prefix_left : (p : Bool) (n : ℕ) → (if p then plain_of (Token token.IDENT) n else record { kind = Token token.IDENT; left = n; fault = Prefix }).left ≡ n
+prefix_left : (p : Bool) (n : ℕ) → (if p then plain_of (Token token.IDENT) n else record { kind = Token token.IDENT; left = n; check = Prefix }).left ≡ n
 prefix_left true n = refl
 prefix_left false n = refl
 

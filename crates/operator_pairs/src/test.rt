@@ -1,14 +1,14 @@
 //! The test, at the operands of an operator tree.
-ghost use Rattle.std.specs.Prelude.{◌≡◌, ◌↔◌, ◌∷◌, List, ℕ, Some, true, false};
-ghost use Rattle.tree_model.specs.Cursor.{Cursor, focus, parent_of};
-ghost use Rattle.operator_terms.specs.Term.{Term, Paren, tokens};
-ghost use Rattle.operator_terms.specs.Reading.{Reads, begins_with_angle};
-ghost use Rattle.operator_terms.specs.Places.{Demand, Part, some_part, operand, FitsPlace};
+ghost use Rattle.std.specs.Prelude.{◌≡◌, Some, false};
+ghost use Rattle.tree_model.specs.Cursor.{parent_of};
+ghost use Rattle.operator_terms.specs.Term.{tokens};
+ghost use Rattle.operator_terms.specs.Reading.{begins_with_angle};
+ghost use Rattle.operator_terms.specs.Places.{operand};
 ghost use Rattle.operator_terms.specs.Pairs.{without};
 ghost use Rattle.operator_trees.specs.Leaves.{leaves_behind};
-ghost use Rattle.operator_trees.specs.Shown.{meaning, IsTerm};
 ghost use Rattle.operator_powers.specs.Rules.{form_at, is_foreign, asks_below};
-ghost use Rattle.operator_pairs.specs.Pairs.{operand_cursor, angle_behind, asks, MayGoBefore};
+ghost use Rattle.operator_pairs.specs.Decides.{DecidesOperands, DecidesPairs};
+ghost use Rattle.operator_pairs.specs.Pairs.{asks};
 
 use crate::place;
 use lossless_tree::SyntaxNode;
@@ -41,19 +41,8 @@ pub fn needs_parens_in_place_of(own: &SyntaxNode, parent: &SyntaxNode, place: &S
         (begins_with_angle (leaves_behind place.now.tree place.now.place)) }
     ensures asks { parent_of place.now ≡ Some parent.now → is_foreign (form_at own.now) ≡ false
         → result ≡ asks own.now parent.now place.now }
-    ensures fits { (r : Cursor) (t s : Term) (i : ℕ) (q : List ℕ) (held : Part)
-        → meaning (focus r) ≡ IsTerm t → operand t (i ∷ q) ≡ Some held
-        → place.now ≡ operand_cursor r t (i ∷ q) → parent_of place.now ≡ Some parent.now
-        → meaning (focus own.now) ≡ IsTerm s
-        → result ≡ false ↔ FitsPlace held.demand (angle_behind r t (i ∷ q)) s }
-    ensures pairs { (r : Cursor) (t : Term) (i : ℕ) (q : List ℕ) (d : Demand) (e : Term)
-        → meaning (focus r) ≡ IsTerm t → operand t (i ∷ q) ≡ some_part d (Paren e)
-        → place.now ≡ operand_cursor r t (i ∷ q) → parent_of place.now ≡ Some parent.now
-        → meaning (focus own.now) ≡ IsTerm e
-        → Reads 0 (tokens t) t → MayGoBefore (leaves_behind r.tree r.place) t (i ∷ q)
-        → (result ≡ false ↔ Reads 0 (tokens (without (i ∷ q) t)) (without (i ∷ q) t))
-        × (result ≡ false → (u : Term) → Reads 0 (tokens (without (i ∷ q) t)) u
-        → u ≡ without (i ∷ q) t) }
+    ensures fits { DecidesOperands own.now parent.now place.now result }
+    ensures pairs { DecidesPairs own.now parent.now place.now result }
 {
     is_asked(own, parent, place)
 }

@@ -65,8 +65,8 @@ pub use Rattle.ras_front_end.specs.Front
 pub use Rattle.ras_front_end.specs.Reading
 pub use Rattle.ras_front_end.specs.Parsed
 pub use Rattle.ras_front_end.specs.Keeps
-pub use Rattle.ras_front_end.specs.Fault
-pub use Rattle.ras_front_end.specs.FaultEquality
+pub use Rattle.ras_front_end.specs.ErrorModel
+pub use Rattle.ras_front_end.specs.ErrorEquality
 pub use Rattle.ras_parsing.specs.Draft
 pub use Rattle.ras_parsing.specs.Reparse
 pub use Rattle.ras_parsing.specs.Edit as TextEdit

@@ -3,12 +3,12 @@ use Rattle.std.proofs.Common.{◌≡◌, ℕ, ◌+◌, ◌<◌, ◌≤◌, List,
 use Rattle.std.specs.Prelude.{◌^◌}
 use Rattle.std.proofs.Math.Seq.{drop-append_seam}
 use Rattle.std.proofs.lemmas.List.Folds.{length-flat_map-take}
-use Rattle.ras_front_end.specs.Fault.{Fault}
+use Rattle.ras_front_end.specs.ErrorModel.{ErrorModel}
 use Rattle.ras_front_end.specs.Parsed.{Parsed}
 use Rattle.ras_parsing.specs.AllErrors.{all_errors}
 use Rattle.ras_c.specs.Read.{messages_of, message_of, violations_in}
 
-pub message_fits : (faults : List Fault) (i : ℕ) (d f : Fault) → i < length faults → f ≡ get_or faults i d → length (messages_of faults) < 2 ^ 32 → length f.message < 2 ^ 32
+pub message_fits : (faults : List ErrorModel) (i : ℕ) (d f : ErrorModel) → i < length faults → f ≡ get_or faults i d → length (messages_of faults) < 2 ^ 32 → length f.message < 2 ^ 32
 message_fits faults i d f lt is few = omega (arith, length-flat_map-take message_of faults i d lt, ap (λ f. length f.message) is, few)
 
 -- the violations come behind the errors of the parse

@@ -8,7 +8,7 @@ use Rattle.tree_rows.specs.declared.table.flat.FlatRow.{FlatRow}
 use Rattle.ras_front_end.specs.declared.edition.Edition.{Edition}
 use Rattle.ras_front_end.specs.declared.edition.Entry.{Entry}
 use Rattle.ras_front_end.specs.declared.edition.Entry.TheVariants.{SourceFile}
-use Rattle.ras_front_end.specs.Fault.{Fault}
+use Rattle.ras_front_end.specs.ErrorModel.{ErrorModel}
 use Rattle.ras_front_end.specs.Parsed.{Parsed, IsParseOf}
 use Rattle.ras_validation.specs.Violations.{violations_of}
 use Rattle.ras_parsing.specs.AllErrors.{all_errors, violation_fault}
@@ -20,26 +20,26 @@ use Rattle.ras_c.specs.declared.choice.Errors.TheVariants.{Nothing, Parse, Viola
 use Rattle.ras_c.specs.Border.{edition_of, entry_of, errors_of, over}
 
 -- an error as a row, and the bytes of all messages, one after the other
-abbrev pub error_row : Fault → ErrorRow
+abbrev pub error_row : ErrorModel → ErrorRow
 error_row f = record { start = f.range.start; end = f.range.end; message = length f.message }
 
-abbrev pub message_of : Fault → List ℕ
+abbrev pub message_of : ErrorModel → List ℕ
 message_of f = f.message
 
-abbrev pub messages_of : List Fault → List ℕ
+abbrev pub messages_of : List ErrorModel → List ℕ
 messages_of faults = flat_map message_of faults
 
 -- what is told of a parse: its tree or a part of it, some errors, and how many of them are
 -- violations, which come last
 pub record Report : Type 0 where
   pub tree : Tree
-  pub faults : List Fault
+  pub faults : List ErrorModel
   pub violations : ℕ
 
-abbrev pub report : Tree → List Fault → ℕ → Report
+abbrev pub report : Tree → List ErrorModel → ℕ → Report
 report t faults violations = record { tree = t; faults = faults; violations = violations }
 
-abbrev pub violations_in : Parsed → List Fault
+abbrev pub violations_in : Parsed → List ErrorModel
 violations_in p = map violation_fault (violations_of (root_of p.tree))
 
 -- the report on a part of its tree with a choice of all its errors

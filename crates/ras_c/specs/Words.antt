@@ -5,8 +5,8 @@ use Rattle.syntax_kind.specs.declared.syntax_kind.SyntaxKind.{SyntaxKind}
 use Rattle.ras_front_end.specs.declared.edition.Edition.{Edition}
 use Rattle.ras_parsing.specs.Names.{is_identifier_of, is_raw_identifier_of}
 use Rattle.rust_front.specs.Front.{rust_front}
-use Rattle.rust_words.specs.Contextual.{contextual_keyword_of}
-use Rattle.rust_words.specs.Keywords.{keyword_of}
+use Rattle.rust_kinds.specs.Contextual.{contextual_keyword_of}
+use Rattle.rust_kinds.specs.Keywords.{keyword_of}
 use Rattle.ras_c.specs.declared.words.Word.{Word}
 
 -- the number of a kind, or the number that no kind has

@@ -2,7 +2,7 @@
 ghost use Rattle.std.specs.Prelude.{◌≡◌, ◌⊎◌, ◌↔◌, ◌≤◌, ◌<◌, ◌^◌, length, IfOk, IfErr, OnErr, OnOk, IsTrue, string_bytes};
 ghost use Rattle.tree_model.specs.Tree.{text};
 ghost use Rattle.ras_front_end.specs.declared.parse_error.ParseError.TheVariants.{TooLong};
-ghost use Rattle.ras_parsing.specs.Edit.{IsEditOf, edited};
+ghost use Rattle.ras_parsing.specs.Edit.{IsEditOf, edited, replacing};
 ghost use Rattle.ras_c.specs.Kept.{IsRead, IsAgain, IsEdited};
 ghost use Rattle.ras_c.specs.Live.{edit_from};
 
@@ -45,9 +45,9 @@ fn edited_text(
     delete: TextRange,
     insert: &str,
 ) -> Result<String, AllocError>
-    requires { IsEditOf text.now (record { delete = delete; insert = insert.now }) }
+    requires { IsEditOf text.now (replacing delete insert.now) }
     ensures { IfOk result (λ s. string_bytes s
-        ≡ edited text.now (record { delete = delete; insert = insert.now })) }
+        ≡ edited text.now (replacing delete insert.now)) }
 {
     let from = delete.start().raw() as usize;
     let to = delete.end().raw() as usize;
@@ -60,9 +60,9 @@ fn edited_text(
 
 // Whether the text after an edit is too long for a parse.
 fn is_too_long(text: &str, delete: TextRange, insert: &str) -> bool
-    requires { IsEditOf text.now (record { delete = delete; insert = insert.now }) }
+    requires { IsEditOf text.now (replacing delete insert.now) }
     ensures { IsTrue result
-        ↔ (2 ^ 32 ≤ length (edited text.now (record { delete = delete; insert = insert.now }))) }
+        ↔ (2 ^ 32 ≤ length (edited text.now (replacing delete insert.now))) }
 {
     let kept = text.len() - delete.len().raw() as usize;
     kept + insert.len() > u32::MAX as usize
@@ -96,15 +96,15 @@ impl KeptParse {
         insert: &str,
     ) -> Result<TextRange, ParseError>
         requires { IsEditOf (text self.old.parse.tree)
-            (record { delete = delete; insert = insert.now }) }
+            (replacing delete insert.now) }
         ensures edited { OnOk result (IsEdited self.old.edition
-            (record { delete = delete; insert = insert.now }) self.old self.new) }
+            (replacing delete insert.now) self.old self.new) }
         ensures again { IfOk result (IsAgain self.old.parse.tree
-            (record { delete = delete; insert = insert.now }) self.new.parse.tree) }
+            (replacing delete insert.now) self.new.parse.tree) }
         ensures unchanged { OnErr result (self.new ≡ self.old) }
         ensures refused { IfErr result (λ e. (e ≡ TooLong)
             ↔ (2 ^ 32 ≤ length (edited (text self.old.parse.tree)
-            (record { delete = delete; insert = insert.now })))) }
+            (replacing delete insert.now)))) }
     {
         rust_reads_exactly();
         self.document.edit(alloc, delete, insert)
@@ -119,15 +119,15 @@ impl KeptParse {
         insert: &str,
     ) -> Result<TextRange, ParseError>
         requires { IsEditOf (text self.old.parse.tree)
-            (record { delete = delete; insert = insert.now }) }
+            (replacing delete insert.now) }
         ensures edited { OnOk result (IsEdited edition
-            (record { delete = delete; insert = insert.now }) self.old self.new) }
+            (replacing delete insert.now) self.old self.new) }
         ensures again { IfOk result (IsAgain self.old.parse.tree
-            (record { delete = delete; insert = insert.now }) self.new.parse.tree) }
+            (replacing delete insert.now) self.new.parse.tree) }
         ensures unchanged { OnErr result (self.new ≡ self.old) }
         ensures refused { IfErr result (λ e. (e ≡ TooLong)
             ↔ (2 ^ 32 ≤ length (edited (text self.old.parse.tree)
-            (record { delete = delete; insert = insert.now })))) }
+            (replacing delete insert.now)))) }
     {
         let old = self.document.text();
         if is_too_long(old, delete, insert) {

@@ -9,7 +9,7 @@ use crate::status::{NO_EDITION, NOT_UTF8, OK, edition_of};
 use ras_front_end::Edition;
 use ras_parsing::utils::{is_identifier, is_raw_identifier};
 use rust_front::Rust;
-use rust_words::{contextual_keyword, keyword};
+use rust_kinds::{contextual_keyword, keyword};
 use syntax_kind::SyntaxKind;
 
 /// What a word is in an edition.

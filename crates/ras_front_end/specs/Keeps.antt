@@ -9,7 +9,7 @@ use Rattle.tree_model.specs.Tree.{Tree, kind_of}
 use Rattle.tree_model.specs.Events.{BuildsNode}
 use Rattle.ras_front_end.specs.declared.edition.Entry.{Entry}
 use Rattle.ras_front_end.specs.declared.edition.Entry.TheVariants.{SourceFile, Expr}
-use Rattle.ras_front_end.specs.Fault.{LiesIn}
+use Rattle.ras_front_end.specs.ErrorModel.{LiesIn}
 use Rattle.ras_front_end.specs.Reading.{Reading, events_from, Cuts, stored_faults}
 
 -- the steps cut the whole text and build one tree, whose root has such a kind; the errors are

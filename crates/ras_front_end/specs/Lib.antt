@@ -1,5 +1,5 @@
-pub mod Fault
-pub mod FaultEquality
+pub mod ErrorModel
+pub mod ErrorEquality
 pub mod Reading
 pub mod Balanced
 pub mod Keeps

@@ -4,15 +4,15 @@ use Rattle.std.specs.Coded.{Coded, code_by, coded×, coded_list}
 use Rattle.tree_model.specs.Tree.{Tree, text}
 use Rattle.tree_model.specs.TreeCode.{tree_code}
 use Rattle.tree_model.specs.Events.{BuildsNode}
-use Rattle.ras_front_end.specs.Fault.{Fault, LiesIn, fault_code}
+use Rattle.ras_front_end.specs.ErrorModel.{ErrorModel, LiesIn, fault_code}
 use Rattle.ras_front_end.specs.Reading.{Reading, events_from, stored_faults}
 
 pub record Parsed : Type 0 where
   pub tree : Tree
-  pub errors : List Fault
+  pub errors : List ErrorModel
 
 abbrev pub parsed_code : Coded Parsed
-parsed_code = code_by (Tree × List Fault) (coded× tree_code (coded_list fault_code)) (λ p. (p.tree, p.errors)) (λ p. record { tree = p.0; errors = p.1 }) (λ _. refl)
+parsed_code = code_by (Tree × List ErrorModel) (coded× tree_code (coded_list fault_code)) (λ p. (p.tree, p.errors)) (λ p. record { tree = p.0; errors = p.1 }) (λ _. refl)
 
 -- the tree is that of the reading's steps, its text is the text that was given, and the errors are
 -- those of the steps and then the lexer's

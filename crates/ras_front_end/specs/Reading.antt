@@ -7,7 +7,7 @@ use Rattle.tree_model.specs.Events.{Event, enter, leaf, exit}
 use Rattle.ras_front_end.specs.declared.output.Step.{Step}
 use Rattle.ras_front_end.specs.declared.output.Step.TheVariants.{Enter, Token, Exit, Error}
 use Rattle.ras_front_end.specs.declared.output.Output.{Output}
-use Rattle.ras_front_end.specs.Fault.{Fault, fault_at}
+use Rattle.ras_front_end.specs.ErrorModel.{ErrorModel, fault_at}
 
 pub data FrontStep : Type 0 where
   begins : SyntaxKind → FrontStep
@@ -17,7 +17,7 @@ pub data FrontStep : Type 0 where
 
 pub record Reading : Type 0 where
   pub steps : List FrontStep
-  pub errors : List Fault
+  pub errors : List ErrorModel
 
 abbrev pub front_step : Step → FrontStep
 front_step (Enter k) = begins k
@@ -50,7 +50,7 @@ Cuts (ends ∷ es) s = Cuts es s
 Cuts (reports m p ∷ es) s = Cuts es s
 
 -- the errors among the steps, in order
-abbrev pub step_faults : List FrontStep → List Fault
+abbrev pub step_faults : List FrontStep → List ErrorModel
 step_faults [] = []
 step_faults (begins k ∷ es) = step_faults es
 step_faults (takes k n ∷ es) = step_faults es
@@ -58,7 +58,7 @@ step_faults (ends ∷ es) = step_faults es
 step_faults (reports m p ∷ es) = fault_at m p ∷ step_faults es
 
 -- the errors that a parse stores: those of the steps, and then the lexer's
-abbrev pub stored_faults : Reading → List Fault
+abbrev pub stored_faults : Reading → List ErrorModel
 stored_faults r = step_faults r.steps ++ r.errors
 
 -- a single token's kind, and the bytes of its error

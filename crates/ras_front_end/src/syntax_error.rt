@@ -1,6 +1,6 @@
 //! A message at a range of a text.
 ghost use Rattle.std.specs.Prelude.{◌≡◌, string_bytes};
-ghost use Rattle.ras_front_end.specs.Fault.{fault_at};
+ghost use Rattle.ras_front_end.specs.ErrorModel.{fault_at};
 
 use std::alloc::AllocError;
 use std::fmt;
@@ -20,9 +20,9 @@ pub struct SyntaxError {
 
 impl Model for SyntaxError {
     ghost use Rattle.std.specs.Prelude.{string_bytes};
-    ghost use Rattle.ras_front_end.specs.Fault.{Fault, fault_code};
+    ghost use Rattle.ras_front_end.specs.ErrorModel.{ErrorModel, fault_code};
 
-    ghost Value = { Fault };
+    ghost Value = { ErrorModel };
 
     ghost coded = { fault_code };
 
@@ -97,7 +97,7 @@ impl fmt::Display for SyntaxError {
 impl std::error::Error for SyntaxError {}
 
 impl PartialEq for SyntaxError {
-    ghost use Rattle.ras_front_end.specs.FaultEquality.{is_same_fault, faults_equivalence};
+    ghost use Rattle.ras_front_end.specs.ErrorEquality.{is_same_fault, faults_equivalence};
     ghost use Rattle.std.specs.Cmp.{partial_equiv_from_equiv};
 
     ghost eq = { is_same_fault };
@@ -110,13 +110,13 @@ impl PartialEq for SyntaxError {
 }
 
 impl Eq for SyntaxError {
-    ghost use Rattle.ras_front_end.specs.FaultEquality.{faults_equivalence};
+    ghost use Rattle.ras_front_end.specs.ErrorEquality.{faults_equivalence};
 
     ghost laws = { faults_equivalence };
 }
 
 impl Hash for SyntaxError {
-    ghost use Rattle.ras_front_end.specs.FaultEquality.{fault_hash, faults_alike};
+    ghost use Rattle.ras_front_end.specs.ErrorEquality.{fault_hash, faults_alike};
 
     ghost hash_input = { fault_hash };
 

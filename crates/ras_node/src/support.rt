@@ -5,7 +5,7 @@ ghost use Rattle.syntax_kind.specs.declared.syntax_kind.SyntaxKind.{SyntaxKind};
 ghost use Rattle.ras_node.specs.Lookups.{second_typed_child, last_typed_child, view_in, grandparent_of};
 ghost use Rattle.ras_node.specs.Searches.{first_node, before};
 ghost use Rattle.tree_model.specs.Cursor.{ancestors_of, parent_of};
-ghost use Rattle.ras_node.specs.Nodes.{has_kind_in, typed_children, typed_child, token_child};
+ghost use Rattle.ras_node.specs.Nodes.{has_kind_in, is_of_kind, typed_children, typed_child, token_child};
 
 use crate::{AstChildren, AstNode, KindSet, search};
 use lossless_tree::{SyntaxElementChildren, SyntaxKind, SyntaxNode, SyntaxToken};
@@ -30,6 +30,20 @@ pub fn token(parent: &SyntaxNode, kind: SyntaxKind) -> Option<SyntaxToken>
     ensures { result ≡ token_child kind parent.now }
 {
     parent.token_of_kind(kind)
+}
+
+/// Whether a node is of a kind.
+pub fn is_of_kind(node: &SyntaxNode, kind: SyntaxKind) -> bool
+    ensures { result ≡ is_of_kind kind node.now }
+{
+    node.kind().to_raw() == kind.to_raw()
+}
+
+/// Whether a token is of a kind.
+pub fn is_token_of_kind(token: &SyntaxToken, kind: SyntaxKind) -> bool
+    ensures { result ≡ is_of_kind kind token.now }
+{
+    token.kind().to_raw() == kind.to_raw()
 }
 
 /// Another cursor at the same node. It takes no memory.

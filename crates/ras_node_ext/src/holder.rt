@@ -1,30 +1,9 @@
 //! The nodes that hold the inner attributes of other nodes.
 ghost use Rattle.std.specs.Prelude.{◌≡◌};
-ghost use Rattle.ras_node_ext.specs.Attrs.{node_child, may_carry_attributes, inner_holder};
-ghost use Rattle.ras_node.specs.Nodes.{is_of_kind};
+ghost use Rattle.ras_node_ext.specs.Attrs.{may_carry_attributes, inner_holder};
 
 use lossless_tree::{SyntaxKind, SyntaxNode};
 use ras_node::support;
-
-// Whether a node is of a kind.
-fn is_of_kind(node: &SyntaxNode, kind: SyntaxKind) -> bool
-    ensures { result ≡ is_of_kind kind node.now }
-{
-    node.kind().to_raw() == kind.to_raw()
-}
-
-// The first child node of a kind.
-fn node_child(parent: &SyntaxNode, kind: SyntaxKind) -> Option<SyntaxNode>
-    ensures { result ≡ node_child kind parent.now }
-{
-    let mut left = parent.children();
-    while let Some(child) = left.next() {
-        if is_of_kind(&child, kind) {
-            return Some(child);
-        }
-    }
-    None
-}
 
 /// Whether a block's parent is a block expression or an expression statement, so that attributes
 /// may be in it.
@@ -49,15 +28,14 @@ pub fn inner_attributes_node(owner: &SyntaxNode) -> Option<SyntaxNode>
 {
     match owner.kind() {
         SyntaxKind::SOURCE_FILE => Some(support::share(owner)),
-        SyntaxKind::EXTERN_BLOCK => node_child(owner, SyntaxKind::EXTERN_ITEM_LIST),
-        SyntaxKind::FN => node_child(
-            &node_child(owner, SyntaxKind::BLOCK_EXPR)?,
-            SyntaxKind::STMT_LIST,
-        ),
-        SyntaxKind::MATCH_EXPR => node_child(owner, SyntaxKind::MATCH_ARM_LIST),
-        SyntaxKind::IMPL => node_child(owner, SyntaxKind::ASSOC_ITEM_LIST),
-        SyntaxKind::TRAIT => node_child(owner, SyntaxKind::ASSOC_ITEM_LIST),
-        SyntaxKind::MODULE => node_child(owner, SyntaxKind::ITEM_LIST),
+        SyntaxKind::EXTERN_BLOCK => owner.child_of_kind(SyntaxKind::EXTERN_ITEM_LIST),
+        SyntaxKind::FN => owner
+            .child_of_kind(SyntaxKind::BLOCK_EXPR)?
+            .child_of_kind(SyntaxKind::STMT_LIST),
+        SyntaxKind::MATCH_EXPR => owner.child_of_kind(SyntaxKind::MATCH_ARM_LIST),
+        SyntaxKind::IMPL => owner.child_of_kind(SyntaxKind::ASSOC_ITEM_LIST),
+        SyntaxKind::TRAIT => owner.child_of_kind(SyntaxKind::ASSOC_ITEM_LIST),
+        SyntaxKind::MODULE => owner.child_of_kind(SyntaxKind::ITEM_LIST),
         SyntaxKind::BLOCK_EXPR => {
             if may_carry_attributes(owner) {
                 Some(support::share(owner))

@@ -7,7 +7,7 @@ use Rattle.tree_model.specs.Cursor.{Cursor, IsRoot, focus, range_start, range_en
 use Rattle.tree_model.specs.Edit.{replace, root_of}
 use Rattle.ras_front_end.specs.declared.edition.Edition.{Edition}
 use Rattle.ras_front_end.specs.declared.edition.Reparser.{Reparser}
-use Rattle.ras_front_end.specs.Fault.{Fault, LiesIn}
+use Rattle.ras_front_end.specs.ErrorModel.{ErrorModel, LiesIn}
 use Rattle.ras_front_end.specs.Balanced.{IsBalanced}
 use Rattle.ras_front_end.specs.Reading.{Reading}
 use Rattle.ras_front_end.specs.Keeps.{Keeps}
@@ -91,7 +91,7 @@ stands tree edit c range w is =
     let whole : length (text c.tree) ≡ length (text tree) = ap (λ t. length (text t)) w.same in
     (omega (arith, w.around.begun, from), omega (arith, w.around.ended, to), omega (arith, w.around.within, to, whole))
 
-pub errors_lie : (tree : Tree) (edit : Edit) (c : Cursor) (range : Bounds) (new : List ℕ) (errors : List Fault) → IsIn tree edit c → edit.delete.start ≤ edit.delete.end → range ≡ range_of c → new ≡ edited_at c edit → All (LiesIn (length new)) errors
+pub errors_lie : (tree : Tree) (edit : Edit) (c : Cursor) (range : Bounds) (new : List ℕ) (errors : List ErrorModel) → IsIn tree edit c → edit.delete.start ≤ edit.delete.end → range ≡ range_of c → new ≡ edited_at c edit → All (LiesIn (length new)) errors
     → All (LiesIn (((range.end - range.start) + length edit.insert) - (edit.delete.end - edit.delete.start))) errors
 errors_lie tree edit c range new errors w forwards is e h =
     subst (λ n. All (LiesIn n) errors)
@@ -100,11 +100,11 @@ errors_lie tree edit c range new errors w forwards is e h =
 pub whole_is : (root : Cursor) → IsRoot root → focus root ≡ root.tree
 whole_is root h = ap (λ p. subtree root.tree p) h
 
-same_parsed : (t u : Tree) (es fs : List Fault) → t ≡ u → es ≡ fs → (let p : Parsed = record { tree = t; errors = es } in p) ≡ record { tree = u; errors = fs }
+same_parsed : (t u : Tree) (es fs : List ErrorModel) → t ≡ u → es ≡ fs → (let p : Parsed = record { tree = t; errors = es } in p) ≡ record { tree = u; errors = fs }
 same_parsed t u es fs e f = ap (λ x. let p : Parsed = record { tree = x; errors = es } in p) e ∙ ap (λ x. let p : Parsed = record { tree = u; errors = x } in p) f
 
 -- the parse with the piece
-pub placed : (old : Parsed) (edit : Edit) (c root : Cursor) (u : Tree) (v : Tree) (range : Bounds) (es fs : List Fault) → c.tree ≡ old.tree → root ≡ root_of (replace c.tree c.place u) → u ≡ v → range ≡ range_of c → es ≡ fs
+pub placed : (old : Parsed) (edit : Edit) (c root : Cursor) (u : Tree) (v : Tree) (range : Bounds) (es fs : List ErrorModel) → c.tree ≡ old.tree → root ≡ root_of (replace c.tree c.place u) → u ≡ v → range ≡ range_of c → es ≡ fs
     → (let p : Parsed = record { tree = root.tree; errors = merged old.errors es range edit } in p) ≡ with_piece old edit c (record { tree = v; errors = fs })
 placed old edit c root u v range es fs same e f is g =
     same_parsed root.tree (replace old.tree c.place v) (merged old.errors es range edit) (merged old.errors fs (range_of c) edit)
@@ -116,7 +116,7 @@ pub token_faults_lie : (new : List ℕ) (fault : Option (List ℕ)) → All (Lie
 token_faults_lie new None = λ k d h. absurd (omega (arith, h))
 token_faults_lie new (Some m) = λ k d h. first_lies new m k d h
   where
-    first_lies : (new m : List ℕ) (k : ℕ) (d : Fault) → k < 1 → LiesIn (length new) (get_or ((let f : Fault = record { message = m; range = record { start = 0; end = length new } } in f) ∷ []) k d)
+    first_lies : (new m : List ℕ) (k : ℕ) (d : ErrorModel) → k < 1 → LiesIn (length new) (get_or ((let f : ErrorModel = record { message = m; range = record { start = 0; end = length new } } in f) ∷ []) k d)
     first_lies new m zero d h = record { forwards = omega arith; within = omega arith }
     first_lies new m (suc k) d h = absurd (omega (arith, h))
 

@@ -11,7 +11,7 @@ use Rattle.tree_rows.specs.Builder as builder
 use Rattle.ras_front_end.specs.declared.output.Step.{Step}
 use Rattle.ras_front_end.specs.declared.output.Step.TheVariants.{Enter, Token, Exit, Error}
 use Rattle.ras_front_end.specs.declared.output.Output.{Output}
-use Rattle.ras_front_end.specs.Fault.{Fault, LiesIn}
+use Rattle.ras_front_end.specs.ErrorModel.{ErrorModel, LiesIn}
 use Rattle.ras_front_end.specs.Reading.{Reading, front_steps, reading_of, events_from, Cuts, step_faults, stored_faults}
 use Rattle.ras_front_end.specs.TreeEvent.{tree_event}
 use Rattle.ras_front_end.specs.Keeps.{Keeps}
@@ -46,14 +46,14 @@ pub record IsFinished (input : List ℕ) (r : Reading) (p : Parsed) : Type 0 whe
   pub in_text : ErrorsLieIn p
 
 -- the errors are complete where none is left of the steps, nor of the lexer's
-all_faults : (o : Output) (left : List Step) (more faults all : List Fault) → left ≡ [] → more ≡ []
+all_faults : (o : Output) (left : List Step) (more faults all : List ErrorModel) → left ≡ [] → more ≡ []
     → faults ++ step_faults (front_steps left) ≡ step_faults (front_steps o.steps.items) → all ++ more ≡ faults ++ o.errors.items → all ≡ stored_faults (reading_of o)
 all_faults o left more faults all e f g h =
     sym (append-nil all) ∙ ap (λ l. all ++ l) (sym f) ∙ h
     ∙ ap (λ l. l ++ o.errors.items) (sym (append-nil faults) ∙ ap (λ l. faults ++ step_faults (front_steps l)) (sym e) ∙ g)
 
 -- the tree of an output's steps, with all errors
-pub finished : (o : Output) (input : List ℕ) (k : Keeps (λ root. ⊤) input (reading_of o)) (given left : List Step) (more faults all : List Fault) (t : Tree)
+pub finished : (o : Output) (input : List ℕ) (k : Keeps (λ root. ⊤) input (reading_of o)) (given left : List Step) (more faults all : List ErrorModel) (t : Tree)
     → given ≡ o.steps.items → BuildsNode (builder.events_from (filter_map tree_event given) input) t
     → left ≡ [] → more ≡ [] → faults ++ step_faults (front_steps left) ≡ step_faults (front_steps o.steps.items) → all ++ more ≡ faults ++ o.errors.items
     → IsFinished input (reading_of o) (record { tree = t; errors = all })

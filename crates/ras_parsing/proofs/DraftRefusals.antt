@@ -9,7 +9,7 @@ use Rattle.tree_model.specs.declared.error.FinishError.{FinishError}
 use Rattle.tree_model.specs.declared.error.FinishError.TheVariants.{TooLong, OverClosed, Unclosed, Empty, ManyRoots, TokenRoot, ErrorPastText, Memory}
 use Rattle.tree_model.specs.Events.{Event, text_len, first_refusal, refusal_of, Holds, refusal_number, IsFirstRefusal, IsAccepted}
 use Rattle.tree_model.proofs.Refusals.{first_refusal_is, none_accepted, accepted_none}
-use Rattle.ras_front_end.specs.Fault.{Fault, LiesIn}
+use Rattle.ras_front_end.specs.ErrorModel.{ErrorModel, LiesIn}
 use Rattle.ras_parsing.specs.Draft.{Draft, DraftHolds, IsFirstDraftRefusal, IsAcceptedDraft, is_past, past_refusal, draft_refusal, AllForwards}
 use Rattle.ras_parsing.proofs.PastErrors.{none_past}
 
@@ -21,20 +21,20 @@ less n m e = grind (arith, nat_tests)
 is_less : (n m : ℕ) → n < m → nat_lt n m ≡ true
 is_less n m e = grind (arith, nat_tests)
 
-EndsPast : ℕ → List Fault → Type 0
+EndsPast : ℕ → List ErrorModel → Type 0
 EndsPast n fs = Any (λ f. n < f.range.end) fs
 
-past_by_test : (n : ℕ) (fs : List Fault) → list_any (is_past n) fs ≡ true → EndsPast n fs
+past_by_test : (n : ℕ) (fs : List ErrorModel) → list_any (is_past n) fs ≡ true → EndsPast n fs
 unfolding EndsPast
 past_by_test n fs e =
     let found = Any-from_list_any (is_past n) fs e in
     (found.0, found.1, found.2, found.3, less n found.1.range.end found.4)
 
-test_by_past : (n : ℕ) (fs : List Fault) → EndsPast n fs → list_any (is_past n) fs ≡ true
+test_by_past : (n : ℕ) (fs : List ErrorModel) → EndsPast n fs → list_any (is_past n) fs ≡ true
 unfolding EndsPast
 test_by_past n fs p = list_any-from_Any (is_past n) fs (p.0, p.1, p.2, p.3, is_less n p.1.range.end p.4)
 
-never_past : (n : ℕ) (fs : List Fault) → list_any (is_past n) fs ≡ false → EndsPast n fs → ⊥
+never_past : (n : ℕ) (fs : List ErrorModel) → list_any (is_past n) fs ≡ false → EndsPast n fs → ⊥
 never_past n fs none p = (let bad : true ≡ false = sym (test_by_past n fs p) ∙ none in cc)
 
 -- ---- names by their numbers

@@ -12,7 +12,7 @@ use Rattle.lossless_tree.proofs.NodeLists.{cursor_of-element_by}
 use Rattle.ras_front_end.specs.declared.edition.Edition.{Edition}
 use Rattle.ras_front_end.specs.declared.edition.Reparser.{Reparser}
 use Rattle.ras_front_end.specs.Balanced.{opens_brace, closes_brace}
-use Rattle.ras_front_end.specs.Fault.{Fault}
+use Rattle.ras_front_end.specs.ErrorModel.{ErrorModel}
 use Rattle.ras_front_end.specs.Parsed.{Parsed}
 use Rattle.ras_front_end.specs.Reading.{Reading}
 use Rattle.exact_front.specs.Exact.{Exact, is_piece, ExactKeeps}
@@ -81,7 +81,7 @@ exact_in exact tree edit l o c r e f g is is_place =
 read_as : {X : Type 0} (f : X → Reading) (o : Option X) (p : Option Reading) (x : X) → option_map f o ≡ p → o ≡ Some x → p ≡ Some (f x)
 read_as f o p x e is = sym e ∙ ap (option_map f) is
 
-pub exact_found : {X : Type 0} (exact : Exact) (edition : Edition) (old : Parsed) (count : ℕ) (edit : Edit) (l : List Cursor) (o : Option (Cursor × Reparser)) (c : Cursor) (r : Reparser) (head : List ℕ) (b : Bool) (at : ℕ) (errors : List Fault) (q : Bool) (new asked : List ℕ) (h : X → Reading) (read : Option X) (x : X) (was : List ℕ) (p : Bool)
+pub exact_found : {X : Type 0} (exact : Exact) (edition : Edition) (old : Parsed) (count : ℕ) (edit : Edit) (l : List Cursor) (o : Option (Cursor × Reparser)) (c : Cursor) (r : Reparser) (head : List ℕ) (b : Bool) (at : ℕ) (errors : List ErrorModel) (q : Bool) (new asked : List ℕ) (h : X → Reading) (read : Option X) (x : X) (was : List ℕ) (p : Bool)
     → ExactKeeps exact → IsEditOf (text old.tree) edit → length (edited (text old.tree) edit) < 2 ^ 32 → IsPlace c.tree c.place → IsUtf8 new
     → l ≡ nodes_around old.tree edit → o ≡ first_exact exact edit.delete l → o ≡ Some (c, r)
     → head ≡ text old.tree → b ≡ exact.has_head head → b ≡ false

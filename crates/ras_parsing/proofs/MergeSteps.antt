@@ -2,10 +2,10 @@
 use Rattle.std.proofs.Common.{◌≡◌, ℕ, zero, suc, ◌+◌, ◌<◌, List, [], ◌∷◌, ◌++◌, take, length, get_or, sym, ap, ◌∙◌, arith, append-nil, append_assoc}
 use Rattle.text_size.specs.TextRange.{Bounds}
 use Rattle.ras_parsing.specs.Edit.{Edit}
-use Rattle.ras_front_end.specs.Fault.{Fault}
+use Rattle.ras_front_end.specs.ErrorModel.{ErrorModel}
 use Rattle.ras_parsing.specs.Reparse.{kept_fault, kept_faults}
 
-pub kept_more : (replaced : Bounds) (edit : Edit) (fs : List Fault) (i : ℕ) (d : Fault) → i < length fs
+pub kept_more : (replaced : Bounds) (edit : Edit) (fs : List ErrorModel) (i : ℕ) (d : ErrorModel) → i < length fs
     → kept_faults replaced edit (take (i + 1) fs) ≡ kept_faults replaced edit (take i fs) ++ kept_fault replaced edit (get_or fs i d)
 kept_more replaced edit [] i d h = absurd (omega (arith, h))
 kept_more replaced edit (f ∷ fs) zero d h = append-nil (kept_fault replaced edit f)

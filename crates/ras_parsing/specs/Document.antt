@@ -10,7 +10,7 @@ use Rattle.ras_front_end.specs.declared.edition.Entry.TheVariants.{SourceFile}
 use Rattle.ras_front_end.specs.declared.edition.Edition.{Edition}
 use Rattle.ras_front_end.specs.declared.edition.Reparser.{Reparser}
 use Rattle.ras_front_end.specs.Balanced.{opens_brace, closes_brace}
-use Rattle.ras_front_end.specs.Fault.{Fault}
+use Rattle.ras_front_end.specs.ErrorModel.{ErrorModel}
 use Rattle.ras_front_end.specs.Front.{Front}
 use Rattle.ras_front_end.specs.Reading.{Reading, step_faults}
 use Rattle.ras_front_end.specs.Parsed.{Parsed, IsParseOf}
@@ -22,20 +22,20 @@ use Rattle.ras_parsing.specs.Rereading.{IsAround}
 -- ---- errors
 
 -- an old error stays if it ends at or before the replaced range's start
-abbrev pub earlier_fault : Bounds → Fault → List Fault
+abbrev pub earlier_fault : Bounds → ErrorModel → List ErrorModel
 earlier_fault replaced f = if nat_le f.range.end replaced.start then f ∷ [] else []
 
 -- one that starts at or after the range's end moves with the text
-abbrev pub later_fault : Bounds → Edit → Fault → List Fault
+abbrev pub later_fault : Bounds → Edit → ErrorModel → List ErrorModel
 later_fault replaced edit f =
     if nat_le replaced.end f.range.start then record { message = f.message; range = record { start = shifted edit f.range.start; end = shifted edit f.range.end } } ∷ [] else []
 
 -- the old errors before the piece, its new ones, and the old ones behind it
-abbrev pub in_order : List Fault → List Fault → Bounds → Edit → List Fault
+abbrev pub in_order : List ErrorModel → List ErrorModel → Bounds → Edit → List ErrorModel
 in_order old new replaced edit = flat_map (earlier_fault replaced) old ++ (map (moved replaced.start) new ++ flat_map (later_fault replaced edit) old)
 
 -- the parser's errors, which are the first `count` and `more` ones, and then the lexer's
-abbrev pub all_in_order : ℕ → ℕ → List Fault → List Fault → Bounds → Edit → List Fault
+abbrev pub all_in_order : ℕ → ℕ → List ErrorModel → List ErrorModel → Bounds → Edit → List ErrorModel
 all_in_order count more old new replaced edit = in_order (take count old) (take more new) replaced edit ++ in_order (drop count old) (drop more new) replaced edit
 
 -- ---- the piece
@@ -65,7 +65,7 @@ first_exact exact delete [] = None
 first_exact exact delete (c ∷ cs) = or_further c (exact_reparser_of exact delete c) (first_exact exact delete cs)
 
 -- no error begins at or after a byte
-abbrev pub is_quiet_from : ℕ → List Fault → Bool
+abbrev pub is_quiet_from : ℕ → List ErrorModel → Bool
 is_quiet_from at [] = true
 is_quiet_from at (f ∷ fs) = nat_lt f.range.start at && is_quiet_from at fs
 

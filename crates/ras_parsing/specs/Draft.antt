@@ -7,14 +7,14 @@ use Rattle.tree_model.specs.declared.error.FinishError.{FinishError}
 use Rattle.tree_model.specs.declared.error.FinishError.TheVariants.{ErrorPastText}
 use Rattle.tree_model.specs.TreeCode.{event_code}
 use Rattle.tree_model.specs.Events.{Event, text_len, first_refusal, Holds, refusal_number, IsAccepted}
-use Rattle.ras_front_end.specs.Fault.{Fault, fault_code}
+use Rattle.ras_front_end.specs.ErrorModel.{ErrorModel, fault_code}
 
 pub record Draft : Type 0 where
   pub events : List Event
-  pub faults : List Fault
+  pub faults : List ErrorModel
 
 abbrev pub draft_code : Coded Draft
-draft_code = code_by (List Event × List Fault) (coded× (coded_list event_code) (coded_list fault_code)) (λ d. (d.events, d.faults)) (λ p. record { events = p.0; faults = p.1 }) (λ _. refl)
+draft_code = code_by (List Event × List ErrorModel) (coded× (coded_list event_code) (coded_list fault_code)) (λ d. (d.events, d.faults)) (λ p. record { events = p.0; faults = p.1 }) (λ _. refl)
 
 -- what each error means for a draft: the same as for the events, and for an error past the text
 -- that some error ends there
@@ -33,7 +33,7 @@ pub record IsAcceptedDraft (d : Draft) : Type 0 where
   pub errors : All (λ f. f.range.end ≤ text_len d.events) d.faults
 
 -- the error ends past a text of n bytes
-abbrev pub is_past : ℕ → Fault → Bool
+abbrev pub is_past : ℕ → ErrorModel → Bool
 is_past n f = nat_lt n f.range.end
 
 abbrev pub past_refusal : Bool → Option FinishError
@@ -44,5 +44,5 @@ past_refusal b = if b then Some ErrorPastText else None
 abbrev pub draft_refusal : Draft → Option FinishError
 draft_refusal d = option_or (first_refusal d.events) (past_refusal (list_any (is_past (text_len d.events)) d.faults))
 
-abbrev pub AllForwards : List Fault → Type 0
+abbrev pub AllForwards : List ErrorModel → Type 0
 AllForwards fs = All (λ f. f.range.start ≤ f.range.end) fs

@@ -6,7 +6,7 @@ use Rattle.std.specs.Cmp.Lexicographic.{pointwise, lists_equiv}
 use Rattle.tree_model.specs.Equality.{is_same_cursor}
 use Rattle.tree_model.specs.EqualityLaws.{cursor_equivalence}
 use Rattle.tree_model.specs.Edit.{root_of}
-use Rattle.ras_front_end.specs.FaultEquality.{is_same_fault, faults_equivalence}
+use Rattle.ras_front_end.specs.ErrorEquality.{is_same_fault, faults_equivalence}
 use Rattle.ras_front_end.specs.Parsed.{Parsed}
 
 -- equal trees, and stored errors that are equal one by one

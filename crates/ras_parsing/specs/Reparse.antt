@@ -16,14 +16,14 @@ use Rattle.ras_front_end.specs.declared.edition.Entry.TheVariants.{SourceFile}
 use Rattle.ras_front_end.specs.declared.edition.Edition.{Edition}
 use Rattle.ras_front_end.specs.declared.edition.Reparser.{Reparser}
 use Rattle.ras_front_end.specs.Balanced.{IsBalanced}
-use Rattle.ras_front_end.specs.Fault.{Fault}
+use Rattle.ras_front_end.specs.ErrorModel.{ErrorModel}
 use Rattle.ras_front_end.specs.Front.{Front}
 use Rattle.ras_front_end.specs.Parsed.{Parsed, IsParseOf}
 use Rattle.ras_parsing.specs.Edit.{Edit, edited, covered, edited_at}
 
 -- ---- errors
 
-abbrev pub moved : ℕ → Fault → Fault
+abbrev pub moved : ℕ → ErrorModel → ErrorModel
 moved by f = record { message = f.message; range = record { start = f.range.start + by; end = f.range.end + by } }
 
 -- the error moves with the text after the edit
@@ -32,20 +32,20 @@ shifted edit at = (at + length edit.insert) - (edit.delete.end - edit.delete.sta
 
 -- an old error that ends at or before the replaced range's start stays; of the others, one that
 -- starts at or after its end moves with the text; the rest are removed
-abbrev pub kept_fault : Bounds → Edit → Fault → List Fault
+abbrev pub kept_fault : Bounds → Edit → ErrorModel → List ErrorModel
 kept_fault replaced edit f =
     if nat_le f.range.end replaced.start then f ∷ []
     else (if nat_le replaced.end f.range.start
     then record { message = f.message; range = record { start = shifted edit f.range.start; end = shifted edit f.range.end } } ∷ []
     else [])
 
-abbrev pub kept_faults : Bounds → Edit → List Fault → List Fault
+abbrev pub kept_faults : Bounds → Edit → List ErrorModel → List ErrorModel
 kept_faults replaced edit [] = []
 kept_faults replaced edit (f ∷ fs) = kept_fault replaced edit f ++ kept_faults replaced edit fs
 
 -- the old errors that are kept, and then the new ones, whose offsets count from the replaced
 -- range's start
-abbrev pub merged : List Fault → List Fault → Bounds → Edit → List Fault
+abbrev pub merged : List ErrorModel → List ErrorModel → Bounds → Edit → List ErrorModel
 merged old new replaced edit = kept_faults replaced edit old ++ map (moved replaced.start) new
 
 -- ---- one token
@@ -113,7 +113,7 @@ pub record BlockPath (front : Front) (edition : Edition) (tree : Tree) (edit : E
 -- ---- the result
 
 -- the lexer's error of a token has the whole token's range
-abbrev pub token_faults : List ℕ → Option (List ℕ) → List Fault
+abbrev pub token_faults : List ℕ → Option (List ℕ) → List ErrorModel
 token_faults new None = []
 token_faults new (Some m) = record { message = m; range = record { start = 0; end = length new } } ∷ []
 

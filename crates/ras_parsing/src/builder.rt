@@ -3,7 +3,7 @@ ghost use Rattle.std.specs.Prelude.{◌≡◌, [], ◌∷◌, ◌++◌, OnOk, On
 ghost use Rattle.std.specs.List.{list_any};
 ghost use Rattle.tree_model.specs.Events.{enter, leaf, exit, BuildsNode, refusal_of};
 ghost use Rattle.tree_model.specs.Cursor.{IsRoot};
-ghost use Rattle.ras_front_end.specs.Fault.{fault_at};
+ghost use Rattle.ras_front_end.specs.ErrorModel.{fault_at};
 ghost use Rattle.ras_front_end.specs.Parsed.{ErrorsLieIn};
 ghost use Rattle.ras_parsing.specs.Draft.{is_past, draft_refusal, IsAcceptedDraft, IsFirstDraftRefusal};
 

@@ -2,7 +2,7 @@
 ghost use Rattle.std.specs.Prelude.{◌≡◌, ◌↔◌, ◌<◌, ◌≤◌, ◌^◌, length, IfOk, IfErr, IfSome, MatchOption, OnOk, OnErr};
 ghost use Rattle.tree_model.specs.Tree.{text};
 ghost use Rattle.ras_front_end.specs.declared.parse_error.ParseError.TheVariants.{TooLong};
-ghost use Rattle.ras_parsing.specs.Edit.{IsEditOf, edited};
+ghost use Rattle.ras_parsing.specs.Edit.{IsEditOf, edited, replacing};
 ghost use Rattle.ras_parsing.specs.Document.{IsReadOf, IsEdited, ReadsExactly};
 ghost use Rattle.ras_parsing.specs.InSteps.{InPlace, NotInPlace};
 
@@ -132,17 +132,16 @@ impl<T: FileView, F: ExactFront + Drop> Document<T, F> {
         delete: TextRange,
         insert: &str,
     ) -> Result<Option<Counted<T>>, AllocError>
-        requires edit { IsEditOf (text old.now.tree)
-            (record { delete = delete; insert = insert.now }) }
+        requires edit { IsEditOf (text old.now.tree) (replacing delete insert.now) }
         requires short { length (edited (text old.now.tree)
-            (record { delete = delete; insert = insert.now })) < 2 ^ 32 }
+            (replacing delete insert.now)) < 2 ^ 32 }
         ensures answer { IfOk result (λ o. MatchOption o
             (NotInPlace (F.exact self.now.front) self.now.edition old.now count
-            (record { delete = delete; insert = insert.now }))
+            (replacing delete insert.now))
             (λ n. InPlace (F.exact self.now.front) self.now.edition old.now count
-            (record { delete = delete; insert = insert.now }) n.parse n.parser_errors n.range)) }
+            (replacing delete insert.now) n.parse n.parser_errors n.range)) }
         ensures same_text { IfOk result (λ o. IfSome o (λ n. text n.parse.tree
-            ≡ edited (text old.now.tree) (record { delete = delete; insert = insert.now }))) }
+            ≡ edited (text old.now.tree) (replacing delete insert.now))) }
     {
         let front = &self.front;
         if let Some(token) = token_path(alloc, old, count, front, delete, insert, self.edition)? {
@@ -165,16 +164,15 @@ impl<T: FileView, F: ExactFront + Drop> Document<T, F> {
         delete: TextRange,
         insert: &str,
     ) -> Result<Counted<T>, ParseError>
-        requires edit { IsEditOf (text self.now.parse.tree)
-            (record { delete = delete; insert = insert.now }) }
+        requires edit { IsEditOf (text self.now.parse.tree) (replacing delete insert.now) }
         requires short { length (edited (text self.now.parse.tree)
-            (record { delete = delete; insert = insert.now })) < 2 ^ 32 }
+            (replacing delete insert.now)) < 2 ^ 32 }
         ensures answer { IfOk result (λ n. IsEdited
             (F.answers self.now.front) (F.exact self.now.front) self.now.edition
             self.now.parse self.now.parser_errors
-            (record { delete = delete; insert = insert.now }) n.parse n.parser_errors n.range) }
+            (replacing delete insert.now) n.parse n.parser_errors n.range) }
         ensures same_text { IfOk result (λ n. text n.parse.tree
-            ≡ edited (text self.now.parse.tree) (record { delete = delete; insert = insert.now })) }
+            ≡ edited (text self.now.parse.tree) (replacing delete insert.now)) }
         ensures refused { IfErr result (λ e. e ≡ TooLong → ⊥) }
     {
         match self.in_place(alloc, &self.parse, self.parser_errors, delete, insert)? {
@@ -213,11 +211,10 @@ impl<T: FileView, F: ExactFront + Drop> Document<T, F> {
         delete: TextRange,
         insert: &str,
     ) -> Result<TextRange, ParseError>
-        requires { IsEditOf (text self.old.parse.tree)
-            (record { delete = delete; insert = insert.now }) }
+        requires { IsEditOf (text self.old.parse.tree) (replacing delete insert.now) }
         ensures answer { IfOk result (IsEdited (F.answers self.old.front) (F.exact self.old.front)
             self.old.edition self.old.parse self.old.parser_errors
-            (record { delete = delete; insert = insert.now }) self.new.parse
+            (replacing delete insert.now) self.new.parse
             self.new.parser_errors) }
         ensures exact { ReadsExactly (F.answers self.old.front) (F.exact self.old.front)
             → IsReadOf (F.answers self.old.front) self.old.edition (text self.old.parse.tree)
@@ -225,17 +222,15 @@ impl<T: FileView, F: ExactFront + Drop> Document<T, F> {
             → OnOk result (IsReadOf (F.answers self.new.front) self.new.edition
             (text self.new.parse.tree) self.new.parse self.new.parser_errors) }
         ensures same_text { OnOk result (text self.new.parse.tree
-            ≡ edited (text self.old.parse.tree)
-            (record { delete = delete; insert = insert.now })) }
+            ≡ edited (text self.old.parse.tree) (replacing delete insert.now)) }
         ensures front { self.new.front ≡ self.old.front }
         ensures edition { self.new.edition ≡ self.old.edition }
         ensures unchanged { OnErr result (self.new ≡ self.old) }
         ensures accepted { OnOk result (length (edited (text self.old.parse.tree)
-            (record { delete = delete; insert = insert.now })) < 2 ^ 32) }
+            (replacing delete insert.now)) < 2 ^ 32) }
         ensures refused { IfErr result (λ e. (e ≡ TooLong)
             ↔ (2 ^ 32
-            ≤ length (edited (text self.old.parse.tree)
-            (record { delete = delete; insert = insert.now })))) }
+            ≤ length (edited (text self.old.parse.tree) (replacing delete insert.now)))) }
     {
         if is_too_long(self.parse.root(), delete, insert) {
             return Err(ParseError::TooLong);

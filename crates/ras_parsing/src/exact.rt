@@ -2,10 +2,10 @@
 ghost use Rattle.std.specs.Prelude.{◌≡◌, ◌↔◌, IsTrue, ◌+◌, ◌-◌, ◌<◌, ◌≤◌, ◌^◌, length, IfOk, MatchOption, string_bytes, take, drop, ⊤, All};
 ghost use Rattle.tree_model.specs.Tree.{text};
 ghost use Rattle.tree_model.specs.Cursor.{IsRoot, first_child_of, last_child_of};
-ghost use Rattle.ras_front_end.specs.Fault.{LiesIn};
+ghost use Rattle.ras_front_end.specs.ErrorModel.{LiesIn};
 ghost use Rattle.ras_front_end.specs.Keeps.{Keeps};
 ghost use Rattle.ras_front_end.specs.Reading.{reading_of, front_steps, step_faults};
-ghost use Rattle.ras_parsing.specs.Edit.{IsEditOf, edited, edited_at};
+ghost use Rattle.ras_parsing.specs.Edit.{IsEditOf, edited, edited_at, replacing};
 ghost use Rattle.ras_parsing.specs.Rereading.{IsAround};
 ghost use Rattle.ras_parsing.specs.Document.{opens, closes, is_between, exact_reparser_of, first_exact, is_quiet_from, AreShort, NoExactPath, IsPieceOf, range_after, in_order, all_in_order};
 ghost use Rattle.ras_parsing.specs.ExactSteps.{IsExactPiece};
@@ -110,10 +110,9 @@ pub(crate) fn is_quiet_from(at: TextSize, errors: &[SyntaxError]) -> bool
 // Whether neither a text nor the text after an edit is longer than so many bytes.
 fn are_short(root: &SyntaxNode, delete: TextRange, insert: &str, longest: usize) -> bool
     requires root { IsRoot root.now }
-    requires edit { IsEditOf (text root.now.tree)
-        (record { delete = delete; insert = insert.now }) }
+    requires edit { IsEditOf (text root.now.tree) (replacing delete insert.now) }
     ensures { IsTrue result
-        ↔ AreShort longest (text root.now.tree) (record { delete = delete; insert = insert.now }) }
+        ↔ AreShort longest (text root.now.tree) (replacing delete insert.now) }
 {
     let len = root.as_str().len();
     let kept = len - delete.len().raw() as usize;
@@ -127,11 +126,10 @@ fn text_after(
     delete: TextRange,
     insert: &str,
 ) -> Result<String, AllocError>
-    requires edit { IsEditOf (text node.now.tree)
-        (record { delete = delete; insert = insert.now }) }
-    requires around { IsAround node.now (record { delete = delete; insert = insert.now }) }
+    requires edit { IsEditOf (text node.now.tree) (replacing delete insert.now) }
+    requires around { IsAround node.now (replacing delete insert.now) }
     ensures { IfOk result (λ s. string_bytes s
-        ≡ edited_at node.now (record { delete = delete; insert = insert.now })) }
+        ≡ edited_at node.now (replacing delete insert.now)) }
 {
     let start = node.text_range().start();
     edited_text(alloc, node.as_str(), start, delete, insert)
@@ -148,16 +146,15 @@ pub(crate) fn exact_path<T, F: ExactFront>(
     insert: &str,
     edition: Edition,
 ) -> Result<Option<ExactPiece>, AllocError>
-    requires edit { IsEditOf (text old.now.tree) (record { delete = delete; insert = insert.now }) }
+    requires edit { IsEditOf (text old.now.tree) (replacing delete insert.now) }
     requires short { length
-        (edited (text old.now.tree) (record { delete = delete; insert = insert.now }))
+        (edited (text old.now.tree) (replacing delete insert.now))
         < 2 ^ 32 }
     ensures { IfOk result (λ o.
         MatchOption o
-        (NoExactPath (F.exact front.now) edition old.now count
-        (record { delete = delete; insert = insert.now })) (λ n.
+        (NoExactPath (F.exact front.now) edition old.now count (replacing delete insert.now)) (λ n.
         IsExactPiece (F.exact front.now) edition old.now count
-        (record { delete = delete; insert = insert.now }) n.node n.reparser
+        (replacing delete insert.now) n.node n.reparser
         (string_bytes n.text) (reading_of n.output))) }
 {
     let root = old.root();
@@ -216,22 +213,22 @@ pub(crate) fn with_exact<T>(
     delete: TextRange,
     insert: &str,
 ) -> Result<Counted<T>, AllocError>
-    requires edit { IsEditOf (text old.now.tree) (record { delete = delete; insert = insert.now }) }
+    requires edit { IsEditOf (text old.now.tree) (replacing delete insert.now) }
     requires short { length
-        (edited (text old.now.tree) (record { delete = delete; insert = insert.now }))
+        (edited (text old.now.tree) (replacing delete insert.now))
         < 2 ^ 32 }
     requires same_tree { new.node.tree ≡ old.now.tree }
-    requires around { IsAround new.node (record { delete = delete; insert = insert.now }) }
+    requires around { IsAround new.node (replacing delete insert.now) }
     requires new_text { string_bytes new.text
-        ≡ edited_at new.node (record { delete = delete; insert = insert.now }) }
+        ≡ edited_at new.node (replacing delete insert.now) }
     requires keeps { Keeps (λ root. ⊤) (string_bytes new.text) (reading_of new.output) }
     ensures new { IfOk result (λ n.
-        IsPieceOf old.now count (record { delete = delete; insert = insert.now }) new.node
+        IsPieceOf old.now count (replacing delete insert.now) new.node
         (reading_of new.output) n.parse n.parser_errors) }
     ensures range { IfOk result
-        (λ n. n.range ≡ range_after new.node (record { delete = delete; insert = insert.now })) }
+        (λ n. n.range ≡ range_after new.node (replacing delete insert.now)) }
     ensures same_text { IfOk result (λ n. text n.parse.tree
-        ≡ edited (text old.now.tree) (record { delete = delete; insert = insert.now })) }
+        ≡ edited (text old.now.tree) (replacing delete insert.now)) }
 {
     let ExactPiece {
         node,
@@ -288,7 +285,7 @@ pub(crate) fn spliced<T>(
 ) -> Result<Counted<T>, AllocError>
     requires root { IsRoot root }
     requires text { text root.tree
-        ≡ edited (text old.now.tree) (record { delete = delete; insert = insert.now }) }
+        ≡ edited (text old.now.tree) (replacing delete insert.now) }
     requires short { length (text root.tree) < 2 ^ 32 }
     requires around { (replaced.start ≤ delete.start) × (delete.end ≤ replaced.end)
         × (replaced.end ≤ length (text old.now.tree)) }
@@ -301,11 +298,11 @@ pub(crate) fn spliced<T>(
           tree = root.tree;
           errors
               = all_in_order count more old.now.errors errors.items replaced
-              (record { delete = delete; insert = insert.now });
+              (replacing delete insert.now);
         }) }
     ensures count { IfOk result (λ n. n.parser_errors
         ≡ length (in_order (take count old.now.errors) (take more errors.items) replaced
-        (record { delete = delete; insert = insert.now }))) }
+        (replacing delete insert.now))) }
     ensures range { IfOk result (λ n. n.range ≡ range) }
 {
     // Opens the range's invariant for the proof: its start isn't past its end.

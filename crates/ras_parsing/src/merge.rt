@@ -1,5 +1,6 @@
 //! Merges old and new errors after a re-parse of a piece.
 ghost use Rattle.std.specs.Prelude.{◌≡◌, ◌+◌, ◌-◌, ◌<◌, ◌≤◌, ◌^◌, length, IfOk, OnOk, All, ◌++◌};
+ghost use Rattle.ras_parsing.specs.Edit.{replacing};
 ghost use Rattle.ras_parsing.specs.Reparse.{shifted, moved, kept_fault, merged};
 
 use ras_front_end::SyntaxError;
@@ -9,8 +10,8 @@ use text_size::{TextRange, TextSize};
 // The new offset, after an edit, of a byte that follows it.
 pub(crate) fn shifted(offset: TextSize, delete: TextRange, insert: &str) -> TextSize
     requires behind { delete.end ≤ offset }
-    requires short { shifted (record { delete = delete; insert = insert.now }) offset < 2 ^ 32 }
-    ensures { result ≡ shifted (record { delete = delete; insert = insert.now }) offset }
+    requires short { shifted (replacing delete insert.now) offset < 2 ^ 32 }
+    ensures { result ≡ shifted (replacing delete insert.now) offset }
 {
     let kept = offset.raw() as usize - delete.len().raw() as usize;
     TextSize::new((kept + insert.len()) as u32)
@@ -25,11 +26,11 @@ fn keep(
     insert: &str,
 ) -> Result<(), AllocError>
     requires within { delete.end ≤ replaced.end }
-    requires short { shifted (record { delete = delete; insert = insert.now }) error.now.range.end
+    requires short { shifted (replacing delete insert.now) error.now.range.end
         < 2 ^ 32 }
     ensures { OnOk result (kept.new.items
         ≡ kept.old.items
-        ++ kept_fault replaced (record { delete = delete; insert = insert.now })
+        ++ kept_fault replaced (replacing delete insert.now)
         error.now) }
 {
     let range = error.range();
@@ -66,11 +67,11 @@ pub(crate) fn merge(
 ) -> Result<Vec<SyntaxError>, AllocError>
     requires within { delete.end ≤ replaced.end }
     requires old_short { All
-        (λ f. shifted (record { delete = delete; insert = insert.now }) f.range.end < 2 ^ 32)
+        (λ f. shifted (replacing delete insert.now) f.range.end < 2 ^ 32)
         old.now }
     requires new_short { All (λ f. f.range.end + replaced.start < 2 ^ 32) new.items }
     ensures { IfOk result (λ errors. errors.items
-        ≡ merged old.now new.items replaced (record { delete = delete; insert = insert.now })) }
+        ≡ merged old.now new.items replaced (replacing delete insert.now)) }
 {
     let mut errors = Vec::new(alloc);
     for error in old {

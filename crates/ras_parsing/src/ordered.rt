@@ -1,5 +1,6 @@
 //! Errors of a parse in the order of a new parse, after one piece was parsed again.
 ghost use Rattle.std.specs.Prelude.{◌≡◌, ◌+◌, ◌-◌, ◌<◌, ◌≤◌, ◌^◌, length, OnOk, IfOk, All, ◌++◌, map, take, drop};
+ghost use Rattle.ras_parsing.specs.Edit.{replacing};
 ghost use Rattle.ras_parsing.specs.Reparse.{shifted, moved};
 ghost use Rattle.ras_parsing.specs.Document.{earlier_fault, later_fault, in_order, all_in_order};
 
@@ -31,11 +32,11 @@ fn keep_later(
     insert: &str,
 ) -> Result<(), AllocError>
     requires within { delete.end ≤ replaced.end }
-    requires short { shifted (record { delete = delete; insert = insert.now }) error.now.range.end
+    requires short { shifted (replacing delete insert.now) error.now.range.end
         < 2 ^ 32 }
     ensures { OnOk result (kept.new.items
         ≡ kept.old.items
-        ++ later_fault replaced (record { delete = delete; insert = insert.now })
+        ++ later_fault replaced (replacing delete insert.now)
         error.now) }
 {
     let range = error.range();
@@ -58,13 +59,12 @@ fn push_in_order(
 ) -> Result<(), AllocError>
     requires within { delete.end ≤ replaced.end }
     requires old_short { All
-        (λ f. shifted (record { delete = delete; insert = insert.now }) f.range.end < 2 ^ 32)
+        (λ f. shifted (replacing delete insert.now) f.range.end < 2 ^ 32)
         old.now }
     requires new_short { All (λ f. f.range.end + replaced.start < 2 ^ 32) new.now }
     ensures { OnOk result (all.new.items
         ≡ all.old.items
-        ++ in_order old.now new.now replaced
-        (record { delete = delete; insert = insert.now })) }
+        ++ in_order old.now new.now replaced (replacing delete insert.now)) }
 {
     for error in old {
         keep_earlier(all, error, replaced)?;
@@ -114,15 +114,14 @@ pub(crate) fn ordered(
 ) -> Result<CountedErrors, AllocError>
     requires within { delete.end ≤ replaced.end }
     requires old_short { All
-        (λ f. shifted (record { delete = delete; insert = insert.now }) f.range.end < 2 ^ 32)
+        (λ f. shifted (replacing delete insert.now) f.range.end < 2 ^ 32)
         old.now }
     requires new_short { All (λ f. f.range.end + replaced.start < 2 ^ 32) new.now }
     ensures errors { IfOk result (λ o. o.errors.items
-        ≡ all_in_order count more old.now new.now replaced
-        (record { delete = delete; insert = insert.now })) }
+        ≡ all_in_order count more old.now new.now replaced (replacing delete insert.now)) }
     ensures count { IfOk result (λ o. o.parser_errors
         ≡ length (in_order (take count old.now) (take more new.now) replaced
-        (record { delete = delete; insert = insert.now }))) }
+        (replacing delete insert.now))) }
 {
     let mut errors = Vec::new(alloc);
     push_in_order(

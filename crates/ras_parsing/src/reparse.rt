@@ -7,8 +7,8 @@ ghost use Rattle.tree_model.specs.Edit.{splice};
 ghost use Rattle.ras_front_end.specs.declared.parse_error.ParseError.TheVariants.{TooLong};
 ghost use Rattle.ras_front_end.specs.Parsed.{ErrorsLieIn, IsParseOf};
 ghost use Rattle.ras_front_end.specs.declared.edition.Entry.TheVariants.{SourceFile};
-ghost use Rattle.ras_front_end.specs.Fault.{LiesIn};
-ghost use Rattle.ras_parsing.specs.Edit.{IsEditOf, edited, covered, edited_at};
+ghost use Rattle.ras_front_end.specs.ErrorModel.{LiesIn};
+ghost use Rattle.ras_parsing.specs.Edit.{IsEditOf, edited, covered, edited_at, replacing};
 ghost use Rattle.ras_parsing.specs.Reparse.{merged, is_token_kind, IsContextualWord, kind_at, reparser_of, first_reparsable, token_faults, token_piece, with_piece, NoTokenPath, NoBlockPath, IsIncremental, IsReparse};
 ghost use Rattle.ras_parsing.specs.Rereading.{LosesNewline, MayStay, IsOneToken, NoOneToken, IsNewToken, IsNewBlock, IsBlockOf};
 
@@ -39,19 +39,18 @@ impl<T: FileView> Parse<T> {
         insert: &str,
         edition: Edition,
     ) -> Result<Parse<T>, ParseError>
-        requires { IsEditOf (text self.now.tree) (record { delete = delete; insert = insert.now }) }
+        requires { IsEditOf (text self.now.tree) (replacing delete insert.now) }
         ensures answer { IfOk result (IsReparse (F.answers front.now) edition self.now
-            (record { delete = delete; insert = insert.now })) }
+            (replacing delete insert.now)) }
         ensures same_text { IfOk result (λ p. text p.tree
-            ≡ edited (text self.now.tree) (record { delete = delete; insert = insert.now })) }
+            ≡ edited (text self.now.tree) (replacing delete insert.now)) }
         ensures in_text { IfOk result ErrorsLieIn }
         ensures accepted { OnOk result (length
-            (edited (text self.now.tree) (record { delete = delete; insert = insert.now }))
+            (edited (text self.now.tree) (replacing delete insert.now))
             < 2 ^ 32) }
         ensures refused { IfErr result (λ e. (e ≡ TooLong)
             ↔ (2 ^ 32
-            ≤ length (edited (text self.now.tree)
-            (record { delete = delete; insert = insert.now })))) }
+            ≤ length (edited (text self.now.tree) (replacing delete insert.now)))) }
     {
         match self.incremental_reparse(alloc, front, delete, insert, edition)? {
             Some((new, _)) => Ok(new),
@@ -73,21 +72,20 @@ impl<T: FileView> Parse<T> {
         insert: &str,
         edition: Edition,
     ) -> Result<Parse<T>, ParseError>
-        requires { IsEditOf (text self.now.tree) (record { delete = delete; insert = insert.now }) }
+        requires { IsEditOf (text self.now.tree) (replacing delete insert.now) }
         ensures answer { IfOk result (IsParseOf
-            (edited (text self.now.tree) (record { delete = delete; insert = insert.now }))
+            (edited (text self.now.tree) (replacing delete insert.now))
             ((F.answers front.now).parsed SourceFile edition (edited (text self.now.tree)
-            (record { delete = delete; insert = insert.now })))) }
+            (replacing delete insert.now)))) }
         ensures same_text { IfOk result (λ p. text p.tree
-            ≡ edited (text self.now.tree) (record { delete = delete; insert = insert.now })) }
+            ≡ edited (text self.now.tree) (replacing delete insert.now)) }
         ensures in_text { IfOk result ErrorsLieIn }
         ensures accepted { OnOk result (length
-            (edited (text self.now.tree) (record { delete = delete; insert = insert.now }))
+            (edited (text self.now.tree) (replacing delete insert.now))
             < 2 ^ 32) }
         ensures refused { IfErr result (λ e. (e ≡ TooLong)
             ↔ (2 ^ 32
-            ≤ length (edited (text self.now.tree)
-            (record { delete = delete; insert = insert.now })))) }
+            ≤ length (edited (text self.now.tree) (replacing delete insert.now)))) }
     {
         if is_too_long(self.root(), delete, insert) {
             return Err(ParseError::TooLong);
@@ -128,21 +126,19 @@ impl<T: FileView> Parse<T> {
         insert: &str,
         edition: Edition,
     ) -> Result<Option<(Parse<T>, TextRange)>, ParseError>
-        requires { IsEditOf (text self.now.tree) (record { delete = delete; insert = insert.now }) }
+        requires { IsEditOf (text self.now.tree) (replacing delete insert.now) }
         ensures answer { IfOk result (IsIncremental (F.answers front.now) edition self.now
-            (record { delete = delete; insert = insert.now })) }
+            (replacing delete insert.now)) }
         ensures same_text { IfOk result (λ o.
             IfSome o (λ p. text p.0.tree
-            ≡ edited (text self.now.tree)
-            (record { delete = delete; insert = insert.now }))) }
+            ≡ edited (text self.now.tree) (replacing delete insert.now))) }
         ensures in_text { IfOk result (λ o. IfSome o (λ p. ErrorsLieIn p.0)) }
         ensures accepted { OnOk result (length
-            (edited (text self.now.tree) (record { delete = delete; insert = insert.now }))
+            (edited (text self.now.tree) (replacing delete insert.now))
             < 2 ^ 32) }
         ensures refused { IfErr result (λ e. (e ≡ TooLong)
             ↔ (2 ^ 32
-            ≤ length (edited (text self.now.tree)
-            (record { delete = delete; insert = insert.now })))) }
+            ≤ length (edited (text self.now.tree) (replacing delete insert.now)))) }
     {
         if is_too_long(self.root(), delete, insert) {
             return Err(ParseError::TooLong);
@@ -171,20 +167,20 @@ fn with_token<T>(
     delete: TextRange,
     insert: &str,
 ) -> Result<Parse<T>, AllocError>
-    requires edit { IsEditOf (text old.now.tree) (record { delete = delete; insert = insert.now }) }
+    requires edit { IsEditOf (text old.now.tree) (replacing delete insert.now) }
     requires short { length
-        (edited (text old.now.tree) (record { delete = delete; insert = insert.now }))
+        (edited (text old.now.tree) (replacing delete insert.now))
         < 2 ^ 32 }
     requires covers { new.token
-        ≡ covered old.now.tree (record { delete = delete; insert = insert.now }) }
+        ≡ covered old.now.tree (replacing delete insert.now) }
     requires text { string_bytes new.text
-        ≡ edited_at new.token (record { delete = delete; insert = insert.now }) }
+        ≡ edited_at new.token (replacing delete insert.now) }
     ensures new { IfOk result (λ p. p
-        ≡ with_piece old.now (record { delete = delete; insert = insert.now }) new.token
-        (token_piece new.token (record { delete = delete; insert = insert.now })
+        ≡ with_piece old.now (replacing delete insert.now) new.token
+        (token_piece new.token (replacing delete insert.now)
         (option_map string_bytes new.error))) }
     ensures same_text { IfOk result (λ p. text p.tree
-        ≡ edited (text old.now.tree) (record { delete = delete; insert = insert.now })) }
+        ≡ edited (text old.now.tree) (replacing delete insert.now)) }
     ensures in_text { IfOk result ErrorsLieIn }
 {
     let NewToken { token, text, error } = new;
@@ -211,17 +207,17 @@ fn with_block<T, F: FrontEnd>(
     insert: &str,
     edition: Edition,
 ) -> Result<Parse<T>, AllocError>
-    requires edit { IsEditOf (text old.now.tree) (record { delete = delete; insert = insert.now }) }
+    requires edit { IsEditOf (text old.now.tree) (replacing delete insert.now) }
     requires short { length
-        (edited (text old.now.tree) (record { delete = delete; insert = insert.now }))
+        (edited (text old.now.tree) (replacing delete insert.now))
         < 2 ^ 32 }
     requires block { IsNewBlock (F.answers front.now) edition old.now.tree
-        (record { delete = delete; insert = insert.now }) new.node new.reparser
+        (replacing delete insert.now) new.node new.reparser
         (string_bytes new.text) }
     ensures new { IfOk result (IsBlockOf (F.answers front.now) edition old.now
-        (record { delete = delete; insert = insert.now }) new.node new.reparser) }
+        (replacing delete insert.now) new.node new.reparser) }
     ensures same_text { IfOk result (λ p. text p.tree
-        ≡ edited (text old.now.tree) (record { delete = delete; insert = insert.now })) }
+        ≡ edited (text old.now.tree) (replacing delete insert.now)) }
     ensures in_text { IfOk result ErrorsLieIn }
 {
     let NewBlock {
@@ -255,7 +251,7 @@ fn spliced<T>(
 ) -> Result<Parse<T>, AllocError>
     requires root { IsRoot root }
     requires text { text root.tree
-        ≡ edited (text old.now.tree) (record { delete = delete; insert = insert.now }) }
+        ≡ edited (text old.now.tree) (replacing delete insert.now) }
     requires short { length (text root.tree) < 2 ^ 32 }
     requires around { (replaced.start ≤ delete.start) × (delete.end ≤ replaced.end)
         × (replaced.end ≤ length (text old.now.tree)) }
@@ -267,8 +263,7 @@ fn spliced<T>(
         ≡ record {
           tree = root.tree;
           errors
-              = merged old.now.errors errors.items replaced
-              (record { delete = delete; insert = insert.now });
+              = merged old.now.errors errors.items replaced (replacing delete insert.now);
         }) }
     ensures in_text { IfOk result ErrorsLieIn }
 {
@@ -296,12 +291,10 @@ struct NewBlock {
 
 pub(crate) fn is_too_long(root: &SyntaxNode, delete: TextRange, insert: &str) -> bool
     requires root { IsRoot root.now }
-    requires edit { IsEditOf (text root.now.tree)
-        (record { delete = delete; insert = insert.now }) }
+    requires edit { IsEditOf (text root.now.tree) (replacing delete insert.now) }
     ensures { IsTrue result
         ↔ (2 ^ 32
-        ≤ length (edited (text root.now.tree)
-        (record { delete = delete; insert = insert.now }))) }
+        ≤ length (edited (text root.now.tree) (replacing delete insert.now))) }
 {
     let kept = root.as_str().len() - delete.len().raw() as usize;
     kept + insert.len() > u32::MAX as usize
@@ -345,14 +338,12 @@ fn token_path<F: FrontEnd>(
     edition: Edition,
 ) -> Result<Option<NewToken>, AllocError>
     requires root { IsRoot root.now }
-    requires edit { IsEditOf (text root.now.tree)
-        (record { delete = delete; insert = insert.now }) }
+    requires edit { IsEditOf (text root.now.tree) (replacing delete insert.now) }
     ensures { IfOk result (λ o.
         MatchOption o
         (NoTokenPath (F.answers front.now) edition root.now.tree
-        (record { delete = delete; insert = insert.now })) (λ n.
-        IsNewToken (F.answers front.now) edition root.now.tree
-        (record { delete = delete; insert = insert.now }) n.token
+        (replacing delete insert.now)) (λ n.
+        IsNewToken (F.answers front.now) edition root.now.tree (replacing delete insert.now) n.token
         (string_bytes n.text) (option_map string_bytes n.error))) }
 {
     let token = match root.covering_element(delete).into_token() {
@@ -501,14 +492,13 @@ fn block_path<F: FrontEnd>(
     edition: Edition,
 ) -> Result<Option<NewBlock>, AllocError>
     requires root { IsRoot root.now }
-    requires edit { IsEditOf (text root.now.tree)
-        (record { delete = delete; insert = insert.now }) }
+    requires edit { IsEditOf (text root.now.tree) (replacing delete insert.now) }
     ensures { IfOk result (λ o.
         MatchOption o
         (NoBlockPath (F.answers front.now) edition root.now.tree
-        (record { delete = delete; insert = insert.now })) (λ n.
+        (replacing delete insert.now)) (λ n.
         IsNewBlock (F.answers front.now) edition root.now.tree
-        (record { delete = delete; insert = insert.now }) n.node n.reparser
+        (replacing delete insert.now) n.node n.reparser
         (string_bytes n.text))) }
 {
     let nodes = root.covering_element(delete).ancestors();

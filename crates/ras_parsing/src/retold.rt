@@ -2,7 +2,7 @@
 ghost use Rattle.std.specs.Prelude.{◌≡◌, ◌↔◌, IsTrue, ◌+◌, ◌-◌, ◌<◌, ◌≤◌, ◌^◌, [], length, IfOk, IfSome, MatchOption, string_bytes, take, drop, position};
 ghost use Rattle.tree_model.specs.Tree.{text};
 ghost use Rattle.tree_model.specs.Cursor.{IsRoot};
-ghost use Rattle.ras_parsing.specs.Edit.{IsEditOf, edited, covered, edited_at};
+ghost use Rattle.ras_parsing.specs.Edit.{IsEditOf, edited, covered, edited_at, replacing};
 ghost use Rattle.ras_parsing.specs.Document.{is_brace_byte, brace_before, brace_behind, window_around, BeginsToken, edited_in, counted_from, is_retold_in, range_after, StandsAlone, NoTokenPath, IsRetoldOf};
 ghost use Rattle.ras_parsing.specs.ExactSteps.{FitsAround, IsRetoldToken};
 
@@ -127,10 +127,10 @@ fn edited_in(
     delete: TextRange,
     insert: &str,
 ) -> Result<String, AllocError>
-    requires edit { IsEditOf text.now (record { delete = delete; insert = insert.now }) }
+    requires edit { IsEditOf text.now (replacing delete insert.now) }
     requires window { FitsAround text.now delete window }
     ensures { IfOk result (λ s. string_bytes s
-        ≡ edited_in text.now window (record { delete = delete; insert = insert.now })) }
+        ≡ edited_in text.now window (replacing delete insert.now)) }
 {
     let piece = &text[window.start().raw() as usize..window.end().raw() as usize];
     edited_text(alloc, piece, window.start(), delete, insert)
@@ -147,12 +147,12 @@ fn is_retold<F: ExactFront>(
     insert: &str,
     edition: Edition,
 ) -> Result<bool, AllocError>
-    requires edit { IsEditOf text.now (record { delete = delete; insert = insert.now }) }
+    requires edit { IsEditOf text.now (replacing delete insert.now) }
     requires window { FitsAround text.now token window }
     requires around { (token.start ≤ delete.start) × (delete.end ≤ token.end) }
     ensures { IfOk result (λ b. b
         ≡ is_retold_in (F.exact front.now) edition text.now window token
-        (record { delete = delete; insert = insert.now })) }
+        (replacing delete insert.now)) }
 {
     let new = edited_in(alloc, text, window, delete, insert)?;
     let start = window.start().raw() as usize;
@@ -179,13 +179,12 @@ pub(crate) fn token_path<T, F: ExactFront>(
     insert: &str,
     edition: Edition,
 ) -> Result<Option<RetoldToken>, AllocError>
-    requires edit { IsEditOf (text old.now.tree) (record { delete = delete; insert = insert.now }) }
+    requires edit { IsEditOf (text old.now.tree) (replacing delete insert.now) }
     ensures { IfOk result (λ o. MatchOption o
-        (NoTokenPath (F.exact front.now) edition old.now count
-        (record { delete = delete; insert = insert.now }))
+        (NoTokenPath (F.exact front.now) edition old.now count (replacing delete insert.now))
         (λ r.
         IsRetoldToken (F.exact front.now) edition old.now count
-        (record { delete = delete; insert = insert.now }) r.token (string_bytes r.text))) }
+        (replacing delete insert.now) r.token (string_bytes r.text))) }
 {
     let root = old.root();
     let token = match root.covering_element(delete).into_token() {
@@ -223,21 +222,21 @@ pub(crate) fn with_retold<T>(
     delete: TextRange,
     insert: &str,
 ) -> Result<Counted<T>, AllocError>
-    requires edit { IsEditOf (text old.now.tree) (record { delete = delete; insert = insert.now }) }
+    requires edit { IsEditOf (text old.now.tree) (replacing delete insert.now) }
     requires short { length
-        (edited (text old.now.tree) (record { delete = delete; insert = insert.now }))
+        (edited (text old.now.tree) (replacing delete insert.now))
         < 2 ^ 32 }
     requires covers { new.token
-        ≡ covered old.now.tree (record { delete = delete; insert = insert.now }) }
+        ≡ covered old.now.tree (replacing delete insert.now) }
     requires text { string_bytes new.text
-        ≡ edited_at new.token (record { delete = delete; insert = insert.now }) }
+        ≡ edited_at new.token (replacing delete insert.now) }
     ensures new { IfOk result (λ n.
-        IsRetoldOf old.now count (record { delete = delete; insert = insert.now }) new.token
+        IsRetoldOf old.now count (replacing delete insert.now) new.token
         n.parse n.parser_errors) }
     ensures range { IfOk result
-        (λ n. n.range ≡ range_after new.token (record { delete = delete; insert = insert.now })) }
+        (λ n. n.range ≡ range_after new.token (replacing delete insert.now)) }
     ensures same_text { IfOk result (λ n. text n.parse.tree
-        ≡ edited (text old.now.tree) (record { delete = delete; insert = insert.now })) }
+        ≡ edited (text old.now.tree) (replacing delete insert.now)) }
 {
     let RetoldToken { token, text } = new;
     token_is_placed(&token);

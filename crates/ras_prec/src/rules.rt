@@ -1,15 +1,10 @@
 //! The rules by which an expression needs parentheses.
-ghost use Rattle.std.specs.Prelude.{◌≡◌, ◌↔◌, ◌∷◌, ◌&&◌, List, ℕ, Some, true, false, is_some};
-ghost use Rattle.std.specs.List.{find};
-ghost use Rattle.tree_model.specs.Cursor.{Cursor, focus, parent_of};
-ghost use Rattle.operator_terms.specs.Term.{Term, Paren, tokens};
-ghost use Rattle.operator_terms.specs.Reading.{begins_with_angle, Reads};
+ghost use Rattle.std.specs.Prelude.{◌≡◌, ◌&&◌, Some, true, false, is_some};
+ghost use Rattle.operator_terms.specs.Term.{tokens};
 ghost use Rattle.operator_terms.specs.Pairs.{without};
 ghost use Rattle.operator_terms.specs.Powers.{pow, like_postfix};
-ghost use Rattle.operator_terms.specs.Places.{Demand, Part, some_part, operand, Fits, FitsPlace};
-ghost use Rattle.operator_trees.specs.Leaves.{leaves_behind};
-ghost use Rattle.operator_trees.specs.Shown.{meaning, IsTerm};
-ghost use Rattle.operator_pairs.specs.Pairs.{operand_cursor, angle_behind, MayGoBefore};
+ghost use Rattle.operator_terms.specs.Places.{operand, Fits};
+ghost use Rattle.operator_pairs.specs.Decides.{DecidesItsPlace, DecidesItsTerm, DecidesOperands, DecidesPairs};
 ghost use Rattle.ras_operators.specs.declared.level.ExprPrecedence.{ExprPrecedence};
 ghost use Rattle.ras_operators.specs.Levels.{precedence_of, is_valueless};
 ghost use Rattle.ras_prec_walks.specs.Above.{is_followed_by_block};
@@ -17,9 +12,8 @@ ghost use Rattle.ras_prec_walks.specs.CastName.{ends_in_cast_name};
 ghost use Rattle.ras_prec_walks.specs.Inside.{has_let};
 ghost use Rattle.ras_prec_walks.specs.Parts.{is_and};
 ghost use Rattle.ras_prec.specs.Order.{powers_of};
-ghost use Rattle.ras_node.specs.Nodes.{kind_at, typed_child};
+ghost use Rattle.ras_node.specs.Nodes.{kind_at};
 ghost use Rattle.ras_node.specs.Searches.{first_token};
-ghost use Rattle.ras_node.specs.PartSets.{is_binary_operator};
 ghost use Rattle.ras_prec.specs.Rules.{is_called_field, is_bare_jump, is_cut_by_block, is_jump, is_logic, kind_from, kind_next, is_before_logic, is_before_angle, binds_less, asks_in_expr, is_let_else_part, is_let_else, is_logic_token, is_logic_expr, asks_in_statement, is_statement, asks};
 
 use crate::order::{powers_of, stands_before_in};
@@ -255,19 +249,8 @@ fn asks(own: &SyntaxNode, parent: &SyntaxNode, place: &SyntaxNode) -> bool
 /// without the pair read as the term without it; then they read as no other term.
 pub fn needs_parens_in_place_of(own: &SyntaxNode, parent: &SyntaxNode, place: &SyntaxNode) -> bool
     ensures asks { result ≡ asks own.now parent.now place.now }
-    ensures fits { (r : Cursor) (t s : Term) (i : ℕ) (q : List ℕ) (held : Part)
-        → meaning (focus r) ≡ IsTerm t → operand t (i ∷ q) ≡ Some held
-        → place.now ≡ operand_cursor r t (i ∷ q) → parent_of place.now ≡ Some parent.now
-        → meaning (focus own.now) ≡ IsTerm s
-        → result ≡ false ↔ FitsPlace held.demand (angle_behind r t (i ∷ q)) s }
-    ensures pairs { (r : Cursor) (t : Term) (i : ℕ) (q : List ℕ) (d : Demand) (e : Term)
-        → meaning (focus r) ≡ IsTerm t → operand t (i ∷ q) ≡ some_part d (Paren e)
-        → place.now ≡ operand_cursor r t (i ∷ q) → parent_of place.now ≡ Some parent.now
-        → meaning (focus own.now) ≡ IsTerm e
-        → Reads 0 (tokens t) t → MayGoBefore (leaves_behind r.tree r.place) t (i ∷ q)
-        → (result ≡ false ↔ Reads 0 (tokens (without (i ∷ q) t)) (without (i ∷ q) t))
-        × (result ≡ false → (u : Term) → Reads 0 (tokens (without (i ∷ q) t)) u
-        → u ≡ without (i ∷ q) t) }
+    ensures fits { DecidesOperands own.now parent.now place.now result }
+    ensures pairs { DecidesPairs own.now parent.now place.now result }
 {
     asks(own, parent, place)
 }
@@ -279,15 +262,8 @@ pub fn needs_parens_in_place_of(own: &SyntaxNode, parent: &SyntaxNode, place: &S
 /// tree is not followed by `<` or `<<`, this is `Fits`, which is about the term alone.
 pub fn needs_parens_in(own: &SyntaxNode, parent: &SyntaxNode) -> bool
     ensures asks { result ≡ asks own.now parent.now own.now }
-    ensures fits { (r : Cursor) (t : Term) (i : ℕ) (q : List ℕ) (held : Part)
-        → meaning (focus r) ≡ IsTerm t → operand t (i ∷ q) ≡ Some held
-        → own.now ≡ operand_cursor r t (i ∷ q) → parent_of own.now ≡ Some parent.now
-        → result ≡ false ↔ FitsPlace held.demand (angle_behind r t (i ∷ q)) held.term }
-    ensures alone { (r : Cursor) (t : Term) (i : ℕ) (q : List ℕ) (held : Part)
-        → meaning (focus r) ≡ IsTerm t → operand t (i ∷ q) ≡ Some held
-        → own.now ≡ operand_cursor r t (i ∷ q) → parent_of own.now ≡ Some parent.now
-        → begins_with_angle (leaves_behind r.tree r.place) ≡ false
-        → result ≡ false ↔ Fits t (i ∷ q) }
+    ensures fits { DecidesItsPlace own.now parent.now result }
+    ensures alone { DecidesItsTerm own.now parent.now result }
 {
     needs_parens_in_place_of(own, parent, own)
 }

@@ -7,10 +7,11 @@ ghost use Rattle.ras_node.specs.Nodes.{typed_child};
 ghost use Rattle.ras_node.specs.Sets.{is_ty};
 ghost use Rattle.ras_prec_walks.specs.CastName.{is_in_name, is_type_of_cast, is_cast_type, passes_cast_type, is_cast_name, last_leaf, is_cast_name_of, ends_in_cast_name};
 
-use crate::parts::{is_a, is_it};
+use crate::parts::is_it;
 use lossless_tree::{Direction, SyntaxKind, SyntaxNode, SyntaxToken};
 use ras_algo::algo;
 use ras_node::sets::{KindSet, NameLikes, Types};
+use ras_node::support::is_of_kind;
 
 fn is_in_name(parent: Option<SyntaxNode>) -> bool
     ensures { result ≡ is_in_name parent }
@@ -24,7 +25,7 @@ fn is_in_name(parent: Option<SyntaxNode>) -> bool
 fn is_type_of_cast(node: &SyntaxNode, parent: &SyntaxNode) -> bool
     ensures { result ≡ is_type_of_cast node.now parent.now }
 {
-    is_a(parent, SyntaxKind::CAST_EXPR)
+    is_of_kind(parent, SyntaxKind::CAST_EXPR)
         && is_it(
             node,
             ras_node::first_node::<Types>(parent.children_with_tokens()),

@@ -7,8 +7,9 @@ ghost use Rattle.ras_prec_walks.specs.Parts.{is_it};
 ghost use Rattle.ras_prec_walks.specs.Inside.{is_side, is_base, is_operand, opens, is_step, is_sought, lacks_side, holds, has_exterior_record, has_let};
 
 use crate::along::{Meant, Toward, reaches};
-use crate::parts::{first_expr, is_a, is_and, second_expr};
+use crate::parts::{first_expr, is_and, second_expr};
 use lossless_tree::{SyntaxKind, SyntaxNode, WalkEvent};
+use ras_node::support::is_of_kind;
 use std::marker::Model;
 
 /// What is looked for: a record that no delimiters surround, or a `let` in a chain of `&&`.
@@ -151,8 +152,8 @@ fn is_sought(sought: Sought, node: &SyntaxNode) -> bool
     ensures { result ≡ is_sought sought node.now }
 {
     match sought {
-        Sought::Record => is_a(node, SyntaxKind::RECORD_EXPR),
-        Sought::Let => is_a(node, SyntaxKind::LET_EXPR) || (is_and(node) && lacks_side(node)),
+        Sought::Record => is_of_kind(node, SyntaxKind::RECORD_EXPR),
+        Sought::Let => is_of_kind(node, SyntaxKind::LET_EXPR) || (is_and(node) && lacks_side(node)),
     }
 }
 

@@ -1,6 +1,6 @@
 //! The parts of an expression that the walks ask for.
 ghost use Rattle.std.specs.Prelude.{◌≡◌, false};
-ghost use Rattle.ras_node.specs.Nodes.{is_of_kind, typed_child};
+ghost use Rattle.ras_node.specs.Nodes.{typed_child};
 ghost use Rattle.ras_node.specs.Lookups.{second_typed_child};
 ghost use Rattle.ras_node.specs.Sets.{is_expr};
 ghost use Rattle.ras_prec_walks.specs.Parts.{is_it, is_and, is_and_token, range_ends_in_block, second_of};
@@ -8,6 +8,7 @@ ghost use Rattle.ras_prec_walks.specs.Parts.{is_it, is_and, is_and_token, range_
 use crate::along::{Meant, Toward, reaches};
 use lossless_tree::{SyntaxKind, SyntaxNode, SyntaxNodeChildren, SyntaxToken};
 use ras_node::sets::{BinaryOperators, Exprs, KindSet};
+use ras_node::support::{is_of_kind, is_token_of_kind};
 
 /// The first expression among the children.
 pub fn first_expr(node: &SyntaxNode) -> Option<SyntaxNode>
@@ -50,24 +51,11 @@ pub fn is_it(node: &SyntaxNode, found: Option<SyntaxNode>) -> bool
     }
 }
 
-/// Whether a node is of a kind.
-pub(crate) fn is_a(node: &SyntaxNode, kind: SyntaxKind) -> bool
-    ensures { result ≡ is_of_kind kind node.now }
-{
-    node.kind().to_raw() == kind.to_raw()
-}
-
-fn is_token(token: &SyntaxToken, kind: SyntaxKind) -> bool
-    ensures { result ≡ is_of_kind kind token.now }
-{
-    token.kind().to_raw() == kind.to_raw()
-}
-
 fn is_and_token(found: Option<SyntaxToken>) -> bool
     ensures { result ≡ is_and_token found }
 {
     match found {
-        Some(operator) => is_token(&operator, SyntaxKind::AMP2),
+        Some(operator) => is_token_of_kind(&operator, SyntaxKind::AMP2),
         None => false,
     }
 }
@@ -76,7 +64,7 @@ fn is_and_token(found: Option<SyntaxToken>) -> bool
 pub fn is_and(node: &SyntaxNode) -> bool
     ensures { result ≡ is_and node.now }
 {
-    is_a(node, SyntaxKind::BIN_EXPR)
+    is_of_kind(node, SyntaxKind::BIN_EXPR)
         && is_and_token(ras_node::first_token::<BinaryOperators>(node.children_with_tokens()))
 }
 
@@ -84,5 +72,6 @@ pub fn is_and(node: &SyntaxNode) -> bool
 pub fn range_ends_in_block(node: &SyntaxNode) -> bool
     ensures { result ≡ range_ends_in_block node.now }
 {
-    is_a(node, SyntaxKind::RANGE_EXPR) && reaches(Toward::Block, Meant::BehindDots, &node.trees())
+    is_of_kind(node, SyntaxKind::RANGE_EXPR)
+        && reaches(Toward::Block, Meant::BehindDots, &node.trees())
 }

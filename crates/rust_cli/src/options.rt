@@ -4,9 +4,9 @@ use cargo_editions::edition_named;
 use clap::ArgMatches;
 use gitignore::{Rule, rule_of};
 use ras_front_end::{Edition, Entry};
-use rust_draw::highlight::Ink;
-use rust_draw::tree::{Drawing, Part, Showing};
-use rust_print::forms::{Asked, Form, Wanted};
+use rust_draw::highlight::HighlightFormat;
+use rust_draw::tree::{Part, Showing, TreeFormat};
+use rust_print::forms::{ReportFormat, ReportOptions, Wanted};
 use rust_print::source::Reading;
 use rust_print::style::Style;
 use rust_report::{place_of, range_of};
@@ -47,7 +47,7 @@ pub enum Summary {
 #[derive(Clone, Copy, Debug)]
 pub struct Options {
     /// How a text is parsed, but for its edition, and how a report on it is written.
-    pub asked: Asked,
+    pub report: ReportOptions,
     /// How the edition of a file is chosen.
     pub edition: Choice,
     /// What is printed about a file.
@@ -60,7 +60,7 @@ impl Options {
     /// The options of a command.
     pub fn of(style: Style, matches: &ArgMatches) -> Options {
         Options {
-            asked: asked_of(style, matches),
+            report: report_options(style, matches),
             edition: edition(matches),
             summary: summary_of(matches),
             search: Search {
@@ -121,8 +121,8 @@ pub fn globs_of(alloc: Global, matches: &ArgMatches) -> Result<Globs, AllocError
     Ok(globs)
 }
 
-fn asked_of(style: Style, matches: &ArgMatches) -> Asked {
-    Asked {
+fn report_options(style: Style, matches: &ArgMatches) -> ReportOptions {
+    ReportOptions {
         reading: reading(matches),
         format: form_of(matches),
         style,
@@ -209,19 +209,19 @@ fn max_errors(matches: &ArgMatches) -> usize {
 }
 
 /// The output of `highlight`.
-pub fn ink(matches: &ArgMatches) -> Ink {
+pub fn ink(matches: &ArgMatches) -> HighlightFormat {
     match matches.get_str("format") {
-        Some("html") => Ink::Html,
-        _ => Ink::Ansi,
+        Some("html") => HighlightFormat::Html,
+        _ => HighlightFormat::Ansi,
     }
 }
 
-fn form_of(matches: &ArgMatches) -> Form {
+fn form_of(matches: &ArgMatches) -> ReportFormat {
     match matches.get_str("format") {
-        Some("json") => Form::Json,
-        Some("github") => Form::Github,
-        Some("sarif") => Form::Sarif,
-        _ => Form::Text,
+        Some("json") => ReportFormat::Json,
+        Some("github") => ReportFormat::Github,
+        Some("sarif") => ReportFormat::Sarif,
+        _ => ReportFormat::Text,
     }
 }
 
@@ -255,10 +255,10 @@ pub fn showing(
         return Ok(None);
     };
     let drawing = match matches.get_str("format") {
-        Some("json") => Drawing::Json,
-        Some("sexp") => Drawing::Sexp,
-        Some("html") => Drawing::Html,
-        _ => Drawing::Text,
+        Some("json") => TreeFormat::Json,
+        Some("sexp") => TreeFormat::Sexp,
+        Some("html") => TreeFormat::Html,
+        _ => TreeFormat::Text,
     };
     let depth = match matches.get_one::<u32>("depth") {
         Some(depth) => depth as usize,
@@ -272,7 +272,7 @@ pub fn showing(
         stats: matches.get_flag("stats"),
         ancestors: matches.get_flag("ancestors"),
         // An object of JSON has the name of its file.
-        named: has_several && !matches!(drawing, Drawing::Json),
+        named: has_several && !matches!(drawing, TreeFormat::Json),
         grammar: address_of(alloc, matches)?,
     }))
 }

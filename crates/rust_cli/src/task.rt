@@ -2,8 +2,8 @@
 
 use crate::options::{ink, showing};
 use clap::ArgMatches;
-use rust_draw::highlight::Ink;
-use rust_draw::tree::{Drawing, Showing};
+use rust_draw::highlight::HighlightFormat;
+use rust_draw::tree::{Showing, TreeFormat};
 use rust_query::{Pattern, QueryError, parse_pattern};
 use rust_search::{RuleSet, RulesError, one_pattern, one_rule, rules_of};
 use std::alloc::{AllocError, Global};
@@ -32,7 +32,7 @@ pub enum Task {
     },
     /// Prints texts with their tokens coloured.
     Highlight {
-        ink: Ink,
+        ink: HighlightFormat,
     },
     /// Finds what rules match, also in the arguments of macros if that is asked.
     Search {
@@ -118,7 +118,7 @@ fn tree_task(alloc: Global, has_several: bool, matches: &ArgMatches) -> Result<T
     let Some(showing) = showing(alloc, matches, has_several)? else {
         return Err(Refusal::Place);
     };
-    if has_several && matches!(showing.drawing, Drawing::Html) && !showing.stats {
+    if has_several && matches!(showing.drawing, TreeFormat::Html) && !showing.stats {
         return Err(Refusal::Pages);
     }
     Ok(Task::Tree { showing })

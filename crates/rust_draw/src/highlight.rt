@@ -13,7 +13,7 @@ use std::io::Write;
 
 /// The output of `highlight`.
 #[derive(Clone, Copy, Debug)]
-pub enum Ink {
+pub enum HighlightFormat {
     /// A page of HTML.
     Html,
     /// Escapes of a terminal.
@@ -211,13 +211,13 @@ fn write_token<W: Write>(
     out: &mut W,
     text: &str,
     token: &SyntaxToken,
-    ink: Ink,
+    ink: HighlightFormat,
     place: &mut Place,
 ) -> io::Result<()> {
     let role = role_of(token);
     match ink {
-        Ink::Html => write_html(out, class_of(role), token.text(), place),
-        Ink::Ansi => write_ansi(
+        HighlightFormat::Html => write_html(out, class_of(role), token.text(), place),
+        HighlightFormat::Ansi => write_ansi(
             out,
             escape_of(role),
             token.text(),
@@ -232,7 +232,7 @@ fn write_literal<W: Write>(
     text: &str,
     token: &SyntaxToken,
     cut: Cut,
-    ink: Ink,
+    ink: HighlightFormat,
     place: &mut Place,
 ) -> io::Result<()> {
     let literal = token.text();
@@ -246,8 +246,8 @@ fn write_literal<W: Write>(
         // token does.
         let feeds = behind.starts_with('\n') || (behind.is_empty() && is_before_feed(text, token));
         match ink {
-            Ink::Html => write_html(out, class_of_part(part), shown, place)?,
-            Ink::Ansi => write_ansi(out, escape_of_part(part), shown, feeds)?,
+            HighlightFormat::Html => write_html(out, class_of_part(part), shown, place)?,
+            HighlightFormat::Ansi => write_ansi(out, escape_of_part(part), shown, feeds)?,
         }
         rest = behind;
     }
@@ -271,7 +271,7 @@ pub(crate) fn write_coloured<W: Write>(
     out: &mut W,
     text: &str,
     token: &SyntaxToken,
-    ink: Ink,
+    ink: HighlightFormat,
     place: &mut Place,
 ) -> io::Result<()> {
     match cut_in(token, &mut place.calls) {
@@ -284,7 +284,7 @@ pub(crate) fn write_coloured<W: Write>(
 fn write_tokens<W: Write>(
     out: &mut W,
     root: &SyntaxNode,
-    ink: Ink,
+    ink: HighlightFormat,
     place: &mut Place,
 ) -> io::Result<()> {
     let text = root.as_str();
@@ -302,7 +302,7 @@ fn write_page<W: Write>(out: &mut W, name: &str, root: &SyntaxNode) -> io::Resul
     write_colours(out)?;
     out.write_all(b"</style>\n</head>\n<body>\n<pre>\n")?;
     write_anchor(out, &place)?;
-    write_tokens(out, root, Ink::Html, &mut place)?;
+    write_tokens(out, root, HighlightFormat::Html, &mut place)?;
     out.write_all(b"</pre>\n</body>\n</html>\n")
 }
 
@@ -312,12 +312,12 @@ pub fn show<W: Write>(
     out: &mut W,
     source: Source<'_>,
     reading: Reading,
-    ink: Ink,
+    ink: HighlightFormat,
 ) -> Result<u64, Failure> {
     let parse = parsed(alloc, source.text, reading)?;
     match ink {
-        Ink::Html => write_page(out, source.name, parse.root())?,
-        Ink::Ansi => write_tokens(out, parse.root(), ink, &mut Place::start(""))?,
+        HighlightFormat::Html => write_page(out, source.name, parse.root())?,
+        HighlightFormat::Ansi => write_tokens(out, parse.root(), ink, &mut Place::start(""))?,
     }
     Ok(0)
 }

@@ -1,7 +1,7 @@
 //! The differences of two trees as a self-contained page of HTML: both texts side by side with the
 //! places marked, and a list of these.
 
-use crate::highlight::{Ink, Place, write_anchor, write_coloured, write_colours};
+use crate::highlight::{HighlightFormat, Place, write_anchor, write_coloured, write_colours};
 use crate::html::{in_html, write_head};
 use lossless_tree::{
     NodeOrToken, SyntaxElement, SyntaxNode, SyntaxToken, TextRange, TextSize, WalkEvent,
@@ -159,7 +159,7 @@ impl<'d> Marks<'d> {
     ) -> io::Result<()> {
         let range = token.text_range();
         self.write_starts(out, range.start())?;
-        write_coloured(out, text, token, Ink::Html, place)?;
+        write_coloured(out, text, token, HighlightFormat::Html, place)?;
         self.write_end(out, range.end())
     }
 }

@@ -18,7 +18,7 @@ use std::io::Write;
 
 /// The form of a tree.
 #[derive(Clone, Copy, Debug)]
-pub enum Drawing {
+pub enum TreeFormat {
     /// A line for each node and token, indented.
     Text,
     /// One object of JSON with the path, the errors and the nested nodes and tokens.
@@ -44,7 +44,7 @@ pub enum Part {
 #[derive(Debug, Drop)]
 pub struct Showing {
     /// The form.
-    pub drawing: Drawing,
+    pub drawing: TreeFormat,
     /// Which part.
     pub part: Part,
     /// Whether white space and comments are shown.
@@ -114,20 +114,20 @@ fn write_sexp<W: Write>(alloc: Global, out: &mut W, element: &SyntaxElement) -> 
 // Writes what precedes an element: a line feed and an indentation, or a comma between two.
 fn write_before<W: Write>(
     out: &mut W,
-    drawing: Drawing,
+    drawing: TreeFormat,
     level: usize,
     is_first: bool,
 ) -> io::Result<()> {
     match drawing {
-        Drawing::Text | Drawing::Html => Ok(()),
-        Drawing::Json => {
+        TreeFormat::Text | TreeFormat::Html => Ok(()),
+        TreeFormat::Json => {
             if is_first {
                 Ok(())
             } else {
                 out.write_all(b",")
             }
         }
-        Drawing::Sexp => {
+        TreeFormat::Sexp => {
             if level > 0 {
                 out.write_all(b"\n")?;
             }
@@ -139,28 +139,28 @@ fn write_before<W: Write>(
 // Writes what follows the contents of an element.
 fn write_behind<W: Write>(
     out: &mut W,
-    drawing: Drawing,
+    drawing: TreeFormat,
     level: usize,
     element: &SyntaxElement,
 ) -> io::Result<()> {
     match drawing {
-        Drawing::Text | Drawing::Html => Ok(()),
-        Drawing::Json => tree_json::write_end(out, level, element),
-        Drawing::Sexp => out.write_all(b")"),
+        TreeFormat::Text | TreeFormat::Html => Ok(()),
+        TreeFormat::Json => tree_json::write_end(out, level, element),
+        TreeFormat::Sexp => out.write_all(b")"),
     }
 }
 
 fn write_element<W: Write>(
     alloc: Global,
     out: &mut W,
-    drawing: Drawing,
+    drawing: TreeFormat,
     level: usize,
     element: &SyntaxElement,
 ) -> io::Result<()> {
     match drawing {
-        Drawing::Text | Drawing::Html => write_text(alloc, out, level, element),
-        Drawing::Json => tree_json::write_element(alloc, out, level, element),
-        Drawing::Sexp => write_sexp(alloc, out, element),
+        TreeFormat::Text | TreeFormat::Html => write_text(alloc, out, level, element),
+        TreeFormat::Json => tree_json::write_element(alloc, out, level, element),
+        TreeFormat::Sexp => write_sexp(alloc, out, element),
     }
 }
 
@@ -193,7 +193,7 @@ fn write_node<W: Write>(
         }
     }
     match drawing {
-        Drawing::Sexp => writeln!(out),
+        TreeFormat::Sexp => writeln!(out),
         _ => Ok(()),
     }
 }
@@ -210,7 +210,7 @@ fn write_part<W: Write>(
             write_element(alloc, out, showing.drawing, 0, part)?;
             write_behind(out, showing.drawing, 0, part)?;
             match showing.drawing {
-                Drawing::Sexp => writeln!(out),
+                TreeFormat::Sexp => writeln!(out),
                 _ => Ok(()),
             }
         }
@@ -254,9 +254,9 @@ fn write_stats<W: Write>(
     alloc: Global,
     out: &mut W,
     stats: &Stats<'_>,
-    drawing: Drawing,
+    drawing: TreeFormat,
 ) -> io::Result<()> {
-    if matches!(drawing, Drawing::Json) {
+    if matches!(drawing, TreeFormat::Json) {
         return json::write_line(alloc, out, stats);
     }
     write_count(out, stats.bytes, "byte", "bytes", ", ")?;
@@ -350,14 +350,14 @@ fn write_drawing<W: Write>(
     showing: &Showing,
 ) -> io::Result<()> {
     match showing.drawing {
-        Drawing::Html => page::show(alloc, out, path, &node_of(root, part), errors, showing),
-        Drawing::Json => {
+        TreeFormat::Html => page::show(alloc, out, path, &node_of(root, part), errors, showing),
+        TreeFormat::Json => {
             tree_json::write_file(alloc, out, path, errors)?;
             write_part(alloc, out, part, showing)?;
             writeln!(out, "}}")
         }
-        Drawing::Sexp => write_part(alloc, out, part, showing),
-        Drawing::Text => {
+        TreeFormat::Sexp => write_part(alloc, out, part, showing),
+        TreeFormat::Text => {
             write_part(alloc, out, part, showing)?;
             match showing.part {
                 Part::Whole => write_errors(out, errors),

@@ -19,8 +19,8 @@ use Rattle.rust_lexer.specs.declared.problem.Problem.{Problem}
 use Rattle.rust_lexer.specs.declared.lexer.LexError.{LexError}
 use Rattle.rust_lexer.specs.Lexing.{tokens_of, errors_of}
 use Rattle.rust_lexer.specs.Single.{single_token_of}
-use Rattle.rust_words.specs.Keywords.{keyword_of}
-use Rattle.rust_words.specs.Strict.{is_strict_kind_of}
+use Rattle.rust_kinds.specs.Keywords.{keyword_of}
+use Rattle.rust_kinds.specs.Strict.{is_strict_kind_of}
 use Rattle.event_layout.specs.Layout.{Laying, laid_of, outermost_of}
 use Rattle.rust_front.specs.Pieces.{chosen_of, rule_by_number}
 use Rattle.rust_front.specs.Roots.{attaching_kinds, entry_rule_of, root_kind_of}

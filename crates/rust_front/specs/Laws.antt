@@ -12,7 +12,7 @@ use Rattle.ras_front_end.specs.declared.edition.Edition.{Edition}
 use Rattle.ras_front_end.specs.declared.edition.Entry.{Entry}
 use Rattle.ras_front_end.specs.declared.edition.Entry.TheVariants.{SourceFile, Expr}
 use Rattle.ras_front_end.specs.declared.edition.Reparser.{Reparser}
-use Rattle.ras_front_end.specs.Fault.{LiesIn}
+use Rattle.ras_front_end.specs.ErrorModel.{LiesIn}
 use Rattle.ras_front_end.specs.Front.{FrontEndKeeps}
 use Rattle.ras_front_end.specs.Keeps.{Keeps, IsRootOf}
 use Rattle.ras_front_end.specs.Reading.{Reading}

@@ -2,9 +2,9 @@
 use Rattle.std.specs.Prelude.{ℕ, ◌-◌, Bool, nat_lt, nat_le, ◌==◌, ◌&&◌, ◌||◌, if◌then◌else◌, Option, Some, None, List, [], ◌∷◌, ◌++◌, length, take, drop, codes, chars, flat_map, encode_utf8, slice_index}
 use Rattle.syntax_kind.specs.declared.syntax_kind.SyntaxKind.{SyntaxKind}
 use Rattle.syntax_kind.specs.Kinds.{is_trivia}
-use Rattle.ras_front_end.specs.Fault.{Fault as StoredFault}
+use Rattle.ras_front_end.specs.ErrorModel.{ErrorModel}
 use Rattle.token_layout.specs.declared.span.Token.{Token}
-use Rattle.event_layout.specs.declared.layout.Fault.{Fault}
+use Rattle.event_layout.specs.declared.layout.ParserError.{ParserError}
 use Rattle.rust_kinds.specs.Names.{rust_name}
 use Rattle.rust_grammar.specs.Messages.{message_of}
 use Rattle.rust_lexer.specs.declared.problem.Problem.{Problem}
@@ -34,7 +34,7 @@ parser_message_of number ts = filled (kind_name_of (next_kind_of ts)) (message_o
 abbrev pub last_of : List Token → ℕ → List Token
 last_of ts n = drop (length ts - n) ts
 
-abbrev pub say_of : List Token → Fault → List ℕ × ℕ
+abbrev pub say_of : List Token → ParserError → List ℕ × ℕ
 say_of ts f = (parser_message_of f.message (last_of ts f.left), f.position)
 
 -- a character begins at the position, or the text ends there
@@ -55,5 +55,5 @@ quoted_on first (b ∷ bs) token = first ++ (token ++ (b ∷ bs))
 abbrev pub lexer_message_of : Problem → List ℕ → List ℕ
 lexer_message_of p token = quoted_on (message_front_of p) (message_back_of p) token
 
-abbrev pub lexer_error_of : List ℕ → LexError → StoredFault
+abbrev pub lexer_error_of : List ℕ → LexError → ErrorModel
 lexer_error_of text e = record { message = lexer_message_of e.problem (back_of e.range.start (front_of e.range.end text)); range = e.range }

@@ -5,7 +5,7 @@ ghost use Rattle.token_layout.specs.Report.{report_by};
 ghost use Rattle.rust_front.specs.Messages.{last_of, say_of};
 
 use crate::message::parser_message;
-use event_layout::Fault;
+use event_layout::ParserError;
 use ras_front_end::Step;
 use std::alloc::{AllocError, Global};
 use token_layout::Token;
@@ -17,7 +17,7 @@ fn last(tokens: &[Token], count: usize) -> &[Token]
     &tokens[tokens.len().saturating_sub(count)..]
 }
 
-fn report(alloc: Global, tokens: &[Token], fault: Fault) -> Result<Step, AllocError>
+fn report(alloc: Global, tokens: &[Token], fault: ParserError) -> Result<Step, AllocError>
     ensures { IfOk result (λ s. front_step s ≡ report_by (say_of tokens.now) fault) }
 {
     let message = parser_message(alloc, fault.message, last(tokens, fault.left))?;
@@ -38,7 +38,7 @@ pub fn reported(
     alloc: Global,
     tokens: &[Token],
     mut steps: Vec<Step>,
-    faults: &[Fault],
+    faults: &[ParserError],
 ) -> Result<Vec<Step>, AllocError>
     ensures { IfOk result (λ v. front_steps v.items
         ≡ front_steps steps.items ++ map (report_by (say_of tokens.now)) faults.now) }

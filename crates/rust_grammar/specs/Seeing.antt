@@ -6,7 +6,7 @@ use Rattle.syntax_kind.specs.declared.syntax_kind.SyntaxKind.{SyntaxKind}
 use Rattle.syntax_kind.specs.Kinds.{kind_raw}
 use Rattle.ras_front_end.specs.declared.edition.Edition.{Edition}
 use Rattle.token_layout.specs.declared.span.Token.{Token}
-use Rattle.rust_words.specs.Contextual.{contextual_keyword_of}
+use Rattle.rust_kinds.specs.Contextual.{contextual_keyword_of}
 use Rattle.grammar_machine.specs.declared.grammar.Sight.{Sight}
 use Rattle.rust_grammar.specs.declared.tables.kind_table.TheConstants.{TOKENS, OTHERS, WORD_TOKENS, WORD_OTHERS, IDENT, FLOAT_NUMBER, FLOAT_PAIR, FLOAT_DOT}
 use Rattle.rust_grammar.specs.declared.tables.joint_table.TheConstants.{FIRST_SIGN, SIGNS, JOINTS}

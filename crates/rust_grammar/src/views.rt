@@ -3,7 +3,7 @@ ghost use Rattle.std.specs.Prelude.{◌≡◌, ◌≤◌, ◌++◌, ◌==◌, On
 ghost use Rattle.std.specs.List.{list_any};
 ghost use Rattle.token_layout.specs.Laid.{IsCut};
 ghost use Rattle.rust_grammar.specs.Seeing.{byte_or_0, in_tables, number_of, number_on, joined_of, is_dot, first_of, shape_of, word_on, finer_of, seen_of, sights_of};
-ghost use Rattle.rust_words.specs.Contextual.{contextual_keyword_of};
+ghost use Rattle.rust_kinds.specs.Contextual.{contextual_keyword_of};
 
 use crate::tables::joint_table::{FIRST_SIGN, JOINTS, SIGNS};
 use crate::tables::kind_table::{
@@ -11,7 +11,7 @@ use crate::tables::kind_table::{
 };
 use grammar_machine::Sight;
 use ras_front_end::Edition;
-use rust_words::contextual_keyword;
+use rust_kinds::contextual_keyword;
 use std::alloc::{AllocError, Global};
 use syntax_kind::SyntaxKind;
 use token_layout::Token;

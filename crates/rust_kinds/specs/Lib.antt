@@ -1,1 +1,4 @@
 pub mod Names
+pub mod Keywords
+pub mod Contextual
+pub mod Strict

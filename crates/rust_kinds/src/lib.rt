@@ -1,15 +1,22 @@
 //! The kinds of Rust's tokens and nodes for which `SyntaxKind` has no constant, as kinds
-//! `SyntaxKind::OTHER(n)` with fixed numbers.
+//! `SyntaxKind::OTHER(n)` with fixed numbers, and the words that are keywords: everywhere in an
+//! edition, or only where the grammar asks for them.
 #![tactic(auto)]
 
 ghost use Rattle.std.specs.Prelude.{◌≡◌, ◌↔◌, [], MatchOption, IfSome, Some};
 ghost use Rattle.syntax_kind.specs.Kinds.{IsKind};
 ghost use Rattle.rust_kinds.specs.Names.{rust_name, IsNamed};
 
+mod contextual;
+mod keywords;
 pub mod kinds;
 mod names;
+mod strict;
 
+pub use contextual::{contextual_keyword, contextual_kind};
+pub use keywords::keyword;
 use names::{other_name, other_number};
+pub use strict::is_strict_keyword;
 use syntax_kind::SyntaxKind;
 
 /// The name of a kind: the kind's own, and that of this crate's table for a kind `OTHER(n)` that

@@ -95,7 +95,7 @@ good_taken text t s l k h =
       split = split_push s.tokens x h.done f h.split n (front-utf8 t.left s.rest h.is_text);
       is_text = back-utf8 t.left s.rest h.is_text;
       none_empty = All-append HasBytes s.tokens (x ∷ []) h.none_empty (All-cons HasBytes x [] some (All-nil HasBytes));
-      lie = faults_lie r (length text) (problems_of s.tokens text s.rest t.fault) s.errors ordered within h.lie;
+      lie = faults_lie r (length text) (problems_of s.tokens text s.rest t.check) s.errors ordered within h.lie;
     }
 
 nonzero : (n : ℕ) → (n == 0) ≡ false → 0 < n

@@ -10,8 +10,8 @@ use Rattle.rust_lexer.specs.declared.lexer.Lexed.{Lexed}
 use Rattle.rust_lexer.specs.declared.lexer.LexError.{LexError}
 use Rattle.rust_lexer.specs.declared.problem.Problem.{Problem}
 use Rattle.rust_lexer.specs.declared.problem.Problem.TheVariants.{UnknownPrefix, UnknownPrefixBehindString}
-use Rattle.rust_lexer.specs.declared.shape.Fault.{Fault}
-use Rattle.rust_lexer.specs.declared.shape.Fault.TheVariants.{No, Is, Prefix, Content}
+use Rattle.rust_lexer.specs.declared.shape.Check.{Check}
+use Rattle.rust_lexer.specs.declared.shape.Check.TheVariants.{No, Is, Prefix, Content}
 use Rattle.rust_lexer.specs.declared.shape.Shape.{Shape}
 use Rattle.rust_lexer.specs.Contents.{content_problems}
 use Rattle.rust_lexer.specs.Cuts.{front_of, back_of}
@@ -46,7 +46,7 @@ abbrev pub prefix_problem_of : List Token → List ℕ → ℕ → Problem
 prefix_problem_of ts text n = if is_behind_code_of 5 (reverse ts) (front_of n text) then UnknownPrefixBehindString else UnknownPrefix
 
 -- what is wrong with a token at the front of s
-abbrev pub problems_of : List Token → List ℕ → List ℕ → Fault → List Problem
+abbrev pub problems_of : List Token → List ℕ → List ℕ → Check → List Problem
 problems_of ts text s No = []
 problems_of ts text s (Is p) = p ∷ []
 problems_of ts text s Prefix = prefix_problem_of ts text (length s) ∷ []
@@ -65,7 +65,7 @@ lexing_of l r = record { tokens = l.tokens.items; errors = l.errors.items; rest 
 abbrev pub taken : List ℕ → Shape → Lexing → Lexing
 taken text t s = record {
   tokens = s.tokens ++ (record { kind = t.kind; len = size_of (length (front_of t.left s.rest)) }) ∷ [];
-  errors = faults_at (range_of (length text) (length s.rest) (length (back_of t.left s.rest))) (problems_of s.tokens text s.rest t.fault) s.errors;
+  errors = faults_at (range_of (length text) (length s.rest) (length (back_of t.left s.rest))) (problems_of s.tokens text s.rest t.check) s.errors;
   rest = back_of t.left s.rest;
 }
 

@@ -6,12 +6,12 @@ use Rattle.syntax_kind.specs.declared.syntax_kind.SyntaxKind.{SyntaxKind}
 use Rattle.syntax_kind.specs.declared.syntax_kind.SyntaxKind.TheVariants.{Token}
 use Rattle.syntax_kind.specs.declared.syntax_kind.token_kind.TokenKind.TheVariants as token
 use Rattle.ras_front_end.specs.declared.edition.Edition.{Edition}
-use Rattle.rust_words.specs.Keywords.{keyword_of}
+use Rattle.rust_kinds.specs.Keywords.{keyword_of}
 use Rattle.rust_lexer.specs.declared.class.Class.TheVariants as classes
 use Rattle.rust_lexer.specs.declared.class.Wide.TheVariants as wides
 use Rattle.rust_lexer.specs.declared.problem.Problem.TheVariants.{InvalidIdent}
 use Rattle.rust_lexer.specs.declared.shape.Shape.{Shape}
-use Rattle.rust_lexer.specs.declared.shape.Fault.TheVariants.{Prefix}
+use Rattle.rust_lexer.specs.declared.shape.Check.TheVariants.{Prefix}
 use Rattle.rust_lexer.specs.Classes.{test_on, begins_beyond_of, is_letter_of, is_name_start_of, is_emoji_of, skip_of, skip_wide_of}
 use Rattle.rust_lexer.specs.Cuts.{front_of}
 use Rattle.rust_lexer.specs.Shapes.{plain_of, with_of}
@@ -49,7 +49,7 @@ word_kind_of e w = if bytes_eq w (codes "_") then Token token.UNDERSCORE else wo
 -- a name right before a literal is reserved, as its prefix; `builtin` is so before the `#` of a
 -- built-in macro
 abbrev pub prefix_of : List ℕ → ℕ → Shape
-prefix_of w n = if bytes_eq w (codes "builtin") then plain_of (Token token.IDENT) n else record { kind = Token token.IDENT; left = n; fault = Prefix }
+prefix_of w n = if bytes_eq w (codes "builtin") then plain_of (Token token.IDENT) n else record { kind = Token token.IDENT; left = n; check = Prefix }
 
 abbrev pub is_literal_mark_of : List ℕ → Bool
 is_literal_mark_of s = test_on (λ b. b == 35 || b == 34 || b == 39) (slice_get s 0)

@@ -7,8 +7,8 @@ use Rattle.syntax_kind.specs.declared.syntax_kind.token_kind.TokenKind.TheVarian
 use Rattle.rust_lexer.specs.declared.class.Class.{Class}
 use Rattle.rust_lexer.specs.declared.class.Class.TheVariants.{Decimal, Hexadecimal, Underscore}
 use Rattle.rust_lexer.specs.declared.problem.Problem.TheVariants.{NoDigits, NoExponentDigits}
-use Rattle.rust_lexer.specs.declared.shape.Fault.{Fault}
-use Rattle.rust_lexer.specs.declared.shape.Fault.TheVariants.{No, Is}
+use Rattle.rust_lexer.specs.declared.shape.Check.{Check}
+use Rattle.rust_lexer.specs.declared.shape.Check.TheVariants.{No, Is}
 use Rattle.rust_lexer.specs.declared.shape.Shape.{Shape}
 use Rattle.rust_lexer.specs.Classes.{is_in_of, is_digit_of, test_on}
 use Rattle.rust_lexer.specs.Names.{skip_suffix_of}
@@ -46,7 +46,7 @@ pub data BareExponent : List ℕ → Type 0 where
   none : (e : ℕ) (sign us : List ℕ) → (e ≡ 101) ⊎ (e ≡ 69) → IsSign sign → AreIn Underscore us → BareExponent (e ∷ (sign ++ us))
 
 -- the text of a number without its suffix, by its kind and what is wrong with it
-pub data Number : SyntaxKind → Fault → List ℕ → Type 0 where
+pub data Number : SyntaxKind → Check → List ℕ → Type 0 where
   whole : (w : List ℕ) → Whole w → Number (Token token.INT_NUMBER) No w
   no_digits : (letter : ℕ) (c : Class) (us : List ℕ) → IsBase letter c → AreIn Underscore us → Number (Token token.INT_NUMBER) (Is NoDigits) (48 ∷ letter ∷ us)
   point : (w : List ℕ) → Whole w → Number (Token token.FLOAT_NUMBER) No (w ++ 46 ∷ [])
@@ -60,7 +60,7 @@ pub record NumberRead (text : List ℕ) (x : Shape) : Type 0 where
   pub number : List ℕ
   pub behind : List ℕ
   pub parts : text ≡ number ++ behind
-  pub is_number : Number x.kind x.fault number
+  pub is_number : Number x.kind x.check number
   pub longest : test_on (is_in_of Decimal) (slice_get behind 0) ≡ false
   pub suffix : x.left ≡ length (skip_suffix_of behind)
 

@@ -11,7 +11,7 @@ use Rattle.rust_lexer.specs.declared.problem.Problem.TheVariants as problems
 use Rattle.rust_lexer.specs.declared.scan.Scan.{Scan}
 use Rattle.rust_lexer.specs.declared.scan.Scan.TheVariants as scans
 use Rattle.rust_lexer.specs.declared.shape.Shape.{Shape}
-use Rattle.rust_lexer.specs.declared.shape.Fault.TheVariants.{Content}
+use Rattle.rust_lexer.specs.declared.shape.Check.TheVariants.{Content}
 use Rattle.rust_lexer.specs.Classes.{begins_of, begins_digit_of, after_char_of}
 use Rattle.rust_lexer.specs.Names.{begins_name_of, skip_name_of, skip_suffix_of}
 use Rattle.rust_lexer.specs.Scans.{run_of}
@@ -45,7 +45,7 @@ one_more n = min (n + 1) (2 ^ 64 - 1)
 
 -- a literal whose closing quote precedes s; a suffix may follow
 abbrev pub closed_of : Mode → List ℕ → Shape
-closed_of m s = record { kind = kind_of m; left = length (skip_suffix_of s); fault = Content m (opening_of m) (one_more (length s)) }
+closed_of m s = record { kind = kind_of m; left = length (skip_suffix_of s); check = Content m (opening_of m) (one_more (length s)) }
 
 abbrev pub open_of : Mode → ℕ → Shape
 open_of m n = with_of (kind_of m) n (unterminated_of m)
@@ -75,7 +75,7 @@ character_of m s = if is_mark_of s then closed_of m (drop 2 s) else character_on
 abbrev pub lifetime_of : List ℕ → Shape
 lifetime_of s =
     let r = skip_name_of s in
-    if begins_of 39 r then record { kind = Token token.CHAR; left = length (drop 1 r); fault = Content modes.Char 1 (length r) }
+    if begins_of 39 r then record { kind = Token token.CHAR; left = length (drop 1 r); check = Content modes.Char 1 (length r) }
     else (if begins_digit_of s then with_of (Token token.LIFETIME_IDENT) (length r) problems.NumberedLifetime
     else (if begins_of 35 r then with_of (Token token.LIFETIME_IDENT) (length r) problems.LifetimePrefix
     else plain_of (Token token.LIFETIME_IDENT) (length r)))

@@ -8,8 +8,8 @@ use Rattle.literal_escape.specs.Reading.{reports_in}
 use Rattle.ras_front_end.specs.declared.edition.Edition.{Edition}
 use Rattle.rust_lexer.specs.declared.problem.Problem.{Problem}
 use Rattle.rust_lexer.specs.declared.problem.Problem.TheVariants.{UnknownPrefix}
-use Rattle.rust_lexer.specs.declared.shape.Fault.{Fault}
-use Rattle.rust_lexer.specs.declared.shape.Fault.TheVariants.{No, Is, Prefix, Content}
+use Rattle.rust_lexer.specs.declared.shape.Check.{Check}
+use Rattle.rust_lexer.specs.declared.shape.Check.TheVariants.{No, Is, Prefix, Content}
 use Rattle.rust_lexer.specs.Contents.{is_plain_of, is_unit_of, result_problem_of, unit_problem_of}
 use Rattle.rust_lexer.specs.Lexing.{content_of}
 use Rattle.rust_lexer.specs.Tokens.{token_of}
@@ -30,7 +30,7 @@ last_content_problem m s =
     else (if is_unit_of m then unit_problem_of m s
     else last_from m None (reports_in m (chars s)))
 
-abbrev pub last_problem_of : List ℕ → Fault → Option Problem
+abbrev pub last_problem_of : List ℕ → Check → Option Problem
 last_problem_of s No = None
 last_problem_of s (Is p) = Some p
 last_problem_of s Prefix = Some UnknownPrefix
@@ -40,5 +40,5 @@ last_problem_of s (Content m before behind) = last_content_problem m (content_of
 abbrev pub single_token_of : Edition → List ℕ → Option (SyntaxKind × Option Problem)
 single_token_of e s =
     if length s == 0 then None
-    else (if (token_of e s).left == 0 then Some ((token_of e s).kind, last_problem_of s (token_of e s).fault)
+    else (if (token_of e s).left == 0 then Some ((token_of e s).kind, last_problem_of s (token_of e s).check)
     else None)

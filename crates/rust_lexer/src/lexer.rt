@@ -15,7 +15,7 @@ use crate::escape::{is_plain, is_unit, result_problem, unit_problem};
 use crate::front_matter::{Prelude, head};
 use crate::history::is_behind_code;
 use crate::problem::Problem;
-use crate::shape::{Fault, Shape};
+use crate::shape::{Check, Shape};
 use crate::shebang::shebang;
 use crate::token::{plain_token, token};
 use literal_escape::{Mode, Units};
@@ -129,26 +129,26 @@ fn prefix_problem(tokens: &[Token], text: &str, rest: &str) -> Problem
     }
 }
 
-fn report_fault(
+fn report_check(
     lexed: &mut Lexed,
-    fault: Fault,
+    check: Check,
     text: &str,
     rest: &str,
     range: TextRange,
 ) -> Result<(), AllocError>
     ensures tokens { OnOk result (lexed.new.tokens ≡ lexed.old.tokens) }
     ensures errors { OnOk result (lexed.new.errors.items
-        ≡ faults_at range (problems_of lexed.old.tokens.items text.now rest.now fault)
+        ≡ faults_at range (problems_of lexed.old.tokens.items text.now rest.now check)
         lexed.old.errors.items) }
 {
-    match fault {
-        Fault::No => Ok(()),
-        Fault::Is(problem) => report(&mut lexed.errors, Some(problem), range),
-        Fault::Prefix => {
+    match check {
+        Check::No => Ok(()),
+        Check::Is(problem) => report(&mut lexed.errors, Some(problem), range),
+        Check::Prefix => {
             let problem = prefix_problem(&lexed.tokens, text, rest);
             report(&mut lexed.errors, Some(problem), range)
         }
-        Fault::Content(mode, before, behind) => {
+        Check::Content(mode, before, behind) => {
             let content = content(rest, before, behind);
             report_content(&mut lexed.errors, mode, content, range)
         }
@@ -167,7 +167,7 @@ fn take<'a>(
 {
     let (front, tail) = split(rest, shape.left);
     let range = range(text, rest, tail);
-    report_fault(lexed, shape.fault, text, rest, range)?;
+    report_check(lexed, shape.check, text, rest, range)?;
     lexed.tokens.push(Token {
         kind: shape.kind,
         len: size(front.len()),

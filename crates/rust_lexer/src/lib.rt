@@ -27,5 +27,5 @@ mod token;
 
 pub use lexer::{LexError, Lexed, lex};
 pub use problem::Problem;
-pub use rust_words::{contextual_keyword, contextual_kind, is_strict_keyword, keyword};
+pub use rust_kinds::{contextual_keyword, contextual_kind, is_strict_keyword, keyword};
 pub use single::single_token;

@@ -8,10 +8,10 @@ use crate::class::{
 };
 use crate::cut::split;
 use crate::problem::Problem;
-use crate::shape::{Fault, Shape};
+use crate::shape::{Check, Shape};
 use bstr::decode_utf8;
 use ras_front_end::Edition;
-use rust_words::keyword;
+use rust_kinds::keyword;
 use syntax_kind::SyntaxKind;
 
 fn begins_wide_name(bytes: &[u8]) -> bool
@@ -108,7 +108,7 @@ fn prefix(word: &str, left: usize) -> Shape
         Shape {
             kind: SyntaxKind::IDENT,
             left,
-            fault: Fault::Prefix,
+            check: Check::Prefix,
         }
     }
 }

@@ -6,7 +6,7 @@ use crate::class::{after, after_char, begins, begins_digit};
 use crate::name::{begins_name, skip_name, skip_suffix};
 use crate::problem::Problem;
 use crate::scan::{Scan, run};
-use crate::shape::{Fault, Shape};
+use crate::shape::{Check, Shape};
 use literal_escape::Mode;
 use syntax_kind::SyntaxKind;
 
@@ -54,7 +54,7 @@ fn closed(mode: Mode, rest: &[u8]) -> Shape
     Shape {
         kind: kind(mode),
         left: skip_suffix(rest).len(),
-        fault: Fault::Content(mode, opening(mode), rest.len().saturating_add(1)),
+        check: Check::Content(mode, opening(mode), rest.len().saturating_add(1)),
     }
 }
 
@@ -107,7 +107,7 @@ fn lifetime(rest: &[u8]) -> Shape
         Shape {
             kind: SyntaxKind::CHAR,
             left: after(tail, 1).len(),
-            fault: Fault::Content(Mode::Char, 1, tail.len()),
+            check: Check::Content(Mode::Char, 1, tail.len()),
         }
     } else if begins_digit(rest) {
         Shape::with(

@@ -6,9 +6,9 @@ use crate::problem::Problem;
 use literal_escape::Mode;
 use syntax_kind::SyntaxKind;
 
-/// What may be wrong with a token.
+/// What is wrong with a token, or has to be looked at to know it.
 #[derive(Clone, Copy)]
-pub enum Fault {
+pub enum Check {
     /// No problem.
     No,
     /// This problem.
@@ -28,7 +28,7 @@ pub struct Shape {
     /// The number of bytes of the text after it.
     pub left: usize,
     /// What may be wrong with it.
-    pub fault: Fault,
+    pub check: Check,
 }
 
 impl Shape {
@@ -40,7 +40,7 @@ impl Shape {
         Shape {
             kind,
             left,
-            fault: Fault::No,
+            check: Check::No,
         }
     }
 
@@ -51,7 +51,7 @@ impl Shape {
         Shape {
             kind,
             left,
-            fault: Fault::Is(problem),
+            check: Check::Is(problem),
         }
     }
 }

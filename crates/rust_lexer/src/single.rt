@@ -7,7 +7,7 @@ ghost use Rattle.rust_lexer.specs.Single.{later_of, last_from, last_content_prob
 use crate::escape::{is_plain, is_unit, result_problem, unit_problem};
 use crate::lexer::content;
 use crate::problem::Problem;
-use crate::shape::Fault;
+use crate::shape::Check;
 use crate::token::token;
 use literal_escape::{Mode, Units};
 use ras_front_end::Edition;
@@ -46,14 +46,14 @@ fn last_content(mode: Mode, content: &str) -> Option<Problem>
     }
 }
 
-fn last_problem(text: &str, fault: Fault) -> Option<Problem>
-    ensures { result ≡ last_problem_of text.now fault }
+fn last_problem(text: &str, check: Check) -> Option<Problem>
+    ensures { result ≡ last_problem_of text.now check }
 {
-    match fault {
-        Fault::No => None,
-        Fault::Is(problem) => Some(problem),
-        Fault::Prefix => Some(Problem::UnknownPrefix),
-        Fault::Content(mode, before, behind) => {
+    match check {
+        Check::No => None,
+        Check::Is(problem) => Some(problem),
+        Check::Prefix => Some(Problem::UnknownPrefix),
+        Check::Content(mode, before, behind) => {
             let content = content(text, before, behind);
             last_content(mode, content)
         }
@@ -73,7 +73,7 @@ pub fn single_token(text: &str, edition: Edition) -> Option<(SyntaxKind, Option<
     }
     let shape = token(text, edition);
     if shape.left == 0 {
-        Some((shape.kind, last_problem(text, shape.fault)))
+        Some((shape.kind, last_problem(text, shape.check)))
     } else {
         None
     }

@@ -6,19 +6,19 @@ use Rattle.text_size.specs.TextRange.{Bounds}
 use Rattle.tree_model.specs.Cursor.{Cursor}
 use Rattle.rust_report.specs.Steps.{Element}
 use Rattle.rust_parens.specs.Pairs.{parens_of}
-use Rattle.rust_parens.specs.Texts.{mark_two, marked, grow_at, blank, put, with_element, text_from}
+use Rattle.rust_parens.specs.Texts.{mark_pair, marked, would_join_at, gap_of, push_token, with_element, text_from}
 
 pub marked_append : (marks : List Bool) (ps qs : List Cursor) → marked marks (ps ++ qs) ≡ marked (marked marks ps) qs
 marked_append marks [] qs = refl
-marked_append marks (p ∷ ps) qs = marked_append (mark_two (parens_of p) marks) ps qs
+marked_append marks (p ∷ ps) qs = marked_append (mark_pair (parens_of p) marks) ps qs
 
-length_two : (two : Option (Bounds × Bounds)) (marks : List Bool) → length (mark_two two marks) ≡ length marks
+length_two : (two : Option (Bounds × Bounds)) (marks : List Bool) → length (mark_pair two marks) ≡ length marks
 length_two None marks = refl
 length_two (Some two) marks = length-set (set marks two.0.start true) two.1.start true ∙ length-set marks two.0.start true
 
 length_marked : (marks : List Bool) (ps : List Cursor) → length (marked marks ps) ≡ length marks
 length_marked marks [] = refl
-length_marked marks (p ∷ ps) = length_marked (mark_two (parens_of p) marks) ps ∙ length_two (parens_of p) marks
+length_marked marks (p ∷ ps) = length_marked (mark_pair (parens_of p) marks) ps ∙ length_two (parens_of p) marks
 
 -- pairs marked one after the other, in a part of memory
 pub both_marked : (marks rest : List Bool) (n : ℕ) (ps qs : List Cursor) → length marks ≡ n → take n (marked (marked marks ps) qs ++ rest) ≡ marked marks (ps ++ qs)
@@ -31,8 +31,8 @@ append_three : {A : Type 0} (l m n : List A) → (l ++ m) ++ n ≡ l ++ (m ++ n)
 append_three [] m n = refl
 append_three (x ∷ l) m n = ap (λ k. x ∷ k) (append_three l m n)
 
-pub put_both : (gap : Bool) (s t : List ℕ) → (s ++ blank (gap && grow_at (slice_get s (length s - 1)) (slice_get t 0))) ++ t ≡ put gap s t
-put_both gap s t = append_three s (blank (gap && grow_at (slice_get s (length s - 1)) (slice_get t 0))) t
+pub push_token_both : (gap : Bool) (s t : List ℕ) → (s ++ gap_of (gap && would_join_at (slice_get s (length s - 1)) (slice_get t 0))) ++ t ≡ push_token gap s t
+push_token_both gap s t = append_three s (gap_of (gap && would_join_at (slice_get s (length s - 1)) (slice_get t 0))) t
 
 -- ---- the walk of a tree
 

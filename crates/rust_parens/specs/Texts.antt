@@ -12,14 +12,14 @@ use Rattle.rust_parens.specs.Pairs.{parens_of}
 -- ---- the marks of pairs
 
 -- the two parentheses, where there are two, are marked at their first bytes
-abbrev pub mark_two : Option (Bounds × Bounds) → List Bool → List Bool
-mark_two None marks = marks
-mark_two (Some two) marks = set (set marks two.0.start true) two.1.start true
+abbrev pub mark_pair : Option (Bounds × Bounds) → List Bool → List Bool
+mark_pair None marks = marks
+mark_pair (Some two) marks = set (set marks two.0.start true) two.1.start true
 
 -- further pairs are marked
 abbrev pub marked : List Bool → List Cursor → List Bool
 marked marks [] = marks
-marked marks (p ∷ ps) = marked (mark_two (parens_of p) marks) ps
+marked marks (p ∷ ps) = marked (mark_pair (parens_of p) marks) ps
 
 -- the marks of some pairs of a text of n bytes
 abbrev pub marks_of : ℕ → List Cursor → List Bool
@@ -43,29 +43,29 @@ abbrev pub takes_equals : ℕ → Bool
 takes_equals a =
     a == 61 || (a == 33 || (a == 60 || (a == 62 || (a == 43 || (a == 45 || (a == 42 || (a == 47 || (a == 37 || (a == 94 || (a == 38 || a == 124))))))))))
 
--- what ends with byte a and what begins with byte b would grow together
-abbrev pub grow : ℕ → ℕ → Bool
-grow a b = (is_word a && is_taken b) || (is_sign a b || (b == 61 && takes_equals a))
+-- what ends with byte a and what begins with byte b would be joined
+abbrev pub would_join : ℕ → ℕ → Bool
+would_join a b = (is_word a && is_taken b) || (is_sign a b || (b == 61 && takes_equals a))
 
-abbrev pub grow_at : Option ℕ → Option ℕ → Bool
-grow_at None b = false
-grow_at (Some a) None = false
-grow_at (Some a) (Some b) = grow a b
+abbrev pub would_join_at : Option ℕ → Option ℕ → Bool
+would_join_at None b = false
+would_join_at (Some a) None = false
+would_join_at (Some a) (Some b) = would_join a b
 
-abbrev pub blank : Bool → List ℕ
-blank true = 32 ∷ []
-blank false = []
+abbrev pub gap_of : Bool → List ℕ
+gap_of true = 32 ∷ []
+gap_of false = []
 
 -- a token after a text; where something was left out between, a blank keeps them apart if they
--- would grow together
-abbrev pub put : Bool → List ℕ → List ℕ → List ℕ
-put gap s t = s ++ (blank (gap && grow_at (slice_get s (length s - 1)) (slice_get t 0)) ++ t)
+-- would be joined
+abbrev pub push_token : Bool → List ℕ → List ℕ → List ℕ
+push_token gap s t = s ++ (gap_of (gap && would_join_at (slice_get s (length s - 1)) (slice_get t 0)) ++ t)
 
 -- a node or token after a text: a node adds nothing, and a token that the marks leave out leaves a
 -- gap
 abbrev pub with_element : List Bool → List ℕ × Bool → Element → List ℕ × Bool
 with_element marks st (element.Node c) = st
-with_element marks st (element.Token c) = if is_left_out marks (element.Token c) then (st.0, true) else (put st.1 st.0 (text (focus c)), false)
+with_element marks st (element.Token c) = if is_left_out marks (element.Token c) then (st.0, true) else (push_token st.1 st.0 (text (focus c)), false)
 
 abbrev pub text_from : List Bool → List ℕ × Bool → List Element → List ℕ
 text_from marks st [] = st.0

@@ -4,10 +4,9 @@ ghost use Rattle.ras_node.specs.Nodes.{typed_child};
 ghost use Rattle.ras_node.specs.Sets.{is_pat};
 ghost use Rattle.rust_parens.specs.Patterns.{is_around, holder_of, holds_alternatives, holds_range, takes_alternatives, takes_range, is_shared, is_mut, begins_with_mut, is_held, pattern_may_go, is_range, holds_a_range};
 
-use crate::rustc::is_a;
 use lossless_tree::{SyntaxKind, SyntaxNode, SyntaxToken};
 use ras_node::sets::Pats;
-use ras_node::support;
+use ras_node::support::{self, is_of_kind, is_token_of_kind};
 
 // The first pattern among the children.
 fn first_pattern(node: &SyntaxNode) -> Option<SyntaxNode>
@@ -19,7 +18,7 @@ fn first_pattern(node: &SyntaxNode) -> Option<SyntaxNode>
 fn is_around(node: &SyntaxNode) -> bool
     ensures { result ≡ is_around node.now }
 {
-    !is_a(node, SyntaxKind::PAREN_PAT)
+    !is_of_kind(node, SyntaxKind::PAREN_PAT)
 }
 
 // The node around a pair and around the pairs that are directly around it.
@@ -95,7 +94,7 @@ fn is_shared(holder: Option<SyntaxNode>) -> bool
     match holder {
         None => false,
         Some(holder) => {
-            is_a(&holder, SyntaxKind::REF_PAT)
+            is_of_kind(&holder, SyntaxKind::REF_PAT)
                 && support::token(&holder, SyntaxKind::MUT_KW).is_none()
         }
     }
@@ -106,7 +105,7 @@ fn is_mut(token: Option<SyntaxToken>) -> bool
 {
     match token {
         None => false,
-        Some(token) => token.kind().to_raw() == SyntaxKind::MUT_KW.to_raw(),
+        Some(token) => is_token_of_kind(&token, SyntaxKind::MUT_KW),
     }
 }
 
@@ -121,8 +120,8 @@ fn begins_with_mut(inside: &SyntaxNode) -> bool
 fn is_held(inside: &SyntaxNode, pair: &SyntaxNode) -> bool
     ensures { result ≡ is_held inside.now pair.now }
 {
-    (is_a(inside, SyntaxKind::OR_PAT) && !takes_alternatives(holder_of(pair)))
-        || (is_a(inside, SyntaxKind::RANGE_PAT) && !takes_range(holder_of(pair)))
+    (is_of_kind(inside, SyntaxKind::OR_PAT) && !takes_alternatives(holder_of(pair)))
+        || (is_of_kind(inside, SyntaxKind::RANGE_PAT) && !takes_range(holder_of(pair)))
         || (begins_with_mut(inside) && is_shared(holder_of(pair)))
 }
 
@@ -132,7 +131,7 @@ fn is_held(inside: &SyntaxNode, pair: &SyntaxNode) -> bool
 pub(crate) fn pattern_may_go(pair: &SyntaxNode) -> bool
     ensures { result ≡ pattern_may_go pair.now }
 {
-    if !is_a(pair, SyntaxKind::PAREN_PAT) {
+    if !is_of_kind(pair, SyntaxKind::PAREN_PAT) {
         return false;
     }
     match first_pattern(pair) {
@@ -146,7 +145,7 @@ fn is_range(inside: Option<SyntaxNode>) -> bool
 {
     match inside {
         None => false,
-        Some(inside) => is_a(&inside, SyntaxKind::RANGE_PAT),
+        Some(inside) => is_of_kind(&inside, SyntaxKind::RANGE_PAT),
     }
 }
 

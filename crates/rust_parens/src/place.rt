@@ -3,9 +3,9 @@ ghost use Rattle.std.specs.Prelude.{◌≡◌};
 ghost use Rattle.rust_parens.specs.Places.{holds_value, holds_operand, is_assignment, is_shift, is_arithmetic, operator, is_behind, is_right_value, is_mixed, place_in, place_by_parent, place_around, place_of};
 
 use crate::patterns::holds_a_range;
-use crate::rustc::is_a;
 use lossless_tree::{SyntaxKind, SyntaxNode};
 use ras_node::sets::BinaryOperators;
+use ras_node::support::is_of_kind;
 use ras_prec_walks::parts::{first_expr, is_it};
 
 /// What a pair of parentheses is a part of, by the node around it.
@@ -188,7 +188,7 @@ fn place_by_parent(pair: &SyntaxNode) -> PairPlace
 pub fn place_of(pair: &SyntaxNode) -> PairPlace
     ensures { result ≡ place_of pair.now }
 {
-    if is_a(pair, SyntaxKind::PAREN_PAT) {
+    if is_of_kind(pair, SyntaxKind::PAREN_PAT) {
         place_around(holds_a_range(pair))
     } else {
         place_by_parent(pair)

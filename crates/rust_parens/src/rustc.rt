@@ -1,27 +1,19 @@
 //! Pairs that rustc needs, although rust-analyzer's parser reads the same tree without them.
 ghost use Rattle.std.specs.Prelude.{◌≡◌};
 ghost use Rattle.tree_model.specs.Cursor.{ancestors_of};
-ghost use Rattle.ras_node.specs.Nodes.{is_of_kind};
 ghost use Rattle.rust_parens.specs.Rustc.{holds_statement, is_in_statement, is_statement_macro, is_full_range, is_block, is_without_block, token_after, is_pair_at, is_end, is_open_closure, is_else, is_lazy_token, is_lazy, is_closing_brace, is_plain_value, is_before_else, token_before, is_with_block, is_plain_start, is_plain_block, is_statement, is_expression_statement, is_macro_statement, is_item, is_ended, is_ended_at, body_of, ends_statement, is_open_brace, is_after_brace, begins_with_word, is_word_token, is_before_word, is_before_label, is_read_otherwise, is_needed_by_rustc};
 
 use crate::text::is_word;
 use lossless_tree::{NodeOrToken, SyntaxKind, SyntaxNode, SyntaxToken};
 use ras_algo::algo::{next_non_trivia_token, previous_non_trivia_token};
 use ras_node::sets::BinaryOperators;
-use ras_node::support::share;
+use ras_node::support::{is_of_kind, is_token_of_kind, share};
 use ras_prec_walks::parts::first_expr;
-
-/// Whether a node is of a kind.
-pub(crate) fn is_a(node: &SyntaxNode, kind: SyntaxKind) -> bool
-    ensures { result ≡ is_of_kind kind node.now }
-{
-    node.kind().to_raw() == kind.to_raw()
-}
 
 fn holds_statement(node: &SyntaxNode) -> bool
     ensures { result ≡ holds_statement node.now }
 {
-    is_a(node, SyntaxKind::EXPR_STMT) || is_a(node, SyntaxKind::STMT_LIST)
+    is_of_kind(node, SyntaxKind::EXPR_STMT) || is_of_kind(node, SyntaxKind::STMT_LIST)
 }
 
 // Whether a pair, or the outermost of those directly around it, is a statement or ends a block.
@@ -30,7 +22,7 @@ fn is_in_statement(pair: &SyntaxNode) -> bool
 {
     let mut around = pair.ancestors();
     while let Some(node) = around.next() {
-        if !is_a(&node, SyntaxKind::PAREN_EXPR) {
+        if !is_of_kind(&node, SyntaxKind::PAREN_EXPR) {
             return holds_statement(&node);
         }
     }
@@ -42,14 +34,14 @@ fn is_in_statement(pair: &SyntaxNode) -> bool
 fn is_statement_macro(inside: &SyntaxNode, pair: &SyntaxNode) -> bool
     ensures { result ≡ is_statement_macro inside.now pair.now }
 {
-    is_a(inside, SyntaxKind::MACRO_EXPR) && is_in_statement(pair)
+    is_of_kind(inside, SyntaxKind::MACRO_EXPR) && is_in_statement(pair)
 }
 
 // `(..) = t` is a range, and `.. = t` leaves out what it does not name.
 fn is_full_range(inside: &SyntaxNode) -> bool
     ensures { result ≡ is_full_range inside.now }
 {
-    is_a(inside, SyntaxKind::RANGE_EXPR) && first_expr(inside).is_none()
+    is_of_kind(inside, SyntaxKind::RANGE_EXPR) && first_expr(inside).is_none()
 }
 
 fn is_block(body: Option<SyntaxNode>) -> bool
@@ -57,14 +49,14 @@ fn is_block(body: Option<SyntaxNode>) -> bool
 {
     match body {
         None => false,
-        Some(body) => is_a(&body, SyntaxKind::BLOCK_EXPR),
+        Some(body) => is_of_kind(&body, SyntaxKind::BLOCK_EXPR),
     }
 }
 
 fn is_without_block(inside: &SyntaxNode) -> bool
     ensures { result ≡ is_without_block inside.now }
 {
-    is_a(inside, SyntaxKind::CLOSURE_EXPR) && !is_block(first_expr(inside))
+    is_of_kind(inside, SyntaxKind::CLOSURE_EXPR) && !is_block(first_expr(inside))
 }
 
 // The token after a pair that is neither white space nor a comment.
@@ -74,18 +66,12 @@ fn token_after(pair: &SyntaxNode) -> Option<SyntaxToken>
     next_non_trivia_token(NodeOrToken::Node(share(pair)))
 }
 
-fn is_token(token: &SyntaxToken, kind: SyntaxKind) -> bool
-    ensures { result ≡ is_of_kind kind token.now }
-{
-    token.kind().to_raw() == kind.to_raw()
-}
-
 fn is_pair_at(node: Option<SyntaxNode>) -> bool
     ensures { result ≡ is_pair_at node }
 {
     match node {
         None => false,
-        Some(node) => is_a(&node, SyntaxKind::PAREN_EXPR),
+        Some(node) => is_of_kind(&node, SyntaxKind::PAREN_EXPR),
     }
 }
 
@@ -96,11 +82,11 @@ fn is_end(token: Option<SyntaxToken>) -> bool
     match token {
         None => false,
         Some(token) => {
-            is_token(&token, SyntaxKind::COMMA)
-                || is_token(&token, SyntaxKind::SEMICOLON)
-                || is_token(&token, SyntaxKind::R_BRACK)
-                || is_token(&token, SyntaxKind::R_CURLY)
-                || (is_token(&token, SyntaxKind::R_PAREN) && !is_pair_at(token.parent()))
+            is_token_of_kind(&token, SyntaxKind::COMMA)
+                || is_token_of_kind(&token, SyntaxKind::SEMICOLON)
+                || is_token_of_kind(&token, SyntaxKind::R_BRACK)
+                || is_token_of_kind(&token, SyntaxKind::R_CURLY)
+                || (is_token_of_kind(&token, SyntaxKind::R_PAREN) && !is_pair_at(token.parent()))
         }
     }
 }
@@ -117,7 +103,7 @@ fn is_else(token: Option<SyntaxToken>) -> bool
 {
     match token {
         None => false,
-        Some(token) => is_token(&token, SyntaxKind::ELSE_KW),
+        Some(token) => is_token_of_kind(&token, SyntaxKind::ELSE_KW),
     }
 }
 
@@ -126,14 +112,17 @@ fn is_lazy_token(token: Option<SyntaxToken>) -> bool
 {
     match token {
         None => false,
-        Some(token) => { is_token(&token, SyntaxKind::AMP2) || is_token(&token, SyntaxKind::PIPE2) }
+        Some(token) => {
+            is_token_of_kind(&token, SyntaxKind::AMP2)
+                || is_token_of_kind(&token, SyntaxKind::PIPE2)
+        }
     }
 }
 
 fn is_lazy(node: &SyntaxNode) -> bool
     ensures { result ≡ is_lazy node.now }
 {
-    is_a(node, SyntaxKind::BIN_EXPR)
+    is_of_kind(node, SyntaxKind::BIN_EXPR)
         && is_lazy_token(ras_node::first_token::<BinaryOperators>(node.children_with_tokens()))
 }
 
@@ -142,7 +131,7 @@ fn is_closing_brace(token: Option<SyntaxToken>) -> bool
 {
     match token {
         None => false,
-        Some(token) => is_token(&token, SyntaxKind::R_CURLY),
+        Some(token) => is_token_of_kind(&token, SyntaxKind::R_CURLY),
     }
 }
 
@@ -151,7 +140,7 @@ fn is_closing_brace(token: Option<SyntaxToken>) -> bool
 fn is_plain_value(inside: &SyntaxNode) -> bool
     ensures { result ≡ is_plain_value inside.now }
 {
-    !(is_a(inside, SyntaxKind::PAREN_EXPR)
+    !(is_of_kind(inside, SyntaxKind::PAREN_EXPR)
         || is_lazy(inside)
         || is_closing_brace(inside.last_token()))
 }
@@ -160,7 +149,8 @@ fn is_plain_value(inside: &SyntaxNode) -> bool
 fn is_before_else(inside: &SyntaxNode, parent: &SyntaxNode, pair: &SyntaxNode) -> bool
     ensures { result ≡ is_before_else inside.now parent.now pair.now }
 {
-    is_else(token_after(pair)) && !(is_a(parent, SyntaxKind::LET_STMT) && is_plain_value(inside))
+    is_else(token_after(pair))
+        && !(is_of_kind(parent, SyntaxKind::LET_STMT) && is_plain_value(inside))
 }
 
 // The token before a pair that is neither white space nor a comment.
@@ -174,11 +164,11 @@ fn token_before(pair: &SyntaxNode) -> Option<SyntaxToken>
 fn is_with_block(node: &SyntaxNode) -> bool
     ensures { result ≡ is_with_block node.now }
 {
-    is_a(node, SyntaxKind::IF_EXPR)
-        || is_a(node, SyntaxKind::MATCH_EXPR)
-        || is_a(node, SyntaxKind::FOR_EXPR)
-        || is_a(node, SyntaxKind::WHILE_EXPR)
-        || is_a(node, SyntaxKind::LOOP_EXPR)
+    is_of_kind(node, SyntaxKind::IF_EXPR)
+        || is_of_kind(node, SyntaxKind::MATCH_EXPR)
+        || is_of_kind(node, SyntaxKind::FOR_EXPR)
+        || is_of_kind(node, SyntaxKind::WHILE_EXPR)
+        || is_of_kind(node, SyntaxKind::LOOP_EXPR)
 }
 
 fn is_plain_start(first: Option<SyntaxToken>) -> bool
@@ -187,8 +177,8 @@ fn is_plain_start(first: Option<SyntaxToken>) -> bool
     match first {
         None => false,
         Some(token) => {
-            token.kind().to_raw() == SyntaxKind::L_CURLY.to_raw()
-                || token.kind().to_raw() == SyntaxKind::UNSAFE_KW.to_raw()
+            is_token_of_kind(&token, SyntaxKind::L_CURLY)
+                || is_token_of_kind(&token, SyntaxKind::UNSAFE_KW)
         }
     }
 }
@@ -197,7 +187,7 @@ fn is_plain_start(first: Option<SyntaxToken>) -> bool
 fn is_plain_block(node: &SyntaxNode) -> bool
     ensures { result ≡ is_plain_block node.now }
 {
-    is_a(node, SyntaxKind::BLOCK_EXPR) && is_plain_start(node.first_token())
+    is_of_kind(node, SyntaxKind::BLOCK_EXPR) && is_plain_start(node.first_token())
 }
 
 // What is around a block: a statement, or an `if`.
@@ -206,7 +196,8 @@ fn is_statement(above: Option<SyntaxNode>) -> bool
 {
     match above {
         None => false,
-        Some(above) => is_a(&above, SyntaxKind::EXPR_STMT) || is_a(&above, SyntaxKind::IF_EXPR),
+        Some(above) => is_of_kind(&above, SyntaxKind::EXPR_STMT)
+            || is_of_kind(&above, SyntaxKind::IF_EXPR),
     }
 }
 
@@ -215,7 +206,7 @@ fn is_expression_statement(above: Option<SyntaxNode>) -> bool
 {
     match above {
         None => false,
-        Some(above) => is_a(&above, SyntaxKind::EXPR_STMT),
+        Some(above) => is_of_kind(&above, SyntaxKind::EXPR_STMT),
     }
 }
 
@@ -223,7 +214,7 @@ fn is_expression_statement(above: Option<SyntaxNode>) -> bool
 fn is_macro_statement(node: &SyntaxNode) -> bool
     ensures { result ≡ is_macro_statement node.now }
 {
-    is_a(node, SyntaxKind::MACRO_EXPR) && is_expression_statement(node.parent())
+    is_of_kind(node, SyntaxKind::MACRO_EXPR) && is_expression_statement(node.parent())
 }
 
 // Whether nodes of the kind are items that may end with `}`.
@@ -286,8 +277,7 @@ fn is_open_brace(token: Option<SyntaxToken>) -> bool
     match token {
         None => false,
         Some(token) => {
-            token.kind().to_raw() == SyntaxKind::R_CURLY.to_raw()
-                && !ends_statement(body_of(&token))
+            is_token_of_kind(&token, SyntaxKind::R_CURLY) && !ends_statement(body_of(&token))
         }
     }
 }
@@ -328,14 +318,14 @@ fn is_before_word(pair: &SyntaxNode) -> bool
 fn is_before_label(inside: &SyntaxNode, parent: &SyntaxNode, pair: &SyntaxNode) -> bool
     ensures { result ≡ is_before_label inside.now parent.now pair.now }
 {
-    is_a(inside, SyntaxKind::CONTINUE_EXPR)
-        && (is_a(parent, SyntaxKind::PAREN_EXPR) || is_before_word(pair))
+    is_of_kind(inside, SyntaxKind::CONTINUE_EXPR)
+        && (is_of_kind(parent, SyntaxKind::PAREN_EXPR) || is_before_word(pair))
 }
 
 fn is_read_otherwise(inside: &SyntaxNode, parent: &SyntaxNode, pair: &SyntaxNode) -> bool
     ensures { result ≡ is_read_otherwise inside.now parent.now pair.now }
 {
-    is_a(inside, SyntaxKind::UNDERSCORE_EXPR)
+    is_of_kind(inside, SyntaxKind::UNDERSCORE_EXPR)
         || is_full_range(inside)
         || is_statement_macro(inside, pair)
         || is_open_closure(inside, pair)

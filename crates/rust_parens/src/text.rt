@@ -1,7 +1,7 @@
 //! A text without some pairs of parentheses.
 ghost use Rattle.std.specs.Prelude.{◌≡◌, ◌++◌, IfOk, OnOk, set, true, string_bytes};
 ghost use Rattle.rust_parens.specs.Words.{is_word};
-ghost use Rattle.rust_parens.specs.Texts.{mark_two, marked, marks_of, is_taken, is_sign, takes_equals, grow, grow_at, blank, put, with_element, text_without};
+ghost use Rattle.rust_parens.specs.Texts.{mark_pair, marked, marks_of, is_taken, is_sign, takes_equals, would_join, would_join_at, gap_of, push_token, with_element, text_without};
 
 use crate::find::parens_of;
 use lossless_tree::{NodeOrToken, SyntaxElement, SyntaxNode, TextRange};
@@ -16,8 +16,8 @@ fn mark_at(marks: &mut [bool], offset: usize)
     }
 }
 
-fn mark_two(marks: &mut [bool], two: Option<(TextRange, TextRange)>)
-    ensures { marks.new ≡ mark_two two marks.old }
+fn mark_pair(marks: &mut [bool], two: Option<(TextRange, TextRange)>)
+    ensures { marks.new ≡ mark_pair two marks.old }
 {
     if let Some((open, close)) = two {
         mark_at(marks, open.start().raw() as usize);
@@ -29,7 +29,7 @@ fn mark(marks: &mut [bool], pairs: &[SyntaxNode])
     ensures { marks.new ≡ marked marks.old pairs.now }
 {
     for pair in pairs {
-        mark_two(marks, parens_of(pair));
+        mark_pair(marks, parens_of(pair));
     }
 }
 
@@ -91,40 +91,40 @@ fn takes_equals(a: u8) -> bool
 }
 
 // Whether a token that ends with one byte and a token that begins with the other would be joined.
-fn grow(a: u8, b: u8) -> bool
-    ensures { result ≡ grow a b }
+fn would_join(a: u8, b: u8) -> bool
+    ensures { result ≡ would_join a b }
 {
     (is_word(a) && is_taken(b)) || (is_sign(a, b) || (b == b'=' && takes_equals(a)))
 }
 
-fn grow_at(a: Option<u8>, b: Option<u8>) -> bool
-    ensures { result ≡ grow_at a b }
+fn would_join_at(a: Option<u8>, b: Option<u8>) -> bool
+    ensures { result ≡ would_join_at a b }
 {
     match a {
         None => false,
         Some(a) => match b {
             None => false,
-            Some(b) => grow(a, b),
+            Some(b) => would_join(a, b),
         },
     }
 }
 
 // A blank if `apart` is true.
-fn blank(apart: bool) -> &'static str
-    ensures { result.now ≡ blank apart }
+fn gap_of(apart: bool) -> &'static str
+    ensures { result.now ≡ gap_of apart }
 {
     if apart { " " } else { "" }
 }
 
 // Appends a token to a text; if something was left out between them, with a blank if they would be
 // joined.
-#[tactic(auto, using(crate::proofs::MarkLemmas::put_both))]
-fn put(out: &mut String, gap: bool, token: &str) -> Result<(), AllocError>
-    ensures { OnOk result (string_bytes out.new ≡ put gap (string_bytes out.old) token.now) }
+#[tactic(auto, using(crate::proofs::MarkLemmas::push_token_both))]
+fn push_token(out: &mut String, gap: bool, token: &str) -> Result<(), AllocError>
+    ensures { OnOk result (string_bytes out.new ≡ push_token gap (string_bytes out.old) token.now) }
 {
     let last = out.as_bytes().last().copied();
     let first = token.as_bytes().first().copied();
-    out.push_str(blank(gap && grow_at(last, first)))?;
+    out.push_str(gap_of(gap && would_join_at(last, first)))?;
     out.push_str(token)
 }
 
@@ -145,7 +145,7 @@ fn push_element(
     if is_left_out(marks, element) {
         return Ok(true);
     }
-    put(out, gap, token.text())?;
+    push_token(out, gap, token.text())?;
     Ok(false)
 }
 

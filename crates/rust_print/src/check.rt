@@ -1,7 +1,7 @@
 //! The command `check`: the errors of a text.
 
 use crate::failure::Failure;
-use crate::forms::{Asked, Form};
+use crate::forms::{ReportFormat, ReportOptions};
 use crate::json;
 use crate::sarif::{Region, Rule, write_result};
 use crate::shown::{name, write_place};
@@ -56,8 +56,8 @@ fn more_behind(errors: &[SyntaxError], at: usize, error: &SyntaxError) -> usize 
 }
 
 // The message of an error in the words that are asked for.
-fn message_of<'e>(error: &'e SyntaxError, asked: Asked) -> &'e str {
-    if asked.is_upstream {
+fn message_of<'e>(error: &'e SyntaxError, options: ReportOptions) -> &'e str {
+    if options.is_upstream {
         error.message()
     } else {
         plain_message(error.message())
@@ -72,13 +72,17 @@ fn write_text<W: Write>(
     spots: &mut Spots<'_>,
     error: &SyntaxError,
     more: More,
-    asked: Asked,
+    options: ReportOptions,
 ) -> io::Result<()> {
-    let style = asked.style;
+    let style = options.style;
     let from = move_to(spots, error.range().start());
     let (red, plain) = (style.red(), style.plain());
     write_place(out, source, from, style)?;
-    writeln!(out, "{red}{}{plain}{more}", name(message_of(error, asked)))?;
+    writeln!(
+        out,
+        "{red}{}{plain}{more}",
+        name(message_of(error, options))
+    )?;
     let excerpt = excerpt_at(spots.lines(), error.range());
     writeln!(out, "{:>5} | {excerpt}", from.line)?;
     writeln!(out, "      | {red}{}{plain}", Marks { excerpt })
@@ -115,7 +119,7 @@ fn write_sarif<W: Write>(
     spots: &mut Spots<'_>,
     error: &SyntaxError,
     is_first: bool,
-    asked: Asked,
+    options: ReportOptions,
 ) -> io::Result<()> {
     let range = error.range();
     let from = move_to(spots, range.start());
@@ -125,7 +129,7 @@ fn write_sarif<W: Write>(
         start: range.start().raw(),
         end: range.end().raw(),
     };
-    let message = message_of(error, asked);
+    let message = message_of(error, options);
     write_result(alloc, out, is_first, Rule::Syntax, message, path, at)
 }
 
@@ -135,7 +139,7 @@ fn write_github<W: Write>(
     spots: &mut Spots<'_>,
     error: &SyntaxError,
     more: More,
-    asked: Asked,
+    options: ReportOptions,
 ) -> io::Result<()> {
     let from = move_to(spots, error.range().start());
     let to = spot(spots, error.range().end());
@@ -144,7 +148,7 @@ fn write_github<W: Write>(
         medium: Medium::Parameter,
     };
     let message = Escaped {
-        text: message_of(error, asked),
+        text: message_of(error, options),
         medium: Medium::Message,
     };
     write!(out, "::error file={file},")?;
@@ -158,19 +162,19 @@ fn write_all<W: Write>(
     out: &mut W,
     source: Source<'_>,
     errors: &[SyntaxError],
-    asked: Asked,
+    options: ReportOptions,
 ) -> Result<u64, Failure> {
     if errors.is_empty() {
         return Ok(0);
     }
     let Source { name, text, .. } = source;
     let mut spots = spots(alloc, text)?;
-    let mut left = asked.max_errors;
-    let folds = !asked.all_errors
-        && !asked.is_upstream
-        && !matches!(asked.format, Form::Json | Form::Sarif);
+    let mut left = options.max_errors;
+    let folds = !options.all_errors
+        && !options.is_upstream
+        && !matches!(options.format, ReportFormat::Json | ReportFormat::Sarif);
     let mut folded: usize = 0;
-    let mut is_first = asked.is_first;
+    let mut is_first = options.is_first;
     for (at, error) in errors.iter().enumerate() {
         if folded > 0 {
             folded -= 1;
@@ -184,30 +188,32 @@ fn write_all<W: Write>(
             folded = more_behind(errors, at, error);
         }
         let more = More(folded);
-        match asked.format {
-            Form::Text => write_text(out, source, &mut spots, error, more, asked)?,
-            Form::Json => write_json(alloc, out, name, &mut spots, error)?,
-            Form::Github => write_github(out, name, &mut spots, error, more, asked)?,
-            Form::Sarif => write_sarif(alloc, out, name, &mut spots, error, is_first, asked)?,
+        match options.format {
+            ReportFormat::Text => write_text(out, source, &mut spots, error, more, options)?,
+            ReportFormat::Json => write_json(alloc, out, name, &mut spots, error)?,
+            ReportFormat::Github => write_github(out, name, &mut spots, error, more, options)?,
+            ReportFormat::Sarif => write_sarif(
+                alloc, out, name, &mut spots, error, is_first, options,
+            )?,
         }
         is_first = false;
     }
     Ok(errors.len() as u64)
 }
 
-/// Writes the errors of a text, at most `asked.max_errors`, and of several at one place only the
+/// Writes the errors of a text, at most `options.max_errors`, and of several at one place only the
 /// first and how many more there are, unless all are asked for. JSON has all. Returns the number of
 /// all of them.
 pub fn check<W: Write>(
     alloc: Global,
     out: &mut W,
     source: Source<'_>,
-    asked: Asked,
+    options: ReportOptions,
 ) -> Result<u64, Failure> {
-    let parse = parsed(alloc, source.text, asked.reading)?;
-    if !asked.reading.validates {
-        return write_all(alloc, out, source, parse.stored(), asked);
+    let parse = parsed(alloc, source.text, options.reading)?;
+    if !options.reading.validates {
+        return write_all(alloc, out, source, parse.stored(), options);
     }
     let errors = parse.errors(alloc)?;
-    write_all(alloc, out, source, errors.as_slice(), asked)
+    write_all(alloc, out, source, errors.as_slice(), options)
 }

@@ -5,7 +5,7 @@ use crate::style::Style;
 
 /// The form of a report.
 #[derive(Clone, Copy, Debug)]
-pub enum Form {
+pub enum ReportFormat {
     /// Lines of text.
     Text,
     /// A JSON object on each line.
@@ -31,11 +31,11 @@ pub struct Wanted {
 
 /// How a text is read, and how a report on it is written.
 #[derive(Clone, Copy, Debug)]
-pub struct Asked {
+pub struct ReportOptions {
     /// How the text is parsed.
     pub reading: Reading,
     /// The form of the report.
-    pub format: Form,
+    pub format: ReportFormat,
     /// Whether the report has colours.
     pub style: Style,
     /// The most errors of a file that are listed.

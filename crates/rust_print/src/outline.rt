@@ -2,7 +2,7 @@
 //! comments.
 
 use crate::failure::Failure;
-use crate::forms::{Asked, Form};
+use crate::forms::{ReportFormat, ReportOptions};
 use crate::json;
 use crate::shown::{cut, write_indent, write_place, write_short};
 use crate::source::{Source, move_to, parsed, spots};
@@ -129,13 +129,13 @@ fn write_line<W: Write>(
     source: Source<'_>,
     spots: &mut Spots<'_>,
     line: &Line<'_>,
-    asked: Asked,
+    options: ReportOptions,
 ) -> io::Result<()> {
     let at = move_to(spots, line.start);
-    match asked.format {
-        Form::Json => write_json(alloc, out, source.name, at, line),
-        Form::Text | Form::Github | Form::Sarif => {
-            write_place(out, source, at, asked.style)?;
+    match options.format {
+        ReportFormat::Json => write_json(alloc, out, source.name, at, line),
+        ReportFormat::Text | ReportFormat::Github | ReportFormat::Sarif => {
+            write_place(out, source, at, options.style)?;
             write_text(out, line)
         }
     }
@@ -150,7 +150,7 @@ fn write_node<W: Write>(
     node: &SyntaxNode,
     word: &'static str,
     depth: usize,
-    asked: Asked,
+    options: ReportOptions,
 ) -> io::Result<()> {
     let row = Row {
         item: share(node),
@@ -170,7 +170,7 @@ fn write_node<W: Write>(
         range,
         depth,
     };
-    write_line(alloc, out, source, spots, &line, asked)
+    write_line(alloc, out, source, spots, &line, options)
 }
 
 // Writes the line of what a walk enters, if it is listed. Returns whether it is a node that is.
@@ -181,12 +181,12 @@ fn write_entered<W: Write>(
     spots: &mut Spots<'_>,
     element: &SyntaxElement,
     depth: usize,
-    asked: Asked,
+    options: ReportOptions,
 ) -> io::Result<bool> {
     match element {
-        NodeOrToken::Node(node) => match listed_word(node.kind(), asked.has_locals) {
+        NodeOrToken::Node(node) => match listed_word(node.kind(), options.has_locals) {
             Some(word) => {
-                write_node(alloc, out, source, spots, node, word, depth, asked)?;
+                write_node(alloc, out, source, spots, node, word, depth, options)?;
                 Ok(true)
             }
             None => Ok(false),
@@ -201,7 +201,7 @@ fn write_entered<W: Write>(
                     range,
                     depth,
                 };
-                write_line(alloc, out, source, spots, &line, asked)?;
+                write_line(alloc, out, source, spots, &line, options)?;
             }
             Ok(false)
         }
@@ -209,9 +209,9 @@ fn write_entered<W: Write>(
 }
 
 // Whether the lines in a node are one level deeper than its own.
-fn is_level(element: &SyntaxElement, asked: Asked) -> bool {
+fn is_level(element: &SyntaxElement, options: ReportOptions) -> bool {
     match element {
-        NodeOrToken::Node(node) => listed_word(node.kind(), asked.has_locals).is_some(),
+        NodeOrToken::Node(node) => listed_word(node.kind(), options.has_locals).is_some(),
         NodeOrToken::Token(_) => false,
     }
 }
@@ -221,20 +221,20 @@ pub fn show<W: Write>(
     alloc: Global,
     out: &mut W,
     source: Source<'_>,
-    asked: Asked,
+    options: ReportOptions,
 ) -> Result<u64, Failure> {
-    let parse = parsed(alloc, source.text, asked.reading)?;
+    let parse = parsed(alloc, source.text, options.reading)?;
     let mut spots = spots(alloc, source.text)?;
     let mut depth = 0usize;
     for event in parse.root().preorder_with_tokens() {
         match event {
             WalkEvent::Enter(element) => {
-                if write_entered(alloc, out, source, &mut spots, &element, depth, asked)? {
+                if write_entered(alloc, out, source, &mut spots, &element, depth, options)? {
                     depth = depth.saturating_add(1);
                 }
             }
             WalkEvent::Leave(element) => {
-                if is_level(&element, asked) {
+                if is_level(&element, options) {
                     depth = depth.saturating_sub(1);
                 }
             }

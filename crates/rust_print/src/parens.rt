@@ -6,7 +6,7 @@ ghost use Rattle.rust_parens.specs.Pairs.{may_go};
 ghost use Rattle.rust_print.specs.Readings.{is_wanted, AreNeedless};
 
 use crate::failure::Failure;
-use crate::forms::{Asked, Form, Wanted};
+use crate::forms::{ReportFormat, ReportOptions, Wanted};
 use crate::json;
 use crate::sarif::{Region, Rule, write_result};
 use crate::shown::{cut, write_place, write_short};
@@ -144,14 +144,14 @@ fn write_pair<W: Write>(
     spots: &mut Spots<'_>,
     pair: &SyntaxNode,
     is_first: bool,
-    asked: Asked,
+    options: ReportOptions,
 ) -> io::Result<()> {
     let at = move_to(spots, pair.text_range().start());
-    match asked.format {
-        Form::Json => write_json(alloc, out, source.name, at, pair),
-        Form::Sarif => write_sarif(alloc, out, source.name, spots, at, pair, is_first),
-        Form::Text | Form::Github => {
-            write_place(out, source, at, asked.style)?;
+    match options.format {
+        ReportFormat::Json => write_json(alloc, out, source.name, at, pair),
+        ReportFormat::Sarif => write_sarif(alloc, out, source.name, spots, at, pair, is_first),
+        ReportFormat::Text | ReportFormat::Github => {
+            write_place(out, source, at, options.style)?;
             write!(out, "needless parentheses: ")?;
             write_short(out, pair.as_str())
         }
@@ -164,15 +164,15 @@ pub fn list<W: Write>(
     out: &mut W,
     source: Source<'_>,
     pairs: &[SyntaxNode],
-    asked: Asked,
+    options: ReportOptions,
 ) -> Result<(), Failure> {
     if pairs.is_empty() {
         return Ok(());
     }
     let mut spots = spots(alloc, source.text)?;
-    let mut is_first = asked.is_first;
+    let mut is_first = options.is_first;
     for pair in pairs {
-        write_pair(alloc, out, source, &mut spots, pair, is_first, asked)?;
+        write_pair(alloc, out, source, &mut spots, pair, is_first, options)?;
         is_first = false;
     }
     Ok(())

@@ -1,7 +1,7 @@
 //! The command `tokens`: the lexer's tokens of a text.
 
 use crate::failure::Failure;
-use crate::forms::{Asked, Form};
+use crate::forms::{ReportFormat, ReportOptions};
 use crate::json;
 use crate::names::Named;
 use crate::shown::name;
@@ -39,7 +39,7 @@ fn write_error<W: Write>(
     out: &mut W,
     source: Source<'_>,
     error: &LexError,
-    format: Form,
+    format: ReportFormat,
 ) -> io::Result<()> {
     let (front, back) = error.problem.message();
     let range = error.range;
@@ -51,7 +51,7 @@ fn write_error<W: Write>(
     };
     let message = format!(in alloc; "{front}{own}{back}")?;
     match format {
-        Form::Json => {
+        ReportFormat::Json => {
             let record = ErrorRecord {
                 path: source.name,
                 start,
@@ -60,7 +60,7 @@ fn write_error<W: Write>(
             };
             json::write_line(alloc, out, &record)
         }
-        Form::Text | Form::Github | Form::Sarif => writeln!(
+        ReportFormat::Text | ReportFormat::Github | ReportFormat::Sarif => writeln!(
             out,
             "error {range}: {}",
             name(message.as_str())
@@ -75,11 +75,11 @@ fn write_token<W: Write>(
     kind: Named,
     start: usize,
     text: &str,
-    format: Form,
+    format: ReportFormat,
 ) -> io::Result<()> {
     let end = start.saturating_add(text.len());
     match format {
-        Form::Json => {
+        ReportFormat::Json => {
             let record = TokenRecord {
                 path,
                 kind,
@@ -89,7 +89,7 @@ fn write_token<W: Write>(
             };
             json::write_line(alloc, out, &record)
         }
-        Form::Text | Form::Github | Form::Sarif => {
+        ReportFormat::Text | ReportFormat::Github | ReportFormat::Sarif => {
             let text = format!(in alloc; "{text:?}")?;
             write!(out, "{kind}@{start}..{end}")?;
             writeln!(out, " {}", name(text.as_str()))
@@ -102,7 +102,7 @@ fn write_tokens<W: Write>(
     out: &mut W,
     source: Source<'_>,
     tokens: &[Token],
-    format: Form,
+    format: ReportFormat,
 ) -> io::Result<()> {
     let mut start = 0usize;
     for token in tokens {
@@ -120,7 +120,7 @@ fn write_errors<W: Write>(
     out: &mut W,
     source: Source<'_>,
     errors: &[LexError],
-    format: Form,
+    format: ReportFormat,
 ) -> io::Result<()> {
     for error in errors {
         write_error(alloc, out, source, error, format)?;
@@ -133,13 +133,13 @@ pub fn show<W: Write>(
     alloc: Global,
     out: &mut W,
     source: Source<'_>,
-    asked: Asked,
+    options: ReportOptions,
 ) -> Result<u64, Failure> {
     if TextSize::of(source.text).is_none() {
         return Err(Failure::Text(ParseError::TooLong));
     }
-    let lexed = lex(alloc, source.text, asked.reading.edition)?;
-    write_tokens(alloc, out, source, lexed.tokens.as_slice(), asked.format)?;
-    write_errors(alloc, out, source, lexed.errors.as_slice(), asked.format)?;
+    let lexed = lex(alloc, source.text, options.reading.edition)?;
+    write_tokens(alloc, out, source, lexed.tokens.as_slice(), options.format)?;
+    write_errors(alloc, out, source, lexed.errors.as_slice(), options.format)?;
     Ok(lexed.errors.len() as u64)
 }

@@ -4,7 +4,7 @@ use crate::pattern::{Pattern, TextPattern};
 use crate::search::{Found, matches_of};
 use lossless_tree::{SyntaxElement, SyntaxNode};
 use rust_print::failure::Failure;
-use rust_print::forms::{Asked, Form};
+use rust_print::forms::{ReportFormat, ReportOptions};
 use rust_print::json;
 use rust_print::names::Named;
 use rust_print::shown::{cut, write_place, write_short};
@@ -120,13 +120,13 @@ fn write_match<W: Write>(
     source: Source<'_>,
     spots: &mut Spots<'_>,
     element: &SyntaxElement,
-    asked: Asked,
+    options: ReportOptions,
 ) -> io::Result<()> {
     let at = move_to(spots, element.text_range().start());
-    match asked.format {
-        Form::Json => write_json(alloc, out, source.name, at, element),
+    match options.format {
+        ReportFormat::Json => write_json(alloc, out, source.name, at, element),
         _ => {
-            write_place(out, source, at, asked.style)?;
+            write_place(out, source, at, options.style)?;
             write_short(out, element.text())
         }
     }
@@ -138,15 +138,15 @@ fn write_elements<W: Write>(
     out: &mut W,
     source: Source<'_>,
     found: &[SyntaxElement],
-    asked: Asked,
+    options: ReportOptions,
 ) -> Result<u64, Failure> {
     if found.is_empty() {
         return Ok(0);
     }
     let mut spots = spots(alloc, source.text)?;
     for element in found {
-        write_match(alloc, out, source, &mut spots, element, asked)?;
-        if matches!(asked.format, Form::Json) {
+        write_match(alloc, out, source, &mut spots, element, options)?;
+        if matches!(options.format, ReportFormat::Json) {
             out.write_all(b"]}\n")?;
         }
     }
@@ -161,7 +161,7 @@ fn write_matches<W: Write>(
     root: &SyntaxNode,
     pattern: &TextPattern,
     found: &[Found],
-    asked: Asked,
+    options: ReportOptions,
 ) -> Result<u64, Failure> {
     if found.is_empty() {
         return Ok(0);
@@ -171,8 +171,8 @@ fn write_matches<W: Write>(
         let Some(element) = root.element_at_row(it.row) else {
             continue;
         };
-        write_match(alloc, out, source, &mut spots, &element, asked)?;
-        if matches!(asked.format, Form::Json) {
+        write_match(alloc, out, source, &mut spots, &element, options)?;
+        if matches!(options.format, ReportFormat::Json) {
             write_captures(alloc, out, root, pattern, it)?;
         }
     }
@@ -185,18 +185,18 @@ pub fn show<W: Write>(
     out: &mut W,
     source: Source<'_>,
     pattern: &Pattern,
-    asked: Asked,
+    options: ReportOptions,
 ) -> Result<u64, Failure> {
-    let parse = parsed(alloc, source.text, asked.reading)?;
+    let parse = parsed(alloc, source.text, options.reading)?;
     match pattern {
         Pattern::Kinds(steps) => {
             let found = query(alloc, parse.root(), steps.as_slice())?;
-            write_elements(alloc, out, source, found.as_slice(), asked)
+            write_elements(alloc, out, source, found.as_slice(), options)
         }
         Pattern::Texts(pattern) => {
             let found = matches_of(alloc, parse.root(), pattern)?;
             let found = found.as_slice();
-            write_matches(alloc, out, source, parse.root(), pattern, found, asked)
+            write_matches(alloc, out, source, parse.root(), pattern, found, options)
         }
     }
 }

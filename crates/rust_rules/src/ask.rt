@@ -3,7 +3,7 @@
 use crate::place::write_severity;
 use crate::show::place_of;
 use crate::within::Found;
-use rust_print::forms::Asked;
+use rust_print::forms::ReportOptions;
 use rust_print::shown::{name, write_place};
 use rust_print::source::{Source, move_to};
 use rust_report::{Spots, short_of};
@@ -31,11 +31,11 @@ pub fn write_question<'a, W: Write>(
     set: &'a RuleSet,
     found: Found,
     indel: &Indel,
-    asked: Asked,
+    options: ReportOptions,
 ) -> io::Result<()> {
     let place = place_of(source, set, found, None);
     let at = move_to(spots, place.range.start());
-    write_place(out, source, at, asked.style)?;
+    write_place(out, source, at, options.style)?;
     write_severity(out, place.severity)?;
     if !place.name.is_empty() {
         write!(out, "{}: ", name(place.name))?;

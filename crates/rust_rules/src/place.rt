@@ -2,7 +2,7 @@
 
 use lossless_tree::TextRange;
 use rule_plan::Severity;
-use rust_print::forms::{Asked, Form};
+use rust_print::forms::{ReportFormat, ReportOptions};
 use rust_print::json;
 use rust_print::sarif::{Region, Rule, write_leveled};
 use rust_print::shown::{cut, name, write_place};
@@ -216,19 +216,19 @@ pub(crate) fn write_one<W: Write>(
     spots: &mut Spots<'_>,
     place: &Place<'_>,
     is_first: bool,
-    asked: Asked,
+    options: ReportOptions,
 ) -> io::Result<()> {
     let from = move_to(spots, place.range.start());
     let to = spot(spots, place.range.end());
-    match asked.format {
-        Form::Text => {
-            write_place(out, place.source, from, asked.style)?;
+    match options.format {
+        ReportFormat::Text => {
+            write_place(out, place.source, from, options.style)?;
             write_severity(out, place.severity)?;
             writeln!(out, "{}", Said { place })
         }
-        Form::Json => write_json(alloc, out, place, from),
-        Form::Github => write_github(alloc, out, place, from, to),
-        Form::Sarif => {
+        ReportFormat::Json => write_json(alloc, out, place, from),
+        ReportFormat::Github => write_github(alloc, out, place, from, to),
+        ReportFormat::Sarif => {
             let at = Region {
                 from,
                 to,

@@ -8,7 +8,7 @@ use crate::place::{Place, write_one};
 use crate::within::{Found, Replaced, all_found, found_within, rewriting};
 use lossless_tree::SyntaxNode;
 use rust_print::failure::Failure;
-use rust_print::forms::Asked;
+use rust_print::forms::ReportOptions;
 use rust_print::source::{Source, parsed, spots};
 use rust_report::Spots;
 use rust_rewrite::{Match, Rewritten, find};
@@ -45,16 +45,16 @@ fn write_matches<'a, W: Write>(
     source: Source<'a>,
     set: &'a RuleSet,
     matches: &[Found],
-    asked: Asked,
+    options: ReportOptions,
 ) -> Result<(), Failure> {
     if matches.is_empty() {
         return Ok(());
     }
     let mut spots = spots(alloc, source.text)?;
-    let mut is_first = asked.is_first;
+    let mut is_first = options.is_first;
     for found in matches {
         let place = place_of(source, set, *found, None);
-        write_one(alloc, out, &mut spots, &place, is_first, asked)?;
+        write_one(alloc, out, &mut spots, &place, is_first, options)?;
         is_first = false;
     }
     Ok(())
@@ -74,14 +74,21 @@ pub fn search<'a, W: Write>(
     out: &mut W,
     source: Source<'a>,
     set: &'a RuleSet,
-    asked: Asked,
+    options: ReportOptions,
 ) -> Result<u64, Failure>
     ensures { IfOk result
-        (IsNumberOfMatches asked.reading set.now.rules.items source.entry.text.now) }
+        (IsNumberOfMatches options.reading set.now.rules.items source.entry.text.now) }
 {
-    let parse = parsed(alloc, source.text, asked.reading)?;
+    let parse = parsed(alloc, source.text, options.reading)?;
     let matches = matches_of(alloc, set, parse.root())?;
-    write_matches(alloc, out, source, set, &all_found(alloc, &matches)?, asked)?;
+    write_matches(
+        alloc,
+        out,
+        source,
+        set,
+        &all_found(alloc, &matches)?,
+        options,
+    )?;
     Ok(matches.len() as u64)
 }
 
@@ -96,12 +103,13 @@ pub fn search_within<'a, W: Write>(
     out: &mut W,
     source: Source<'a>,
     set: &'a RuleSet,
-    asked: Asked,
+    options: ReportOptions,
 ) -> Result<u64, Failure>
-    ensures { IfOk result (IsNumberWithin asked.reading set.now.rules.items source.entry.text.now) }
+    ensures { IfOk result
+        (IsNumberWithin options.reading set.now.rules.items source.entry.text.now) }
 {
-    let found = found_within(alloc, source.text, &set.rules, asked.reading)?;
-    write_matches(alloc, out, source, set, &found, asked)?;
+    let found = found_within(alloc, source.text, &set.rules, options.reading)?;
+    write_matches(alloc, out, source, set, &found, options)?;
     Ok(found.len() as u64)
 }
 
@@ -111,12 +119,12 @@ pub fn rewritten(
     alloc: Global,
     source: Source<'_>,
     set: &RuleSet,
-    asked: Asked,
+    options: ReportOptions,
 ) -> Result<Option<Rewritten>, Failure>
-    ensures { IfOk result (IsAnswer asked.reading set.now.rules.items source.entry.text.now) }
+    ensures { IfOk result (IsAnswer options.reading set.now.rules.items source.entry.text.now) }
 {
-    let parse = parsed(alloc, source.text, asked.reading)?;
-    Ok(rewriting(alloc, &set.rules, asked.reading, &parse)?)
+    let parse = parsed(alloc, source.text, options.reading)?;
+    Ok(rewriting(alloc, &set.rules, options.reading, &parse)?)
 }
 
 fn write_changes<'a, W: Write>(
@@ -126,12 +134,12 @@ fn write_changes<'a, W: Write>(
     source: Source<'a>,
     set: &'a RuleSet,
     done: &'a Replaced,
-    asked: Asked,
+    options: ReportOptions,
 ) -> io::Result<()> {
-    let mut is_first = asked.is_first;
+    let mut is_first = options.is_first;
     for (found, indel) in done.places.iter().zip(done.edit.iter()) {
         let place = place_of(source, set, *found, Some(indel.inserted()));
-        write_one(alloc, out, spots, &place, is_first, asked)?;
+        write_one(alloc, out, spots, &place, is_first, options)?;
         is_first = false;
     }
     Ok(())
@@ -144,11 +152,11 @@ pub fn list<'a, W: Write>(
     source: Source<'a>,
     set: &'a RuleSet,
     done: &'a Replaced,
-    asked: Asked,
+    options: ReportOptions,
 ) -> Result<(), Failure> {
     if done.edit.is_empty() {
         return Ok(());
     }
     let mut spots = spots(alloc, source.text)?;
-    Ok(write_changes(alloc, out, &mut spots, source, set, done, asked)?)
+    Ok(write_changes(alloc, out, &mut spots, source, set, done, options)?)
 }

@@ -9,7 +9,7 @@ use lossless_tree::TextRange;
 use ras_front_end::ParseError;
 use rule_plan::chosen;
 use rust_print::failure::Failure;
-use rust_print::forms::Asked;
+use rust_print::forms::ReportOptions;
 use rust_print::source::{Source, parsed};
 use std::alloc::Global;
 use text_edit::TextEdit;
@@ -141,15 +141,15 @@ pub fn with_taken(
     source: Source<'_>,
     done: &Replaced,
     marks: &[bool],
-    asked: Asked,
+    options: ReportOptions,
 ) -> Result<Taken, Failure>
     ensures { IfOk result (λ t. string_bytes t.text
         ≡ edited source.entry.text.now (with_all [] (chosen marks.now done.now.edit))) }
 {
     let taken = edited(alloc, source.text, &done.edit, marks)?;
-    let old = parsed(alloc, source.text, asked.reading)?;
-    let all = parsed(alloc, done.text.as_str(), asked.reading)?;
-    let new = parsed(alloc, taken.text.as_str(), asked.reading)?;
+    let old = parsed(alloc, source.text, options.reading)?;
+    let all = parsed(alloc, done.text.as_str(), options.reading)?;
+    let new = parsed(alloc, taken.text.as_str(), options.reading)?;
     let is_meant = new.stored().len() <= old.stored().len()
         && reads_as_meant(
             &mut Side::new(source.text, steps(alloc, old.root())?),

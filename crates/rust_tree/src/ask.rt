@@ -2,7 +2,7 @@
 
 use rule_plan::{Answer, answer_of, taken};
 use rust_print::failure::Failure;
-use rust_print::forms::Asked;
+use rust_print::forms::ReportOptions;
 use rust_print::source::{Source, spots};
 use rust_rules::{Replaced, write_question};
 use rust_search::RuleSet;
@@ -34,14 +34,14 @@ pub fn ask<W: Write>(
     source: Source<'_>,
     set: &RuleSet,
     done: &Replaced,
-    asked: Asked,
+    options: ReportOptions,
     is_over: &mut bool,
 ) -> Result<Vec<bool>, Failure> {
     let alloc = rt.alloc();
     let mut spots = spots(alloc, source.text)?;
     let mut answers = Vec::new(alloc);
     for (found, indel) in done.places.iter().zip(done.edit.iter()) {
-        write_question(alloc, out, &mut spots, source, set, *found, indel, asked)?;
+        write_question(alloc, out, &mut spots, source, set, *found, indel, options)?;
         let answer = answer(rt, out)?;
         answers.push(answer).map_err(AllocError::from)?;
         if answer == Answer::Quit {

@@ -14,7 +14,7 @@ use rust_draw::{highlight, tree};
 use rust_parens::Needless;
 use rust_print::check::check;
 use rust_print::failure::Failure;
-use rust_print::forms::{Asked, Form};
+use rust_print::forms::{ReportFormat, ReportOptions};
 use rust_print::sarif::{write_end, write_start};
 use rust_print::shown::name;
 use rust_print::source::Source;
@@ -130,7 +130,7 @@ fn write_pairs<W: Write>(
     out: &mut W,
     source: Source<'_>,
     found: &Needless,
-    asked: Asked,
+    options: ReportOptions,
     then: Then,
 ) -> Result<u64, Failure> {
     let (alloc, pairs) = (rt.alloc(), found.pairs.as_slice());
@@ -139,7 +139,7 @@ fn write_pairs<W: Write>(
         None => &*source.text,
     };
     match then {
-        Then::List => parens::list(alloc, out, source, pairs, asked)?,
+        Then::List => parens::list(alloc, out, source, pairs, options)?,
         Then::Diff => {
             if !pairs.is_empty() {
                 fix::diff(rt, out, source, new)?;
@@ -162,11 +162,11 @@ fn parens<W: Write>(
     rt: &HostRuntime,
     out: &mut W,
     source: Source<'_>,
-    asked: Asked,
+    options: ReportOptions,
     then: Then,
 ) -> Result<u64, Failure> {
-    let found = parens::needless(rt.alloc(), source.text, asked.reading, asked.wanted)?;
-    write_pairs(rt, out, source, &found, asked, then)
+    let found = parens::needless(rt.alloc(), source.text, options.reading, options.wanted)?;
+    write_pairs(rt, out, source, &found, options, then)
 }
 
 // Writes what is done with a text in which nothing matches.
@@ -204,15 +204,15 @@ fn ask_and_fix<W: Write>(
     source: Source<'_>,
     set: &RuleSet,
     done: &Replaced,
-    asked: Asked,
+    options: ReportOptions,
     is_over: &mut bool,
 ) -> Result<(), Failure> {
-    let marks = ask(rt, out, source, set, done, asked, is_over)?;
+    let marks = ask(rt, out, source, set, done, options, is_over)?;
     let count = marks.iter().filter(|mark| **mark).count();
     if count == 0 {
         return Ok(());
     }
-    let taken = rules::with_taken(rt.alloc(), source, done, marks.as_slice(), asked)?;
+    let taken = rules::with_taken(rt.alloc(), source, done, marks.as_slice(), options)?;
     if !is_unchanged(rt, source) {
         return Err(Failure::Kept("it was changed meanwhile"));
     }
@@ -231,13 +231,13 @@ fn write_rewritten<W: Write>(
     source: Source<'_>,
     set: &RuleSet,
     done: &Replaced,
-    asked: Asked,
+    options: ReportOptions,
     then: Then,
     is_over: &mut bool,
 ) -> Result<(), Failure> {
     match then {
-        Then::Ask => ask_and_fix(rt, out, source, set, done, asked, is_over),
-        Then::List => rules::list(rt.alloc(), out, source, set, done, asked),
+        Then::Ask => ask_and_fix(rt, out, source, set, done, options, is_over),
+        Then::List => rules::list(rt.alloc(), out, source, set, done, options),
         Then::Diff => fix::diff_of(rt, out, source, &done.edit),
         Then::Fix => {
             let told = Done {
@@ -270,15 +270,15 @@ fn search<W: Write>(
     out: &mut W,
     source: Source<'_>,
     set: &RuleSet,
-    asked: Asked,
+    options: ReportOptions,
     in_macros: bool,
     kept: &mut Kept,
 ) -> Result<u64, Failure> {
     let set = rules_for(rt, &mut kept.chosen, set, source)?;
     if in_macros {
-        rules::search_within(rt.alloc(), out, source, set, asked)
+        rules::search_within(rt.alloc(), out, source, set, options)
     } else {
-        rules::search(rt.alloc(), out, source, set, asked)
+        rules::search(rt.alloc(), out, source, set, options)
     }
 }
 
@@ -287,13 +287,13 @@ fn replaced(
     alloc: Global,
     source: Source<'_>,
     set: &RuleSet,
-    asked: Asked,
+    options: ReportOptions,
     in_macros: bool,
 ) -> Result<Option<Replaced>, Failure> {
     if in_macros {
-        return rules::replaced_within(alloc, source.text, &set.rules, asked.reading);
+        return rules::replaced_within(alloc, source.text, &set.rules, options.reading);
     }
-    match rules::rewritten(alloc, source, set, asked)? {
+    match rules::rewritten(alloc, source, set, options)? {
         Some(done) => Ok(Some(Replaced::of(alloc, done)?)),
         None => Ok(None),
     }
@@ -306,19 +306,28 @@ fn rewrite<W: Write>(
     out: &mut W,
     source: Source<'_>,
     set: &RuleSet,
-    asked: Asked,
+    options: ReportOptions,
     then: Then,
     in_macros: bool,
     kept: &mut Kept,
 ) -> Result<u64, Failure> {
     let set = rules_for(rt, &mut kept.chosen, set, source)?;
-    match replaced(rt.alloc(), source, set, asked, in_macros)? {
+    match replaced(rt.alloc(), source, set, options, in_macros)? {
         None => {
             write_unchanged(rt, out, source, then)?;
             Ok(0)
         }
         Some(done) => {
-            write_rewritten(rt, out, source, set, &done, asked, then, &mut kept.is_over)?;
+            write_rewritten(
+                rt,
+                out,
+                source,
+                set,
+                &done,
+                options,
+                then,
+                &mut kept.is_over,
+            )?;
             Ok(done.edit.len() as u64)
         }
     }
@@ -393,26 +402,26 @@ impl Job {
         rt: &HostRuntime,
         out: &mut W,
         source: Source<'_>,
-        asked: Asked,
+        options: ReportOptions,
         kept: &mut Kept,
     ) -> Result<u64, Failure> {
         let alloc = rt.alloc();
         match &self.task {
-            Task::Tree { showing } => tree::show(alloc, out, source, asked.reading, showing),
-            Task::Check => check(alloc, out, source, asked),
-            Task::Outline => outline::show(alloc, out, source, asked),
-            Task::Parens { then } => parens(rt, out, source, asked, *then),
-            Task::Highlight { ink } => highlight::show(alloc, out, source, asked.reading, *ink),
-            Task::Tokens => tokens::show(alloc, out, source, asked),
-            Task::Query { pattern } => query::show(alloc, out, source, pattern, asked),
+            Task::Tree { showing } => tree::show(alloc, out, source, options.reading, showing),
+            Task::Check => check(alloc, out, source, options),
+            Task::Outline => outline::show(alloc, out, source, options),
+            Task::Parens { then } => parens(rt, out, source, options, *then),
+            Task::Highlight { ink } => highlight::show(alloc, out, source, options.reading, *ink),
+            Task::Tokens => tokens::show(alloc, out, source, options),
+            Task::Query { pattern } => query::show(alloc, out, source, pattern, options),
             Task::Search { set, in_macros } => {
-                search(rt, out, source, set, asked, *in_macros, kept)
+                search(rt, out, source, set, options, *in_macros, kept)
             }
             Task::Rewrite {
                 set,
                 then,
                 in_macros,
-            } => rewrite(rt, out, source, set, asked, *then, *in_macros, kept),
+            } => rewrite(rt, out, source, set, options, *then, *in_macros, kept),
         }
     }
 
@@ -426,12 +435,12 @@ impl Job {
         session: &mut Session,
         kept: &mut Kept,
     ) -> io::Result<()> {
-        let mut asked = self.options.asked;
-        asked.reading.edition = edition;
-        asked.is_first = session.found == 0;
+        let mut options = self.options.report;
+        options.reading.edition = edition;
+        options.is_first = session.found == 0;
         let reported = match self.options.summary {
-            Summary::Whole => self.report(rt, out, source, asked, kept),
-            _ => self.report(rt, &mut io::sink(), source, asked, kept),
+            Summary::Whole => self.report(rt, out, source, options, kept),
+            _ => self.report(rt, &mut io::sink(), source, options, kept),
         };
         match reported {
             Ok(found) => {
@@ -532,7 +541,7 @@ impl Job {
     ) -> io::Result<Session> {
         let start = Instant::now(rt)?;
         let mut progress = Progress::new(rt, self.options.edition, names.len() > 1);
-        let is_sarif = matches!(self.options.asked.format, Form::Sarif)
+        let is_sarif = matches!(self.options.report.format, ReportFormat::Sarif)
             && self.options.summary == Summary::Whole;
         if is_sarif {
             write_start(out)?;

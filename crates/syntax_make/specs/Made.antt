@@ -9,7 +9,7 @@ use Rattle.tree_model.specs.Edit.{root_of}
 use Rattle.ras_node.specs.Nodes.{kind_at}
 use Rattle.ras_front_end.specs.declared.edition.Entry.TheVariants.{SourceFile}
 use Rattle.ras_front_end.specs.declared.edition.Edition.{Edition}
-use Rattle.ras_front_end.specs.Fault.{Fault}
+use Rattle.ras_front_end.specs.ErrorModel.{ErrorModel}
 use Rattle.ras_front_end.specs.Front.{Front}
 use Rattle.ras_front_end.specs.Parsed.{Parsed, IsParseOf}
 use Rattle.ras_parsing.specs.AllErrors.{all_errors}
@@ -23,9 +23,9 @@ abbrev pub IsFileOf : Front → Edition → List ℕ → Parsed → Type 0
 IsFileOf front edition s p = IsParseOf s (front.parsed SourceFile edition s) p
 
 -- the first of some errors; None if there are none
-abbrev pub IsFirstOf : List Fault → Option Fault → Type 0
+abbrev pub IsFirstOf : List ErrorModel → Option ErrorModel → Type 0
 IsFirstOf faults None = faults ≡ []
-IsFirstOf faults (Some fault) = (rest : List Fault) × (faults ≡ fault ∷ rest)
+IsFirstOf faults (Some fault) = (rest : List ErrorModel) × (faults ≡ fault ∷ rest)
 
 -- the parse of a text as a file, without errors
 pub record IsCleanOf (front : Front) (edition : Edition) (s : List ℕ) (p : Parsed) : Type 0 where
@@ -54,7 +54,7 @@ pub record IsMadeIn (front : Front) (edition : Edition) (place : Place) (casts :
   pub alone : made ≡ root_of (focus there)
 
 -- why it is not: the first error of the file; or there is no error, and no such node
-pub record IsFaultIn (front : Front) (edition : Edition) (s : List ℕ) (fault : Fault) : Type 0 where
+pub record IsFaultIn (front : Front) (edition : Edition) (s : List ℕ) (fault : ErrorModel) : Type 0 where
   pub file : Parsed
   pub parsed : IsFileOf front edition s file
   pub first : IsFirstOf (all_errors file) (Some fault)

@@ -3,7 +3,7 @@ ghost use Rattle.std.specs.Prelude.{◌≡◌, ◌↔◌, ◌⊎◌, ◌++◌, �
 ghost use Rattle.std.specs.List.{list_all};
 ghost use Rattle.tree_model.specs.Tree.{text};
 ghost use Rattle.ras_front_end.specs.declared.parse_error.ParseError.TheVariants.{TooLong};
-ghost use Rattle.ras_parsing.specs.Edit.{IsEditOf, edited};
+ghost use Rattle.ras_parsing.specs.Edit.{IsEditOf, edited, replacing};
 ghost use Rattle.ras_parsing.specs.AllErrors.{debug_dump_of};
 ghost use Rattle.syntax_tool.specs.Requests.{is_digit, value_from, number_of, told, IsRange, IsReread, AnswersEdit, AnswersRange, AnswersLines, AnswersReparse};
 ghost use Rattle.syntax_tool.specs.Lines.{HasNo, IsLine};
@@ -84,16 +84,15 @@ fn edit_parse(
     delete: TextRange,
     insert: &str,
 ) -> Result<(Option<TextRange>, Parse<SourceFile>), ParseError>
-    requires { IsEditOf (text old.now.tree) (record { delete = delete; insert = insert.now }) }
+    requires { IsEditOf (text old.now.tree) (replacing delete insert.now) }
     ensures read { IfOk result
-        (λ p. IsReread old.now (record { delete = delete; insert = insert.now }) p.0 p.1) }
+        (λ p. IsReread old.now (replacing delete insert.now) p.0 p.1) }
     ensures accepted { OnOk result (length
-        (edited (text old.now.tree) (record { delete = delete; insert = insert.now }))
+        (edited (text old.now.tree) (replacing delete insert.now))
         < 2 ^ 32) }
     ensures refused { IfErr result (λ e. (e ≡ TooLong)
         ↔ (2 ^ 32
-        ≤ length (edited (text old.now.tree)
-        (record { delete = delete; insert = insert.now })))) }
+        ≤ length (edited (text old.now.tree) (replacing delete insert.now)))) }
 {
     match old.incremental_reparse(alloc, &Tiny, delete, insert, Edition::CURRENT)? {
         Some((new, range)) => Ok((Some(range), new)),
@@ -111,13 +110,13 @@ fn edit_answer(
     delete: TextRange,
     insert: &str,
 ) -> Result<String, Refusal>
-    requires { IsEditOf (text old.now.tree) (record { delete = delete; insert = insert.now }) }
+    requires { IsEditOf (text old.now.tree) (replacing delete insert.now) }
     ensures { MatchResult result
         (λ out.
-        AnswersEdit old.now (record { delete = delete; insert = insert.now })
+        AnswersEdit old.now (replacing delete insert.now)
         (Ok (string_bytes out)))
         (λ e. (e ≡ Refusal.Memory)
-        ⊎ AnswersEdit old.now (record { delete = delete; insert = insert.now }) (Err e)) }
+        ⊎ AnswersEdit old.now (replacing delete insert.now) (Err e)) }
 {
     let (piece, new) = edit_parse(alloc, old, delete, insert)?;
     Ok(report(alloc, piece, &new)?)

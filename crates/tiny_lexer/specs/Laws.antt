@@ -2,7 +2,7 @@
 use Rattle.std.proofs.Common.{ℕ, List, [], ◌∷◌, length, map}
 use Rattle.std.specs.Prelude.{All}
 use Rattle.std.proofs.lemmas.List.Elements.{All-cons, All-nil, All-head, All-tail}
-use Rattle.ras_front_end.specs.Fault.{LiesIn}
+use Rattle.ras_front_end.specs.ErrorModel.{LiesIn}
 use Rattle.token_layout.specs.Answers.{LexerKeeps}
 use Rattle.tiny_lexer.specs.declared.lexer.Complaint.{Complaint}
 use Rattle.tiny_lexer.specs.Cut.{IsLexed, ComplaintLiesIn}

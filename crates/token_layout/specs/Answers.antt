@@ -2,13 +2,13 @@
 use Rattle.std.specs.Prelude.{ℕ, ◌<◌, ◌^◌, List, length, Option, Bool, All, IsUtf8}
 use Rattle.syntax_kind.specs.declared.syntax_kind.SyntaxKind.{SyntaxKind}
 use Rattle.ras_front_end.specs.declared.edition.Edition.{Edition}
-use Rattle.ras_front_end.specs.Fault.{Fault, LiesIn}
+use Rattle.ras_front_end.specs.ErrorModel.{ErrorModel, LiesIn}
 use Rattle.token_layout.specs.declared.span.Token.{Token}
 use Rattle.token_layout.specs.Laid.{IsCut}
 
 pub record LexerAnswers : Type 0 where
   pub tokens : Edition → List ℕ → List Token
-  pub errors : Edition → List ℕ → List Fault
+  pub errors : Edition → List ℕ → List ErrorModel
   pub word : Edition → List ℕ → Option SyntaxKind
   pub is_strict : Edition → SyntaxKind → Bool
 

@@ -1,24 +1,22 @@
 -- Where a node begins with another token than a pattern, the node is not the pattern.
-use Rattle.std.proofs.Common.{◌≡◌, ℕ, ◌+◌, ◌==◌, ◌<◌, Bool, true, false, not, ◌&&◌, if◌then◌else◌, length, refl, sym, ap, ◌∙◌, Option, Some, None, List, [], ◌∷◌, String, Global}
-use Rattle.std.specs.Prelude.{replicate, string_bytes}
-use Rattle.std.specs.Cmp.Lexicographic.{pointwise}
+use Rattle.std.proofs.Common.{◌≡◌, ℕ, ◌+◌, ◌<◌, Bool, true, false, not, ◌&&◌, if◌then◌else◌, length, refl, sym, ap, ◌∙◌, Option, Some, None, List, [], ◌∷◌, String, Global}
+use Rattle.std.specs.Prelude.{replicate}
 use Rattle.std.proofs.lemmas.Option.{option_and_then_some}
 use Rattle.syntax_kind.specs.declared.syntax_kind.SyntaxKind.{SyntaxKind}
 use Rattle.syntax_kind.specs.declared.syntax_kind.TheConstants.SyntaxKind.{PAREN_EXPR}
 use Rattle.syntax_kind.specs.Kinds.{is_trivia, is_same_kind}
-use Rattle.syntax_kind.specs.KindLaws.{is_same_kind-equal}
-use Rattle.tree_model.specs.Tree.{node, token, Forest, nil, cons, kind_of, forest_size, forest_of_children}
-use Rattle.lossless_tree.specs.Trees.{Siblings, is_done, first_of, behind_first, inside_first}
+use Rattle.tree_model.specs.Tree.{node, token, Forest, nil, cons, forest_size, forest_of_children}
+use Rattle.lossless_tree.specs.Trees.{Siblings, first_of, inside_first}
 use Rattle.tree_match.specs.declared.bare.Comments.{Comments}
 use Rattle.tree_match.specs.declared.condition.Hole.{Hole}
 use Rattle.tree_match.specs.declared.part.Part.{Part}
 use Rattle.tree_match.specs.declared.part.Part.TheVariants as part
-use Rattle.tree_match.specs.Bare.{end, leaf, is_passed, past_trees, past_start, bare, behind_one}
+use Rattle.tree_match.specs.Bare.{end, leaf, is_passed, past_trees, past_start, behind_one}
 use Rattle.tree_match.specs.Walks.{step_at, advance, is_part}
 use Rattle.tree_match.specs.Matching.{Values, match_part, match_from, match_parts}
 use Rattle.tree_match.specs.Signs.{word_part, fits}
 use Rattle.tree_match.specs.Leads.{is_leading, lead_here, lead_of, lead_in}
-use Rattle.tree_match.proofs.BareLemmas.{and_left, and_right, at, children_smaller}
+use Rattle.tree_match.proofs.BareLemmas.{and_left, at, children_smaller}
 use Rattle.tree_match.proofs.SignLemmas.{given, fits_end, passed_trivia, bare_itself}
 
 -- ---- the first tokens one by one

@@ -1,5 +1,5 @@
 -- What tells most calls from a pattern at once: the token with which they begin.
-use Rattle.std.specs.Prelude.{Bool, true, false, not, ◌&&◌, if◌then◌else◌, List, [], ◌∷◌, Option, Some, None}
+use Rattle.std.specs.Prelude.{Bool, not, ◌&&◌, if◌then◌else◌, List, [], ◌∷◌, Option, None}
 use Rattle.syntax_kind.specs.declared.syntax_kind.TheConstants.SyntaxKind.{PAREN_EXPR}
 use Rattle.syntax_kind.specs.Kinds.{is_trivia, is_same_kind}
 use Rattle.tree_model.specs.Tree.{Forest, node, token, nil, cons, kind_of, text, is_token}

@@ -1,6 +1,5 @@
 //! Another quick test that tells most nodes from a pattern: most calls begin with another word.
 ghost use Rattle.std.specs.Prelude.{◌≡◌, option_map};
-ghost use Rattle.lossless_tree.specs.Trees.{first_of};
 ghost use Rattle.tree_match.specs.Walks.{step_of};
 ghost use Rattle.tree_match.specs.Signs.{fits, word_part};
 ghost use Rattle.tree_match.specs.Leads.{is_leading, lead_here, lead_of, lead_in};

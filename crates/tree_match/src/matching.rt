@@ -1,5 +1,5 @@
 //! A pattern at one place of a tree.
-ghost use Rattle.std.specs.Prelude.{◌≡◌, IfOk, OnOk, if◌then◌else◌, Some, None, option_map, replicate, get_or, length, slice_get};
+ghost use Rattle.std.specs.Prelude.{◌≡◌, IfOk, OnOk, if◌then◌else◌, Some, None, option_map, replicate, length, slice_get};
 ghost use Rattle.tree_match.specs.Walks.{levels_of, step_of};
 ghost use Rattle.tree_match.specs.Signs.{sign_of};
 ghost use Rattle.tree_match.specs.Matching.{put, put_held, put_new, match_part, match_parts, match_form, first_form, is_for, match_rule, match_template, match_numbered, first_rule, first_among, found_of};

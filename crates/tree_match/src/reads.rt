@@ -1,5 +1,5 @@
 //! Whether a tree is another one with the matches of rules replaced.
-ghost use Rattle.std.specs.Prelude.{◌≡◌, IfOk, IsTrue, option_map, slice_get};
+ghost use Rattle.std.specs.Prelude.{◌≡◌, IfOk, IsTrue, option_map};
 ghost use Rattle.tree_match.specs.declared.bare.Comments.TheVariants.{Passed};
 ghost use Rattle.tree_match.specs.Bare.{bare};
 ghost use Rattle.tree_match.specs.Finds.{inside_of};

@@ -1,15 +1,14 @@
 //! Precedences of expressions, and parentheses.
-ghost use Rattle.std.specs.Prelude.{◌≡◌, ◌↔◌, ◌&&◌, ◌∷◌, ℕ, List, IfOk, IfSome, Some, map, option_map, true, false};
-ghost use Rattle.tree_model.specs.Cursor.{Cursor, focus, parent_of};
+ghost use Rattle.std.specs.Prelude.{◌≡◌, ◌↔◌, ◌&&◌, ℕ, List, IfOk, IfSome, map, option_map, true, false};
+ghost use Rattle.tree_model.specs.Cursor.{focus};
 ghost use Rattle.ras_node.specs.Nodes.{kind_at};
-ghost use Rattle.operator_terms.specs.Term.{Term, Paren, tokens};
-ghost use Rattle.operator_terms.specs.Reading.{begins_with_angle, Reads};
+ghost use Rattle.operator_terms.specs.Term.{Term, tokens};
 ghost use Rattle.operator_terms.specs.Pairs.{without};
-ghost use Rattle.operator_terms.specs.Places.{Demand, Part, some_part, operand, Fits, FitsPlace, MayStandBefore};
+ghost use Rattle.operator_terms.specs.Places.{operand, Fits, MayStandBefore};
 ghost use Rattle.operator_trees.specs.Leaves.{leaves_behind};
 ghost use Rattle.operator_trees.specs.Shown.{shown, meaning, IsTerm};
 ghost use Rattle.operator_reading.specs.Reads.{ReadsBack};
-ghost use Rattle.operator_pairs.specs.Pairs.{operand_cursor, angle_behind, MayGoBefore};
+ghost use Rattle.operator_pairs.specs.Decides.{DecidesItsPlace, DecidesItsTerm, DecidesOperands, DecidesPairs};
 ghost use Rattle.ras_operators.specs.Levels.{precedence_of, is_valueless, is_dyn_or_impl, is_pointing};
 ghost use Rattle.ras_prec.specs.Headline.{NeedlessOf, NoOperandNeedsAny};
 ghost use Rattle.ras_prec.specs.Rules.{asks};
@@ -56,17 +55,8 @@ impl ast::Expr {
     /// follows it or it is below `&&`.
     pub fn needs_parens_in(&self, parent: &SyntaxNode) -> bool
         ensures asks { result ≡ asks (expr_node self.now) parent.now (expr_node self.now) }
-        ensures fits { (r : Cursor) (t : Term) (i : ℕ) (q : List ℕ) (held : Part)
-            → meaning (focus r) ≡ IsTerm t → operand t (i ∷ q) ≡ Some held
-            → expr_node self.now ≡ operand_cursor r t (i ∷ q)
-            → parent_of (expr_node self.now) ≡ Some parent.now
-            → result ≡ false ↔ FitsPlace held.demand (angle_behind r t (i ∷ q)) held.term }
-        ensures alone { (r : Cursor) (t : Term) (i : ℕ) (q : List ℕ) (held : Part)
-            → meaning (focus r) ≡ IsTerm t → operand t (i ∷ q) ≡ Some held
-            → expr_node self.now ≡ operand_cursor r t (i ∷ q)
-            → parent_of (expr_node self.now) ≡ Some parent.now
-            → begins_with_angle (leaves_behind r.tree r.place) ≡ false
-            → result ≡ false ↔ Fits t (i ∷ q) }
+        ensures fits { DecidesItsPlace (expr_node self.now) parent.now result }
+        ensures alone { DecidesItsTerm (expr_node self.now) parent.now result }
     {
         ras_prec::rules::needs_parens_in(self.syntax(), parent)
     }
@@ -81,19 +71,8 @@ impl ast::Expr {
     /// is then their only reading.
     pub fn needs_parens_in_place_of(&self, parent: &SyntaxNode, place: &SyntaxNode) -> bool
         ensures asks { result ≡ asks (expr_node self.now) parent.now place.now }
-        ensures fits { (r : Cursor) (t s : Term) (i : ℕ) (q : List ℕ) (held : Part)
-            → meaning (focus r) ≡ IsTerm t → operand t (i ∷ q) ≡ Some held
-            → place.now ≡ operand_cursor r t (i ∷ q) → parent_of place.now ≡ Some parent.now
-            → meaning (focus (expr_node self.now)) ≡ IsTerm s
-            → result ≡ false ↔ FitsPlace held.demand (angle_behind r t (i ∷ q)) s }
-        ensures pairs { (r : Cursor) (t : Term) (i : ℕ) (q : List ℕ) (d : Demand) (e : Term)
-            → meaning (focus r) ≡ IsTerm t → operand t (i ∷ q) ≡ some_part d (Paren e)
-            → place.now ≡ operand_cursor r t (i ∷ q) → parent_of place.now ≡ Some parent.now
-            → meaning (focus (expr_node self.now)) ≡ IsTerm e
-            → Reads 0 (tokens t) t → MayGoBefore (leaves_behind r.tree r.place) t (i ∷ q)
-            → (result ≡ false ↔ Reads 0 (tokens (without (i ∷ q) t)) (without (i ∷ q) t))
-            × (result ≡ false → (u : Term)
-            → Reads 0 (tokens (without (i ∷ q) t)) u → u ≡ without (i ∷ q) t) }
+        ensures fits { DecidesOperands (expr_node self.now) parent.now place.now result }
+        ensures pairs { DecidesPairs (expr_node self.now) parent.now place.now result }
     {
         ras_prec::rules::needs_parens_in_place_of(self.syntax(), parent, place)
     }

@@ -4,7 +4,7 @@ use Rattle.std.proofs.lemmas.Str.{IsUtf8-string_bytes}
 use Rattle.text_size.specs.TextRange.{Bounds}
 use Rattle.tree_model.specs.Tree.{Tree, text}
 use Rattle.tree_model.specs.Cursor.{Cursor, focus, range_end}
-use Rattle.ras_front_end.specs.Fault.{Fault}
+use Rattle.ras_front_end.specs.ErrorModel.{ErrorModel}
 use Rattle.ras_front_end.specs.Reading.{reading_of}
 use Rattle.ras_parsing.specs.Edit.{Edit, IsEditOf}
 use Rattle.ras_parsing.specs.Document.{AreShort}
@@ -40,5 +40,5 @@ returns g c =
     (g.met.F.ExactFront.exact_kept c.args.front.now) c.requires.edit c.requires.short c.node_is_placed.ensures.placed.is_place (IsUtf8-string_bytes c.in_ok-text.text)
     around c.first_exact.ensures c.in-Some.is
     head c.has_head.ensures c.if-has_head.false
-    ends (c.lexer_part.ensures ∙ ap (λ (l : List Fault). drop c.args.count l) c.stored.ensures.errors) c.is_quiet_from.ensures c.if-not-is_quiet_from.false
+    ends (c.lexer_part.ensures ∙ ap (λ (l : List ErrorModel). drop c.args.count l) c.stored.ensures.errors) c.is_quiet_from.ensures c.if-not-is_quiet_from.false
     c.in_ok-text.ensures c.as_str-2.ensures.value c.in_ok-output.ensures c.in-Some-2.is few c.as_str-3.ensures c.in_ok-is_exact_piece.ensures c.if-not-branch.false

@@ -2,7 +2,7 @@ use Rattle.std.proofs.Common.{sym, ap, ◌∙◌, subst, arith, length, refl}
 use Rattle.std.specs.Prelude.{All}
 use Rattle.tree_model.specs.Tree.{text}
 use Rattle.ras_parsing.specs.Edit.{Edit}
-use Rattle.ras_front_end.specs.Fault.{LiesIn}
+use Rattle.ras_front_end.specs.ErrorModel.{LiesIn}
 use Rattle.ras_parsing.specs.Document.{all_in_order}
 use Rattle.ras_parsing.proofs.Around.{spliced_length}
 use Rattle.ras_parsing.proofs.MergedInText.{Fits}

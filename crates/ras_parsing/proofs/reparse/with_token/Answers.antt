@@ -4,7 +4,7 @@ use Rattle.tree_model.specs.Tree.{Tree, token, text}
 use Rattle.tree_model.specs.Cursor.{Cursor}
 use Rattle.tree_model.specs.Edit.{replace}
 use Rattle.ras_parsing.specs.Edit.{Edit, edited, edited_at}
-use Rattle.ras_front_end.specs.Fault.{LiesIn}
+use Rattle.ras_front_end.specs.ErrorModel.{LiesIn}
 use Rattle.ras_front_end.specs.Parsed.{Parsed}
 use Rattle.ras_parsing.specs.Reparse.{merged}
 use Rattle.ras_parsing.proofs.BuildLemmas.{ok_is}

@@ -10,9 +10,9 @@ use Rattle.ras_prec_walks.specs.Turns.{reaches}
 use Rattle.ras_prec_walks.proofs.Operands.{block_behind_dots}
 use Rattle.ras_prec_walks.proofs.parts.range_ends_in_block.Goals as goal
 
-pub returns-then-is_a : goal.returns-then-is_a
-returns-then-is_a c =
-    let range : is_of_kind (Node kind.RANGE_EXPR) c.args.node.now ≡ true = sym c.is_a.ensures ∙ c.if-is_a.true in
+pub returns-then-is_of_kind : goal.returns-then-is_of_kind
+returns-then-is_of_kind c =
+    let range : is_of_kind (Node kind.RANGE_EXPR) c.args.node.now ≡ true = sym c.is_of_kind.ensures ∙ c.if-is_of_kind.true in
     c.reaches.ensures
     ∙ ap (λ s. reaches Block BehindDots s.trees) c.trees.ensures
     ∙ block_behind_dots c.args.node.now

@@ -1,4 +1,4 @@
-use Rattle.std.proofs.Common.{arith, ap, sym, ◌∙◌}
+use Rattle.std.proofs.Common.{ap, sym, ◌∙◌}
 use Rattle.std.proofs.lemmas.Result.{on_ok_weaker}
 use Rattle.event_layout.specs.Layout.{given_of, laying_of, enter_of}
 use Rattle.event_layout.proofs.Blanks.{begun_behind_blank}

@@ -2,7 +2,7 @@ use Rattle.std.proofs.Common.{◌≡◌, sym, ap, ◌∙◌, subst, length, fals
 use Rattle.std.specs.Prelude.{All}
 use Rattle.std.specs.List.{list_any}
 use Rattle.tree_model.specs.Tree.{text}
-use Rattle.ras_front_end.specs.Fault.{LiesIn}
+use Rattle.ras_front_end.specs.ErrorModel.{LiesIn}
 use Rattle.ras_parsing.specs.Draft.{is_past}
 use Rattle.ras_parsing.proofs.TreeTexts.{built_len}
 use Rattle.ras_parsing.proofs.PastErrors.{none_past}

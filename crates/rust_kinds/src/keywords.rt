@@ -1,9 +1,9 @@
 //! The words that are keywords everywhere in an edition, by their first letter.
 ghost use Rattle.std.specs.Prelude.{◌≡◌, bytes_eq};
-ghost use Rattle.rust_words.specs.Keywords.{find, is_2018_of, is_2024_of, keyword_of, words_upper_s, words_a, words_b, words_c, words_d, words_e, words_f, words_g, words_i, words_l, words_m, words_o, words_p, words_r, words_s, words_t, words_u, words_v, words_w, words_y};
+ghost use Rattle.rust_kinds.specs.Keywords.{find, is_2018_of, is_2024_of, keyword_of, words_upper_s, words_a, words_b, words_c, words_d, words_e, words_f, words_g, words_i, words_l, words_m, words_o, words_p, words_r, words_s, words_t, words_u, words_v, words_w, words_y};
 
+use crate::kinds;
 use ras_front_end::Edition;
-use rust_kinds::kinds;
 use syntax_kind::SyntaxKind;
 
 /// Whether it is 2018 or later.

@@ -6,7 +6,7 @@ use Rattle.syntax_kind.specs.declared.syntax_kind.SyntaxKind.{SyntaxKind}
 use Rattle.syntax_kind.specs.declared.syntax_kind.SyntaxKind.TheVariants.{Token, OTHER}
 use Rattle.syntax_kind.specs.declared.syntax_kind.token_kind.TokenKind.TheVariants as token
 use Rattle.ras_front_end.specs.declared.edition.Edition.{Edition}
-use Rattle.rust_words.specs.Keywords.{is_2018_of, Words, find}
+use Rattle.rust_kinds.specs.Keywords.{is_2018_of, Words, find}
 
 abbrev pub names_a : Words
 names_a =

@@ -1,10 +1,10 @@
 //! The kinds of the words that are keywords everywhere in an edition.
 ghost use Rattle.std.specs.Prelude.{◌≡◌};
-ghost use Rattle.rust_words.specs.Strict.{is_reserved_kind_of, is_strict_kind_of};
+ghost use Rattle.rust_kinds.specs.Strict.{is_reserved_kind_of, is_strict_kind_of};
 
 use crate::keywords::{is_2018, is_2024};
+use crate::kinds;
 use ras_front_end::Edition;
-use rust_kinds::kinds;
 use syntax_kind::SyntaxKind;
 
 fn is_reserved_kind(kind: SyntaxKind) -> bool

@@ -1,11 +1,11 @@
 //! The words that are keywords only where the grammar asks for them, by their first letter.
 ghost use Rattle.std.specs.Prelude.{◌≡◌};
-ghost use Rattle.rust_words.specs.Keywords.{find};
-ghost use Rattle.rust_words.specs.Contextual.{contextual_kind_of, contextual_keyword_of, names_a, names_b, names_c, names_d, names_f, names_g, names_i, names_l, names_m, names_n, names_o, names_p, names_r, names_s, names_u, names_y};
+ghost use Rattle.rust_kinds.specs.Keywords.{find};
+ghost use Rattle.rust_kinds.specs.Contextual.{contextual_kind_of, contextual_keyword_of, names_a, names_b, names_c, names_d, names_f, names_g, names_i, names_l, names_m, names_n, names_o, names_p, names_r, names_s, names_u, names_y};
 
 use crate::keywords::is_2018;
+use crate::kinds;
 use ras_front_end::Edition;
-use rust_kinds::kinds;
 use syntax_kind::SyntaxKind;
 
 fn name_a(text: &str) -> Option<SyntaxKind>

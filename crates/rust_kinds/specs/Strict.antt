@@ -4,7 +4,7 @@ use Rattle.syntax_kind.specs.declared.syntax_kind.SyntaxKind.{SyntaxKind}
 use Rattle.syntax_kind.specs.declared.syntax_kind.SyntaxKind.TheVariants.{Token, OTHER}
 use Rattle.syntax_kind.specs.declared.syntax_kind.token_kind.TokenKind.TheVariants as token
 use Rattle.ras_front_end.specs.declared.edition.Edition.{Edition}
-use Rattle.rust_words.specs.Keywords.{is_2018_of, is_2024_of}
+use Rattle.rust_kinds.specs.Keywords.{is_2018_of, is_2024_of}
 
 -- those reserved words that the table of further kinds has: abstract, box, final, override, priv,
 -- typeof, unsized, virtual

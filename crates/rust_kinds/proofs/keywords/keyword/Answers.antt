@@ -1,7 +1,7 @@
 use Rattle.std.proofs.Common.{rules, ap, sym, ◌∙◌}
 use Rattle.std.specs.Prelude.{option_copied, slice_get}
-use Rattle.rust_words.proofs.Groups.{no_keyword}
-use Rattle.rust_words.proofs.keywords.keyword.Goals as goal
+use Rattle.rust_kinds.proofs.Groups.{no_keyword}
+use Rattle.rust_kinds.proofs.keywords.keyword.Goals as goal
 
 pub returns-in_default : goal.returns-in_default
 returns-in_default c =

@@ -7,8 +7,8 @@ use Rattle.std.proofs.lemmas.Slice.Eq.{bytes_eq-Decides}
 use Rattle.syntax_kind.specs.declared.syntax_kind.SyntaxKind.{SyntaxKind}
 use Rattle.ras_front_end.specs.declared.edition.Edition.{Edition}
 use Rattle.ras_front_end.specs.declared.edition.Edition.TheVariants.{Edition2015, Edition2018, Edition2021, Edition2024}
-use Rattle.rust_words.specs.Keywords.{Words, find, keyword_of, words_upper_s, words_a, words_b, words_c, words_d, words_e, words_f, words_g, words_i, words_l, words_m, words_o, words_p, words_r, words_s, words_t, words_u, words_v, words_w, words_y}
-use Rattle.rust_words.specs.Contextual.{contextual_kind_of, names_a, names_b, names_c, names_d, names_f, names_g, names_i, names_l, names_m, names_n, names_o, names_p, names_r, names_s, names_u, names_y}
+use Rattle.rust_kinds.specs.Keywords.{Words, find, keyword_of, words_upper_s, words_a, words_b, words_c, words_d, words_e, words_f, words_g, words_i, words_l, words_m, words_o, words_p, words_r, words_s, words_t, words_u, words_v, words_w, words_y}
+use Rattle.rust_kinds.specs.Contextual.{contextual_kind_of, names_a, names_b, names_c, names_d, names_f, names_g, names_i, names_l, names_m, names_n, names_o, names_p, names_r, names_s, names_u, names_y}
 
 -- words by their first byte
 abbrev pub Groups : Type 0

@@ -1,2 +1,0 @@
-mod Words
-mod Groups

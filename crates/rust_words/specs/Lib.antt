@@ -1,3 +1,0 @@
-pub mod Keywords
-pub mod Contextual
-pub mod Strict
