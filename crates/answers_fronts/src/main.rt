@@ -42,6 +42,7 @@ use edits::show_edit;
 use every_edit::show_every_edit;
 use every_offset::show_every_offset;
 use every_term::show_every_term;
+use grammar_front::GrammarFront;
 use parens::show_parens;
 use parses::{show_expr, show_file};
 use ra_ap_syntax::utils::{is_identifier, is_raw_identifier};
@@ -54,7 +55,6 @@ use std::process::ExitCode;
 use stopped::Stopped;
 use tiny_front::Tiny;
 use tiny_lexer::TinyLexer;
-use token_layout::SpanFront;
 use useless::Useless;
 use walk::show_walk;
 
@@ -98,10 +98,10 @@ fn show_by<F: FrontEnd>(
     }
 }
 
-fn with(parser: Useless) -> SpanFront<TinyLexer, Useless> {
-    SpanFront {
+fn with(language: Useless) -> GrammarFront<TinyLexer, Useless> {
+    GrammarFront {
         lexer: TinyLexer,
-        parser,
+        language,
     }
 }
 

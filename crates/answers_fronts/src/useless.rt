@@ -1,12 +1,16 @@
-//! Parsers whose trees are of no use, for what holds with every front end.
+//! Grammars whose trees are of no use, for what holds with every front end: that of the small
+//! language with other operations.
 
+use grammar_front::{ErrorPlace, Language, Target};
+use grammar_machine::{Grammar, Op, Sight};
 use ra_ap_syntax::SyntaxKind;
-use ras_front_end::Entry;
+use ras_front_end::{Edition, Entry};
 use std::alloc::{AllocError, Global};
-use token_layout::{Outline, Parser, Span, Target, Token};
+use tiny_front::TinyLanguage;
+use token_layout::Token;
 
-/// Every expression is an `ERROR` over its tokens, the parser reports no errors, and every node may
-/// be parsed again.
+/// Every expression is an `ERROR` over its tokens, there are no errors, and every node may be
+/// parsed again.
 #[derive(Clone, Copy, Debug, Drop)]
 pub enum Useless {
     /// Every token is a child of the root.
@@ -15,31 +19,63 @@ pub enum Useless {
     Wrong,
 }
 
-impl Parser for Useless {
-    ghost use Rattle.answers_fronts.specs.Useless.{useless_parser};
+// The first operation returns. From the second one on, all tokens are taken into two nodes, of
+// which the outer one becomes the root.
+#[rattlefmt::skip]
+static OPS: [Op; 9] = [
+    Op::Return,
+    Op::Open,
+    Op::Open,
+    Op::IfKind { kind: 1, target: 6 },
+    Op::Take,
+    Op::Jump { target: 3 },
+    Op::Close { kind: SyntaxKind::ERROR },
+    Op::Close { kind: SyntaxKind::SOURCE_FILE },
+    Op::Return,
+];
 
-    ghost parses = { useless_parser };
+fn ops() -> &'static [Op] {
+    &OPS
+}
 
-    fn outline(
+impl Language for Useless {
+    ghost use Rattle.answers_fronts.specs.Useless.{useless_language};
+
+    ghost speaks = { useless_language };
+
+    fn grammar(&self) -> Grammar<'static> {
+        let mut grammar = TinyLanguage.grammar();
+        grammar.ops = ops();
+        grammar
+    }
+
+    fn rule(&self, target: Target) -> usize {
+        match (self, target) {
+            (Useless::Flat, _) | (_, Target::Whole(Entry::Expr)) => 0,
+            (Useless::Wrong, _) => 1,
+        }
+    }
+
+    fn sights(
         &self,
         alloc: Global,
-        target: Target,
+        text: &str,
         tokens: &[Token],
-    ) -> Result<Outline, AllocError> {
-        let mut spans = Vec::new(alloc);
-        match (self, target) {
-            (Useless::Flat, _) | (_, Target::Whole(Entry::Expr)) => {}
-            (Useless::Wrong, _) => spans.push(Span {
-                kind: SyntaxKind::ERROR,
-                first: 0,
-                end: tokens.len(),
-            })?,
-        }
-        Ok(Outline {
-            root: SyntaxKind::ERROR,
-            spans,
-            errors: Vec::new(alloc),
-        })
+        edition: Edition,
+    ) -> Result<Vec<Sight>, AllocError> {
+        TinyLanguage.sights(alloc, text, tokens, edition)
+    }
+
+    fn message(&self, alloc: Global, _number: u16, _rest: &[Token]) -> Result<String, AllocError> {
+        Ok(String::new(alloc))
+    }
+
+    fn error_place(&self) -> ErrorPlace {
+        ErrorPlace::BehindLast
+    }
+
+    fn attaching(&self) -> &'static [SyntaxKind] {
+        &[]
     }
 
     fn reparser(

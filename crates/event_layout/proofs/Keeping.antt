@@ -8,7 +8,7 @@ use Rattle.syntax_kind.specs.declared.syntax_kind.SyntaxKind.{SyntaxKind}
 use Rattle.ras_front_end.specs.Reading.{FrontStep, begins, takes, ends, reports, step_faults}
 use Rattle.token_layout.specs.declared.span.Token.{Token as RawToken}
 use Rattle.token_layout.specs.Laid.{IsCut}
-use Rattle.token_layout.specs.Back.{balance}
+use Rattle.token_layout.specs.Balance.{balance}
 use Rattle.grammar_machine.specs.declared.event.Event.{Event}
 use Rattle.grammar_machine.specs.declared.event.Event.TheVariants.{Token, Piece, Node, Error}
 use Rattle.grammar_machine.specs.declared.event.Part.{Part}

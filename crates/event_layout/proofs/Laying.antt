@@ -10,7 +10,7 @@ use Rattle.tree_model.proofs.Balance.{events_of-forest_of, builds-events_of}
 use Rattle.ras_front_end.specs.Reading.{FrontStep, begins, takes, ends, reports, events_from, step_faults}
 use Rattle.token_layout.specs.declared.span.Token.{Token as RawToken}
 use Rattle.token_layout.specs.Laid.{IsCut, Laid}
-use Rattle.token_layout.specs.Back.{balance}
+use Rattle.token_layout.specs.Balance.{balance}
 use Rattle.grammar_machine.specs.declared.event.Event.{Event}
 use Rattle.event_layout.specs.Layout.{Given, Laying, given, pass_on, pass_all_of, exit_all_of, closed_of, moves, moves_of, start_of, laid_of}
 use Rattle.event_layout.proofs.Cutting.{CutsTo, IsCutFrom, cuts_ends, cuts_all, from_start}

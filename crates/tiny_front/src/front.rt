@@ -1,92 +1,82 @@
-//! The parser of the front end.
-ghost use Rattle.std.specs.Prelude.{◌≡◌, IfOk};
-ghost use Rattle.token_layout.specs.Answers.{outlined};
-ghost use Rattle.tiny_front.specs.Front.{goal_of, outline_with, is_block_of};
+//! The front end, and what it takes from the grammar.
+ghost use Rattle.std.specs.Prelude.{◌≡◌};
+ghost use Rattle.tiny_front.specs.Front.{entry_of};
 
-use crate::goal::Goal;
-use crate::parser::outline;
-use crate::report::errors;
-use ras_front_end::{Entry, SyntaxError};
+use crate::tables::kind_table::TOKENS;
+use crate::tables::{Rule, grammar, message, rule_of};
+use grammar_front::{ErrorPlace, GrammarFront, Language, Target, sights_by_kind};
+use grammar_machine::{Grammar, Sight};
+use ras_front_end::{Edition, Entry};
 use std::alloc::{AllocError, Global};
 use syntax_kind::SyntaxKind;
 use tiny_lexer::TinyLexer;
-use token_layout::{Outline, Parser, Span, SpanFront, Target, Token};
+use token_layout::Token;
 
 /// A front end for a small part of Rust: functions without parameters, whose bodies are the only
 /// blocks; `let` bindings, statements; and expressions of literals, names, operators, references,
-/// parentheses, calls, method calls, fields, indexes, `?`, `.await`, ranges and casts. It takes
-/// time linear in the text, and no recursion.
-pub const Tiny: SpanFront<TinyLexer, TinyParser> = SpanFront {
+/// parentheses, calls, method calls, fields, indexes, `?`, `.await`, ranges and casts. Its grammar
+/// is the text `tiny.grammar` of this crate. It takes time linear in the text, and no recursion.
+pub const Tiny: GrammarFront<TinyLexer, TinyLanguage> = GrammarFront {
     lexer: TinyLexer,
-    parser: TinyParser,
+    language: TinyLanguage,
 };
 
-/// The parser of [`Tiny`].
+/// The language of [`Tiny`].
 #[derive(Clone, Copy, Debug, Drop)]
-pub struct TinyParser;
+pub struct TinyLanguage;
 
-fn goal(target: Target) -> Goal
-    ensures { result ≡ goal_of target }
+fn entry(target: Target) -> Rule
+    ensures { result ≡ entry_of target }
 {
     match target {
-        Target::Whole(Entry::SourceFile) => Goal::Items,
-        Target::Whole(Entry::Expr) => Goal::WholeExpression,
-        Target::Piece(_) => Goal::Piece,
+        Target::Whole(Entry::SourceFile) => Rule::SourceFile,
+        Target::Whole(Entry::Expr) => Rule::WholeExpr,
+        Target::Piece(_) => Rule::Body,
     }
 }
 
-// The outline of nodes: the last one of an expression is the root.
-fn topped(target: Target, mut spans: Vec<Span>, errors: Vec<SyntaxError>) -> Outline
-    ensures { outlined result ≡ outline_with target spans.items errors.items }
-{
-    match target {
-        Target::Whole(Entry::Expr) => {
-            let root = match spans.pop() {
-                None => SyntaxKind::ERROR,
-                Some(top) => top.kind,
-            };
-            Outline {
-                root,
-                spans,
-                errors,
-            }
-        }
-        _ => Outline {
-            root: SyntaxKind::ERROR,
-            spans,
-            errors,
-        },
+impl Language for TinyLanguage {
+    ghost use Rattle.tiny_front.specs.Front.{tiny_language};
+
+    ghost speaks = { λ _. tiny_language };
+
+    fn grammar(&self) -> Grammar<'static> {
+        grammar()
     }
-}
 
-fn is_block(kind: SyntaxKind) -> bool
-    ensures { result ≡ is_block_of kind }
-{
-    matches!(kind, SyntaxKind::BLOCK_EXPR)
-}
+    fn rule(&self, target: Target) -> usize {
+        rule_of(entry(target))
+    }
 
-impl Parser for TinyParser {
-    ghost use Rattle.tiny_front.specs.Front.{tiny_parser};
-
-    ghost parses = { λ _. tiny_parser };
-
-    fn outline(
+    fn sights(
         &self,
         alloc: Global,
-        target: Target,
+        _text: &str,
         tokens: &[Token],
-    ) -> Result<Outline, AllocError> {
-        let parser = outline(alloc, goal(target), tokens)?;
-        let errors = errors(alloc, &parser.faults)?;
-        Ok(topped(target, parser.spans, errors))
+        _edition: Edition,
+    ) -> Result<Vec<Sight>, AllocError> {
+        sights_by_kind(alloc, &TOKENS, tokens)
     }
 
+    fn message(&self, alloc: Global, number: u16, _rest: &[Token]) -> Result<String, AllocError> {
+        String::from_str(alloc, message(number))
+    }
+
+    fn error_place(&self) -> ErrorPlace {
+        ErrorPlace::AtNext
+    }
+
+    fn attaching(&self) -> &'static [SyntaxKind] {
+        &[]
+    }
+
+    // A block.
     fn reparser(
         &self,
         kind: SyntaxKind,
         _first_child: Option<SyntaxKind>,
         _parent: Option<SyntaxKind>,
     ) -> Option<u32> {
-        if is_block(kind) { Some(0) } else { None }
+        matches!(kind, SyntaxKind::BLOCK_EXPR).then_some(0)
     }
 }

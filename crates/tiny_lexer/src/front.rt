@@ -46,8 +46,11 @@ pub struct TinyLexer;
 
 impl Lexer for TinyLexer {
     ghost use Rattle.tiny_lexer.specs.Front.{tiny_lexer};
+    ghost use Rattle.tiny_lexer.specs.Laws.{tiny_kept};
 
     ghost lexes = { λ _. tiny_lexer };
+
+    ghost kept = { λ _. tiny_kept };
 
     fn lex(&self, alloc: Global, text: &str, edition: Edition) -> Result<Lexed, AllocError> {
         let lexed = lex(alloc, text, edition)?;

@@ -1,2 +1,1 @@
 pub mod Push
-pub mod Fits

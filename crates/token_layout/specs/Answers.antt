@@ -1,12 +1,10 @@
--- A lexer and a parser of spans as functions of their arguments.
-use Rattle.std.specs.Prelude.{ℕ, List, Option, Bool}
+-- A lexer as functions of the arguments, and what it keeps.
+use Rattle.std.specs.Prelude.{ℕ, ◌<◌, ◌^◌, List, length, Option, Bool, All, IsUtf8}
 use Rattle.syntax_kind.specs.declared.syntax_kind.SyntaxKind.{SyntaxKind}
 use Rattle.ras_front_end.specs.declared.edition.Edition.{Edition}
-use Rattle.ras_front_end.specs.ErrorModel.{ErrorModel}
-use Rattle.token_layout.specs.declared.parser.Outline.{Outline}
-use Rattle.token_layout.specs.declared.parser.Target.{Target}
-use Rattle.token_layout.specs.declared.span.Span.{Span}
+use Rattle.ras_front_end.specs.ErrorModel.{ErrorModel, LiesIn}
 use Rattle.token_layout.specs.declared.span.Token.{Token}
+use Rattle.token_layout.specs.Laid.{IsCut}
 
 pub record LexerAnswers : Type 0 where
   pub tokens : Edition → List ℕ → List Token
@@ -14,15 +12,7 @@ pub record LexerAnswers : Type 0 where
   pub word : Edition → List ℕ → Option SyntaxKind
   pub is_strict : Edition → SyntaxKind → Bool
 
--- the kind of an expression's root, the nodes below the root, and the errors
-pub record Outlined : Type 0 where
-  pub root : SyntaxKind
-  pub spans : List Span
-  pub errors : List ErrorModel
-
-abbrev pub outlined : Outline → Outlined
-outlined o = record { root = o.root; spans = o.spans.items; errors = o.errors.items }
-
-pub record ParserAnswers : Type 0 where
-  pub outline : Target → List Token → Outlined
-  pub rule : SyntaxKind → Option SyntaxKind → Option SyntaxKind → Option ℕ
+-- for texts of fewer than 2^32 bytes: the tokens cut the text, and the errors lie in it
+pub record LexerKeeps (lexer : LexerAnswers) : Type 0 where
+  pub cut : (edition : Edition) (text : List ℕ) → IsUtf8 text → length text < 2 ^ 32 → IsCut (lexer.tokens edition text) text
+  pub lie : (edition : Edition) (text : List ℕ) → IsUtf8 text → length text < 2 ^ 32 → All (LiesIn (length text)) (lexer.errors edition text)

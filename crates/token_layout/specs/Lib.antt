@@ -1,10 +1,4 @@
-pub mod Answers
-pub mod Layout
 pub mod Laid
+pub mod Answers
 pub mod Report
-pub mod Back
-pub mod Kept
-pub mod Fit
-pub mod Fitting
-pub mod Front
-pub mod Laws
+pub mod Balance

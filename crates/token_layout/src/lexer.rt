@@ -1,6 +1,6 @@
 //! The trait of lexers.
 ghost use Rattle.std.specs.Prelude.{◌≡◌, IfOk};
-ghost use Rattle.token_layout.specs.Answers.{LexerAnswers};
+ghost use Rattle.token_layout.specs.Answers.{LexerAnswers, LexerKeeps};
 
 use crate::span::Token;
 use ras_front_end::{Edition, SyntaxError};
@@ -16,14 +16,16 @@ pub struct Lexed {
     pub errors: Vec<SyntaxError>,
 }
 
-/// A lexer. Each result, except out of memory, is a function of the arguments; nothing has to be
-/// proved about that function.
+/// A lexer. Each result, except out of memory, is a function of the arguments.
+///
+/// An implementation proves the law `kept`: for a text of at most 4,294,967,295 bytes the tokens cut
+/// the text on character boundaries, one after another, and the errors are in it.
 pub trait Lexer {
     // The results, as functions of the arguments.
     ghost lexes: { Self → LexerAnswers };
 
-    /// The tokens of a text, and the errors. The tokens should cut the text;
-    /// [`SpanFront`](crate::SpanFront) states what it does with those that do not.
+    /// The tokens of a text, and the errors. The result is arbitrary if the text is longer than
+    /// 4,294,967,295 bytes.
     fn lex(&self, alloc: Global, text: &str, edition: Edition) -> Result<Lexed, AllocError>
         ensures tokens { IfOk result
             (λ lexed. lexed.tokens.items ≡ (lexes self.now).tokens edition text.now) }
@@ -37,4 +39,6 @@ pub trait Lexer {
     /// Whether a kind is that of a strict keyword: a word that is an identifier only after `r#`.
     fn is_strict_keyword(&self, kind: SyntaxKind, edition: Edition) -> bool
         ensures { result ≡ (lexes self.now).is_strict edition kind };
+
+    ghost kept: { (lexer : Self) → LexerKeeps (lexes lexer) };
 }

@@ -1,0 +1,5 @@
+pub mod Answers
+pub mod Sights
+pub mod Reports
+pub mod Front
+pub mod Laws
