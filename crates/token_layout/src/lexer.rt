@@ -18,8 +18,8 @@ pub struct Lexed {
 
 /// A lexer. Each result, except out of memory, is a function of the arguments.
 ///
-/// An implementation proves the law `kept`: for a text of at most 4,294,967,295 bytes the tokens cut
-/// the text on character boundaries, one after another, and the errors are in it.
+/// An implementation proves the law `kept`: for a text of at most 4,294,967,295 bytes the tokens
+/// cut the text on character boundaries, one after another, and the errors are in it.
 pub trait Lexer {
     // The results, as functions of the arguments.
     ghost lexes: { Self → LexerAnswers };
