@@ -1,7 +1,8 @@
 -- The front end keeps the law of front ends, whatever its grammar makes of a text: the lexer's
 -- tokens cut the text, and any events are laid out as one tree over them.
-use Rattle.std.proofs.Common.{◌≡◌, ℕ, ◌<◌, ◌≤◌, ◌^◌, Bool, true, false, if◌then◌else◌, List, [], ◌∷◌, length, refl, arith, inl, inr, Option, Some, None}
+use Rattle.std.proofs.Common.{◌≡◌, ℕ, ◌<◌, ◌≤◌, ◌-◌, ◌^◌, Bool, true, false, if◌then◌else◌, List, [], ◌∷◌, length, refl, arith, inl, inr, Option, Some, None}
 use Rattle.std.specs.Prelude.{IsUtf8, All, nat_lt}
+use Rattle.std.proofs.Math.Nat.{min-le_left, min-le_right}
 use Rattle.std.proofs.lemmas.Bool.{ltb-false}
 use Rattle.std.proofs.lemmas.List.Elements.{All-cons, All-nil, All-head, All-tail}
 use Rattle.syntax_kind.specs.declared.syntax_kind.SyntaxKind.{SyntaxKind}
@@ -32,7 +33,7 @@ use Rattle.grammar_front.specs.Front.{size_of, expr_or_error_of, root_of, made_o
 -- an error in the text stays in it, wherever errors are
 placed_lies : (place : ErrorPlace) (text : List ℕ) (p : ℕ) (ts : List LexedToken) → p ≤ length text → placed_of place (size_of text) p ts ≤ length text
 placed_lies BehindLast text p ts h = h
-placed_lies AtNext text p ts h = omega arith
+placed_lies AtNext text p ts h = omega (arith, min-le_right (next_from p ts) (size_of text), min-le_left (length text) (2 ^ 32 - 1))
 
 all_lie : (language : LanguageAnswers) (text : List ℕ) (ts : List LexedToken) (fs : List ParserError) → All (λ f. f.position ≤ length text) fs → All (λ f. (say_of language (size_of text) ts f).1 ≤ length text) fs
 all_lie language text ts [] h = All-nil (λ f. (say_of language (size_of text) ts f).1 ≤ length text)

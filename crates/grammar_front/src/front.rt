@@ -172,7 +172,8 @@ impl<L: Lexer, G: Language> GrammarFront<L, G> {
     {
         let lexed = self.lexer.lex(alloc, text, edition)?;
         let events = events(alloc, &self.language, target, text, &lexed.tokens, edition)?;
-        assemble(alloc, &self.language, target, text, lexed, &events)
+        let output = assemble(alloc, &self.language, target, text, lexed, &events)?;
+        Ok(output)
     }
 
     #[tactic(auto, unfolding(crate::specs::Front::read_of))]

@@ -1,5 +1,5 @@
-//! The front end of a grammar: a lexer's tokens, the run of a machine over the grammar's tables,
-//! and one tree of what it made.
+//! The front end of a grammar: a lexer's tokens, a machine's run over the grammar's tables, and one
+//! tree of what it made.
 //!
 //! A [`Language`] has the tables and what a front end needs beside them. [`GrammarFront`] is the
 //! front end of any [`Lexer`](token_layout::Lexer) and any language.

@@ -4,4 +4,4 @@ use Rattle.grammar_front.proofs.report.next_from.Given as goal
 
 -- the tokens before are trivia, and `position` is where the next one begins
 abbrev pub invariant-loop-token : goal.invariant-loop-token
-invariant-loop-token l = next_from l.position (drop l.token-index l.tokens) ≡ next_from l.start l.tokens
+invariant-loop-token l = next_from l.position (drop l.token-index l.tokens) ≡ next_from l.fn.start l.tokens
