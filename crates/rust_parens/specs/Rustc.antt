@@ -19,6 +19,7 @@ use Rattle.ras_node.specs.PartSets.{is_binary_operator}
 use Rattle.ras_node.specs.Searches.{first_token}
 use Rattle.ras_algo.specs.Algo.{first_token_of, last_token_of, has_no_trivia_kind}
 use Rattle.rust_parens.specs.Words.{is_word}
+use Rattle.rust_parens.specs.Places.{is_assignment}
 
 -- statements, and the last expression of a block, are in these
 abbrev pub holds_statement : Cursor → Bool
@@ -177,10 +178,19 @@ is_before_word pair = is_word_token (token_after pair)
 abbrev pub is_before_label : Cursor → Cursor → Cursor → Bool
 is_before_label inside parent pair = is_of_kind CONTINUE_EXPR inside && (is_of_kind PAREN_EXPR parent || is_before_word pair)
 
+abbrev pub assigns : Option Cursor → Bool
+assigns None = false
+assigns (Some token) = is_assignment (Some (kind_at token))
+
+-- a range before `=` or an operator as `+=`, to which nothing can be assigned without a pair; of
+-- pairs in pairs, whatever follows
+abbrev pub is_assigned_range : Cursor → Cursor → Cursor → Bool
+is_assigned_range inside parent pair = is_of_kind RANGE_EXPR inside && (is_of_kind PAREN_EXPR parent || assigns (token_after pair))
+
 abbrev pub is_read_otherwise : Cursor → Cursor → Cursor → Bool
 is_read_otherwise inside parent pair =
     is_of_kind UNDERSCORE_EXPR inside || (is_full_range inside || (is_statement_macro inside pair
-    || (is_open_closure inside pair || is_before_label inside parent pair)))
+    || (is_open_closure inside pair || (is_before_label inside parent pair || is_assigned_range inside parent pair))))
 
 -- one of these, or something before an `else` or after a `}` that ends no statement for rustc
 abbrev pub is_needed_by_rustc : Cursor → Cursor → Cursor → Bool

@@ -68,8 +68,8 @@ fn holds_operand(kind: SyntaxKind) -> bool
     )
 }
 
-// Whether a token assigns.
-fn is_assignment(kind: Option<SyntaxKind>) -> bool
+/// Whether a token assigns.
+pub(crate) fn is_assignment(kind: Option<SyntaxKind>) -> bool
     ensures { result ≡ is_assignment kind }
 {
     matches!(

@@ -1,8 +1,9 @@
 //! Pairs that rustc needs, although rust-analyzer's parser reads the same tree without them.
 ghost use Rattle.std.specs.Prelude.{◌≡◌};
 ghost use Rattle.tree_model.specs.Cursor.{ancestors_of};
-ghost use Rattle.rust_parens.specs.Rustc.{holds_statement, is_in_statement, is_statement_macro, is_full_range, is_block, is_without_block, token_after, is_pair_at, is_end, is_open_closure, is_else, is_lazy_token, is_lazy, is_closing_brace, is_plain_value, is_before_else, token_before, is_with_block, is_plain_start, is_plain_block, is_statement, is_expression_statement, is_macro_statement, is_item, is_ended, is_ended_at, body_of, ends_statement, is_open_brace, is_after_brace, begins_with_word, is_word_token, is_before_word, is_before_label, is_read_otherwise, is_needed_by_rustc};
+ghost use Rattle.rust_parens.specs.Rustc.{holds_statement, is_in_statement, is_statement_macro, is_full_range, is_block, is_without_block, token_after, is_pair_at, is_end, is_open_closure, is_else, is_lazy_token, is_lazy, is_closing_brace, is_plain_value, is_before_else, token_before, is_with_block, is_plain_start, is_plain_block, is_statement, is_expression_statement, is_macro_statement, is_item, is_ended, is_ended_at, body_of, ends_statement, is_open_brace, is_after_brace, begins_with_word, is_word_token, is_before_word, is_before_label, assigns, is_assigned_range, is_read_otherwise, is_needed_by_rustc};
 
+use crate::place::is_assignment;
 use crate::text::is_word;
 use lossless_tree::{NodeOrToken, SyntaxKind, SyntaxNode, SyntaxToken};
 use ras_algo::algo::{next_non_trivia_token, previous_non_trivia_token};
@@ -322,6 +323,24 @@ fn is_before_label(inside: &SyntaxNode, parent: &SyntaxNode, pair: &SyntaxNode) 
         && (is_of_kind(parent, SyntaxKind::PAREN_EXPR) || is_before_word(pair))
 }
 
+fn assigns(token: Option<SyntaxToken>) -> bool
+    ensures { result ≡ assigns token }
+{
+    match token {
+        None => false,
+        Some(token) => is_assignment(Some(token.kind())),
+    }
+}
+
+// `(a..b) += c` is for rustc an assignment to a pair, and `a..b += c` an error, also with `=`. Of
+// pairs in pairs the innermost stays.
+fn is_assigned_range(inside: &SyntaxNode, parent: &SyntaxNode, pair: &SyntaxNode) -> bool
+    ensures { result ≡ is_assigned_range inside.now parent.now pair.now }
+{
+    is_of_kind(inside, SyntaxKind::RANGE_EXPR)
+        && (is_of_kind(parent, SyntaxKind::PAREN_EXPR) || assigns(token_after(pair)))
+}
+
 fn is_read_otherwise(inside: &SyntaxNode, parent: &SyntaxNode, pair: &SyntaxNode) -> bool
     ensures { result ≡ is_read_otherwise inside.now parent.now pair.now }
 {
@@ -330,16 +349,17 @@ fn is_read_otherwise(inside: &SyntaxNode, parent: &SyntaxNode, pair: &SyntaxNode
         || is_statement_macro(inside, pair)
         || is_open_closure(inside, pair)
         || is_before_label(inside, parent, pair)
+        || is_assigned_range(inside, parent, pair)
 }
 
 /// Whether the contents of a pair are of a kind that rustc may read otherwise without the pair,
 /// although rust-analyzer's parser reads the same tree: a macro call as a statement or at the end
-/// of a block, `continue` before a word, `_`, a range without ends, a closure whose body is not a
-/// block (unless a comma, a bracket that is not a pair's, or a semicolon follows the pair),
-/// everything before an `else` but a whole value that is neither `&&` nor `||` nor ends with `}`,
-/// and everything after a `}` that does not end a statement for rustc, as that of `async {}`: it
-/// does at the end of a block, an `unsafe` block, an `if`, a `match`, a loop, an item or a macro
-/// call. Some of these pairs can be removed all the same.
+/// of a block, `continue` before a word, `_`, a range without ends, a range to which something is
+/// assigned, a closure whose body is not a block (unless a comma, a bracket that is not a pair's,
+/// or a semicolon follows the pair), everything before an `else` but a whole value that is neither
+/// `&&` nor `||` nor ends with `}`, and everything after a `}` that does not end a statement for
+/// rustc, as that of `async {}`: it does at the end of a block, an `unsafe` block, an `if`, a
+/// `match`, a loop, an item or a macro call. Some of these pairs can be removed all the same.
 pub fn is_needed_by_rustc(inside: &SyntaxNode, parent: &SyntaxNode, pair: &SyntaxNode) -> bool
     ensures { result ≡ is_needed_by_rustc inside.now parent.now pair.now }
 {
