@@ -3,6 +3,7 @@
 #![tactic(auto)]
 
 mod choice;
+mod conditions;
 mod hunks;
 mod rules;
 mod toml_place;

@@ -61,6 +61,13 @@ pub enum RulesError {
         at: Spot,
         fault: RuleFault,
     },
+    /// The same of a rule whose pattern begins at this place of a TOML file.
+    InFile {
+        file: Spot,
+        number: u64,
+        at: Spot,
+        fault: RuleFault,
+    },
     /// A file is no TOML: what its parser says.
     Toml(String),
     /// At this place of a file a rule has something else than this under a key.
@@ -106,6 +113,18 @@ impl fmt::Display for RulesError {
             }
             RulesError::Numbered { number, at, fault } => {
                 write!(f, "rule {number}, {at} of `PATTERN ==>> TEMPLATE`: ")?;
+                write_fault(f, fault)
+            }
+            RulesError::InFile {
+                file,
+                number,
+                at,
+                fault,
+            } => {
+                write!(
+                    f,
+                    "{file}: rule {number}, {at} of `PATTERN ==>> TEMPLATE`: "
+                )?;
                 write_fault(f, fault)
             }
             RulesError::Toml(message) => f.write_str(message.as_str()),

@@ -1,15 +1,19 @@
 //! Rules of a TOML file: tables `[[rule]]` with the texts `pattern`, `template`, `name`, `message`
-//! and `severity`, of which only the first must be there, and `files`, a glob or a list of globs.
+//! and `severity`, of which only the first must be there, `where`, a condition or a list of
+//! conditions, and `files`, a glob or a list of globs. For tests they may have `example` and
+//! `becomes`; no other keys.
 
 ghost use Rattle.std.specs.Prelude.{◌≡◌, IfOk, OnOk, length};
 ghost use Rattle.rust_search.specs.Rules.{IsSeverityBy};
 
+use crate::conditions::with_where;
 use crate::rules::{Note, RuleSet, RulesError, numbered, place_of};
 use crate::toml_place::value_at;
 use gitignore::{Rule as Glob, rule_of};
 use ras_front_end::Edition;
 use rule_plan::Severity;
 use rust_front::Rust;
+use rust_report::Spot;
 use rust_rewrite::{parse_pattern, parse_rule};
 use std::alloc::{AllocError, Global};
 use toml::Value;
@@ -21,6 +25,11 @@ const TEXT: &str = "a text";
 const SEVERITY: &str = "\"error\", \"warning\", \"note\" or \"help\"";
 
 const GLOBS: &str = "a glob or a list of globs";
+
+const CONDITIONS: &str = "a placeholder of the pattern with a condition, as \"$a:kind(literal)\"";
+
+const KEYS: &str =
+    "`name`, `message`, `pattern`, `where`, `template`, `severity`, `files`, `example` or `becomes`";
 
 // Why a table is refused: under this key it has not what is expected.
 #[derive(Clone, Copy)]
@@ -34,6 +43,8 @@ struct Fault {
 enum Trouble {
     // The value of a key.
     Value(Fault),
+    // A key of this name.
+    Key(String),
     // The rule itself, or memory.
     Rule(RulesError),
 }
@@ -100,6 +111,62 @@ fn push_glob(alloc: Global, globs: &mut Vec<Glob>, value: &Value) -> Result<(), 
     Ok(())
 }
 
+fn no_condition() -> Trouble {
+    Trouble::Value(Fault {
+        key: "where",
+        expected: CONDITIONS,
+    })
+}
+
+// A pattern with the condition of a value.
+fn with_value(alloc: Global, pattern: &str, value: &Value) -> Result<String, Trouble> {
+    let Some(text) = value.as_str() else {
+        return Err(no_condition());
+    };
+    match with_where(alloc, pattern, text)? {
+        Some(pattern) => Ok(pattern),
+        None => Err(no_condition()),
+    }
+}
+
+// The pattern of a table, with its conditions.
+fn pattern_of(alloc: Global, table: &Value) -> Result<String, Trouble> {
+    let mut pattern = String::from_str(alloc, text_of(table, "pattern")?)?;
+    if pattern.is_empty() {
+        return Err(Trouble::Value(Fault {
+            key: "pattern",
+            expected: TEXT,
+        }));
+    }
+    match table.get("where") {
+        None => {}
+        Some(Value::Array(values)) => {
+            for value in values {
+                pattern = with_value(alloc, pattern.as_str(), value)?;
+            }
+        }
+        Some(value) => pattern = with_value(alloc, pattern.as_str(), value)?,
+    }
+    Ok(pattern)
+}
+
+fn is_known(key: &str) -> bool {
+    matches!(key, "name" | "message" | "pattern" | "where" | "template")
+        || matches!(key, "severity" | "files" | "example" | "becomes")
+}
+
+// Refuses a table that has a key of no meaning, as a misspelled one.
+fn refuse_unknown(alloc: Global, table: &Value) -> Result<(), Trouble> {
+    if let Value::Table(table) = table {
+        for key in table.keys() {
+            if !is_known(key.as_str()) {
+                return Err(Trouble::Key(String::from_str(alloc, key.as_str())?));
+            }
+        }
+    }
+    Ok(())
+}
+
 // The globs of a table; none if it is for all files.
 fn files_of(alloc: Global, table: &Value) -> Result<Vec<Glob>, Trouble> {
     let mut globs = Vec::new(alloc);
@@ -140,20 +207,14 @@ pub(crate) fn rule_by(
 
 // What a table says of its rule.
 fn note_of(alloc: Global, table: &Value, number: u64) -> Result<Note, Trouble> {
-    let pattern = text_of(table, "pattern")?;
-    if pattern.is_empty() {
-        return Err(Trouble::Value(Fault {
-            key: "pattern",
-            expected: TEXT,
-        }));
-    }
+    refuse_unknown(alloc, table)?;
     Ok(Note {
         number,
         name: String::from_str(alloc, text_of(table, "name")?)?,
         message: String::from_str(alloc, text_of(table, "message")?)?,
         severity: severity_of(table)?,
         files: files_of(alloc, table)?,
-        pattern: String::from_str(alloc, pattern)?,
+        pattern: pattern_of(alloc, table)?,
         template: String::from_str(alloc, text_of(table, "template")?)?,
     })
 }
@@ -187,22 +248,39 @@ fn push_rule(alloc: Global, set: &mut RuleSet, table: &Value, number: u64) -> Re
     Ok(())
 }
 
+// The place of the value of a key in the file.
+fn spot_of(alloc: Global, text: &str, number: u64, key: &str) -> Result<Spot, AllocError> {
+    place_of(alloc, text, value_at(alloc, text, number, key).unwrap_or(0))
+}
+
 // The refusal of the rule with a number, at its place in the file.
 fn refused(alloc: Global, text: &str, number: u64, trouble: Trouble) -> RulesError {
-    match trouble {
-        Trouble::Rule(error) => error,
-        Trouble::Value(Fault { key, expected }) => {
-            let offset = value_at(alloc, text, number, key).unwrap_or(0);
-            match place_of(alloc, text, offset) {
-                Ok(at) => RulesError::Wrong {
-                    at,
+    let (spot, key, expected) = match trouble {
+        Trouble::Rule(RulesError::Numbered { number, at, fault }) => {
+            return match spot_of(alloc, text, number, "pattern") {
+                Ok(file) => RulesError::InFile {
+                    file,
                     number,
-                    key,
-                    expected,
+                    at,
+                    fault,
                 },
                 Err(_) => RulesError::Memory,
-            }
+            };
         }
+        Trouble::Rule(error) => return error,
+        Trouble::Key(name) => (spot_of(alloc, text, number, name.as_str()), "key", KEYS),
+        Trouble::Value(Fault { key, expected }) => {
+            (spot_of(alloc, text, number, key), key, expected)
+        }
+    };
+    match spot {
+        Ok(at) => RulesError::Wrong {
+            at,
+            number,
+            key,
+            expected,
+        },
+        Err(_) => RulesError::Memory,
     }
 }
 
