@@ -9,7 +9,7 @@ use Rattle.tiny_lexer.specs.Cut.{IsLexed, ComplaintLiesIn}
 use Rattle.tiny_lexer.specs.Lexing.{complaints_of}
 use Rattle.tiny_lexer.specs.Reports.{error_of}
 use Rattle.tiny_lexer.specs.Front.{tiny_lexer}
-use Rattle.tiny_lexer.proofs.Cutting.{lexed}
+use Rattle.tiny_lexer.specs.Cutting.{lexed}
 
 errors_lie : (n : ℕ) (cs : List Complaint) → All (ComplaintLiesIn n) cs → All (LiesIn n) (map error_of cs)
 errors_lie n [] h = All-nil (LiesIn n)

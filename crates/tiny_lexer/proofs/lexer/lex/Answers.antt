@@ -4,7 +4,7 @@ use Rattle.token_layout.specs.declared.span.Token.{Token}
 use Rattle.token_layout.specs.Laid.{IsCut}
 use Rattle.tiny_lexer.specs.declared.lexer.Complaint.{Complaint}
 use Rattle.tiny_lexer.specs.Cut.{ComplaintLiesIn}
-use Rattle.tiny_lexer.proofs.Cutting.{lexed}
+use Rattle.tiny_lexer.specs.Cutting.{lexed}
 use Rattle.tiny_lexer.proofs.lexer.lex.Goals as goal
 
 pub returns-clause-cut : goal.returns-clause-cut
