@@ -11,6 +11,7 @@ use Rattle.rust_search.specs.Rules.{IsPlaceOf, IsToldOf, IsPatternRefused, IsRul
 pub pattern_told : (s : List ℕ) (e : RuleError) (r : RulesError) → IsToldOf s e r → e.offset ≤ length s → IsPatternFault s e.fault → IsPatternRefused s r
 pattern_told s e (error.Rule at f) t w h = record { offset = e.offset; within = w; place = t.0; fault = subst (IsPatternFault s) (sym t.1) h }
 pattern_told s e (error.Numbered n at f) t w h = absurd t
+pattern_told s e (error.InFile p n at f) t w h = absurd t
 pattern_told s e (error.Toml m) t w h = absurd t
 pattern_told s e (error.Wrong at n k x) t w h = absurd t
 pattern_told s e error.Empty t w h = absurd t
@@ -20,6 +21,7 @@ pattern_told s e error.Memory t w h = tt
 pub rule_told : (s : List ℕ) (e : RuleError) (r : RulesError) → IsToldOf s e r → e.offset ≤ length s → IsRuleFault s e.fault → IsRuleRefused s r
 rule_told s e (error.Rule at f) t w h = record { offset = e.offset; within = w; place = t.0; fault = subst (IsRuleFault s) (sym t.1) h }
 rule_told s e (error.Numbered n at f) t w h = absurd t
+rule_told s e (error.InFile p n at f) t w h = absurd t
 rule_told s e (error.Toml m) t w h = absurd t
 rule_told s e (error.Wrong at n k x) t w h = absurd t
 rule_told s e error.Empty t w h = absurd t
@@ -29,6 +31,7 @@ rule_told s e error.Memory t w h = tt
 pub line_told : (s : List ℕ) (e : RuleError) (r : RulesError) → IsToldOf s e r → e.offset ≤ length s → IsLineRefused s r
 line_told s e (error.Rule at f) t w = record { offset = e.offset; within = w; place = t.0; fault = tt }
 line_told s e (error.Numbered n at f) t w = absurd t
+line_told s e (error.InFile p n at f) t w = absurd t
 line_told s e (error.Toml m) t w = absurd t
 line_told s e (error.Wrong at n k x) t w = absurd t
 line_told s e error.Empty t w = absurd t
