@@ -93,8 +93,8 @@ fn is_as_read_over<F: FrontEnd>(
     }
 }
 
-// Whether the first node from an element up that has this range and may be parsed alone equals the
-// parse of its text.
+// Whether one of the nodes from an element up that have this range and may be parsed alone equals
+// the parse of its text. The root of a piece of `wrong` has the same range as the `ERROR` in it.
 fn is_node_piece<F: FrontEnd>(
     alloc: Global,
     front: &F,
@@ -102,8 +102,8 @@ fn is_node_piece<F: FrontEnd>(
     range: TextRange,
 ) -> Result<bool, Stopped> {
     for node in covering.ancestors() {
-        if let Some(right) = is_as_read_over(alloc, front, &node, range)? {
-            return Ok(right);
+        if is_as_read_over(alloc, front, &node, range)? == Some(true) {
+            return Ok(true);
         }
     }
     Ok(false)
