@@ -1,6 +1,6 @@
 //! The constructors that the library does not have: each once, and what they refuse.
 use ras::ast::{self, AstNode};
-use ras::SyntaxKind::{IDENT, INT_NUMBER, SOURCE_FILE, WHITESPACE};
+use ras::SyntaxKind::{IDENT, INNER_DOC_COMMENT, INT_NUMBER, OUTER_DOC_COMMENT, SOURCE_FILE, WHITESPACE};
 use ras::make::{self, MakeError, ext};
 use ras::syntax_editor::{Position, SyntaxEditor};
 use ras::{Edition, Either, SourceFile, T};
@@ -180,6 +180,9 @@ fn tokens() -> Done {
         (make::tokens::literal("0x1F_u8")?, INT_NUMBER, "0x1F_u8"),
         (make::tokens::literal("true")?, T![true], "true"),
         (make::tokens::ident("r#fn")?, IDENT, "r#fn"),
+        (make::tokens::doc_comment("/// a")?, OUTER_DOC_COMMENT, "/// a"),
+        (make::tokens::doc_comment("//! a")?, INNER_DOC_COMMENT, "//! a"),
+        (make::tokens::doc_comment("/** a */")?, OUTER_DOC_COMMENT, "/** a */"),
     ] {
         assert_eq!((made.kind(), made.text()), (kind, text));
     }
@@ -192,6 +195,10 @@ fn tokens() -> Done {
         make::tokens::literal("1 "),
         make::tokens::ident("fn"),
         make::tokens::ident("a b"),
+        make::tokens::doc_comment("// a"),
+        make::tokens::doc_comment("/// a\n"),
+        make::tokens::doc_comment("/** a"),
+        make::tokens::doc_comment(""),
     ] {
         assert!(refused.is_err(), "{refused:?}");
     }

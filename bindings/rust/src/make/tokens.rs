@@ -1,7 +1,7 @@
 //! Tokens, which a [`SyntaxEditor`](crate::syntax_editor::SyntaxEditor) puts between others: each the only token of a tree of its own.
 use super::{MakeError, node};
 use crate::ast;
-use crate::{SyntaxKind, SyntaxToken, SyntaxTreeBuilder};
+use crate::{Edition, SyntaxKind, SyntaxToken, SyntaxTreeBuilder, Tree};
 
 // The token of a tree that has no other.
 pub(super) fn only(kind: SyntaxKind, text: &str) -> SyntaxToken {
@@ -44,4 +44,17 @@ pub fn literal(text: &str) -> Result<SyntaxToken, MakeError> {
 /// An identifier: `a`, `r#fn`.
 pub fn ident(text: &str) -> Result<SyntaxToken, MakeError> {
     node::<ast::Name>(text)?.ident_token().ok_or(MakeError::NotOne)
+}
+
+/// A doc comment: `/// a`, `//! a`, `/** a */`. Another text is refused, also with a newline behind it.
+pub fn doc_comment(text: &str) -> Result<SyntaxToken, MakeError> {
+    let tree = Tree::parse([text, "\nstruct S;"].concat(), Edition::CURRENT)?;
+    if let Some(error) = tree.errors().first() {
+        return Err(MakeError::Syntax(error.clone()));
+    }
+    let first = tree.root().first_token().filter(|it| it.text() == text).ok_or(MakeError::NotOne)?;
+    match first.kind() {
+        kind @ (SyntaxKind::OUTER_DOC_COMMENT | SyntaxKind::INNER_DOC_COMMENT) => Ok(only(kind, text)),
+        _ => Err(MakeError::NotOne),
+    }
 }
