@@ -66,7 +66,7 @@ pub use ptr::{AstPtr, SyntaxNodePtr};
 pub use range::{TextLen, TextRange, TextSize};
 pub use ras_sys::FlatRow;
 pub use rules::{Match, RewriteError, RuleError, Rules, SearchError, rewrite};
-pub use smol_str::{SmolStr, ToSmolStr};
+pub use smol_str::{SmolStr, SmolStrBuilder, ToSmolStr};
 pub use syntax_text::SyntaxText;
 pub use text_edit::{ApplyError, Indel, OverlapError, TextEdit};
 pub use tree_builder::SyntaxTreeBuilder;
@@ -76,6 +76,9 @@ pub use tree::{Edition, Entry, Errors, ParseEditionError, ParseError, SyntaxErro
 pub type SyntaxNodeChildren = Children<SyntaxNode>;
 /// The children of a node, tokens too, by the name that rust-analyzer's crate has for them.
 pub type SyntaxElementChildren = ChildrenWithTokens<SyntaxNode>;
+
+/// The text of a token, by the name that rust-analyzer's crate has for it.
+pub type TokenText<'t> = &'t str;
 
 /// A `match` by the types that a node may have, in order: `match_ast!(match node { ast::Fn(it) => .., _ => .. })`. An arm may have a
 /// condition, as `ast::Fn(it) if it.body().is_some() => ..`, and ends with a comma.

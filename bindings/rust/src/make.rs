@@ -31,6 +31,7 @@ mod names;
 mod pats;
 mod places;
 mod records;
+pub mod tokens;
 mod types;
 
 pub use control::*;

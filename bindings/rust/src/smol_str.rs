@@ -138,6 +138,51 @@ impl PartialOrd<str> for SmolStr {
     }
 }
 
+/// A text that is put together, and then a [`SmolStr`].
+///
+/// ```
+/// use ras::SmolStrBuilder;
+/// use std::fmt::Write;
+///
+/// let mut builder = SmolStrBuilder::new();
+/// builder.push('r');
+/// builder.push_str("#");
+/// write!(builder, "{}", 1)?;
+/// assert_eq!(builder.finish(), "r#1");
+/// # Ok::<(), std::fmt::Error>(())
+/// ```
+#[derive(Clone, Debug, Default, PartialEq, Eq)]
+pub struct SmolStrBuilder(String);
+
+impl SmolStrBuilder {
+    /// The empty text.
+    pub const fn new() -> SmolStrBuilder {
+        SmolStrBuilder(String::new())
+    }
+
+    /// Puts a character at the end.
+    pub fn push(&mut self, sign: char) {
+        self.0.push(sign);
+    }
+
+    /// Puts a text at the end.
+    pub fn push_str(&mut self, text: &str) {
+        self.0.push_str(text);
+    }
+
+    /// What was put together.
+    pub fn finish(&self) -> SmolStr {
+        SmolStr::new(&self.0)
+    }
+}
+
+impl fmt::Write for SmolStrBuilder {
+    fn write_str(&mut self, text: &str) -> fmt::Result {
+        self.push_str(text);
+        Ok(())
+    }
+}
+
 /// What can be shown, as a [`SmolStr`].
 pub trait ToSmolStr {
     /// What it shows.

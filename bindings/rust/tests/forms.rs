@@ -1,7 +1,9 @@
 //! The constructors that the library does not have: each once, and what they refuse.
 use ras::ast::{self, AstNode};
+use ras::SyntaxKind::{IDENT, INNER_DOC_COMMENT, INT_NUMBER, OUTER_DOC_COMMENT, SOURCE_FILE, WHITESPACE};
 use ras::make::{self, MakeError, ext};
-use ras::Either;
+use ras::syntax_editor::{Position, SyntaxEditor};
+use ras::{Edition, Either, SourceFile, T};
 
 fn is<N: AstNode>(made: Result<N, MakeError>, text: &str) {
     let node = made.unwrap_or_else(|error| panic!("{text}: {error}"));
@@ -163,5 +165,52 @@ fn patterns_blocks_and_paths() -> Done {
     is(ext::ty_bool(), "bool");
     is(ext::ty_option(&types[0]), "Option<A>");
     is(ext::ty_result(&types[0], &types[1]), "Result<A, B>");
+    Ok(())
+}
+
+#[test]
+fn tokens() -> Done {
+    for (made, kind, text) in [
+        (make::token(T![=>])?, T![=>], "=>"),
+        (make::token(T![union])?, T![union], "union"),
+        (make::tokens::single_space(), WHITESPACE, " "),
+        (make::tokens::single_newline(), WHITESPACE, "\n"),
+        (make::tokens::blank_line(), WHITESPACE, "\n\n"),
+        (make::tokens::whitespace(" \t\u{2028}")?, WHITESPACE, " \t\u{2028}"),
+        (make::tokens::literal("0x1F_u8")?, INT_NUMBER, "0x1F_u8"),
+        (make::tokens::literal("true")?, T![true], "true"),
+        (make::tokens::ident("r#fn")?, IDENT, "r#fn"),
+        (make::tokens::doc_comment("/// a")?, OUTER_DOC_COMMENT, "/// a"),
+        (make::tokens::doc_comment("//! a")?, INNER_DOC_COMMENT, "//! a"),
+        (make::tokens::doc_comment("/** a */")?, OUTER_DOC_COMMENT, "/** a */"),
+    ] {
+        assert_eq!((made.kind(), made.text()), (kind, text));
+    }
+    for refused in [
+        make::token(WHITESPACE),
+        make::token(SOURCE_FILE),
+        make::tokens::whitespace(""),
+        make::tokens::whitespace("\u{A0}"),
+        make::tokens::literal("-1"),
+        make::tokens::literal("1 "),
+        make::tokens::ident("fn"),
+        make::tokens::ident("a b"),
+        make::tokens::doc_comment("// a"),
+        make::tokens::doc_comment("/// a\n"),
+        make::tokens::doc_comment("/** a"),
+        make::tokens::doc_comment(""),
+    ] {
+        assert!(refused.is_err(), "{refused:?}");
+    }
+    // What an editor does with them.
+    let file = SourceFile::parse("fn f() { a+b; }", Edition::CURRENT).tree();
+    let sum = file.syntax().descendants().find_map(ast::BinExpr::cast).unwrap();
+    let op = sum.op_token().unwrap();
+    let mut editor = SyntaxEditor::new(file.syntax());
+    editor.insert(Position::before(&op), make::tokens::single_space())?;
+    editor.insert(Position::after(&op), make::tokens::single_space())?;
+    editor.replace(&op, make::token(T![-])?)?;
+    editor.replace(sum.rhs().unwrap().syntax().first_token().unwrap(), make::tokens::ident("c")?)?;
+    assert_eq!(editor.finish()?.new_root().text(), "fn f() { a - c; }");
     Ok(())
 }

@@ -1,6 +1,7 @@
 //! Further patterns, blocks and paths.
 use super::{MakeError, Piece, Pieces, form, node};
 use crate::ast::{self, AstNode};
+use crate::{SyntaxKind, SyntaxToken};
 
 /// The pattern `..`: the others of a list.
 pub fn rest_pat() -> Result<ast::RestPat, MakeError> {
@@ -115,7 +116,14 @@ pub fn path_segment_crate() -> Result<ast::PathSegment, MakeError> {
 /// A path of segments: `a::b`, and if it is absolute `::a::b`.
 pub fn path_from_segments(segments: &[ast::PathSegment], is_abs: bool) -> Result<ast::Path, MakeError> {
     let mut form = Pieces::default();
-    form.text(if is_abs { "::" } else { "" });
+    let mut segments = segments;
+    // The sign in front is a token of the first segment, which is so no longer the one that was given.
+    if let (true, Some((first, others))) = (is_abs, segments.split_first()) {
+        form.text("::");
+        form.text(first.syntax().text());
+        form.text(if others.is_empty() { "" } else { "::" });
+        segments = others;
+    }
     form.separated(segments, "::");
     form.made()
 }
@@ -129,6 +137,20 @@ pub fn path_concat(first: &ast::Path, second: &ast::Path) -> Result<ast::Path, M
 pub fn join_paths(paths: &[ast::Path]) -> Result<ast::Path, MakeError> {
     let texts: Vec<_> = paths.iter().map(|it| it.syntax().text()).collect();
     node(&texts.join("::"))
+}
+
+/// The token of a keyword or of punctuation, as `T![=>]`. A kind whose texts differ is refused; [`tokens`](super::tokens) has those.
+///
+/// ```
+/// use ras::{SyntaxKind, T, make};
+///
+/// let arrow = make::token(T![->])?;
+/// assert_eq!((arrow.kind(), arrow.text()), (T![->], "->"));
+/// assert!(make::token(SyntaxKind::IDENT).is_err());
+/// # Ok::<(), make::MakeError>(())
+/// ```
+pub fn token(kind: SyntaxKind) -> Result<SyntaxToken, MakeError> {
+    if kind.text().is_empty() { Err(MakeError::NoPlace) } else { Ok(super::tokens::only(kind, kind.text())) }
 }
 
 /// Short forms of what is often made.
