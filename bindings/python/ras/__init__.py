@@ -300,7 +300,7 @@ class Tree:
         """Takes what a call writes to its buffers, which is called again if they had too little room."""
         self.data, self.edition = data, edition
         counts = _raw.Counts()
-        row_room, error_room, message_room = len(data) * 3 // 2 + 64, 16, 1024
+        row_room, error_room, message_room = 2 * len(data) + 64, 16, 1024
         while True:
             # A page of it is made when the library writes to it.
             rows = mmap.mmap(-1, 16 * row_room, flags=mmap.MAP_PRIVATE | mmap.MAP_ANONYMOUS)
