@@ -82,7 +82,19 @@ fn refusals_have_their_places(rt: HostRuntime) -> Result<(), Fail> {
             "a.toml",
             "[[rule]]\npattern = \"f(\"",
             false,
-            "rule 1, 1:3 of `PATTERN ==>> TEMPLATE`: this is no expression: expected `)`",
+            "2:11: rule 1, 1:3 of `PATTERN ==>> TEMPLATE`: this is no expression: expected `)`",
+        ),
+        (
+            "a.toml",
+            "[[rule]]\npattern = \"f($a)\"\nmesage = \"m\"",
+            false,
+            "3:10: rule 1: key: expected `name`, `message`, `pattern`, `where`, `template`, `severity`, `files`, `example` or `becomes`",
+        ),
+        (
+            "a.toml",
+            "[[rule]]\npattern = \"f($a, $ab, $$b)\"\nwhere = [\"$a: kind(literal)\", \"b:kind(literal)\"]",
+            false,
+            "3:9: rule 1: where: expected a placeholder of the pattern with a condition, as \"$a:kind(literal)\"",
         ),
     ];
     for (name, text, replaces, expected) in &rows {
