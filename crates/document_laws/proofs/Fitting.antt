@@ -1,32 +1,29 @@
 -- A text in which one piece is replaced is laid as the old one, but for the piece, where the
 -- piece's node is not the root's.
-use Rattle.std.proofs.Common.{◌≡◌, ℕ, zero, suc, ◌+◌, ◌<◌, ◌≤◌, Bool, true, false, nat_eq, nat_lt, List, [], ◌∷◌, ◌++◌, map, length, ap, ap₂, sym, subst, ◌∙◌, refl, arith, Some, None, Option, if◌then◌else◌}
+use Rattle.std.proofs.Common.{◌≡◌, ℕ, zero, suc, ◌+◌, ◌<◌, ◌≤◌, Bool, true, false, nat_eq, nat_lt, List, [], ◌∷◌, ◌++◌, map, length, ap, ap₂, sym, ◌∙◌, refl, arith, Some, None, Option, if◌then◌else◌}
 use Rattle.std.specs.Prelude.{option_map, slice_get}
 use Rattle.std.proofs.lemmas.Bool.{eqb-false}
 use Rattle.std.proofs.lemmas.Bool.Decides.{nat_tests}
-use Rattle.std.proofs.lemmas.List.Elements.{All-nil}
 use Rattle.std.proofs.lemmas.List.{length-append, length-map, length-reverse}
 use Rattle.std.proofs.lemmas.Option.{slice_get-map, slice_get_within}
 use Rattle.syntax_kind.specs.declared.syntax_kind.SyntaxKind.{SyntaxKind}
-use Rattle.token_layout.specs.declared.span.Token.{Token as RawToken}
 use Rattle.grammar_machine.specs.declared.event.Event.{Event}
 use Rattle.grammar_machine.specs.declared.event.Event.TheVariants.{Token, Piece, Node, Error}
-use Rattle.grammar_machine.specs.Running.{Tables, runs, run_of, begin_of, events_of}
+use Rattle.grammar_machine.specs.Running.{Tables, runs, begin_of, events_of}
 use Rattle.grammar_machine.specs.Framing.{moved_event, moved_events}
 use Rattle.grammar_machine.specs.Filling.{LooksAreShort, event_later}
 use Rattle.grammar_machine.specs.Reading.{IsSealedRule}
 use Rattle.grammar_machine.specs.Exchanging.{EndAlike, ExchangedAt}
 use Rattle.grammar_machine.proofs.Exchanging.{exchanged as exchanged_at}
 use Rattle.event_layout.specs.Layout.{root_from, root_of, is_node_at}
-use Rattle.event_layout.specs.Filled.{Stretch, Setting, LaidAround as FilledAround, IsSetting, IsPiece, IsShort, is_error_of, set_in, events_in, laid}
-use Rattle.event_layout.specs.Ending.{EndsInToken}
+use Rattle.event_layout.specs.Filled.{Setting, LaidAround as FilledAround, IsSetting, events_in, laid}
 use Rattle.event_layout.specs.Exchanged.{OneSetting, setting_of, made_before}
-use Rattle.event_layout.specs.Replaced.{Part, sights_in, IsReadAlone, IsPlace, IsSmall, LaidIn, LaidAround}
+use Rattle.event_layout.specs.Replaced.{Part, sights_in, IsReadAlone, IsPlace, IsSmall, LaidAround}
+use Rattle.event_layout.proofs.Replaced.{stretch_of, piece_is, laid_in}
 use Rattle.event_layout.proofs.Turning.{root_behind}
 use Rattle.event_layout.proofs.Filled.{pieces_laid}
-use Rattle.event_layout.proofs.Ends.{ends_found}
 use Rattle.event_layout.proofs.Exchanged.{exchanged}
-use Rattle.event_layout.proofs.Placed.{runs_take, pieces_take}
+use Rattle.event_layout.proofs.Placed.{runs_take}
 
 -- ---- the last node
 
@@ -102,53 +99,6 @@ around s es all n count is inner = by (nat_lt (root_of s.behind.events) (length 
         root_behind s.before.events (m ++ Node s.kind b ∷ l) (omega (arith, one, two, long)) in
         let root : root_of all ≡ n = omega (arith, ap root_of is, three, two, one, count, length-map es (moved_event b)) in
         absurd (eqb-false n (root_of all) inner (sym root))
-
--- ---- the pieces
-
-some_tokens : (front : List RawToken) (t : RawToken) → 0 < length (front ++ t ∷ [])
-some_tokens front t = let long = length-append front (t ∷ []) in omega (arith, long)
-
-abbrev stretch_of : Part → List Event → Stretch
-stretch_of p es = record { text = p.text; tokens = p.tokens; events = es }
-
-piece_is : (k : SyntaxKind) (g : Tables) (rule part target : ℕ) (a p c : Part) (made : ℕ) (es : List Event) → IsSealedRule g part target k → IsSmall g rule a p c made es → IsReadAlone g part k p es → IsPiece (stretch_of p es)
-piece_is k g rule part target a p c made es sealed small r =
-    let end : EndsInToken es = ends_found k 0 es r.closes in
-    let long = length-append a.sights (p.sights ++ c.sights) in
-    let rest = length-append p.sights c.sights in
-    let sights = small.sights in
-    let few = small.events in
-    record {
-      cut = r.cut;
-      some = subst (λ (ts : List RawToken). 0 < length ts) (sym r.last.is) (some_tokens r.last.front r.last.last);
-      first = r.first;
-      taken = pieces_take g part target k p.sights es p.tokens sealed r.alone (omega (arith, long, rest, sights)) (omega (arith, few)) r.sights r.last;
-      body = end.body;
-      kind = end.kind;
-      signs = end.signs;
-      errors = [];
-      events = end.is;
-      last = All-nil (λ e. is_error_of e ≡ true);
-    }
-
--- one text, whose events are those of the setting
-laid_in : (root k : SyntaxKind) (attaching : List SyntaxKind) (g : Tables) (rule : ℕ) (a p c : Part) (made : ℕ) (es before behind : List Event)
-    → IsSmall g rule a p c made es → IsPiece (stretch_of p es)
-    → (l : FilledAround root attaching (setting_of k (stretch_of a []) (stretch_of c []) before behind))
-    → events_of g rule (sights_in a p c) ≡ events_in (setting_of k (stretch_of a []) (stretch_of c []) before behind) es
-    → LaidIn root k attaching g rule a p c es l.before l.behind l.faults_before l.faults_behind
-laid_in root k attaching g rule a p c made es before behind small piece l is =
-    let fits = small.fits.events in
-    let count : length (events_in (setting_of k (stretch_of a []) (stretch_of c []) before behind) es) ≡ length (run_of g rule (sights_in a p c)).made.events =
-    ap length (sym is) ∙ length-reverse (run_of g rule (sights_in a p c)).made.events in
-    let short : IsShort (set_in (setting_of k (stretch_of a []) (stretch_of c []) before behind) (stretch_of p es)) = record { text = small.text; events = omega (arith, count, fits) } in
-    record {
-      steps = ap (λ (xs : List Event). (laid root attaching (record { text = a.text ++ (p.text ++ c.text); tokens = a.tokens ++ (p.tokens ++ c.tokens); events = xs })).steps) is ∙ l.steps (stretch_of p es) piece short;
-      bytes = l.bytes (stretch_of p es) piece short;
-      faults = ap (λ (xs : List Event). (laid root attaching (record { text = a.text ++ (p.text ++ c.text); tokens = a.tokens ++ (p.tokens ++ c.tokens); events = xs })).faults) is ∙ l.faults (stretch_of p es) piece short;
-      lie_before = l.lie_before (stretch_of p es) piece short;
-      lie_behind = l.lie_behind (stretch_of p es) piece short;
-    }
 
 -- ---- the law of `event_layout`, where it is known that the piece's node is not the last one
 pub fitted : (root k : SyntaxKind) (attaching : List SyntaxKind) (g : Tables) (rule part target : ℕ) (a p q c : Part) (made : ℕ) (es fs : List Event)

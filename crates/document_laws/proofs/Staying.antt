@@ -1,53 +1,18 @@
 -- A token that was made stays, and all that was made before it.
-use Rattle.std.proofs.Common.{◌≡◌, ℕ, zero, suc, Bool, true, false, nat_eq, nat_lt, if◌then◌else◌, List, [], ◌∷◌, ◌++◌, length, ap, ◌∙◌, refl, subst, sym}
+use Rattle.std.proofs.Common.{◌≡◌, ℕ, zero, suc, Bool, true, false, nat_eq, nat_lt, if◌then◌else◌, List, [], ◌∷◌, ◌++◌, ap, ◌∙◌, refl, subst, sym}
 use Rattle.std.specs.Prelude.{Option, Some, None, slice_get}
 use Rattle.syntax_kind.specs.declared.syntax_kind.SyntaxKind.{SyntaxKind}
-use Rattle.grammar_machine.specs.declared.event.Part.{Part}
 use Rattle.grammar_machine.specs.declared.event.Event.{Event}
 use Rattle.grammar_machine.specs.declared.event.Event.TheVariants as event
 use Rattle.grammar_machine.specs.declared.grammar.Sight.{Sight}
-use Rattle.grammar_machine.specs.declared.grammar.View.{View}
 use Rattle.grammar_machine.specs.declared.grammar.View.TheVariants.{One}
 use Rattle.grammar_machine.specs.declared.grammar.Op.{Op}
 use Rattle.grammar_machine.specs.declared.grammar.Op.TheVariants as op
-use Rattle.grammar_machine.specs.Running.{Tables, Stacks, State, kind_of, seen_as_of, signs_taken_of, operator_view_of, here_of, mark_of, rest_of, node_of, longer_of, make_of, start_of, open_of, forget_of, extended_on, with_place, with_made, resume_of, left_of, return_of, answer_of, take_on, part_of, piece_on, sealed_on, past_of, obey_of, step_on, runs}
+use Rattle.grammar_machine.specs.Running.{Tables, Stacks, State, operator_view_of, here_of, mark_of, longer_of, make_of, start_of, open_of, forget_of, extended_on, with_place, with_made, resume_of, left_of, return_of, answer_of, take_on, past_of, obey_of, step_on, runs}
 use Rattle.grammar_machine.specs.Lasting.{IsOver}
 use Rattle.grammar_machine.proofs.Running.{step-at, runs-none, runs-suc}
+use Rattle.grammar_machine.proofs.Lasting.{makes, still, forgets, nodes, takes, pieces, seals}
 use Rattle.document_laws.proofs.Calling.{Place, Frame, Seal}
-
-makes : (b : List Event) (e : Event) (m : Stacks) → IsOver b m → IsOver b (make_of e m)
-makes b e m h = record { later = e ∷ h.later; is = ap (λ es. e ∷ es) h.is }
-
--- the same events
-still : (b : List Event) (m n : Stacks) → n.events ≡ m.events → IsOver b m → IsOver b n
-still b m n e h = record { later = h.later; is = e ∙ h.is }
-
-forgets : (b : List Event) (m : Stacks) → IsOver b m → IsOver b (forget_of m)
-forgets b m h = by_test (nat_lt m.floor (length m.marks))
-  where
-    by_test : (x : Bool) → IsOver b (if x then record m { marks = rest_of m.marks } else m)
-    by_test true = record { later = h.later; is = h.is }
-    by_test false = h
-
-nodes : (b : List Event) (k : SyntaxKind) (o : Option ℕ) (m : Stacks) → IsOver b m → IsOver b (node_of k o m)
-nodes b k None m h = h
-nodes b k (Some from) m h = makes b (event.Node k from) m h
-
-takes : (b : List Event) (g : Tables) (v : View) (o : Option Sight) (s : State) → IsOver b s.made → IsOver b (take_on g v o s).made
-takes b g v None s h = h
-takes b g v (Some t) s h = makes b (event.Token (kind_of g (seen_as_of v t)) (signs_taken_of v t)) s.made h
-
-pieces : (b : List Event) (part : Part) (last : Bool) (o : Option Sight) (s : State) → IsOver b s.made → IsOver b (piece_on part last o s).made
-pieces b part last None s h = h
-pieces b part last (Some t) s h = by_test (nat_eq t.word 0)
-  where
-    by_test : (x : Bool) → IsOver b (if x then s else part_of part last s).made
-    by_test true = h
-    by_test false = makes b (event.Piece part last) s.made h
-
-seals : (b : List Event) (g : Tables) (target : ℕ) (k : SyntaxKind) (o : Option Sight) (s : State) → IsOver b s.made → IsOver b (sealed_on g target k o s).made
-seals b g target k None s h = h
-seals b g target k (Some t) s h = record { later = event.Token (kind_of g t.one) 1 ∷ h.later; is = ap (λ es. event.Token (kind_of g t.one) 1 ∷ es) h.is }
 
 -- a token is not extended
 kept : (ks : List SyntaxKind) (o : Option ℕ) (k : SyntaxKind) (from : ℕ) → longer_of ks o (event.Token k from) ≡ event.Token k from

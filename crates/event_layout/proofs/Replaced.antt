@@ -88,10 +88,10 @@ around s es all n count is ends = by_turned (reverse s.behind.events) refl
 some_tokens : (front : List RawToken) (t : RawToken) → 0 < length (front ++ t ∷ [])
 some_tokens front t = let long = length-append front (t ∷ []) in omega (arith, long)
 
-abbrev stretch_of : Part → List Event → Stretch
+abbrev pub stretch_of : Part → List Event → Stretch
 stretch_of p es = record { text = p.text; tokens = p.tokens; events = es }
 
-piece_is : (k : SyntaxKind) (g : Tables) (rule part target : ℕ) (a p c : Part) (made : ℕ) (es : List Event) → IsSealedRule g part target k → IsSmall g rule a p c made es → IsReadAlone g part k p es → IsPiece (stretch_of p es)
+pub piece_is : (k : SyntaxKind) (g : Tables) (rule part target : ℕ) (a p c : Part) (made : ℕ) (es : List Event) → IsSealedRule g part target k → IsSmall g rule a p c made es → IsReadAlone g part k p es → IsPiece (stretch_of p es)
 piece_is k g rule part target a p c made es sealed small r =
     let end : EndsInToken es = ends_found k 0 es r.closes in
     let long = length-append a.sights (p.sights ++ c.sights) in
@@ -112,7 +112,7 @@ piece_is k g rule part target a p c made es sealed small r =
     }
 
 -- one text, whose events are those of the setting
-laid_in : (root k : SyntaxKind) (attaching : List SyntaxKind) (g : Tables) (rule : ℕ) (a p c : Part) (made : ℕ) (es before behind : List Event)
+pub laid_in : (root k : SyntaxKind) (attaching : List SyntaxKind) (g : Tables) (rule : ℕ) (a p c : Part) (made : ℕ) (es before behind : List Event)
     → IsSmall g rule a p c made es → IsPiece (stretch_of p es)
     → (l : FilledAround root attaching (setting_of k (stretch_of a []) (stretch_of c []) before behind))
     → events_of g rule (sights_in a p c) ≡ events_in (setting_of k (stretch_of a []) (stretch_of c []) before behind) es

@@ -175,7 +175,7 @@ pub(crate) const ALL_ERRORS: Row = Row {
     takes: Takes::Nothing,
     default: None,
     conflicts: &[],
-    help: "Gives each error a line, also further ones at the place of another",
+    help: "Gives each error a line, also those that follow from another",
 };
 
 pub(crate) const COUNT: Row = Row {

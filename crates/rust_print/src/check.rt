@@ -3,9 +3,11 @@
 use crate::failure::Failure;
 use crate::forms::{ReportFormat, ReportOptions};
 use crate::json;
+use crate::run::more_behind;
 use crate::sarif::{Region, Rule, write_result};
 use crate::shown::{name, write_place};
 use crate::source::{Source, move_to, parsed, spot, spots};
+use lossless_tree::SyntaxNode;
 use ras_front_end::SyntaxError;
 use rust_report::{Escaped, Marks, Medium, Spots, excerpt_at, plain_message};
 use serde::Serialize;
@@ -27,7 +29,7 @@ struct ErrorRecord<'a> {
     message: &'a str,
 }
 
-// How many errors are not shown, as they begin where a shown one does.
+// How many errors are not shown, as they are of the run that a shown one begins.
 #[derive(Clone, Copy)]
 struct More(usize);
 
@@ -39,20 +41,6 @@ impl fmt::Display for More {
             write!(f, " (and {} more here)", self.0)
         }
     }
-}
-
-// How many errors directly behind one begin where it does.
-fn more_behind(errors: &[SyntaxError], at: usize, error: &SyntaxError) -> usize {
-    let start = error.range().start();
-    let mut more: usize = 0;
-    // `skip(at)` would pass the errors before, one by one.
-    for other in errors.get(at.saturating_add(1)..).unwrap_or(&[]) {
-        if other.range().start() != start {
-            break;
-        }
-        more = more.saturating_add(1);
-    }
-    more
 }
 
 // The message of an error in the words that are asked for.
@@ -161,6 +149,7 @@ fn write_all<W: Write>(
     alloc: Global,
     out: &mut W,
     source: Source<'_>,
+    root: &SyntaxNode,
     errors: &[SyntaxError],
     options: ReportOptions,
 ) -> Result<u64, Failure> {
@@ -185,7 +174,7 @@ fn write_all<W: Write>(
         }
         left -= 1;
         if folds {
-            folded = more_behind(errors, at, error);
+            folded = more_behind(root, errors, at);
         }
         let more = More(folded);
         match options.format {
@@ -201,9 +190,9 @@ fn write_all<W: Write>(
     Ok(errors.len() as u64)
 }
 
-/// Writes the errors of a text, at most `options.max_errors`, and of several at one place only the
-/// first and how many more there are, unless all are asked for. JSON has all. Returns the number of
-/// all of them.
+/// Writes the errors of a text, at most `options.max_errors`, and of a run of them, as one wrong
+/// character begins, only the first and how many more there are, unless all are asked for. JSON and
+/// SARIF have all. Returns the number of all of them.
 pub fn check<W: Write>(
     alloc: Global,
     out: &mut W,
@@ -212,8 +201,8 @@ pub fn check<W: Write>(
 ) -> Result<u64, Failure> {
     let parse = parsed(alloc, source.text, options.reading)?;
     if !options.reading.validates {
-        return write_all(alloc, out, source, parse.stored(), options);
+        return write_all(alloc, out, source, parse.root(), parse.stored(), options);
     }
     let errors = parse.errors(alloc)?;
-    write_all(alloc, out, source, errors.as_slice(), options)
+    write_all(alloc, out, source, parse.root(), errors.as_slice(), options)
 }

@@ -40,7 +40,7 @@ pub struct ReportOptions {
     pub style: Style,
     /// The most errors of a file that are listed.
     pub max_errors: usize,
-    /// Whether each error has lines of its own, also further ones at the place of another.
+    /// Whether each error has lines of its own, also those of the run that another begins.
     pub all_errors: bool,
     /// Whether messages are those of rust-analyzer's parser.
     pub is_upstream: bool,

@@ -11,6 +11,7 @@ pub mod json;
 pub mod names;
 pub mod outline;
 pub mod parens;
+mod run;
 pub mod sarif;
 pub mod shown;
 pub mod source;

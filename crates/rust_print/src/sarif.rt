@@ -19,7 +19,8 @@ pub enum Rule {
 }
 
 impl Rule {
-    fn id(self) -> &'static str {
+    /// The `ruleId` of its results; of a match whose rule has no name.
+    pub fn id(self) -> &'static str {
         match self {
             Rule::Syntax => "syntax-error",
             Rule::Parentheses => "needless-parentheses",
@@ -41,6 +42,25 @@ impl Rule {
             Rule::Syntax => "The text is no Rust.",
             Rule::Parentheses => "Without this pair of parentheses the text has the same tree.",
             Rule::Match => "A rule of search and replace matches here.",
+        }
+    }
+}
+
+/// What the report says of a rule of search and replace that has a name.
+#[derive(Clone, Copy, Debug)]
+pub struct Described<'a> {
+    /// Its name, which is the `ruleId` of its results.
+    pub name: &'a str,
+    /// Its message; empty if it has none.
+    pub message: &'a str,
+}
+
+impl<'a> Described<'a> {
+    fn about(self) -> &'a str {
+        if self.message.is_empty() {
+            Rule::Match.about()
+        } else {
+            self.message
         }
     }
 }
@@ -82,22 +102,41 @@ impl fmt::Display for Uri<'_> {
     }
 }
 
-/// Writes what is before the results.
-pub fn write_start<W: Write>(out: &mut W) -> io::Result<()> {
+// Writes what a rule is, with a comma before it unless it is the first.
+fn write_rule<W: Write>(
+    alloc: Global,
+    out: &mut W,
+    is_first: bool,
+    id: &str,
+    about: &str,
+) -> io::Result<()> {
+    let comma = if is_first { "" } else { "," };
+    write!(out, "{comma}{{\"id\":")?;
+    json::write(alloc, out, &id)?;
+    out.write_all(b",\"shortDescription\":{\"text\":")?;
+    json::write(alloc, out, &about)?;
+    out.write_all(b"}}")
+}
+
+/// Writes what is before the results: the tool, with its rules and the named ones of a search. The
+/// names have to differ from each other and from [`Rule::id`].
+pub fn write_start<W: Write>(
+    alloc: Global,
+    out: &mut W,
+    named: &[Described<'_>],
+) -> io::Result<()> {
     out.write_all(b"{\"$schema\":\"https://json.schemastore.org/sarif-2.1.0.json\",")?;
     out.write_all(
         b"\"version\":\"2.1.0\",\"runs\":[{\"tool\":{\"driver\":{\"name\":\"rust_tree\",",
     )?;
     out.write_all(b"\"version\":\"0.1.0\",\"rules\":[")?;
-    let mut before = "";
+    let mut is_first = true;
     for rule in [Rule::Syntax, Rule::Parentheses, Rule::Match] {
-        write!(out, "{before}{{\"id\":\"{}\",", rule.id())?;
-        write!(
-            out,
-            "\"shortDescription\":{{\"text\":\"{}\"}}}}",
-            rule.about()
-        )?;
-        before = ",";
+        write_rule(alloc, out, is_first, rule.id(), rule.about())?;
+        is_first = false;
+    }
+    for rule in named {
+        write_rule(alloc, out, false, rule.name, rule.about())?;
     }
     out.write_all(b"]}},\"columnKind\":\"unicodeCodePoints\",\"results\":[")
 }
@@ -125,15 +164,24 @@ pub fn write_result<W: Write>(
     path: &str,
     at: Region,
 ) -> io::Result<()> {
-    write_leveled(alloc, out, is_first, rule, rule.level(), message, path, at)
+    write_leveled(
+        alloc,
+        out,
+        is_first,
+        rule.id(),
+        rule.level(),
+        message,
+        path,
+        at,
+    )
 }
 
-/// The same with another level: `error`, `warning` or `note`.
+/// The same with a `ruleId` and a level: `error`, `warning` or `note`.
 pub fn write_leveled<W: Write>(
     alloc: Global,
     out: &mut W,
     is_first: bool,
-    rule: Rule,
+    id: &str,
     level: &str,
     message: &str,
     path: &str,
@@ -143,8 +191,9 @@ pub fn write_leveled<W: Write>(
         path: path.strip_prefix("./").unwrap_or(path),
     };
     let comma = if is_first { "" } else { "," };
-    write!(out, "{comma}\n{{\"ruleId\":\"{}\",", rule.id())?;
-    write!(out, "\"level\":\"{level}\",\"message\":{{\"text\":")?;
+    write!(out, "{comma}\n{{\"ruleId\":")?;
+    json::write(alloc, out, &id)?;
+    write!(out, ",\"level\":\"{level}\",\"message\":{{\"text\":")?;
     json::write(alloc, out, &message)?;
     write!(
         out,

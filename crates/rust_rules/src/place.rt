@@ -189,11 +189,16 @@ fn write_sarif<W: Write>(
     is_first: bool,
 ) -> io::Result<()> {
     let said = format!(in alloc; "{}", Said { place })?;
+    let id = if place.name.is_empty() {
+        Rule::Match.id()
+    } else {
+        place.name
+    };
     write_leveled(
         alloc,
         out,
         is_first,
-        Rule::Match,
+        id,
         place.severity().level(),
         said.as_str(),
         place.source.name,

@@ -15,7 +15,7 @@ use rust_parens::Needless;
 use rust_print::check::check;
 use rust_print::failure::Failure;
 use rust_print::forms::{ReportFormat, ReportOptions};
-use rust_print::sarif::{write_end, write_start};
+use rust_print::sarif::{Described, Rule, write_end, write_start};
 use rust_print::shown::name;
 use rust_print::source::Source;
 use rust_print::{outline, parens, tokens};
@@ -23,7 +23,8 @@ use rust_query::show as query;
 use rust_rules as rules;
 use rust_rules::Replaced;
 use rust_search::{Chosen, RuleSet, path_in};
-use std::alloc::Global;
+use std::alloc::{AllocError, Global};
+use std::collections::BTreeSet;
 use std::io::Write;
 use std::time::Instant;
 use std::{fs, io};
@@ -342,6 +343,23 @@ fn rewrite<W: Write>(
     }
 }
 
+// The named rules of a set. Of several with one name the first is described.
+fn described(alloc: Global, set: &RuleSet) -> Result<Vec<Described<'_>>, AllocError> {
+    let mut seen: BTreeSet<&str> = BTreeSet::new(alloc);
+    for rule in [Rule::Syntax, Rule::Parentheses, Rule::Match] {
+        seen.insert(rule.id())?;
+    }
+    let mut named = Vec::new(alloc);
+    for note in &set.notes {
+        let name = note.name.as_str();
+        if !name.is_empty() && seen.insert(name)? {
+            let message = note.message.as_str();
+            named.push(Described { name, message })?;
+        }
+    }
+    Ok(named)
+}
+
 // Writes the line about a file that stands for a report.
 fn write_summary<W: Write>(
     out: &mut W,
@@ -534,6 +552,16 @@ impl Job {
         Ok(())
     }
 
+    // Writes the front of a report in SARIF.
+    fn start_sarif<W: Write>(&self, alloc: Global, out: &mut W) -> io::Result<()> {
+        match &self.task {
+            Task::Search { set, .. } | Task::Rewrite { set, .. } => {
+                write_start(alloc, out, &described(alloc, set)?)
+            }
+            _ => write_start(alloc, out, &[]),
+        }
+    }
+
     /// The exit status after a run. Pairs of parentheses that were removed do not count as found,
     /// nor do matches that were replaced.
     pub fn status(&self, session: &Session) -> u8 {
@@ -559,7 +587,7 @@ impl Job {
         let is_sarif = matches!(self.options.report.format, ReportFormat::Sarif)
             && self.options.summary == Summary::Whole;
         if is_sarif {
-            write_start(out)?;
+            self.start_sarif(rt.alloc(), out)?;
         }
         for name in names {
             if is_folder(rt, name) {
