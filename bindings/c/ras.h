@@ -36,9 +36,34 @@ void rattle_dealloc(void *at);
 
 /*
  * The entry of an expression: the root is a node of an expression, or ERROR if the text is not
- * one expression; there are errors then.
+ * one expression. If only its beginning is one, as in a b, there may be no errors.
  */
 #define RAS_ENTRY_EXPR 1u
+
+/*
+ * The entry of a type, with its bounds: the root is a node of a type, or ERROR if the text is
+ * not one type, as for RAS_ENTRY_EXPR.
+ */
+#define RAS_ENTRY_TYPE 2u
+
+/*
+ * The entry of a pattern, with its alternatives: the root is a node of a pattern, or ERROR if
+ * the text is not one pattern, as for RAS_ENTRY_EXPR.
+ */
+#define RAS_ENTRY_PATTERN 3u
+
+/* The entry of statements, as a macro may stand for: the root is a MACRO_STMTS. */
+#define RAS_ENTRY_STATEMENTS 4u
+
+/* The entry of items, as a macro may stand for: the root is a MACRO_ITEMS. */
+#define RAS_ENTRY_ITEMS 5u
+
+/*
+ * The entry of what is between the brackets of an attribute: the root is a PATH_META,
+ * KEY_VALUE_META, TOKEN_TREE_META, UNSAFE_META, CFG_META or CFG_ATTR_META, or ERROR if
+ * the text is not one of these, as for RAS_ENTRY_EXPR.
+ */
+#define RAS_ENTRY_META_ITEM 6u
 
 /* No errors are told. */
 #define RAS_NO_ERRORS 0u
@@ -119,7 +144,7 @@ void rattle_dealloc(void *at);
 #define RAS_FAULT 64u
 
 /* A number made of the kinds, constants, structs and calls of the library. Bindings that know another number were made for others. */
-#define RAS_VERSION 1848753718u
+#define RAS_VERSION 1112105567u
 
 /* The statuses of a wrong escape or character. */
 enum ras_fault {
@@ -800,8 +825,8 @@ uint32_t ras_c_read(
 
 /*
  * Parses a text as an expression of an edition, and writes what ras_c_read writes for a file.
- * The root is a node of an expression, or ERROR if the text is not one expression; there are
- * errors then.
+ * The root is a node of an expression, or ERROR if the text is not one expression. If only its
+ * beginning is one, as in a b, there may be no errors.
  *
  * Returns RAS_OK, RAS_NOT_UTF8, RAS_TOO_LONG, RAS_NO_MEMORY, RAS_NO_ROOM or RAS_NO_EDITION.
  */
@@ -818,7 +843,7 @@ uint32_t ras_c_read_expr(
     ras_counts *counts);
 
 /*
- * Parses a text by an entry, such as RAS_ENTRY_EXPR, and writes what ras_c_read writes for a
+ * Parses a text by an entry, such as RAS_ENTRY_TYPE, and writes what ras_c_read writes for a
  * file, with a choice of errors, such as RAS_PARSE_ERRORS. The counts are those of the chosen
  * errors.
  *

@@ -93,6 +93,13 @@ static uint32_t read_as(uint32_t entry, uint32_t told, ras_counts *counts) {
     return ras_c_read_as(entry, told, BYTES(TEXT), 2024, rows, ROWS, errors, ERRORS, messages, MESSAGES, counts);
 }
 
+/* A part of a file is read without errors, and its root is of the kind. */
+static void reads_part(uint32_t entry, const uint8_t *text, size_t text_len, uint32_t kind, const char *what) {
+    ras_counts counts;
+    owes(ras_c_read_as(entry, RAS_ALL_ERRORS, text, text_len, 2024, rows, ROWS, errors, ERRORS, messages, MESSAGES, &counts) == RAS_OK
+        && rows[0].kind == kind && rows[0].subtree_end == counts.rows && counts.errors == 0, what);
+}
+
 static void reads_as(void) {
     static const uint32_t choices[] = {RAS_NO_ERRORS, RAS_PARSE_ERRORS, RAS_VIOLATIONS, RAS_ALL_ERRORS};
     ras_counts all = {0, 0, 0, 0}, parts[4], kept = {9, 9, 9, 9};
@@ -109,7 +116,13 @@ static void reads_as(void) {
     owes(memcmp(&parts[3], &all, sizeof all) == 0 && parts[1].messages + parts[2].messages == all.messages, "all errors are told");
     owes(ras_c_read_as(RAS_ENTRY_EXPR, RAS_ALL_ERRORS, BYTES("a + b"), 2024, rows, ROWS, NULL, 0, NULL, 0, &all) == RAS_OK
         && rows[0].kind == RAS_KIND_BIN_EXPR && all.errors == 0, "an expression is an entry");
-    owes(read_as(2, RAS_ALL_ERRORS, &kept) == RAS_NO_ENTRY && read_as(UINT32_MAX, 9, &kept) == RAS_NO_ENTRY, "no entry has the number");
+    reads_part(RAS_ENTRY_TYPE, BYTES("&[u8]"), RAS_KIND_REF_TYPE, "a type is an entry");
+    reads_part(RAS_ENTRY_TYPE, BYTES("A B"), RAS_KIND_ERROR, "two types are an error");
+    reads_part(RAS_ENTRY_PATTERN, BYTES("A | Some(b)"), RAS_KIND_OR_PAT, "a pattern is an entry");
+    reads_part(RAS_ENTRY_STATEMENTS, BYTES("let a = 1; a"), RAS_KIND_MACRO_STMTS, "statements are an entry");
+    reads_part(RAS_ENTRY_ITEMS, BYTES("use a; fn f() {}"), RAS_KIND_MACRO_ITEMS, "items are an entry");
+    reads_part(RAS_ENTRY_META_ITEM, BYTES("derive(Debug)"), RAS_KIND_TOKEN_TREE_META, "the contents of an attribute are an entry");
+    owes(read_as(7, RAS_ALL_ERRORS, &kept) == RAS_NO_ENTRY && read_as(UINT32_MAX, 9, &kept) == RAS_NO_ENTRY, "no entry has the number");
     owes(read_as(RAS_ENTRY_FILE, 4, &kept) == RAS_NO_CHOICE && kept.rows == 9, "no choice of errors has the number");
     ras_handle live = {0};
     owes(ras_c_parse(BYTES(TEXT), 2024, &live) == RAS_OK, "a handle holds the text");

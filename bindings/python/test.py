@@ -103,6 +103,33 @@ class Trees(unittest.TestCase):
         self.assertEqual((tree.root.kind, tree.text), ("ERROR", "let a = b;"))
         self.assertTrue(tree.errors)
 
+    def test_parts_of_files(self):
+        cases = [
+            (ras.parse_type, "&'a [u8]", "REF_TYPE"),
+            (ras.parse_type, "A B", "ERROR"),
+            (ras.parse_type, "", "ERROR"),
+            (ras.parse_pattern, "A | Some(b)", "OR_PAT"),
+            (ras.parse_pattern, "a if b", "ERROR"),
+            (ras.parse_statements, "let a = 1; a", "MACRO_STMTS"),
+            (ras.parse_statements, "} let", "MACRO_STMTS"),
+            (ras.parse_items, "use a; fn f() {}", "MACRO_ITEMS"),
+            (ras.parse_items, "fn f(", "MACRO_ITEMS"),
+            (ras.parse_meta_item, "derive(Debug)", "TOKEN_TREE_META"),
+            (ras.parse_meta_item, "#[inline]", "ERROR"),
+        ]
+        for parse, text, kind in cases:
+            tree = parse(text)
+            self.assertEqual((tree.root.kind, tree.root.text), (kind, text))
+            self.assertEqual((tree.root.start, tree.root.end), (0, len(text)))
+        self.assertEqual([it.kind for it in ras.parse_type("A B").root.children()], ["PATH_TYPE", "WHITESPACE", "IDENT"])
+        self.assertTrue(ras.parse_items("fn f(").errors)
+        self.assertEqual(ras.parse_items("fn f(", errors="none").errors, [])
+
+    def test_an_edited_part_is_read_as_the_part(self):
+        self.assertEqual(ras.parse_type("Vec<u8>").edit([(4, 6, "&str")]).root.kind, "PATH_TYPE")
+        self.assertEqual(ras.parse_expr("a + b").edit([(2, 3, "*")]).root.kind, "BIN_EXPR")
+        self.assertEqual(ras.parse("fn f() {}").edit([(3, 4, "g")]).root.kind, "SOURCE_FILE")
+
     def test_errors_have_messages(self):
         tree = ras.parse("fn foo() { 1 + }")
         self.assertEqual(repr(tree.errors), "[14..14: expected expression]")

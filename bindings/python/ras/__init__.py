@@ -22,7 +22,8 @@ from . import _raw
 
 __all__ = [
     "Element", "EscapeError", "Live", "Match", "ParseError", "RewriteError", "RuleError", "SyntaxError", "Tree", "contextual_keyword", "is_identifier",
-    "is_raw_identifier", "keyword", "kind_name", "kind_of_name", "parse", "parse_expr", "rewrite",
+    "is_raw_identifier", "keyword", "kind_name", "kind_of_name", "parse", "parse_expr", "parse_items",
+    "parse_meta_item", "parse_pattern", "parse_statements", "parse_type", "rewrite",
 ]
 
 _TOKEN = 1 << 31
@@ -265,8 +266,60 @@ def parse(text, edition=2024, errors="all"):
 
 
 def parse_expr(text, edition=2024, errors="all"):
-    """The tree of a text, read as an expression. Its root is an ERROR, and there are errors, if the text is not one expression."""
+    """The tree of a text, read as an expression. Its root is an ERROR if the text is not one expression. If only its beginning is one, as in
+    "a b", the root has it first and then the tokens that are left, and there may be no errors.
+
+    >>> [parse_expr(it).root.kind for it in ("a + b", "a b")]
+    ['BIN_EXPR', 'ERROR']
+    """
     return Tree.__new__(Tree)._read(_raw.ENTRY_EXPR, text, edition, errors)
+
+
+def parse_type(text, edition=2024, errors="all"):
+    """The tree of a text, read as a type, with its bounds. Its root is an ERROR if the text is not one type, as for `parse_expr`.
+
+    >>> [parse_type(it).root.kind for it in ("&'a [u8]", "impl A + B", "A B")]
+    ['REF_TYPE', 'IMPL_TRAIT_TYPE', 'ERROR']
+    """
+    return Tree.__new__(Tree)._read(_raw.ENTRY_TYPE, text, edition, errors)
+
+
+def parse_pattern(text, edition=2024, errors="all"):
+    """The tree of a text, read as a pattern, with its alternatives. Its root is an ERROR if the text is not one pattern, as for `parse_expr`.
+
+    >>> [parse_pattern(it).root.kind for it in ("Some(a) | None", "a if b")]
+    ['OR_PAT', 'ERROR']
+    """
+    return Tree.__new__(Tree)._read(_raw.ENTRY_PATTERN, text, edition, errors)
+
+
+def parse_statements(text, edition=2024, errors="all"):
+    """The tree of a text, read as the statements that a macro stands for, each with or without its `;`, and an expression. Its root is a
+    MACRO_STMTS.
+
+    >>> [it.kind for it in parse_statements("let a = 1; a").root.children()]
+    ['LET_STMT', 'WHITESPACE', 'PATH_EXPR']
+    """
+    return Tree.__new__(Tree)._read(_raw.ENTRY_STATEMENTS, text, edition, errors)
+
+
+def parse_items(text, edition=2024, errors="all"):
+    """The tree of a text, read as the items that a macro stands for. Its root is a MACRO_ITEMS.
+
+    >>> [it.kind for it in parse_items("use a; fn f() {}").root.children()]
+    ['USE', 'WHITESPACE', 'FN']
+    """
+    return Tree.__new__(Tree)._read(_raw.ENTRY_ITEMS, text, edition, errors)
+
+
+def parse_meta_item(text, edition=2024, errors="all"):
+    """The tree of a text, read as the contents of an attribute. Its root is one of the nodes of `ast.Meta`, or an ERROR if the text is not
+    such contents, as for `parse_expr`.
+
+    >>> [parse_meta_item(it).root.kind for it in ("derive(Debug)", "doc = 'a'", "inline", "#[inline]")]
+    ['TOKEN_TREE_META', 'KEY_VALUE_META', 'PATH_META', 'ERROR']
+    """
+    return Tree.__new__(Tree)._read(_raw.ENTRY_META_ITEM, text, edition, errors)
 
 
 def _bytes_of(text):
@@ -287,12 +340,16 @@ def _edition_of(edition):
 class Tree:
     """A text, its lossless tree, and what is wrong with it."""
 
+    # What its text was read as.
+    _entry = _raw.ENTRY_FILE
+
     def __init__(self, text, edition=2024, errors="all"):
         self._read(_raw.ENTRY_FILE, text, edition, errors)
 
     def _read(self, entry, text, edition, errors):
         """Takes what the library writes for a text."""
         data, edition = _bytes_of(text), _edition_of(edition)
+        self._entry = entry
         self._tell(data, edition, functools.partial(_library.ras_c_read_as, entry, _choice(errors), data, len(data), edition))
         return self
 
@@ -329,7 +386,7 @@ class Tree:
 
     @property
     def root(self):
-        """The root, a SOURCE_FILE; of `parse_expr`, an expression or an ERROR."""
+        """The root, a SOURCE_FILE; of `parse_expr`, an expression or an ERROR; and so on."""
         return Element(self, 0)
 
     def find(self, kind):
@@ -338,7 +395,7 @@ class Tree:
 
     def edit(self, edits):
         """The tree of the text in which each range of bytes is replaced: `edits` are tuples of a start, an end and a text, in any order.
-        The tree itself stays. Inserts at one place keep their order. ValueError if two ranges overlap, or one is not in the text or does
+        The text is read as this tree's was, as a file or an expression, say. The tree itself stays. Inserts at one place keep their order. ValueError if two ranges overlap, or one is not in the text or does
         not start and end between characters; ParseError as for `parse`.
 
         >>> tree = parse("fn f() { a + b }")
@@ -355,7 +412,7 @@ class Tree:
                 raise ValueError(f"{start}..{end} does not start and end between characters")
             pieces += [self.data[at:start], _bytes_of(text)]
             at = end
-        return Tree(b"".join([*pieces, self.data[at:]]), self.edition)
+        return Tree.__new__(Tree)._read(self._entry, b"".join([*pieces, self.data[at:]]), self.edition, "all")
 
     def search(self, pattern, lines=False):
         """Where a pattern matches, in preorder: the outermost matches, and those inside what stands for placeholders. With `lines`,

@@ -5,8 +5,27 @@ import ctypes
 ENTRY_FILE = 0
 
 # The entry of an expression: the root is a node of an expression, or `ERROR` if the text is not
-# one expression; there are errors then.
+# one expression. If only its beginning is one, as in `a b`, there may be no errors.
 ENTRY_EXPR = 1
+
+# The entry of a type, with its bounds: the root is a node of a type, or `ERROR` if the text is
+# not one type, as for [`ENTRY_EXPR`].
+ENTRY_TYPE = 2
+
+# The entry of a pattern, with its alternatives: the root is a node of a pattern, or `ERROR` if
+# the text is not one pattern, as for [`ENTRY_EXPR`].
+ENTRY_PATTERN = 3
+
+# The entry of statements, as a macro may stand for: the root is a `MACRO_STMTS`.
+ENTRY_STATEMENTS = 4
+
+# The entry of items, as a macro may stand for: the root is a `MACRO_ITEMS`.
+ENTRY_ITEMS = 5
+
+# The entry of what is between the brackets of an attribute: the root is a `PATH_META`,
+# `KEY_VALUE_META`, `TOKEN_TREE_META`, `UNSAFE_META`, `CFG_META` or `CFG_ATTR_META`, or `ERROR` if
+# the text is not one of these, as for [`ENTRY_EXPR`].
+ENTRY_META_ITEM = 6
 
 # No errors are told.
 NO_ERRORS = 0
@@ -81,7 +100,7 @@ TOO_LARGE = 10
 FAULT = 64
 
 # A number made of the kinds, constants, structs and calls of the library. Bindings that know another number were made for others.
-VERSION = 1848753718
+VERSION = 1112105567
 
 # What can be wrong with an escape or a character: the names and the messages, from the status FAULT on.
 FAULTS = [

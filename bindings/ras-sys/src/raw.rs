@@ -4,8 +4,27 @@
 pub const ENTRY_FILE: u32 = 0;
 
 /// The entry of an expression: the root is a node of an expression, or `ERROR` if the text is not
-/// one expression; there are errors then.
+/// one expression. If only its beginning is one, as in `a b`, there may be no errors.
 pub const ENTRY_EXPR: u32 = 1;
+
+/// The entry of a type, with its bounds: the root is a node of a type, or `ERROR` if the text is
+/// not one type, as for [`ENTRY_EXPR`].
+pub const ENTRY_TYPE: u32 = 2;
+
+/// The entry of a pattern, with its alternatives: the root is a node of a pattern, or `ERROR` if
+/// the text is not one pattern, as for [`ENTRY_EXPR`].
+pub const ENTRY_PATTERN: u32 = 3;
+
+/// The entry of statements, as a macro may stand for: the root is a `MACRO_STMTS`.
+pub const ENTRY_STATEMENTS: u32 = 4;
+
+/// The entry of items, as a macro may stand for: the root is a `MACRO_ITEMS`.
+pub const ENTRY_ITEMS: u32 = 5;
+
+/// The entry of what is between the brackets of an attribute: the root is a `PATH_META`,
+/// `KEY_VALUE_META`, `TOKEN_TREE_META`, `UNSAFE_META`, `CFG_META` or `CFG_ATTR_META`, or `ERROR` if
+/// the text is not one of these, as for [`ENTRY_EXPR`].
+pub const ENTRY_META_ITEM: u32 = 6;
 
 /// No errors are told.
 pub const NO_ERRORS: u32 = 0;
@@ -80,7 +99,7 @@ pub const TOO_LARGE: u32 = 10;
 pub const FAULT: u32 = 64;
 
 /// A number made of the kinds, constants, structs and calls of the library. Bindings that know another number were made for others.
-pub const VERSION: u32 = 1848753718;
+pub const VERSION: u32 = 1112105567;
 
 /// One node or token, in 16 bytes. Rows are numbered from 0 in preorder.
 #[repr(C)]
@@ -382,8 +401,8 @@ unsafe extern "C" {
     ) -> u32;
 
     /// Parses a text as an expression of an edition, and writes what `ras_c_read` writes for a file.
-    /// The root is a node of an expression, or `ERROR` if the text is not one expression; there are
-    /// errors then.
+    /// The root is a node of an expression, or `ERROR` if the text is not one expression. If only its
+    /// beginning is one, as in `a b`, there may be no errors.
     ///
     /// Returns [`OK`], [`NOT_UTF8`], [`TOO_LONG`], [`NO_MEMORY`], [`NO_ROOM`] or [`NO_EDITION`].
     pub fn ras_c_read_expr(
@@ -399,7 +418,7 @@ unsafe extern "C" {
         counts: *mut Counts,
     ) -> u32;
 
-    /// Parses a text by an entry, such as [`ENTRY_EXPR`], and writes what `ras_c_read` writes for a
+    /// Parses a text by an entry, such as [`ENTRY_TYPE`], and writes what `ras_c_read` writes for a
     /// file, with a choice of errors, such as [`PARSE_ERRORS`]. The counts are those of the chosen
     /// errors.
     ///

@@ -1,8 +1,8 @@
 //! Parses as rust-analyzer's crate has them.
-use crate::ast::{AstNode, Expr, SourceFile};
+use crate::ast::{AstNode, Expr, MacroItems, MacroStmts, Meta, Pat, SourceFile, Type};
 use crate::node::SyntaxNode;
 use crate::range::TextRange;
-use crate::tree::{Edition, ParseError, SyntaxError, Tree};
+use crate::tree::{Edition, Entry, Errors, ParseError, SyntaxError, Tree};
 use std::fmt;
 use std::marker::PhantomData;
 
@@ -46,9 +46,14 @@ impl<T: AstNode> Parse<T> {
         T::cast(self.tree.syntax_node()).expect("a parse is made for the type of its root")
     }
 
-    /// The root by its type if there are no errors; else the errors.
+    /// The root by its type if it is of this type and there are no errors; else the errors. The list is empty if the text goes on behind an
+    /// expression, or another part, and nothing else is wrong, as in `a b`.
     pub fn ok(self) -> Result<T, Vec<SyntaxError>> {
-        if self.tree.errors().is_empty() { Ok(self.tree()) } else { Err(self.errors()) }
+        let errors = self.errors();
+        match T::cast(self.tree.syntax_node()) {
+            Some(root) if errors.is_empty() => Ok(root),
+            _ => Err(errors),
+        }
     }
 }
 
@@ -123,15 +128,114 @@ impl Expr {
     ///
     /// let parse = Expr::parse("a + b", Edition::CURRENT);
     /// assert!(matches!(parse.tree(), Expr::BinExpr(_)));
-    /// assert!(Expr::parse("let a = b;", Edition::CURRENT).ok().is_err());
+    /// assert!(Expr::parse("a b", Edition::CURRENT).ok().is_err());
     /// ```
     ///
     /// # Panics
     ///
     /// It panics if the text has 2^32 bytes or more, or if memory runs out; [`Tree::parse_expr`] returns an error instead. And `tree` of
-    /// the parse panics if the text is not one expression: there are errors then.
+    /// the parse panics if the text is not one expression; `ok` is an error then.
     pub fn parse(text: &str, edition: Edition) -> Parse<Expr> {
         of(Tree::parse_expr(text, edition))
+    }
+}
+
+impl Type {
+    /// The parse of a text, read as a type, with its bounds.
+    ///
+    /// ```
+    /// use ras::{Edition, ast};
+    ///
+    /// let parse = ast::Type::parse("Vec<&'a str>", Edition::CURRENT);
+    /// assert!(matches!(parse.tree(), ast::Type::PathType(_)));
+    /// assert!(ast::Type::parse("A B", Edition::CURRENT).ok().is_err());
+    /// ```
+    ///
+    /// # Panics
+    ///
+    /// It panics if the text has 2^32 bytes or more, or if memory runs out; [`Tree::parse_as`] returns an error instead. And `tree` of
+    /// the parse panics if the text is not one type; `ok` is an error then.
+    pub fn parse(text: &str, edition: Edition) -> Parse<Type> {
+        of(Tree::parse_as(text, edition, Entry::Type, Errors::All))
+    }
+}
+
+impl Pat {
+    /// The parse of a text, read as a pattern, with its alternatives.
+    ///
+    /// ```
+    /// use ras::{Edition, ast};
+    ///
+    /// let parse = ast::Pat::parse("Some(a) | None", Edition::CURRENT);
+    /// assert!(matches!(parse.tree(), ast::Pat::OrPat(_)));
+    /// assert!(ast::Pat::parse("a if b", Edition::CURRENT).ok().is_err());
+    /// ```
+    ///
+    /// # Panics
+    ///
+    /// It panics if the text has 2^32 bytes or more, or if memory runs out; [`Tree::parse_as`] returns an error instead. And `tree` of
+    /// the parse panics if the text is not one pattern; `ok` is an error then.
+    pub fn parse(text: &str, edition: Edition) -> Parse<Pat> {
+        of(Tree::parse_as(text, edition, Entry::Pattern, Errors::All))
+    }
+}
+
+impl Meta {
+    /// The parse of a text, read as the contents of an attribute.
+    ///
+    /// ```
+    /// use ras::{Edition, ast};
+    ///
+    /// let parse = ast::Meta::parse("derive(Debug)", Edition::CURRENT);
+    /// assert!(matches!(parse.tree(), ast::Meta::TokenTreeMeta(_)));
+    /// assert!(ast::Meta::parse("#[derive(Debug)]", Edition::CURRENT).ok().is_err());
+    /// ```
+    ///
+    /// # Panics
+    ///
+    /// It panics if the text has 2^32 bytes or more, or if memory runs out; [`Tree::parse_as`] returns an error instead. And `tree` of
+    /// the parse panics if the text is no such contents; `ok` is an error then.
+    pub fn parse(text: &str, edition: Edition) -> Parse<Meta> {
+        of(Tree::parse_as(text, edition, Entry::MetaItem, Errors::All))
+    }
+}
+
+impl MacroStmts {
+    /// The parse of a text, read as the statements that a macro stands for: each with or without its `;`, and an expression.
+    ///
+    /// ```
+    /// use ras::{Edition, ast};
+    ///
+    /// let parse = ast::MacroStmts::parse("let a = 1; a", Edition::CURRENT);
+    /// assert_eq!(parse.tree().statements().count(), 1);
+    /// assert!(parse.tree().expr().is_some());
+    /// assert!(ast::MacroStmts::parse("let = 1;", Edition::CURRENT).ok().is_err());
+    /// ```
+    ///
+    /// # Panics
+    ///
+    /// It panics if the text has 2^32 bytes or more, or if memory runs out; [`Tree::parse_as`] returns an error instead.
+    pub fn parse(text: &str, edition: Edition) -> Parse<MacroStmts> {
+        of(Tree::parse_as(text, edition, Entry::MacroStmts, Errors::All))
+    }
+}
+
+impl MacroItems {
+    /// The parse of a text, read as the items that a macro stands for.
+    ///
+    /// ```
+    /// use ras::{Edition, ast};
+    ///
+    /// let parse = ast::MacroItems::parse("fn f() {} use a::b;", Edition::CURRENT);
+    /// assert_eq!(ast::HasModuleItem::items(&parse.tree()).count(), 2);
+    /// assert!(ast::MacroItems::parse("fn f(", Edition::CURRENT).ok().is_err());
+    /// ```
+    ///
+    /// # Panics
+    ///
+    /// It panics if the text has 2^32 bytes or more, or if memory runs out; [`Tree::parse_as`] returns an error instead.
+    pub fn parse(text: &str, edition: Edition) -> Parse<MacroItems> {
+        of(Tree::parse_as(text, edition, Entry::MacroItems, Errors::All))
     }
 }
 

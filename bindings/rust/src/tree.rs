@@ -216,13 +216,39 @@ struct Inner {
     errors: Box<[SyntaxError]>,
 }
 
-/// What a text is read as.
+/// What a text is read as: a file, or a part of one. If the text goes on behind the part, as in `a b`, the root is an `ERROR` that has the
+/// part first, and then the tokens that are left; there need not be further errors.
 #[derive(Clone, Copy, Debug, PartialEq, Eq, Hash)]
 pub enum Entry {
     /// A file: the root is a `SOURCE_FILE`.
     SourceFile,
     /// An expression: the root is a node of an expression, or `ERROR` if the text is not one expression.
     Expr,
+    /// A type, with its bounds, as `&'a (dyn A + B)`: the root is a node of a type, or `ERROR` if the text is not one type.
+    Type,
+    /// A pattern, with its alternatives, as `A | Some(b)`: the root is a node of a pattern, or `ERROR` if the text is not one pattern.
+    Pattern,
+    /// Statements, as a macro may stand for: each with or without its `;`, and an expression. The root is a `MACRO_STMTS`.
+    MacroStmts,
+    /// Items, as a macro may stand for: the root is a `MACRO_ITEMS`.
+    MacroItems,
+    /// The contents of an attribute, as `derive(Debug)`: the root is a node of an `ast::Meta`, or `ERROR` if the text is not one.
+    MetaItem,
+}
+
+impl Entry {
+    // Its number in the library.
+    fn number(self) -> u32 {
+        match self {
+            Entry::SourceFile => raw::ENTRY_FILE,
+            Entry::Expr => raw::ENTRY_EXPR,
+            Entry::Type => raw::ENTRY_TYPE,
+            Entry::Pattern => raw::ENTRY_PATTERN,
+            Entry::MacroStmts => raw::ENTRY_STATEMENTS,
+            Entry::MacroItems => raw::ENTRY_ITEMS,
+            Entry::MetaItem => raw::ENTRY_META_ITEM,
+        }
+    }
 }
 
 /// Which errors a tree has.
@@ -335,8 +361,8 @@ impl Tree {
         Tree::parse_as(text, edition, Entry::SourceFile, Errors::All)
     }
 
-    /// The tree of a text, read as an expression. Its root is a node of an expression, or `ERROR` if the text is not one expression; there
-    /// are errors then.
+    /// The tree of a text, read as an expression. Its root is a node of an expression, or `ERROR` if the text is not one expression. If
+    /// only its beginning is one, as in `a b`, there may be no errors.
     ///
     /// ```
     /// use ras::{Edition, SyntaxKind, Tree};
@@ -357,7 +383,10 @@ impl Tree {
     /// The tree of a text by an entry, with the errors that are asked for: those of the parse alone take one walk through the tree less.
     ///
     /// ```
-    /// use ras::{Edition, Entry, Errors, Tree};
+    /// use ras::{Edition, Entry, Errors, SyntaxKind, Tree};
+    ///
+    /// let tree = Tree::parse_as("&'a A", Edition::CURRENT, Entry::Type, Errors::All)?;
+    /// assert_eq!(tree.root().kind(), SyntaxKind::REF_TYPE);
     ///
     /// let text = "fn f() { 1 + } impl T for S { pub fn g() {} }";
     /// let count = |errors| Tree::parse_as(text, Edition::CURRENT, Entry::SourceFile, errors).map(|it| it.errors().len());
@@ -373,12 +402,12 @@ impl Tree {
         match entry {
             // The parse is asked for the number of its rows first, so that they get memory once.
             Entry::SourceFile => Held::parse(&text, edition)?.tree(text, edition, errors),
-            Entry::Expr => Tree::expr(text, edition, errors),
+            _ => Tree::part(text, edition, entry, errors),
         }
     }
 
-    // The tree of an expression.
-    fn expr(text: Box<str>, edition: Edition, errors: Errors) -> Result<Tree, ParseError> {
+    // The tree of a part of a file. It is asked for in one call, since such texts are short.
+    fn part(text: Box<str>, edition: Edition, entry: Entry, errors: Errors) -> Result<Tree, ParseError> {
         crate::version::check();
         let room = Room::of(text.len() + text.len() / 2 + 64);
         Tree::told(text, edition, room, |text, room, counts| {
@@ -386,7 +415,7 @@ impl Tree {
             // declaration is made from that of `crates/ras_c`.
             unsafe {
                 raw::ras_c_read_as(
-                    raw::ENTRY_EXPR,
+                    entry.number(),
                     errors.number(),
                     text.as_ptr(),
                     text.len(),
@@ -476,7 +505,8 @@ impl Tree {
         self.is_same(other) || (self.0.text == other.0.text && self.0.rows == other.0.rows)
     }
 
-    /// The root, which borrows the tree: a `SOURCE_FILE`, unless the tree was made of a part of another.
+    /// The root, which borrows the tree: a `SOURCE_FILE`, unless the text was read by another [`Entry`] or the tree was made of a part of
+    /// another.
     pub fn root(&self) -> NodeRef<'_> {
         NodeRef::at(self, 0)
     }

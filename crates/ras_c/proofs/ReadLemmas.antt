@@ -1,10 +1,13 @@
 -- What is told of a parse, put together from its parts.
 use Rattle.std.proofs.Common.{◌≡◌, ℕ, ◌+◌, ◌<◌, ◌≤◌, List, length, drop, get_or, ap, arith, length-append}
-use Rattle.std.specs.Prelude.{◌^◌}
+use Rattle.std.specs.Prelude.{◌^◌, ⊤}
 use Rattle.std.proofs.Math.Seq.{drop-append_seam}
 use Rattle.std.proofs.lemmas.List.Folds.{length-flat_map-take}
+use Rattle.syntax_kind.specs.declared.syntax_kind.SyntaxKind.{SyntaxKind}
 use Rattle.ras_front_end.specs.ErrorModel.{ErrorModel}
+use Rattle.ras_front_end.specs.Keeps.{Keeps}
 use Rattle.ras_front_end.specs.Parsed.{Parsed}
+use Rattle.ras_front_end.specs.Reading.{Reading}
 use Rattle.ras_parsing.specs.AllErrors.{all_errors}
 use Rattle.ras_c.specs.Read.{messages_of, message_of, violations_in}
 
@@ -20,3 +23,7 @@ stored_within p = omega (arith, all_counted p)
 
 pub behind_stored : (p : Parsed) → drop (length p.errors) (all_errors p) ≡ violations_in p
 behind_stored p = drop-append_seam p.errors (violations_in p)
+
+-- what a parser keeps of a text, whatever the root
+pub any_root : (is_root : SyntaxKind → Type 0) (input : List ℕ) (r : Reading) → Keeps is_root input r → Keeps (λ root. ⊤) input r
+any_root is_root input r k = record { tree = k.tree; cuts = k.cuts; builds = k.builds; root = tt; in_text = k.in_text }

@@ -3,8 +3,8 @@
 use Rattle.std.specs.Prelude.{◌≡◌, ℕ, ◌<◌, ◌≤◌, ◌==◌, if◌then◌else◌, List, ◌++◌, drop, length, Option, None, Some}
 use Rattle.ras_front_end.specs.declared.edition.Edition.{Edition}
 use Rattle.ras_front_end.specs.declared.edition.Edition.TheVariants.{Edition2015, Edition2018, Edition2021, Edition2024}
-use Rattle.ras_front_end.specs.declared.edition.Entry.{Entry}
-use Rattle.ras_front_end.specs.declared.edition.Entry.TheVariants.{SourceFile, Expr}
+use Rattle.rust_front.specs.declared.top.TopEntryPoint.{TopEntryPoint}
+use Rattle.rust_front.specs.declared.top.TopEntryPoint.TheVariants as top
 use Rattle.ras_c.specs.declared.choice.Errors.{Errors}
 use Rattle.ras_c.specs.declared.choice.Errors.TheVariants as errors
 
@@ -18,11 +18,16 @@ edition_of year =
     None)))
 
 -- the entry with a number, and the choice of errors
-abbrev pub entry_of : ℕ → Option Entry
+abbrev pub entry_of : ℕ → Option TopEntryPoint
 entry_of n =
-    if n == 0 then Some SourceFile else (
-    if n == 1 then Some Expr else
-    None)
+    if n == 0 then Some top.SourceFile else (
+    if n == 1 then Some top.Expr else (
+    if n == 2 then Some top.«Type» else (
+    if n == 3 then Some top.Pattern else (
+    if n == 4 then Some top.MacroStmts else (
+    if n == 5 then Some top.MacroItems else (
+    if n == 6 then Some top.MetaItem else
+    None))))))
 
 abbrev pub errors_of : ℕ → Option Errors
 errors_of n =

@@ -6,13 +6,13 @@ use Rattle.tree_model.specs.Edit.{root_of}
 use Rattle.tree_rows.specs.Flat.{flat_rows}
 use Rattle.tree_rows.specs.declared.table.flat.FlatRow.{FlatRow}
 use Rattle.ras_front_end.specs.declared.edition.Edition.{Edition}
-use Rattle.ras_front_end.specs.declared.edition.Entry.{Entry}
-use Rattle.ras_front_end.specs.declared.edition.Entry.TheVariants.{SourceFile}
 use Rattle.ras_front_end.specs.ErrorModel.{ErrorModel}
 use Rattle.ras_front_end.specs.Parsed.{Parsed, IsParseOf}
 use Rattle.ras_validation.specs.Violations.{violations_of}
 use Rattle.ras_parsing.specs.AllErrors.{all_errors, violation_fault}
-use Rattle.rust_front.specs.Front.{rust_front}
+use Rattle.rust_front.specs.declared.top.TopEntryPoint.{TopEntryPoint}
+use Rattle.rust_front.specs.declared.top.TopEntryPoint.TheVariants.{SourceFile}
+use Rattle.rust_front.specs.Tops.{top_of}
 use Rattle.ras_c.specs.declared.read.ErrorRow.{ErrorRow}
 use Rattle.ras_c.specs.declared.read.Counts.{Counts}
 use Rattle.ras_c.specs.declared.choice.Errors.{Errors}
@@ -107,23 +107,24 @@ pub record IsCut (r : Report) (before after : Buffers) : Type 0 where
   pub short : HasRoom r before → ⊥
   pub written : after ≡ counted r before
 
--- the parse is one of the text by an entry of the front end for Rust, in the edition of the year
-pub record IsReadingAs (entry : Entry) (year : ℕ) (text : List ℕ) (p : Parsed) : Type 0 where
+-- the parse is one of the text by an entry, in the edition of the year: of a file and an expression
+-- that of the front end for Rust, of another part that by its rule
+pub record IsReadingAs (entry : TopEntryPoint) (year : ℕ) (text : List ℕ) (p : Parsed) : Type 0 where
   pub edition : Edition
   pub edition_is : edition_of year ≡ Some edition
-  pub parses : IsParseOf text (rust_front.parsed entry edition text) p
+  pub parses : IsParseOf text (top_of entry edition text) p
 
 -- the same of a whole file
 abbrev pub IsReading : ℕ → List ℕ → Parsed → Type 0
 IsReading year text p = IsReadingAs SourceFile year text p
 
 -- a parse of the text by an entry has a report with a property
-abbrev pub Reports : Entry → Errors → ℕ → List ℕ → (Report → Type 0) → Type 0
+abbrev pub Reports : TopEntryPoint → Errors → ℕ → List ℕ → (Report → Type 0) → Type 0
 Reports entry errors year text P = (p : Parsed) × IsReadingAs entry year text p × P (report_on errors p)
 
 -- the same by the numbers of the entry and of the choice
 pub record ReportsBy (entry errors year : ℕ) (text : List ℕ) (P : Report → Type 0) : Type 0 where
-  pub as_entry : Entry
+  pub as_entry : TopEntryPoint
   pub as_errors : Errors
   pub entry_is : entry_of entry ≡ Some as_entry
   pub errors_is : errors_of errors ≡ Some as_errors

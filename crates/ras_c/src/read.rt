@@ -12,8 +12,9 @@ use crate::parsed::parsed_as;
 use crate::root::Root;
 use crate::status::{NO_CHOICE, NO_ENTRY, NO_MEMORY, NO_ROOM, OK, TOO_LONG};
 use lossless_tree::{FlatRow, SyntaxNode};
-use ras_front_end::{Entry, SyntaxError};
+use ras_front_end::SyntaxError;
 use ras_parsing::Parse;
+use rust_front::TopEntryPoint;
 use std::alloc::{AllocError, Global};
 
 /// One error: its range in the text, in bytes, and the length of its message.
@@ -270,7 +271,7 @@ pub(crate) fn tell(
 // The report on the parse of a text by an entry.
 fn read_told(
     alloc: Global,
-    entry: Entry,
+    entry: TopEntryPoint,
     told: Errors,
     text: &[u8],
     edition: u32,
@@ -325,8 +326,8 @@ pub extern "C" fn ras_c_read(
 }
 
 /// Parses a text as an expression of an edition, and writes what `ras_c_read` writes for a file.
-/// The root is a node of an expression, or `ERROR` if the text is not one expression; there are
-/// errors then.
+/// The root is a node of an expression, or `ERROR` if the text is not one expression. If only its
+/// beginning is one, as in `a b`, there may be no errors.
 ///
 /// Returns [`OK`], [`NOT_UTF8`], [`TOO_LONG`], [`NO_MEMORY`], [`NO_ROOM`] or [`NO_EDITION`].
 #[unsafe(no_mangle)]
@@ -348,7 +349,7 @@ pub extern "C" fn ras_c_read_expr(
     )
 }
 
-/// Parses a text by an entry, such as [`ENTRY_EXPR`], and writes what `ras_c_read` writes for a
+/// Parses a text by an entry, such as [`ENTRY_TYPE`], and writes what `ras_c_read` writes for a
 /// file, with a choice of errors, such as [`PARSE_ERRORS`]. The counts are those of the chosen
 /// errors.
 ///

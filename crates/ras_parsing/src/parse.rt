@@ -1,11 +1,12 @@
 //! A tree with errors, and the view that its root should be.
-ghost use Rattle.std.specs.Prelude.{◌≡◌, [], ◌<◌, ◌≤◌, ◌^◌, ◌↔◌, length, IfOk, IfErr, IfSome, OnOk, Some, None, is_some, if◌then◌else◌};
+ghost use Rattle.std.specs.Prelude.{◌≡◌, ⊤, [], ◌<◌, ◌≤◌, ◌^◌, ◌↔◌, length, IfOk, IfErr, IfSome, OnOk, Some, None, is_some, if◌then◌else◌};
 ghost use Rattle.tree_model.specs.Tree.{kind_of};
 ghost use Rattle.tree_model.specs.Cursor.{IsRoot};
 ghost use Rattle.tree_model.specs.Edit.{root_of};
 ghost use Rattle.ras_front_end.specs.declared.parse_error.ParseError.TheVariants.{TooLong};
-ghost use Rattle.ras_front_end.specs.Keeps.{IsRootOf};
+ghost use Rattle.ras_front_end.specs.Keeps.{IsRootOf, Keeps};
 ghost use Rattle.ras_front_end.specs.Parsed.{IsParseOf, ErrorsLieIn};
+ghost use Rattle.ras_front_end.specs.Reading.{reading_of};
 ghost use Rattle.ras_parsing.specs.AllErrors.{all_errors};
 ghost use Rattle.ras_parsing.specs.OkCases.{IsOkRefusal};
 
@@ -13,7 +14,7 @@ use crate::build::build_output;
 use crate::error_list::{copies, push_violations};
 use crate::ok_error::OkError;
 use lossless_tree::SyntaxNode;
-use ras_front_end::{Edition, Entry, FrontEnd, ParseError, SyntaxError};
+use ras_front_end::{Edition, Entry, FrontEnd, Output, ParseError, SyntaxError};
 use ras_node::AstNode;
 use shared_pointer::Shared;
 use std::alloc::{AllocError, Global};
@@ -62,6 +63,22 @@ impl<T> Parse<T> {
             errors,
             view: PhantomData,
         })
+    }
+
+    /// The parse of a text by the output that a parser made of it. The root should be a `T`.
+    ///
+    /// [`read`] makes that of a file or an expression by a front end. This is for a parser that
+    /// also reads other parts of a file, such as types. Takes time linear in the text and the
+    /// steps.
+    pub fn of_output(alloc: Global, text: &str, output: Output) -> Result<Parse<T>, AllocError>
+        requires short { length text.now < 2 ^ 32 }
+        requires keeps { Keeps (λ root. ⊤) text.now (reading_of output) }
+        ensures parsed { IfOk result (IsParseOf text.now (reading_of output)) }
+        ensures in_text { IfOk result ErrorsLieIn }
+    {
+        let built = build_output(alloc, text, output)?;
+        let parse = Parse::from_parts(alloc, built.root, built.errors)?;
+        Ok(parse)
     }
 
     // The same parse, whose root should be a `U`.

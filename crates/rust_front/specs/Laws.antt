@@ -62,7 +62,7 @@ entry_root : (entry : Entry) (o : Option SyntaxKind) → IsRootOf entry (root_ki
 entry_root SourceFile o = refl
 entry_root Expr o = top_root o
 
-short_on : (is_root : SyntaxKind → Type 0) (b : Bool) (r : Reading) (text : List ℕ) → nat_lt (length text) (2 ^ 32) ≡ b → length text < 2 ^ 32 → Keeps is_root text r → Keeps is_root text (if b then r else nothing_read)
+pub short_on : (is_root : SyntaxKind → Type 0) (b : Bool) (r : Reading) (text : List ℕ) → nat_lt (length text) (2 ^ 32) ≡ b → length text < 2 ^ 32 → Keeps is_root text r → Keeps is_root text (if b then r else nothing_read)
 short_on is_root true r text e l h = h
 short_on is_root false r text e l h = let k : 2 ^ 32 ≤ length text = ltb-false (length text) (2 ^ 32) e in absurd (omega (arith, k, l))
 

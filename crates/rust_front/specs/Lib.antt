@@ -2,7 +2,9 @@ pub mod Pieces
 pub mod Roots
 pub mod Messages
 pub mod Front
+pub mod Tops
 pub mod Laws
+pub mod TopLaws
 pub mod Heads
 pub mod Exact
 pub mod ExactLaws

@@ -4,14 +4,16 @@ ghost use Rattle.ras_front_end.specs.Reading.{reading_of, single_of};
 ghost use Rattle.token_layout.specs.Laid.{IsCut};
 ghost use Rattle.rust_lexer.specs.Lexing.{tokens_of, errors_of};
 ghost use Rattle.rust_grammar.specs.Seeing.{sights_of};
-ghost use Rattle.rust_front.specs.Front.{kinds_of, made_with, reading_with, nothing_read, whole_of, whole_piece_of, parsed_of, piece_of, single_of_text};
+ghost use Rattle.rust_front.specs.Front.{kinds_of, made_with, reading_with, nothing_read, whole_piece_of, parsed_of, piece_of, single_of_text};
+ghost use Rattle.rust_front.specs.Tops.{read_at, whole_at};
 
 use crate::exact::{LONGEST_EXACT, exact_piece, has_head, is_exact_piece};
 use crate::message::{lexer_errors, lexer_message};
 use crate::piece::{exact_reparser_of, reparser_of, rule_by};
 use crate::report::reported;
 use crate::retold::is_retold;
-use crate::root::{attaching, root_kind, rule_of_entry};
+use crate::root::attaching;
+use crate::top::TopEntryPoint;
 use event_layout::{lay_out, outermost};
 use exact_front::ExactFront;
 use grammar_machine::{Event, run};
@@ -89,26 +91,43 @@ fn nothing(alloc: Global) -> Output
     }
 }
 
-fn whole(alloc: Global, entry: Entry, text: &str, edition: Edition) -> Result<Output, AllocError>
+fn whole(
+    alloc: Global,
+    point: TopEntryPoint,
+    text: &str,
+    edition: Edition,
+) -> Result<Output, AllocError>
     ensures { length text.now < 2 ^ 32
-        → IfOk result (λ o. reading_of o ≡ whole_of entry edition text.now) }
+        → IfOk result (λ o. reading_of o ≡ whole_at point edition text.now) }
 {
     let lexed = lex(alloc, text, edition)?;
-    let events = events(alloc, rule_of_entry(entry), text, &lexed.tokens, edition)?;
-    let root = root_kind(entry, outermost(&events));
+    let events = events(alloc, point.rule(), text, &lexed.tokens, edition)?;
+    let root = point.root(outermost(&events));
     let output = assemble(alloc, root, text, &lexed, &events)?;
     Ok(output)
 }
 
-#[tactic(auto, unfolding(crate::specs::Front::parsed_of))]
-fn parse(alloc: Global, entry: Entry, text: &str, edition: Edition) -> Result<Output, AllocError>
-    ensures { IfOk result (λ o. reading_of o ≡ parsed_of entry edition text.now) }
+#[tactic(auto, unfolding(crate::specs::Tops::read_at))]
+pub(crate) fn read_at(
+    alloc: Global,
+    point: TopEntryPoint,
+    text: &str,
+    edition: Edition,
+) -> Result<Output, AllocError>
+    ensures { IfOk result (λ o. reading_of o ≡ read_at point edition text.now) }
 {
     if is_short(text) {
-        whole(alloc, entry, text, edition)
+        whole(alloc, point, text, edition)
     } else {
         Ok(nothing(alloc))
     }
+}
+
+fn parse(alloc: Global, entry: Entry, text: &str, edition: Edition) -> Result<Output, AllocError>
+    ensures { IfOk result (λ o. reading_of o ≡ parsed_of entry edition text.now) }
+{
+    let output = read_at(alloc, TopEntryPoint::of(entry), text, edition)?;
+    Ok(output)
 }
 
 fn whole_piece(

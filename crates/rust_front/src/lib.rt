@@ -10,5 +10,7 @@ mod piece;
 mod report;
 mod retold;
 mod root;
+mod top;
 
 pub use front::Rust;
+pub use top::TopEntryPoint;

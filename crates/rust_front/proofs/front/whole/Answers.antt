@@ -10,6 +10,6 @@ returns c = λ l.
     let text = c.args.text.now in
     let tokens = c.deref.ensures.value ∙ c.in_ok-lexed.ensures.tokens in
     let cut = subst (λ ts. IsCut ts text) (sym tokens) (lexed c.args.edition text c.utf8.text l).cut in
-    whole_is c.args.entry c.args.edition text _ _ _ _ _ _ _ _ _ (reading_of c.in_ok-output.output)
-    c.in_ok-lexed.ensures.tokens c.in_ok-lexed.ensures.errors c.deref.ensures.value c.rule_of_entry.ensures (c.in_ok-events.ensures cut)
-    c.deref-2.ensures.value c.outermost.ensures c.root_kind-root.ensures c.deref-3.ensures.value c.in_ok-output.ensures
+    whole_is c.args.point c.args.edition text _ _ _ _ _ _ _ _ _ (reading_of c.in_ok-output.output)
+    c.in_ok-lexed.ensures.tokens c.in_ok-lexed.ensures.errors c.deref.ensures.value c.rule.ensures (c.in_ok-events.ensures cut)
+    c.deref-2.ensures.value c.outermost.ensures c.root-root.ensures c.deref-3.ensures.value c.in_ok-output.ensures
